@@ -1,0 +1,77 @@
+-- The lines that cut a row: those of the extent and of the pieces that the row meets.
+use Rattle.std.proofs.Common.{◌≡◌, ℕ, ◌+◌, ◌-◌, ◌<◌, ◌≤◌, ◌↔◌, List, [], ◌∷◌, ◌++◌, Option, Some, None, length, take, slice_index, slice_get, IsSomeAnd, refl, ◌∙◌, arith, rules}
+use Rattle.std.specs.List.{All, Contains}
+use Rattle.std.specs.List.Sorted.{IsStrictlyIncreasing}
+use Rattle.std.proofs.lemmas.List.{get_or_default}
+use Rattle.std.proofs.lemmas.List.Elements.{All-contains, All-cons, All-more, All-nil, All-push, Contains-append_left, Contains-get_or, Contains-push}
+use Rattle.mls_geom.specs.Extents.{Extent}
+use Rattle.mls_geom.specs.Slots.{AreBetweenLines, AreCuts, IsBetweenLines}
+use Rattle.mls_geom.specs.declared.piece.Piece.{Piece}
+use Rattle.mls_geom.proofs.CutLines.{rises}
+
+-- what holds of a value that there is, if it follows from what holds of it already
+IsSomeAnd_then : {X : Type 0} (o : Option X) (P Q : X → Type 0) → ((x : X) → P x → Q x) → IsSomeAnd o P → IsSomeAnd o Q
+IsSomeAnd_then None P Q follows given = given
+IsSomeAnd_then (Some x) P Q follows given = follows x given
+
+-- more lines keep pieces between lines
+AreBetweenLines_more :
+    (lines more : List ℕ) (pieces : List Piece) (indices : List ℕ) → ((line : ℕ) → Contains lines line → Contains more line)
+    → AreBetweenLines lines pieces indices → AreBetweenLines more pieces indices
+AreBetweenLines_more lines more pieces indices kept between = λ k d within.
+    IsSomeAnd_then _ (λ p. IsBetweenLines lines p.rect) (λ p. IsBetweenLines more p.rect)
+    (λ p given. record { left = kept _ given.left; right = kept _ given.right }) (between k d within)
+
+-- the lines, in any order
+pub record AreLines (extent : Extent) (pieces : List Piece) (indices lines : List ℕ) : Type 0 where
+  pub left : Contains lines extent.left
+  pub right : Contains lines extent.right
+  pub inside : All (λ line. (extent.left ≤ line) × (line ≤ extent.right)) lines
+  pub between : AreBetweenLines lines pieces indices
+
+pub AreLines-none : (extent : Extent) (pieces : List Piece) → extent.left ≤ extent.right → AreLines extent pieces [] (extent.left ∷ extent.right ∷ [])
+AreLines-none extent pieces wide = record {
+  left = (0, omega arith, refl);
+  right = (1, omega arith, refl);
+  inside = search (rules, All-cons, All-nil);
+  between = search rules;
+}
+
+pub AreLines-push :
+    (extent : Extent) (pieces : List Piece) (indices lines : List ℕ) (k : ℕ) (piece : Piece) → AreLines extent pieces (take k indices) lines
+    → k < length indices → slice_get pieces (slice_index indices k) ≡ Some piece
+    → extent.left ≤ piece.rect.left → piece.rect.left ≤ piece.rect.right → piece.rect.right ≤ extent.right
+    → AreLines extent pieces (take (k + 1) indices) ((lines ++ piece.rect.left ∷ []) ++ piece.rect.right ∷ [])
+AreLines-push extent pieces indices lines k piece so_far within is from wide to =
+    let Inside = λ (line : ℕ). (extent.left ≤ line) × (line ≤ extent.right) in
+    let more = (lines ++ piece.rect.left ∷ []) ++ piece.rect.right ∷ [] in
+    let kept = λ (line : ℕ) (member : Contains lines line).
+    Contains-append_left (lines ++ piece.rect.left ∷ []) (piece.rect.right ∷ []) line (Contains-append_left lines (piece.rect.left ∷ []) line member) in
+    record {
+      left = kept _ so_far.left;
+      right = kept _ so_far.right;
+      inside = All-push Inside _ _ (All-push Inside lines _ so_far.inside (from, omega arith)) (omega arith, to);
+      between = All-more (λ i. IsSomeAnd (slice_get pieces i) (λ p. IsBetweenLines more p.rect)) indices k 0 within
+          (AreBetweenLines_more lines more pieces (take k indices) kept so_far.between)
+          (rw is (record { left = Contains-append_left _ _ _ (Contains-push lines piece.rect.left); right = Contains-push _ piece.rect.right }));
+    }
+
+-- cuts are the lines in order, each once
+module _ (extent : Extent) (pieces : List Piece) (indices lines cuts : List ℕ) (all : AreLines extent pieces indices lines) (members : (line : ℕ) → Contains cuts line ↔ Contains lines line) where
+  pub AreBetweenLines-from_lines : AreBetweenLines cuts pieces indices
+  AreBetweenLines-from_lines = AreBetweenLines_more lines cuts pieces indices (λ line. (members line).1) all.between
+
+  pub AreCuts-from_lines : IsStrictlyIncreasing cuts → AreCuts extent cuts
+  AreCuts-from_lines ascending =
+      let inside = λ (k : ℕ) (within : k < length cuts).
+      All-contains (λ line. (extent.left ≤ line) × (line ≤ extent.right)) lines (slice_index cuts k) all.inside ((members _).0 (Contains-get_or cuts k 0 within)) in
+      let (i, i_in, left) = (members extent.left).1 all.left in
+      let (j, j_in, right) = (members extent.right).1 all.right in
+      let left_is = get_or_default cuts i 0 extent.left i_in ∙ left in
+      let right_is = get_or_default cuts j 0 extent.right j_in ∙ right in
+      record {
+        ascending = ascending;
+        some = omega arith;
+        first = omega (arith, (inside 0 (omega arith)).0, rises cuts ascending 0 i (omega arith) i_in);
+        last = omega (arith, (inside (length cuts - 1) (omega arith)).1, rises cuts ascending j (length cuts - 1) (omega arith) (omega arith));
+      }

@@ -1,0 +1,179 @@
+-- The runs of a row: a square lies in one only, and in a list of them each begins where the last one ends.
+use Rattle.std.proofs.Common.{◌≡◌, ℕ, ◌+◌, ◌-◌, ◌<◌, ◌≤◌, List, length, get_or, set, map, le_refl, sym, ap, ◌∙◌, arith, inl, inr}
+use Rattle.std.specs.List.{Any}
+use Rattle.std.proofs.lemmas.Bool.{cases_lt}
+use Rattle.std.proofs.lemmas.List.{get_or-map, get_or_past, get_or_default, length-map, map-set, set-get_or}
+use Rattle.std.proofs.lemmas.List.Elements.{All-set}
+use Rattle.mls_geom.specs.Extents.{Extent}
+use Rattle.mls_geom.specs.Pictures.{Picture}
+use Rattle.mls_geom.specs.Rows.{AreRuns}
+use Rattle.mls_geom.specs.Stacks.{up_to}
+use Rattle.mls_geom.specs.Strips.{IsRun}
+use Rattle.mls_geom.specs.declared.run.Run.{Run}
+use Rattle.mls_geom.proofs.ListChanges.{AllPairs-set, Any-set_kept}
+
+-- the rows of the extent don't matter to a run
+pub IsRun-extent : (extent : Extent) {picture : Picture} {left right y kind : ℕ} (line : ℕ) → IsRun (up_to line extent) picture left right y kind → IsRun extent picture left right y kind
+IsRun-extent extent line run =
+    record { from = run.from; wide = run.wide; to = run.to; one_kind = run.one_kind; ends_left = run.ends_left; ends_right = run.ends_right }
+
+pub IsRun-up_to : (extent : Extent) {picture : Picture} {left right y kind : ℕ} (line : ℕ) → IsRun extent picture left right y kind → IsRun (up_to line extent) picture left right y kind
+IsRun-up_to extent line run =
+    record { from = run.from; wide = run.wide; to = run.to; one_kind = run.one_kind; ends_left = run.ends_left; ends_right = run.ends_right }
+
+-- in a row that is alike there is the same run
+pub IsRun-alike :
+    {extent : Extent} {picture : Picture} {left right y kind : ℕ} (z : ℕ) → ((x : ℕ) → extent.left ≤ x → x < extent.right → picture x z ≡ picture x y)
+    → IsRun extent picture left right y kind → IsRun extent picture left right z kind
+IsRun-alike {extent} {picture} {left} {right} {y} {kind} z alike run = record {
+  from = run.from;
+  wide = run.wide;
+  to = run.to;
+  one_kind = λ x above below. alike x (omega (arith, run.from)) (omega (arith, run.to)) ∙ run.one_kind x above below;
+  ends_left = λ inside same. run.ends_left inside (sym (alike (left - 1) (omega arith) (omega (arith, run.wide, run.to))) ∙ same);
+  ends_right = λ inside same. run.ends_right inside (sym (alike right (omega (arith, run.from, run.wide)) inside) ∙ same);
+}
+
+-- runs of a row that share a square have one kind, and neither begins or ends before the other
+one_kind_shared :
+    {extent : Extent} {picture : Picture} {l r y k l' r' k' : ℕ} (x : ℕ) → IsRun extent picture l r y k → IsRun extent picture l' r' y k'
+    → l ≤ x → x < r → l' ≤ x → x < r' → k ≡ k'
+one_kind_shared x p q from to from' to' = sym (p.one_kind x from to) ∙ q.one_kind x from' to'
+
+begins_no_later :
+    {extent : Extent} {picture : Picture} {l r y k l' r' k' : ℕ} (x : ℕ) → IsRun extent picture l r y k → IsRun extent picture l' r' y k'
+    → l ≤ x → x < r → l' ≤ x → x < r' → l' ≤ l
+begins_no_later {l} {l'} x p q from to from' to' = elim (cases_lt l l') [
+  | inl before ↦ absurd (q.ends_left (omega (arith, p.from)) (p.one_kind (l' - 1) (omega arith) (omega arith) ∙ one_kind_shared x p q from to from' to'))
+  | inr holds ↦ holds
+]
+
+ends_no_sooner :
+    {extent : Extent} {picture : Picture} {l r y k l' r' k' : ℕ} (x : ℕ) → IsRun extent picture l r y k → IsRun extent picture l' r' y k'
+    → l ≤ x → x < r → l' ≤ x → x < r' → r ≤ r'
+ends_no_sooner {r} {r'} x p q from to from' to' = elim (cases_lt r' r) [
+  | inl before ↦ absurd (q.ends_right (omega (arith, p.to)) (p.one_kind r' (omega arith) before ∙ one_kind_shared x p q from to from' to'))
+  | inr holds ↦ holds
+]
+
+-- runs of a row that share a square are one
+pub record AreOneRun (l r k l' r' k' : ℕ) : Type 0 where
+  pub left : l ≡ l'
+  pub right : r ≡ r'
+  pub kind : k ≡ k'
+
+pub both_one_run : {l r k l' r' k' l'' r'' k'' : ℕ} → AreOneRun l r k l' r' k' → AreOneRun l'' r'' k'' l' r' k' → AreOneRun l r k l'' r'' k''
+both_one_run p q = record { left = p.left ∙ sym q.left; right = p.right ∙ sym q.right; kind = p.kind ∙ sym q.kind }
+
+pub one_run :
+    {extent : Extent} {picture : Picture} {l r y k l' r' k' : ℕ} (x : ℕ) → IsRun extent picture l r y k → IsRun extent picture l' r' y k'
+    → l ≤ x → x < r → l' ≤ x → x < r' → AreOneRun l r k l' r' k'
+one_run x p q from to from' to' = record {
+  left = omega (arith, begins_no_later x p q from to from' to', begins_no_later x q p from' to' from to);
+  right = omega (arith, ends_no_sooner x p q from to from' to', ends_no_sooner x q p from' to' from to);
+  kind = one_kind_shared x p q from to from' to';
+}
+
+-- a run of a row is in the list of its runs
+pub run_listed :
+    {extent : Extent} {picture : Picture} {l r y k : ℕ} (runs : List Run) → AreRuns extent picture y runs → IsRun extent picture l r y k
+    → Any (λ run. AreOneRun run.left run.right run.kind l r k) runs
+run_listed {l} runs list run =
+    let (n, here, within, is, at) = list.whole l run.from (omega (arith, run.wide, run.to)) in
+    (n, here, within, is, one_run l (rw is at (list.each n here within)) run at.0 at.1 (omega arith) run.wide)
+
+-- the left line of a run of the list, or, past the list's end, another line
+abbrev pub left_line : List Run → ℕ → ℕ → ℕ
+left_line runs n end = get_or (map (λ run. run.left) runs) n end
+
+pub left_line-within : (runs : List Run) (n end : ℕ) (d : Run) → n < length runs → left_line runs n end ≡ (get_or runs n d).left
+left_line-within runs n end d within = get_or-map (λ run. run.left) runs n d end within
+
+pub left_line-past : (runs : List Run) (n end : ℕ) → length runs ≤ n → left_line runs n end ≡ end
+left_line-past runs n end past = get_or_past (map (λ run. run.left) runs) n end (simp length-map past)
+
+-- the run that has a square of the row
+run_at :
+    {extent : Extent} {picture : Picture} {y : ℕ} (runs : List Run) (x : ℕ) (d : Run) → AreRuns extent picture y runs → extent.left ≤ x → x < extent.right
+    → (n : ℕ) × (n < length runs) × ((get_or runs n d).left ≤ x) × (x < (get_or runs n d).right)
+run_at runs x d list from to =
+    let (n, here, within, is, at) = list.whole x from to in
+    let same = sym (get_or_default runs n here d within) ∙ is in
+    (n, within, rw same at.0, rw same at.1)
+
+-- the lines of the runs ascend
+lines_ascend :
+    {extent : Extent} {picture : Picture} {y : ℕ} (runs : List Run) (m n : ℕ) (d : Run) → AreRuns extent picture y runs → m ≤ n → n < length runs
+    → ((get_or runs m d).left ≤ (get_or runs n d).left) × ((get_or runs m d).right ≤ (get_or runs n d).right)
+lines_ascend runs m n d list up within = elim (cases_lt m n) [
+  | inl before ↦
+      let p = list.each m d (omega arith) in
+      let q = list.each n d within in
+      (omega (arith, list.ordered m n d before within, p.wide), omega (arith, list.ordered m n d before within, q.wide))
+  | inr after ↦
+      let same : m ≡ n = omega arith in
+      rw same (le_refl (get_or runs n d).left, le_refl (get_or runs n d).right)
+]
+
+-- the first run begins where the extent does
+pub left_line-first : {extent : Extent} {picture : Picture} {y : ℕ} (runs : List Run) → AreRuns extent picture y runs → extent.left < extent.right → left_line runs 0 extent.right ≡ extent.left
+left_line-first {extent} runs list wide =
+    let (n, run, within, is, at) = list.whole extent.left (le_refl extent.left) wide in
+    let first = list.each 0 run (omega arith) in
+    left_line-within runs 0 extent.right run (omega arith) ∙ omega (arith, first.from, rw is at (lines_ascend runs 0 n run list (omega arith) within), at.0)
+
+-- each run begins where the last one ends, and the last ends where the extent does
+next_begins :
+    {extent : Extent} {picture : Picture} {y : ℕ} (runs : List Run) (n : ℕ) (d : Run) → AreRuns extent picture y runs → n < length runs
+    → (get_or runs n d).right < extent.right → (n + 1 < length runs) × ((get_or runs (n + 1) d).left ≤ (get_or runs n d).right)
+next_begins runs n d list within inside =
+    let run = list.each n d within in
+    let (m, within', from, to) = run_at runs (get_or runs n d).right d list (omega (arith, run.from, run.wide)) inside in
+    elim (cases_lt n m) [
+      | inl later ↦ (omega arith, omega (arith, lines_ascend runs (n + 1) m d list (omega arith) within'))
+      | inr sooner ↦ absurd (omega (arith, lines_ascend runs m n d list sooner within))
+    ]
+
+pub left_line-next :
+    {extent : Extent} {picture : Picture} {y : ℕ} (runs : List Run) (n : ℕ) (d : Run) → AreRuns extent picture y runs → n < length runs
+    → left_line runs (n + 1) extent.right ≡ (get_or runs n d).right
+left_line-next {extent} runs n d list within = elim (cases_lt (n + 1) (length runs)) [
+  | inl more ↦
+      let next = list.each (n + 1) d more in
+      let touches = list.ordered n (n + 1) d (omega arith) more in
+      left_line-within runs (n + 1) extent.right d more ∙ omega (arith, touches, next_begins runs n d list within (omega (arith, touches, next.wide, next.to)))
+  | inr last ↦
+      let ends = elim (cases_lt (get_or runs n d).right extent.right) as (λ _. extent.right ≤ (get_or runs n d).right) [
+        | inl inside ↦ absurd (omega (arith, next_begins runs n d list within inside))
+        | inr ends ↦ ends
+      ] in
+      left_line-past runs (n + 1) extent.right last ∙ omega (arith, (list.each n d within).to, ends)
+]
+
+-- a run with another strip
+abbrev pub named : ℕ → Run → Run
+named strip run = record { left = run.left; right = run.right; kind = run.kind; strip = strip }
+
+pub left_line-set :
+    (runs : List Run) (n strip k end : ℕ) (d : Run) → n < length runs → left_line (set runs n (named strip (get_or runs n d))) k end ≡ left_line runs k end
+left_line-set runs n strip k end d within =
+    let lefts = map (λ run. run.left) runs in
+    let same = ap (λ line. set lefts n line) (sym (get_or-map (λ run. run.left) runs n d 0 within)) ∙ set-get_or lefts n 0 in
+    ap (λ lines. get_or lines k end) (map-set (λ run. run.left) runs n (named strip (get_or runs n d)) ∙ same)
+
+pub AreRuns-set :
+    {extent : Extent} {picture : Picture} {y : ℕ} (runs : List Run) (n strip : ℕ) (d : Run) → n < length runs → AreRuns extent picture y runs
+    → AreRuns extent picture y (set runs n (named strip (get_or runs n d)))
+AreRuns-set {extent} {picture} {y} runs n strip d within list =
+    let run = named strip (get_or runs n d) in
+    record {
+      each = All-set (λ run. IsRun extent picture run.left run.right y run.kind) runs n run (list.each n d within) list.each;
+      whole = λ x from to. Any-set_kept (λ run. (run.left ≤ x) × (x < run.right)) runs n run d (λ held. held) (list.whole x from to);
+      ordered = AllPairs-set (λ p q. p.right ≤ q.left) runs n run d (λ _ before. before) (λ _ before. before) list.ordered;
+    }
+
+-- rows that are alike have the same runs
+pub AreRuns-alike :
+    {extent : Extent} {picture : Picture} {y : ℕ} {runs : List Run} (z : ℕ) → ((x : ℕ) → extent.left ≤ x → x < extent.right → picture x z ≡ picture x y)
+    → AreRuns extent picture y runs → AreRuns extent picture z runs
+AreRuns-alike z alike list = record { each = λ k d within. IsRun-alike z alike (list.each k d within); whole = list.whole; ordered = list.ordered }

@@ -1,0 +1,30 @@
+-- The ends of each piece are put in, and all are sorted at the end.
+use Rattle.std.proofs.Common.{◌≡◌, take, subst, arith}
+use Rattle.std.proofs.lemmas.List.{take_all}
+use Rattle.std.proofs.lemmas.List.Elements.{All-more}
+use Rattle.mls_geom.proofs.BandRows.{AreBandLines-ascended, HaveEnds-more}
+use Rattle.mls_geom.specs.Extents.{IsRectangleIn}
+use Rattle.mls_geom.specs.World.{world}
+use Rattle.mls_geom.specs.declared.piece.Piece.{Piece}
+use Rattle.mls_geom.proofs.bands.list_band_lines.Goals as goal
+
+pub loop-piece-preserved : goal.loop-piece-preserved
+loop-piece-preserved c =
+    let pieces = c.args.pieces.now in
+    let i = c.loop-piece.piece-index in
+    let IsLegal : Piece → Type 0 = λ piece. IsRectangleIn world piece.rect in
+    let legal = c.top_line.ensures.legal in
+    record {
+      legal = All-more IsLegal pieces i c.piece-item.result c.loop-piece-test.true c.loop-piece.invariant.legal (subst IsLegal c.piece-item.is legal);
+      members =
+          rw (c.push_reserved-in-loop-piece-2.ensures.items, c.push_reserved-in-loop-piece.ensures.items)
+          (HaveEnds-more world pieces i _ _ _ c.piece-item.result c.loop-piece-test.true c.piece-item.is legal c.bottom_line.ensures.value c.top_line.ensures.value c.loop-piece.invariant.members);
+      len = omega arith;
+      room = cc;
+    }
+
+pub returns-clause-lines : goal.returns-clause-lines
+returns-clause-lines c =
+    let pieces = c.args.pieces.now in
+    let all : take c.loop-piece.piece-index pieces ≡ pieces = take_all c.loop-piece.piece-index pieces (omega arith) in
+    AreBandLines-ascended world pieces c.loop-piece.lines.items _ (rw all at c.loop-piece.invariant.members) c.ascend.ensures.ascending c.ascend.ensures.members

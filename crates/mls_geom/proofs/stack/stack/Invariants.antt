@@ -1,0 +1,16 @@
+use Rattle.std.proofs.Common.{◌≡◌, ◌≤◌, length, vec_capacity, vec_len}
+use Rattle.mls_geom.specs.Pictures.{Picture}
+use Rattle.mls_geom.specs.Rows.{AreRuns}
+use Rattle.mls_geom.specs.Stacks.{AreAlike, AreStacked}
+use Rattle.mls_geom.specs.World.{world}
+use Rattle.mls_geom.proofs.RowStacking.{IsRowStacked}
+use Rattle.mls_geom.proofs.stack.stack.Given as goal
+
+abbrev pub invariant-loop-run : goal.invariant-loop-run
+invariant-loop-run l = record {
+  within : vec_len l.strips ≤ l.limit;
+  room : vec_capacity l.strips ≡ vec_capacity l.fn.strips;
+  place_within : l.place ≤ length l.below;
+  stacked : (picture : Picture) → AreStacked world picture l.bottom l.fn.strips.items l.fn.below → AreRuns world picture l.bottom l.fn.row → AreAlike world picture l.bottom l.top
+      → IsRowStacked world picture l.bottom l.top l.below l.row l.place l.run-index l.strips.items;
+}

@@ -1,0 +1,14 @@
+use Rattle.std.proofs.Common.{arith}
+use Rattle.mls_geom.proofs.sweep.Sweep.find_strips.Goals as goal
+
+pub returns-clause-room : goal.returns-clause-room
+returns-clause-room c = λ n room.
+    c.stack_bands.ensures.room n record {
+      pieces = room.pieces;
+      lines = omega (arith, room.lines);
+      starts = omega (arith, room.starts);
+      active = room.active;
+      row = room.row;
+      below = room.below;
+      strips = room.strips;
+    }

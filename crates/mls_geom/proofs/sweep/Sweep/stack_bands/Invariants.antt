@@ -1,0 +1,21 @@
+use Rattle.std.proofs.Common.{◌≡◌, ℕ, ◌+◌, ◌-◌, ◌*◌, ◌≤◌, length, slice_index, vec_len, vec_capacity}
+use Rattle.mls_geom.specs.ActivePieces.{ArePartedAt}
+use Rattle.mls_geom.specs.Pictures.{picture_of}
+use Rattle.mls_geom.specs.RowRooms.{HasRowRoom}
+use Rattle.mls_geom.specs.Stacks.{AreStacked}
+use Rattle.mls_geom.specs.SweepRooms.{HasSweepRoom}
+use Rattle.mls_geom.specs.World.{world}
+use Rattle.mls_geom.proofs.sweep.Sweep.stack_bands.Given as goal
+
+abbrev pub invariant-loop-i : goal.invariant-loop-i
+invariant-loop-i l =
+    let line = slice_index l.lines.items (l.i - 1) in
+    record {
+      parted : ArePartedAt line l.pieces.items l.active.items l.waiting;
+      fit : vec_len l.active + length l.waiting ≤ vec_capacity l.active;
+      stacked : AreStacked world (picture_of l.pieces.items) line l.strips.items l.below.items;
+      within : vec_len l.strips ≤ l.limit;
+      active_room : vec_capacity l.active ≡ vec_capacity l.initial.active;
+      strips_room : vec_capacity l.strips ≡ vec_capacity l.initial.strips;
+      runs_room : (n : ℕ) → HasSweepRoom l.fn.self n → HasRowRoom l.row n × (2 * n + 2 ≤ vec_capacity l.below);
+    }

@@ -1,0 +1,47 @@
+-- Rectangles of unit squares by their four lines. This project's own; the square (x, y) lies between the lines x and x + 1, and y and y + 1.
+use Rattle.std.specs.Prelude.{ℕ, ◌+◌, ◌-◌, ◌<◌, ◌≤◌, max, min, Bool, ◌&&◌, nat_lt, nat_le, if◌then◌else◌, Option, Some, None}
+
+-- the four lines of a rectangle, of the world, or of a zone
+pub record Extent : Type 0 where
+  pub left : ℕ
+  pub bottom : ℕ
+  pub right : ℕ
+  pub top : ℕ
+
+-- a unit square by its left line and its bottom line, which are its column and its row
+pub record Square : Type 0 where
+  pub x : ℕ
+  pub y : ℕ
+
+-- the square at column x and row y lies in the rectangle
+abbrev pub holds : Extent → ℕ → ℕ → Bool
+holds e x y = nat_le e.left x && nat_lt x e.right && nat_le e.bottom y && nat_lt y e.top
+
+-- a rectangle with at least one square, inside another
+pub record IsRectangleIn (outer e : Extent) : Type 0 where
+  pub left_in : outer.left ≤ e.left
+  pub wide : e.left < e.right
+  pub right_in : e.right ≤ outer.right
+  pub bottom_in : outer.bottom ≤ e.bottom
+  pub tall : e.bottom < e.top
+  pub top_in : e.top ≤ outer.top
+
+-- the squares that lie in both have these lines; where there are none, a left line is not below its right one, or a bottom not below its top
+abbrev pub common : Extent → Extent → Extent
+common a b = record { left = max a.left b.left; bottom = max a.bottom b.bottom; right = min a.right b.right; top = min a.top b.top }
+
+-- the rectangle has a square
+abbrev pub has_squares : Extent → Bool
+has_squares e = nat_lt e.left e.right && nat_lt e.bottom e.top
+
+-- the rectangle of the squares that lie in both, if there are any
+abbrev pub clipped : Extent → Extent → Option Extent
+clipped a b = if has_squares (common a b) then Some (common a b) else None
+
+-- some square lies in both
+abbrev pub meets : Extent → Extent → Bool
+meets a b = has_squares (common a b)
+
+-- h squares more on each side
+abbrev pub grown : ℕ → Extent → Extent
+grown h e = record { left = e.left - h; bottom = e.bottom - h; right = e.right + h; top = e.top + h }

@@ -1,0 +1,14 @@
+pub mod ActivePieces
+pub mod BandLines
+pub mod Covers
+pub mod Extents
+pub mod Pictures
+pub mod RowRooms
+pub mod Rows
+pub mod Scratches
+pub mod Slots
+pub mod Stacks
+pub mod Strips
+pub mod SweepRooms
+pub mod TileCounts
+pub mod World

@@ -1,0 +1,86 @@
+//! The pieces as a sweep upward meets them.
+ghost use Rattle.std.specs.Prelude.{◌≡◌, ◌+◌, ◌<◌, ◌≤◌, filter, length, vec_len, vec_capacity};
+ghost use Rattle.std.specs.List.Sorted.{IsNonDecreasingBy};
+ghost use Rattle.mls_geom.specs.ActivePieces.{ArePartedAt, AreStarts, JoinUpTo, ends_above};
+ghost use Rattle.mls_geom.specs.Rows.{AreActive, AreLegal};
+
+use crate::Piece;
+
+/// A piece, by its place in a list, and its bottom line.
+#[derive(Clone, Copy)]
+pub(crate) struct Start {
+    pub(crate) bottom: u32,
+    pub(crate) piece: usize,
+}
+
+/// Lists the pieces by their bottom lines.
+pub(crate) fn list_starts(pieces: &[Piece], starts: &mut Vec<Start>)
+    requires { length pieces.now ≤ vec_capacity starts.old }
+    ensures starts { AreStarts pieces.now starts.new.items }
+    ensures room { vec_capacity starts.new ≡ vec_capacity starts.old }
+{
+    starts.clear();
+    for (i, piece) in pieces.iter().enumerate() {
+        starts.push_reserved(Start {
+            bottom: piece.rect.bottom_line(),
+            piece: i,
+        });
+    }
+    starts.sort_unstable_by_key(|start| start.bottom);
+}
+
+/// Whether the piece at place `i` ends above the line.
+fn ends_above(pieces: &[Piece], line: u32, i: usize) -> bool
+    ensures { result ≡ ends_above pieces.now line i }
+{
+    pieces
+        .get(i)
+        .is_some_and(|piece| line < piece.rect.top_line())
+}
+
+/// Takes out the pieces that end at the line or below it.
+fn retire(pieces: &[Piece], line: u32, active: &mut Vec<usize>)
+    ensures kept { active.new.items ≡ filter (ends_above pieces.now line) active.old.items }
+    ensures len { vec_len active.new ≤ vec_len active.old }
+    ensures room { vec_capacity active.new ≡ vec_capacity active.old }
+{
+    active.retain(|i| ends_above(pieces, line, *i));
+}
+
+/// Puts in the pieces that begin at the line or below it, and answers the others.
+fn enlist<'a>(waiting: &'a [Start], line: u32, active: &mut Vec<usize>) -> &'a [Start]
+    requires ordered { IsNonDecreasingBy (λ start. start.bottom) waiting.now }
+    requires room { vec_len active.old + length waiting.now ≤ vec_capacity active.old }
+    ensures joined { JoinUpTo line waiting.now result.now active.old.items active.new.items }
+    ensures len { vec_len active.new + length result.now ≡ vec_len active.old + length waiting.now }
+    ensures room { vec_capacity active.new ≡ vec_capacity active.old }
+{
+    let reached = waiting.partition_point(|start| start.bottom <= line);
+    let (begun, rest) = waiting.split_at(reached);
+    for start in begun {
+        active.push_reserved(start.piece);
+    }
+    rest
+}
+
+/// Makes the pieces active that have squares in the row above the line, and answers those that wait
+/// for a line further up.
+pub(crate) fn activate<'a>(
+    pieces: &[Piece],
+    waiting: &'a [Start],
+    line: u32,
+    active: &mut Vec<usize>,
+) -> &'a [Start]
+    requires legal { AreLegal pieces.now }
+    requires parted { ArePartedAt line pieces.now active.old.items waiting.now }
+    requires room { vec_len active.old + length waiting.now ≤ vec_capacity active.old }
+    ensures active { AreActive pieces.now line active.new.items }
+    ensures parted { ArePartedAt (line + 1) pieces.now active.new.items result.now }
+    ensures len { vec_len active.new + length result.now ≤ vec_len active.old + length waiting.now }
+    ensures room { vec_capacity active.new ≡ vec_capacity active.old }
+{
+    retire(pieces, line, active);
+    let waiting = enlist(waiting, line, active);
+    active.sort_unstable();
+    waiting
+}

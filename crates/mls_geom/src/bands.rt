@@ -1,0 +1,26 @@
+//! The lines between which all rows are alike.
+ghost use Rattle.std.specs.Prelude.{◌≡◌, ◌+◌, ◌*◌, ◌≤◌, length, vec_capacity};
+ghost use Rattle.mls_geom.specs.BandLines.{AreBandLines};
+ghost use Rattle.mls_geom.specs.Rows.{AreLegal};
+ghost use Rattle.mls_geom.specs.World.{world};
+
+use crate::Piece;
+use crate::lines::ascend;
+use crate::world::{HIGH, LOW};
+
+/// Lists the lines at which the world or a piece begins or ends, from the bottom up.
+pub(crate) fn list_band_lines(pieces: &[Piece], lines: &mut Vec<u32>)
+    requires { 2 * length pieces.now + 2 ≤ vec_capacity lines.old }
+    ensures legal { AreLegal pieces.now }
+    ensures lines { AreBandLines world pieces.now lines.new.items }
+    ensures room { vec_capacity lines.new ≡ vec_capacity lines.old }
+{
+    lines.clear();
+    lines.push_reserved(LOW);
+    lines.push_reserved(HIGH);
+    for piece in pieces {
+        lines.push_reserved(piece.rect.bottom_line());
+        lines.push_reserved(piece.rect.top_line());
+    }
+    ascend(lines);
+}

@@ -1,0 +1,137 @@
+//! Planes covered by maximal strips.
+ghost use Rattle.std.specs.Prelude.{◌≡◌, ◌+◌, ◌<◌, ◌≤◌, ◌↔◌, IfOk, OnErr, OnOk, IsErr, length, vec_capacity};
+ghost use Rattle.mls_geom.specs.Covers.{CoversWorld, meeting};
+ghost use Rattle.mls_geom.specs.Pictures.{empty_picture, kinds_in, overlaid, picture_of};
+ghost use Rattle.mls_geom.specs.Rows.{AreLegal};
+ghost use Rattle.mls_geom.specs.TileCounts.{tile_count};
+ghost use Rattle.mls_geom.specs.World.{world};
+
+use crate::sweep::strips;
+use crate::world::{HIGH, LOW};
+use crate::{Meeting, Piece, Point, Rect, Scratch, TooMany};
+use std::alloc::{AllocError, Global};
+use std::marker::Model;
+
+/// A plane of kinds, covered completely by its maximal strips, with room that is reserved when it
+/// is made.
+#[derive(Drop)]
+pub struct Cover {
+    room: usize,
+    strips: Vec<Piece>,
+}
+
+impl Model for Cover {
+    ghost use Rattle.std.specs.Prelude.{◌≤◌, vec_capacity};
+    ghost use Rattle.mls_geom.specs.Covers.{CoversWorld, Covering};
+
+    ghost Value = { Covering };
+
+    ghost view = { λ c. record { strips = c.strips.items; room = c.room } };
+
+    ghost invariant = { λ c. CoversWorld (record { strips = c.strips.items; room = c.room })
+        × (c.room ≤ vec_capacity c.strips) };
+}
+
+impl Cover {
+    /// An empty plane, with room for so many strips.
+    pub fn new(alloc: Global, room: usize) -> Result<Cover, AllocError>
+        requires { 1 ≤ room }
+        ensures picture { IfOk result (λ c. picture_of c.strips ≡ empty_picture) }
+        ensures room { IfOk result (λ c. c.room ≡ room) }
+        ensures len { IfOk result (λ c. length c.strips ≡ 1) }
+    {
+        let mut strips = Vec::with_capacity(alloc, room)?;
+        strips.push_reserved(Piece {
+            rect: Rect::between(LOW, LOW, HIGH, HIGH),
+            kind: 0,
+        });
+        Ok(Cover { room, strips })
+    }
+
+    /// The strips, by bottom and then left.
+    pub fn strips(&self) -> &[Piece]
+        ensures value { result.now ≡ self.now.strips }
+        ensures room { length self.now.strips ≤ self.now.room }
+        ensures covers { CoversWorld self.now }
+        ensures legal { AreLegal self.now.strips }
+    {
+        self.strips.as_slice()
+    }
+
+    /// The kind of a square.
+    pub fn kind_at(&self, at: Point) -> u8
+        ensures { result ≡ picture_of self.now.strips at.x at.y }
+    {
+        for strip in &self.strips {
+            if strip.rect.holds(at) {
+                return strip.kind;
+            }
+        }
+        unreachable!()
+    }
+
+    /// How many maximal strips the plane has.
+    #[tactic(auto, using(crate::proofs::StripLaws::strips_number))]
+    pub fn tile_count(&self) -> usize
+        ensures { result ≡ tile_count world (picture_of self.now.strips) }
+    {
+        self.strips.len()
+    }
+
+    /// The strips that have a square in the rectangle, each once, in order.
+    pub fn meeting(&self, rect: Rect) -> Meeting<'_>
+        ensures value { result ≡ meeting self.now.strips rect }
+        ensures covers { CoversWorld self.now }
+    {
+        Meeting::new(&self.strips, rect)
+    }
+
+    /// The kinds below 64 that the squares of the rectangle have: bit k for kind k.
+    pub fn kinds(&self, rect: Rect) -> u64
+        ensures { result ≡ kinds_in (picture_of self.now.strips) rect }
+    {
+        let mut kinds = 0;
+        for strip in self.meeting(rect) {
+            if strip.kind < 64 {
+                kinds |= 1 << strip.kind;
+            }
+        }
+        kinds
+    }
+
+    /// Paints pieces over the plane in turn, unless it would then have more than `limit` strips.
+    pub fn overlay(
+        &mut self,
+        over: &[Piece],
+        limit: usize,
+        scratch: &mut Scratch,
+    ) -> Result<(), TooMany>
+        requires limit { limit ≤ self.old.room }
+        requires pieces_fit { length self.old.strips + length over.now ≤ scratch.old.room }
+        requires strips_fit { limit ≤ scratch.old.room }
+        ensures picture { OnOk result
+            (picture_of self.new.strips ≡ overlaid (picture_of self.old.strips) over.now) }
+        ensures too_many { IsErr result
+            ↔ (limit < tile_count world (overlaid (picture_of self.old.strips) over.now)) }
+        ensures refused { OnErr result (self.new ≡ self.old) }
+        ensures room { self.new.room ≡ self.old.room }
+        ensures len { length self.new.strips ≤ self.new.room }
+        ensures scratch_room { scratch.new.room ≡ scratch.old.room }
+    {
+        strips(&self.strips, over, limit, scratch)?;
+        refill(&mut self.strips, scratch.strips());
+        Ok(())
+    }
+}
+
+/// Replaces what a list has, in the room that it has.
+fn refill(list: &mut Vec<Piece>, pieces: &[Piece])
+    requires { length pieces.now ≤ vec_capacity list.old }
+    ensures items { list.new.items ≡ pieces.now }
+    ensures room { vec_capacity list.new ≡ vec_capacity list.old }
+{
+    list.clear();
+    for piece in pieces {
+        list.push_reserved(*piece);
+    }
+}

@@ -1,0 +1,30 @@
+//! Rectangles of unit squares, and planes covered by maximal horizontal strips (Ousterhout 1984).
+#![tactic(auto)]
+
+mod active;
+mod bands;
+mod cover;
+pub mod laws;
+mod lines;
+mod meeting;
+mod piece;
+mod point;
+mod rect;
+mod row;
+mod run;
+mod scratch;
+mod slots;
+mod stack;
+mod sweep;
+#[cfg(test)]
+mod tests;
+mod world;
+
+pub use cover::Cover;
+pub use meeting::Meeting;
+pub use piece::Piece;
+pub use point::Point;
+pub use rect::{Rect, RectFault};
+pub use scratch::Scratch;
+pub use sweep::{TooMany, strips};
+pub use world::{HIGH, LOW, ORIGIN};

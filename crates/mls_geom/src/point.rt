@@ -1,0 +1,61 @@
+//! Squares of the world.
+ghost use Rattle.std.specs.Prelude.{◌≡◌};
+ghost use Rattle.mls_geom.specs.World.{square_of};
+
+use crate::world::{HIGH, is_outside, line_of};
+use std::marker::Model;
+
+/// A square of the world, named by its lower-left corner.
+#[derive(Clone, Copy, Debug, PartialEq, Eq)]
+pub struct Point {
+    x: u32,
+    y: u32,
+}
+
+impl Model for Point {
+    ghost use Rattle.std.specs.Prelude.{IsTrue};
+    ghost use Rattle.mls_geom.specs.Extents.{Square, holds};
+
+    ghost Value = { Square };
+
+    ghost use Rattle.mls_geom.specs.World.{world};
+
+    ghost view = { λ p. record { x = p.x; y = p.y } };
+
+    ghost invariant = { λ p. IsTrue (holds world p.x p.y) };
+
+    ghost inverse = { λ s. record { x = s.x; y = s.y } };
+}
+
+impl Point {
+    /// The square whose lower-left corner is where two of the user's lines cross. `None` where the
+    /// world has no such square.
+    #[tactic(auto, unfolding(crate::specs::World::square_of))]
+    pub fn new(x: i32, y: i32) -> Option<Point>
+        ensures { result ≡ square_of x y }
+    {
+        if is_outside(x) || is_outside(y) {
+            return None;
+        }
+        let (x, y) = (line_of(x), line_of(y));
+        if x < HIGH && y < HIGH {
+            Some(Point { x, y })
+        } else {
+            None
+        }
+    }
+
+    /// The square's left line, counted as in the world.
+    pub(crate) fn column(self) -> u32
+        ensures { result ≡ self.x }
+    {
+        self.x
+    }
+
+    /// The square's bottom line, counted as in the world.
+    pub(crate) fn row(self) -> u32
+        ensures { result ≡ self.y }
+    {
+        self.y
+    }
+}

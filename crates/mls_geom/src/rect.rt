@@ -1,0 +1,188 @@
+//! Rectangles of squares of the world.
+ghost use Rattle.std.specs.Prelude.{◌≡◌, ◌&&◌, ◌+ℤ◌, ℕ, IfNone, IfSome, false, pos};
+ghost use Rattle.mls_geom.specs.Extents.{IsRectangleIn, clipped, common, grown, holds, meets};
+ghost use Rattle.mls_geom.specs.World.{rect_of, world};
+
+use crate::Point;
+use crate::world::{HIGH, LOW, ORIGIN, is_outside, line_of, user_line};
+use std::marker::Model;
+use thiserror::Error;
+
+/// Why four lines make no rectangle of the world.
+#[derive(Clone, Copy, Debug, PartialEq, Eq, Error)]
+pub enum RectFault {
+    #[error("empty box")]
+    Empty,
+    #[error("outside the world")]
+    Outside,
+}
+
+/// A rectangle of at least one square, inside the world.
+#[derive(Clone, Copy, Debug, PartialEq, Eq)]
+pub struct Rect {
+    left: u32,
+    bottom: u32,
+    right: u32,
+    top: u32,
+}
+
+impl Model for Rect {
+    ghost use Rattle.mls_geom.specs.Extents.{Extent, IsRectangleIn};
+
+    ghost Value = { Extent };
+
+    ghost use Rattle.mls_geom.specs.World.{world};
+
+    ghost view = { λ r. record { left = r.left; bottom = r.bottom; right = r.right; top = r.top } };
+
+    ghost invariant = { λ r. IsRectangleIn world (record { left = r.left; bottom = r.bottom; right = r.right; top = r.top }) };
+
+    ghost inverse = { λ e. record { left = e.left; bottom = e.bottom; right = e.right; top = e.top } };
+}
+
+impl Rect {
+    /// The rectangle between four of the user's lines.
+    #[tactic(auto, unfolding(crate::specs::World::rect_of))]
+    pub fn new(left: i32, bottom: i32, right: i32, top: i32) -> Result<Rect, RectFault>
+        ensures { result ≡ rect_of left bottom right top }
+    {
+        if right <= left || top <= bottom {
+            return Err(RectFault::Empty);
+        }
+        if is_outside(left) || is_outside(bottom) || is_outside(right) || is_outside(top) {
+            return Err(RectFault::Outside);
+        }
+        Ok(Rect {
+            left: line_of(left),
+            bottom: line_of(bottom),
+            right: line_of(right),
+            top: line_of(top),
+        })
+    }
+
+    /// The rectangle between four lines of the world.
+    pub(crate) fn between(left: u32, bottom: u32, right: u32, top: u32) -> Rect
+        requires { IsRectangleIn world (record { left = left; bottom = bottom; right = right; top = top }) }
+        ensures { result ≡ record { left = left; bottom = bottom; right = right; top = top } }
+    {
+        Rect {
+            left,
+            bottom,
+            right,
+            top,
+        }
+    }
+
+    /// The left line, counted as in the world.
+    pub(crate) fn left_line(self) -> u32
+        ensures value { result ≡ self.left }
+        ensures legal { IsRectangleIn world self }
+    {
+        self.left
+    }
+
+    /// The bottom line, counted as in the world.
+    pub(crate) fn bottom_line(self) -> u32
+        ensures value { result ≡ self.bottom }
+        ensures legal { IsRectangleIn world self }
+    {
+        self.bottom
+    }
+
+    /// The right line, counted as in the world.
+    pub(crate) fn right_line(self) -> u32
+        ensures value { result ≡ self.right }
+        ensures legal { IsRectangleIn world self }
+    {
+        self.right
+    }
+
+    /// The top line, counted as in the world.
+    pub(crate) fn top_line(self) -> u32
+        ensures value { result ≡ self.top }
+        ensures legal { IsRectangleIn world self }
+    {
+        self.top
+    }
+
+    /// Whether the square lies in the rectangle.
+    pub(crate) fn holds(self, at: Point) -> bool
+        ensures { result ≡ holds self at.x at.y }
+    {
+        self.left <= at.column()
+            && at.column() < self.right
+            && self.bottom <= at.row()
+            && at.row() < self.top
+    }
+
+    /// Whether some square lies in both.
+    pub(crate) fn meets(self, other: Rect) -> bool
+        ensures { result ≡ meets self other }
+    {
+        self.clip(other).is_some()
+    }
+
+    /// The user's left line.
+    pub fn left(self) -> i32
+        ensures value { pos self.left ≡ result +ℤ pos ORIGIN }
+        ensures legal { IsRectangleIn world self }
+    {
+        user_line(self.left)
+    }
+
+    /// The user's bottom line.
+    pub fn bottom(self) -> i32
+        ensures value { pos self.bottom ≡ result +ℤ pos ORIGIN }
+        ensures legal { IsRectangleIn world self }
+    {
+        user_line(self.bottom)
+    }
+
+    /// The user's right line.
+    pub fn right(self) -> i32
+        ensures value { pos self.right ≡ result +ℤ pos ORIGIN }
+        ensures legal { IsRectangleIn world self }
+    {
+        user_line(self.right)
+    }
+
+    /// The user's top line.
+    pub fn top(self) -> i32
+        ensures value { pos self.top ≡ result +ℤ pos ORIGIN }
+        ensures legal { IsRectangleIn world self }
+    {
+        user_line(self.top)
+    }
+
+    /// The rectangle with so many squares more on each side, as far as the world reaches.
+    pub fn grow(self, squares: u32) -> Rect
+        ensures value { result ≡ common (grown squares self) world }
+        ensures squares { (x y : ℕ)
+            → holds result x y ≡ (holds (grown squares self) x y && holds world x y) }
+    {
+        Rect {
+            left: self.left.saturating_sub(squares).max(LOW),
+            bottom: self.bottom.saturating_sub(squares).max(LOW),
+            right: self.right.saturating_add(squares).min(HIGH),
+            top: self.top.saturating_add(squares).min(HIGH),
+        }
+    }
+
+    /// The squares that lie in both. `None` where there are none, as where the rectangles only touch.
+    pub fn clip(self, other: Rect) -> Option<Rect>
+        ensures value { result ≡ clipped self other }
+        ensures some { IfSome result
+            (λ r. (x y : ℕ) → holds r x y ≡ (holds self x y && holds other x y)) }
+        ensures none { IfNone result ((x y : ℕ) → (holds self x y && holds other x y) ≡ false) }
+    {
+        let left = self.left.max(other.left);
+        let bottom = self.bottom.max(other.bottom);
+        let right = self.right.min(other.right);
+        let top = self.top.min(other.top);
+        if left < right && bottom < top {
+            Some(Rect::between(left, bottom, right, top))
+        } else {
+            None
+        }
+    }
+}

@@ -1,0 +1,60 @@
+//! The runs of one row of painted pieces.
+ghost use Rattle.std.specs.Prelude.{◌≡◌, ℕ, ◌+◌, ◌*◌, ◌<◌, ◌≤◌, length, vec_len, vec_capacity};
+ghost use Rattle.std.specs.List.{All};
+ghost use Rattle.mls_geom.specs.Pictures.{picture_of};
+ghost use Rattle.mls_geom.specs.Rows.{AreActive, AreLegal, AreRuns};
+ghost use Rattle.mls_geom.specs.Slots.{AreBetweenLines, AreCuts};
+ghost use Rattle.mls_geom.specs.World.{world};
+
+use crate::Piece;
+use crate::lines::ascend;
+use crate::run::{Run, join_slots};
+use crate::slots::paint_row;
+use crate::world::{HIGH, LOW};
+
+/// Room to find the runs of a row in.
+#[derive(Drop)]
+pub(crate) struct Row {
+    pub(crate) lines: Vec<u32>,
+    pub(crate) kinds: Vec<u8>,
+    pub(crate) free: Vec<usize>,
+    pub(crate) runs: Vec<Run>,
+}
+
+impl Row {
+    ghost use Rattle.mls_geom.specs.RowRooms.{HasRowRoom};
+
+    /// Leaves in `runs` the runs of row `y`. The active pieces are those that have squares in it.
+    pub(crate) fn find_runs(&mut self, pieces: &[Piece], active: &[usize], y: u32)
+        requires legal { AreLegal pieces.now }
+        requires active { AreActive pieces.now y active.now }
+        requires room { HasRowRoom self.old (length pieces.now) }
+        ensures runs { AreRuns world (picture_of pieces.now) y self.new.runs.items }
+        ensures room { (n : ℕ) → HasRowRoom self.old n → HasRowRoom self.new n }
+    {
+        list_lines(pieces, active, &mut self.lines);
+        paint_row(pieces, active, &self.lines, &mut self.kinds, &mut self.free);
+        join_slots(&self.lines, &self.kinds, &mut self.runs);
+    }
+}
+
+/// Leaves in `lines` those that cut the row: the world's left and right line, and each active piece's.
+fn list_lines(pieces: &[Piece], active: &[usize], lines: &mut Vec<u32>)
+    requires within { All (λ i. i < length pieces.now) active.now }
+    requires no_more { length active.now ≤ length pieces.now }
+    requires room { 2 * length pieces.now + 2 ≤ vec_capacity lines.old }
+    ensures cuts { AreCuts world lines.new.items }
+    ensures between { AreBetweenLines lines.new.items pieces.now active.now }
+    ensures count { vec_len lines.new ≤ 2 * length pieces.now + 2 }
+    ensures room { vec_capacity lines.new ≡ vec_capacity lines.old }
+{
+    lines.clear();
+    lines.push_reserved(LOW);
+    lines.push_reserved(HIGH);
+    for i in active {
+        let rect = pieces[*i].rect;
+        lines.push_reserved(rect.left_line());
+        lines.push_reserved(rect.right_line());
+    }
+    ascend(lines);
+}

@@ -1,0 +1,148 @@
+//! Painting the slots of a row from above: what is painted once stays, and links over painted slots
+//! lead to the free ones.
+ghost use Rattle.std.specs.Prelude.{◌≡◌, ℕ, ◌+◌, ◌<◌, ◌≤◌, ◌&&◌, false, nat_lt, nat_le, if◌then◌else◌, length, slice_index, vec_len, vec_capacity};
+ghost use Rattle.std.specs.List.{Contains};
+ghost use Rattle.std.specs.List.Sorted.{IsStrictlyIncreasing};
+ghost use Rattle.mls_geom.specs.Pictures.{Picture, overlaid, painted, picture_of};
+ghost use Rattle.mls_geom.specs.Rows.{AreActive};
+ghost use Rattle.mls_geom.specs.Slots.{AreBetweenLines, AreLinks, AreSlotKinds, AreSlots, IsBetweenLines, is_painted, shown};
+
+use crate::Piece;
+
+/// Leaves in `kinds` the kind of each slot between the lines, in a row that has squares of the active
+/// pieces alone. A later piece wins, and where there is none, there is space.
+pub(crate) fn paint_row(
+    pieces: &[Piece],
+    active: &[usize],
+    lines: &[u32],
+    kinds: &mut Vec<u8>,
+    free: &mut Vec<usize>,
+)
+    requires ascending { IsStrictlyIncreasing lines.now }
+    requires some { 0 < length lines.now }
+    requires between { AreBetweenLines lines.now pieces.now active.now }
+    requires kinds_fit { length lines.now ≤ vec_capacity kinds.old }
+    requires free_fit { length lines.now ≤ vec_capacity free.old }
+    ensures kinds { (y : ℕ) → AreActive pieces.now y active.now
+        → AreSlotKinds (picture_of pieces.now) y lines.now kinds.new.items }
+    ensures count { length lines.now ≡ vec_len kinds.new + 1 }
+    ensures kinds_room { vec_capacity kinds.new ≡ vec_capacity kinds.old }
+    ensures free_room { vec_capacity free.new ≡ vec_capacity free.old }
+{
+    clear_slots(lines.len() - 1, kinds, free);
+    paint_slots(pieces, active, lines, kinds, free);
+}
+
+/// Makes so many slots, all of them free.
+fn clear_slots(count: usize, kinds: &mut Vec<u8>, free: &mut Vec<usize>)
+    requires kinds_fit { count ≤ vec_capacity kinds.old }
+    requires free_fit { count < vec_capacity free.old }
+    ensures slots { AreSlots kinds.new.items free.new.items }
+    ensures count { vec_len kinds.new ≡ count }
+    ensures unpainted { (slot : ℕ) → is_painted free.new.items slot ≡ false }
+    ensures kinds_room { vec_capacity kinds.new ≡ vec_capacity kinds.old }
+    ensures free_room { vec_capacity free.new ≡ vec_capacity free.old }
+{
+    kinds.clear();
+    free.clear();
+    for slot in 0..count {
+        kinds.push_reserved(0);
+        free.push_reserved(slot);
+    }
+    free.push_reserved(count);
+}
+
+/// Paints the slots with the pieces that have squares in the row, of which a later one wins.
+fn paint_slots(
+    pieces: &[Piece],
+    active: &[usize],
+    lines: &[u32],
+    kinds: &mut [u8],
+    free: &mut [usize],
+)
+    requires slots { AreSlots kinds.old free.old }
+    requires count { length lines.now ≡ length kinds.old + 1 }
+    requires ascending { IsStrictlyIncreasing lines.now }
+    requires between { AreBetweenLines lines.now pieces.now active.now }
+    ensures slots { AreSlots kinds.new free.new }
+    ensures shown { (below : Picture) (slot x y : ℕ)
+        → AreActive pieces.now y active.now
+        → slot < length kinds.old
+        → slice_index lines.now slot ≤ x
+        → x < slice_index lines.now (slot + 1)
+        → shown kinds.new free.new slot (below x y)
+        ≡ shown kinds.old free.old slot (overlaid below pieces.now x y) }
+{
+    for i in active.iter().rev() {
+        paint_piece(pieces[*i], lines, kinds, free);
+    }
+}
+
+/// Paints the free slots of a piece that has squares in the row.
+fn paint_piece(piece: Piece, lines: &[u32], kinds: &mut [u8], free: &mut [usize])
+    requires slots { AreSlots kinds.old free.old }
+    requires count { length lines.now ≡ length kinds.old + 1 }
+    requires ascending { IsStrictlyIncreasing lines.now }
+    requires between { IsBetweenLines lines.now piece.rect }
+    ensures slots { AreSlots kinds.new free.new }
+    ensures shown { (below : Picture) (slot x y : ℕ)
+        → piece.rect.bottom ≤ y
+        → y < piece.rect.top
+        → slot < length kinds.old
+        → slice_index lines.now slot ≤ x
+        → x < slice_index lines.now (slot + 1)
+        → shown kinds.new free.new slot (below x y)
+        ≡ shown kinds.old free.old slot (painted below piece x y) }
+{
+    let from = place_of(lines, piece.rect.left_line());
+    let to = place_of(lines, piece.rect.right_line());
+    paint_below(kinds, free, from, to, piece.kind);
+}
+
+/// The place of a line among lines in ascending order.
+fn place_of(lines: &[u32], line: u32) -> usize
+    requires ascending { IsStrictlyIncreasing lines.now }
+    requires member { Contains lines.now line }
+    ensures within { result < length lines.now }
+    ensures there { slice_index lines.now result ≡ line }
+{
+    lines.binary_search(&line).unwrap()
+}
+
+/// Paints the free slots from one place up to another.
+fn paint_below(kinds: &mut [u8], free: &mut [usize], from: usize, to: usize, kind: u8)
+    requires slots { AreSlots kinds.old free.old }
+    requires from { from ≤ length kinds.old }
+    requires to { to ≤ length kinds.old }
+    ensures slots { AreSlots kinds.new free.new }
+    ensures shown { (slot below : ℕ) → slot < length kinds.old
+        → shown kinds.new free.new slot below
+        ≡ shown kinds.old free.old slot (if nat_le from slot && nat_lt slot to then kind else below) }
+{
+    let mut slot = first_free(free, from);
+    while slot < to {
+        kinds[slot] = kind;
+        free[slot] = slot + 1;
+        slot = first_free(free, slot + 1);
+    }
+}
+
+/// The first free place from one on. Halves the path of links on its way.
+fn first_free(free: &mut [usize], from: usize) -> usize
+    requires links { AreLinks free.old }
+    requires from { from < length free.old }
+    ensures links { AreLinks free.new }
+    ensures painted { (slot : ℕ) → is_painted free.new slot ≡ is_painted free.old slot }
+    ensures at_least { from ≤ result }
+    ensures within { result < length free.old }
+    ensures first { (slot : ℕ) → from ≤ slot → slot < result → slot < slice_index free.new slot }
+    ensures free { slice_index free.new result ≡ result }
+{
+    let mut slot = from;
+    while free[slot] != slot {
+        let further = free[free[slot]];
+        free[slot] = further;
+        slot = further;
+    }
+    slot
+}

@@ -1,0 +1,125 @@
+//! Stacking the runs of a band on the strips below it.
+ghost use Rattle.std.specs.Prelude.{◌≡◌, ℕ, ◌<◌, ◌≤◌, ◌↔◌, [], ◌∷◌, ◌++◌, IfOk, IfSome, IsErr, IsSome, IsSomeAnd, OnOk, OnErr, length, slice_get, vec_len, vec_capacity};
+ghost use Rattle.std.specs.List.{AllWithin};
+ghost use Rattle.mls_geom.specs.Extents.{IsRectangleIn};
+ghost use Rattle.mls_geom.specs.Rows.{AreRuns};
+ghost use Rattle.mls_geom.specs.Stacks.{AreStacked, AreAlike, StandsOn, begun, raised, up_to};
+ghost use Rattle.mls_geom.specs.TileCounts.{tile_count};
+ghost use Rattle.mls_geom.specs.World.{world};
+
+use crate::run::Run;
+use crate::sweep::TooMany;
+use crate::{Piece, Rect};
+
+/// The place of the first run from `place` on that begins at the line `left` or right of it.
+fn skip(below: &[Run], place: usize, left: u32) -> usize
+    requires { place ≤ length below.now }
+    ensures onward { place ≤ result }
+    ensures within { result ≤ length below.now }
+    ensures passed { AllWithin (λ under. under.left < left) below.now place result }
+    ensures stopped { IfSome (slice_get below.now result) (λ under. left ≤ under.left) }
+{
+    let mut place = place;
+    while place < below.len() && below[place].left < left {
+        place += 1;
+    }
+    place
+}
+
+/// The strip of the run at `place`, if `run` stands on it: if both have the same ends and kind.
+fn strip_below(below: &[Run], place: usize, run: &Run) -> Option<usize>
+    ensures found { IsSome result ↔ IsSomeAnd (slice_get below.now place) (StandsOn run.now) }
+    ensures strip { IfSome result (λ strip. IsSomeAnd (slice_get below.now place) (λ under. under.strip ≡ strip)) }
+{
+    let under = below.get(place)?;
+    let stands = under.left == run.left && under.right == run.right && under.kind == run.kind;
+    stands.then_some(under.strip)
+}
+
+/// Lets a strip reach up to the line `top`.
+fn raise(strip: &mut Piece, top: u32)
+    requires above { strip.old.rect.bottom < top }
+    requires to { top ≤ world.top }
+    ensures { strip.new ≡ raised top strip.old }
+{
+    let rect = strip.rect;
+    strip.rect = Rect::between(rect.left_line(), rect.bottom_line(), rect.right_line(), top);
+}
+
+/// Begins a strip with a run, from the line `bottom` up to the line `top`, and answers its index.
+fn begin(
+    run: &Run,
+    bottom: u32,
+    top: u32,
+    limit: usize,
+    strips: &mut Vec<Piece>,
+) -> Result<usize, TooMany>
+    requires room { limit ≤ vec_capacity strips.old }
+    requires within { vec_len strips.old ≤ limit }
+    requires legal { IsRectangleIn world (begun bottom top run.now).rect }
+    ensures begun { OnOk result (strips.new.items ≡ strips.old.items ++ begun bottom top run.now ∷ []) }
+    ensures index { IfOk result (λ strip. strip ≡ vec_len strips.old) }
+    ensures too_many { IsErr result ↔ (vec_len strips.old ≡ limit) }
+    ensures within { vec_len strips.new ≤ limit }
+    ensures room { vec_capacity strips.new ≡ vec_capacity strips.old }
+{
+    if strips.len() == limit {
+        return Err(TooMany);
+    }
+    let strip = strips.len();
+    strips.push_reserved(Piece {
+        rect: Rect::between(run.left, bottom, run.right, top),
+        kind: run.kind,
+    });
+    Ok(strip)
+}
+
+/// Stacks a band, from the line `bottom` up to the line `top`, on the strips below it. `below` has the
+/// runs of the row under the band, and `row` those of the band's rows, which are all alike.
+/// A run that stands on a run of the same ends and kind belongs to its strip, and any other begins one.
+pub(crate) fn stack(
+    below: &[Run],
+    row: &mut [Run],
+    bottom: u32,
+    top: u32,
+    limit: usize,
+    strips: &mut Vec<Piece>,
+) -> Result<(), TooMany>
+    requires room { limit ≤ vec_capacity strips.old }
+    requires within { vec_len strips.old ≤ limit }
+    requires from { world.bottom ≤ bottom }
+    requires tall { bottom < top }
+    requires to { top ≤ world.top }
+
+    // Some picture has these strips and runs, so the runs name strips of the list and lie in the world.
+    requires drawn { (picture : ℕ → ℕ → ℕ)
+        × AreStacked world picture bottom strips.old.items below.now
+        × AreRuns world picture bottom row.old
+        × AreAlike world picture bottom top }
+
+    ensures stacked { OnOk result ((picture : ℕ → ℕ → ℕ)
+        → AreStacked world picture bottom strips.old.items below.now
+        → AreRuns world picture bottom row.old
+        → AreAlike world picture bottom top
+        → AreStacked world picture top strips.new.items row.new) }
+    ensures too_many { OnErr result ((picture : ℕ → ℕ → ℕ)
+        → AreStacked world picture bottom strips.old.items below.now
+        → AreRuns world picture bottom row.old
+        → AreAlike world picture bottom top
+        → limit < tile_count (up_to top world) picture) }
+    ensures within { OnOk result (vec_len strips.new ≤ limit) }
+    ensures room { vec_capacity strips.new ≡ vec_capacity strips.old }
+{
+    let mut place = 0;
+    for run in row.iter_mut() {
+        place = skip(below, place, run.left);
+        run.strip = match strip_below(below, place, run) {
+            Some(strip) => {
+                raise(&mut strips[strip], top);
+                strip
+            }
+            None => begin(run, bottom, top, limit, strips)?,
+        };
+    }
+    Ok(())
+}

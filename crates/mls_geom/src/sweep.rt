@@ -1,0 +1,151 @@
+//! The maximal strips of painted planes.
+ghost use Rattle.std.specs.Prelude.{◌≡◌, ℕ, ◌+◌, ◌<◌, ◌≤◌, ◌↔◌, ◌++◌, [], IfOk, OnOk, OnErr, IsErr, length, vec_len, vec_capacity};
+ghost use Rattle.mls_geom.specs.ActivePieces.{AreStarts};
+ghost use Rattle.mls_geom.specs.BandLines.{AreBandLines};
+ghost use Rattle.mls_geom.specs.Pictures.{overlaid, picture_of};
+ghost use Rattle.mls_geom.specs.Rows.{AreLegal};
+ghost use Rattle.mls_geom.specs.Stacks.{AreStacked};
+ghost use Rattle.mls_geom.specs.Strips.{AreStrips};
+ghost use Rattle.mls_geom.specs.TileCounts.{tile_count};
+ghost use Rattle.mls_geom.specs.World.{world};
+
+use crate::active::{Start, activate, list_starts};
+use crate::bands::list_band_lines;
+use crate::row::Row;
+use crate::run::Run;
+use crate::stack::stack;
+use crate::{Piece, Scratch};
+use std::alloc::{AllocError, Global};
+use std::mem::swap;
+use thiserror::Error;
+
+/// A plane would have more tiles than it may.
+#[derive(Clone, Copy, Debug, PartialEq, Eq, Error)]
+#[error("too many tiles")]
+pub struct TooMany;
+
+/// Room to sweep upward over pieces in.
+#[derive(Drop)]
+pub(crate) struct Sweep {
+    pieces: Vec<Piece>,
+    lines: Vec<u32>,
+    starts: Vec<Start>,
+    active: Vec<usize>,
+    row: Row,
+    below: Vec<Run>,
+    strips: Vec<Piece>,
+}
+
+impl Sweep {
+    ghost use Rattle.mls_geom.specs.SweepRooms.{HasSweepRoom};
+
+    /// Reserves the room for so many pieces and so many strips.
+    pub(crate) fn new(alloc: Global, room: u32) -> Result<Sweep, AllocError>
+        ensures { IfOk result (λ sweep. HasSweepRoom sweep room) }
+    {
+        let room = room as usize;
+        let ends = 2 * room + 2;
+        Ok(Sweep {
+            pieces: Vec::with_capacity(alloc, room)?,
+            lines: Vec::with_capacity(alloc, ends)?,
+            starts: Vec::with_capacity(alloc, room)?,
+            active: Vec::with_capacity(alloc, room)?,
+            row: Row {
+                lines: Vec::with_capacity(alloc, ends)?,
+                kinds: Vec::with_capacity(alloc, ends)?,
+                free: Vec::with_capacity(alloc, ends)?,
+                runs: Vec::with_capacity(alloc, ends)?,
+            },
+            below: Vec::with_capacity(alloc, ends)?,
+            strips: Vec::with_capacity(alloc, room)?,
+        })
+    }
+
+    /// Lists the cover's pieces, and after them those painted over it.
+    fn gather(&mut self, cover: &[Piece], over: &[Piece])
+        requires { length cover.now + length over.now ≤ vec_capacity self.old.pieces }
+        ensures pieces { self.new.pieces.items ≡ cover.now ++ over.now }
+        ensures room { (n : ℕ) → HasSweepRoom self.old n → HasSweepRoom self.new n }
+    {
+        self.pieces.clear();
+        self.pieces.extend_from_slice(cover).unwrap();
+        self.pieces.extend_from_slice(over).unwrap();
+    }
+
+    /// Stacks the bands between the lines, from the bottom up.
+    fn stack_bands(&mut self, limit: usize) -> Result<(), TooMany>
+        requires legal { AreLegal self.old.pieces.items }
+        requires lines { AreBandLines world self.old.pieces.items self.old.lines.items }
+        requires starts { AreStarts self.old.pieces.items self.old.starts.items }
+        requires room { HasSweepRoom self.old (vec_len self.old.pieces) }
+        requires limit { limit ≤ vec_capacity self.old.strips }
+        ensures stacked { OnOk result (AreStacked world (picture_of self.old.pieces.items) world.top self.new.strips.items self.new.below.items) }
+        ensures within { OnOk result (vec_len self.new.strips ≤ limit) }
+        ensures too_many { OnErr result (limit < tile_count world (picture_of self.old.pieces.items)) }
+        ensures room { (n : ℕ) → HasSweepRoom self.old n → HasSweepRoom self.new n }
+    {
+        let Sweep {
+            pieces,
+            lines,
+            starts,
+            active,
+            row,
+            below,
+            strips,
+        } = self;
+        active.clear();
+        below.clear();
+        strips.clear();
+        let mut waiting = starts.as_slice();
+        for i in 1..lines.len() {
+            let bottom = lines[i - 1];
+            let top = lines[i];
+            waiting = activate(pieces, waiting, bottom, active);
+            row.find_runs(pieces, active, bottom);
+            stack(below, &mut row.runs, bottom, top, limit, strips)?;
+            swap(below, &mut row.runs);
+        }
+        Ok(())
+    }
+
+    /// Leaves in `strips` the maximal strips that the gathered pieces show.
+    fn find_strips(&mut self, limit: usize) -> Result<(), TooMany>
+        requires room { HasSweepRoom self.old (vec_len self.old.pieces) }
+        requires limit { limit ≤ vec_capacity self.old.strips }
+        ensures legal { AreLegal self.old.pieces.items }
+        ensures strips { OnOk result (AreStrips world (picture_of self.old.pieces.items) self.new.strips.items) }
+        ensures count { OnOk result (vec_len self.new.strips ≡ tile_count world (picture_of self.old.pieces.items)) }
+        ensures too_many { IsErr result ↔ (limit < tile_count world (picture_of self.old.pieces.items)) }
+        ensures room { (n : ℕ) → HasSweepRoom self.old n → HasSweepRoom self.new n }
+    {
+        list_band_lines(&self.pieces, &mut self.lines);
+        list_starts(&self.pieces, &mut self.starts);
+        self.stack_bands(limit)
+    }
+}
+
+/// Leaves in the scratch the maximal strips of a list of pieces that covers the world, with other pieces
+/// painted over it in turn, and answers their number.
+pub fn strips(
+    cover: &[Piece],
+    over: &[Piece],
+    limit: usize,
+    scratch: &mut Scratch,
+) -> Result<usize, TooMany>
+    requires pieces_fit { length cover.now + length over.now ≤ scratch.old.room }
+    requires strips_fit { limit ≤ scratch.old.room }
+    ensures strips { OnOk result (AreStrips world (overlaid (picture_of cover.now) over.now) scratch.new.strips) }
+    ensures picture { OnOk result (picture_of scratch.new.strips ≡ overlaid (picture_of cover.now) over.now) }
+    ensures count { IfOk result (λ n. (n ≡ length scratch.new.strips) × (n ≡ tile_count world (overlaid (picture_of cover.now) over.now))) }
+    ensures too_many { IsErr result ↔ (limit < tile_count world (overlaid (picture_of cover.now) over.now)) }
+    ensures refused { OnErr result (scratch.new ≡ scratch.old) }
+    ensures room { scratch.new.room ≡ scratch.old.room }
+{
+    scratch.sweep.gather(cover, over);
+    scratch.sweep.find_strips(limit)?;
+    swap(&mut scratch.strips, &mut scratch.sweep.strips);
+    Ok(scratch.strips.len())
+}
+
+#[cfg(test)]
+mod tests;

@@ -1,0 +1,2 @@
+pub mod KindBits
+pub mod Openings

@@ -1,0 +1,6 @@
+pub mod Own
+pub mod Planes
+pub mod Quotas
+pub mod Refusals
+pub mod Sessions
+pub mod Types

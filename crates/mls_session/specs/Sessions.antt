@@ -1,0 +1,36 @@
+-- What a caller sees of a session, and the machine's state that it stands for.
+use Rattle.std.specs.Prelude.{ℕ, Option, Some, None, List, slice_get, ⊤}
+use Rattle.mls_geom.specs.Covers.{Covering}
+use Rattle.mls_geom.specs.Extents.{Extent}
+use Rattle.mls_session.specs.Own.{Config, OwnState}
+use Rattle.mls_geom.specs.Pictures.{Picture, empty_picture, picture_of}
+use Rattle.mls_session.specs.Types.{plane_count, plane_of}
+use Rattle.mls_session.specs.declared.reply.Reply.{Reply}
+use Rattle.mls_session.specs.declared.reply.Reply.TheVariants.{Done, Kinds, Refused}
+
+-- the box, what covers each plane, and how many tiles a plane may have
+pub record Drawing : Type 0 where
+  pub box : Option Extent
+  pub planes : List Covering
+  pub quota : ℕ
+
+-- what no command changes, where a plane may have so many tiles
+abbrev pub config_with : ℕ → Config
+config_with quota = record { planes = plane_count; plane_of = plane_of; quota = quota }
+
+abbrev pub config_of : Drawing → Config
+config_of drawing = config_with drawing.quota
+
+-- what a cover shows; where there is no plane, space
+abbrev pub shown : Option Covering → Picture
+shown None = empty_picture
+shown (Some cover) = picture_of cover.strips
+
+abbrev pub state_of : Drawing → OwnState
+state_of drawing = record { box = drawing.box; layout = λ plane. shown (slice_get drawing.planes plane) }
+
+-- the fact, where the reply is a refusal
+abbrev pub OnRefused : Reply → Type 0 → Type 0
+OnRefused Done P = ⊤
+OnRefused (Kinds kinds) P = ⊤
+OnRefused (Refused refusal) P = P

@@ -1,0 +1,16 @@
+//! One session over planes of strips: its box, its layout, and what each command does to them.
+#![tactic(auto)]
+
+mod command;
+mod quota;
+mod refusal;
+mod reply;
+mod session;
+mod types;
+
+pub use command::Command;
+pub use quota::Quota;
+pub use refusal::Refusal;
+pub use reply::Reply;
+pub use session::Session;
+pub use types::{PLANES, TYPES, plane_of, type_name, type_of};

@@ -1,0 +1,148 @@
+//! One session: a box, and a layout that commands change.
+ghost use Rattle.std.specs.Prelude.{◌≡◌, ◌<◌, IfOk};
+ghost use Rattle.mls_session.specs.Own.{Step, box_step, opening, paint_step, repaint_step, what_step};
+ghost use Rattle.mls_geom.specs.Pictures.{painted};
+ghost use Rattle.mls_session.specs.Planes.{AreEmpty, ArePlanes};
+
+use crate::types::{PLANES, plane_of};
+use crate::{Command, Quota, Refusal, Reply};
+use mls_geom::{Cover, Piece, Rect, RectFault, Scratch};
+use std::alloc::{AllocError, Global};
+use std::marker::Model;
+
+/// A session: its box, and the strips of each plane.
+#[derive(Drop)]
+pub struct Session {
+    quota: Quota,
+    box_rect: Option<Rect>,
+    planes: Vec<Cover>,
+    scratch: Scratch,
+}
+
+impl Model for Session {
+    ghost use Rattle.std.specs.Prelude.{◌≡◌, ◌+◌};
+    ghost use Rattle.mls_session.specs.Planes.{ArePlanes};
+    ghost use Rattle.mls_session.specs.Quotas.{IsQuota};
+    ghost use Rattle.mls_session.specs.Sessions.{Drawing};
+
+    ghost Value = { Drawing };
+
+    ghost view = { λ s. record { box = s.box_rect; planes = s.planes.items; quota = s.quota } };
+
+    ghost invariant = { λ s. IsQuota s.quota × ArePlanes s.quota s.planes.items × (s.scratch.room ≡ s.quota + 1) };
+}
+
+impl Session {
+    ghost use Rattle.mls_session.specs.Sessions.{OnRefused, config_of, state_of};
+
+    /// A session with no box and an empty layout, and with all the room that it will ever take.
+    #[tactic(auto, using(crate::proofs::Openings::state_of_empty))]
+    pub fn new(alloc: Global, quota: Quota) -> Result<Session, AllocError>
+        ensures opening { IfOk result (λ session. state_of session ≡ opening) }
+        ensures quota { IfOk result (λ session. session.quota ≡ quota) }
+    {
+        let planes = empty_planes(alloc, quota)?;
+        let scratch = Scratch::new(alloc, quota.tiles() + 1)?;
+        Ok(Session {
+            quota,
+            box_rect: None,
+            planes,
+            scratch,
+        })
+    }
+
+    /// Does what the user asks, or refuses it and changes nothing. It takes no memory.
+    #[tactic(auto, unfolding(crate::specs::Own::own_step))]
+    pub fn command(&mut self, command: Command) -> Reply
+        ensures step { Step (config_of self.old) (state_of self.old) command result (state_of self.new) }
+        ensures config { config_of self.new ≡ config_of self.old }
+        ensures refused { OnRefused result (self.new ≡ self.old) }
+    {
+        match command {
+            Command::Box(left, bottom, right, top) => {
+                self.set_box(Rect::new(left, bottom, right, top))
+            }
+            Command::Paint(kind) => self.paint(kind),
+            Command::What => self.what(),
+        }
+    }
+
+    /// Sets the box, where its lines made a rectangle.
+    fn set_box(&mut self, made: Result<Rect, RectFault>) -> Reply
+        ensures step { box_step (state_of self.old) made ≡ (state_of self.new, result) }
+        ensures config { config_of self.new ≡ config_of self.old }
+        ensures refused { OnRefused result (self.new ≡ self.old) }
+    {
+        match made {
+            Ok(rect) => {
+                self.box_rect = Some(rect);
+                Reply::Done
+            }
+            Err(RectFault::Empty) => Reply::Refused(Refusal::EmptyBox),
+            Err(RectFault::Outside) => Reply::Refused(Refusal::OutsideWorld),
+        }
+    }
+
+    /// Paints the box with a type, on the type's plane.
+    fn paint(&mut self, kind: Option<u8>) -> Reply
+        ensures step { paint_step (config_of self.old) (state_of self.old) self.old.box kind ≡ (state_of self.new, result) }
+        ensures config { config_of self.new ≡ config_of self.old }
+        ensures refused { OnRefused result (self.new ≡ self.old) }
+    {
+        let Some(rect) = self.box_rect else {
+            return Reply::Refused(Refusal::NoBox);
+        };
+        let Some(kind) = kind else {
+            return Reply::Refused(Refusal::UnknownType);
+        };
+        let Some(plane) = plane_of(kind) else {
+            return Reply::Refused(Refusal::UnknownType);
+        };
+        self.repaint(plane, Piece { rect, kind })
+    }
+
+    /// Paints a piece on a plane, unless the plane would have more tiles than it may.
+    fn repaint(&mut self, plane: usize, piece: Piece) -> Reply
+        requires { plane < PLANES }
+        ensures step { repaint_step (config_of self.old) (state_of self.old) plane (painted ((state_of self.old).layout plane) piece)
+            ≡ (state_of self.new, result) }
+        ensures config { config_of self.new ≡ config_of self.old }
+        ensures refused { OnRefused result (self.new ≡ self.old) }
+    {
+        let limit = self.quota.tiles() as usize;
+        let cover = &mut self.planes[plane];
+        let Ok(()) = cover.overlay(&[piece], limit, &mut self.scratch) else {
+            return Reply::Refused(Refusal::Quota);
+        };
+        Reply::Done
+    }
+
+    /// Tells the types in the box, space among them.
+    fn what(&self) -> Reply
+        ensures { what_step (config_of self.now) (state_of self.now) self.now.box ≡ (state_of self.now, result) }
+    {
+        let Some(rect) = self.box_rect else {
+            return Reply::Refused(Refusal::NoBox);
+        };
+        let mut kinds = 0;
+        for cover in &self.planes {
+            kinds |= cover.kinds(rect);
+        }
+        Reply::Kinds(kinds)
+    }
+}
+
+/// A cover for each plane, with nothing on it.
+fn empty_planes(alloc: Global, quota: Quota) -> Result<Vec<Cover>, AllocError>
+    ensures planes { IfOk result (λ planes. ArePlanes quota planes.items) }
+    ensures empty { IfOk result (λ planes. AreEmpty planes.items) }
+{
+    let mut planes = Vec::with_capacity(alloc, PLANES)?;
+    for _plane in 0..PLANES {
+        planes.push(Cover::new(alloc, quota.tiles() as usize)?)?;
+    }
+    Ok(planes)
+}
+
+#[cfg(test)]
+mod tests;

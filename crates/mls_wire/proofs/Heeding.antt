@@ -1,0 +1,55 @@
+-- A line asks a command only of a session that is open.
+use Rattle.std.proofs.Common.{◌≡◌, ℕ, Bool, true, false, cond, List, [], ◌∷◌, Result, Ok, Err, IsTrue, refl, sym, subst, codes}
+use Rattle.mls_session.specs.declared.command.Command.{Command}
+use Rattle.mls_wire.specs.NameBooks.{NameBook}
+use Rattle.mls_wire.specs.Runs.{Seat, CanHeed, book_of}
+use Rattle.mls_wire.specs.Says.{line_says, words_say, session_says, open_says, command_of, asked, begins_with}
+use Rattle.mls_wire.specs.Words.{words_of, same_word, is_session_name}
+use Rattle.mls_wire.specs.declared.line.Line.{Line}
+use Rattle.mls_wire.specs.declared.line.Line.TheVariants.{Silent, Open, Ask}
+use Rattle.mls_wire.specs.declared.line.LineFault.{LineFault}
+use Rattle.mls_wire.specs.declared.line.LineFault.TheVariants.{UnknownCommand, BadName, NotOpen}
+
+-- what a line says, if anything, can be heeded
+abbrev CanHeedSaid : Seat → Result Line LineFault → Type 0
+CanHeedSaid seat (Ok said) = CanHeed seat said
+CanHeedSaid seat (Err fault) = Unit {0}
+
+choice : (seat : Seat) (test : Bool) (x y : Result Line LineFault) → CanHeedSaid seat x → CanHeedSaid seat y → CanHeedSaid seat (cond test x y)
+choice seat true x y h k = h
+choice seat false x y h k = k
+
+if_open : (seat : Seat) (name : List ℕ) (command : Command) (test : Bool) → (book_of seat).is_open name ≡ test → CanHeedSaid seat (cond test (Ok (Ask name command)) (Err NotOpen))
+if_open seat name command true h = h
+if_open seat name command false h = tt
+
+asked_heeded : (seat : Seat) (name : List ℕ) (r : Result Command LineFault) → CanHeedSaid seat (asked (book_of seat) name r)
+asked_heeded seat name (Ok command) = if_open seat name command _ refl
+asked_heeded seat name (Err fault) = tt
+
+session_heeded : (seat : Seat) (name : List ℕ) (words : List (List ℕ)) → CanHeedSaid seat (session_says (book_of seat) name words)
+unfolding session_says
+session_heeded seat name words =
+    choice seat (is_session_name name) _ _ (asked_heeded seat name (command_of (book_of seat) words)) tt
+
+open_heeded : (seat : Seat) (words : List (List ℕ)) → CanHeedSaid seat (open_says words)
+unfolding open_says
+open_heeded seat [] = tt
+open_heeded seat (name ∷ []) = choice seat (is_session_name name) (Ok (Open name)) (Err BadName) tt tt
+open_heeded seat (name ∷ more ∷ words) = choice seat (is_session_name name) (Err UnknownCommand) (Err BadName) tt tt
+
+words_heeded : (seat : Seat) (words : List (List ℕ)) → CanHeedSaid seat (words_say (book_of seat) words)
+unfolding words_say
+words_heeded seat [] = tt
+words_heeded seat (word ∷ words) =
+    choice seat (same_word word (codes "%open")) _ _ (open_heeded seat words)
+    (choice seat (begins_with 37 word) (Err UnknownCommand) _ tt (session_heeded seat word words))
+
+line_heeded : (seat : Seat) (bytes : List ℕ) → CanHeedSaid seat (line_says (book_of seat) bytes)
+unfolding line_says
+line_heeded seat bytes =
+    choice seat _ (Err UnknownCommand) _ tt
+    (choice seat (begins_with 35 bytes) (Ok Silent) _ tt (words_heeded seat (words_of bytes)))
+
+pub said_heeded : (seat : Seat) (bytes : List ℕ) (said : Line) → Ok said ≡ line_says (book_of seat) bytes → CanHeed seat said
+said_heeded seat bytes said h = subst (CanHeedSaid seat) (sym h) (line_heeded seat bytes)

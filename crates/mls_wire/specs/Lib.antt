@@ -1,0 +1,13 @@
+pub mod KeptNames
+pub mod Lines
+pub mod NameBooks
+pub mod Numbers
+pub mod Readings
+pub mod Replies
+pub mod Runs
+pub mod Says
+pub mod Scripts
+pub mod Seats
+pub mod Serving
+pub mod Watches
+pub mod Words

@@ -1,0 +1,95 @@
+//! Names of sessions.
+ghost use Rattle.std.specs.Prelude.{◌≡◌, IsTrue, None, Some, if◌then◌else◌};
+ghost use Rattle.std.specs.Cmp.{partial_equiv_from_equiv};
+ghost use Rattle.std.specs.Cmp.Lexicographic.{nat_list_eq_equiv};
+ghost use Rattle.std.specs.List.{list_all};
+ghost use Rattle.mls_wire.specs.Words.{is_name_byte as is_name_byte_lem, is_session_name, same_word};
+
+use std::marker::Model;
+
+/// The most bytes that a session's name may have.
+pub const NAME_LIMIT: usize = 32;
+
+/// A session's name: 1 to 32 letters, digits and `_` of ASCII.
+#[derive(Clone, Copy, Debug)]
+pub struct Name {
+    bytes: [u8; NAME_LIMIT],
+    len: usize,
+}
+
+impl Model for Name {
+    ghost use Rattle.std.specs.Prelude.{ℕ, List, length, take};
+
+    ghost Value = { List ℕ };
+
+    ghost use Rattle.mls_wire.specs.KeptNames.{padded, KeepsName};
+
+    ghost view = { λ name. take name.len name.bytes };
+
+    ghost invariant = { λ name. KeepsName name.bytes name.len };
+
+    ghost inverse = { λ word. record { bytes = padded word; len = length word } };
+
+    ghost inverse_ok = { λ name kept i. record { bytes = kept.zeros i; len = kept.taken i } };
+}
+
+impl Name {
+    /// The name that a word spells, if it spells one.
+    #[tactic(auto, using(crate::proofs::NameLemmas::kept))]
+    pub fn new(word: &[u8]) -> Option<Name>
+        ensures { result ≡ (if is_session_name word.now then Some word.now else None) }
+    {
+        if !is_name(word) {
+            return None;
+        }
+        let mut bytes = [0; NAME_LIMIT];
+        bytes[..word.len()].copy_from_slice(word);
+        Some(Name {
+            bytes,
+            len: word.len(),
+        })
+    }
+
+    /// The name's bytes.
+    pub fn as_bytes(&self) -> &[u8]
+        ensures value { result.now ≡ self.now }
+        ensures name { IsTrue (is_session_name self.now) }
+    {
+        &self.bytes[..self.len]
+    }
+}
+
+impl PartialEq for Name {
+    ghost eq = { same_word };
+
+    ghost laws = { partial_equiv_from_equiv nat_list_eq_equiv };
+
+    fn eq(&self, other: &Self) -> bool {
+        self.as_bytes() == other.as_bytes()
+    }
+}
+
+impl Eq for Name {
+    ghost laws = { nat_list_eq_equiv };
+}
+
+/// Whether the word is a session's name.
+fn is_name(word: &[u8]) -> bool
+    ensures { result ≡ is_session_name word.now }
+{
+    (1..=NAME_LIMIT).contains(&word.len()) && has_name_bytes(word)
+}
+
+/// Whether each byte of the word may stand in a name.
+fn has_name_bytes(word: &[u8]) -> bool
+    ensures { result ≡ list_all is_name_byte_lem word.now }
+{
+    word.iter().all(|b| is_name_byte(*b))
+}
+
+/// Whether the byte may stand in a name.
+fn is_name_byte(b: u8) -> bool
+    ensures { result ≡ is_name_byte_lem b }
+{
+    b.is_ascii_alphanumeric() || b == b'_'
+}

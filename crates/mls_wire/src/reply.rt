@@ -1,0 +1,154 @@
+//! The text of replies.
+ghost use Rattle.std.specs.Prelude.{◌≡◌, ◌+◌, ◌++◌, ◌∷◌, ◌<◌, ◌==◌, OnOk, length, decimal, codes};
+ghost use Rattle.std.specs.List.{flat_map};
+ghost use Rattle.std.specs.Int.{bit_at};
+ghost use Rattle.mls_wire.specs.Replies.{answer_text, said_text, type_text, types_of, line_fault_words, open_fault_words, refusal_words, numbered};
+
+use crate::{Answer, LineFault, Names, OpenFault};
+use itoa::{Buffer, Integer};
+use mls_session::{Refusal, Reply};
+use std::alloc::AllocError;
+
+/// Appends the text of the answer to line `n`.
+#[tactic(auto, unfolding(crate::specs::Replies::answer_text))]
+pub fn reply_text<N: Names>(
+    names: &N,
+    n: u128,
+    answer: &Answer,
+    out: &mut Vec<u8>,
+) -> Result<(), AllocError>
+    ensures { OnOk result (out.new.items ≡ out.old.items ++ answer_text (N.book names.now) n answer.now) }
+{
+    match answer {
+        Answer::Silent => return Ok(()),
+        Answer::Fault(fault) => {
+            out.extend_from_slice(b"line ")?;
+            push_decimal(n, out)?;
+            out.extend_from_slice(b" fault ")?;
+            push_numbered(fault.number(), line_fault_text(*fault), out)?;
+        }
+        Answer::Opened(name) => {
+            out.extend_from_slice(name.as_bytes())?;
+            out.extend_from_slice(b" opened")?;
+        }
+        Answer::NotOpened(name, fault) => {
+            out.extend_from_slice(name.as_bytes())?;
+            out.extend_from_slice(b" refused open ")?;
+            push_numbered(fault.number(), open_fault_text(*fault), out)?;
+        }
+        Answer::Replied(name, reply) => {
+            out.extend_from_slice(name.as_bytes())?;
+            out.push(b' ')?;
+            push_reply(names, *reply, out)?;
+        }
+    }
+    out.push(b'\n')?;
+    Ok(())
+}
+
+fn push_decimal<I: Integer>(n: I, out: &mut Vec<u8>) -> Result<(), AllocError>
+    ensures { OnOk result (out.new.items ≡ out.old.items ++ I.text n) }
+{
+    let mut buffer = Buffer::new();
+    out.extend_from_slice(buffer.format(n).as_bytes())
+}
+
+fn push_numbered(n: u8, text: &[u8], out: &mut Vec<u8>) -> Result<(), AllocError>
+    ensures { OnOk result (out.new.items ≡ out.old.items ++ numbered n text.now) }
+{
+    push_decimal(n, out)?;
+    out.push(b' ')?;
+    out.extend_from_slice(text)
+}
+
+fn line_fault_text(fault: LineFault) -> &'static [u8]
+    ensures { result.now ≡ line_fault_words fault }
+{
+    match fault {
+        LineFault::UnknownCommand => b"unknown command",
+        LineFault::BadNumber => b"bad number",
+        LineFault::BadName => b"name",
+        LineFault::NotOpen => b"not open",
+    }
+}
+
+fn open_fault_text(fault: OpenFault) -> &'static [u8]
+    ensures { result.now ≡ open_fault_words fault }
+{
+    match fault {
+        OpenFault::OpenAlready => b"open already",
+        OpenFault::SessionsFull => b"sessions full",
+        OpenFault::Memory => b"memory",
+    }
+}
+
+fn refusal_text(refusal: Refusal) -> &'static [u8]
+    ensures { result.now ≡ refusal_words refusal }
+{
+    match refusal {
+        Refusal::EmptyBox => b"empty box",
+        Refusal::OutsideWorld => b"outside the world",
+        Refusal::NoBox => b"no box",
+        Refusal::UnknownType => b"unknown type",
+        Refusal::Quota => b"quota",
+    }
+}
+
+#[tactic(auto, unfolding(crate::specs::Replies::said_text))]
+fn push_reply<N: Names>(names: &N, reply: Reply, out: &mut Vec<u8>) -> Result<(), AllocError>
+    ensures { OnOk result (out.new.items ≡ out.old.items ++ said_text (N.book names.now) reply) }
+{
+    match reply {
+        Reply::Done => out.extend_from_slice(b"ok"),
+        Reply::Kinds(bits) => {
+            out.extend_from_slice(b"what ")?;
+            push_decimal(count_types(bits), out)?;
+            push_types(names, bits, out)
+        }
+        Reply::Refused(refusal) => {
+            out.extend_from_slice(b"refused ")?;
+            push_numbered(refusal.number(), refusal_text(refusal), out)
+        }
+    }
+}
+
+/// The bit of a type.
+fn has_type(bits: u64, kind: u8) -> bool
+    requires { kind < 64 }
+    ensures { result ≡ (bit_at bits kind == 1) }
+{
+    bits >> kind & 1 == 1
+}
+
+fn count_types(bits: u64) -> u8
+    ensures { result ≡ length (types_of bits) }
+{
+    let mut count = 0;
+    for kind in 1..64 {
+        if has_type(bits, kind) {
+            count += 1;
+        }
+    }
+    count
+}
+
+fn push_types<N: Names>(names: &N, bits: u64, out: &mut Vec<u8>) -> Result<(), AllocError>
+    ensures { OnOk result (out.new.items ≡ out.old.items ++ flat_map (type_text (N.book names.now)) (types_of bits)) }
+{
+    for kind in 1..64 {
+        if has_type(bits, kind) {
+            push_type(names, kind, out)?;
+        }
+    }
+    Ok(())
+}
+
+fn push_type<N: Names>(names: &N, kind: u8, out: &mut Vec<u8>) -> Result<(), AllocError>
+    ensures { OnOk result (out.new.items ≡ out.old.items ++ type_text (N.book names.now) kind) }
+{
+    out.push(b' ')?;
+    if let Some(name) = names.type_name(kind) {
+        out.extend_from_slice(name)?;
+    }
+    Ok(())
+}

@@ -1,0 +1,62 @@
+use super::*;
+use mls_session::Quota;
+use std::test::Fail;
+
+/// What a script is answered over sessions of this quota.
+fn answered(rt: &HostRuntime, quota: u32, script: &[u8]) -> Result<Vec<u8>, Fail> {
+    let quota = Quota::new(quota).ok_or("no quota")?;
+    let mut solo = Solo::new(quota);
+    let mut input = Watched::new(script);
+    let mut output = Watched::new(Vec::new(rt.alloc()));
+    serve(rt.alloc(), &mut solo, &mut input, &mut output)?;
+    Ok(output.into_inner())
+}
+
+/// The worked rows: a quota, a script and its replies.
+const ROWS: [(u32, &str, &str); 6] = [
+    // A first run.
+    (
+        1024,
+        "%open a\na box 0 0 4 4\na paint poly\na what\n",
+        "a opened\na ok\na ok\na what 1 poly\n",
+    ),
+    // Boxes that are refused, and a type that nobody knows.
+    (
+        1024,
+        "%open a\na paint poly\na box 5 5 5 9\na box 0 0 40000 2\na box 0 0 1 1\na paint gold\n",
+        "a opened\na refused 3 no box\na refused 1 empty box\na refused 2 outside the world\na ok\na refused 4 unknown type\n",
+    ),
+    // The smallest quota: strips of one kind side by side are one tile.
+    (
+        5,
+        "%open a\na box 0 0 10 10\na paint poly\na box 10 0 20 10\na paint poly\na box 0 20 1 21\na paint poly\na what\n",
+        "a opened\na ok\na ok\na ok\na ok\na ok\na refused 5 quota\na what 0\n",
+    ),
+    // The whole world, looked at in its four corners.
+    (
+        5,
+        "%open a\na box -32768 -32768 32768 32768\na paint p\na what\na box -32768 -32768 -32767 -32767\na what\na box 32767 -32768 32768 -32767\na what\na box -32768 32767 -32767 32768\na what\na box 32767 32767 32768 32768\na paint m1\na what\n",
+        "a opened\na ok\na ok\na what 1 poly\na ok\na what 1 poly\na ok\na what 1 poly\na ok\na what 1 poly\na ok\na ok\na what 2 poly m1\n",
+    ),
+    // A session that is open already, and a second one.
+    (
+        5,
+        "%open a\n%open a\n%open b\nb what\n",
+        "a opened\na refused open 1 open already\nb refused open 2 sessions full\nline 4 fault 4 not open\n",
+    ),
+    // Lines without replies, and faults.
+    (
+        5,
+        "# a comment\n\n \t\r\n%close a\n%open\n a what now\r\n%open a\na box 1 2 3\na box 1 2 3 x\na paint space",
+        "line 4 fault 1 unknown command\nline 5 fault 3 name\nline 6 fault 1 unknown command\na opened\nline 8 fault 1 unknown command\nline 9 fault 2 bad number\na refused 3 no box\n",
+    ),
+];
+
+#[test]
+fn rows_are_answered(rt: HostRuntime) -> Result<(), Fail> {
+    for (quota, script, replies) in ROWS {
+        let out = answered(&rt, quota, script.as_bytes())?;
+        assert_eq!(rt; out.as_slice(), replies.as_bytes(), "after {script}");
+    }
+    Ok(())
+}

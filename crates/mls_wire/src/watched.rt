@@ -1,0 +1,172 @@
+//! A device, with a count of its calls and a note of whether one has failed.
+ghost use Rattle.std.specs.Prelude.{◌≡◌, ◌-◌, ◌^◌, ◌<◌, ◌≤◌, ◌++◌, ℕ, List, [], false, length, take, IsTrue, IsOk, IfOk, OnOk, OnErr};
+ghost use Rattle.std.specs.Io.{ReadsAtMost, WritesAtMost};
+ghost use Rattle.std.specs.Io.KnownBytes.{Keeps, Appends, ReadConsumes, WriteAppends};
+ghost use Rattle.mls_wire.specs.Watches.{HasCause};
+
+use std::io::{ErrorKind, Read, Write};
+use std::marker::Model;
+use thiserror::Error;
+
+/// The input failed, or gave no answer however often it was asked.
+#[derive(Clone, Copy, Debug, PartialEq, Eq, Error)]
+#[error("input failed")]
+pub struct ReadFault;
+
+/// The output failed, or gave no answer however often it was asked.
+#[derive(Clone, Copy, Debug, PartialEq, Eq, Error)]
+#[error("output failed")]
+pub struct WriteFault;
+
+/// A device that is asked at most `u64::MAX` times, and whether one of its calls has failed.
+///
+/// A call that was interrupted is made again, and is no failure.
+#[derive(Drop)]
+pub struct Watched<D> {
+    device: D,
+    calls_left: u64,
+    failed: bool,
+}
+
+impl<D> Model for Watched<D> {
+    ghost use Rattle.std.specs.Prelude.{◌^◌, ◌<◌};
+    ghost use Rattle.mls_wire.specs.Watches.{Watch};
+
+    ghost Value = { Watch D };
+
+    ghost view = { λ w. record { device = w.device; calls_left = w.calls_left; failed = w.failed } };
+
+    ghost invariant = { λ w. w.calls_left < 2 ^ 64 };
+}
+
+impl<D> Watched<D> {
+    /// Watches a device, none of whose calls has failed yet.
+    pub fn new(device: D) -> Watched<D>
+        ensures { result ≡ record { device = device; calls_left = 2 ^ 64 - 1; failed = false } }
+    {
+        Watched {
+            device,
+            calls_left: u64::MAX,
+            failed: false,
+        }
+    }
+
+    /// Whether a call has failed.
+    pub fn failed(&self) -> bool
+        ensures value { result ≡ self.now.failed }
+        ensures counted { self.now.calls_left < 2 ^ 64 }
+    {
+        self.failed
+    }
+
+    /// The device, which is watched no more.
+    pub fn into_inner(self) -> D
+        ensures { result ≡ self.device }
+    {
+        self.device
+    }
+}
+
+impl<R: Read> Watched<R> {
+    /// Reads once into the buffer, and says how many bytes came: none at the end of the input only, unless the buffer is empty.
+    pub fn read_some(&mut self, buffer: &mut [u8]) -> Result<usize, ReadFault>
+        ensures bound { ReadsAtMost result buffer.new }
+        ensures bytes { ReadConsumes (R.remaining self.old.device) (R.remaining self.new.device) result buffer.new }
+        ensures calls { self.new.calls_left ≤ self.old.calls_left }
+        ensures fewer { OnOk result (self.new.calls_left < self.old.calls_left) }
+        ensures failed { OnOk result (self.new.failed ≡ self.old.failed) }
+        ensures cause { OnErr result (HasCause self.new) }
+        ensures lasting { IsTrue self.old.failed → IsTrue self.new.failed }
+    {
+        'tries: while self.calls_left > 0 {
+            self.calls_left -= 1;
+            match self.device.read(buffer) {
+                Ok(count) => return Ok(count),
+                Err(error) => {
+                    if error.kind() != ErrorKind::Interrupted {
+                        self.failed = true;
+                        return Err(ReadFault);
+                    }
+                }
+            }
+        }
+        Err(ReadFault)
+    }
+}
+
+impl<W: Write> Watched<W> {
+    /// Writes all the bytes. At an `Err` a beginning of them was written, which may be all or none.
+    pub fn write_whole(&mut self, bytes: &[u8]) -> Result<(), WriteFault>
+        ensures ok { OnOk result (Appends (W.contents self.old.device) (W.contents self.new.device) bytes.now) }
+        ensures err { OnErr result ((front missing : List ℕ) × (bytes.now ≡ front ++ missing)
+            × Appends (W.contents self.old.device) (W.contents self.new.device) front) }
+        ensures empty { bytes.now ≡ [] → IsOk result × (self.new ≡ self.old) }
+        ensures calls { self.new.calls_left ≤ self.old.calls_left }
+        ensures failed { OnOk result (self.new.failed ≡ self.old.failed) }
+        ensures cause { OnErr result (HasCause self.new) }
+        ensures lasting { IsTrue self.old.failed → IsTrue self.new.failed }
+    {
+        let mut rest = bytes;
+        'parts: while !rest.is_empty() {
+            let count = self.write_some(rest)?;
+            rest = &rest[count..];
+        }
+        Ok(())
+    }
+
+    /// Writes once, and says how many of the bytes were taken: at least one.
+    fn write_some(&mut self, bytes: &[u8]) -> Result<usize, WriteFault>
+        requires { 0 < length bytes.now }
+        ensures bound { WritesAtMost result bytes.now }
+        ensures some { IfOk result (λ count. 0 < count) }
+        ensures bytes { WriteAppends (W.contents self.old.device) (W.contents self.new.device) result bytes.now }
+        ensures calls { self.new.calls_left ≤ self.old.calls_left }
+        ensures failed { OnOk result (self.new.failed ≡ self.old.failed) }
+        ensures cause { OnErr result (HasCause self.new) }
+        ensures lasting { IsTrue self.old.failed → IsTrue self.new.failed }
+    {
+        'tries: while self.calls_left > 0 {
+            self.calls_left -= 1;
+            match self.device.write(bytes) {
+                Ok(0) => {
+                    self.failed = true;
+                    return Err(WriteFault);
+                }
+                Ok(count) => return Ok(count),
+                Err(error) => {
+                    if error.kind() != ErrorKind::Interrupted {
+                        self.failed = true;
+                        return Err(WriteFault);
+                    }
+                }
+            }
+        }
+        Err(WriteFault)
+    }
+
+    /// Has the device pass on what it holds back.
+    pub fn flush(&mut self) -> Result<(), WriteFault>
+        ensures bytes { Keeps (W.contents self.old.device) (W.contents self.new.device) }
+        ensures calls { self.new.calls_left ≤ self.old.calls_left }
+        ensures failed { OnOk result (self.new.failed ≡ self.old.failed) }
+        ensures cause { OnErr result (HasCause self.new) }
+        ensures lasting { IsTrue self.old.failed → IsTrue self.new.failed }
+    {
+        'tries: while self.calls_left > 0 {
+            self.calls_left -= 1;
+            match self.device.flush() {
+                Ok(()) => return Ok(()),
+                Err(error) => {
+                    if error.kind() != ErrorKind::Interrupted {
+                        self.failed = true;
+                        return Err(WriteFault);
+                    }
+                }
+            }
+        }
+        Err(WriteFault)
+    }
+}
+
+#[cfg(test)]
+mod tests;
