@@ -1,9 +1,8 @@
 -- How the active pieces change at a line.
-use Rattle.std.proofs.Common.{◌≡◌, ℕ, ◌+◌, ◌<◌, ◌≤◌, true, nat_eq, nat_lt, List, [], ◌++◌, map, slice_get, All, ap, subst, ◌∙◌, arith, inl, inr}
+use Rattle.std.proofs.Common.{◌≡◌, ℕ, ◌+◌, ◌<◌, ◌≤◌, true, nat_eq, nat_lt, List, [], ◌++◌, slice_get, All, subst, arith, inl, inr}
 use Rattle.std.specs.List.{Contains, IsDistinct, filter}
 use Rattle.std.specs.List.Sorted.{IsNonDecreasing, IsNonDecreasingBy, IsPermutation}
 use Rattle.std.proofs.lemmas.Bool.{lt-ltb, ltb-true}
-use Rattle.std.proofs.lemmas.List.{map-append}
 use Rattle.std.proofs.lemmas.List.Elements.{All-append, All-contains, All-filter, All-nil, All-weaker, Contains-append_cases, filter_passes}
 use Rattle.std.proofs.lemmas.List.Sorted.{All-permutation, Contains-permutation, IsPermutation-append_left}
 use Rattle.std.proofs.lemmas.Map.Keys.{IsStrictlyIncreasing-from_distinct}
@@ -18,11 +17,13 @@ use Rattle.mls_geom.proofs.Starts.{BeginsFrom, HasPiece-all, HasPiece-weaker, Jo
 -- what passes the test ends above the line, and what ends above it passes
 EndsFrom-passed : (pieces : List Piece) (line i : ℕ) → ends_above pieces line i ≡ true → HasPiece pieces (EndsFrom (line + 1)) i
 EndsFrom-passed pieces line i =
-    IsSomeAnd-from_option_map_or (λ (piece : Piece). nat_lt line piece.rect.top) (slice_get pieces i) (EndsFrom (line + 1)) (λ piece passed. omega (arith, ltb-true line piece.rect.top passed))
+    IsSomeAnd-from_option_map_or (λ (piece : Piece). nat_lt line piece.rect.top) (slice_get pieces i) (EndsFrom (line + 1))
+    (λ piece passed. omega (arith, ltb-true line piece.rect.top passed))
 
 passed-EndsFrom : (pieces : List Piece) (line i : ℕ) → HasPiece pieces (EndsFrom (line + 1)) i → ends_above pieces line i ≡ true
 passed-EndsFrom pieces line i =
-    option_map_or-true (λ (piece : Piece). nat_lt line piece.rect.top) (slice_get pieces i) (EndsFrom (line + 1)) (λ piece ends. lt-ltb line piece.rect.top (omega arith))
+    option_map_or-true (λ (piece : Piece). nat_lt line piece.rect.top) (slice_get pieces i) (EndsFrom (line + 1))
+    (λ piece ends. lt-ltb line piece.rect.top (omega arith))
 
 -- the piece has squares in the row above the line
 abbrev HasSquares : ℕ → Piece → Type 0

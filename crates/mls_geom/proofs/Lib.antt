@@ -2,6 +2,7 @@ pub mod Activation
 pub mod ActivePieces
 pub mod Ascending
 pub mod BandCorners
+pub mod BandLines
 pub mod BandRows
 pub mod CornerCounts
 pub mod Corners

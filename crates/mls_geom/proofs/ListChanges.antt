@@ -1,5 +1,5 @@
 -- Lists of which one element is replaced, or to which one is added at the end.
-use Rattle.std.proofs.Common.{◌≢◌, ℕ, zero, suc, ◌+◌, ◌<◌, List, [], ◌∷◌, ◌++◌, length, get_or, set, All, slice_get, IsSomeAnd, inl, inr, ◌∙◌, suc-le-suc, le_of_suc-le-suc, arith, get_or-set_other, length-append, length-set}
+use Rattle.std.proofs.Common.{◌≢◌, ℕ, zero, suc, ◌<◌, List, [], ◌∷◌, ◌++◌, length, get_or, set, All, slice_get, IsSomeAnd, inl, inr, ◌∙◌, suc-le-suc, le_of_suc-le-suc, arith, get_or-set_other, length-append, length-set}
 use Rattle.std.specs.List.{AllPairs, Any, HoldsAt}
 use Rattle.std.proofs.lemmas.Bool.{cases_eq}
 use Rattle.std.proofs.lemmas.Grind.{get_or-set_at}

@@ -1,5 +1,5 @@
 -- Lists and what a place in a list holds.
-use Rattle.std.proofs.Common.{◌≡◌, ℕ, zero, suc, ◌+◌, ◌<◌, Bool, true, false, nat_eq, cond, List, [], ◌∷◌, ◌++◌, length, get_or, slice_get, All, Option, None, Some, refl, sym, ap, subst, ◌∙◌, arith, inl, inr}
+use Rattle.std.proofs.Common.{◌≡◌, ℕ, zero, suc, ◌+◌, ◌<◌, Bool, true, false, nat_eq, List, [], ◌∷◌, ◌++◌, length, slice_get, All, Option, None, Some, refl, sym, ap, subst, ◌∙◌, arith, inl, inr}
 use Rattle.std.specs.List.{AllByRecursion, Contains, IsDistinct, filter, range_with_len}
 use Rattle.std.specs.List.Sorted.{IsNonDecreasingBy, IsPermutation}
 use Rattle.std.specs.Option.{IsSomeAnd, option_map_or}
@@ -32,11 +32,13 @@ within-from_IsSomeAnd (x ∷ xs) zero P at = omega arith
 within-from_IsSomeAnd (x ∷ xs) (suc i) P at = omega (arith, within-from_IsSomeAnd xs i P at)
 
 -- a test of the value that is there, and what it says
-pub option_map_or-true : {X : Type 0} (p : X → Bool) (o : Option X) (P : X → Type 0) → ((x : X) → P x → p x ≡ true) → IsSomeAnd o P → option_map_or p o false ≡ true
+pub option_map_or-true :
+    {X : Type 0} (p : X → Bool) (o : Option X) (P : X → Type 0) → ((x : X) → P x → p x ≡ true) → IsSomeAnd o P → option_map_or p o false ≡ true
 option_map_or-true p None P passes at = absurd at
 option_map_or-true p (Some x) P passes at = passes x at
 
-pub IsSomeAnd-from_option_map_or : {X : Type 0} (p : X → Bool) (o : Option X) (P : X → Type 0) → ((x : X) → p x ≡ true → P x) → option_map_or p o false ≡ true → IsSomeAnd o P
+pub IsSomeAnd-from_option_map_or :
+    {X : Type 0} (p : X → Bool) (o : Option X) (P : X → Type 0) → ((x : X) → p x ≡ true → P x) → option_map_or p o false ≡ true → IsSomeAnd o P
 IsSomeAnd-from_option_map_or p None P says passed = cc
 IsSomeAnd-from_option_map_or p (Some x) P says passed = says x passed
 

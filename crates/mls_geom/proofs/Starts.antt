@@ -18,11 +18,15 @@ abbrev pub BeginsFrom : ℕ → Piece → Type 0
 BeginsFrom line piece = line ≤ piece.rect.bottom
 
 -- what follows for the pieces at some places
-pub HasPiece-weaker : (pieces : List Piece) (P Q : Piece → Type 0) (places : List ℕ) → ((piece : Piece) → P piece → Q piece) → All (HasPiece pieces P) places → All (HasPiece pieces Q) places
+pub HasPiece-weaker :
+    (pieces : List Piece) (P Q : Piece → Type 0) (places : List ℕ) → ((piece : Piece) → P piece → Q piece) → All (HasPiece pieces P) places
+    → All (HasPiece pieces Q) places
 HasPiece-weaker pieces P Q places weaker = All-weaker (HasPiece pieces P) (HasPiece pieces Q) (λ i. IsSomeAnd-weaker (slice_get pieces i) P Q weaker) places
 
 -- what follows for the piece at a place from what holds of all
-pub HasPiece-all : (pieces : List Piece) (P Q R : Piece → Type 0) (i : ℕ) → All P pieces → ((piece : Piece) → P piece → Q piece → R piece) → HasPiece pieces Q i → HasPiece pieces R i
+pub HasPiece-all :
+    (pieces : List Piece) (P Q R : Piece → Type 0) (i : ℕ) → All P pieces → ((piece : Piece) → P piece → Q piece → R piece) → HasPiece pieces Q i
+    → HasPiece pieces R i
 HasPiece-all pieces P Q R i all both at = IsSomeAnd-both (slice_get pieces i) P Q R both (IsSomeAnd-all pieces i P Q all at) at
 
 -- the start of the piece at a place
@@ -74,7 +78,8 @@ pieces_from_starts :
     → All (HasPiece pieces (λ piece. P piece.rect.bottom)) (pieces_of starts)
 pieces_from_starts pieces starts P named says =
     All-map (HasPiece pieces (λ piece. P piece.rect.bottom)) (λ (start : Start). start.piece) starts
-    (λ k d within. IsSomeAnd-weaker _ (λ piece. piece.rect.bottom ≡ (get_or starts k d).bottom) (λ piece. P piece.rect.bottom) (λ piece is. rw is (says k d within)) (named k d within))
+    (λ k d within.
+    IsSomeAnd-weaker _ (λ piece. piece.rect.bottom ≡ (get_or starts k d).bottom) (λ piece. P piece.rect.bottom) (λ piece is. rw is (says k d within)) (named k d within))
 
 pub waiting_ahead :
     (line : ℕ) (pieces : List Piece) (waiting : List Start) → All (NamesPiece pieces) waiting → All (λ start. line ≤ start.bottom) waiting

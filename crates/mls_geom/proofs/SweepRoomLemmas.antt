@@ -6,7 +6,12 @@ use Rattle.mls_geom.specs.declared.row.Row.{Row}
 use Rattle.mls_geom.specs.declared.sweep.Sweep.{Sweep}
 
 pub HasRowRoom-less : (row : Row) (less more : ℕ) → less ≤ more → HasRowRoom row more → HasRowRoom row less
-HasRowRoom-less row less more below room = record { lines = omega (arith, room.lines); kinds = omega (arith, room.kinds); free = omega (arith, room.free); runs = omega (arith, room.runs) }
+HasRowRoom-less row less more below room = record {
+  lines = omega (arith, room.lines);
+  kinds = omega (arith, room.kinds);
+  free = omega (arith, room.free);
+  runs = omega (arith, room.runs);
+}
 
 pub HasSweepRoom-less : (sweep : Sweep) (less more : ℕ) → less ≤ more → HasSweepRoom sweep more → HasSweepRoom sweep less
 HasSweepRoom-less sweep less more below room = record {

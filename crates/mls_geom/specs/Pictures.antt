@@ -1,5 +1,5 @@
 -- What is painted where: for each unit square a kind (Ousterhout 1984: a plane is covered completely).
-use Rattle.std.specs.Prelude.{ℕ, ◌+◌, ◌^◌, ◌==◌, ◌-◌, Bool, if◌then◌else◌, List, [], ◌∷◌}
+use Rattle.std.specs.Prelude.{ℕ, ◌^◌, ◌==◌, ◌-◌, Bool, if◌then◌else◌, List, [], ◌∷◌}
 use Rattle.std.specs.List.{list_any, range_with_len, sum_by}
 use Rattle.mls_geom.specs.Extents.{Extent, holds}
 use Rattle.mls_geom.specs.declared.piece.Piece.{Piece}

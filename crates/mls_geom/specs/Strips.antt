@@ -1,7 +1,7 @@
 -- Maximal horizontal strips (Ousterhout 1984). The run of a square is the longest piece of its row round it of one kind; its strip is
 -- the greatest range of rows round it in which the run has the same ends and the same kind. An extent is the world or a part of it:
 -- runs and strips end at its lines.
-use Rattle.std.specs.Prelude.{◌≡◌, ◌≢◌, ℕ, ◌+◌, ◌-◌, ◌<◌, ◌≤◌, Bool, ◌&&◌, ◌||◌, ◌==◌, nat_lt, IsTrue, List}
+use Rattle.std.specs.Prelude.{◌≡◌, ◌≢◌, ℕ, ◌-◌, ◌<◌, ◌≤◌, Bool, ◌&&◌, ◌||◌, ◌==◌, nat_lt, IsTrue, List}
 use Rattle.std.specs.List.{All, Any, AllPairs}
 use Rattle.mls_geom.specs.Extents.{Extent, holds}
 use Rattle.mls_geom.specs.Pictures.{Picture}

@@ -6,14 +6,14 @@ ghost use Rattle.mls_geom.specs.Rows.{AreActive, AreLegal};
 
 use crate::Piece;
 
-/// A piece, by its place in a list, and its bottom line.
+/// The bottom line of a piece, and its place in the list of pieces.
 #[derive(Clone, Copy)]
 pub(crate) struct Start {
     pub(crate) bottom: u32,
     pub(crate) piece: usize,
 }
 
-/// Lists the pieces by their bottom lines.
+/// Lists where the pieces begin, from the bottom up.
 pub(crate) fn list_starts(pieces: &[Piece], starts: &mut Vec<Start>)
     requires { length pieces.now ≤ vec_capacity starts.old }
     ensures starts { AreStarts pieces.now starts.new.items }
@@ -52,7 +52,8 @@ fn enlist<'a>(waiting: &'a [Start], line: u32, active: &mut Vec<usize>) -> &'a [
     requires ordered { IsNonDecreasingBy (λ start. start.bottom) waiting.now }
     requires room { vec_len active.old + length waiting.now ≤ vec_capacity active.old }
     ensures joined { JoinUpTo line waiting.now result.now active.old.items active.new.items }
-    ensures len { vec_len active.new + length result.now ≡ vec_len active.old + length waiting.now }
+    ensures len { vec_len active.new + length result.now
+        ≡ vec_len active.old + length waiting.now }
     ensures room { vec_capacity active.new ≡ vec_capacity active.old }
 {
     let reached = waiting.partition_point(|start| start.bottom <= line);
@@ -76,7 +77,8 @@ pub(crate) fn activate<'a>(
     requires room { vec_len active.old + length waiting.now ≤ vec_capacity active.old }
     ensures active { AreActive pieces.now line active.new.items }
     ensures parted { ArePartedAt (line + 1) pieces.now active.new.items result.now }
-    ensures len { vec_len active.new + length result.now ≤ vec_len active.old + length waiting.now }
+    ensures len { vec_len active.new + length result.now
+        ≤ vec_len active.old + length waiting.now }
     ensures room { vec_capacity active.new ≡ vec_capacity active.old }
 {
     retire(pieces, line, active);

@@ -67,6 +67,7 @@ impl Sweep {
         ensures pieces { self.new.pieces.items ≡ cover.now ++ over.now }
         ensures room { (n : ℕ) → HasSweepRoom self.old n → HasSweepRoom self.new n }
     {
+        // Their room is reserved, so both calls succeed.
         self.pieces.clear();
         self.pieces.extend_from_slice(cover).unwrap();
         self.pieces.extend_from_slice(over).unwrap();
@@ -79,9 +80,11 @@ impl Sweep {
         requires starts { AreStarts self.old.pieces.items self.old.starts.items }
         requires room { HasSweepRoom self.old (vec_len self.old.pieces) }
         requires limit { limit ≤ vec_capacity self.old.strips }
-        ensures stacked { OnOk result (AreStacked world (picture_of self.old.pieces.items) world.top self.new.strips.items self.new.below.items) }
+        ensures stacked { OnOk result (AreStacked world (picture_of self.old.pieces.items) world.top
+            self.new.strips.items self.new.below.items) }
         ensures within { OnOk result (vec_len self.new.strips ≤ limit) }
-        ensures too_many { OnErr result (limit < tile_count world (picture_of self.old.pieces.items)) }
+        ensures too_many { OnErr result
+            (limit < tile_count world (picture_of self.old.pieces.items)) }
         ensures room { (n : ℕ) → HasSweepRoom self.old n → HasSweepRoom self.new n }
     {
         let Sweep {
@@ -113,9 +116,12 @@ impl Sweep {
         requires room { HasSweepRoom self.old (vec_len self.old.pieces) }
         requires limit { limit ≤ vec_capacity self.old.strips }
         ensures legal { AreLegal self.old.pieces.items }
-        ensures strips { OnOk result (AreStrips world (picture_of self.old.pieces.items) self.new.strips.items) }
-        ensures count { OnOk result (vec_len self.new.strips ≡ tile_count world (picture_of self.old.pieces.items)) }
-        ensures too_many { IsErr result ↔ (limit < tile_count world (picture_of self.old.pieces.items)) }
+        ensures strips { OnOk result
+            (AreStrips world (picture_of self.old.pieces.items) self.new.strips.items) }
+        ensures count { OnOk result
+            (vec_len self.new.strips ≡ tile_count world (picture_of self.old.pieces.items)) }
+        ensures too_many { IsErr result
+            ↔ (limit < tile_count world (picture_of self.old.pieces.items)) }
         ensures room { (n : ℕ) → HasSweepRoom self.old n → HasSweepRoom self.new n }
     {
         list_band_lines(&self.pieces, &mut self.lines);

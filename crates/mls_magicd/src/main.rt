@@ -11,7 +11,7 @@ use std::process::ExitCode;
 fn main(rt: HostRuntime) -> ExitCode {
     let mut input = Watched::new(rt.stdin());
     let mut output = Watched::new(rt.stdout());
-    let mut faults = rt.stderr();
+    let mut faults = Watched::new(rt.stderr());
     let status = match env::args(&rt) {
         Ok(words) => run(
             rt.alloc(),

@@ -1,6 +1,6 @@
 //! The whole program, over any streams.
 ghost use Rattle.std.specs.Prelude.{◌≡◌, ◌<◌, ◌≤◌, false};
-ghost use Rattle.mls_magicd.specs.Programs.{AnswersScript, LeavesScript};
+ghost use Rattle.mls_magicd.specs.Programs.{AnswersScript, LeavesScript, Tells, TellsFault, message_text, usage_text};
 
 use mls_session::Quota;
 use mls_wire::{ServeFault, Solo, Watched, serve};
@@ -23,33 +23,40 @@ pub fn run<R: Read, W: Write, E: Write>(
     words: usize,
     input: &mut Watched<R>,
     output: &mut Watched<W>,
-    faults: &mut E,
+    faults: &mut Watched<E>,
 ) -> u8
     requires input_sound { input.old.failed ≡ false }
     requires output_sound { output.old.failed ≡ false }
+
+    // With arguments nothing is read or written but a message.
     ensures command_line { 1 < words → (result ≡ BAD_COMMAND_LINE) × (input.new ≡ input.old) × (output.new ≡ output.old) }
+    ensures usage { 1 < words → Tells (E.contents faults.old.device) (E.contents faults.new.device) usage_text }
+
+    // The program's output is the reply text of the script's run, and after a failure that of a run that was cut.
     ensures status { words ≤ 1 → result ≤ FAILED }
-    // The program's output is the reply text of the script's run.
     ensures answered { words ≤ 1 → result ≡ DONE → AnswersScript (R.remaining input.old.device) (W.contents output.old.device) (W.contents output.new.device) }
-    // After a failure it is that of a run that was cut.
     ensures left { words ≤ 1 → result ≡ FAILED → LeavesScript (R.remaining input.old.device) (W.contents output.old.device) (W.contents output.new.device) }
+    ensures quiet { result ≡ DONE → faults.new ≡ faults.old }
+    ensures told { words ≤ 1 → result ≡ FAILED → TellsFault (E.contents faults.old.device) (E.contents faults.new.device) input.new output.new }
 {
     if words > 1 {
-        report(faults, b"magicd: no arguments are taken\n");
+        tell(faults, b"magicd: no arguments are taken\n");
         return BAD_COMMAND_LINE;
     }
     let mut solo = Solo::new(Quota::default());
     match serve(alloc, &mut solo, input, output) {
         Ok(()) => DONE,
         Err(fault) => {
-            report(faults, message(fault));
+            tell(faults, message(fault));
             FAILED
         }
     }
 }
 
 /// The message for a script that was left before its end.
-fn message(fault: ServeFault) -> &'static [u8] {
+fn message(fault: ServeFault) -> &'static [u8]
+    ensures { result.now ≡ message_text fault }
+{
     match fault {
         ServeFault::Read => b"magicd: input failed\n",
         ServeFault::Write => b"magicd: output failed\n",
@@ -58,6 +65,8 @@ fn message(fault: ServeFault) -> &'static [u8] {
 }
 
 /// Writes a message. Where it can't be written, there is nowhere left to say so.
-fn report<E: Write>(faults: &mut E, message: &[u8]) {
-    let _ = faults.write_all(message);
+fn tell<E: Write>(faults: &mut Watched<E>, message: &[u8])
+    ensures { Tells (E.contents faults.old.device) (E.contents faults.new.device) message.now }
+{
+    let _ = faults.write_whole(message);
 }

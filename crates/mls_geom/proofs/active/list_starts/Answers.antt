@@ -6,16 +6,19 @@ use Rattle.mls_geom.specs.declared.active.Start.{Start}
 use Rattle.mls_geom.proofs.active.list_starts.Goals as goal
 
 pub loop-i-preserved : goal.loop-i-preserved
-loop-i-preserved c = record {
-  named =
-      rw c.push_reserved.ensures.items (NamesPiece-more c.args.pieces.now c.loop-i.i _ c.index-pieces-i.result _ c.loop-i-test.true c.index-pieces-i.is c.bottom_line.ensures.value c.loop-i.invariant.named);
-  each = rw c.push_reserved.ensures.items (pieces_of-more _ c.loop-i.i _ c.loop-i.invariant.each);
-  len = omega arith;
-  room = cc;
-}
+loop-i-preserved c =
+    let piece = c.index-pieces-i in
+    let named = NamesPiece-more c.args.pieces.now c.loop-i.i _ piece.result _ c.loop-i-test.true piece.is c.bottom_line.ensures.value c.loop-i.invariant.named in
+    record {
+      named = rw c.push_reserved.ensures.items named;
+      each = rw c.push_reserved.ensures.items (pieces_of-more _ c.loop-i.i _ c.loop-i.invariant.each);
+      len = omega arith;
+      room = cc;
+    }
 
 pub returns-clause-starts : goal.returns-clause-starts
 returns-clause-starts c =
     let whole : length c.args.pieces.now ≡ c.loop-i.i = omega arith in
-    AreStarts-sorted c.args.pieces.now c.loop-i.starts.items c.sort_unstable_by_key.new.self.items c.loop-i.invariant.named (rw whole c.loop-i.invariant.each) c.sort_unstable_by_key.ensures.permutation
-    (IsNonDecreasingBy-from_sort_by_key (λ (start : Start). start.bottom) _ c.sort_unstable_by_key.ensures.sorted (λ start bottom f called. search rules))
+    let sort = c.sort_unstable_by_key in
+    AreStarts-sorted c.args.pieces.now c.loop-i.starts.items sort.new.self.items c.loop-i.invariant.named (rw whole c.loop-i.invariant.each) sort.ensures.permutation
+    (IsNonDecreasingBy-from_sort_by_key (λ (start : Start). start.bottom) _ sort.ensures.sorted (λ start bottom f called. search rules))

@@ -2,7 +2,7 @@
 use Rattle.std.proofs.Common.{◌≡◌, take, subst, arith}
 use Rattle.std.proofs.lemmas.List.{take_all}
 use Rattle.std.proofs.lemmas.List.Elements.{All-more}
-use Rattle.mls_geom.proofs.BandRows.{AreBandLines-ascended, HaveEnds-more}
+use Rattle.mls_geom.proofs.BandLines.{AreBandLines-ascended, HaveEnds-more}
 use Rattle.mls_geom.specs.Extents.{IsRectangleIn}
 use Rattle.mls_geom.specs.World.{world}
 use Rattle.mls_geom.specs.declared.piece.Piece.{Piece}
@@ -13,12 +13,14 @@ loop-piece-preserved c =
     let pieces = c.args.pieces.now in
     let i = c.loop-piece.piece-index in
     let IsLegal : Piece → Type 0 = λ piece. IsRectangleIn world piece.rect in
+    let piece = c.piece-item in
+    let within = c.loop-piece-test.true in
     let legal = c.top_line.ensures.legal in
     record {
-      legal = All-more IsLegal pieces i c.piece-item.result c.loop-piece-test.true c.loop-piece.invariant.legal (subst IsLegal c.piece-item.is legal);
+      legal = All-more IsLegal pieces i piece.result within c.loop-piece.invariant.legal (subst IsLegal piece.is legal);
       members =
           rw (c.push_reserved-in-loop-piece-2.ensures.items, c.push_reserved-in-loop-piece.ensures.items)
-          (HaveEnds-more world pieces i _ _ _ c.piece-item.result c.loop-piece-test.true c.piece-item.is legal c.bottom_line.ensures.value c.top_line.ensures.value c.loop-piece.invariant.members);
+          (HaveEnds-more world pieces i _ _ _ piece.result within piece.is legal c.bottom_line.ensures.value c.top_line.ensures.value c.loop-piece.invariant.members);
       len = omega arith;
       room = cc;
     }

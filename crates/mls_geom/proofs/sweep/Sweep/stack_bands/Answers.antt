@@ -1,5 +1,5 @@
 -- A band lies between neighbouring lines, so its rows are alike.
-use Rattle.std.proofs.Common.{◌≡◌, ℕ, ◌+◌, ◌-◌, ◌≤◌, length, get_or, arith}
+use Rattle.std.proofs.Common.{◌≡◌, ◌+◌, ◌-◌, ◌≤◌, length, get_or, arith}
 use Rattle.std.proofs.lemmas.List.{get_or_read, with_items_is}
 use Rattle.std.proofs.lemmas.Result.{err_from_is_err_and}
 use Rattle.mls_geom.specs.Pictures.{picture_of}
@@ -7,7 +7,8 @@ use Rattle.mls_geom.specs.Rows.{AreRuns}
 use Rattle.mls_geom.specs.Stacks.{AreStacked}
 use Rattle.mls_geom.specs.World.{world}
 use Rattle.mls_geom.proofs.Activation.{ArePartedAt-starts, ArePartedAt-up}
-use Rattle.mls_geom.proofs.BandRows.{AreAlike-band, IsBand, IsBand-lines, IsLineOf-lines, first_line, last_line}
+use Rattle.mls_geom.proofs.BandLines.{IsBand-lines, IsLineOf-lines, first_line, last_line}
+use Rattle.mls_geom.proofs.BandRows.{AreAlike-band, IsBand}
 use Rattle.mls_geom.proofs.CornerCounts.{nothing_stacked, tile_count_up_to_grows}
 use Rattle.mls_geom.proofs.SweepRoomLemmas.{HasRowRoom-less}
 use Rattle.mls_geom.proofs.sweep.Sweep.stack_bands.Goals as goal
@@ -40,10 +41,10 @@ top_is : (c : After-deref_mut) → c.index-top.result.now ≡ get_or c.args.self
 top_is c = get_or_read c.args.self.now.lines.items c.loop-i.i _ (omega arith) c.index-top.ensures 0
 
 top_within : (c : After-deref_mut) → c.index-top.result.now ≤ world.top
-top_within c = rw (top_is c) (IsLineOf-lines world c.args.self.now.pieces.items c.args.self.now.lines.items c.loop-i.i c.requires.lines (omega arith)).1
+top_within c = rw (top_is c) (IsLineOf-lines world c.args.self.now.pieces.items c.args.self.now.lines.items c.requires.lines c.loop-i.i (omega arith)).1
 
 band : (c : After-deref_mut) → IsBand c.args.self.now.pieces.items c.index-bottom.result.now c.index-top.result.now
-band c = IsBand-lines world c.args.self.now.pieces.items c.args.self.now.lines.items c.loop-i.i _ _ c.requires.lines (omega arith) (omega arith) (bottom_is c) (top_is c)
+band c = IsBand-lines world c.args.self.now.pieces.items c.args.self.now.lines.items c.requires.lines c.loop-i.i _ _ (omega arith) (omega arith) (bottom_is c) (top_is c)
 
 -- what it is stacked on, and its runs
 below : (c : After-deref_mut) → AreStacked world (picture_of c.args.self.now.pieces.items) c.index-bottom.result.now c.loop-i.strips.items c.deref-in-loop-i-3.result.now
