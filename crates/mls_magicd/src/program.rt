@@ -27,17 +27,18 @@ pub fn run<R: Read, W: Write, E: Write>(
 ) -> u8
     requires input_sound { input.old.failed ≡ false }
     requires output_sound { output.old.failed ≡ false }
+    requires faults_sound { faults.old.failed ≡ false }
 
     // With arguments nothing is read or written but a message.
     ensures command_line { 1 < words → (result ≡ BAD_COMMAND_LINE) × (input.new ≡ input.old) × (output.new ≡ output.old) }
-    ensures usage { 1 < words → Tells (E.contents faults.old.device) (E.contents faults.new.device) usage_text }
+    ensures usage { 1 < words → Tells (E.contents faults.old.device) (E.contents faults.new.device) usage_text faults.new }
 
     // The program's output is the reply text of the script's run, and after a failure that of a run that was cut.
     ensures status { words ≤ 1 → result ≤ FAILED }
     ensures answered { words ≤ 1 → result ≡ DONE → AnswersScript (R.remaining input.old.device) (W.contents output.old.device) (W.contents output.new.device) }
     ensures left { words ≤ 1 → result ≡ FAILED → LeavesScript (R.remaining input.old.device) (W.contents output.old.device) (W.contents output.new.device) }
     ensures quiet { result ≡ DONE → faults.new ≡ faults.old }
-    ensures told { words ≤ 1 → result ≡ FAILED → TellsFault (E.contents faults.old.device) (E.contents faults.new.device) input.new output.new }
+    ensures told { words ≤ 1 → result ≡ FAILED → TellsFault (E.contents faults.old.device) (E.contents faults.new.device) input.new output.new faults.new }
 {
     if words > 1 {
         tell(faults, b"magicd: no arguments are taken\n");
@@ -66,7 +67,7 @@ fn message(fault: ServeFault) -> &'static [u8]
 
 /// Writes a message. Where it can't be written, there is nowhere left to say so.
 fn tell<E: Write>(faults: &mut Watched<E>, message: &[u8])
-    ensures { Tells (E.contents faults.old.device) (E.contents faults.new.device) message.now }
+    ensures { Tells (E.contents faults.old.device) (E.contents faults.new.device) message.now faults.new }
 {
     let _ = faults.write_whole(message);
 }

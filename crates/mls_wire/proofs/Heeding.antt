@@ -1,7 +1,6 @@
 -- A line asks a command only of a session that is open.
-use Rattle.std.proofs.Common.{◌≡◌, ℕ, Bool, true, false, cond, List, [], ◌∷◌, Result, Ok, Err, IsTrue, refl, sym, subst, codes}
+use Rattle.std.proofs.Common.{◌≡◌, ℕ, Bool, true, false, cond, List, [], ◌∷◌, Result, Ok, Err, refl, sym, subst, codes}
 use Rattle.mls_session.specs.declared.command.Command.{Command}
-use Rattle.mls_wire.specs.NameBooks.{NameBook}
 use Rattle.mls_wire.specs.Runs.{Seat, CanHeed, book_of}
 use Rattle.mls_wire.specs.Says.{line_says, words_say, session_says, open_says, command_of, asked, begins_with}
 use Rattle.mls_wire.specs.Words.{words_of, same_word, is_session_name}

@@ -1,11 +1,31 @@
 -- The lines of a text, its first one taken.
-use Rattle.std.proofs.Common.{◌≡◌, ◌≢◌, ℕ, ◌+◌, ◌-◌, ◌<◌, ◌≤◌, ◌==◌, if◌then◌else◌, true, false, None, List, [], ◌∷◌, ◌++◌, length, get_or, take, refl, sym, ap, ◌∙◌, arith, ⊎_elim}
-use Rattle.std.proofs.lemmas.List.Elements.{All-head, All-tail}
-use Rattle.std.proofs.lemmas.Bool.{cases_lt}
+use Rattle.std.proofs.Common.{◌≡◌, ◌≢◌, ℕ, ◌+◌, ◌-◌, ◌<◌, ◌≤◌, ◌==◌, if◌then◌else◌, true, false, Some, None, List, [], ◌∷◌, ◌++◌, length, get_or, take, drop, position, refl, sym, ap, ◌∙◌, arith, ⊎_elim}
+use Rattle.std.proofs.lemmas.List.Elements.{All-head, All-tail, All-from_get_or}
+use Rattle.std.proofs.lemmas.Bool.{cases_lt, eqb-true, eqb-false}
 use Rattle.std.proofs.lemmas.Bool.Decides.{nat_tests}
-use Rattle.std.proofs.lemmas.List.{length-take, take_all, take_more}
+use Rattle.std.proofs.lemmas.List.{length-take, take-append-drop, take_all, take_more, drop_more, get_or-take}
+use Rattle.std.proofs.lemmas.List.Quantifiers.{position-Some}
+use Rattle.std.proofs.lemmas.List.Sums.{fails_before_first}
+use Rattle.std.specs.List.{position_or_len}
 use Rattle.mls_wire.specs.Lines.{onto_first, lines_of, without_return, read_line}
 use Rattle.mls_wire.specs.Scripts.{IsUnbroken}
+
+-- the bytes before the first line feed, and those behind it
+pub split_at_feed : (bytes : List ℕ) (count : ℕ) → Some count ≡ position (λ b. b == 10) bytes
+    → IsUnbroken (take count bytes) × (bytes ≡ take count bytes ++ 10 ∷ drop (count + 1) bytes)
+split_at_feed bytes count at =
+    let (within, feed, before) = position-Some (λ b. b == 10) bytes count 0 (sym at) in
+    let rest = drop_more bytes count 0 within ∙ ap (λ b. b ∷ drop (count + 1) bytes) (eqb-true _ _ feed) in (
+      All-from_get_or (λ b. b ≢ 10) (take count bytes) 0
+          (λ k h. let below : k < count = omega (arith, length-take {A = ℕ}) in rw get_or-take (eqb-false _ _ (before k below))),
+      sym (take-append-drop count bytes) ∙ ap (λ l. take count bytes ++ l) rest,
+    )
+
+-- there is no line feed
+pub unbroken_None : (bytes : List ℕ) → None ≡ position (λ b. b == 10) bytes → IsUnbroken bytes
+unbroken_None bytes none =
+    let past : length bytes ≤ position_or_len (λ b. b == 10) bytes = grind (arith, nat_tests) in
+    All-from_get_or (λ b. b ≢ 10) bytes 0 (λ k h. eqb-false _ _ (fails_before_first (λ b. b == 10) bytes k 0 (omega arith)))
 
 -- a byte that is no line feed comes onto the first line
 pub lines_of-more : (b : ℕ) (bytes : List ℕ) → b ≢ 10 → lines_of (b ∷ bytes) ≡ onto_first b (lines_of bytes)

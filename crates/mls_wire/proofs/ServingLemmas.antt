@@ -1,14 +1,13 @@
 -- Serving a script line by line.
-use Rattle.std.proofs.Common.{◌≡◌, ℕ, ◌+◌, ◌⊎◌, inl, inr, Option, Some, None, List, [], ◌∷◌, ◌++◌, Result, Ok, Err, OnErr, refl, sym, ap, subst, ◌∙◌, append_assoc, append-nil}
+use Rattle.std.proofs.Common.{◌≡◌, ℕ, ◌+◌, inl, inr, Option, Some, None, List, [], ◌∷◌, ◌++◌, Result, Ok, Err, OnErr, refl, sym, ap, subst, ◌∙◌, append_assoc, append-nil}
 use Rattle.std.specs.Io.KnownBytes.{Appends, Keeps}
 use Rattle.mls_session.specs.Own.{Config}
 use Rattle.mls_session.specs.Sessions.{config_with}
 use Rattle.mls_wire.specs.Lines.{script_of}
 use Rattle.mls_wire.specs.Scripts.{TakesKnownLine}
-use Rattle.mls_wire.specs.declared.reader.Taken.{Taken}
 use Rattle.mls_wire.specs.declared.reader.Taken.TheVariants.{End, TooLong, Line}
 use Rattle.mls_wire.specs.Runs.{Seat, LineRuns, Runs, Stops}
-use Rattle.mls_wire.specs.Serving.{AppendsFront, Gains, WritesRun, WritesCutRun, WritesLine, WritesCutLine, IsServed, Serves}
+use Rattle.mls_wire.specs.Serving.{AppendsFront, WritesRun, WritesCutRun, WritesLine, WritesCutLine, IsServed, Serves}
 
 pub appends_nothing : (known : Option (List ℕ)) → Appends known known []
 appends_nothing None = tt

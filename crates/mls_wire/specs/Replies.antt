@@ -1,5 +1,5 @@
 -- The text of a line's answer. Each reply ends with a line feed. This project's own.
-use Rattle.std.specs.Prelude.{ℕ, ◌==◌, Option, Some, None, List, [], ◌∷◌, ◌++◌, length, codes}
+use Rattle.std.specs.Prelude.{ℕ, ◌==◌, List, [], ◌∷◌, ◌++◌, length, codes}
 use Rattle.std.specs.List.{filter, flat_map, range_with_len}
 use Rattle.std.specs.Option.{unwrap_or}
 use Rattle.std.specs.Int.{bit_at}

@@ -3,7 +3,6 @@ use Rattle.std.specs.Prelude.{◌≡◌, ℕ, ◌+◌, Bool, false, if◌then◌
 use Rattle.mls_session.specs.Own.{Config, OwnState, opening, own_step}
 use Rattle.mls_session.specs.Types.{type_of, name_of}
 use Rattle.mls_session.specs.declared.command.Command.{Command}
-use Rattle.mls_session.specs.declared.reply.Reply.{Reply}
 use Rattle.mls_wire.specs.NameBooks.{NameBook}
 use Rattle.mls_wire.specs.Replies.{answer_text}
 use Rattle.mls_wire.specs.Says.{said_by}

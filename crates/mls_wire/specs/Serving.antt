@@ -1,5 +1,5 @@
 -- What a script, its run and its output have to do with each other, where the devices tell their bytes.
-use Rattle.std.specs.Prelude.{◌≡◌, ℕ, ◌+◌, Option, Some, None, List, [], ◌++◌, ⊤}
+use Rattle.std.specs.Prelude.{◌≡◌, ℕ, ◌+◌, Option, Some, None, List, ◌++◌, ⊤}
 use Rattle.std.specs.Io.KnownBytes.{Appends}
 use Rattle.mls_session.specs.Own.{Config}
 use Rattle.mls_wire.specs.Lines.{script_of}

@@ -1,5 +1,5 @@
 //! The lines of a script, taken from a device whatever pieces it gives.
-ghost use Rattle.std.specs.Prelude.{◌≡◌, ◌≢◌, ◌+◌, ◌<◌, ◌≤◌, ℕ, List, true, false, [], ◌∷◌, ◌++◌, ◌⊎◌, length, take, drop, IsTrue, IfSome, IfNone, IfOk, OnOk, OnErr};
+ghost use Rattle.std.specs.Prelude.{◌≡◌, ◌+◌, ◌<◌, ◌≤◌, ◌==◌, ℕ, List, true, false, [], ◌∷◌, ◌++◌, ◌⊎◌, length, take, position, IsTrue, IfOk, OnOk, OnErr};
 ghost use Rattle.std.specs.Bool.{OnTrue, OnFalse};
 ghost use Rattle.std.specs.Io.KnownBytes.{Keeps, IsAtEnd};
 ghost use Rattle.mls_wire.specs.Watches.{HasCause};
@@ -14,7 +14,7 @@ use std::marker::Model;
 /// The most bytes that a line may have, without its line feed and a carriage return before that.
 const LINE_LIMIT: usize = 1024;
 
-/// The most bytes that are kept of a line. They tell that a longer one is too long, even where the last of them is a carriage return.
+/// The most bytes that are kept of a line: they tell that it is too long, even where the last of them is a carriage return.
 const KEPT: usize = LINE_LIMIT + 2;
 
 /// The most bytes that are read ahead.
@@ -121,7 +121,7 @@ impl LineReader {
         let kept = &mut self.kept;
         let bytes = &self.bytes[..];
         let ahead = &bytes[self.start..self.end];
-        match length_before_feed(ahead) {
+        match line_feed_in(ahead) {
             Some(count) => {
                 self.len = append_within(kept, self.len, &ahead[..count]);
                 self.start += count + 1;
@@ -141,7 +141,8 @@ impl LineReader {
         ensures line { self.new.line ≡ self.old.line }
         ensures kept { Keeps (script_ahead self.old (R.remaining input.old.device))
             (script_ahead self.new (R.remaining input.new.device)) }
-        ensures end { IfOk result (λ came. came ≡ false → IsAtEnd (script_ahead self.new (R.remaining input.new.device))) }
+        ensures end { IfOk result (λ came. came ≡ false
+            → IsAtEnd (script_ahead self.new (R.remaining input.new.device))) }
         ensures some { IfOk result (λ came. came ≡ true → 0 < length self.new.ahead) }
         ensures within { length self.new.ahead ≤ AHEAD }
         ensures calls { input.new.calls_left ≤ input.old.calls_left }
@@ -183,11 +184,9 @@ impl LineReader {
     }
 }
 
-/// How many bytes stand before the first line feed.
-fn length_before_feed(bytes: &[u8]) -> Option<usize>
-    ensures some { IfSome result (λ count. IsUnbroken (take count bytes.now)
-        × (bytes.now ≡ take count bytes.now ++ 10 ∷ drop (count + 1) bytes.now)) }
-    ensures none { IfNone result (IsUnbroken bytes.now) }
+/// Where the first line feed stands.
+fn line_feed_in(bytes: &[u8]) -> Option<usize>
+    ensures { result ≡ position (λ b. b == 10) bytes.now }
 {
     bytes.iter().position(|b| *b == b'\n')
 }

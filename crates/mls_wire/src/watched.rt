@@ -1,5 +1,5 @@
 //! A device, with a count of its calls and a note of whether one has failed.
-ghost use Rattle.std.specs.Prelude.{◌≡◌, ◌-◌, ◌^◌, ◌<◌, ◌≤◌, ◌++◌, ℕ, List, [], false, length, take, IsTrue, IsOk, IfOk, OnOk, OnErr};
+ghost use Rattle.std.specs.Prelude.{◌≡◌, ◌-◌, ◌^◌, ◌<◌, ◌≤◌, ◌++◌, ℕ, List, [], false, length, IsTrue, IsOk, IfOk, OnOk, OnErr};
 ghost use Rattle.std.specs.Io.{ReadsAtMost, WritesAtMost};
 ghost use Rattle.std.specs.Io.KnownBytes.{Keeps, Appends, ReadConsumes, WriteAppends};
 ghost use Rattle.mls_wire.specs.Watches.{HasCause};
@@ -68,10 +68,12 @@ impl<D> Watched<D> {
 }
 
 impl<R: Read> Watched<R> {
-    /// Reads once into the buffer, and says how many bytes came: none at the end of the input only, unless the buffer is empty.
+    /// Reads once into the buffer, and says how many bytes came. Into a buffer with room none come at the end of the input only.
+    /// An `Err` loses no byte.
     pub fn read_some(&mut self, buffer: &mut [u8]) -> Result<usize, ReadFault>
         ensures bound { ReadsAtMost result buffer.new }
-        ensures bytes { ReadConsumes (R.remaining self.old.device) (R.remaining self.new.device) result buffer.new }
+        ensures bytes { ReadConsumes (R.remaining self.old.device) (R.remaining self.new.device)
+            result buffer.new }
         ensures calls { self.new.calls_left ≤ self.old.calls_left }
         ensures fewer { OnOk result (self.new.calls_left < self.old.calls_left) }
         ensures failed { OnOk result (self.new.failed ≡ self.old.failed) }
@@ -95,9 +97,10 @@ impl<R: Read> Watched<R> {
 }
 
 impl<W: Write> Watched<W> {
-    /// Writes all the bytes. At an `Err` a beginning of them was written, which may be all or none.
+    /// Writes all the bytes, and calls the device for none where there are none. At an `Err` a beginning of them was written.
     pub fn write_whole(&mut self, bytes: &[u8]) -> Result<(), WriteFault>
-        ensures ok { OnOk result (Appends (W.contents self.old.device) (W.contents self.new.device) bytes.now) }
+        ensures ok { OnOk result
+            (Appends (W.contents self.old.device) (W.contents self.new.device) bytes.now) }
         ensures err { OnErr result ((front missing : List ℕ) × (bytes.now ≡ front ++ missing)
             × Appends (W.contents self.old.device) (W.contents self.new.device) front) }
         ensures empty { bytes.now ≡ [] → IsOk result × (self.new ≡ self.old) }
@@ -119,7 +122,8 @@ impl<W: Write> Watched<W> {
         requires { 0 < length bytes.now }
         ensures bound { WritesAtMost result bytes.now }
         ensures some { IfOk result (λ count. 0 < count) }
-        ensures bytes { WriteAppends (W.contents self.old.device) (W.contents self.new.device) result bytes.now }
+        ensures bytes { WriteAppends (W.contents self.old.device) (W.contents self.new.device)
+            result bytes.now }
         ensures calls { self.new.calls_left ≤ self.old.calls_left }
         ensures failed { OnOk result (self.new.failed ≡ self.old.failed) }
         ensures cause { OnErr result (HasCause self.new) }

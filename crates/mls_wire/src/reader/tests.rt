@@ -1,4 +1,5 @@
 use super::*;
+use crate::devices::Drip;
 use std::io;
 use std::io::ErrorKind;
 use std::test::Fail;
@@ -36,27 +37,6 @@ impl Read for Stepper {
     }
 }
 
-/// A device that gives a text byte by byte.
-#[derive(Drop)]
-struct Drip<'a> {
-    text: &'a [u8],
-    at: usize,
-}
-
-impl Read for Drip<'_> {
-    fn read(&mut self, buf: &mut [u8]) -> io::Result<usize> {
-        let Some(byte) = self.text.get(self.at) else {
-            return Ok(0);
-        };
-        if buf.is_empty() {
-            return Ok(0);
-        }
-        self.at = self.at.wrapping_add(1);
-        buf[0] = *byte;
-        Ok(1)
-    }
-}
-
 fn fed(steps: &'static [Step]) -> Watched<Stepper> {
     Watched::new(Stepper { steps, at: 0 })
 }
@@ -76,7 +56,7 @@ fn lines_of_short_texts(rt: HostRuntime) -> Result<(), Fail> {
     ];
     for (text, lines) in table {
         let mut whole = Watched::new(text);
-        let mut drip = Watched::new(Drip { text, at: 0 });
+        let mut drip = Watched::new(Drip::new(text));
         let mut from_whole = LineReader::new();
         let mut from_drip = LineReader::new();
         for line in lines {

@@ -1,15 +1,20 @@
 use super::*;
+use crate::devices::{Drip, Screen};
 use mls_session::Quota;
 use std::test::Fail;
 
-/// What a script is answered over sessions of this quota.
-fn answered(rt: &HostRuntime, quota: u32, script: &[u8]) -> Result<Vec<u8>, Fail> {
-    let quota = Quota::new(quota).ok_or("no quota")?;
-    let mut solo = Solo::new(quota);
-    let mut input = Watched::new(script);
-    let mut output = Watched::new(Vec::new(rt.alloc()));
-    serve(rt.alloc(), &mut solo, &mut input, &mut output)?;
-    Ok(output.into_inner())
+/// Serves a script over sessions of this quota, and answers what came of it and what was written.
+fn served<R: Read + Drop, W: Write + Drop>(
+    rt: &HostRuntime,
+    quota: u32,
+    input: R,
+    output: W,
+) -> Result<(Result<(), ServeFault>, W), Fail> {
+    let mut solo = Solo::new(Quota::new(quota).ok_or("no quota")?);
+    let mut input = Watched::new(input);
+    let mut output = Watched::new(output);
+    let outcome = serve(rt.alloc(), &mut solo, &mut input, &mut output);
+    Ok((outcome, output.into_inner()))
 }
 
 /// The worked rows: a quota, a script and its replies.
@@ -55,8 +60,42 @@ const ROWS: [(u32, &str, &str); 6] = [
 #[test]
 fn rows_are_answered(rt: HostRuntime) -> Result<(), Fail> {
     for (quota, script, replies) in ROWS {
-        let out = answered(&rt, quota, script.as_bytes())?;
+        let (outcome, out) = served(&rt, quota, script.as_bytes(), Vec::new(rt.alloc()))?;
+        assert_eq!(rt; outcome, Ok(()));
         assert_eq!(rt; out.as_slice(), replies.as_bytes(), "after {script}");
     }
+    Ok(())
+}
+
+#[test]
+fn bytes_that_come_one_by_one_have_the_same_replies(rt: HostRuntime) -> Result<(), Fail> {
+    for (quota, script, replies) in ROWS {
+        let drip = Drip::new(script.as_bytes());
+        let (outcome, out) = served(&rt, quota, drip, Vec::new(rt.alloc()))?;
+        assert_eq!(rt; outcome, Ok(()));
+        assert_eq!(rt; out.as_slice(), replies.as_bytes(), "after {script}");
+    }
+    Ok(())
+}
+
+#[test]
+fn replies_are_shown_before_more_is_read(rt: HostRuntime) -> Result<(), Fail> {
+    let drip = Drip::breaking(b"%open a\na what\na box 0 0 4 4\na wh");
+    let (outcome, screen) = served(&rt, 5, drip, Screen::new(rt.alloc(), 1000))?;
+    assert_eq!(rt; outcome, Err(ServeFault::Read));
+    let shown = b"a opened\na refused 3 no box\na ok\n".as_slice();
+    assert_eq!(rt; screen.shown.as_slice(), shown);
+    Ok(())
+}
+
+#[test]
+fn a_broken_output_ends_the_script(rt: HostRuntime) -> Result<(), Fail> {
+    let script = b"%open a\na what\na what\n".as_slice();
+    let (outcome, screen) = served(&rt, 5, script, Screen::new(rt.alloc(), 10))?;
+    assert_eq!(rt; outcome, Err(ServeFault::Write));
+    assert_eq!(rt;
+        screen.shown.as_slice(),
+        b"a opened\na refused 3 no box\n".as_slice()
+    );
     Ok(())
 }

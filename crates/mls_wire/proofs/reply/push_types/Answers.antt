@@ -1,7 +1,6 @@
-use Rattle.std.proofs.Common.{ap, ◌∙◌, sym, ◌++◌}
-use Rattle.std.specs.List.{flat_map}
+use Rattle.std.proofs.Common.{◌∙◌, sym}
 use Rattle.mls_wire.specs.Replies.{type_text}
-use Rattle.mls_wire.proofs.TypeBits.{types_from, types_from_first, text_of_set, text_of_unset, text_of_all}
+use Rattle.mls_wire.proofs.TypeBits.{types_from_first, text_of_set, text_of_unset, text_of_all}
 use Rattle.mls_wire.proofs.reply.push_types.Goals as goal
 use Rattle.mls_wire.proofs.reply.push_types.Goals.{then-has_type+in_ok-push_type, else-has_type}
 

@@ -1,4 +1,4 @@
-use Rattle.std.proofs.Common.{Option, List, ℕ, Some, None, ap, sym, subst, arith, ◌∙◌, ◌+◌, ◌≡◌, Bor}
+use Rattle.std.proofs.Common.{arith, ◌∙◌}
 use Rattle.std.specs.Option.{option_map}
 use Rattle.mls_wire.proofs.ServingLemmas.{on_err, TakesAs, served_more, served_all, served_before, served_within, takes_line, takes_too_long, line_configured, cut_configured}
 use Rattle.mls_wire.specs.Readings.{script_ahead}

@@ -1,5 +1,6 @@
 use Rattle.std.proofs.Common.{◌≡◌, ◌+◌, ◌-◌, ◌∷◌, ◌++◌, take, drop, slice_range, sym, ap, ◌∙◌, arith}
 use Rattle.mls_wire.proofs.Pieces.{slice_range-more}
+use Rattle.mls_wire.proofs.ScriptLines.{split_at_feed, unbroken_None}
 use Rattle.mls_wire.proofs.reader.LineReader.take_piece.Goals as goal
 
 pub returns-in-Some-clause-fed : goal.returns-in-Some-clause-fed
@@ -7,7 +8,7 @@ returns-in-Some-clause-fed c =
     let old = c.self.inside in
     let count = c.in-Some.count in
     let piece = take count (slice_range old.bytes old.start old.end) in
-    let found = c.in-Some.ensures.some in
+    let found = split_at_feed _ count c.in-Some.ensures in
     let rest = slice_range-more old.bytes old.start old.end (count + 1) in
     let written = rw c.self.told.1 at c.append_within-self-inside.ensures.bytes in
     (piece, found.0, rw (← c.self.view_is) (found.1 ∙ ap (λ l. piece ++ 10 ∷ l) (sym rest)), rw (← c.self.view_is) written)
@@ -17,4 +18,4 @@ returns-in-None-clause-all c =
     let old = c.self.inside in
     let none : old.end - old.end ≡ 0 = omega arith in
     let written = rw c.self.told.1 at c.append_within-self-inside-in-None.ensures.bytes in
-    (rw (← c.self.view_is) c.in-None.ensures.none, ap (λ n. take n (drop old.end old.bytes)) none, rw (← c.self.view_is) written)
+    (rw (← c.self.view_is) (unbroken_None _ c.in-None.ensures), ap (λ n. take n (drop old.end old.bytes)) none, rw (← c.self.view_is) written)
