@@ -2,8 +2,9 @@
 use Rattle.std.proofs.Common.{◌≡◌, ℕ, Bool, true, false, cond, List, [], ◌∷◌, Result, Ok, Err, refl, sym, subst, codes}
 use Rattle.mls_session.specs.declared.command.Command.{Command}
 use Rattle.mls_wire.specs.Runs.{Seat, CanHeed, book_of}
-use Rattle.mls_wire.specs.Says.{line_says, words_say, session_says, open_says, command_of, asked, begins_with}
-use Rattle.mls_wire.specs.Words.{words_of, same_word, is_session_name}
+use Rattle.mls_wire.specs.Says.{line_says, words_say, session_says, open_says, command_of, asked}
+use Rattle.mls_tech.specs.Words.{begins_with, words_of, same_word}
+use Rattle.mls_wire.specs.SessionNames.{is_session_name}
 use Rattle.mls_wire.specs.declared.line.Line.{Line}
 use Rattle.mls_wire.specs.declared.line.Line.TheVariants.{Silent, Open, Ask}
 use Rattle.mls_wire.specs.declared.line.LineFault.{LineFault}

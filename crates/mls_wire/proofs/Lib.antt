@@ -5,4 +5,3 @@ pub mod ScriptLines
 pub mod ServingLemmas
 pub mod TakingLines
 pub mod TypeBits
-pub mod WordLemmas

@@ -2,7 +2,7 @@
 use Rattle.std.proofs.Common.{ℕ, ◌≤◌, List, ◌++◌, length, drop, replicate, IsTrue, sym, ap, ◌∙◌, subst}
 use Rattle.std.proofs.Math.Seq.{take-append_seam}
 use Rattle.std.proofs.lemmas.List.{drop-replicate}
-use Rattle.mls_wire.specs.Words.{is_session_name}
+use Rattle.mls_wire.specs.SessionNames.{is_session_name}
 use Rattle.mls_wire.specs.KeptNames.{padded, KeepsName}
 
 -- a word over 32 zeros lies as a padded name

@@ -7,7 +7,8 @@ use Rattle.std.proofs.lemmas.List.{length-take, take-append-drop, take_all, take
 use Rattle.std.proofs.lemmas.List.Quantifiers.{position-Some}
 use Rattle.std.proofs.lemmas.List.Sums.{fails_before_first}
 use Rattle.std.specs.List.{position_or_len}
-use Rattle.mls_wire.specs.Lines.{onto_first, lines_of, without_return, read_line}
+use Rattle.mls_tech.specs.Words.{onto_first}
+use Rattle.mls_wire.specs.Lines.{lines_of, without_return, read_line}
 use Rattle.mls_wire.specs.Scripts.{IsUnbroken}
 
 -- the bytes before the first line feed, and those behind it

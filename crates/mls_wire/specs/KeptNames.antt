@@ -1,6 +1,6 @@
 -- How a session's name lies in 32 bytes. This project's own.
 use Rattle.std.specs.Prelude.{◌≡◌, ℕ, ◌-◌, ◌≤◌, List, ◌++◌, length, take, replicate, IsTrue}
-use Rattle.mls_wire.specs.Words.{is_session_name}
+use Rattle.mls_wire.specs.SessionNames.{is_session_name}
 
 -- the word, and zeros behind it
 abbrev pub padded : List ℕ → List ℕ

@@ -9,5 +9,5 @@ pub mod Says
 pub mod Scripts
 pub mod Seats
 pub mod Serving
+pub mod SessionNames
 pub mod Watches
-pub mod Words

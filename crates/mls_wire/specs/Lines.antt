@@ -1,10 +1,6 @@
 -- The lines of a script. This project's own.
 use Rattle.std.specs.Prelude.{ℕ, ◌==◌, nat_lt, if◌then◌else◌, Option, Some, None, List, [], ◌∷◌, length, map}
-
--- the lists with a byte in front of the first
-abbrev pub onto_first : ℕ → List (List ℕ) → List (List ℕ)
-onto_first b [] = (b ∷ []) ∷ []
-onto_first b (line ∷ lines) = (b ∷ line) ∷ lines
+use Rattle.mls_tech.specs.Words.{onto_first}
 
 -- the lines of a text: each ends with a line feed or the end of the text
 abbrev pub lines_of : List ℕ → List (List ℕ)

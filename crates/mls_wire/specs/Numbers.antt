@@ -1,14 +1,8 @@
 -- Numbers as a script spells them: an optional `-` and one to ten digits, within an i32. This project's own.
-use Rattle.std.specs.Prelude.{ℕ, ◌+◌, ◌-◌, ◌*◌, ◌^◌, ◌==◌, nat_le, Bool, ◌&&◌, if◌then◌else◌, Option, Some, None, List, [], ◌∷◌, length, ℤ, pos, neg_ℤ, fold}
+use Rattle.std.specs.Prelude.{ℕ, ◌-◌, ◌^◌, ◌==◌, nat_le, ◌&&◌, if◌then◌else◌, Option, Some, None, List, [], ◌∷◌, length, ℤ, pos, neg_ℤ}
 use Rattle.std.specs.Option.{option_and_then}
 use Rattle.std.specs.List.{list_all}
-
-abbrev pub is_digit : ℕ → Bool
-is_digit b = nat_le 48 b && nat_le b 57
-
--- the number that digits spell
-abbrev pub value_of : List ℕ → ℕ
-value_of digits = fold (λ n b. 10 * n + (b - 48)) 0 digits
+use Rattle.mls_tech.specs.FileNumbers.{is_digit, value_of}
 
 -- the number of one to ten digits
 unfoldable pub magnitude_of : List ℕ → Option ℕ

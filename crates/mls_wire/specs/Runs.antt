@@ -6,7 +6,7 @@ use Rattle.mls_session.specs.declared.command.Command.{Command}
 use Rattle.mls_wire.specs.NameBooks.{NameBook}
 use Rattle.mls_wire.specs.Replies.{answer_text}
 use Rattle.mls_wire.specs.Says.{said_by}
-use Rattle.mls_wire.specs.Words.{same_word}
+use Rattle.mls_tech.specs.Words.{same_word}
 use Rattle.mls_wire.specs.declared.answer.Answer.{Answer}
 use Rattle.mls_wire.specs.declared.answer.Answer.TheVariants.{Silent as SilentAnswer, Fault, Opened, NotOpened, Replied}
 use Rattle.mls_wire.specs.declared.answer.OpenFault.TheVariants.{OpenAlready, SessionsFull, Memory}

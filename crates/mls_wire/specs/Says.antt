@@ -1,10 +1,11 @@
 -- What a line of a script says, or its first fault. This project's own.
-use Rattle.std.specs.Prelude.{ℕ, ℤ, ◌==◌, nat_lt, Bool, false, if◌then◌else◌, Option, Some, None, Result, Ok, Err, List, [], ◌∷◌, length, codes}
+use Rattle.std.specs.Prelude.{ℕ, ℤ, nat_lt, if◌then◌else◌, Option, Some, None, Result, Ok, Err, List, [], ◌∷◌, length, codes}
 use Rattle.mls_session.specs.declared.command.Command.{Command}
 use Rattle.mls_session.specs.declared.command.Command.TheVariants.{Box, Paint, What}
 use Rattle.mls_wire.specs.NameBooks.{NameBook}
 use Rattle.mls_wire.specs.Numbers.{number_of}
-use Rattle.mls_wire.specs.Words.{words_of, same_word, is_session_name}
+use Rattle.mls_tech.specs.Words.{begins_with, words_of, same_word}
+use Rattle.mls_wire.specs.SessionNames.{is_session_name}
 use Rattle.mls_wire.specs.declared.line.Line.{Line}
 use Rattle.mls_wire.specs.declared.line.Line.TheVariants.{Silent, Open, Ask}
 use Rattle.mls_wire.specs.declared.line.LineFault.{LineFault}
@@ -48,10 +49,6 @@ unfoldable pub open_says : List (List ℕ) → Result Line LineFault
 open_says [] = Err BadName
 open_says (name ∷ []) = if is_session_name name then Ok (Open name) else Err BadName
 open_says (name ∷ more ∷ words) = if is_session_name name then Err UnknownCommand else Err BadName
-
-abbrev pub begins_with : ℕ → List ℕ → Bool
-begins_with b [] = false
-begins_with b (c ∷ bytes) = c == b
 
 unfoldable pub words_say : NameBook → List (List ℕ) → Result Line LineFault
 words_say book [] = Ok Silent

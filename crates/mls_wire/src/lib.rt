@@ -14,7 +14,6 @@ mod reply;
 mod serving;
 mod solo;
 mod watched;
-mod words;
 
 pub use answer::{Answer, OpenFault};
 pub use line::{Line, LineFault};

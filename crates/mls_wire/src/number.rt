@@ -1,7 +1,8 @@
 //! Numbers as a script spells them.
 ghost use Rattle.std.specs.Prelude.{◌≡◌, ◌≤◌, length, IsTrue, IfSome};
 ghost use Rattle.std.specs.List.{list_all};
-ghost use Rattle.mls_wire.specs.Numbers.{at_most as at_most_lem, is_digit, magnitude_of as magnitude_of_lem, number_of as number_of_lem, value_of as value_of_lem};
+ghost use Rattle.mls_tech.specs.FileNumbers.{is_digit, value_of as value_of_lem};
+ghost use Rattle.mls_wire.specs.Numbers.{at_most as at_most_lem, magnitude_of as magnitude_of_lem, number_of as number_of_lem};
 
 /// The most digits that a number may have.
 const DIGITS_LIMIT: usize = 10;

@@ -3,9 +3,9 @@ ghost use Rattle.std.specs.Prelude.{◌≡◌};
 ghost use Rattle.mls_wire.specs.Says.{box_says, command_of, line_says, open_says, paint_says, session_says, what_says, words_say};
 
 use crate::number::number_of;
-use crate::words::Words;
 use crate::{Line, LineFault, Name, Names};
 use mls_session::Command;
+use mls_tech::Words;
 
 /// The most bytes that a line may have.
 pub const LINE_LIMIT: usize = 1024;

@@ -1,5 +1,5 @@
 ghost use Rattle.std.specs.Prelude.{Some, None, codes, if◌then◌else◌};
-ghost use Rattle.mls_wire.specs.Words.{same_word};
+ghost use Rattle.mls_tech.specs.Words.{same_word};
 
 use super::*;
 use std::process::Abort;

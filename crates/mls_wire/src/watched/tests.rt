@@ -70,7 +70,10 @@ fn writes_that_come_through(rt: HostRuntime) -> Result<(), Fail> {
         output.write_whole(b"hey")?;
         output.flush()?;
         assert!(rt; !output.failed());
-        assert_eq!(rt; output.into_inner().held.as_slice(), b"hey".as_slice());
+        let calls = u64::MAX - output.calls_left;
+        let device = output.into_inner();
+        assert_eq!(rt; calls, device.at as u64);
+        assert_eq!(rt; device.held.as_slice(), b"hey".as_slice());
     }
     Ok(())
 }

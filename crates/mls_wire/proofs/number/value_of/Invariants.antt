@@ -1,5 +1,5 @@
 use Rattle.std.proofs.Common.{◌≡◌, ◌<◌, ◌^◌, take}
-use Rattle.mls_wire.specs.Numbers.{value_of}
+use Rattle.mls_tech.specs.FileNumbers.{value_of}
 use Rattle.mls_wire.proofs.number.value_of.Given as goal
 
 abbrev pub invariant-loop-b : goal.invariant-loop-b

@@ -1,0 +1,63 @@
+-- The lines of a technology file (Magic Maintainer's Manual 2), numbered from 1.
+use Rattle.std.specs.Prelude.{ℕ, ◌+◌, ◌==◌, Bool, false, not, ◌&&◌, if◌then◌else◌, List, [], ◌∷◌, ◌++◌}
+use Rattle.std.specs.List.{filter}
+use Rattle.mls_tech.specs.Words.{onto_first, words_of, begins_with}
+
+-- the lines of a file: each ends with a line feed, with a carriage return before it dropped, or with the end of the file
+abbrev pub raw_lines : List ℕ → List (List ℕ)
+raw_lines [] = []
+raw_lines (b ∷ bytes) =
+    if b == 10 then [] ∷ raw_lines bytes
+    else (if b == 13 && begins_with 10 bytes then raw_lines bytes else onto_first b (raw_lines bytes))
+
+-- the line without a carriage return at its end
+abbrev pub without_return : List ℕ → List ℕ
+without_return [] = []
+without_return (b ∷ []) = if b == 13 then [] else b ∷ []
+without_return (b ∷ c ∷ bytes) = b ∷ without_return (c ∷ bytes)
+
+-- a line with the number of its first raw line
+pub record NumberedLine : Type 0 where
+  pub line : ℕ
+  pub bytes : List ℕ
+
+-- the last byte of the line is `\`
+abbrev pub goes_on : List ℕ → Bool
+goes_on [] = false
+goes_on (b ∷ []) = b == 92
+goes_on (b ∷ c ∷ bytes) = goes_on (c ∷ bytes)
+
+-- the line with a blank in place of its last byte
+abbrev pub with_blank : List ℕ → List ℕ
+with_blank [] = []
+with_blank (b ∷ []) = 32 ∷ []
+with_blank (b ∷ c ∷ bytes) = b ∷ with_blank (c ∷ bytes)
+
+-- the lines with this text in front of the first, which begins at line n now
+abbrev pub joined_to : ℕ → List ℕ → List NumberedLine → List NumberedLine
+joined_to n text [] = record { line = n; bytes = text } ∷ []
+joined_to n text (first ∷ lines) = record { line = n; bytes = text ++ first.bytes } ∷ lines
+
+-- raw lines from line n on, each that ends with `\` joined with the next
+abbrev pub joined_from : ℕ → List (List ℕ) → List NumberedLine
+joined_from n [] = []
+joined_from n (raw ∷ lines) =
+    if goes_on raw then joined_to n (with_blank raw) (joined_from (n + 1) lines)
+    else record { line = n; bytes = raw } ∷ joined_from (n + 1) lines
+
+-- a line with words, whose first byte other than a blank isn't `#`
+abbrev pub begins_content : List (List ℕ) → Bool
+begins_content [] = false
+begins_content (word ∷ words) = not (begins_with 35 word)
+
+abbrev pub has_content : NumberedLine → Bool
+has_content line = begins_content (words_of line.bytes)
+
+-- the lines of a file that say something
+unfoldable pub content_lines : List ℕ → List NumberedLine
+content_lines bytes = filter has_content (joined_from 1 (raw_lines bytes))
+
+-- a place between two lines of a file: the bytes of the line that was read last, and the lines ahead
+pub record FilePlace : Type 0 where
+  pub line : List ℕ
+  pub ahead : List NumberedLine

@@ -1,0 +1,25 @@
+-- How planes and types are named (Magic Maintainer's Manual 2, "planes" and "types"; the spelling of names is this project's own).
+use Rattle.std.specs.Prelude.{ℕ, ◌==◌, Bool, true, false, not, ◌||◌, ◌&&◌, List, [], ◌∷◌, codes}
+use Rattle.std.specs.List.{list_all, list_any, starts_with}
+use Rattle.std.specs.Prelude.{nat_eq}
+use Rattle.mls_tech.specs.Words.{same_word}
+
+-- a byte that is no blank and none of `, ~ ( ) / "`
+abbrev pub is_name_byte : ℕ → Bool
+is_name_byte b = not (b == 32 || b == 9 || b == 44 || b == 126 || b == 40 || b == 41 || b == 47 || b == 34)
+
+abbrev pub is_empty : List ℕ → Bool
+is_empty [] = true
+is_empty (b ∷ bytes) = false
+
+-- the spelling of a name
+unfoldable pub is_name : List ℕ → Bool
+is_name word = not (is_empty word) && list_all is_name_byte word && not (same_word word (codes "0"))
+
+-- words that cell files use otherwise
+abbrev pub cell_file_words : List (List ℕ)
+cell_file_words = codes "end" ∷ codes "labels" ∷ codes "properties" ∷ codes "elements" ∷ codes "checkpaint" ∷ codes "checksubcell" ∷ []
+
+-- the spelling of a type's name
+unfoldable pub is_type_name : List ℕ → Bool
+is_type_name word = is_name word && not (list_any (same_word word) cell_file_words) && not (starts_with nat_eq word (codes "error_"))

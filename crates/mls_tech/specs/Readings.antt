@@ -1,0 +1,201 @@
+-- What a technology file says: the value that its lines add up to, or its first fault with its line. It depends on the bytes alone.
+use Rattle.std.specs.Prelude.{◌≡◌, ◌<◌, ◌≤◌, ℕ, All, ◌+◌, ◌-◌, ◌==◌, Bool, false, not, ◌||◌, ◌&&◌, nat_lt, nat_le, if◌then◌else◌, Option, Some, None, Result, Ok, Err, List, [], ◌∷◌, ◌++◌, length, codes, slice_get, take, count_by, find, is_none, is_some}
+use Rattle.std.specs.List.{list_any}
+use Rattle.std.specs.Map.{lookup}
+use Rattle.std.specs.Option.{option_map, option_map_or}
+use Rattle.std.specs.Str.Lossy.{utf8_valid_len}
+use Rattle.mls_tech.specs.DrcLines.{DrcLine, States, Skips, drc_line}
+use Rattle.mls_tech.specs.FileLines.{NumberedLine, content_lines}
+use Rattle.mls_tech.specs.Names.{is_name, is_type_name}
+use Rattle.mls_tech.specs.TypeLists.{Scope, ◌>>=◌, or_fault}
+use Rattle.mls_tech.specs.Words.{words_of, same_word, pieces_of}
+use Rattle.mls_tech.specs.declared.fault.TechFault.{TechFault}
+use Rattle.mls_tech.specs.declared.fault.TechFaultKind.{TechFaultKind}
+use Rattle.mls_tech.specs.declared.fault.TechFaultKind.TheVariants.{NotUtf8, NoEnd, UnknownPlane, NameTwice, BadForm, Limit, Memory}
+use Rattle.mls_tech.specs.declared.rule.Rule.{Rule}
+use Rattle.mls_tech.specs.declared.rule_line.RuleLine.{RuleLine}
+use Rattle.mls_tech.specs.declared.rule_line.Skipped.{Skipped}
+use Rattle.mls_tech.specs.declared.section.Section.{Section}
+use Rattle.mls_tech.specs.declared.section.Section.TheVariants.{Tech, Planes, Types, Drc, Other}
+
+-- names with the numbers of what they name, in the order of the file; the first name of a number is the one that is printed
+abbrev pub Numbered : Type 0
+Numbered = List (List ℕ × ℕ)
+
+-- what the lines so far add up to: the technology's name, if they told it; the names of planes, which are numbered from 0, and how many
+-- planes there are; the names of types, where type 0 is space, and the plane of each other type, from type 1 on; the lines of the section `drc`
+pub record Reading : Type 0 where
+  pub name : Option (List ℕ)
+  pub planes : Numbered
+  pub plane_count : ℕ
+  pub types : Numbered
+  pub type_planes : List ℕ
+  pub rules : List RuleLine
+  pub skipped : List Skipped
+
+abbrev pub nothing_read : Reading
+nothing_read = record { name = None; planes = []; plane_count = 0; types = (codes "space", 0) ∷ []; type_planes = []; rules = []; skipped = [] }
+
+-- numbers lie within the limits: at most 4 planes and 63 types besides space, and each name has the number of one, as each type has that of a plane
+pub record IsWithinLimits (planes : Numbered) (plane_count : ℕ) (types : Numbered) (type_planes : List ℕ) : Type 0 where
+  pub few_planes : plane_count ≤ 4
+  pub few_types : length type_planes ≤ 63
+  pub planes_named : All (λ entry. entry.1 < plane_count) planes
+  pub types_named : All (λ entry. entry.1 ≤ length type_planes) types
+  pub planes_known : All (λ plane. plane < plane_count) type_planes
+
+-- ---- what names stand for
+abbrev pub number_named : Numbered → List ℕ → Option ℕ
+number_named names word = lookup (same_word word) names
+
+-- the first name of a number
+abbrev pub first_named : Numbered → ℕ → Option (List ℕ)
+first_named names number = option_map (λ entry. entry.0) (find (λ entry. entry.1 == number) names)
+
+-- the plane of a type other than space
+abbrev pub plane_of_type : List ℕ → ℕ → Option ℕ
+plane_of_type type_planes kind = if kind == 0 then None else slice_get type_planes (kind - 1)
+
+-- why rule n is there, from 1
+abbrev pub why_of : List RuleLine → ℕ → Option (List ℕ)
+why_of rules n = if n == 0 then None else option_map (λ rule. rule.why) (slice_get rules (n - 1))
+
+-- the type lies on the plane; space lies on each
+abbrev pub lies_on_plane : List ℕ → ℕ → ℕ → Bool
+lies_on_plane type_planes plane kind = kind == 0 || option_map_or (λ on. on == plane) (slice_get type_planes (kind - 1)) false
+
+abbrev pub scope_of : Reading → Scope
+scope_of reading = record {
+  type_of = number_named reading.types;
+  plane_of = number_named reading.planes;
+  is_type = λ kind. nat_le kind (length reading.type_planes);
+  lies_on = lies_on_plane reading.type_planes;
+}
+
+-- the names in a list, judged one by one from the left: the spelling first, and then whether something has the name already
+unfoldable pub names_added : (List ℕ → Bool) → ℕ → Numbered → List (List ℕ) → Result Numbered TechFaultKind
+names_added is_spelled number names [] = Ok names
+names_added is_spelled number names (word ∷ words) =
+    if not (is_spelled word) then Err BadForm
+    else (if is_some (number_named names word) then Err NameTwice
+    else names_added is_spelled number (names ++ (word, number) ∷ []) words)
+
+-- ---- one line in each section
+-- the first line whose first word isn't `format` names the technology
+abbrev pub name_told : Reading → List ℕ → Reading
+name_told reading word =
+    if is_none reading.name && not (same_word word (codes "format")) then record reading { name = Some word } else reading
+
+unfoldable pub tech_line : Reading → List (List ℕ) → Result Reading TechFaultKind
+tech_line reading [] = Ok reading
+tech_line reading (word ∷ words) = Ok (name_told reading word)
+
+-- at most 4 planes
+abbrev pub plane_added : Reading → Numbered → Result Reading TechFaultKind
+plane_added reading names =
+    if nat_lt reading.plane_count 4 then Ok (record reading { planes = names; plane_count = reading.plane_count + 1 }) else Err Limit
+
+unfoldable pub planes_line : Reading → List (List ℕ) → Result Reading TechFaultKind
+planes_line reading (word ∷ []) = names_added is_name reading.plane_count reading.planes (pieces_of word) >>= plane_added reading
+planes_line reading _ = Err BadForm
+
+-- at most 63 types besides space
+abbrev pub type_added : Reading → ℕ → Numbered → Result Reading TechFaultKind
+type_added reading plane names =
+    if nat_lt (length reading.type_planes) 63 then Ok (record reading { types = names; type_planes = reading.type_planes ++ plane ∷ [] }) else Err Limit
+
+-- one leading `-` is dropped
+abbrev pub without_dash : List ℕ → List ℕ
+without_dash [] = []
+without_dash (b ∷ bytes) = if b == 45 then bytes else b ∷ bytes
+
+unfoldable pub types_line : Reading → List (List ℕ) → Result Reading TechFaultKind
+types_line reading (plane ∷ names ∷ []) =
+    or_fault UnknownPlane (number_named reading.planes (without_dash plane)) >>= λ known.
+    names_added is_type_name (length reading.type_planes + 1) reading.types (pieces_of names) >>= type_added reading known
+types_line reading _ = Err BadForm
+
+abbrev pub rule_added : Reading → ℕ → Rule → List ℕ → Reading
+rule_added reading n rule why = record reading { rules = reading.rules ++ record { line = n; rule = rule; why = why } ∷ [] }
+
+abbrev pub skipped_added : Reading → ℕ → List ℕ → Reading
+skipped_added reading n keyword = record reading { skipped = reading.skipped ++ record { line = n; keyword = keyword } ∷ [] }
+
+abbrev pub line_added : Reading → ℕ → DrcLine → Reading
+line_added reading n (States stated) = rule_added reading n stated.rule stated.why
+line_added reading n (Skips keyword) = skipped_added reading n keyword
+
+-- ---- sections
+abbrev pub section_named : List ℕ → Section
+section_named word =
+    if same_word word (codes "tech") then Tech
+    else (if same_word word (codes "planes") then Planes
+    else (if same_word word (codes "types") then Types
+    else (if same_word word (codes "drc") then Drc else Other)))
+
+-- what a line adds in its section
+unfoldable pub section_line : Section → Reading → NumberedLine → Result Reading TechFaultKind
+section_line Tech reading line = tech_line reading (words_of line.bytes)
+section_line Planes reading line = planes_line reading (words_of line.bytes)
+section_line Types reading line = types_line reading (words_of line.bytes)
+section_line Drc reading line = drc_line (scope_of reading) line.bytes >>= λ said. Ok (line_added reading line.line said)
+section_line Other reading line = Ok reading
+
+-- the line's only word is `end`, without quotes
+abbrev pub is_end_word : List (List ℕ) → Bool
+is_end_word (word ∷ []) = same_word word (codes "end")
+is_end_word _ = false
+
+abbrev pub is_end : NumberedLine → Bool
+is_end line = is_end_word (words_of line.bytes)
+
+abbrev pub first_word : List (List ℕ) → List ℕ
+first_word [] = []
+first_word (word ∷ words) = word
+
+-- what one line is read as outside a section at nothing, or in one, where these lines follow it: the section that it leaves open, and what is
+-- read with it. A section without its `end` is the fault of the line that names it, before any fault in it
+unfoldable pub line_read : Option Section → Reading → NumberedLine → List NumberedLine → Result (Option Section × Reading) TechFaultKind
+line_read None reading line lines =
+    if list_any is_end lines then Ok (Some (section_named (first_word (words_of line.bytes))), reading) else Err NoEnd
+line_read (Some section) reading line lines =
+    if is_end line then Ok (None, reading) else section_line section reading line >>= λ next. Ok (Some section, next)
+
+-- ---- the file
+abbrev pub fault_at : {A : Type 0} → ℕ → Result A TechFaultKind → Result A TechFault
+fault_at n (Ok x) = Ok x
+fault_at n (Err kind) = Err (record { line = n; kind = kind })
+
+abbrev pub read_after : {A B : Type 0} → Result A TechFault → (A → Result B TechFault) → Result B TechFault
+read_after (Ok x) f = f x
+read_after (Err fault) f = Err fault
+
+-- what the lines from here on add, outside a section at nothing, or in one. A section without its `end` is the fault of the line that names it, before any fault in it
+unfoldable pub read_lines : Option Section → Reading → List NumberedLine → Result Reading TechFault
+read_lines place reading [] = Ok reading
+read_lines None reading (line ∷ lines) =
+    if list_any is_end lines then read_lines (Some (section_named (first_word (words_of line.bytes)))) reading lines
+    else Err (record { line = line.line; kind = NoEnd })
+read_lines (Some section) reading (line ∷ lines) =
+    if is_end line then read_lines None reading lines
+    else read_after (fault_at line.line (section_line section reading line)) (λ next. read_lines (Some section) next lines)
+
+-- the line of the first byte that isn't UTF-8
+abbrev pub bad_line : List ℕ → ℕ
+bad_line bytes = count_by (λ b. b == 10) (take (utf8_valid_len bytes) bytes) + 1
+
+unfoldable pub reading_of : List ℕ → Result Reading TechFault
+reading_of bytes =
+    if utf8_valid_len bytes == length bytes then read_lines None nothing_read (content_lines bytes)
+    else Err (record { line = bad_line bytes; kind = NotUtf8 })
+
+-- ---- what reading gives where memory may run out
+-- the fact, unless the fault is want of memory
+abbrev pub UnlessMemory : TechFaultKind → Type 0 → Type 0
+UnlessMemory Memory P = Unit {0}
+UnlessMemory kind P = P
+
+-- the definition gives this value, or this fault with its line, unless memory ran out
+abbrev pub ReadsUnlessMemory : {A : Type 0} → Result A TechFault → Result A TechFault → Type 0
+ReadsUnlessMemory (Ok x) read = read ≡ Ok x
+ReadsUnlessMemory (Err fault) read = UnlessMemory fault.kind (read ≡ Err fault)
