@@ -5,6 +5,7 @@ use Rattle.std.specs.List.{list_any}
 use Rattle.std.proofs.lemmas.Bool.Decides.{nat_tests, same_from_decides}
 use Rattle.std.proofs.lemmas.List.Elements.{All-contains, All-filter, filter_passes}
 use Rattle.std.proofs.lemmas.List.Folds.{Any-from_list_any, list_any-from_Any}
+use Rattle.mls_geom.proofs.PiecePictures.{holds_outer}
 use Rattle.mls_geom.specs.Covers.{meeting}
 use Rattle.mls_geom.specs.Extents.{Extent, IsRectangleIn, holds, meets}
 use Rattle.mls_geom.specs.Pictures.{Picture, bits_where, columns, kinds_in, rows, shows}
@@ -43,13 +44,8 @@ common_square : (a b : Extent) → meets a b ≡ true → (x y : ℕ) × (holds 
 common_square a b met = (max a.left b.left, max a.bottom b.bottom, grind (arith, nat_tests), grind (arith, nat_tests))
 
 -- and two that have one meet
-meets_by_square : (a b : Extent) (x y : ℕ) → holds a x y ≡ true → holds b x y ≡ true → meets a b ≡ true
--- and two that have one meet
+pub meets_by_square : (a b : Extent) (x y : ℕ) → holds a x y ≡ true → holds b x y ≡ true → meets a b ≡ true
 meets_by_square a b x y in_a in_b = grind (arith, nat_tests)
-
--- a square of the inner of two rectangles is one of the outer
-holds_outer : (outer e : Extent) (x y : ℕ) → IsRectangleIn outer e → holds e x y ≡ true → holds outer x y ≡ true
-holds_outer outer e x y legal inside = grind (arith, nat_tests)
 
 -- a square of each strip that meets the rectangle is in it
 met : (extent e : Extent) (picture : Picture) (list : List Piece) (kind : ℕ) → AreStrips extent picture list → list_any (λ piece. piece.kind == kind) (meeting list e) ≡ true → ShowsAt picture e kind

@@ -8,7 +8,7 @@ use Rattle.mls_geom.proofs.Holds.{holds_between, between_holds}
 use Rattle.mls_geom.proofs.Overlays.{overlaid_append, overlaid_outside}
 
 -- a square of a rectangle inside the extent is a square of the extent
-holds_outer : (extent e : Extent) (x y : ℕ) → IsRectangleIn extent e → holds e x y ≡ true → holds extent x y ≡ true
+pub holds_outer : (extent e : Extent) (x y : ℕ) → IsRectangleIn extent e → holds e x y ≡ true → holds extent x y ≡ true
 holds_outer extent e x y rectangle inside =
     let between = holds_between e x y inside in
     between_holds extent x y (omega (arith, rectangle.left_in, between.0)) (omega (arith, rectangle.right_in, between.1))

@@ -46,14 +46,14 @@ impl Point {
     }
 
     /// The square's left line, counted as in the world.
-    pub(crate) fn column(self) -> u32
+    pub fn column(self) -> u32
         ensures { result ≡ self.x }
     {
         self.x
     }
 
     /// The square's bottom line, counted as in the world.
-    pub(crate) fn row(self) -> u32
+    pub fn row(self) -> u32
         ensures { result ≡ self.y }
     {
         self.y

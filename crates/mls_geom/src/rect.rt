@@ -74,7 +74,7 @@ impl Rect {
     }
 
     /// The left line, counted as in the world.
-    pub(crate) fn left_line(self) -> u32
+    pub fn left_line(self) -> u32
         ensures value { result ≡ self.left }
         ensures legal { IsRectangleIn world self }
     {
@@ -82,7 +82,7 @@ impl Rect {
     }
 
     /// The bottom line, counted as in the world.
-    pub(crate) fn bottom_line(self) -> u32
+    pub fn bottom_line(self) -> u32
         ensures value { result ≡ self.bottom }
         ensures legal { IsRectangleIn world self }
     {
@@ -90,7 +90,7 @@ impl Rect {
     }
 
     /// The right line, counted as in the world.
-    pub(crate) fn right_line(self) -> u32
+    pub fn right_line(self) -> u32
         ensures value { result ≡ self.right }
         ensures legal { IsRectangleIn world self }
     {
@@ -98,7 +98,7 @@ impl Rect {
     }
 
     /// The top line, counted as in the world.
-    pub(crate) fn top_line(self) -> u32
+    pub fn top_line(self) -> u32
         ensures value { result ≡ self.top }
         ensures legal { IsRectangleIn world self }
     {
@@ -109,9 +109,9 @@ impl Rect {
     pub(crate) fn holds(self, at: Point) -> bool
         ensures { result ≡ holds self at.x at.y }
     {
-        self.left <= at.column()
+        at.column() >= self.left
             && at.column() < self.right
-            && self.bottom <= at.row()
+            && at.row() >= self.bottom
             && at.row() < self.top
     }
 

@@ -1,0 +1,29 @@
+use Rattle.std.proofs.Common.{◌≡◌, ◌-◌, ◌≤◌, ap, arith}
+use Rattle.mls_geom.specs.Extents.{Extent}
+use Rattle.mls_checker.specs.Copies.{copied_layout}
+use Rattle.mls_checker.specs.Reaches.{edge_reaches}
+use Rattle.mls_checker.proofs.Gathering.{gains_more_in_range, gains_nothing}
+use Rattle.mls_checker.proofs.EdgeReaches.{no_edge_no_reach}
+use Rattle.mls_checker.proofs.walk.mark_row.Goals as goal
+use Rattle.mls_checker.proofs.walk.mark_row.Goals.{then-is_edge, else-is_edge}
+
+pub loop-x-preserved : goal.loop-x-preserved
+loop-x-preserved g c =
+    let low : c.args.area.left ≤ c.loop-x.x = omega (arith, ap (λ (e : Extent). e.left) c.area.view_is) in
+    record {
+      within = omega (arith, ap (λ (e : Extent). e.right) c.area.view_is);
+      gains = gains_more_in_range g.M.Marker.comes_of c.args.rule.now (copied_layout c.args.snapshot.now)
+          (λ u v column. edge_reaches c.args.rule.now (copied_layout c.args.snapshot.now) c.args.e (record { x = column; y = c.args.y }) u v)
+          c.args.area.left c.loop-x.x c.args.marker.now c.loop-x.marker c.if-is_edge.marker low c.loop-x.invariant.gains
+          (elim c.if-is_edge.branch [
+            | then-is_edge w ↦ rw (w.marker-is) w.mark_edge.ensures
+            | else-is_edge w ↦ rw (w.marker-is) (gains_nothing g.M.Marker.comes_of c.args.rule.now (copied_layout c.args.snapshot.now) _ c.loop-x.marker
+                (λ u v. no_edge_no_reach c.args.rule.now (copied_layout c.args.snapshot.now) c.args.e _ u v (cc)))
+          ]);
+    }
+
+pub returns : goal.returns
+returns g c =
+    let all : c.loop-x.x - c.args.area.left ≡ c.args.area.right - c.args.area.left =
+    omega (arith, ap (λ (e : Extent). e.left) c.area.view_is, ap (λ (e : Extent). e.right) c.area.view_is) in
+    rw all at c.loop-x.invariant.gains

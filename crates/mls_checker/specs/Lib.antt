@@ -1,0 +1,7 @@
+pub mod Copies
+pub mod Findings
+pub mod Forbids
+pub mod Halos
+pub mod Layouts
+pub mod Marking
+pub mod Reaches

@@ -1,0 +1,48 @@
+//! The directions in which edge rules look.
+ghost use Rattle.std.specs.Prelude.{◌≡◌};
+ghost use Rattle.mls_edgerule.specs.RuleLists.{across, directions_in};
+
+/// A direction: from the first side of an edge to the second.
+#[derive(Clone, Copy, Debug, PartialEq, Eq)]
+pub enum Direction {
+    Right,
+    Up,
+    Left,
+    Down,
+}
+
+impl Direction {
+    /// The two directions across.
+    pub fn across(self) -> &'static [Direction]
+        ensures { result.now ≡ across self }
+    {
+        match self {
+            Direction::Right | Direction::Left => &[Direction::Up, Direction::Down],
+            Direction::Up | Direction::Down => &[Direction::Right, Direction::Left],
+        }
+    }
+}
+
+/// The directions in which a rule is checked.
+#[derive(Clone, Copy, Debug, PartialEq, Eq)]
+pub enum Directions {
+    RightAndUp,
+    Four,
+}
+
+impl Directions {
+    /// The directions one by one.
+    pub fn list(self) -> &'static [Direction]
+        ensures { result.now ≡ directions_in self }
+    {
+        match self {
+            Directions::RightAndUp => &[Direction::Right, Direction::Up],
+            Directions::Four => &[
+                Direction::Right,
+                Direction::Up,
+                Direction::Left,
+                Direction::Down,
+            ],
+        }
+    }
+}

@@ -1,0 +1,127 @@
+//! Lists of compiled rules.
+ghost use Rattle.std.specs.Prelude.{IsTrue, ◌↔◌, ◌≡◌, ◌≤◌, [], length, ◌<◌, ◌++◌, ◌∷◌, nat_le};
+ghost use Rattle.std.specs.Cmp.{partial_equiv_from_equiv};
+ghost use Rattle.mls_edgerule.specs.SameRules.{same_rules};
+ghost use Rattle.mls_edgerule.specs.SameRuleLaws.{same_rules_equivalence};
+ghost use Rattle.mls_edgerule.specs.Halos.{halo_of};
+ghost use Rattle.mls_edgerule.specs.RuleLists.{no_rule as no_rule_value, rule_numbered};
+
+use crate::{Directions, EdgeRule};
+use mls_tech::TypeSet;
+use std::marker::Model;
+
+/// The most rules that a technology may have.
+pub const RULE_LIMIT: usize = 128;
+
+/// Compiled rules, at most 128, numbered from 1.
+#[derive(Clone, Copy)]
+pub struct Rules {
+    rules: [EdgeRule; RULE_LIMIT],
+    len: usize,
+}
+
+impl Model for Rules {
+    ghost use Rattle.std.specs.Prelude.{List, length, take};
+    ghost use Rattle.mls_edgerule.specs.RuleLists.{KeepsRules, padded};
+    ghost use Rattle.mls_edgerule.specs.declared.edge_rule.EdgeRule.{EdgeRule};
+
+    ghost Value = { List EdgeRule };
+
+    ghost view = { λ kept. take kept.len kept.rules };
+
+    ghost invariant = { λ kept. KeepsRules kept.rules kept.len };
+
+    ghost inverse = { λ rules. record { rules = padded rules; len = length rules } };
+
+    ghost inverse_ok = { λ value kept i. record { rules = kept.rest i; len = kept.taken i } };
+}
+
+/// What fills the places without a rule.
+fn no_rule() -> EdgeRule
+    ensures { result ≡ no_rule_value }
+{
+    EdgeRule {
+        types1: TypeSet::empty(),
+        types2: TypeSet::empty(),
+        ok_types: TypeSet::empty(),
+        corner_types: TypeSet::empty(),
+        distance: 1,
+        corner_distance: 0,
+        directions: Directions::RightAndUp,
+        trigger_plane: 0,
+        check_plane: 0,
+    }
+}
+
+impl Rules {
+    /// No rules.
+    pub fn new() -> Rules
+        ensures { result ≡ [] }
+    {
+        Rules {
+            rules: [no_rule(); RULE_LIMIT],
+            len: 0,
+        }
+    }
+
+    /// The rules in order.
+    pub fn as_slice(&self) -> &[EdgeRule]
+        ensures value { result.now ≡ self.now }
+        ensures limit { length self.now ≤ 128 }
+    {
+        &self.rules[..self.len]
+    }
+
+    /// Whether there are as many as there may be.
+    pub(crate) fn is_full(&self) -> bool
+        ensures { result ≡ nat_le 128 (length self.now) }
+    {
+        self.len >= RULE_LIMIT
+    }
+
+    /// Adds a rule behind the others.
+    pub(crate) fn push(&mut self, rule: EdgeRule)
+        requires { length self.old < 128 }
+        ensures { self.new ≡ self.old ++ rule ∷ [] }
+    {
+        self.rules[self.len] = rule;
+        self.len += 1;
+    }
+
+    /// Rule `n`, from 1.
+    pub fn get(&self, n: usize) -> Option<EdgeRule>
+        ensures { result ≡ rule_numbered self.now n }
+    {
+        self.as_slice().get(n.checked_sub(1)?).copied()
+    }
+
+    /// How far the rules reach, in squares: one more than the greatest distance or corner distance, and 1
+    /// where there are no rules.
+    pub fn halo(&self) -> u32
+        ensures value { result ≡ halo_of self.now }
+        ensures bounded { result ≤ 256 }
+    {
+        let mut reach = 1;
+        for rule in self.as_slice() {
+            reach = reach.max(1 + u32::from(rule.distance.max(rule.corner_distance)));
+        }
+        reach
+    }
+}
+
+impl PartialEq for Rules {
+    ghost eq = { same_rules };
+
+    ghost laws = { partial_equiv_from_equiv same_rules_equivalence };
+
+    fn eq(&self, other: &Self) -> bool
+        ensures value { result ≡ same_rules self.now other.now }
+        ensures equal { IsTrue result ↔ (self.now ≡ other.now) }
+    {
+        self.as_slice() == other.as_slice()
+    }
+}
+
+impl Eq for Rules {
+    ghost laws = { same_rules_equivalence };
+}
