@@ -1,1 +1,5 @@
+pub mod CommandLines
+pub mod FileReads
+pub mod Messages
 pub mod Programs
+pub mod Technologies

@@ -1,5 +1,5 @@
 -- The types on the first planes, as bits: one plane more is one `|` more.
-use Rattle.std.proofs.Common.{◌≡◌, ℕ, zero, suc, ◌+◌, ◌*◌, ◌^◌, ◌<◌, ◌≤◌, Bool, true, false, ◌||◌, if◌then◌else◌, refl, ap, ◌∙◌, add-one, arith}
+use Rattle.std.proofs.Common.{◌≡◌, ℕ, zero, suc, ◌+◌, ◌*◌, ◌^◌, ◌<◌, ◌≤◌, Bool, true, false, ◌||◌, if◌then◌else◌, Option, Some, refl, ap, ◌∙◌, add-one, arith}
 use Rattle.std.specs.List.{list_any, range_with_len}
 use Rattle.std.specs.Int.Bits.{bit_or}
 use Rattle.std.proofs.Math.Bool.{or-false}
@@ -10,8 +10,9 @@ use Rattle.std.proofs.lemmas.List.Folds.{list_any-append}
 use Rattle.std.proofs.lemmas.List.FromFn.{map-range_with_len_more, sum_by-map-range_with_len_more}
 use Rattle.std.proofs.lemmas.Nat.{or_block}
 use Rattle.mls_geom.specs.Extents.{Extent}
-use Rattle.mls_session.specs.Own.{Config, Layout, shows_type, types_in}
+use Rattle.mls_session.specs.Own.{Config, Layout, OwnState, shows_type, types_in, what_step}
 use Rattle.mls_geom.specs.Pictures.{bits_where, kinds_in, shows}
+use Rattle.mls_session.specs.declared.reply.Reply.TheVariants.{Kinds}
 
 -- 1 where the test passes
 abbrev bit : Bool → ℕ
@@ -63,3 +64,11 @@ unfolding types_in kinds_in
 types_more config layout e n =
     ap (λ test. bits_where test 64) (fun_ext (λ kind. any_more (λ plane. shows (layout plane) e kind) n))
     ∙ bits_where-or (shows_type (record config { planes = n }) layout e) (shows (layout n) e) 64
+
+-- those on the first planes are those on all
+pub types_all : (config : Config) (layout : Layout) (e : Extent) (n : ℕ) → n ≡ config.planes → types_in (record config { planes = n }) layout e ≡ types_in config layout e
+types_all config layout e n all = ap (λ planes. types_in (record config { planes = planes }) layout e) all
+
+-- what is told of a box
+pub what_step-Kinds : (config : Config) (own : OwnState) (box : Option Extent) (e : Extent) (kinds : ℕ) → box ≡ Some e → kinds ≡ types_in config own.layout e → what_step config own box ≡ (own, Kinds kinds)
+what_step-Kinds config own box e kinds is_set are_all = rw (is_set, are_all)

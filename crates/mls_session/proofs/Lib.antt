@@ -1,2 +1,3 @@
 pub mod KindBits
 pub mod Openings
+pub mod Painting

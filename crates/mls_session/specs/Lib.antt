@@ -3,4 +3,3 @@ pub mod Planes
 pub mod Quotas
 pub mod Refusals
 pub mod Sessions
-pub mod Types

@@ -3,17 +3,15 @@ use Rattle.std.specs.Prelude.{◌≡◌, ℕ, ◌≤◌, List, length}
 use Rattle.std.specs.List.{All}
 use Rattle.mls_geom.specs.Covers.{Covering}
 use Rattle.mls_geom.specs.Pictures.{empty_picture, picture_of}
-use Rattle.mls_session.specs.Types.{plane_count}
 
 -- the cover has room for so many strips, and no more strips
 pub record HasRoom (quota : ℕ) (cover : Covering) : Type 0 where
   pub room : cover.room ≡ quota
   pub within : length cover.strips ≤ quota
 
--- one cover for each plane
-pub record ArePlanes (quota : ℕ) (planes : List Covering) : Type 0 where
-  pub count : length planes ≡ plane_count
-  pub each : All (HasRoom quota) planes
+-- each cover has room for the quota
+abbrev pub ArePlanes : ℕ → List Covering → Type 0
+ArePlanes quota planes = All (HasRoom quota) planes
 
 -- the covers show space alone
 abbrev pub AreEmpty : List Covering → Type 0

@@ -4,7 +4,7 @@ use Rattle.mls_geom.specs.Covers.{Covering}
 use Rattle.mls_geom.specs.Extents.{Extent}
 use Rattle.mls_session.specs.Own.{Config, OwnState}
 use Rattle.mls_geom.specs.Pictures.{Picture, empty_picture, picture_of}
-use Rattle.mls_session.specs.Types.{plane_count, plane_of}
+use Rattle.mls_tech.specs.Readings.{Reading, plane_of_type}
 use Rattle.mls_session.specs.declared.reply.Reply.{Reply}
 use Rattle.mls_session.specs.declared.reply.Reply.TheVariants.{Done, Kinds, Refused}
 
@@ -14,12 +14,12 @@ pub record Drawing : Type 0 where
   pub planes : List Covering
   pub quota : ℕ
 
--- what no command changes, where a plane may have so many tiles
-abbrev pub config_with : ℕ → Config
-config_with quota = record { planes = plane_count; plane_of = plane_of; quota = quota }
+-- what no command changes: the planes of the technology, and how many tiles a plane may have
+abbrev pub config_with : Reading → ℕ → Config
+config_with tech quota = record { planes = tech.plane_count; plane_of = plane_of_type tech.type_planes; quota = quota }
 
-abbrev pub config_of : Drawing → Config
-config_of drawing = config_with drawing.quota
+abbrev pub config_of : Reading → Drawing → Config
+config_of tech drawing = config_with tech drawing.quota
 
 -- what a cover shows; where there is no plane, space
 abbrev pub shown : Option Covering → Picture

@@ -6,11 +6,9 @@ mod quota;
 mod refusal;
 mod reply;
 mod session;
-mod types;
 
 pub use command::Command;
 pub use quota::Quota;
 pub use refusal::Refusal;
 pub use reply::Reply;
 pub use session::Session;
-pub use types::{PLANES, TYPES, plane_of, type_name, type_of};

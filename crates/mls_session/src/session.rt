@@ -1,12 +1,12 @@
 //! One session: a box, and a layout that commands change.
-ghost use Rattle.std.specs.Prelude.{◌≡◌, ◌<◌, IfOk};
-ghost use Rattle.mls_session.specs.Own.{Step, box_step, opening, paint_step, repaint_step, what_step};
+ghost use Rattle.std.specs.Prelude.{◌≡◌, ◌<◌, IfOk, length};
+ghost use Rattle.mls_session.specs.Own.{Config, Step, box_step, opening, paint_step, repaint_step, what_step};
 ghost use Rattle.mls_geom.specs.Pictures.{painted};
 ghost use Rattle.mls_session.specs.Planes.{AreEmpty, ArePlanes};
 
-use crate::types::{PLANES, plane_of};
 use crate::{Command, Quota, Refusal, Reply};
 use mls_geom::{Cover, Piece, Rect, RectFault, Scratch};
+use mls_tech::Tech;
 use std::alloc::{AllocError, Global};
 use std::marker::Model;
 
@@ -35,13 +35,14 @@ impl Model for Session {
 impl Session {
     ghost use Rattle.mls_session.specs.Sessions.{OnRefused, config_of, state_of};
 
-    /// A session with no box and an empty layout, and with all the room that it will ever take.
+    /// A session over the planes of a technology, with no box and an empty layout, and with all the room that it will ever take.
     #[tactic(auto, using(crate::proofs::Openings::state_of_empty))]
-    pub fn new(alloc: Global, quota: Quota) -> Result<Session, AllocError>
+    pub fn new(alloc: Global, tech: &Tech, quota: Quota) -> Result<Session, AllocError>
         ensures opening { IfOk result (λ session. state_of session ≡ opening) }
+        ensures planes { IfOk result (λ session. length session.planes ≡ tech.now.plane_count) }
         ensures quota { IfOk result (λ session. session.quota ≡ quota) }
     {
-        let planes = empty_planes(alloc, quota)?;
+        let planes = empty_planes(alloc, tech.planes(), quota)?;
         let scratch = Scratch::new(alloc, quota.tiles() + 1)?;
         Ok(Session {
             quota,
@@ -51,18 +52,20 @@ impl Session {
         })
     }
 
-    /// Does what the user asks, or refuses it and changes nothing. It takes no memory.
+    /// Does what the user asks, or refuses it and changes nothing. It takes no memory. The technology is the one that the session was made for.
     #[tactic(auto, unfolding(crate::specs::Own::own_step))]
-    pub fn command(&mut self, command: Command) -> Reply
-        ensures step { Step (config_of self.old) (state_of self.old) command result (state_of self.new) }
-        ensures config { config_of self.new ≡ config_of self.old }
+    pub fn command(&mut self, tech: &Tech, command: Command) -> Reply
+        requires made_for { length self.old.planes ≡ tech.now.plane_count }
+        ensures step { Step (config_of tech.now self.old) (state_of self.old) command result (state_of self.new) }
+        ensures config { config_of tech.now self.new ≡ config_of tech.now self.old }
+        ensures made_for { length self.new.planes ≡ length self.old.planes }
         ensures refused { OnRefused result (self.new ≡ self.old) }
     {
         match command {
             Command::Box(left, bottom, right, top) => {
                 self.set_box(Rect::new(left, bottom, right, top))
             }
-            Command::Paint(kind) => self.paint(kind),
+            Command::Paint(kind) => self.paint(tech, kind),
             Command::What => self.what(),
         }
     }
@@ -70,7 +73,8 @@ impl Session {
     /// Sets the box, where its lines made a rectangle.
     fn set_box(&mut self, made: Result<Rect, RectFault>) -> Reply
         ensures step { box_step (state_of self.old) made ≡ (state_of self.new, result) }
-        ensures config { config_of self.new ≡ config_of self.old }
+        ensures quota { self.new.quota ≡ self.old.quota }
+        ensures made_for { length self.new.planes ≡ length self.old.planes }
         ensures refused { OnRefused result (self.new ≡ self.old) }
     {
         match made {
@@ -84,9 +88,11 @@ impl Session {
     }
 
     /// Paints the box with a type, on the type's plane.
-    fn paint(&mut self, kind: Option<u8>) -> Reply
-        ensures step { paint_step (config_of self.old) (state_of self.old) self.old.box kind ≡ (state_of self.new, result) }
-        ensures config { config_of self.new ≡ config_of self.old }
+    fn paint(&mut self, tech: &Tech, kind: Option<u8>) -> Reply
+        requires { length self.old.planes ≡ tech.now.plane_count }
+        ensures step { paint_step (config_of tech.now self.old) (state_of self.old) self.old.box kind ≡ (state_of self.new, result) }
+        ensures quota { self.new.quota ≡ self.old.quota }
+        ensures made_for { length self.new.planes ≡ length self.old.planes }
         ensures refused { OnRefused result (self.new ≡ self.old) }
     {
         let Some(rect) = self.box_rect else {
@@ -95,18 +101,20 @@ impl Session {
         let Some(kind) = kind else {
             return Reply::Refused(Refusal::UnknownType);
         };
-        let Some(plane) = plane_of(kind) else {
+        let Some(plane) = tech.plane_of(kind) else {
             return Reply::Refused(Refusal::UnknownType);
         };
-        self.repaint(plane, Piece { rect, kind })
+        self.repaint(usize::from(plane), Piece { rect, kind })
     }
 
     /// Paints a piece on a plane, unless the plane would have more tiles than it may.
     fn repaint(&mut self, plane: usize, piece: Piece) -> Reply
-        requires { plane < PLANES }
-        ensures step { repaint_step (config_of self.old) (state_of self.old) plane (painted ((state_of self.old).layout plane) piece)
-            ≡ (state_of self.new, result) }
-        ensures config { config_of self.new ≡ config_of self.old }
+        requires { plane < length self.old.planes }
+        // Of what no command changes, the quota alone counts.
+        ensures step { (config : Config) → config.quota ≡ self.old.quota
+            → repaint_step config (state_of self.old) plane (painted ((state_of self.old).layout plane) piece) ≡ (state_of self.new, result) }
+        ensures quota { self.new.quota ≡ self.old.quota }
+        ensures made_for { length self.new.planes ≡ length self.old.planes }
         ensures refused { OnRefused result (self.new ≡ self.old) }
     {
         let limit = self.quota.tiles() as usize;
@@ -119,7 +127,9 @@ impl Session {
 
     /// Tells the types in the box, space among them.
     fn what(&self) -> Reply
-        ensures { what_step (config_of self.now) (state_of self.now) self.now.box ≡ (state_of self.now, result) }
+        // Of what no command changes, the number of planes alone counts.
+        ensures { (config : Config) → config.planes ≡ length self.now.planes
+            → what_step config (state_of self.now) self.now.box ≡ (state_of self.now, result) }
     {
         let Some(rect) = self.box_rect else {
             return Reply::Refused(Refusal::NoBox);
@@ -132,13 +142,14 @@ impl Session {
     }
 }
 
-/// A cover for each plane, with nothing on it.
-fn empty_planes(alloc: Global, quota: Quota) -> Result<Vec<Cover>, AllocError>
+/// So many covers, with nothing on them.
+fn empty_planes(alloc: Global, count: usize, quota: Quota) -> Result<Vec<Cover>, AllocError>
+    ensures count { IfOk result (λ planes. length planes.items ≡ count) }
     ensures planes { IfOk result (λ planes. ArePlanes quota planes.items) }
     ensures empty { IfOk result (λ planes. AreEmpty planes.items) }
 {
-    let mut planes = Vec::with_capacity(alloc, PLANES)?;
-    for _plane in 0..PLANES {
+    let mut planes = Vec::with_capacity(alloc, count)?;
+    for _plane in 0..count {
         planes.push(Cover::new(alloc, quota.tiles() as usize)?)?;
     }
     Ok(planes)

@@ -1,16 +1,17 @@
 -- What a server of one session keeps.
-use Rattle.std.specs.Prelude.{◌≡◌, ℕ, Option, Some, None, List}
-use Rattle.mls_session.specs.Own.{Config}
-use Rattle.mls_session.specs.Sessions.{Drawing, state_of, config_of, config_with}
-use Rattle.mls_wire.specs.Runs.{Seat}
+use Rattle.std.specs.Prelude.{◌≡◌, ℕ, Option, Some, None, List, length}
+use Rattle.mls_session.specs.Sessions.{Drawing, state_of}
+use Rattle.mls_tech.specs.Readings.{Reading}
+use Rattle.mls_wire.specs.Runs.{Seat, Setting}
 
--- the quota of each session, and the open session with its name
+-- the technology and the quota of each session, and the open session with its name
 pub record Desk : Type 0 where
+  pub tech : Reading
   pub quota : ℕ
   pub seat : Option (List ℕ × Drawing)
 
-abbrev pub desk_config : Desk → Config
-desk_config desk = config_with desk.quota
+abbrev pub desk_setting : Desk → Setting
+desk_setting desk = record { tech = desk.tech; quota = desk.quota }
 
 abbrev pub seat_kept : Option (List ℕ × Drawing) → Seat
 seat_kept None = None
@@ -20,7 +21,12 @@ seat_kept (Some kept) = Some (kept.0, state_of kept.1)
 abbrev pub seat_of : Desk → Seat
 seat_of desk = seat_kept desk.seat
 
--- the open session has the quota of each
-abbrev pub HasQuota : ℕ → Option (List ℕ × Drawing) → Type 0
-HasQuota quota None = Unit {0}
-HasQuota quota (Some kept) = config_of kept.1 ≡ config_with quota
+-- a session was made for the technology, with this quota
+pub record IsMadeFor (tech : Reading) (quota : ℕ) (session : Drawing) : Type 0 where
+  pub planes_match : length session.planes ≡ tech.plane_count
+  pub quota_match : session.quota ≡ quota
+
+-- so was the open session
+abbrev pub IsSeatFor : Reading → ℕ → Option (List ℕ × Drawing) → Type 0
+IsSeatFor tech quota None = Unit {0}
+IsSeatFor tech quota (Some kept) = IsMadeFor tech quota kept.1

@@ -7,7 +7,7 @@ use crate::{Line, LineFault, Name, Names};
 use mls_session::Command;
 use mls_tech::Words;
 
-/// The most bytes that a line may have.
+/// The most bytes that a line may have, without its line feed and a carriage return before that.
 pub const LINE_LIMIT: usize = 1024;
 
 /// What a line says, or its first fault.

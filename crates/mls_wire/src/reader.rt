@@ -7,12 +7,9 @@ ghost use Rattle.mls_wire.specs.Lines.{without_return};
 ghost use Rattle.mls_wire.specs.Readings.{script_ahead, lines_left};
 ghost use Rattle.mls_wire.specs.Scripts.{IsUnbroken, ReadsAs, TakesKnownLine};
 
-use crate::{ReadFault, Watched};
+use crate::{LINE_LIMIT, ReadFault, Watched};
 use std::io::Read;
 use std::marker::Model;
-
-/// The most bytes that a line may have, without its line feed and a carriage return before that.
-const LINE_LIMIT: usize = 1024;
 
 /// The most bytes that are kept of a line: they tell that it is too long, even where the last of them is a carriage return.
 const KEPT: usize = LINE_LIMIT + 2;

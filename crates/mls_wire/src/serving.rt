@@ -4,7 +4,7 @@ ghost use Rattle.std.specs.Io.KnownBytes.{Appends};
 ghost use Rattle.std.specs.Option.{option_map};
 ghost use Rattle.mls_wire.specs.Watches.{HasCause};
 ghost use Rattle.mls_wire.specs.Serving.{AppendsFront, WritesRun, WritesCutRun, WritesLine, WritesCutLine, HasReason};
-ghost use Rattle.mls_wire.specs.Seats.{seat_of, desk_config};
+ghost use Rattle.mls_wire.specs.Seats.{seat_of, desk_setting};
 
 use crate::{LineReader, ReadFault, Solo, Taken, Watched, WriteFault, reply_text};
 use std::alloc::{AllocError, Global};
@@ -62,10 +62,10 @@ pub fn serve<R: Read, W: Write>(
     requires input_sound { input.old.failed ≡ false }
     requires output_sound { output.old.failed ≡ false }
     // What is written is the reply text of the script's run.
-    ensures run { OnOk result (WritesRun (desk_config solo.old) (seat_of solo.old) (R.remaining input.old.device)
+    ensures run { OnOk result (WritesRun (desk_setting solo.old) (seat_of solo.old) (R.remaining input.old.device)
         (W.contents output.old.device) (W.contents output.new.device) (seat_of solo.new)) }
     // After a fault it is that of a run that was cut.
-    ensures cut { OnErr result (WritesCutRun (desk_config solo.old) (seat_of solo.old) (R.remaining input.old.device)
+    ensures cut { OnErr result (WritesCutRun (desk_setting solo.old) (seat_of solo.old) (R.remaining input.old.device)
         (W.contents output.old.device) (W.contents output.new.device) (seat_of solo.new)) }
     ensures cause { IfErr result (λ fault. HasReason fault input.new output.new) }
 {
@@ -93,11 +93,11 @@ fn serve_line<W: Write>(
     text: &mut Vec<u8>,
     output: &mut Watched<W>,
 ) -> Result<(), ServeFault>
-    ensures done { OnOk result (WritesLine (desk_config solo.old) (seat_of solo.old) n (option_map (λ bytes. bytes.now) line.entry)
+    ensures done { OnOk result (WritesLine (desk_setting solo.old) (seat_of solo.old) n (option_map (λ bytes. bytes.now) line.entry)
         (W.contents output.old.device) (W.contents output.new.device) (seat_of solo.new)) }
-    ensures cut { OnErr result (WritesCutLine (desk_config solo.old) (seat_of solo.old) n (option_map (λ bytes. bytes.now) line.entry)
+    ensures cut { OnErr result (WritesCutLine (desk_setting solo.old) (seat_of solo.old) n (option_map (λ bytes. bytes.now) line.entry)
         (W.contents output.old.device) (W.contents output.new.device) (seat_of solo.new)) }
-    ensures quota { solo.new.quota ≡ solo.old.quota }
+    ensures setting { desk_setting solo.new ≡ desk_setting solo.old }
     ensures cause { IfErr result (λ fault. (fault ≡ ServeFault.Write → HasCause output.new) × (fault ≢ ServeFault.Read)) }
 {
     let answer = solo.answer(alloc, line);

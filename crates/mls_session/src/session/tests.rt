@@ -1,5 +1,7 @@
 //! Rows of commands and their replies, worked out by hand.
-use crate::{Command, Quota, Refusal, Reply, Session, type_name, type_of};
+use crate::{Command, Quota, Refusal, Reply, Session};
+use mls_tech::{TECHNOLOGY_M, Tech};
+use std::alloc::Global;
 use std::process::Abort;
 use std::test::Fail;
 
@@ -11,17 +13,25 @@ const NO_BOX: Reply = Reply::Refused(Refusal::NoBox);
 
 const UNKNOWN: Reply = Reply::Refused(Refusal::UnknownType);
 
-/// Gives a session the commands in turn, and looks at each reply.
-fn replay(rt: &impl Abort, session: &mut Session, row: &[(Command, Reply)]) {
+/// Gives a new session over a technology file the commands in turn, and looks at each reply.
+fn replay(
+    rt: &impl Abort,
+    alloc: Global,
+    file: &[u8],
+    quota: Quota,
+    row: &[(Command, Reply)],
+) -> Result<(), Fail> {
+    let tech = Tech::read(alloc, file)?;
+    let mut session = Session::new(alloc, &tech, quota)?;
     for (command, reply) in row {
-        assert_eq!(rt; session.command(*command), *reply, "at {command:?}");
+        assert_eq!(rt; session.command(&tech, *command), *reply, "at {command:?}");
     }
+    Ok(())
 }
 
 #[test]
 fn smallest_quota(rt: HostRuntime) -> Result<(), Fail> {
     let quota = Quota::new(5).ok_or("a plane may have five tiles")?;
-    let mut session = Session::new(rt.alloc(), quota)?;
     let row = [
         (Command::Box(0, 0, 10, 10), Reply::Done),
         (POLY, Reply::Done),
@@ -35,15 +45,13 @@ fn smallest_quota(rt: HostRuntime) -> Result<(), Fail> {
         (Command::Box(0, 0, 1, 21), Reply::Done),
         (Command::What, Reply::Kinds(0b1011)),
     ];
-    replay(&rt, &mut session, &row);
-    Ok(())
+    replay(&rt, rt.alloc(), TECHNOLOGY_M, quota, &row)
 }
 
 #[test]
 fn faults_in_order(rt: HostRuntime) -> Result<(), Fail> {
     let empty = Reply::Refused(Refusal::EmptyBox);
     let outside = Reply::Refused(Refusal::OutsideWorld);
-    let mut session = Session::new(rt.alloc(), Quota::default())?;
     let row = [
         (POLY, NO_BOX),
         (Command::Paint(None), NO_BOX),
@@ -59,8 +67,17 @@ fn faults_in_order(rt: HostRuntime) -> Result<(), Fail> {
         (Command::Box(0, 0, 40_000, 2), outside),
         (Command::What, Reply::Kinds(1)),
     ];
-    replay(&rt, &mut session, &row);
-    Ok(())
+    replay(&rt, rt.alloc(), TECHNOLOGY_M, Quota::default(), &row)
+}
+
+#[test]
+fn no_planes(rt: HostRuntime) -> Result<(), Fail> {
+    let row = [
+        (Command::Box(0, 0, 1, 1), Reply::Done),
+        (POLY, UNKNOWN),
+        (Command::What, Reply::Kinds(0)),
+    ];
+    replay(&rt, rt.alloc(), b"", Quota::default(), &row)
 }
 
 #[test]
@@ -77,14 +94,4 @@ fn refusals_in_words(rt: HostRuntime) -> Result<(), Fail> {
         assert_eq!(rt; format!(in rt.alloc(); "{refusal}")?.as_str(), text);
     }
     Ok(())
-}
-
-#[test]
-fn names_of_types(rt: HostRuntime) {
-    assert_eq!(rt; type_of(b"space"), Some(0));
-    assert_eq!(rt; type_of(b"p"), Some(1));
-    assert_eq!(rt; type_of(b"nd"), Some(2));
-    assert_eq!(rt; type_of(b"gold"), None);
-    assert!(rt; type_name(3) == Some(b"m1".as_slice()));
-    assert!(rt; type_name(4).is_none());
 }

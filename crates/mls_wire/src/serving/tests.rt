@@ -1,16 +1,29 @@
 use super::*;
 use crate::devices::{Drip, Screen};
 use mls_session::Quota;
+use mls_tech::{TECHNOLOGY_M, Tech};
 use std::test::Fail;
 
-/// Serves a script over sessions of this quota, and answers what came of it and what was written.
+/// Serves a script over sessions of technology M and this quota, and answers what came of it and what was written.
 fn served<R: Read + Drop, W: Write + Drop>(
     rt: &HostRuntime,
     quota: u32,
     input: R,
     output: W,
 ) -> Result<(Result<(), ServeFault>, W), Fail> {
-    let mut solo = Solo::new(Quota::new(quota).ok_or("no quota")?);
+    let quota = Quota::new(quota).ok_or("no quota")?;
+    served_over(rt, TECHNOLOGY_M, quota, input, output)
+}
+
+/// The same over sessions of the technology of a file.
+fn served_over<R: Read + Drop, W: Write + Drop>(
+    rt: &HostRuntime,
+    file: &[u8],
+    quota: Quota,
+    input: R,
+    output: W,
+) -> Result<(Result<(), ServeFault>, W), Fail> {
+    let mut solo = Solo::new(Tech::read(rt.alloc(), file)?, quota);
     let mut input = Watched::new(input);
     let mut output = Watched::new(output);
     let outcome = serve(rt.alloc(), &mut solo, &mut input, &mut output);
@@ -97,5 +110,25 @@ fn a_broken_output_ends_the_script(rt: HostRuntime) -> Result<(), Fail> {
         screen.shown.as_slice(),
         b"a opened\na refused 3 no box\n".as_slice()
     );
+    Ok(())
+}
+
+/// A technology of one plane, and one type on it.
+const TECHNOLOGY_Q: &[u8] = b"planes
+  p
+end
+types
+  p q
+end
+";
+
+#[test]
+fn types_are_those_of_the_technology(rt: HostRuntime) -> Result<(), Fail> {
+    let script = b"%open a\na box 0 0 4 4\na paint q\na what\na paint poly\n".as_slice();
+    let replies = b"a opened\na ok\na ok\na what 1 q\na refused 4 unknown type\n".as_slice();
+    let out = Vec::new(rt.alloc());
+    let (outcome, out) = served_over(&rt, TECHNOLOGY_Q, Quota::default(), script, out)?;
+    assert_eq!(rt; outcome, Ok(()));
+    assert_eq!(rt; out.as_slice(), replies);
     Ok(())
 }

@@ -1,6 +1,6 @@
 use Rattle.std.proofs.Common.{arith, ◌∙◌}
 use Rattle.std.specs.Option.{option_map}
-use Rattle.mls_wire.proofs.ServingLemmas.{on_err, TakesAs, served_more, served_all, served_before, served_within, takes_line, takes_too_long, line_configured, cut_configured}
+use Rattle.mls_wire.proofs.ServingLemmas.{on_err, TakesAs, served_more, served_all, served_before, served_within, takes_line, takes_too_long, line_in_setting, cut_in_setting}
 use Rattle.mls_wire.specs.Readings.{script_ahead}
 use Rattle.mls_wire.specs.Seats.{seat_of}
 use Rattle.mls_wire.proofs.serving.serve.Goals as goal
@@ -23,8 +23,8 @@ lines-preserved g c =
     ] in
     record {
       served = served_more _ _ (seat_of c.lines.solo) (seat_of c.serve_line.new.solo) c.lines.n _ _ _ _ _ _ _ c.lines.invariant.served taken
-          (line_configured _ _ c.lines.invariant.quota (seat_of c.lines.solo) (seat_of c.serve_line.new.solo) _ _ _ _ c.in_ok-serve_line.ensures.done);
-      quota = c.serve_line.ensures.quota ∙ c.lines.invariant.quota;
+          (line_in_setting _ _ c.lines.invariant.setting (seat_of c.lines.solo) (seat_of c.serve_line.new.solo) _ _ _ _ c.in_ok-serve_line.ensures.done);
+      setting = c.serve_line.ensures.setting ∙ c.lines.invariant.setting;
       numbered = omega (arith, c.in_ok-next_line.ensures.fewer);
     }
 
@@ -37,4 +37,4 @@ returns-in_err-serve_line-clause-cut g c =
     ] in
     on_err _ _
     (served_within _ _ (seat_of c.lines.solo) (seat_of c.serve_line.new.solo) c.lines.n _ _ _ _ _ _ _ c.lines.invariant.served taken
-    (cut_configured _ _ c.lines.invariant.quota (seat_of c.lines.solo) (seat_of c.serve_line.new.solo) _ _ _ _ c.in_err-serve_line.ensures.cut))
+    (cut_in_setting _ _ c.lines.invariant.setting (seat_of c.lines.solo) (seat_of c.serve_line.new.solo) _ _ _ _ c.in_err-serve_line.ensures.cut))

@@ -1,0 +1,5 @@
+mod MessageLemmas
+mod OptionLemmas
+mod ProgramLemmas
+mod QuotaLemmas
+mod QuotaTexts
