@@ -104,7 +104,7 @@ fn technology_m(rt: HostRuntime) -> Result<(), Fail> {
 
 #[test]
 fn faults_of_a_line(rt: HostRuntime) -> Result<(), Fail> {
-    let rows: [(usize, &[u8], u8); 15] = [
+    let rows: [(usize, &[u8], u8); 16] = [
         (5, b"  active\xff", 1),
         (5, b"  active,0", 8),
         (6, b"  metal1 m", 8),
@@ -116,6 +116,11 @@ fn faults_of_a_line(rt: HostRuntime) -> Result<(), Fail> {
         (9, b"  active poly,poly,(", 5),
         (14, b"  width poly +2 \"w\"", 6),
         (14, b"  width poly 0 \"w\"", 9),
+        (
+            14,
+            b"  width poly 1234567890123456789012345678901234567890 \"w\"",
+            9,
+        ),
         (14, b"  width poly,~ 2 \"w\"", 7),
         (14, b"  width gold/nowhere 2 \"w\"", 4),
         (14, b"  width poly/nowhere 2 \"w\"", 3),
@@ -172,8 +177,13 @@ fn skipped_lines(rt: HostRuntime) -> Result<(), Fail> {
 
 #[test]
 fn same_as_m(rt: HostRuntime) -> Result<(), Fail> {
-    let rows: [(usize, &[u8]); 8] = [
+    let rows: [(usize, &[u8]); 10] = [
         (14, b"  width poly \\\n  2 \"poly width\""),
+        (
+            14,
+            b"  width poly 0000000000000000000000000000000000000002 \"poly width\"",
+        ),
+        (11, b"  metal1 m1,a"),
         (2, b"  format 27\n  M and more\n  N"),
         (1, b"# \\\nignored\ntech whatever"),
         (9, b"  -active poly,p"),
