@@ -6,7 +6,7 @@ use Rattle.std.proofs.lemmas.Bool.{and_from, and_parts, or_left, or_right, or_ca
 use Rattle.mls_edgerule.specs.RuleLists.{across}
 use Rattle.mls_edgerule.specs.declared.direction.Direction.{Direction}
 use Rattle.mls_edgerule.specs.declared.edge_rule.EdgeRule.{EdgeRule}
-use Rattle.mls_geom.specs.Extents.{Extent, Square, grown, holds}
+use Rattle.mls_geom.specs.Rects.{Rect, Point, grown, holds}
 use Rattle.mls_geom.proofs.Holds.{holds_between}
 use Rattle.mls_checker.specs.Forbids.{back, in_block, in_row, is_corner, is_cornered, is_edge, moved}
 use Rattle.mls_checker.specs.Layouts.{Layout}
@@ -49,7 +49,7 @@ edge_told rule layout e a b x y reaching =
     ]
 
 area_told :
-    (rule : EdgeRule) (layout : Layout) (area : Extent) (e : Direction) (x y : ℕ) → direction_reaches rule layout area x y e ≡ true
+    (rule : EdgeRule) (layout : Layout) (area : Rect) (e : Direction) (x y : ℕ) → direction_reaches rule layout area x y e ≡ true
     → (in_row rule layout e (at x y) || list_any (in_block rule layout e (at x y)) (across e)) ≡ true
 area_told rule layout area e x y some =
     let row = found_in_range (row_reaches rule layout area e x y) area.bottom (area.top - area.bottom) some in
@@ -58,7 +58,7 @@ area_told rule layout area e x y some =
 
 -- ---- from the square back to the edges that reach it
 edge_found :
-    (rule : EdgeRule) (layout : Layout) (area : Extent) (e : Direction) (p : Square) (x y : ℕ) → holds area p.x p.y ≡ true
+    (rule : EdgeRule) (layout : Layout) (area : Rect) (e : Direction) (p : Point) (x y : ℕ) → holds area p.x p.y ≡ true
     → edge_reaches rule layout e p x y ≡ true → direction_reaches rule layout area x y e ≡ true
 edge_found rule layout area e p x y there reaching =
     let lines = holds_between area p.x p.y there in
@@ -67,7 +67,7 @@ edge_found rule layout area e p x y there reaching =
     (omega (arith, lines.1)) reaching)
 
 row_found :
-    (rule : EdgeRule) (layout : Layout) (piece : Extent) (h : ℕ) (e : Direction) (x y : ℕ) → rule.distance ≤ h → holds piece x y ≡ true
+    (rule : EdgeRule) (layout : Layout) (piece : Rect) (h : ℕ) (e : Direction) (x y : ℕ) → rule.distance ≤ h → holds piece x y ≡ true
     → in_row rule layout e (at x y) ≡ true → direction_reaches rule layout (grown h piece) x y e ≡ true
 row_found rule layout piece h e x y far here some =
     let i = found_below (λ i. is_edge rule layout e (moved (back e) i (at x y))) rule.distance some in
@@ -77,7 +77,7 @@ row_found rule layout piece h e x y far here some =
     (and_from (is_edge rule layout e p) _ i.2 (or_left (holds (row_from e rule.distance p) x y) _ (steps_row e rule.distance i.0 x y i.1)))
 
 block_found :
-    (rule : EdgeRule) (layout : Layout) (piece : Extent) (h : ℕ) (e f : Direction) (x y : ℕ) → rule.corner_distance ≤ h → crosses e f ≡ true
+    (rule : EdgeRule) (layout : Layout) (piece : Rect) (h : ℕ) (e f : Direction) (x y : ℕ) → rule.corner_distance ≤ h → crosses e f ≡ true
     → 1 ≤ x → 1 ≤ y → holds piece x y ≡ true → in_block rule layout e (at x y) f ≡ true → direction_reaches rule layout (grown h piece) x y e ≡ true
 block_found rule layout piece h e f x y far cross left below here some =
     let c = rule.corner_distance in
@@ -92,7 +92,7 @@ block_found rule layout piece h e f x y far cross left below here some =
 
 -- in one direction both say the same
 pub direction-reaches :
-    (rule : EdgeRule) (layout : Layout) (piece : Extent) (h : ℕ) (x y : ℕ) (e : Direction) → rule.distance ≤ h → rule.corner_distance ≤ h
+    (rule : EdgeRule) (layout : Layout) (piece : Rect) (h : ℕ) (x y : ℕ) (e : Direction) → rule.distance ≤ h → rule.corner_distance ≤ h
     → 1 ≤ x → 1 ≤ y → holds piece x y ≡ true
     → direction_reaches rule layout (grown h piece) x y e ≡ (in_row rule layout e (at x y) || list_any (in_block rule layout e (at x y)) (across e))
 direction-reaches rule layout piece h x y e far far' left below here =

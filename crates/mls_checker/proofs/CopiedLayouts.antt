@@ -1,21 +1,21 @@
--- Copied layouts, plane by plane.
+-- Snapshot layouts, plane by plane.
 use Rattle.std.proofs.Common.{◌≡◌, ◌↔◌, ◌⊎◌, inl, inr, ℕ, zero, suc, Bool, true, false, cond, if◌then◌else◌, List, [], ◌∷◌, length, refl, sym, ap, ◌∙◌, arith}
 use Rattle.std.proofs.Math.Path.{fun_ext}
 use Rattle.std.specs.List.{AllZip, slice_get}
 use Rattle.std.proofs.lemmas.List.Elements.{All-head, All-tail}
-use Rattle.mls_geom.specs.Covers.{Covering}
-use Rattle.mls_geom.specs.Extents.{Extent, holds}
+use Rattle.mls_geom.specs.Covers.{Cover}
+use Rattle.mls_geom.specs.Rects.{Rect, holds}
 use Rattle.mls_geom.specs.Pictures.{Picture, picture_of}
-use Rattle.mls_checker.specs.Copies.{AreOfZone, Grid, grid_picture, grid_shown}
+use Rattle.mls_checker.specs.Copies.{AreOfZone, Squares, grid_picture, grid_shown}
 use Rattle.mls_checker.specs.Layouts.{Layout, layout_of, within}
 use Rattle.mls_checker.proofs.Copying.{IsCopy}
 
 -- the grid has what the cover shows in its rectangle
-abbrev pub IsCopyOf : Grid → Covering → Type 0
+abbrev pub IsCopyOf : Squares → Cover → Type 0
 IsCopyOf grid cover = IsCopy grid cover.strips
 
 -- the layout that grids show
-abbrev pub grids_layout : List Grid → Layout
+abbrev pub grids_layout : List Squares → Layout
 grids_layout grids plane = grid_shown (slice_get grids plane)
 
 -- there is space outside the zone, and where there is no plane
@@ -24,18 +24,18 @@ space_alike true = refl
 space_alike false = refl
 
 -- a picture in a rectangle alone
-abbrev cut : Picture → Extent → Picture
+abbrev cut : Picture → Rect → Picture
 cut picture e x y = if holds e x y then picture x y else 0
 
 -- a grid of the zone that has what the cover shows in the zone is a copy
 pub IsCopyOf-zone :
-    (zone : Extent) (grid : Grid) (cover : Covering) → grid.rect ≡ zone
+    (zone : Rect) (grid : Squares) (cover : Cover) → grid.rect ≡ zone
     → grid_picture grid ≡ (λ x y. if holds zone x y then picture_of cover.strips x y else 0) → IsCopyOf grid cover
 IsCopyOf-zone zone grid cover of_zone same = same ∙ ap (cut (picture_of cover.strips)) (sym of_zone)
 
 -- copies of the zone show the layout in it
 copied_at :
-    (zone : Extent) (grids : List Grid) (covers : List Covering) (plane : ℕ) → AreOfZone zone grids → AllZip IsCopyOf grids covers
+    (zone : Rect) (grids : List Squares) (covers : List Cover) (plane : ℕ) → AreOfZone zone grids → AllZip IsCopyOf grids covers
     → grids_layout grids plane ≡ within zone (layout_of covers) plane
 copied_at zone [] [] plane of_zone copies = fun_ext (λ x. fun_ext (λ y. space_alike (holds zone x y)))
 copied_at zone [] (cover ∷ covers) plane of_zone copies = absurd copies
@@ -46,12 +46,12 @@ copied_at zone (grid ∷ grids) (cover ∷ covers) (suc plane) of_zone copies =
     copied_at zone grids covers plane (All-tail (λ grid. grid.rect ≡ zone) grid grids of_zone) copies.1
 
 pub copied_by_copies :
-    (zone : Extent) (grids : List Grid) (covers : List Covering) → AreOfZone zone grids → AllZip IsCopyOf grids covers → grids_layout grids ≡ within zone (layout_of covers)
+    (zone : Rect) (grids : List Squares) (covers : List Cover) → AreOfZone zone grids → AllZip IsCopyOf grids covers → grids_layout grids ≡ within zone (layout_of covers)
 copied_by_copies zone grids covers of_zone copies = fun_ext (λ plane. copied_at zone grids covers plane of_zone copies)
 
 -- and only copies do
 pub copies_by_copied :
-    (zone : Extent) (grids : List Grid) (covers : List Covering) → AreOfZone zone grids → length grids ≡ length covers
+    (zone : Rect) (grids : List Squares) (covers : List Cover) → AreOfZone zone grids → length grids ≡ length covers
     → ((plane : ℕ) → grids_layout grids plane ≡ within zone (layout_of covers) plane) → AllZip IsCopyOf grids covers
 copies_by_copied zone [] [] of_zone count same = tt
 copies_by_copied zone [] (cover ∷ covers) of_zone count same = omega arith
@@ -63,14 +63,14 @@ copies_by_copied zone (grid ∷ grids) (cover ∷ covers) of_zone count same = (
 
 -- one plane more is left behind
 pub AllZip-next :
-    (grid : Grid) (grids grids_left : List Grid) (cover : Covering) (covers covers_left : List Covering) (P : Type 0)
+    (grid : Squares) (grids grids_left : List Squares) (cover : Cover) (covers covers_left : List Cover) (P : Type 0)
     → grids_left ≡ grid ∷ grids → covers_left ≡ cover ∷ covers → IsCopyOf grid cover → AllZip IsCopyOf grids_left covers_left ↔ P → AllZip IsCopyOf grids covers ↔ P
 AllZip-next grid grids grids_left cover covers covers_left P first second here so_far =
     (λ copies. so_far.0 (rw (first, second) (here, copies)), λ whole. (rw (first, second) at (so_far.1 whole)).1)
 
 -- no plane is left
 pub AllZip-none :
-    (grids : List Grid) (covers : List Covering) → length grids ≡ length covers → (grids ≡ []) ⊎ (covers ≡ []) → AllZip IsCopyOf grids covers
+    (grids : List Squares) (covers : List Cover) → length grids ≡ length covers → (grids ≡ []) ⊎ (covers ≡ []) → AllZip IsCopyOf grids covers
 AllZip-none [] [] count none = tt
 AllZip-none [] (cover ∷ covers) count none = omega arith
 AllZip-none (grid ∷ grids) [] count none = omega arith

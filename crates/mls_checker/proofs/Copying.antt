@@ -6,7 +6,7 @@ use Rattle.std.proofs.lemmas.List.Elements.{All-cons, All-contains, All-filter, 
 use Rattle.mls_geom.proofs.KindsShown.{meets_by_square}
 use Rattle.mls_geom.proofs.PiecePictures.{holds_outer}
 use Rattle.mls_geom.specs.Covers.{meeting}
-use Rattle.mls_geom.specs.Extents.{Extent, IsRectangleIn, holds, meets}
+use Rattle.mls_geom.specs.Rects.{Rect, IsRectangleIn, holds, meets}
 use Rattle.mls_geom.specs.Strips.{AreStrips, IsStrip}
 use Rattle.mls_geom.specs.Pictures.{Picture, overlaid, painted, picture_of}
 use Rattle.mls_geom.specs.declared.piece.Piece.{Piece}
@@ -14,7 +14,7 @@ use Rattle.mls_geom.proofs.Ascending.{Contains-filter}
 use Rattle.mls_geom.proofs.Overlays.{painted_outside}
 use Rattle.mls_geom.proofs.StripCovers.{kind-AreStrips}
 use Rattle.mls_geom.proofs.StripPictures.{kind-IsStrip}
-use Rattle.mls_checker.specs.Copies.{Grid, IsShownBy, grid_picture}
+use Rattle.mls_checker.specs.Copies.{Squares, IsShownBy, grid_picture}
 use Rattle.mls_checker.proofs.Places.{grid_picture-outside}
 
 -- what shows at a square after painting depends on what shows there below alone
@@ -26,13 +26,13 @@ overlaid-at below other [] x y same = same
 overlaid-at below other (piece ∷ pieces) x y same = overlaid-at (painted below piece) (painted other piece) pieces x y (painted-at below other piece x y same)
 
 -- a piece that doesn't meet the zone has none of its squares
-apart : (piece zone : Extent) (x y : ℕ) → holds zone x y ≡ true → meets piece zone ≡ false → holds piece x y ≡ false
+apart : (piece zone : Rect) (x y : ℕ) → holds zone x y ≡ true → meets piece zone ≡ false → holds piece x y ≡ false
 apart piece zone x y inside never =
     false_from_ne_true (holds piece x y) (λ there. both_ways (meets piece zone) never (meets_by_square piece zone x y there inside))
 
 -- in a zone the pieces that meet it show what all show
 pub overlaid-meeting :
-    (below : Picture) (pieces : List Piece) (zone : Extent) (x y : ℕ) → holds zone x y ≡ true → overlaid below (meeting pieces zone) x y ≡ overlaid below pieces x y
+    (below : Picture) (pieces : List Piece) (zone : Rect) (x y : ℕ) → holds zone x y ≡ true → overlaid below (meeting pieces zone) x y ≡ overlaid below pieces x y
 overlaid-meeting below [] zone x y inside = refl
 overlaid-meeting below (piece ∷ pieces) zone x y inside =
     cond_both (meets piece.rect zone) (piece ∷ meeting pieces zone) (meeting pieces zone) (λ list. overlaid below list x y ≡ overlaid (painted below piece) pieces x y)
@@ -43,17 +43,17 @@ overlaid-meeting below (piece ∷ pieces) zone x y inside =
 
 -- a piece painted as far as it lies in the zone is painted in the zone
 pub filled-inside :
-    (zone : Extent) (below : Picture) (piece : Piece) (x y : ℕ) → holds zone x y ≡ true
+    (zone : Rect) (below : Picture) (piece : Piece) (x y : ℕ) → holds zone x y ≡ true
     → (if (holds zone x y && holds piece.rect x y) then piece.kind else below x y) ≡ painted below piece x y
 filled-inside zone below piece x y inside = rw inside refl
 
 -- the grid has what the pieces show in its rectangle
-abbrev pub IsCopy : Grid → List Piece → Type 0
+abbrev pub IsCopy : Squares → List Piece → Type 0
 IsCopy grid pieces = grid_picture grid ≡ (λ x y. if holds grid.rect x y then picture_of pieces x y else 0)
 
 -- where the strips that meet the rectangle show what the grid has, it has what all show
 shown_here :
-    (extent : Extent) (grid : Grid) (strips : List Piece) (x y : ℕ) → AreStrips extent (picture_of strips) strips → IsRectangleIn extent grid.rect
+    (extent : Rect) (grid : Squares) (strips : List Piece) (x y : ℕ) → AreStrips extent (picture_of strips) strips → IsRectangleIn extent grid.rect
     → All (IsShownBy grid) (meeting strips grid.rect) → holds grid.rect x y ≡ true → grid_picture grid x y ≡ picture_of strips x y
 shown_here extent grid strips x y are legal each inside =
     let (k, strip, within, is, in_strip) = are.whole x y (holds_outer extent grid.rect x y legal inside) in
@@ -62,7 +62,7 @@ shown_here extent grid strips x y are legal each inside =
     ∙ kind-AreStrips extent (picture_of strips) strips strip x y are (k, within, is) in_strip
 
 pub copy_by_strips :
-    (extent : Extent) (grid : Grid) (strips : List Piece) → AreStrips extent (picture_of strips) strips → IsRectangleIn extent grid.rect
+    (extent : Rect) (grid : Squares) (strips : List Piece) → AreStrips extent (picture_of strips) strips → IsRectangleIn extent grid.rect
     → All (IsShownBy grid) (meeting strips grid.rect) → IsCopy grid strips
 copy_by_strips extent grid strips are legal each = fun_ext (λ x. fun_ext (λ y. ⊎_elim
     (λ inside. shown_here extent grid strips x y are legal each inside ∙ sym (cond-true (holds grid.rect x y) (picture_of strips x y) 0 inside))
@@ -71,7 +71,7 @@ copy_by_strips extent grid strips are legal each = fun_ext (λ x. fun_ext (λ y.
 
 -- and the other way round
 pub strips_by_copy :
-    (extent : Extent) (grid : Grid) (strips : List Piece) → AreStrips extent (picture_of strips) strips → IsCopy grid strips → All (IsShownBy grid) (meeting strips grid.rect)
+    (extent : Rect) (grid : Squares) (strips : List Piece) → AreStrips extent (picture_of strips) strips → IsCopy grid strips → All (IsShownBy grid) (meeting strips grid.rect)
 strips_by_copy extent grid strips are copy k d within x y inside in_strip =
     let strip = All-filter (λ piece. meets piece.rect grid.rect) (IsStrip extent (picture_of strips)) strips are.each k d within in
     ap (λ picture. picture x y) copy ∙ cond-true (holds grid.rect x y) (picture_of strips x y) 0 inside
@@ -79,6 +79,6 @@ strips_by_copy extent grid strips are copy k d within x y inside in_strip =
 
 -- one strip more
 pub shown-next :
-    (grid : Grid) (piece : Piece) (left more : List Piece) (P : Type 0) → left ≡ piece ∷ more → IsShownBy grid piece → All (IsShownBy grid) left ↔ P → All (IsShownBy grid) more ↔ P
+    (grid : Squares) (piece : Piece) (left more : List Piece) (P : Type 0) → left ≡ piece ∷ more → IsShownBy grid piece → All (IsShownBy grid) left ↔ P → All (IsShownBy grid) more ↔ P
 shown-next grid piece left more P is here so_far =
     (λ each. so_far.0 (rw is (All-cons (IsShownBy grid) piece more here each)), λ whole. All-tail (IsShownBy grid) piece more (rw is at (so_far.1 whole)))

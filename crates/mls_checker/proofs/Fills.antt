@@ -1,7 +1,7 @@
 -- Filling a rectangle row by row.
 use Rattle.std.proofs.Common.{◌≡◌, ℕ, ◌+◌, ◌≤◌, ◌==◌, ◌&&◌, nat_lt, nat_le, if◌then◌else◌, ap, arith}
 use Rattle.std.proofs.lemmas.Bool.Decides.{nat_tests}
-use Rattle.mls_geom.specs.Extents.{Extent, holds}
+use Rattle.mls_geom.specs.Rects.{Rect, holds}
 
 -- one square more of a row
 pub row_more :
@@ -18,7 +18,7 @@ rows_more left right bottom y kind u v shown below at_bottom so_far = grind (ari
 
 -- all its rows
 pub fully :
-    (zone piece part : Extent) (kind u v below : ℕ) → holds part u v ≡ (holds zone u v && holds piece u v)
+    (zone piece part : Rect) (kind u v below : ℕ) → holds part u v ≡ (holds zone u v && holds piece u v)
     → (if (nat_le part.left u && nat_lt u part.right && nat_le part.bottom v && nat_lt v part.top) then kind else below)
     ≡ (if (holds zone u v && holds piece u v) then kind else below)
 fully zone piece part kind u v below both = ap (λ inside. if inside then kind else below) both

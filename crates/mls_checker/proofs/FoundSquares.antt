@@ -7,10 +7,10 @@ use Rattle.std.proofs.lemmas.List.{take_all}
 use Rattle.std.proofs.lemmas.List.Folds.{list_any_more}
 use Rattle.mls_edgerule.specs.Halos.{halo_of}
 use Rattle.mls_edgerule.specs.declared.edge_rule.EdgeRule.{EdgeRule}
-use Rattle.mls_geom.specs.Extents.{Extent, IsRectangleIn, grown, holds}
+use Rattle.mls_geom.specs.Rects.{Rect, IsRectangleIn, grown, holds}
 use Rattle.mls_geom.specs.World.{world}
 use Rattle.mls_geom.proofs.Holds.{holds_between, between_holds}
-use Rattle.mls_checker.specs.Copies.{Copied, Grid, copied_layout}
+use Rattle.mls_checker.specs.Copies.{Snapshot, Squares, copied_layout}
 use Rattle.mls_checker.specs.Findings.{IsExact, forbids_in}
 use Rattle.mls_checker.specs.Forbids.{forbidden, forbids, is_wrong, reaches}
 use Rattle.mls_checker.specs.Halos.{zone_of}
@@ -22,11 +22,11 @@ use Rattle.mls_checker.proofs.ReachLemmas.{area-reaches}
 
 -- ---- one rule
 -- the squares that the rule forbids by its edges in the area
-abbrev pub wrong_by : Layout → Extent → ℕ → ℕ → EdgeRule → Bool
+abbrev pub wrong_by : Layout → Rect → ℕ → ℕ → EdgeRule → Bool
 wrong_by layout area x y rule = area_reaches rule layout area x y && is_wrong rule layout (record { x = x; y = y })
 
 -- in a piece, the edges round it forbid what the rule forbids at all
-wrong_by-forbids : (rule : EdgeRule) (layout : Layout) (piece : Extent) (h x y : ℕ)
+wrong_by-forbids : (rule : EdgeRule) (layout : Layout) (piece : Rect) (h x y : ℕ)
     → 1 + max rule.distance rule.corner_distance ≤ h → h ≤ 256 → IsRectangleIn world piece → holds piece x y ≡ true
     → wrong_by layout (grown h piece) x y rule ≡ forbids rule layout (record { x = x; y = y })
 wrong_by-forbids rule layout piece h x y far near inside here =
@@ -37,10 +37,10 @@ none_in : (xs : List ℕ) → list_any (λ x. false) xs ≡ false
 none_in [] = refl
 none_in (x ∷ xs) = none_in xs
 
-pub has_some-no_squares : (rect : Extent) → has_some rect no_squares ≡ false
+pub has_some-no_squares : (rect : Rect) → has_some rect no_squares ≡ false
 has_some-no_squares rect = simp none_in
 
-pub has_some-forbids_in : (rule : EdgeRule) (layout : Layout) (rect : Extent) (h : ℕ)
+pub has_some-forbids_in : (rule : EdgeRule) (layout : Layout) (rect : Rect) (h : ℕ)
     → 1 + max rule.distance rule.corner_distance ≤ h → h ≤ 256 → IsRectangleIn world rect
     → has_some rect (with_wrong rule layout (area_reaches rule layout (grown h rect)) no_squares) ≡ forbids_in rect layout rule
 has_some-forbids_in rule layout rect h far near inside =
@@ -50,25 +50,25 @@ has_some-forbids_in rule layout rect h far near inside =
 
 -- ---- rules in turn
 -- the squares that some of the rules forbid by its edges in the area
-abbrev pub wrong_by_some : List EdgeRule → Layout → Extent → SquareSet
+abbrev pub wrong_by_some : List EdgeRule → Layout → Rect → SquareSet
 wrong_by_some rules layout area x y = list_any (wrong_by layout area x y) rules
 
 -- one rule more
-pub wrong_by_some-more : (rules : List EdgeRule) (layout : Layout) (area : Extent) (i : ℕ) (rule : EdgeRule) → i < length rules → get_or rules i rule ≡ rule
+pub wrong_by_some-more : (rules : List EdgeRule) (layout : Layout) (area : Rect) (i : ℕ) (rule : EdgeRule) → i < length rules → get_or rules i rule ≡ rule
     → with_wrong rule layout (area_reaches rule layout area) (wrong_by_some (take i rules) layout area) ≡ wrong_by_some (take (i + 1) rules) layout area
 wrong_by_some-more rules layout area i rule below there =
     fun_ext (λ x. fun_ext (λ y.
     sym (list_any_more (wrong_by layout area x y) rules i rule below ∙ ap (λ r. list_any (wrong_by layout area x y) (take i rules) || wrong_by layout area x y r) there)))
 
 -- in a piece, the edges round it forbid what the rules forbid
-any_wrong-forbids : (rules : List EdgeRule) (layout : Layout) (piece : Extent) (h x y : ℕ)
+any_wrong-forbids : (rules : List EdgeRule) (layout : Layout) (piece : Rect) (h x y : ℕ)
     → halo_of rules ≤ h → h ≤ 256 → IsRectangleIn world piece → holds piece x y ≡ true
     → wrong_by_some rules layout (grown h piece) x y ≡ list_any (λ rule. forbids rule layout (record { x = x; y = y })) rules
 any_wrong-forbids [] layout piece h x y far near inside here = refl
 any_wrong-forbids (rule ∷ rules) layout piece h x y far near inside here =
     rw (wrong_by-forbids rule layout piece h x y (omega arith) near inside here, any_wrong-forbids rules layout piece h x y (omega arith) near inside here) refl
 
-in_world : (piece : Extent) (x y : ℕ) → IsRectangleIn world piece → holds piece x y ≡ true → holds world x y ≡ true
+in_world : (piece : Rect) (x y : ℕ) → IsRectangleIn world piece → holds piece x y ≡ true → holds world x y ≡ true
 in_world piece x y inside here =
     let lines = holds_between piece x y here in
     between_holds world x y (omega (arith, inside.left_in)) (omega (arith, inside.right_in)) (omega (arith, inside.bottom_in)) (omega (arith, inside.top_in))
@@ -77,7 +77,7 @@ and_in : (a b c : Bool) → (a ≡ true → b ≡ c) → (a && b) ≡ (a && c)
 and_in true b c same = same refl
 and_in false b c same = refl
 
-pub forbidden_in_piece : (rules : List EdgeRule) (layout : Layout) (piece : Extent) (h x y : ℕ)
+pub forbidden_in_piece : (rules : List EdgeRule) (layout : Layout) (piece : Rect) (h x y : ℕ)
     → halo_of rules ≤ h → h ≤ 256 → IsRectangleIn world piece
     → (holds piece x y && wrong_by_some rules layout (grown h piece) x y) ≡ (holds piece x y && forbidden rules layout x y)
 forbidden_in_piece rules layout piece h x y far near inside =
@@ -85,7 +85,7 @@ forbidden_in_piece rules layout piece h x y far near inside =
     ∙ ap (λ held. held && list_any (λ rule. forbids rule layout (record { x = x; y = y })) rules) (sym (in_world piece x y inside here)))
 
 -- marks of a piece are exact, where all rules were gone through
-pub marks-exact : (piece : Extent) (snapshot : Copied) (rules : List EdgeRule) (found : Grid) (h i : ℕ)
+pub marks-exact : (piece : Rect) (snapshot : Snapshot) (rules : List EdgeRule) (found : Squares) (h i : ℕ)
     → snapshot.zone ≡ zone_of rules piece → halo_of rules ≤ h → h ≤ 256 → IsRectangleIn world piece → length rules ≤ i
     → found.rect ≡ piece → MarksOf found (wrong_by_some (take i rules) (copied_layout snapshot) (grown h piece)) → IsExact piece snapshot rules found
 marks-exact piece snapshot rules found h i zone far near inside all of_piece marked = record {

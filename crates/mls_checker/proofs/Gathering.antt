@@ -7,7 +7,7 @@ use Rattle.std.proofs.lemmas.List.{map-id}
 use Rattle.std.proofs.lemmas.List.Folds.{list_any-append, list_any_more}
 use Rattle.std.proofs.lemmas.List.FromFn.{map-range_with_len_more}
 use Rattle.mls_edgerule.specs.declared.edge_rule.EdgeRule.{EdgeRule}
-use Rattle.mls_geom.specs.Extents.{Extent}
+use Rattle.mls_geom.specs.Rects.{Rect}
 use Rattle.mls_checker.specs.Layouts.{Layout}
 use Rattle.mls_checker.specs.Marking.{GainsWrong, SquareSet, no_squares, with_wrong}
 
@@ -23,26 +23,26 @@ two_gains false true false false = refl
 two_gains false false b w = refl
 
 -- ---- what is gathered
-pub gains_none : {S : Type 0} (comes_of : S → Extent → SquareSet → Type 0) (rule : EdgeRule) (layout : Layout) (marker : S) → GainsWrong comes_of rule layout no_squares marker marker
+pub gains_none : {S : Type 0} (comes_of : S → Rect → SquareSet → Type 0) (rule : EdgeRule) (layout : Layout) (marker : S) → GainsWrong comes_of rule layout no_squares marker marker
 gains_none comes_of rule layout marker rect set before =
     let P : SquareSet → Type 0 = comes_of marker rect in
     subst P (same_set set (with_wrong rule layout no_squares set) (λ x y. sym (or-false (set x y)))) before
 
 pub gains_same :
-    {S : Type 0} (comes_of : S → Extent → SquareSet → Type 0) (rule : EdgeRule) (layout : Layout) (a b : SquareSet) (old new : S) → ((x y : ℕ) → a x y ≡ b x y)
+    {S : Type 0} (comes_of : S → Rect → SquareSet → Type 0) (rule : EdgeRule) (layout : Layout) (a b : SquareSet) (old new : S) → ((x y : ℕ) → a x y ≡ b x y)
     → GainsWrong comes_of rule layout a old new → GainsWrong comes_of rule layout b old new
 gains_same comes_of rule layout a b old new same gains rect set before =
     let P : SquareSet → Type 0 = λ others. comes_of new rect (with_wrong rule layout others set) in
     subst P (same_set a b same) (gains rect set before)
 
 pub gains_nothing :
-    {S : Type 0} (comes_of : S → Extent → SquareSet → Type 0) (rule : EdgeRule) (layout : Layout) (others : SquareSet) (marker : S) → ((x y : ℕ) → others x y ≡ false)
+    {S : Type 0} (comes_of : S → Rect → SquareSet → Type 0) (rule : EdgeRule) (layout : Layout) (others : SquareSet) (marker : S) → ((x y : ℕ) → others x y ≡ false)
     → GainsWrong comes_of rule layout others marker marker
 gains_nothing comes_of rule layout others marker none =
     gains_same comes_of rule layout no_squares others marker marker (λ x y. sym (none x y)) (gains_none comes_of rule layout marker)
 
 pub gains_both :
-    {S : Type 0} (comes_of : S → Extent → SquareSet → Type 0) (rule : EdgeRule) (layout : Layout) (a b : SquareSet) (old middle new : S)
+    {S : Type 0} (comes_of : S → Rect → SquareSet → Type 0) (rule : EdgeRule) (layout : Layout) (a b : SquareSet) (old middle new : S)
     → GainsWrong comes_of rule layout a old middle → GainsWrong comes_of rule layout b middle new → GainsWrong comes_of rule layout (λ x y. a x y || b x y) old new
 gains_both comes_of rule layout a b old middle new first second rect set before =
     let P : SquareSet → Type 0 = comes_of new rect in
@@ -51,7 +51,7 @@ gains_both comes_of rule layout a b old middle new first second rect set before 
 
 -- ---- what is gathered item by item
 pub gains_more :
-    {S X : Type 0} (comes_of : S → Extent → SquareSet → Type 0) (rule : EdgeRule) (layout : Layout) (test : ℕ → ℕ → X → Bool) (xs : List X) (i : ℕ) (d : X) (old middle new : S)
+    {S X : Type 0} (comes_of : S → Rect → SquareSet → Type 0) (rule : EdgeRule) (layout : Layout) (test : ℕ → ℕ → X → Bool) (xs : List X) (i : ℕ) (d : X) (old middle new : S)
     → i < length xs → GainsWrong comes_of rule layout (λ u v. list_any (test u v) (take i xs)) old middle
     → GainsWrong comes_of rule layout (λ u v. test u v (get_or xs i d)) middle new
     → GainsWrong comes_of rule layout (λ u v. list_any (test u v) (take (i + 1) xs)) old new
@@ -66,7 +66,7 @@ list_any-range_more p low k above =
     rw (one_more, more, list_any-append, or-false)
 
 pub gains_more_in_range :
-    {S : Type 0} (comes_of : S → Extent → SquareSet → Type 0) (rule : EdgeRule) (layout : Layout) (test : ℕ → ℕ → ℕ → Bool) (low k : ℕ) (old middle new : S)
+    {S : Type 0} (comes_of : S → Rect → SquareSet → Type 0) (rule : EdgeRule) (layout : Layout) (test : ℕ → ℕ → ℕ → Bool) (low k : ℕ) (old middle new : S)
     → low ≤ k → GainsWrong comes_of rule layout (λ u v. list_any (test u v) (range_with_len low (k - low))) old middle
     → GainsWrong comes_of rule layout (λ u v. test u v k) middle new
     → GainsWrong comes_of rule layout (λ u v. list_any (test u v) (range_with_len low (k + 1 - low))) old new

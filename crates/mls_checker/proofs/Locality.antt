@@ -6,7 +6,7 @@ use Rattle.mls_edgerule.specs.Halos.{halo_of}
 use Rattle.mls_edgerule.specs.RuleLists.{across, directions_in}
 use Rattle.mls_edgerule.specs.declared.direction.Direction.{Direction}
 use Rattle.mls_edgerule.specs.declared.edge_rule.EdgeRule.{EdgeRule}
-use Rattle.mls_geom.specs.Extents.{Extent, Square, common, holds}
+use Rattle.mls_geom.specs.Rects.{Rect, Point, common, holds}
 use Rattle.mls_geom.specs.World.{world}
 use Rattle.mls_geom.proofs.Holds.{holds_between, between_holds}
 use Rattle.mls_tech.specs.TypeSets.{holds as has_type}
@@ -20,7 +20,7 @@ use Rattle.mls_checker.proofs.Steps.{at}
 
 -- the layouts are the same at most h columns and h rows from column x and row y
 abbrev pub AgreeNear : ℕ → ℕ → ℕ → Layout → Layout → Type 0
-AgreeNear h x y layout other = (plane : ℕ) (p : Square) → IsWithin h x y p → type_at layout plane p ≡ type_at other plane p
+AgreeNear h x y layout other = (plane : ℕ) (p : Point) → IsWithin h x y p → type_at layout plane p ≡ type_at other plane p
 
 same_and : (a b c d : Bool) → a ≡ b → c ≡ d → (a && c) ≡ (b && d)
 same_and a b c d first second = rw (first, second) refl
@@ -30,13 +30,13 @@ same_or a b c d first second = rw (first, second) refl
 
 -- ---- one edge
 is_edge_same :
-    (rule : EdgeRule) (h x y : ℕ) (layout other : Layout) (e : Direction) (p : Square) → AgreeNear h x y layout other → IsWithin h x y p
+    (rule : EdgeRule) (h x y : ℕ) (layout other : Layout) (e : Direction) (p : Point) → AgreeNear h x y layout other → IsWithin h x y p
     → IsWithin h x y (moved (back e) 1 p) → is_edge rule layout e p ≡ is_edge rule other e p
 is_edge_same rule h x y layout other e p agree near near' =
     same_and _ _ _ _ (ap (has_type rule.types2) (agree rule.trigger_plane p near)) (ap (has_type rule.types1) (agree rule.trigger_plane (moved (back e) 1 p) near'))
 
 is_cornered_same :
-    (rule : EdgeRule) (h x y : ℕ) (layout other : Layout) (e f : Direction) (p : Square) → AgreeNear h x y layout other → IsWithin h x y p
+    (rule : EdgeRule) (h x y : ℕ) (layout other : Layout) (e f : Direction) (p : Point) → AgreeNear h x y layout other → IsWithin h x y p
     → IsWithin h x y (moved (back e) 1 p) → IsWithin h x y (moved f 1 (moved (back e) 1 p))
     → is_cornered rule layout e f p ≡ is_cornered rule other e f p
 is_cornered_same rule h x y layout other e f p agree near near' near'' =
@@ -99,32 +99,32 @@ forbidden_same rules x y layout other agree =
 
 -- ---- the laws
 pub forbidden_same_in :
-    (rules : List EdgeRule) (piece : Extent) (layout other : Layout) → AgreeIn (surroundings rules piece) layout other
+    (rules : List EdgeRule) (piece : Rect) (layout other : Layout) → AgreeIn (surroundings rules piece) layout other
     → (x y : ℕ) → holds piece x y ≡ true → forbidden rules layout x y ≡ forbidden rules other x y
 forbidden_same_in rules piece layout other agree x y here =
     forbidden_same rules x y layout other (λ plane p near. agree plane p.x p.y (within_grown piece (halo_of rules) x y p here near))
 
 pub forbidden_same_outside :
-    (rules : List EdgeRule) (rect : Extent) (layout other : Layout) → AgreeOutside rect layout other
+    (rules : List EdgeRule) (rect : Rect) (layout other : Layout) → AgreeOutside rect layout other
     → (x y : ℕ) → holds (surroundings rules rect) x y ≡ false → forbidden rules layout x y ≡ forbidden rules other x y
 forbidden_same_outside rules rect layout other agree x y far =
     forbidden_same rules x y layout other (λ plane p near. agree plane p.x p.y (false_from_ne_true (holds rect p.x p.y)
     (λ there. both_ways (holds (surroundings rules rect) x y) far (near_grown rect (halo_of rules) x y p near there))))
 
-holds_common : (a b : Extent) (x y : ℕ) → holds a x y ≡ true → holds b x y ≡ true → holds (common a b) x y ≡ true
+holds_common : (a b : Rect) (x y : ℕ) → holds a x y ≡ true → holds b x y ≡ true → holds (common a b) x y ≡ true
 holds_common a b x y in_a in_b =
     let lines = holds_between a x y in_a in
     let lines' = holds_between b x y in_b in
     between_holds (common a b) x y (omega (arith, lines.0, lines'.0)) (omega (arith, lines.1, lines'.1)) (omega (arith, lines.2, lines'.2)) (omega (arith, lines.3, lines'.3))
 
-common_holds : (a b : Extent) (x y : ℕ) → holds (common a b) x y ≡ true → holds b x y ≡ true
+common_holds : (a b : Rect) (x y : ℕ) → holds (common a b) x y ≡ true → holds b x y ≡ true
 common_holds a b x y both =
     let lines = holds_between (common a b) x y both in
     between_holds b x y (omega (arith, lines.0)) (omega (arith, lines.1)) (omega (arith, lines.2)) (omega (arith, lines.3))
 
 -- of a layout with space outside, the common part of two extents has what the one has
 within_common :
-    (a outer : Extent) (layout : Layout) → AgreeOutside outer layout (λ plane x y. 0) → AgreeIn a (within (common a outer) layout) layout
+    (a outer : Rect) (layout : Layout) → AgreeOutside outer layout (λ plane x y. 0) → AgreeIn a (within (common a outer) layout) layout
 within_common a outer layout space plane x y in_a = elim (cases_Bool (holds outer x y)) [
   | inl in_outer ↦ cond-true (holds (common a outer) x y) (layout plane x y) 0 (holds_common a outer x y in_a in_outer)
   | inr outside ↦
@@ -133,7 +133,7 @@ within_common a outer layout space plane x y in_a = elim (cases_Bool (holds oute
 ]
 
 pub forbidden_same_within :
-    (rules : List EdgeRule) (piece : Extent) (layout : Layout) → AgreeOutside world layout (λ plane x y. 0)
+    (rules : List EdgeRule) (piece : Rect) (layout : Layout) → AgreeOutside world layout (λ plane x y. 0)
     → (x y : ℕ) → holds piece x y ≡ true → forbidden rules (within (zone_of rules piece) layout) x y ≡ forbidden rules layout x y
 forbidden_same_within rules piece layout space =
     forbidden_same_in rules piece (within (zone_of rules piece) layout) layout (within_common (surroundings rules piece) world layout space)

@@ -2,28 +2,28 @@
 use Rattle.std.proofs.Common.{◌≡◌, ℕ, ◌+◌, ◌-◌, ◌≤◌, true, true≢false, sym, arith}
 use Rattle.mls_edgerule.specs.declared.direction.Direction.{Direction}
 use Rattle.mls_edgerule.specs.declared.direction.Direction.TheVariants.{Right, Up, Left, Down}
-use Rattle.mls_geom.specs.Extents.{Extent, Square, grown, holds}
+use Rattle.mls_geom.specs.Rects.{Rect, Point, grown, holds}
 use Rattle.mls_geom.proofs.Holds.{holds_between, between_holds}
 use Rattle.mls_checker.specs.Forbids.{back, moved}
 use Rattle.mls_checker.proofs.Across.{crosses}
 use Rattle.mls_checker.proofs.Steps.{at}
 
 -- the square lies at most h columns and h rows from column x and row y
-pub record IsWithin (h x y : ℕ) (p : Square) : Type 0 where
+pub record IsWithin (h x y : ℕ) (p : Point) : Type 0 where
   pub left : x - h ≤ p.x
   pub right : p.x ≤ x + h
   pub below : y - h ≤ p.y
   pub above : p.y ≤ y + h
 
 -- squares so near to one of a rectangle lie in the rectangle with as many squares more on each side
-pub within_grown : (e : Extent) (h x y : ℕ) (p : Square) → holds e x y ≡ true → IsWithin h x y p → holds (grown h e) p.x p.y ≡ true
+pub within_grown : (e : Rect) (h x y : ℕ) (p : Point) → holds e x y ≡ true → IsWithin h x y p → holds (grown h e) p.x p.y ≡ true
 within_grown e h x y p here near =
     let lines = holds_between e x y here in
     between_holds (grown h e) p.x p.y (omega (arith, near.left, lines.0)) (omega (arith, near.right, lines.1))
     (omega (arith, near.below, lines.2)) (omega (arith, near.above, lines.3))
 
 -- and a square so near to one of a rectangle lies in it too
-pub near_grown : (e : Extent) (h x y : ℕ) (p : Square) → IsWithin h x y p → holds e p.x p.y ≡ true → holds (grown h e) x y ≡ true
+pub near_grown : (e : Rect) (h x y : ℕ) (p : Point) → IsWithin h x y p → holds e p.x p.y ≡ true → holds (grown h e) x y ≡ true
 near_grown e h x y p near there =
     let lines = holds_between e p.x p.y there in
     between_holds (grown h e) x y (omega (arith, near.right, lines.0)) (omega (arith, near.left, lines.1))

@@ -9,19 +9,19 @@ use Rattle.std.proofs.lemmas.Bool.Decides.{nat_tests}
 use Rattle.std.proofs.lemmas.List.{get_or-set_same, get_or-set_other}
 use Rattle.std.proofs.lemmas.Nat.{mul-add-lt, same_from_place}
 use Rattle.std.proofs.lemmas.Option.{unwrap_or-slice_get}
-use Rattle.mls_geom.specs.Extents.{Extent, holds}
+use Rattle.mls_geom.specs.Rects.{Rect, holds}
 use Rattle.mls_geom.proofs.Holds.{holds_between}
-use Rattle.mls_checker.specs.Copies.{Grid, grid_picture, height, place_of, width}
+use Rattle.mls_checker.specs.Copies.{Squares, grid_picture, height, place_of, width}
 
 -- each square of the rectangle has a place in the list
-pub place_of-within : (e : Extent) (x y : ℕ) → holds e x y ≡ true → place_of e x y < height e * width e
+pub place_of-within : (e : Rect) (x y : ℕ) → holds e x y ≡ true → place_of e x y < height e * width e
 place_of-within e x y inside =
     let lines = holds_between e x y inside in
     omega (arith, mul-add-lt (y - e.bottom) (width e) (x - e.left) (height e) (omega (arith, lines)) (omega (arith, lines)))
 
 -- and no other square has that place
 pub place_of-distinct :
-    (e : Extent) (x y u v : ℕ) → holds e x y ≡ true → holds e u v ≡ true → place_of e x y ≡ place_of e u v → (x ≡ u) × (y ≡ v)
+    (e : Rect) (x y u v : ℕ) → holds e x y ≡ true → holds e u v ≡ true → place_of e x y ≡ place_of e u v → (x ≡ u) × (y ≡ v)
 place_of-distinct e x y u v inside other same =
     let lines = holds_between e x y inside in
     let others = holds_between e u v other in
@@ -29,11 +29,11 @@ place_of-distinct e x y u v inside other same =
     (omega (arith, lines, others, both), omega (arith, lines, others, both))
 
 -- the kind at its place is what the grid shows at a square
-grid_picture-inside : (grid : Grid) (u v : ℕ) → holds grid.rect u v ≡ true → grid_picture grid u v ≡ get_or grid.kinds (place_of grid.rect u v) 0
+grid_picture-inside : (grid : Squares) (u v : ℕ) → holds grid.rect u v ≡ true → grid_picture grid u v ≡ get_or grid.kinds (place_of grid.rect u v) 0
 grid_picture-inside grid u v inside =
     cond-true (holds grid.rect u v) (unwrap_or (slice_get grid.kinds (place_of grid.rect u v)) 0) 0 inside ∙ unwrap_or-slice_get grid.kinds (place_of grid.rect u v) 0
 
-pub grid_picture-outside : (grid : Grid) (u v : ℕ) → holds grid.rect u v ≡ false → grid_picture grid u v ≡ 0
+pub grid_picture-outside : (grid : Squares) (u v : ℕ) → holds grid.rect u v ≡ false → grid_picture grid u v ≡ 0
 grid_picture-outside grid u v outside = cond-false (holds grid.rect u v) (unwrap_or (slice_get grid.kinds (place_of grid.rect u v)) 0) 0 outside
 
 -- the picture with one square of another kind
@@ -49,7 +49,7 @@ same_square-true x y u v column row = grind (arith, nat_tests)
 
 -- a kind written at the place of a square shows there
 set_here :
-    (e : Extent) (kinds : List ℕ) (x y kind u v : ℕ) → length kinds ≡ height e * width e → holds e x y ≡ true → (u == x && v == y) ≡ true
+    (e : Rect) (kinds : List ℕ) (x y kind u v : ℕ) → length kinds ≡ height e * width e → holds e x y ≡ true → (u == x && v == y) ≡ true
     → grid_picture (record { rect = e; kinds = set kinds (place_of e x y) kind }) u v ≡ kind
 set_here e kinds x y kind u v each inside same =
     let (column, row) = same_square x y u v same in
@@ -59,7 +59,7 @@ set_here e kinds x y kind u v each inside same =
 
 -- and nowhere else
 set_elsewhere :
-    (e : Extent) (kinds : List ℕ) (x y kind u v : ℕ) → holds e x y ≡ true → (u == x && v == y) ≡ false
+    (e : Rect) (kinds : List ℕ) (x y kind u v : ℕ) → holds e x y ≡ true → (u == x && v == y) ≡ false
     → grid_picture (record { rect = e; kinds = set kinds (place_of e x y) kind }) u v ≡ grid_picture (record { rect = e; kinds = kinds }) u v
 set_elsewhere e kinds x y kind u v inside differs =
     ⊎_elim
@@ -76,7 +76,7 @@ set_elsewhere e kinds x y kind u v inside differs =
 
 -- so it changes that square alone
 grid_picture-set_at :
-    (e : Extent) (kinds : List ℕ) (x y kind u v : ℕ) → length kinds ≡ height e * width e → holds e x y ≡ true
+    (e : Rect) (kinds : List ℕ) (x y kind u v : ℕ) → length kinds ≡ height e * width e → holds e x y ≡ true
     → grid_picture (record { rect = e; kinds = set kinds (place_of e x y) kind }) u v ≡ dotted (grid_picture (record { rect = e; kinds = kinds })) x y kind u v
 grid_picture-set_at e kinds x y kind u v each inside =
     let old = grid_picture (record { rect = e; kinds = kinds }) u v in
@@ -86,6 +86,6 @@ grid_picture-set_at e kinds x y kind u v each inside =
     (cases_Bool (u == x && v == y))
 
 pub grid_picture-set :
-    (e : Extent) (kinds : List ℕ) (x y kind : ℕ) → length kinds ≡ height e * width e → holds e x y ≡ true
+    (e : Rect) (kinds : List ℕ) (x y kind : ℕ) → length kinds ≡ height e * width e → holds e x y ≡ true
     → grid_picture (record { rect = e; kinds = set kinds (place_of e x y) kind }) ≡ dotted (grid_picture (record { rect = e; kinds = kinds })) x y kind
 grid_picture-set e kinds x y kind each inside = fun_ext (λ u. fun_ext (λ v. grid_picture-set_at e kinds x y kind u v each inside))

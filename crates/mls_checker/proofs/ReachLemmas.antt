@@ -4,7 +4,7 @@ use Rattle.std.specs.List.{list_any}
 use Rattle.mls_edgerule.specs.Halos.{halo_of}
 use Rattle.mls_edgerule.specs.RuleLists.{across, directions_in}
 use Rattle.mls_edgerule.specs.declared.edge_rule.EdgeRule.{EdgeRule}
-use Rattle.mls_geom.specs.Extents.{Extent, IsRectangleIn, grown, holds}
+use Rattle.mls_geom.specs.Rects.{Rect, IsRectangleIn, grown, holds}
 use Rattle.mls_geom.specs.World.{world}
 use Rattle.mls_geom.proofs.Holds.{holds_between}
 use Rattle.mls_checker.specs.Forbids.{in_block, in_row, reaches}
@@ -15,13 +15,13 @@ use Rattle.mls_checker.proofs.ListTests.{list_any_same}
 use Rattle.mls_checker.proofs.Steps.{at}
 
 -- a square of the world isn't at the corner from which lines are counted
-square_above_corner : (piece : Extent) (x y : ℕ) → IsRectangleIn world piece → holds piece x y ≡ true → (1 ≤ x) × (1 ≤ y)
+square_above_corner : (piece : Rect) (x y : ℕ) → IsRectangleIn world piece → holds piece x y ≡ true → (1 ≤ x) × (1 ≤ y)
 square_above_corner piece x y inside here =
     let lines = holds_between piece x y here in
     (omega (arith, inside.left_in, lines.0), omega (arith, inside.bottom_in, lines.2))
 
 -- in a piece of the world the edges of the squares within h of it reach what edges reach at all
-pub area-reaches : (rule : EdgeRule) (layout : Layout) (piece : Extent) (h x y : ℕ)
+pub area-reaches : (rule : EdgeRule) (layout : Layout) (piece : Rect) (h x y : ℕ)
     → 1 + max rule.distance rule.corner_distance ≤ h → h ≤ 256 → IsRectangleIn world piece → holds piece x y ≡ true
     → area_reaches rule layout (grown h piece) x y ≡ reaches rule layout (record { x = x; y = y })
 unfolding area_reaches reaches

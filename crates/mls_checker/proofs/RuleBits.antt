@@ -8,7 +8,7 @@ use Rattle.std.proofs.lemmas.List.FromFn.{sum_by-map-range_with_len_more}
 use Rattle.std.proofs.lemmas.Nat.{one_shl, or_block}
 use Rattle.std.proofs.lemmas.Option.{slice_get-get_or, slice_get_past}
 use Rattle.mls_edgerule.specs.declared.edge_rule.EdgeRule.{EdgeRule}
-use Rattle.mls_geom.specs.Extents.{Extent}
+use Rattle.mls_geom.specs.Rects.{Rect}
 use Rattle.mls_geom.specs.Pictures.{bits_where}
 use Rattle.mls_checker.specs.Findings.{broken_rules, forbids_in, is_broken_in}
 use Rattle.mls_checker.specs.Layouts.{Layout}
@@ -43,24 +43,24 @@ bits_where-past test n (suc m) none =
 
 -- ---- rules
 -- the bits of the first n rules
-abbrev pub broken_among : List EdgeRule → Extent → Layout → ℕ → ℕ
+abbrev pub broken_among : List EdgeRule → Rect → Layout → ℕ → ℕ
 broken_among rules rect layout n = bits_where (λ k. is_broken_in rect layout (slice_get rules k)) n
 
-broken_among-more : (rules : List EdgeRule) (rect : Extent) (layout : Layout) (n : ℕ) (rule : EdgeRule) → n < length rules → get_or rules n rule ≡ rule
+broken_among-more : (rules : List EdgeRule) (rect : Rect) (layout : Layout) (n : ℕ) (rule : EdgeRule) → n < length rules → get_or rules n rule ≡ rule
     → broken_among rules rect layout (n + 1) ≡ broken_among rules rect layout n + cond (forbids_in rect layout rule) (2 ^ n) 0
 broken_among-more rules rect layout n rule below there =
     bits_where-more (λ k. is_broken_in rect layout (slice_get rules k)) n
     ∙ ap (λ found. broken_among rules rect layout n + cond (is_broken_in rect layout found) (2 ^ n) 0) (slice_get-get_or rules n rule below ∙ ap (λ r. Some r) there)
 
 -- one rule more: its bit is set if it is broken
-pub with_broken : (rules : List EdgeRule) (rect : Extent) (layout : Layout) (n : ℕ) (rule : EdgeRule) → n < length rules → get_or rules n rule ≡ rule → n < 128
+pub with_broken : (rules : List EdgeRule) (rect : Rect) (layout : Layout) (n : ℕ) (rule : EdgeRule) → n < length rules → get_or rules n rule ≡ rule → n < 128
     → forbids_in rect layout rule ≡ true → bit_or (broken_among rules rect layout n) (1 * 2 ^ n % 2 ^ 128) ≡ broken_among rules rect layout (n + 1)
 with_broken rules rect layout n rule below there few broken =
     ap (bit_or (broken_among rules rect layout n)) (one_shl n 128 few)
     ∙ with_bit (broken_among rules rect layout n) n (bits_where-below (λ k. is_broken_in rect layout (slice_get rules k)) n)
     ∙ sym (broken_among-more rules rect layout n rule below there ∙ ap (λ b. broken_among rules rect layout n + cond b (2 ^ n) 0) broken)
 
-pub with_kept : (rules : List EdgeRule) (rect : Extent) (layout : Layout) (n : ℕ) (rule : EdgeRule) → n < length rules → get_or rules n rule ≡ rule
+pub with_kept : (rules : List EdgeRule) (rect : Rect) (layout : Layout) (n : ℕ) (rule : EdgeRule) → n < length rules → get_or rules n rule ≡ rule
     → forbids_in rect layout rule ≡ false → broken_among rules rect layout n ≡ broken_among rules rect layout (n + 1)
 with_kept rules rect layout n rule below there kept =
     let more = broken_among-more rules rect layout n rule below there in
@@ -68,7 +68,7 @@ with_kept rules rect layout n rule below there kept =
     omega (arith, more, no_bit)
 
 -- the rules of the list are all
-pub broken_among-all : (rules : List EdgeRule) (rect : Extent) (layout : Layout) → length rules ≤ 128
+pub broken_among-all : (rules : List EdgeRule) (rect : Rect) (layout : Layout) → length rules ≤ 128
     → broken_among rules rect layout (length rules) ≡ broken_rules rules rect layout
 unfolding broken_rules
 broken_among-all rules rect layout few =

@@ -4,7 +4,7 @@ use Rattle.std.specs.Cmp.{both_ways}
 use Rattle.std.specs.List.{list_any}
 use Rattle.std.proofs.lemmas.Bool.{and_from, and_parts, or_left, or_right, or_cases}
 use Rattle.mls_edgerule.specs.declared.edge_rule.EdgeRule.{EdgeRule}
-use Rattle.mls_geom.specs.Extents.{Extent, common, holds}
+use Rattle.mls_geom.specs.Rects.{Rect, common, holds}
 use Rattle.mls_geom.specs.Pictures.{columns}
 use Rattle.mls_geom.proofs.Holds.{between_holds, holds_between}
 use Rattle.mls_checker.specs.Forbids.{is_wrong}
@@ -14,16 +14,16 @@ use Rattle.mls_checker.proofs.ListTests.{found_in_range, range_finds}
 use Rattle.mls_checker.proofs.MarkedSquares.{holds_common}
 
 -- such a square
-abbrev Spotted : Extent → SquareSet → Type 0
+abbrev Spotted : Rect → SquareSet → Type 0
 Spotted rect set = (x y : ℕ) × (holds rect x y ≡ true) × (set x y ≡ true)
 
-spotted : (rect : Extent) (set : SquareSet) → has_some rect set ≡ true → Spotted rect set
+spotted : (rect : Rect) (set : SquareSet) → has_some rect set ≡ true → Spotted rect set
 spotted rect set some =
     let row = found_in_range (λ y. list_any (λ x. set x y) (columns rect)) rect.bottom (rect.top - rect.bottom) some in
     let column = found_in_range (λ x. set x row.0) rect.left (rect.right - rect.left) row.3 in
     (column.0, row.0, between_holds rect column.0 row.0 column.1 (omega (arith, column.2)) row.1 (omega (arith, row.2)), column.3)
 
-spots : (rect : Extent) (set : SquareSet) → Spotted rect set → has_some rect set ≡ true
+spots : (rect : Rect) (set : SquareSet) → Spotted rect set → has_some rect set ≡ true
 spots rect set (x, y, inside, within) =
     let lines = holds_between rect x y inside in
     range_finds (λ y. list_any (λ x. set x y) (columns rect)) rect.bottom (rect.top - rect.bottom) y lines.2 (omega (arith, lines.3))
@@ -31,7 +31,7 @@ spots rect set (x, y, inside, within) =
 
 -- the squares of a set and of a block, as far as they lie in the rectangle
 pub has_some-with_wrong :
-    (rule : EdgeRule) (layout : Layout) (rect block : Extent) (set : SquareSet)
+    (rule : EdgeRule) (layout : Layout) (rect block : Rect) (set : SquareSet)
     → has_some rect (with_wrong rule layout (holds block) set)
     ≡ (has_some rect set || has_some (common block rect) (λ x y. is_wrong rule layout (record { x = x; y = y })))
 has_some-with_wrong rule layout rect block set =

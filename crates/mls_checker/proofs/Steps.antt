@@ -2,14 +2,14 @@
 use Rattle.std.proofs.Common.{◌≡◌, ℕ, ◌+◌, ◌-◌, ◌<◌, ◌≤◌, true, true≢false, refl, sym, arith}
 use Rattle.mls_edgerule.specs.declared.direction.Direction.{Direction}
 use Rattle.mls_edgerule.specs.declared.direction.Direction.TheVariants.{Right, Up, Left, Down}
-use Rattle.mls_geom.specs.Extents.{Square, holds}
+use Rattle.mls_geom.specs.Rects.{Point, holds}
 use Rattle.mls_geom.proofs.Holds.{holds_between, between_holds}
 use Rattle.mls_checker.specs.Forbids.{back, moved}
 use Rattle.mls_checker.specs.Reaches.{row_from, block_beside}
 use Rattle.mls_checker.proofs.Across.{crosses}
 
 -- the square at a column and a row
-abbrev pub at : ℕ → ℕ → Square
+abbrev pub at : ℕ → ℕ → Point
 at x y = record { x = x; y = y }
 
 pub same_square : (x y a b : ℕ) → x ≡ a → y ≡ b → at x y ≡ at a b

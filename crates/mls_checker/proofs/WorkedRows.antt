@@ -3,7 +3,7 @@ use Rattle.std.proofs.Common.{◌≡◌, true, false, ◌||◌, ◌&&◌, if◌t
 use Rattle.std.specs.List.{list_all}
 use Rattle.mls_edgerule.specs.declared.direction.Directions.TheVariants.{RightAndUp, Four}
 use Rattle.mls_edgerule.specs.declared.edge_rule.EdgeRule.{EdgeRule}
-use Rattle.mls_geom.specs.Extents.{Extent, holds}
+use Rattle.mls_geom.specs.Rects.{Rect, holds}
 use Rattle.mls_geom.specs.Pictures.{columns, rows}
 use Rattle.mls_checker.specs.Forbids.{forbids, reaches}
 use Rattle.mls_checker.specs.Layouts.{Layout}
@@ -59,10 +59,10 @@ spacing_of_poly = record {
 }
 
 -- two squares of poly, two squares wide and high, one a column to the right of the other and a row above it
-lower_left : Extent
+lower_left : Rect
 lower_left = record { left = 5000; bottom = 5000; right = 5002; top = 5002 }
 
-upper_right : Extent
+upper_right : Rect
 upper_right = record { left = 5003; bottom = 5003; right = 5005; top = 5005 }
 
 apart_by_one : Layout

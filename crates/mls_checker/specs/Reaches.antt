@@ -5,20 +5,20 @@ use Rattle.mls_edgerule.specs.RuleLists.{across, directions_in}
 use Rattle.mls_edgerule.specs.declared.direction.Direction.{Direction}
 use Rattle.mls_edgerule.specs.declared.direction.Direction.TheVariants.{Right, Up, Left, Down}
 use Rattle.mls_edgerule.specs.declared.edge_rule.EdgeRule.{EdgeRule}
-use Rattle.mls_geom.specs.Extents.{Extent, Square, holds}
+use Rattle.mls_geom.specs.Rects.{Rect, Point, holds}
 use Rattle.mls_geom.specs.Pictures.{columns, rows}
 use Rattle.mls_checker.specs.Forbids.{is_corner, is_edge}
 use Rattle.mls_checker.specs.Layouts.{Layout}
 
 -- so many squares from p on in a direction
-abbrev pub row_from : Direction → ℕ → Square → Extent
+abbrev pub row_from : Direction → ℕ → Point → Rect
 row_from Right d p = record { left = p.x; bottom = p.y; right = p.x + d; top = p.y + 1 }
 row_from Up d p = record { left = p.x; bottom = p.y; right = p.x + 1; top = p.y + d }
 row_from Left d p = record { left = p.x + 1 - d; bottom = p.y; right = p.x + 1; top = p.y + 1 }
 row_from Down d p = record { left = p.x; bottom = p.y + 1 - d; right = p.x + 1; top = p.y + 1 }
 
 -- c by c squares on the side f of p, from p on in the direction e
-abbrev pub block_beside : Direction → Direction → ℕ → Square → Extent
+abbrev pub block_beside : Direction → Direction → ℕ → Point → Rect
 block_beside Right Up c p = record { left = p.x; bottom = p.y + 1; right = p.x + c; top = p.y + 1 + c }
 block_beside Right Down c p = record { left = p.x; bottom = p.y - c; right = p.x + c; top = p.y }
 block_beside Left Up c p = record { left = p.x + 1 - c; bottom = p.y + 1; right = p.x + 1; top = p.y + 1 + c }
@@ -30,23 +30,23 @@ block_beside Down Left c p = record { left = p.x - c; bottom = p.y + 1 - c; righ
 block_beside e f c p = record { left = p.x; bottom = p.y; right = p.x; top = p.y }
 
 -- the square lies in the block on the side f of an edge at p, where the corner there has a corner type
-abbrev pub block_holds : EdgeRule → Layout → Direction → Square → ℕ → ℕ → Direction → Bool
+abbrev pub block_holds : EdgeRule → Layout → Direction → Point → ℕ → ℕ → Direction → Bool
 block_holds rule layout e p x y f = is_corner rule layout e f p && holds (block_beside e f rule.corner_distance p) x y
 
 -- an edge lies behind p, and reaches the square
-abbrev pub edge_reaches : EdgeRule → Layout → Direction → Square → ℕ → ℕ → Bool
+abbrev pub edge_reaches : EdgeRule → Layout → Direction → Point → ℕ → ℕ → Bool
 edge_reaches rule layout e p x y =
     is_edge rule layout e p
     && (holds (row_from e rule.distance p) x y || list_any (block_holds rule layout e p x y) (across e))
 
 -- some edge in a row of squares does
-abbrev pub row_reaches : EdgeRule → Layout → Extent → Direction → ℕ → ℕ → ℕ → Bool
+abbrev pub row_reaches : EdgeRule → Layout → Rect → Direction → ℕ → ℕ → ℕ → Bool
 row_reaches rule layout area e x y row = list_any (λ column. edge_reaches rule layout e (record { x = column; y = row }) x y) (columns area)
 
 -- some edge in a rectangle does
-abbrev pub direction_reaches : EdgeRule → Layout → Extent → ℕ → ℕ → Direction → Bool
+abbrev pub direction_reaches : EdgeRule → Layout → Rect → ℕ → ℕ → Direction → Bool
 direction_reaches rule layout area x y e = list_any (row_reaches rule layout area e x y) (rows area)
 
 -- some edge of the rule in a rectangle does
-unfoldable pub area_reaches : EdgeRule → Layout → Extent → ℕ → ℕ → Bool
+unfoldable pub area_reaches : EdgeRule → Layout → Rect → ℕ → ℕ → Bool
 area_reaches rule layout area x y = list_any (direction_reaches rule layout area x y) (directions_in rule.directions)

@@ -1,7 +1,7 @@
 //! Rectangles of squares that may reach over the world's border.
 ghost use Rattle.std.specs.Prelude.{◌≡◌, ◌≤◌};
 ghost use Rattle.mls_checker.specs.Marking.{IsNear, IsNearArea};
-ghost use Rattle.mls_geom.specs.Extents.{common, grown};
+ghost use Rattle.mls_geom.specs.Rects.{common, grown};
 ghost use Rattle.mls_checker.specs.Reaches.{block_beside, row_from};
 
 use mls_edgerule::Direction;
@@ -18,9 +18,9 @@ pub(crate) struct Block {
 }
 
 impl Model for Block {
-    ghost use Rattle.mls_geom.specs.Extents.{Extent};
+    ghost use Rattle.mls_geom.specs.Rects.{Rect};
 
-    ghost Value = { Extent };
+    ghost Value = { Rect };
 
     ghost view = { λ b. record { left = b.left; bottom = b.bottom; right = b.right; top = b.top } };
 

@@ -21,9 +21,9 @@ pub struct Finding {
 }
 
 impl Model for Finding {
-    ghost use Rattle.mls_checker.specs.Findings.{Found, IsExact};
+    ghost use Rattle.mls_checker.specs.Findings.{Finding, IsExact};
 
-    ghost Value = { Found };
+    ghost Value = { Finding };
 
     ghost view = { λ f. record { piece = f.piece; snapshot = f.snapshot; rules = f.rules; marks = f.marks } };
 

@@ -2,7 +2,7 @@
 ghost use Rattle.std.specs.Prelude.{◌≡◌, ◌<◌, ◌≤◌, ℕ, IfOk, IsTrue};
 ghost use Rattle.mls_checker.specs.Copies.{copied_layout};
 ghost use Rattle.mls_checker.specs.Marking.{MarksOf, marks, no_squares, row_of, with_wrong};
-ghost use Rattle.mls_geom.specs.Extents.{holds};
+ghost use Rattle.mls_geom.specs.Rects.{holds};
 
 use crate::Snapshot;
 use crate::block::Block;
@@ -21,9 +21,9 @@ pub struct Marks {
 }
 
 impl Model for Marks {
-    ghost use Rattle.mls_checker.specs.Copies.{Grid};
+    ghost use Rattle.mls_checker.specs.Copies.{Squares};
 
-    ghost Value = { Grid };
+    ghost Value = { Squares };
 
     ghost view = { λ m. m.squares };
 }

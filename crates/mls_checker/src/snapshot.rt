@@ -2,7 +2,7 @@
 ghost use Rattle.std.specs.Prelude.{◌≡◌, ◌↔◌, ℕ, ◌<◌, ◌≤◌, ◌==◌, ◌&&◌, nat_lt, nat_le, if◌then◌else◌, IfOk, IsTrue, length};
 ghost use Rattle.mls_checker.specs.Copies.{IsShownBy, copied_layout, grid_picture};
 ghost use Rattle.mls_checker.specs.Layouts.{layout_of, within};
-ghost use Rattle.mls_geom.specs.Extents.{holds};
+ghost use Rattle.mls_geom.specs.Rects.{holds};
 ghost use Rattle.mls_geom.specs.Pictures.{picture_of};
 
 use crate::squares::Squares;
@@ -18,9 +18,9 @@ pub struct Snapshot {
 }
 
 impl Model for Snapshot {
-    ghost use Rattle.mls_checker.specs.Copies.{AreOfZone, Copied};
+    ghost use Rattle.mls_checker.specs.Copies.{AreOfZone, Snapshot};
 
-    ghost Value = { Copied };
+    ghost Value = { Snapshot };
 
     ghost view = { λ s. record { zone = s.zone; planes = s.planes.items } };
 

@@ -1,7 +1,7 @@
 //! The squares of a rectangle.
 ghost use Rattle.std.specs.Prelude.{◌≡◌, ◌<◌, ◌==◌, ◌&&◌, IfOk, IsTrue, if◌then◌else◌, length};
 ghost use Rattle.mls_checker.specs.Copies.{grid_picture, place_of};
-ghost use Rattle.mls_geom.specs.Extents.{holds};
+ghost use Rattle.mls_geom.specs.Rects.{holds};
 ghost use Rattle.mls_geom.specs.Pictures.{empty_picture};
 
 use mls_geom::Rect;
@@ -16,9 +16,9 @@ pub(crate) struct Squares {
 }
 
 impl Model for Squares {
-    ghost use Rattle.mls_checker.specs.Copies.{Grid, IsWhole};
+    ghost use Rattle.mls_checker.specs.Copies.{Squares, IsWhole};
 
-    ghost Value = { Grid };
+    ghost Value = { Squares };
 
     ghost view = { λ s. record { rect = s.rect; kinds = s.kinds.items } };
 

@@ -1,7 +1,7 @@
 -- The rules so far, and those of the lines that are left.
 use Rattle.std.proofs.Common.{◌≡◌, ℕ, ◌+◌, ◌<◌, true, false, nat_le, Some, None, Result, Ok, Err, List, [], ◌∷◌, ◌++◌, length, get_or, drop, refl, sym, ap, ◌∙◌, append_assoc, append-nil, length-append}
 use Rattle.std.proofs.lemmas.List.{drop_more}
-use Rattle.mls_tech.specs.Readings.{Reading}
+use Rattle.mls_tech.specs.Readings.{Tech}
 use Rattle.mls_tech.specs.declared.rule_line.RuleLine.{RuleLine}
 use Rattle.mls_edgerule.specs.Compiling.{rule_of, rule_before, fault_at, with_rule, compiled_after, compiled}
 use Rattle.mls_edgerule.specs.declared.edge_rule.EdgeRule.{EdgeRule}
@@ -22,28 +22,28 @@ rules_before-one_more rules rule (Ok others) = ap Ok (append_assoc rules (rule �
 rules_before-one_more rules rule (Err fault) = refl
 
 -- what compiling gives where these rules were compiled, and these lines are left
-abbrev pub continued : Reading → List EdgeRule → List RuleLine → Result (List EdgeRule) RuleFault
+abbrev pub continued : Tech → List EdgeRule → List RuleLine → Result (List EdgeRule) RuleFault
 continued reading rules lines = rules_before rules (compiled_after reading (length rules) lines)
 
-pub continued-start : (reading : Reading) → continued reading [] reading.rules ≡ compiled reading
+pub continued-start : (reading : Tech) → continued reading [] reading.rules ≡ compiled reading
 unfolding compiled
 continued-start reading = rules_before-none _
 
-pub continued-end : (reading : Reading) (rules : List EdgeRule) → continued reading rules [] ≡ Ok rules
+pub continued-end : (reading : Tech) (rules : List EdgeRule) → continued reading rules [] ≡ Ok rules
 unfolding compiled_after
 continued-end reading rules = ap Ok (append-nil rules)
 
-after-full : (reading : Reading) (n : ℕ) (line : RuleLine) (lines : List RuleLine) → nat_le 128 n ≡ true → compiled_after reading n (line ∷ lines) ≡ Err (fault_at line TooManyRules)
+after-full : (reading : Tech) (n : ℕ) (line : RuleLine) (lines : List RuleLine) → nat_le 128 n ≡ true → compiled_after reading n (line ∷ lines) ≡ Err (fault_at line TooManyRules)
 unfolding compiled_after
 after-full reading n line lines full = rw full refl
 
-after-room : (reading : Reading) (n : ℕ) (line : RuleLine) (lines : List RuleLine) → nat_le 128 n ≡ false →
+after-room : (reading : Tech) (n : ℕ) (line : RuleLine) (lines : List RuleLine) → nat_le 128 n ≡ false →
     compiled_after reading n (line ∷ lines) ≡ with_rule line (rule_of reading line.rule) (compiled_after reading (n + 1) lines)
 unfolding compiled_after
 after-room reading n line lines room = rw room refl
 
 -- at a line among the others
-module _ (reading : Reading) (rules : List EdgeRule) (lines : List RuleLine) (i : ℕ) (line : RuleLine) (inside : i < length lines) (here : line ≡ get_or lines i line) where
+module _ (reading : Tech) (rules : List EdgeRule) (lines : List RuleLine) (i : ℕ) (line : RuleLine) (inside : i < length lines) (here : line ≡ get_or lines i line) where
   lines-from : drop i lines ≡ line ∷ drop (i + 1) lines
   lines-from = drop_more lines i line inside ∙ ap (λ first. first ∷ drop (i + 1) lines) (sym here)
 

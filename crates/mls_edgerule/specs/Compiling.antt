@@ -1,7 +1,7 @@
 -- The edge rules that rule lines stand for (Taylor and Ousterhout 1984: width and spacing as edge rules). The table is this project's own.
 use Rattle.std.specs.Prelude.{ℕ, ◌+◌, nat_le, if◌then◌else◌, Option, Some, None, Result, Ok, Err, List, [], ◌∷◌}
 use Rattle.std.specs.Option.{option_and_then, option_map, unwrap_or}
-use Rattle.mls_tech.specs.Readings.{Reading}
+use Rattle.mls_tech.specs.Readings.{Tech}
 use Rattle.mls_tech.specs.TypeSets.{common, without}
 use Rattle.mls_tech.specs.declared.rule.Adjacency.TheVariants.{TouchingOk, TouchingIllegal}
 use Rattle.mls_tech.specs.declared.rule.Edge.{Edge as EdgeWords}
@@ -18,7 +18,7 @@ use Rattle.mls_edgerule.specs.declared.fault.RuleFaultKind.TheVariants.{Planes, 
 
 -- ---- one rule, on the plane or the planes that were found for it
 -- types S are at least d wide: beyond an edge into S lies S, and beyond a corner of such an edge
-abbrev pub width_rule : Reading → ℕ → ℕ → ℕ → EdgeRule
+abbrev pub width_rule : Tech → ℕ → ℕ → ℕ → EdgeRule
 width_rule reading set d plane = record {
   types1 = without (types_on reading plane) set;
   types2 = set;
@@ -32,7 +32,7 @@ width_rule reading set d plane = record {
 }
 
 -- types A and B on one plane may touch, and are else at least d apart: beyond an edge from A into neither there is no B
-abbrev pub apart_rule : Reading → ℕ → ℕ → ℕ → ℕ → EdgeRule
+abbrev pub apart_rule : Tech → ℕ → ℕ → ℕ → ℕ → EdgeRule
 apart_rule reading a b d plane = record {
   types1 = a;
   types2 = without (without (types_on reading plane) a) b;
@@ -46,7 +46,7 @@ apart_rule reading a b d plane = record {
 }
 
 -- types A and B may not touch and are at least d apart, on one plane or on two: beyond an edge out of A there is no B
-abbrev pub clear_rule : Reading → ℕ → ℕ → ℕ → ℕ → ℕ → EdgeRule
+abbrev pub clear_rule : Tech → ℕ → ℕ → ℕ → ℕ → ℕ → EdgeRule
 clear_rule reading a b d plane other = record {
   types1 = a;
   types2 = without (types_on reading plane) a;
@@ -60,7 +60,7 @@ clear_rule reading a b d plane other = record {
 }
 
 -- as written, but for types of other planes, which no square of the plane has
-abbrev pub written_rule : Reading → Directions → EdgeWords → ℕ → ℕ → EdgeRule
+abbrev pub written_rule : Tech → Directions → EdgeWords → ℕ → ℕ → EdgeRule
 written_rule reading directions edge plane other = record {
   types1 = common edge.types1 (types_on reading plane);
   types2 = common edge.types2 (types_on reading plane);
@@ -74,14 +74,14 @@ written_rule reading directions edge plane other = record {
 }
 
 -- ---- what a line says, as an edge rule; nothing where its types don't lie on planes as they must
-abbrev pub apart : Reading → ℕ → ℕ → ℕ → ℕ → Option EdgeRule
+abbrev pub apart : Tech → ℕ → ℕ → ℕ → ℕ → Option EdgeRule
 apart reading a b d plane = if lies_wholly reading b plane then Some (apart_rule reading a b d plane) else None
 
-abbrev pub written : Reading → Directions → EdgeWords → Option EdgeRule
+abbrev pub written : Tech → Directions → EdgeWords → Option EdgeRule
 written reading directions edge =
     option_map (λ plane. written_rule reading directions edge plane (unwrap_or edge.plane plane)) (meeting_plane reading edge.types1 edge.types2)
 
-unfoldable pub rule_of : Reading → Rule → Option EdgeRule
+unfoldable pub rule_of : Tech → Rule → Option EdgeRule
 rule_of reading (Width set d) = option_map (width_rule reading set d) (home_of reading set)
 rule_of reading (Spacing a b d TouchingOk) = option_and_then (apart reading a b d) (home_of reading a)
 rule_of reading (Spacing a b d TouchingIllegal) =
@@ -106,12 +106,12 @@ with_rule line None others = Err (fault_at line Planes)
 with_rule line (Some rule) others = rule_before rule others
 
 -- the rules of the lines from here on, where n lines stand before them, or the first fault
-unfoldable pub compiled_after : Reading → ℕ → List RuleLine → Result (List EdgeRule) RuleFault
+unfoldable pub compiled_after : Tech → ℕ → List RuleLine → Result (List EdgeRule) RuleFault
 compiled_after reading n [] = Ok []
 compiled_after reading n (line ∷ lines) =
     if nat_le rule_limit n then Err (fault_at line TooManyRules)
     else with_rule line (rule_of reading line.rule) (compiled_after reading (n + 1) lines)
 
 -- each line of the technology gives one rule, in the order of lines
-unfoldable pub compiled : Reading → Result (List EdgeRule) RuleFault
+unfoldable pub compiled : Tech → Result (List EdgeRule) RuleFault
 compiled reading = compiled_after reading 0 reading.rules

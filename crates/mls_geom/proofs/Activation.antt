@@ -7,7 +7,7 @@ use Rattle.std.proofs.lemmas.List.Elements.{All-append, All-contains, All-filter
 use Rattle.std.proofs.lemmas.List.Sorted.{All-permutation, Contains-permutation, IsPermutation-append_left}
 use Rattle.std.proofs.lemmas.Map.Keys.{IsStrictlyIncreasing-from_distinct}
 use Rattle.mls_geom.specs.ActivePieces.{ArePartedAt, AreStarts, BeginsBelow, EndsFrom, HasPiece, JoinUpTo, NamesPiece, ends_above, pieces_of}
-use Rattle.mls_geom.specs.Extents.{Extent, IsRectangleIn}
+use Rattle.mls_geom.specs.Rects.{Rect, IsRectangleIn}
 use Rattle.mls_geom.specs.Rows.{AreActive}
 use Rattle.mls_geom.specs.declared.active.Start.{Start}
 use Rattle.mls_geom.specs.declared.piece.Piece.{Piece}
@@ -97,7 +97,7 @@ module _
       }
 
   -- those that are left end above the line
-  pub EndsFrom-activate : (extent : Extent) → All (λ piece. IsRectangleIn extent piece.rect) pieces → All (HasPiece pieces (EndsFrom (line + 1))) new
+  pub EndsFrom-activate : (extent : Rect) → All (λ piece. IsRectangleIn extent piece.rect) pieces → All (HasPiece pieces (EndsFrom (line + 1))) new
   EndsFrom-activate extent legal =
       let Ends : ℕ → Type 0 = HasPiece pieces (EndsFrom (line + 1)) in
       let stay = All-weaker (λ i. ends_above pieces line i ≡ true) Ends (EndsFrom-passed pieces line) kept (filter_passes (ends_above pieces line) active) in

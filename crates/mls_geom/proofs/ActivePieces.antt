@@ -7,7 +7,7 @@ use Rattle.std.proofs.lemmas.List.{drop_all, drop_more, get_or-reverse, get_or_d
 use Rattle.std.proofs.lemmas.List.Elements.{Contains-get_or}
 use Rattle.std.proofs.lemmas.List.Kept.{AllPairs-from_increasing}
 use Rattle.std.proofs.lemmas.Option.{slice_get_read}
-use Rattle.mls_geom.specs.Extents.{holds}
+use Rattle.mls_geom.specs.Rects.{holds}
 use Rattle.mls_geom.specs.Pictures.{Picture, overlaid, painted}
 use Rattle.mls_geom.specs.Rows.{AreActive}
 use Rattle.mls_geom.specs.declared.piece.Piece.{Piece}

@@ -1,7 +1,7 @@
 -- The corners of a band of rows that are alike: they lie in its lowest row, and each begins a run that the row below doesn't have.
 use Rattle.std.proofs.Common.{◌≡◌, ℕ, ◌+◌, ◌-◌, ◌<◌, ◌≤◌, ◌&&◌, Bool, true, false, not, cond, refl, sym, ◌∙◌, inl, inr, le_refl, arith, eq-eqb}
 use Rattle.std.proofs.lemmas.Bool.{and_parts, and_from, or_from, ne_eqb, and_left, and_right, not_from_true, cases_Bool, cond-false, eqb-true, ltb-true, lt-ltb}
-use Rattle.mls_geom.specs.Extents.{Extent}
+use Rattle.mls_geom.specs.Rects.{Rect}
 use Rattle.mls_geom.specs.Pictures.{Picture}
 use Rattle.mls_geom.specs.Stacks.{AreAlike, up_to}
 use Rattle.mls_geom.specs.Strips.{IsRun}
@@ -12,7 +12,7 @@ use Rattle.mls_geom.proofs.RunTests.{starts_run-IsRun, run_end-IsRun, IsRun-from
 
 -- a run goes on below where the row below has it too
 pub goes_on_below-IsRun :
-    {extent : Extent} {picture : Picture} {left right y kind : ℕ} → extent.bottom < y → IsRun extent picture left right y kind
+    {extent : Rect} {picture : Picture} {left right y kind : ℕ} → extent.bottom < y → IsRun extent picture left right y kind
     → IsRun extent picture left right (y - 1) kind → goes_on_below extent picture left y ≡ true
 goes_on_below-IsRun {extent} {picture} {left} {right} {y} {kind} above run under =
     let starts = starts_run-IsRun extent picture left right (y - 1) kind under in
@@ -22,7 +22,7 @@ goes_on_below-IsRun {extent} {picture} {left} {right} {y} {kind} above run under
 
 -- and only there
 pub IsRun-from_goes_on_below :
-    {extent : Extent} {picture : Picture} {left right y kind : ℕ} → IsRun extent picture left right y kind → goes_on_below extent picture left y ≡ true
+    {extent : Rect} {picture : Picture} {left right y kind : ℕ} → IsRun extent picture left right y kind → goes_on_below extent picture left y ≡ true
     → (extent.bottom < y) × IsRun extent picture left right (y - 1) kind
 IsRun-from_goes_on_below {extent} {picture} {left} {right} {y} {kind} run goes_on =
     let within : left < extent.right = omega (arith, run.wide, run.to) in
@@ -36,7 +36,7 @@ IsRun-from_goes_on_below {extent} {picture} {left} {right} {y} {kind} run goes_o
 
 -- above the lowest row of a band no square is a corner
 corner_at-above :
-    (extent : Extent) (picture : Picture) (bottom top y x : ℕ) → AreAlike extent picture bottom top → extent.bottom ≤ bottom → bottom < y → y < top
+    (extent : Rect) (picture : Picture) (bottom top y x : ℕ) → AreAlike extent picture bottom top → extent.bottom ≤ bottom → bottom < y → y < top
     → extent.left ≤ x → x < extent.right → corner_at extent picture y x ≡ 0
 corner_at-above extent picture bottom top y x alike from above below left right = elim (cases_Bool (starts_run extent picture x y)) [
   | inl starts ↦
@@ -48,7 +48,7 @@ corner_at-above extent picture bottom top y x alike from above below left right 
 
 -- so a band has the corners of its lowest row
 pub tile_count-band :
-    (extent : Extent) (picture : Picture) (bottom top : ℕ) → extent.bottom ≤ bottom → bottom < top → AreAlike extent picture bottom top
+    (extent : Rect) (picture : Picture) (bottom top : ℕ) → extent.bottom ≤ bottom → bottom < top → AreAlike extent picture bottom top
     → tile_count (up_to top extent) picture ≡ tile_count (up_to bottom extent) picture + corners_between extent picture bottom extent.left extent.right
 tile_count-band extent picture bottom top from tall alike =
     let row_corners = λ (y : ℕ). corners_between extent picture y extent.left extent.right in
@@ -60,7 +60,7 @@ tile_count-band extent picture bottom top from tall alike =
 
 -- only the leftmost square of a run starts it
 starts_run-inside :
-    {extent : Extent} {picture : Picture} {left right y kind : ℕ} (x : ℕ) → IsRun extent picture left right y kind → left < x → x < right → starts_run extent picture x y ≡ false
+    {extent : Rect} {picture : Picture} {left right y kind : ℕ} (x : ℕ) → IsRun extent picture left right y kind → left < x → x < right → starts_run extent picture x y ≡ false
 starts_run-inside {extent} {picture} {y} x run above below =
     let same_kind = run.one_kind (x - 1) (omega arith) (omega arith) ∙ sym (run.one_kind x (omega arith) below) in
     or_from _ _ (ne_eqb x extent.left (λ same. omega (arith, run.from))) (not_from_true _ (eq-eqb (picture (x - 1) y) (picture x y) same_kind))
@@ -71,7 +71,7 @@ corner_first starts false = rw starts refl
 
 -- so of the columns of a run only the first may have a corner
 pub corners_between-run :
-    {extent : Extent} {picture : Picture} {left right y kind : ℕ} → IsRun extent picture left right y kind
+    {extent : Rect} {picture : Picture} {left right y kind : ℕ} → IsRun extent picture left right y kind
     → corners_between extent picture y extent.left right ≡ corners_between extent picture y extent.left left + cond (goes_on_below extent picture left y) 0 1
 corners_between-run {extent} {picture} {left} {right} {y} {kind} run =
     let before = sum_by-between (corner_at extent picture y) extent.left left right run.from (omega (arith, run.wide)) in
@@ -81,6 +81,6 @@ corners_between-run {extent} {picture} {left} {right} {y} {kind} run =
 
 -- the whole row has the corners of its first columns, and maybe more
 pub corners_between-grows :
-    (extent : Extent) (picture : Picture) (y column : ℕ) → extent.left ≤ column → column ≤ extent.right
+    (extent : Rect) (picture : Picture) (y column : ℕ) → extent.left ≤ column → column ≤ extent.right
     → corners_between extent picture y extent.left column ≤ corners_between extent picture y extent.left extent.right
 corners_between-grows extent picture y column from to = omega (arith, sum_by-between (corner_at extent picture y) extent.left column extent.right from to)

@@ -7,13 +7,13 @@ use Rattle.std.proofs.lemmas.List.{get_or_default}
 use Rattle.std.proofs.lemmas.List.Elements.{All-contains, All-contains_itself, All-more, All-push, All-weaker, Contains-append_left, Contains-push}
 use Rattle.std.proofs.lemmas.Map.Keys.{non_decreasing_from_sorted, sorted_from_strictly_increasing}
 use Rattle.mls_geom.specs.BandLines.{AreBandLines, HaveEnds, HaveEndsOf, IsLineOf}
-use Rattle.mls_geom.specs.Extents.{Extent, IsRectangleIn}
+use Rattle.mls_geom.specs.Rects.{Rect, IsRectangleIn}
 use Rattle.mls_geom.specs.declared.piece.Piece.{Piece}
 use Rattle.mls_geom.proofs.BandRows.{IsBand}
 
 -- one line more
 HaveEnds-push :
-    (extent : Extent) (pieces : List Piece) (lines : List ℕ) (line : ℕ) → IsLineOf extent line → HaveEnds extent pieces lines
+    (extent : Rect) (pieces : List Piece) (lines : List ℕ) (line : ℕ) → IsLineOf extent line → HaveEnds extent pieces lines
     → HaveEnds extent pieces (lines ++ line ∷ [])
 HaveEnds-push extent pieces lines line is have =
     let still = λ (other : ℕ) (held : Contains lines other). Contains-append_left lines (line ∷ []) other held in
@@ -26,7 +26,7 @@ HaveEnds-push extent pieces lines line is have =
 
 -- the ends of one piece more
 pub HaveEnds-more :
-    (extent : Extent) (pieces : List Piece) (i bottom top : ℕ) (lines : List ℕ) (piece : Piece) → i < length pieces → piece ≡ get_or pieces i piece
+    (extent : Rect) (pieces : List Piece) (i bottom top : ℕ) (lines : List ℕ) (piece : Piece) → i < length pieces → piece ≡ get_or pieces i piece
     → IsRectangleIn extent piece.rect → bottom ≡ piece.rect.bottom → top ≡ piece.rect.top → HaveEnds extent (take i pieces) lines
     → HaveEnds extent (take (i + 1) pieces) ((lines ++ bottom ∷ []) ++ top ∷ [])
 HaveEnds-more extent pieces i bottom top lines piece within at legal bottom_is top_is have =
@@ -46,7 +46,7 @@ HaveEnds-more extent pieces i bottom top lines piece within at legal bottom_is t
 
 -- sorting keeps the ends
 pub AreBandLines-ascended :
-    (extent : Extent) (pieces : List Piece) (listed lines : List ℕ) → HaveEnds extent pieces listed → IsStrictlyIncreasing lines
+    (extent : Rect) (pieces : List Piece) (listed lines : List ℕ) → HaveEnds extent pieces listed → IsStrictlyIncreasing lines
     → ((line : ℕ) → Contains lines line ↔ Contains listed line) → AreBandLines extent pieces lines
 AreBandLines-ascended extent pieces listed lines have ascending same =
     let within = λ (line : ℕ) (held : Contains lines line). All-contains (IsLineOf extent) listed line have.within ((same line).0 held) in
@@ -60,7 +60,7 @@ AreBandLines-ascended extent pieces listed lines have ascending same =
       };
     }
 
-module _ (extent : Extent) (pieces : List Piece) (lines : List ℕ) (are : AreBandLines extent pieces lines) where
+module _ (extent : Rect) (pieces : List Piece) (lines : List ℕ) (are : AreBandLines extent pieces lines) where
   -- a line is not below an earlier one
   rises : IsNonDecreasing lines
   rises = non_decreasing_from_sorted lines (sorted_from_strictly_increasing lines are.ascending)

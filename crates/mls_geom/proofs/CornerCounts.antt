@@ -4,17 +4,17 @@ use Rattle.std.proofs.lemmas.Bool.Decides.{nat_tests}
 use Rattle.std.specs.List.{range_with_len, sum_by}
 use Rattle.std.proofs.lemmas.List.FromFn.{length-range_with_len, get_or-range_with_len}
 use Rattle.std.proofs.lemmas.List.Sums.{sum_by-append, sum_by-cons, sum_by-le}
-use Rattle.mls_geom.specs.Extents.{Extent}
+use Rattle.mls_geom.specs.Rects.{Rect}
 use Rattle.mls_geom.specs.Pictures.{Picture}
 use Rattle.mls_geom.specs.Stacks.{AreStacked, up_to}
 use Rattle.mls_geom.specs.TileCounts.{is_corner, tile_count}
 
 -- 1 at a corner, and 0 elsewhere
-abbrev pub corner_at : Extent → Picture → ℕ → ℕ → ℕ
+abbrev pub corner_at : Rect → Picture → ℕ → ℕ → ℕ
 corner_at extent picture y x = if is_corner extent picture x y then 1 else 0
 
 -- the corners of a row in the columns from one line up to another
-abbrev pub corners_between : Extent → Picture → ℕ → ℕ → ℕ → ℕ
+abbrev pub corners_between : Rect → Picture → ℕ → ℕ → ℕ → ℕ
 corners_between extent picture y low high = sum_by (corner_at extent picture y) (range_with_len low (high - low))
 
 -- a range cut in two
@@ -53,20 +53,20 @@ sum_by-first f low high up =
 
 -- the tile count by rows
 pub tile_count-up_to :
-    (extent : Extent) (picture : Picture) (y : ℕ)
+    (extent : Rect) (picture : Picture) (y : ℕ)
     → tile_count (up_to y extent) picture ≡ sum_by (λ z. corners_between extent picture z extent.left extent.right) (range_with_len extent.bottom (y - extent.bottom))
 unfolding tile_count
 tile_count-up_to extent picture y = refl
 
 -- more rows have no fewer strips
-pub tile_count_up_to_grows : (extent : Extent) (picture : Picture) (y z : ℕ) → y ≤ z → tile_count (up_to y extent) picture ≤ tile_count (up_to z extent) picture
+pub tile_count_up_to_grows : (extent : Rect) (picture : Picture) (y z : ℕ) → y ≤ z → tile_count (up_to y extent) picture ≤ tile_count (up_to z extent) picture
 tile_count_up_to_grows extent picture y z up =
     let row_corners = λ (row : ℕ). corners_between extent picture row extent.left extent.right in
     let cut = sum_by-cut row_corners extent.bottom (y - extent.bottom) ((z - extent.bottom) - (y - extent.bottom)) (z - extent.bottom) (omega arith) in
     rw (tile_count-up_to extent picture y, tile_count-up_to extent picture z) (omega (arith, cut))
 
 -- below the extent's bottom line there is nothing to stack
-pub nothing_stacked : (extent : Extent) (picture : Picture) → AreStacked extent picture extent.bottom [] []
+pub nothing_stacked : (extent : Rect) (picture : Picture) → AreStacked extent picture extent.bottom [] []
 nothing_stacked extent picture =
     let none : extent.bottom - extent.bottom ≡ 0 = omega arith in
     record {

@@ -1,7 +1,7 @@
 -- A strip by its lower-left square.
 use Rattle.std.proofs.Common.{◌≡◌, ℕ, ◌-◌, ◌≤◌, true, inl, inr, sym, ◌∙◌, le_refl, arith}
 use Rattle.std.proofs.lemmas.Bool.{and_from, and_parts, not-true, not_from_false, cases_lt, both_ways, false_from_ne_true}
-use Rattle.mls_geom.specs.Extents.{Extent, holds}
+use Rattle.mls_geom.specs.Rects.{Rect, holds}
 use Rattle.mls_geom.specs.Pictures.{Picture}
 use Rattle.mls_geom.specs.Strips.{IsRun, IsStrip}
 use Rattle.mls_geom.specs.TileCounts.{starts_run, goes_on_below, is_corner}
@@ -10,7 +10,7 @@ use Rattle.mls_geom.proofs.Holds.{holds_between}
 use Rattle.mls_geom.proofs.RunTests.{starts_run-IsRun, left-starts_run, run_end-IsRun, goes_on_below-IsRun, IsRun-below}
 
 -- the lower-left square of a strip is a corner
-pub is_corner-IsStrip : (extent : Extent) (picture : Picture) (piece : Piece) → IsStrip extent picture piece → is_corner extent picture piece.rect.left piece.rect.bottom ≡ true
+pub is_corner-IsStrip : (extent : Rect) (picture : Picture) (piece : Piece) → IsStrip extent picture piece → is_corner extent picture piece.rect.left piece.rect.bottom ≡ true
 is_corner-IsStrip extent picture piece strip =
     let run = strip.rows piece.rect.bottom (le_refl piece.rect.bottom) strip.tall in
     let starts = starts_run-IsRun extent picture piece.rect.left piece.rect.right piece.rect.bottom piece.kind run in
@@ -21,7 +21,7 @@ is_corner-IsStrip extent picture piece strip =
 
 -- and no other square of it is
 pub corner-IsStrip :
-    (extent : Extent) (picture : Picture) (piece : Piece) (x y : ℕ) → IsStrip extent picture piece → holds piece.rect x y ≡ true → is_corner extent picture x y ≡ true
+    (extent : Rect) (picture : Picture) (piece : Piece) (x y : ℕ) → IsStrip extent picture piece → holds piece.rect x y ≡ true → is_corner extent picture x y ≡ true
     → (piece.rect.left ≡ x) × (piece.rect.bottom ≡ y)
 corner-IsStrip extent picture piece x y strip inside corner =
     let lines = holds_between piece.rect x y inside in
@@ -39,7 +39,7 @@ corner-IsStrip extent picture piece x y strip inside corner =
 
 -- two runs that begin at one square are one
 same_run :
-    (extent : Extent) (picture : Picture) (left right right' y kind kind' : ℕ) → IsRun extent picture left right y kind → IsRun extent picture left right' y kind'
+    (extent : Rect) (picture : Picture) (left right right' y kind kind' : ℕ) → IsRun extent picture left right y kind → IsRun extent picture left right' y kind'
     → (right ≡ right') × (kind ≡ kind')
 same_run extent picture left right right' y kind kind' run other = (
   sym (run_end-IsRun extent picture left right y kind run) ∙ run_end-IsRun extent picture left right' y kind' other,
@@ -48,7 +48,7 @@ same_run extent picture left right right' y kind kind' run other = (
 
 -- of two strips that begin at one square neither is higher
 no_higher :
-    (extent : Extent) (picture : Picture) (p q : Piece) → IsStrip extent picture p → IsStrip extent picture q → p.rect.left ≡ q.rect.left → p.rect.right ≡ q.rect.right
+    (extent : Rect) (picture : Picture) (p q : Piece) → IsStrip extent picture p → IsStrip extent picture q → p.rect.left ≡ q.rect.left → p.rect.right ≡ q.rect.right
     → p.kind ≡ q.kind → p.rect.bottom ≡ q.rect.bottom → q.rect.top ≤ p.rect.top
 no_higher extent picture p q strip other lefts rights kinds bottoms = elim (cases_lt p.rect.top q.rect.top) [
   | inl higher ↦
@@ -59,7 +59,7 @@ no_higher extent picture p q strip other lefts rights kinds bottoms = elim (case
 
 -- two strips with one lower-left square are one
 pub same_strip :
-    (extent : Extent) (picture : Picture) (p q : Piece) → IsStrip extent picture p → IsStrip extent picture q → p.rect.left ≡ q.rect.left → p.rect.bottom ≡ q.rect.bottom → p ≡ q
+    (extent : Rect) (picture : Picture) (p q : Piece) → IsStrip extent picture p → IsStrip extent picture q → p.rect.left ≡ q.rect.left → p.rect.bottom ≡ q.rect.bottom → p ≡ q
 same_strip extent picture p q strip other lefts bottoms =
     let run = strip.rows p.rect.bottom (le_refl p.rect.bottom) strip.tall in
     let second = other.rows q.rect.bottom (le_refl q.rect.bottom) other.tall in

@@ -4,7 +4,7 @@ use Rattle.std.specs.List.Sorted.{IsStrictlyIncreasing}
 use Rattle.std.proofs.lemmas.Bool.{cases_lt}
 use Rattle.std.proofs.lemmas.Bool.Decides.{nat_tests}
 use Rattle.std.proofs.lemmas.List.Kept.{AllPairs-from_increasing}
-use Rattle.mls_geom.specs.Extents.{Extent, holds}
+use Rattle.mls_geom.specs.Rects.{Rect, holds}
 
 -- a line is not right of a later one
 pub rises : (lines : List ℕ) → IsStrictlyIncreasing lines → (i j : ℕ) → i ≤ j → j < length lines → slice_index lines i ≤ slice_index lines j
@@ -33,7 +33,7 @@ slot_at lines x from (suc n) after before =
 
 -- a rectangle that reaches from the line at one place to that at another has the squares of the slots from the one place up to the other
 pub holds-places :
-    (lines : List ℕ) (rect : Extent) (from to slot x y : ℕ) → IsStrictlyIncreasing lines → from < length lines → to < length lines → slot + 1 < length lines
+    (lines : List ℕ) (rect : Rect) (from to slot x y : ℕ) → IsStrictlyIncreasing lines → from < length lines → to < length lines → slot + 1 < length lines
     → slice_index lines from ≡ rect.left → slice_index lines to ≡ rect.right → rect.bottom ≤ y → y < rect.top
     → slice_index lines slot ≤ x → x < slice_index lines (slot + 1) → holds rect x y ≡ (nat_le from slot && nat_lt slot to)
 holds-places lines rect from to slot x y ascending from_in to_in slot_in is_left is_right above below after before =

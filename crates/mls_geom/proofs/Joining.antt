@@ -5,19 +5,19 @@ use Rattle.std.proofs.lemmas.Bool.{cases_lt}
 use Rattle.std.proofs.lemmas.List.{get_or_append_left}
 use Rattle.std.proofs.lemmas.List.Elements.{All-push, All-weaker}
 use Rattle.std.proofs.lemmas.List.Quantifiers.{Any-push, all_pairs_push}
-use Rattle.mls_geom.specs.Extents.{Extent}
+use Rattle.mls_geom.specs.Rects.{Rect}
 use Rattle.mls_geom.specs.Pictures.{Picture}
 use Rattle.mls_geom.specs.Strips.{IsRun}
 use Rattle.mls_geom.specs.declared.run.Run.{Run}
 
 -- the runs are those of row y left of the line, at which a run ends
-pub record AreRunsBefore (extent : Extent) (picture : Picture) (y line : ℕ) (runs : List Run) : Type 0 where
+pub record AreRunsBefore (extent : Rect) (picture : Picture) (y line : ℕ) (runs : List Run) : Type 0 where
   pub each : All (λ run. IsRun extent picture run.left run.right y run.kind) runs
   pub whole : (x : ℕ) → extent.left ≤ x → x < line → Any (λ run. (run.left ≤ x) × (x < run.right)) runs
   pub ordered : AllPairs (λ p q. p.right ≤ q.left) runs
   pub before : All (λ run. run.right ≤ line) runs
 
-pub AreRunsBefore-none : (extent : Extent) (picture : Picture) (y line : ℕ) → line ≤ extent.left → AreRunsBefore extent picture y line []
+pub AreRunsBefore-none : (extent : Rect) (picture : Picture) (y line : ℕ) → line ≤ extent.left → AreRunsBefore extent picture y line []
 AreRunsBefore-none extent picture y line start = record {
   each = search rules;
   whole = λ x from below. absurd (omega arith);
@@ -30,7 +30,7 @@ Any-append_left P xs ys (k, x, within, is, holds) =
     (k, x, omega (arith, length-append xs ys), get_or_append_left xs ys x k within ∙ is, holds)
 
 pub AreRunsBefore-push :
-    (extent : Extent) (picture : Picture) (y : ℕ) (runs : List Run) (run : Run) → AreRunsBefore extent picture y run.left runs
+    (extent : Rect) (picture : Picture) (y : ℕ) (runs : List Run) (run : Run) → AreRunsBefore extent picture y run.left runs
     → IsRun extent picture run.left run.right y run.kind → AreRunsBefore extent picture y run.right (runs ++ run ∷ [])
 AreRunsBefore-push extent picture y runs run so_far next = record {
   each = All-push (λ p. IsRun extent picture p.left p.right y p.kind) runs run so_far.each next;

@@ -7,7 +7,7 @@ use Rattle.std.proofs.lemmas.List.Elements.{All-contains, All-filter, filter_pas
 use Rattle.std.proofs.lemmas.List.Folds.{Any-from_list_any, list_any-from_Any}
 use Rattle.mls_geom.proofs.PiecePictures.{holds_outer}
 use Rattle.mls_geom.specs.Covers.{meeting}
-use Rattle.mls_geom.specs.Extents.{Extent, IsRectangleIn, holds, meets}
+use Rattle.mls_geom.specs.Rects.{Rect, IsRectangleIn, holds, meets}
 use Rattle.mls_geom.specs.Pictures.{Picture, bits_where, columns, kinds_in, rows, shows}
 use Rattle.mls_geom.specs.Strips.{AreStrips, IsStrip}
 use Rattle.mls_geom.specs.declared.piece.Piece.{Piece}
@@ -19,11 +19,11 @@ use Rattle.mls_geom.proofs.StripCovers.{kind-AreStrips}
 use Rattle.mls_geom.proofs.StripPictures.{kind-IsStrip}
 
 -- some square of the rectangle has the kind
-abbrev ShowsAt : Picture → Extent → ℕ → Type 0
+abbrev ShowsAt : Picture → Rect → ℕ → Type 0
 ShowsAt picture e kind = (x y : ℕ) × (holds e x y ≡ true) × (picture x y ≡ kind)
 
 -- the test finds such a square
-shown : (picture : Picture) (e : Extent) (kind : ℕ) → shows picture e kind ≡ true → ShowsAt picture e kind
+shown : (picture : Picture) (e : Rect) (kind : ℕ) → shows picture e kind ≡ true → ShowsAt picture e kind
 shown picture e kind h =
     let (i, y, row_within, row_is, in_row) = Any-from_list_any (λ y. list_any (λ x. picture x y == kind) (columns e)) (rows e) h in
     let (j, x, column_within, column_is, same) = Any-from_list_any (λ x. picture x y == kind) (columns e) in_row in
@@ -31,7 +31,7 @@ shown picture e kind h =
     let column = range_with_len-Contains e.left e.right x (j, column_within, column_is) in
     (x, y, between_holds e x y column.0 column.1 row.0 row.1, eqb-true (picture x y) kind same)
 
-shown_by : (picture : Picture) (e : Extent) (kind : ℕ) → ShowsAt picture e kind → shows picture e kind ≡ true
+shown_by : (picture : Picture) (e : Rect) (kind : ℕ) → ShowsAt picture e kind → shows picture e kind ≡ true
 shown_by picture e kind (x, y, inside, same) =
     let lines = holds_between e x y inside in
     let (i, row_within, row_is) = Contains-range_with_len e.bottom e.top y lines.2 lines.3 in
@@ -40,15 +40,15 @@ shown_by picture e kind (x, y, inside, same) =
     (i, y, row_within, row_is, list_any-from_Any (λ x. picture x y == kind) (columns e) (j, x, column_within, column_is, eq-eqb (picture x y) kind same))
 
 -- two rectangles that meet have a square in common
-common_square : (a b : Extent) → meets a b ≡ true → (x y : ℕ) × (holds a x y ≡ true) × (holds b x y ≡ true)
+common_square : (a b : Rect) → meets a b ≡ true → (x y : ℕ) × (holds a x y ≡ true) × (holds b x y ≡ true)
 common_square a b met = (max a.left b.left, max a.bottom b.bottom, grind (arith, nat_tests), grind (arith, nat_tests))
 
 -- and two that have one meet
-pub meets_by_square : (a b : Extent) (x y : ℕ) → holds a x y ≡ true → holds b x y ≡ true → meets a b ≡ true
+pub meets_by_square : (a b : Rect) (x y : ℕ) → holds a x y ≡ true → holds b x y ≡ true → meets a b ≡ true
 meets_by_square a b x y in_a in_b = grind (arith, nat_tests)
 
 -- a square of each strip that meets the rectangle is in it
-met : (extent e : Extent) (picture : Picture) (list : List Piece) (kind : ℕ) → AreStrips extent picture list → list_any (λ piece. piece.kind == kind) (meeting list e) ≡ true → ShowsAt picture e kind
+met : (extent e : Rect) (picture : Picture) (list : List Piece) (kind : ℕ) → AreStrips extent picture list → list_any (λ piece. piece.kind == kind) (meeting list e) ≡ true → ShowsAt picture e kind
 met extent e picture list kind strips h =
     let (k, piece, within, is, same) = Any-from_list_any (λ piece. piece.kind == kind) (meeting list e) h in
     let test = λ (piece : Piece). meets piece.rect e in
@@ -57,7 +57,7 @@ met extent e picture list kind strips h =
     (x, y, inside, sym (kind-IsStrip extent picture piece x y strip in_strip) ∙ eqb-true piece.kind kind same)
 
 -- and the strip of each of its squares meets it
-met_by : (extent e : Extent) (picture : Picture) (list : List Piece) (kind : ℕ) → AreStrips extent picture list → IsRectangleIn extent e → ShowsAt picture e kind → list_any (λ piece. piece.kind == kind) (meeting list e) ≡ true
+met_by : (extent e : Rect) (picture : Picture) (list : List Piece) (kind : ℕ) → AreStrips extent picture list → IsRectangleIn extent e → ShowsAt picture e kind → list_any (λ piece. piece.kind == kind) (meeting list e) ≡ true
 met_by extent e picture list kind strips legal (x, y, inside, same) =
     let (k, piece, within, is, in_strip) = strips.whole x y (holds_outer extent e x y legal inside) in
     let (j, there, found) = Contains-filter (λ piece. meets piece.rect e) list piece (k, within, is) (meets_by_square piece.rect e x y in_strip inside) in
@@ -66,14 +66,14 @@ met_by extent e picture list kind strips legal (x, y, inside, same) =
 
 -- the strips that meet a rectangle have the kinds of its squares
 list_any-meeting :
-    (extent e : Extent) (picture : Picture) (list : List Piece) (kind : ℕ) → AreStrips extent picture list → IsRectangleIn extent e
+    (extent e : Rect) (picture : Picture) (list : List Piece) (kind : ℕ) → AreStrips extent picture list → IsRectangleIn extent e
     → list_any (λ piece. piece.kind == kind) (meeting list e) ≡ shows picture e kind
 list_any-meeting extent e picture list kind strips legal =
     same_from_decides {P = ShowsAt picture e kind} _ _ (met extent e picture list kind strips, met_by extent e picture list kind strips legal) (shown picture e kind, shown_by picture e kind)
 
 -- so their kinds, gathered as bits, are the kinds in it
 pub fold-meeting :
-    (extent e : Extent) (picture : Picture) (list : List Piece) → AreStrips extent picture list → IsRectangleIn extent e
+    (extent e : Rect) (picture : Picture) (list : List Piece) → AreStrips extent picture list → IsRectangleIn extent e
     → fold (with_kind 64) 0 (meeting list e) ≡ kinds_in picture e
 unfolding kinds_in
 fold-meeting extent e picture list strips legal =

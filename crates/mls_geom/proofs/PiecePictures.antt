@@ -1,14 +1,14 @@
 -- What pieces show.
 use Rattle.std.proofs.Common.{◌≡◌, ℕ, true, false, List, ◌++◌, get_or, All, arith}
 use Rattle.std.proofs.lemmas.Bool.{both_ways, false_from_ne_true}
-use Rattle.mls_geom.specs.Extents.{Extent, IsRectangleIn, holds}
+use Rattle.mls_geom.specs.Rects.{Rect, IsRectangleIn, holds}
 use Rattle.mls_geom.specs.Pictures.{empty_picture, overlaid, picture_of}
 use Rattle.mls_geom.specs.declared.piece.Piece.{Piece}
 use Rattle.mls_geom.proofs.Holds.{holds_between, between_holds}
 use Rattle.mls_geom.proofs.Overlays.{overlaid_append, overlaid_outside}
 
 -- a square of a rectangle inside the extent is a square of the extent
-pub holds_outer : (extent e : Extent) (x y : ℕ) → IsRectangleIn extent e → holds e x y ≡ true → holds extent x y ≡ true
+pub holds_outer : (extent e : Rect) (x y : ℕ) → IsRectangleIn extent e → holds e x y ≡ true → holds extent x y ≡ true
 holds_outer extent e x y rectangle inside =
     let between = holds_between e x y inside in
     between_holds extent x y (omega (arith, rectangle.left_in, between.0)) (omega (arith, rectangle.right_in, between.1))
@@ -16,7 +16,7 @@ holds_outer extent e x y rectangle inside =
 
 -- outside the extent there is space
 pub space_outside :
-    (extent : Extent) (pieces : List Piece) (x y : ℕ) → All (λ piece. IsRectangleIn extent piece.rect) pieces → holds extent x y ≡ false → picture_of pieces x y ≡ 0
+    (extent : Rect) (pieces : List Piece) (x y : ℕ) → All (λ piece. IsRectangleIn extent piece.rect) pieces → holds extent x y ≡ false → picture_of pieces x y ≡ 0
 space_outside extent pieces x y legal outside =
     overlaid_outside empty_picture pieces x y
     (λ k d within. false_from_ne_true _ (λ inside. both_ways (holds extent x y) outside (holds_outer extent (get_or pieces k d).rect x y (legal k d within) inside)))

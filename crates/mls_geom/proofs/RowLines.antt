@@ -4,7 +4,7 @@ use Rattle.std.specs.List.{All, Contains}
 use Rattle.std.specs.List.Sorted.{IsStrictlyIncreasing}
 use Rattle.std.proofs.lemmas.List.{get_or_default}
 use Rattle.std.proofs.lemmas.List.Elements.{All-contains, All-cons, All-more, All-nil, All-push, Contains-append_left, Contains-get_or, Contains-push}
-use Rattle.mls_geom.specs.Extents.{Extent}
+use Rattle.mls_geom.specs.Rects.{Rect}
 use Rattle.mls_geom.specs.Slots.{AreBetweenLines, AreCuts, IsBetweenLines}
 use Rattle.mls_geom.specs.declared.piece.Piece.{Piece}
 use Rattle.mls_geom.proofs.CutLines.{rises}
@@ -23,13 +23,13 @@ AreBetweenLines_more lines more pieces indices kept between = λ k d within.
     (λ p given. record { left = kept _ given.left; right = kept _ given.right }) (between k d within)
 
 -- the lines, in any order
-pub record AreLines (extent : Extent) (pieces : List Piece) (indices lines : List ℕ) : Type 0 where
+pub record AreLines (extent : Rect) (pieces : List Piece) (indices lines : List ℕ) : Type 0 where
   pub left : Contains lines extent.left
   pub right : Contains lines extent.right
   pub inside : All (λ line. (extent.left ≤ line) × (line ≤ extent.right)) lines
   pub between : AreBetweenLines lines pieces indices
 
-pub AreLines-none : (extent : Extent) (pieces : List Piece) → extent.left ≤ extent.right → AreLines extent pieces [] (extent.left ∷ extent.right ∷ [])
+pub AreLines-none : (extent : Rect) (pieces : List Piece) → extent.left ≤ extent.right → AreLines extent pieces [] (extent.left ∷ extent.right ∷ [])
 AreLines-none extent pieces wide = record {
   left = (0, omega arith, refl);
   right = (1, omega arith, refl);
@@ -38,7 +38,7 @@ AreLines-none extent pieces wide = record {
 }
 
 pub AreLines-push :
-    (extent : Extent) (pieces : List Piece) (indices lines : List ℕ) (k : ℕ) (piece : Piece) → AreLines extent pieces (take k indices) lines
+    (extent : Rect) (pieces : List Piece) (indices lines : List ℕ) (k : ℕ) (piece : Piece) → AreLines extent pieces (take k indices) lines
     → k < length indices → slice_get pieces (slice_index indices k) ≡ Some piece
     → extent.left ≤ piece.rect.left → piece.rect.left ≤ piece.rect.right → piece.rect.right ≤ extent.right
     → AreLines extent pieces (take (k + 1) indices) ((lines ++ piece.rect.left ∷ []) ++ piece.rect.right ∷ [])
@@ -57,7 +57,7 @@ AreLines-push extent pieces indices lines k piece so_far within is from wide to 
     }
 
 -- cuts are the lines in order, each once
-module _ (extent : Extent) (pieces : List Piece) (indices lines cuts : List ℕ) (all : AreLines extent pieces indices lines) (members : (line : ℕ) → Contains cuts line ↔ Contains lines line) where
+module _ (extent : Rect) (pieces : List Piece) (indices lines cuts : List ℕ) (all : AreLines extent pieces indices lines) (members : (line : ℕ) → Contains cuts line ↔ Contains lines line) where
   pub AreBetweenLines-from_lines : AreBetweenLines cuts pieces indices
   AreBetweenLines-from_lines = AreBetweenLines_more lines cuts pieces indices (λ line. (members line).1) all.between
 

@@ -4,7 +4,7 @@ use Rattle.std.specs.List.{Any}
 use Rattle.std.proofs.lemmas.Bool.{cases_lt}
 use Rattle.std.proofs.lemmas.List.{get_or-map, get_or_past, get_or_default, length-map, map-set, set-get_or}
 use Rattle.std.proofs.lemmas.List.Elements.{All-set}
-use Rattle.mls_geom.specs.Extents.{Extent}
+use Rattle.mls_geom.specs.Rects.{Rect}
 use Rattle.mls_geom.specs.Pictures.{Picture}
 use Rattle.mls_geom.specs.Rows.{AreRuns}
 use Rattle.mls_geom.specs.Stacks.{up_to}
@@ -13,17 +13,17 @@ use Rattle.mls_geom.specs.declared.run.Run.{Run}
 use Rattle.mls_geom.proofs.ListChanges.{AllPairs-set, Any-set_kept}
 
 -- the rows of the extent don't matter to a run
-pub IsRun-extent : (extent : Extent) {picture : Picture} {left right y kind : ℕ} (line : ℕ) → IsRun (up_to line extent) picture left right y kind → IsRun extent picture left right y kind
+pub IsRun-extent : (extent : Rect) {picture : Picture} {left right y kind : ℕ} (line : ℕ) → IsRun (up_to line extent) picture left right y kind → IsRun extent picture left right y kind
 IsRun-extent extent line run =
     record { from = run.from; wide = run.wide; to = run.to; one_kind = run.one_kind; ends_left = run.ends_left; ends_right = run.ends_right }
 
-pub IsRun-up_to : (extent : Extent) {picture : Picture} {left right y kind : ℕ} (line : ℕ) → IsRun extent picture left right y kind → IsRun (up_to line extent) picture left right y kind
+pub IsRun-up_to : (extent : Rect) {picture : Picture} {left right y kind : ℕ} (line : ℕ) → IsRun extent picture left right y kind → IsRun (up_to line extent) picture left right y kind
 IsRun-up_to extent line run =
     record { from = run.from; wide = run.wide; to = run.to; one_kind = run.one_kind; ends_left = run.ends_left; ends_right = run.ends_right }
 
 -- in a row that is alike there is the same run
 pub IsRun-alike :
-    {extent : Extent} {picture : Picture} {left right y kind : ℕ} (z : ℕ) → ((x : ℕ) → extent.left ≤ x → x < extent.right → picture x z ≡ picture x y)
+    {extent : Rect} {picture : Picture} {left right y kind : ℕ} (z : ℕ) → ((x : ℕ) → extent.left ≤ x → x < extent.right → picture x z ≡ picture x y)
     → IsRun extent picture left right y kind → IsRun extent picture left right z kind
 IsRun-alike {extent} {picture} {left} {right} {y} {kind} z alike run = record {
   from = run.from;
@@ -36,12 +36,12 @@ IsRun-alike {extent} {picture} {left} {right} {y} {kind} z alike run = record {
 
 -- runs of a row that share a square have one kind, and neither begins or ends before the other
 one_kind_shared :
-    {extent : Extent} {picture : Picture} {l r y k l' r' k' : ℕ} (x : ℕ) → IsRun extent picture l r y k → IsRun extent picture l' r' y k'
+    {extent : Rect} {picture : Picture} {l r y k l' r' k' : ℕ} (x : ℕ) → IsRun extent picture l r y k → IsRun extent picture l' r' y k'
     → l ≤ x → x < r → l' ≤ x → x < r' → k ≡ k'
 one_kind_shared x p q from to from' to' = sym (p.one_kind x from to) ∙ q.one_kind x from' to'
 
 begins_no_later :
-    {extent : Extent} {picture : Picture} {l r y k l' r' k' : ℕ} (x : ℕ) → IsRun extent picture l r y k → IsRun extent picture l' r' y k'
+    {extent : Rect} {picture : Picture} {l r y k l' r' k' : ℕ} (x : ℕ) → IsRun extent picture l r y k → IsRun extent picture l' r' y k'
     → l ≤ x → x < r → l' ≤ x → x < r' → l' ≤ l
 begins_no_later {l} {l'} x p q from to from' to' = elim (cases_lt l l') [
   | inl before ↦ absurd (q.ends_left (omega (arith, p.from)) (p.one_kind (l' - 1) (omega arith) (omega arith) ∙ one_kind_shared x p q from to from' to'))
@@ -49,7 +49,7 @@ begins_no_later {l} {l'} x p q from to from' to' = elim (cases_lt l l') [
 ]
 
 ends_no_sooner :
-    {extent : Extent} {picture : Picture} {l r y k l' r' k' : ℕ} (x : ℕ) → IsRun extent picture l r y k → IsRun extent picture l' r' y k'
+    {extent : Rect} {picture : Picture} {l r y k l' r' k' : ℕ} (x : ℕ) → IsRun extent picture l r y k → IsRun extent picture l' r' y k'
     → l ≤ x → x < r → l' ≤ x → x < r' → r ≤ r'
 ends_no_sooner {r} {r'} x p q from to from' to' = elim (cases_lt r' r) [
   | inl before ↦ absurd (q.ends_right (omega (arith, p.to)) (p.one_kind r' (omega arith) before ∙ one_kind_shared x p q from to from' to'))
@@ -66,7 +66,7 @@ pub both_one_run : {l r k l' r' k' l'' r'' k'' : ℕ} → AreOneRun l r k l' r' 
 both_one_run p q = record { left = p.left ∙ sym q.left; right = p.right ∙ sym q.right; kind = p.kind ∙ sym q.kind }
 
 pub one_run :
-    {extent : Extent} {picture : Picture} {l r y k l' r' k' : ℕ} (x : ℕ) → IsRun extent picture l r y k → IsRun extent picture l' r' y k'
+    {extent : Rect} {picture : Picture} {l r y k l' r' k' : ℕ} (x : ℕ) → IsRun extent picture l r y k → IsRun extent picture l' r' y k'
     → l ≤ x → x < r → l' ≤ x → x < r' → AreOneRun l r k l' r' k'
 one_run x p q from to from' to' = record {
   left = omega (arith, begins_no_later x p q from to from' to', begins_no_later x q p from' to' from to);
@@ -76,7 +76,7 @@ one_run x p q from to from' to' = record {
 
 -- a run of a row is in the list of its runs
 pub run_listed :
-    {extent : Extent} {picture : Picture} {l r y k : ℕ} (runs : List Run) → AreRuns extent picture y runs → IsRun extent picture l r y k
+    {extent : Rect} {picture : Picture} {l r y k : ℕ} (runs : List Run) → AreRuns extent picture y runs → IsRun extent picture l r y k
     → Any (λ run. AreOneRun run.left run.right run.kind l r k) runs
 run_listed {l} runs list run =
     let (n, here, within, is, at) = list.whole l run.from (omega (arith, run.wide, run.to)) in
@@ -94,7 +94,7 @@ left_line-past runs n end past = get_or_past (map (λ run. run.left) runs) n end
 
 -- the run that has a square of the row
 run_at :
-    {extent : Extent} {picture : Picture} {y : ℕ} (runs : List Run) (x : ℕ) (d : Run) → AreRuns extent picture y runs → extent.left ≤ x → x < extent.right
+    {extent : Rect} {picture : Picture} {y : ℕ} (runs : List Run) (x : ℕ) (d : Run) → AreRuns extent picture y runs → extent.left ≤ x → x < extent.right
     → (n : ℕ) × (n < length runs) × ((get_or runs n d).left ≤ x) × (x < (get_or runs n d).right)
 run_at runs x d list from to =
     let (n, here, within, is, at) = list.whole x from to in
@@ -103,7 +103,7 @@ run_at runs x d list from to =
 
 -- the lines of the runs ascend
 lines_ascend :
-    {extent : Extent} {picture : Picture} {y : ℕ} (runs : List Run) (m n : ℕ) (d : Run) → AreRuns extent picture y runs → m ≤ n → n < length runs
+    {extent : Rect} {picture : Picture} {y : ℕ} (runs : List Run) (m n : ℕ) (d : Run) → AreRuns extent picture y runs → m ≤ n → n < length runs
     → ((get_or runs m d).left ≤ (get_or runs n d).left) × ((get_or runs m d).right ≤ (get_or runs n d).right)
 lines_ascend runs m n d list up within = elim (cases_lt m n) [
   | inl before ↦
@@ -116,7 +116,7 @@ lines_ascend runs m n d list up within = elim (cases_lt m n) [
 ]
 
 -- the first run begins where the extent does
-pub left_line-first : {extent : Extent} {picture : Picture} {y : ℕ} (runs : List Run) → AreRuns extent picture y runs → extent.left < extent.right → left_line runs 0 extent.right ≡ extent.left
+pub left_line-first : {extent : Rect} {picture : Picture} {y : ℕ} (runs : List Run) → AreRuns extent picture y runs → extent.left < extent.right → left_line runs 0 extent.right ≡ extent.left
 left_line-first {extent} runs list wide =
     let (n, run, within, is, at) = list.whole extent.left (le_refl extent.left) wide in
     let first = list.each 0 run (omega arith) in
@@ -124,7 +124,7 @@ left_line-first {extent} runs list wide =
 
 -- each run begins where the last one ends, and the last ends where the extent does
 next_begins :
-    {extent : Extent} {picture : Picture} {y : ℕ} (runs : List Run) (n : ℕ) (d : Run) → AreRuns extent picture y runs → n < length runs
+    {extent : Rect} {picture : Picture} {y : ℕ} (runs : List Run) (n : ℕ) (d : Run) → AreRuns extent picture y runs → n < length runs
     → (get_or runs n d).right < extent.right → (n + 1 < length runs) × ((get_or runs (n + 1) d).left ≤ (get_or runs n d).right)
 next_begins runs n d list within inside =
     let run = list.each n d within in
@@ -135,7 +135,7 @@ next_begins runs n d list within inside =
     ]
 
 pub left_line-next :
-    {extent : Extent} {picture : Picture} {y : ℕ} (runs : List Run) (n : ℕ) (d : Run) → AreRuns extent picture y runs → n < length runs
+    {extent : Rect} {picture : Picture} {y : ℕ} (runs : List Run) (n : ℕ) (d : Run) → AreRuns extent picture y runs → n < length runs
     → left_line runs (n + 1) extent.right ≡ (get_or runs n d).right
 left_line-next {extent} runs n d list within = elim (cases_lt (n + 1) (length runs)) [
   | inl more ↦
@@ -162,7 +162,7 @@ left_line-set runs n strip k end d within =
     ap (λ lines. get_or lines k end) (map-set (λ run. run.left) runs n (named strip (get_or runs n d)) ∙ same)
 
 pub AreRuns-set :
-    {extent : Extent} {picture : Picture} {y : ℕ} (runs : List Run) (n strip : ℕ) (d : Run) → n < length runs → AreRuns extent picture y runs
+    {extent : Rect} {picture : Picture} {y : ℕ} (runs : List Run) (n strip : ℕ) (d : Run) → n < length runs → AreRuns extent picture y runs
     → AreRuns extent picture y (set runs n (named strip (get_or runs n d)))
 AreRuns-set {extent} {picture} {y} runs n strip d within list =
     let run = named strip (get_or runs n d) in
@@ -174,6 +174,6 @@ AreRuns-set {extent} {picture} {y} runs n strip d within list =
 
 -- rows that are alike have the same runs
 pub AreRuns-alike :
-    {extent : Extent} {picture : Picture} {y : ℕ} {runs : List Run} (z : ℕ) → ((x : ℕ) → extent.left ≤ x → x < extent.right → picture x z ≡ picture x y)
+    {extent : Rect} {picture : Picture} {y : ℕ} {runs : List Run} (z : ℕ) → ((x : ℕ) → extent.left ≤ x → x < extent.right → picture x z ≡ picture x y)
     → AreRuns extent picture y runs → AreRuns extent picture z runs
 AreRuns-alike z alike list = record { each = λ k d within. IsRun-alike z alike (list.each k d within); whole = list.whole; ordered = list.ordered }

@@ -5,7 +5,7 @@ use Rattle.std.proofs.lemmas.Bool.{cases_lt, cases_order}
 use Rattle.std.proofs.lemmas.Option.{slice_get-get_or}
 use Rattle.std.proofs.lemmas.List.{take_all, take_more_set}
 use Rattle.std.proofs.lemmas.List.Elements.{All-push, All-weaker}
-use Rattle.mls_geom.specs.Extents.{Extent}
+use Rattle.mls_geom.specs.Rects.{Rect}
 use Rattle.mls_geom.specs.Pictures.{Picture}
 use Rattle.mls_geom.specs.Rows.{AreRuns}
 use Rattle.mls_geom.specs.Stacks.{AreStacked, AreAlike, NameStrips, ReachesUp, StandsOn, begun, raised, up_to}
@@ -17,7 +17,7 @@ use Rattle.mls_geom.proofs.RowRuns.{AreOneRun, AreRuns-alike, AreRuns-set, left_
 use Rattle.mls_geom.proofs.Stacking.{BeginsAt, IsBand, IsPartlyStacked, IsPartlyStacked-begun, IsPartlyStacked-end, IsPartlyStacked-raised, IsPartlyStacked-start, length-lt-tile_count}
 
 -- of the band's row the first n runs are stacked, and of the runs below it those before the place are passed
-pub record IsRowStacked (extent : Extent) (picture : Picture) (bottom top : ℕ) (below row : List Run) (place n : ℕ) (strips : List Piece) : Type 0 where
+pub record IsRowStacked (extent : Rect) (picture : Picture) (bottom top : ℕ) (below row : List Run) (place n : ℕ) (strips : List Piece) : Type 0 where
   pub band : IsBand extent picture bottom top
   pub runs : AreRuns extent picture bottom row
   pub runs_below : extent.bottom < bottom → AreRuns extent picture (bottom - 1) below
@@ -28,7 +28,7 @@ pub record IsRowStacked (extent : Extent) (picture : Picture) (bottom top : ℕ)
 
 -- before the first run
 pub IsRowStacked-start :
-    {extent : Extent} {picture : Picture} {bottom top : ℕ} {below row : List Run} {strips : List Piece} → extent.left < extent.right → extent.bottom ≤ bottom → bottom < top
+    {extent : Rect} {picture : Picture} {bottom top : ℕ} {below row : List Run} {strips : List Piece} → extent.left < extent.right → extent.bottom ≤ bottom → bottom < top
     → AreStacked extent picture bottom strips below → AreRuns extent picture bottom row → AreAlike extent picture bottom top
     → IsRowStacked extent picture bottom top below row 0 0 strips
 IsRowStacked-start {bottom} {top} {row} wide from tall stacked runs alike = record {
@@ -43,7 +43,7 @@ IsRowStacked-start {bottom} {top} {row} wide from tall stacked runs alike = reco
 
 -- after the last run
 pub IsRowStacked-end :
-    {extent : Extent} {picture : Picture} {bottom top place n : ℕ} {below row : List Run} {strips : List Piece}
+    {extent : Rect} {picture : Picture} {bottom top place n : ℕ} {below row : List Run} {strips : List Piece}
     → IsRowStacked extent picture bottom top below row place n strips → length row ≤ n → AreStacked extent picture top strips row
 IsRowStacked-end {extent} {top} {n} {row} state all =
     let band = state.band in
@@ -63,7 +63,7 @@ pub record IsStripUnder (bottom : ℕ) (run : Run) (strip : Piece) : Type 0 wher
   pub same : AreOneRun strip.rect.left strip.rect.right strip.kind run.left run.right run.kind
 
 pub IsStripUnder-named :
-    {extent : Extent} {picture : Picture} {bottom top place n : ℕ} {below row : List Run} {strips : List Piece} (d : Run) (at strip : ℕ)
+    {extent : Rect} {picture : Picture} {bottom top place n : ℕ} {below row : List Run} {strips : List Piece} (d : Run) (at strip : ℕ)
     → IsRowStacked extent picture bottom top below row place n strips → n < length row
     → IsSomeAnd (slice_get below at) (StandsOn (get_or row n d)) → IsSomeAnd (slice_get below at) (λ under. under.strip ≡ strip)
     → (strip < length strips) × HoldsAt (IsStripUnder bottom (get_or row n d)) strips strip
@@ -83,7 +83,7 @@ IsStripUnder-named {extent} {bottom} {n} {below} {row} {strips} d at strip state
 
 -- the runs passed on the way to a run of the row
 passed_here :
-    {extent : Extent} {picture : Picture} {bottom top place n : ℕ} {below row : List Run} {strips : List Piece} (d : Run) (at : ℕ)
+    {extent : Rect} {picture : Picture} {bottom top place n : ℕ} {below row : List Run} {strips : List Piece} (d : Run) (at : ℕ)
     → IsRowStacked extent picture bottom top below row place n strips → n < length row
     → AllWithin (λ under. under.left < (get_or row n d).left) below place at → AllWithin (λ under. under.left < (get_or row n d).left) below 0 at
 passed_here {extent} {place} {n} {row} d at state within passed k e above before = elim (cases_lt k place) [
@@ -93,7 +93,7 @@ passed_here {extent} {place} {n} {row} d at state within passed k e above before
 
 -- a run that stands on none of those below begins a strip
 pub BeginsAt-found :
-    {extent : Extent} {picture : Picture} {bottom top place n : ℕ} {below row : List Run} {strips : List Piece} (d : Run) (at : ℕ)
+    {extent : Rect} {picture : Picture} {bottom top place n : ℕ} {below row : List Run} {strips : List Piece} (d : Run) (at : ℕ)
     → IsRowStacked extent picture bottom top below row place n strips → n < length row
     → AllWithin (λ under. under.left < (get_or row n d).left) below place at → IfSome (slice_get below at) (λ under. (get_or row n d).left ≤ under.left)
     → ¬ (IsSomeAnd (slice_get below at) (StandsOn (get_or row n d))) → BeginsAt extent picture bottom (get_or row n d)
@@ -110,7 +110,7 @@ BeginsAt-found {below} d at state within passed stopped stands_on_none above run
 
 -- the line at which the next run begins
 next_line :
-    {extent : Extent} {picture : Picture} {bottom : ℕ} (row : List Run) (n strip : ℕ) (d : Run) → AreRuns extent picture bottom row → n < length row
+    {extent : Rect} {picture : Picture} {bottom : ℕ} (row : List Run) (n strip : ℕ) (d : Run) → AreRuns extent picture bottom row → n < length row
     → left_line (set row n (named strip (get_or row n d))) (n + 1) extent.right ≡ (get_or row n d).right
 next_line {extent} row n strip d runs within = left_line-set row n strip (n + 1) extent.right d within ∙ left_line-next row n d runs within
 
@@ -125,7 +125,7 @@ named_more top row n run old new within names kept names_own =
 
 -- one run more, which goes on with a strip
 pub IsRowStacked-raised :
-    {extent : Extent} {picture : Picture} {bottom top place n : ℕ} {below row : List Run} {strips : List Piece} (d : Run) (e : Piece) (at strip : ℕ)
+    {extent : Rect} {picture : Picture} {bottom top place n : ℕ} {below row : List Run} {strips : List Piece} (d : Run) (e : Piece) (at strip : ℕ)
     → IsRowStacked extent picture bottom top below row place n strips → n < length row → AllWithin (λ under. under.left < (get_or row n d).left) below place at
     → strip < length strips → IsStripUnder bottom (get_or row n d) (get_or strips strip e)
     → IsRowStacked extent picture bottom top below (set row n (named strip (get_or row n d))) at (n + 1) (set strips strip (raised top (get_or strips strip e)))
@@ -152,7 +152,7 @@ IsRowStacked-raised {extent} {bottom} {top} {n} {below} {row} {strips} d e at st
 
 -- one run more, which begins a strip
 pub IsRowStacked-begun :
-    {extent : Extent} {picture : Picture} {bottom top place n : ℕ} {below row : List Run} {strips : List Piece} (d : Run) (at : ℕ)
+    {extent : Rect} {picture : Picture} {bottom top place n : ℕ} {below row : List Run} {strips : List Piece} (d : Run) (at : ℕ)
     → IsRowStacked extent picture bottom top below row place n strips → n < length row → AllWithin (λ under. under.left < (get_or row n d).left) below place at
     → BeginsAt extent picture bottom (get_or row n d)
     → IsRowStacked extent picture bottom top below (set row n (named (length strips) (get_or row n d))) at (n + 1) (strips ++ begun bottom top (get_or row n d) ∷ [])
@@ -177,7 +177,7 @@ IsRowStacked-begun {extent} {bottom} {top} {n} {below} {row} {strips} d at state
 
 -- where one more run begins a strip, there are more strips than are stacked so far
 pub length-lt-tile_count_of_row :
-    {extent : Extent} {picture : Picture} {bottom top place n : ℕ} {below row : List Run} {strips : List Piece} (d : Run)
+    {extent : Rect} {picture : Picture} {bottom top place n : ℕ} {below row : List Run} {strips : List Piece} (d : Run)
     → IsRowStacked extent picture bottom top below row place n strips → n < length row
     → BeginsAt extent picture bottom (get_or row n d) → length strips < tile_count (up_to top extent) picture
 length-lt-tile_count_of_row {extent} {n} {row} d state within begins =

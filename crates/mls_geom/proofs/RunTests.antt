@@ -5,7 +5,7 @@ use Rattle.std.proofs.lemmas.Bool.{eqb-false, and_from, and_parts}
 use Rattle.std.proofs.lemmas.Bool.Decides.{nat_tests}
 use Rattle.std.proofs.lemmas.List.FromFn.{length-range_with_len, get_or-range_with_len}
 use Rattle.std.proofs.lemmas.List.Sums.{prefix_len_is, prefix_len_passes, prefix_len_stops, prefix_len-drop_yes, prefix_len-le-length}
-use Rattle.mls_geom.specs.Extents.{Extent}
+use Rattle.mls_geom.specs.Rects.{Rect}
 use Rattle.mls_geom.specs.Pictures.{Picture}
 use Rattle.mls_geom.specs.Strips.{IsRun}
 use Rattle.mls_geom.specs.TileCounts.{starts_run, run_end, goes_on_below}
@@ -54,21 +54,21 @@ front_begins p low high up here =
     omega (arith, prefix_len-drop_yes p (range_with_len low n) 0 0 some (ap p (get_or-range_with_len low n 0 0 (omega arith) ∙ at_low) ∙ here))
 
 -- the leftmost square of a run starts it
-pub starts_run-IsRun : (extent : Extent) (picture : Picture) (left right y kind : ℕ) → IsRun extent picture left right y kind → starts_run extent picture left y ≡ true
+pub starts_run-IsRun : (extent : Rect) (picture : Picture) (left right y kind : ℕ) → IsRun extent picture left right y kind → starts_run extent picture left y ≡ true
 starts_run-IsRun extent picture left right y kind run =
     let here = run.one_kind left (le_refl left) run.wide in
     grind (arith, nat_tests, here, run.from, run.ends_left)
 
 -- and no other square of it does
 pub left-starts_run :
-    (extent : Extent) (picture : Picture) (left right y kind x : ℕ) → IsRun extent picture left right y kind → left ≤ x → x < right
+    (extent : Rect) (picture : Picture) (left right y kind x : ℕ) → IsRun extent picture left right y kind → left ≤ x → x < right
     → starts_run extent picture x y ≡ true → left ≡ x
 left-starts_run extent picture left right y kind x run above below starts =
     let here = run.one_kind x above below in
     grind (arith, nat_tests, run.from, run.one_kind (x - 1))
 
 -- the line at which its kind ends is its right end
-pub run_end-IsRun : (extent : Extent) (picture : Picture) (left right y kind : ℕ) → IsRun extent picture left right y kind → run_end extent picture left y ≡ right
+pub run_end-IsRun : (extent : Rect) (picture : Picture) (left right y kind : ℕ) → IsRun extent picture left right y kind → run_end extent picture left y ≡ right
 run_end-IsRun extent picture left right y kind run =
     let here = run.one_kind left (le_refl left) run.wide in
     front (λ z. picture z y == picture left y) left extent.right right (omega arith) run.to
@@ -77,7 +77,7 @@ run_end-IsRun extent picture left right y kind run =
 
 -- a square of the extent that starts a run starts this one
 pub IsRun-from_tests :
-    (extent : Extent) (picture : Picture) (x y : ℕ) → extent.left ≤ x → x < extent.right → starts_run extent picture x y ≡ true
+    (extent : Rect) (picture : Picture) (x y : ℕ) → extent.left ≤ x → x < extent.right → starts_run extent picture x y ≡ true
     → IsRun extent picture x (run_end extent picture x y) y (picture x y)
 IsRun-from_tests extent picture x y from within starts = record {
   from = from;
@@ -90,7 +90,7 @@ IsRun-from_tests extent picture x y from within starts = record {
 
 -- a run on a run of the same ends and kind goes on below
 pub goes_on_below-IsRun :
-    (extent : Extent) (picture : Picture) (left right y kind : ℕ) → extent.bottom < y → IsRun extent picture left right y kind
+    (extent : Rect) (picture : Picture) (left right y kind : ℕ) → extent.bottom < y → IsRun extent picture left right y kind
     → IsRun extent picture left right (y - 1) kind → goes_on_below extent picture left y ≡ true
 goes_on_below-IsRun extent picture left right y kind above run below =
     let starts = starts_run-IsRun extent picture left right (y - 1) kind below in
@@ -101,7 +101,7 @@ goes_on_below-IsRun extent picture left right y kind above run below =
 
 -- what goes on below stands on such a run
 pub IsRun-below :
-    (extent : Extent) (picture : Picture) (left right y kind : ℕ) → IsRun extent picture left right y kind → goes_on_below extent picture left y ≡ true
+    (extent : Rect) (picture : Picture) (left right y kind : ℕ) → IsRun extent picture left right y kind → goes_on_below extent picture left y ≡ true
     → (extent.bottom < y) × IsRun extent picture left right (y - 1) kind
 IsRun-below extent picture left right y kind run goes_on =
     let tests = and_parts _ _ goes_on in

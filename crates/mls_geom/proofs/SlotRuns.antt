@@ -1,13 +1,13 @@
 -- Slots of one kind, next to each other, are a run if the slots on both sides have other kinds.
 use Rattle.std.proofs.Common.{◌≡◌, ◌≢◌, ℕ, ◌+◌, ◌-◌, ◌<◌, ◌≤◌, List, length, slice_index, sym, ◌∙◌, arith}
 use Rattle.std.proofs.lemmas.List.Kept.{AllPairs-from_increasing}
-use Rattle.mls_geom.specs.Extents.{Extent}
+use Rattle.mls_geom.specs.Rects.{Rect}
 use Rattle.mls_geom.specs.Pictures.{Picture}
 use Rattle.mls_geom.specs.Slots.{AreCuts, AreSlotKinds}
 use Rattle.mls_geom.specs.Strips.{IsRun}
 use Rattle.mls_geom.proofs.CutLines.{before_from_less, rises, slot_at}
 
-module _ (extent : Extent) (picture : Picture) (y : ℕ) (lines kinds : List ℕ) (cuts : AreCuts extent lines) (shown : AreSlotKinds picture y lines kinds) where
+module _ (extent : Rect) (picture : Picture) (y : ℕ) (lines kinds : List ℕ) (cuts : AreCuts extent lines) (shown : AreSlotKinds picture y lines kinds) where
   -- the squares on both sides of a line
   right_of_line : (place : ℕ) → place < length kinds → picture (slice_index lines place) y ≡ slice_index kinds place
   right_of_line place within =

@@ -6,7 +6,7 @@ use Rattle.std.proofs.lemmas.Bool.Decides.{nat_tests}
 use Rattle.std.proofs.lemmas.List.{length_push}
 use Rattle.std.proofs.lemmas.List.Elements.{All-push, All-set}
 use Rattle.std.proofs.lemmas.List.Quantifiers.{any-set, Any-push, all_pairs_push}
-use Rattle.mls_geom.specs.Extents.{Extent, holds}
+use Rattle.mls_geom.specs.Rects.{Rect, holds}
 use Rattle.mls_geom.specs.Pictures.{Picture}
 use Rattle.mls_geom.specs.Stacks.{AreAlike, up_to, raised, begun}
 use Rattle.mls_geom.specs.Strips.{AreStrips, IsRun, IsStrip, comes_before}
@@ -25,7 +25,7 @@ abbrev pub HasSquare : ℕ → ℕ → Piece → Type 0
 HasSquare x y piece = IsTrue (holds piece.rect x y)
 
 -- the strips of the columns left of a line are done, and those of the others still to do
-pub record IsPartlyStacked (extent : Extent) (picture : Picture) (bottom top column : ℕ) (strips : List Piece) : Type 0 where
+pub record IsPartlyStacked (extent : Rect) (picture : Picture) (bottom top column : ℕ) (strips : List Piece) : Type 0 where
   pub done : All (λ strip. strip.rect.left < column → IsStrip (up_to top extent) picture strip) strips
   pub to_do : All (λ strip. column ≤ strip.rect.left → IsStrip (up_to bottom extent) picture strip) strips
   pub low : All (λ strip. strip.rect.bottom ≤ bottom) strips
@@ -35,18 +35,18 @@ pub record IsPartlyStacked (extent : Extent) (picture : Picture) (bottom top col
   pub count : length strips ≡ tile_count (up_to bottom extent) picture + corners_between extent picture bottom extent.left column
 
 -- a band of rows that are alike
-pub record IsBand (extent : Extent) (picture : Picture) (bottom top : ℕ) : Type 0 where
+pub record IsBand (extent : Rect) (picture : Picture) (bottom top : ℕ) : Type 0 where
   pub from : extent.bottom ≤ bottom
   pub tall : bottom < top
   pub alike : AreAlike extent picture bottom top
 
 -- the row below the line doesn't have the run
-abbrev pub BeginsAt : Extent → Picture → ℕ → Run → Type 0
+abbrev pub BeginsAt : Rect → Picture → ℕ → Run → Type 0
 BeginsAt extent picture bottom run = extent.bottom < bottom → ¬ (IsRun extent picture run.left run.right (bottom - 1) run.kind)
 
 -- strips of the list with the same ends, kind and top line are one
 one_strip :
-    {extent : Extent} {picture : Picture} (strips : List Piece) (m n : ℕ) (d : Piece) → AllPairs (λ p q. IsTrue (comes_before p q)) strips → m < length strips → n < length strips
+    {extent : Rect} {picture : Picture} (strips : List Piece) (m n : ℕ) (d : Piece) → AllPairs (λ p q. IsTrue (comes_before p q)) strips → m < length strips → n < length strips
     → IsStrip extent picture (get_or strips m d) → IsStrip extent picture (get_or strips n d) → (get_or strips m d).rect.top ≡ (get_or strips n d).rect.top
     → AreOneRun (get_or strips m d).rect.left (get_or strips m d).rect.right (get_or strips m d).kind (get_or strips n d).rect.left (get_or strips n d).rect.right (get_or strips n d).kind
     → m ≡ n
@@ -65,13 +65,13 @@ one_strip strips m n d ordered m_within n_within p q top same =
 
 -- a run of the band's lowest row is one of each of its rows
 rows_of_run :
-    {extent : Extent} {picture : Picture} {bottom top l r k : ℕ} → IsBand extent picture bottom top → IsRun extent picture l r bottom k
+    {extent : Rect} {picture : Picture} {bottom top l r k : ℕ} → IsBand extent picture bottom top → IsRun extent picture l r bottom k
     → (row : ℕ) → bottom ≤ row → row < top → IsRun extent picture l r row k
 rows_of_run band run row above below = IsRun-alike row (λ x left right. band.alike x row left right above below) run
 
 -- a strip that begins left of the run's end, and that the run doesn't go on with, ends where it does
 ends_here :
-    {extent : Extent} {picture : Picture} {bottom top : ℕ} (run : Run) (piece : Piece) → IsBand extent picture bottom top → IsRun extent picture run.left run.right bottom run.kind
+    {extent : Rect} {picture : Picture} {bottom top : ℕ} (run : Run) (piece : Piece) → IsBand extent picture bottom top → IsRun extent picture run.left run.right bottom run.kind
     → (piece.rect.left < run.left → IsStrip (up_to top extent) picture piece) → (run.left ≤ piece.rect.left → IsStrip (up_to bottom extent) picture piece)
     → piece.rect.left < run.right
     → (IsStrip (up_to bottom extent) picture piece → piece.rect.top ≡ bottom → ¬ (AreOneRun piece.rect.left piece.rect.right piece.kind run.left run.right run.kind))
@@ -86,7 +86,7 @@ ends_here {extent} {bottom} {top} run piece band here done to_do before other = 
 
 -- where a strip of the run's ends and kind reaches up to the band, the row below has the run
 row_below :
-    {extent : Extent} {picture : Picture} {bottom : ℕ} {piece : Piece} (run : Run) → IsStrip (up_to bottom extent) picture piece → piece.rect.top ≡ bottom
+    {extent : Rect} {picture : Picture} {bottom : ℕ} {piece : Piece} (run : Run) → IsStrip (up_to bottom extent) picture piece → piece.rect.top ≡ bottom
     → AreOneRun piece.rect.left piece.rect.right piece.kind run.left run.right run.kind → (extent.bottom < bottom) × IsRun extent picture run.left run.right (bottom - 1) run.kind
 row_below {extent} {bottom} run strip reaches same =
     let under = IsRun-extent extent bottom (strip.rows (bottom - 1) (omega (arith, strip.tall)) (omega (arith, strip.tall))) in
@@ -100,7 +100,7 @@ holds_raised piece top x y up held =
 
 -- the run goes on with a strip
 pub IsPartlyStacked-raised :
-    {extent : Extent} {picture : Picture} {bottom top : ℕ} {strips : List Piece} (run : Run) (n : ℕ) (d : Piece)
+    {extent : Rect} {picture : Picture} {bottom top : ℕ} {strips : List Piece} (run : Run) (n : ℕ) (d : Piece)
     → IsBand extent picture bottom top → IsRun extent picture run.left run.right bottom run.kind → IsPartlyStacked extent picture bottom top run.left strips
     → n < length strips → (get_or strips n d).rect.top ≡ bottom
     → AreOneRun (get_or strips n d).rect.left (get_or strips n d).rect.right (get_or strips n d).kind run.left run.right run.kind
@@ -132,7 +132,7 @@ IsPartlyStacked-raised {extent} {picture} {bottom} {top} {strips} run n d band h
 
 -- a run that begins a strip is one corner more
 corner_begins :
-    {extent : Extent} {picture : Picture} {bottom : ℕ} (run : Run) → IsRun extent picture run.left run.right bottom run.kind → BeginsAt extent picture bottom run
+    {extent : Rect} {picture : Picture} {bottom : ℕ} (run : Run) → IsRun extent picture run.left run.right bottom run.kind → BeginsAt extent picture bottom run
     → corners_between extent picture bottom extent.left run.right ≡ corners_between extent picture bottom extent.left run.left + 1
 corner_begins {extent} {picture} {bottom} run here begins =
     let under = λ (goes_on : goes_on_below extent picture run.left bottom ≡ true). IsRun-from_goes_on_below here goes_on in
@@ -152,7 +152,7 @@ begun_last bottom top run piece low lower = elim (cases_lt piece.rect.left run.l
 
 -- the run begins a strip
 pub IsPartlyStacked-begun :
-    {extent : Extent} {picture : Picture} {bottom top : ℕ} {strips : List Piece} (run : Run)
+    {extent : Rect} {picture : Picture} {bottom top : ℕ} {strips : List Piece} (run : Run)
     → IsBand extent picture bottom top → IsRun extent picture run.left run.right bottom run.kind → IsPartlyStacked extent picture bottom top run.left strips
     → BeginsAt extent picture bottom run → IsPartlyStacked extent picture bottom top run.right (strips ++ begun bottom top run ∷ [])
 IsPartlyStacked-begun {extent} {picture} {bottom} {top} {strips} run band here part begins =
@@ -177,14 +177,14 @@ IsPartlyStacked-begun {extent} {picture} {bottom} {top} {strips} run band here p
 
 -- a strip lies between the extent's left line and its right one
 sides :
-    {extent : Extent} {picture : Picture} {piece : Piece} → IsStrip extent picture piece → (extent.left ≤ piece.rect.left) × (piece.rect.left < extent.right)
+    {extent : Rect} {picture : Picture} {piece : Piece} → IsStrip extent picture piece → (extent.left ≤ piece.rect.left) × (piece.rect.left < extent.right)
 sides {piece} strip =
     let run = strip.rows piece.rect.bottom (le_refl piece.rect.bottom) strip.tall in
     (run.from, omega (arith, run.wide, run.to))
 
 -- before the first run
 pub IsPartlyStacked-start :
-    {extent : Extent} {picture : Picture} (bottom top : ℕ) {strips : List Piece}
+    {extent : Rect} {picture : Picture} (bottom top : ℕ) {strips : List Piece}
     → AreStrips (up_to bottom extent) picture strips → length strips ≡ tile_count (up_to bottom extent) picture → IsPartlyStacked extent picture bottom top extent.left strips
 IsPartlyStacked-start {extent} {picture} bottom top laid count =
     let none : extent.left - extent.left ≡ 0 = omega arith in
@@ -200,7 +200,7 @@ IsPartlyStacked-start {extent} {picture} bottom top laid count =
 
 -- after the last run
 pub IsPartlyStacked-end :
-    {extent : Extent} {picture : Picture} {bottom top : ℕ} {strips : List Piece} → IsBand extent picture bottom top
+    {extent : Rect} {picture : Picture} {bottom top : ℕ} {strips : List Piece} → IsBand extent picture bottom top
     → IsPartlyStacked extent picture bottom top extent.right strips → AreStrips (up_to top extent) picture strips × (length strips ≡ tile_count (up_to top extent) picture)
 IsPartlyStacked-end {extent} {picture} {bottom} {top} {strips} band part = (
   record {
@@ -221,7 +221,7 @@ IsPartlyStacked-end {extent} {picture} {bottom} {top} {strips} band part = (
 
 -- one more strip than there may be
 pub length-lt-tile_count :
-    {extent : Extent} {picture : Picture} {bottom top : ℕ} {strips : List Piece} (run : Run)
+    {extent : Rect} {picture : Picture} {bottom top : ℕ} {strips : List Piece} (run : Run)
     → IsBand extent picture bottom top → IsRun extent picture run.left run.right bottom run.kind → IsPartlyStacked extent picture bottom top run.left strips
     → BeginsAt extent picture bottom run → length strips < tile_count (up_to top extent) picture
 length-lt-tile_count {extent} {picture} {bottom} {top} run band here part begins =

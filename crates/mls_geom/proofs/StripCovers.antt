@@ -2,7 +2,7 @@
 use Rattle.std.proofs.Common.{◌≡◌, ℕ, ◌<◌, Bool, true, false, cond, List, [], ◌∷◌, Contains, refl, lit<, arith}
 use Rattle.std.proofs.lemmas.List.Elements.{All-contains}
 use Rattle.mls_geom.specs.Covers.{CoversWorld}
-use Rattle.mls_geom.specs.Extents.{Extent, IsRectangleIn, holds}
+use Rattle.mls_geom.specs.Rects.{Rect, IsRectangleIn, holds}
 use Rattle.mls_geom.specs.Pictures.{Picture}
 use Rattle.mls_geom.specs.Strips.{AreStrips, IsStrip}
 use Rattle.mls_geom.specs.World.{world}
@@ -11,12 +11,12 @@ use Rattle.mls_geom.proofs.StripPictures.{kind-IsStrip}
 
 -- a strip of the list has the kind of its squares
 pub kind-AreStrips :
-    (extent : Extent) (picture : Picture) (list : List Piece) (piece : Piece) (x y : ℕ) → AreStrips extent picture list → Contains list piece → holds piece.rect x y ≡ true
+    (extent : Rect) (picture : Picture) (list : List Piece) (piece : Piece) (x y : ℕ) → AreStrips extent picture list → Contains list piece → holds piece.rect x y ≡ true
     → piece.kind ≡ picture x y
 kind-AreStrips extent picture list piece x y strips found = kind-IsStrip extent picture piece x y (All-contains (IsStrip extent picture) list piece strips.each found)
 
 -- an extent of one kind is a strip
-IsStrip-one_kind : (extent : Extent) (picture : Picture) (kind : ℕ) → IsRectangleIn extent extent → ((x y : ℕ) → picture x y ≡ kind) → IsStrip extent picture (record { rect = extent; kind = kind })
+IsStrip-one_kind : (extent : Rect) (picture : Picture) (kind : ℕ) → IsRectangleIn extent extent → ((x y : ℕ) → picture x y ≡ kind) → IsStrip extent picture (record { rect = extent; kind = kind })
 IsStrip-one_kind extent picture kind legal alike = record {
   from = omega arith;
   tall = legal.tall;
@@ -34,7 +34,7 @@ IsStrip-one_kind extent picture kind legal alike = record {
 }
 
 -- and it is the only one
-AreStrips-one_kind : (extent : Extent) (picture : Picture) (kind : ℕ) → IsRectangleIn extent extent → ((x y : ℕ) → picture x y ≡ kind) → AreStrips extent picture (record { rect = extent; kind = kind } ∷ [])
+AreStrips-one_kind : (extent : Rect) (picture : Picture) (kind : ℕ) → IsRectangleIn extent extent → ((x y : ℕ) → picture x y ≡ kind) → AreStrips extent picture (record { rect = extent; kind = kind } ∷ [])
 AreStrips-one_kind extent picture kind legal alike = record {
   each = λ k d within. let first : k ≡ 0 = omega arith in rw first (IsStrip-one_kind extent picture kind legal alike);
   whole = λ x y inside. (0, record { rect = extent; kind = kind }, omega arith, refl, inside);

@@ -1,7 +1,7 @@
 -- Where strips end, as the extent grows upward.
 use Rattle.std.proofs.Common.{◌≡◌, ℕ, ◌-◌, ◌<◌, ◌≤◌, inl, inr, le_refl, sym, arith}
 use Rattle.std.proofs.lemmas.Bool.{cases_lt}
-use Rattle.mls_geom.specs.Extents.{Extent}
+use Rattle.mls_geom.specs.Rects.{Rect}
 use Rattle.mls_geom.specs.Pictures.{Picture}
 use Rattle.mls_geom.specs.Stacks.{up_to, raised, begun}
 use Rattle.mls_geom.specs.Strips.{IsRun, IsStrip}
@@ -11,7 +11,7 @@ use Rattle.mls_geom.proofs.RowRuns.{AreOneRun, IsRun-extent, IsRun-up_to}
 
 -- a strip whose run the row at the top line doesn't have is one of a higher extent too
 pub IsStrip-higher :
-    (extent : Extent) {picture : Picture} {piece : Piece} (y z : ℕ) → y ≤ z → IsStrip (up_to y extent) picture piece
+    (extent : Rect) {picture : Picture} {piece : Piece} (y z : ℕ) → y ≤ z → IsStrip (up_to y extent) picture piece
     → (piece.rect.top ≡ y → ¬ (IsRun extent picture piece.rect.left piece.rect.right y piece.kind)) → IsStrip (up_to z extent) picture piece
 IsStrip-higher extent {picture} {piece} y z up strip ends = record {
   from = strip.from;
@@ -29,7 +29,7 @@ IsStrip-higher extent {picture} {piece} y z up strip ends = record {
 
 -- a strip that reaches up to a line goes on in the rows above that have its run too
 pub IsStrip-raised :
-    (extent : Extent) {picture : Picture} {piece : Piece} (y z : ℕ) → y < z → IsStrip (up_to y extent) picture piece → piece.rect.top ≡ y
+    (extent : Rect) {picture : Picture} {piece : Piece} (y z : ℕ) → y < z → IsStrip (up_to y extent) picture piece → piece.rect.top ≡ y
     → ((row : ℕ) → y ≤ row → row < z → IsRun extent picture piece.rect.left piece.rect.right row piece.kind) → IsStrip (up_to z extent) picture (raised z piece)
 IsStrip-raised extent y z up strip reaches rows = record {
   from = strip.from;
@@ -45,7 +45,7 @@ IsStrip-raised extent y z up strip reaches rows = record {
 
 -- a run that the row below doesn't have begins a strip
 pub IsStrip-begun :
-    (extent : Extent) {picture : Picture} (run : Run) (y z : ℕ) → extent.bottom ≤ y → y < z
+    (extent : Rect) {picture : Picture} (run : Run) (y z : ℕ) → extent.bottom ≤ y → y < z
     → ((row : ℕ) → y ≤ row → row < z → IsRun extent picture run.left run.right row run.kind) → (extent.bottom < y → ¬ (IsRun extent picture run.left run.right (y - 1) run.kind))
     → IsStrip (up_to z extent) picture (begun y z run)
 IsStrip-begun extent run y z from up rows begins = record {
@@ -59,7 +59,7 @@ IsStrip-begun extent run y z from up rows begins = record {
 
 -- strips with the same ends, kind and top line have the same bottom line
 begins_no_later :
-    {extent : Extent} {picture : Picture} {p q : Piece} → IsStrip extent picture p → IsStrip extent picture q
+    {extent : Rect} {picture : Picture} {p q : Piece} → IsStrip extent picture p → IsStrip extent picture q
     → AreOneRun p.rect.left p.rect.right p.kind q.rect.left q.rect.right q.kind → p.rect.top ≡ q.rect.top → q.rect.bottom ≤ p.rect.bottom
 begins_no_later {p} {q} strip other same top = elim (cases_lt p.rect.bottom q.rect.bottom) [
   | inl before ↦ absurd (other.ends_below (omega (arith, strip.from)) (rw (same.left, same.right, same.kind) at (strip.rows (q.rect.bottom - 1) (omega arith) (omega (arith, other.tall)))))
@@ -67,7 +67,7 @@ begins_no_later {p} {q} strip other same top = elim (cases_lt p.rect.bottom q.re
 ]
 
 pub one_bottom :
-    {extent : Extent} {picture : Picture} {p q : Piece} → IsStrip extent picture p → IsStrip extent picture q
+    {extent : Rect} {picture : Picture} {p q : Piece} → IsStrip extent picture p → IsStrip extent picture q
     → AreOneRun p.rect.left p.rect.right p.kind q.rect.left q.rect.right q.kind → p.rect.top ≡ q.rect.top → p.rect.bottom ≡ q.rect.bottom
 one_bottom {p} {q} strip other same top =
     let back : AreOneRun q.rect.left q.rect.right q.kind p.rect.left p.rect.right p.kind = record { left = sym same.left; right = sym same.right; kind = sym same.kind } in

@@ -2,7 +2,7 @@
 use Rattle.std.proofs.Common.{◌≡◌, ℕ, ◌-◌, ◌<◌, true, List, map, length, get_or, All, AllPairs, Contains, sym, ap, ◌∙◌, subst₂, le_refl, lt_of_lt_of_le, arith}
 use Rattle.std.proofs.lemmas.List.{length-map, get_or-map, same_lists}
 use Rattle.std.proofs.lemmas.List.Elements.{All-contains, All-map}
-use Rattle.mls_geom.specs.Extents.{Extent, holds}
+use Rattle.mls_geom.specs.Rects.{Rect, holds}
 use Rattle.mls_geom.specs.Pictures.{Picture, columns, rows}
 use Rattle.mls_geom.specs.Strips.{IsStrip, AreStrips}
 use Rattle.mls_geom.specs.TileCounts.{is_corner, tile_count}
@@ -13,7 +13,7 @@ use Rattle.mls_geom.proofs.Holds.{between_holds}
 use Rattle.mls_geom.proofs.Squares.{squares_where, StandsBefore, stands_before_one_way, length-squares_where, All-squares_where, Contains-squares_where, AllPairs-squares_where, AllPairs-range_with_len, Contains-range_with_len, range_with_len-Contains}
 
 -- the lower-left squares of the strips of a picture, row by row
-corners : Extent → Picture → List (ℕ × ℕ)
+corners : Rect → Picture → List (ℕ × ℕ)
 corners extent picture = squares_where (is_corner extent picture) (columns extent) (rows extent)
 
 -- the lower-left square of a piece
@@ -21,7 +21,7 @@ abbrev corner_of : Piece → ℕ × ℕ
 corner_of piece = (piece.rect.left, piece.rect.bottom)
 
 -- a strip has its lower-left square among them
-corner_there : (extent : Extent) (picture : Picture) (piece : Piece) → IsStrip extent picture piece → Contains (corners extent picture) (corner_of piece)
+corner_there : (extent : Rect) (picture : Picture) (piece : Piece) → IsStrip extent picture piece → Contains (corners extent picture) (corner_of piece)
 unfolding corners
 corner_there extent picture piece strip =
     let run = strip.rows piece.rect.bottom (le_refl piece.rect.bottom) strip.tall in
@@ -31,7 +31,7 @@ corner_there extent picture piece strip =
 
 -- each of them is that of a strip of the list
 strip_there :
-    (extent : Extent) (picture : Picture) (list : List Piece) → AreStrips extent picture list → (x y : ℕ) → holds extent x y ≡ true → is_corner extent picture x y ≡ true
+    (extent : Rect) (picture : Picture) (list : List Piece) → AreStrips extent picture list → (x y : ℕ) → holds extent x y ≡ true → is_corner extent picture x y ≡ true
     → Contains (map corner_of list) (x, y)
 strip_there extent picture list strips x y inside corner =
     let found = strips.whole x y inside in
@@ -40,7 +40,7 @@ strip_there extent picture list strips x y inside corner =
     let lines = corner-IsStrip extent picture piece x y (All-contains (IsStrip extent picture) list piece strips.each in_list) found.4 corner in
     subst₂ (λ a b. Contains (map corner_of list) (a, b)) lines.0 lines.1 (Contains-map corner_of list piece in_list)
 
-strips_there : (extent : Extent) (picture : Picture) (list : List Piece) → AreStrips extent picture list → All (Contains (map corner_of list)) (corners extent picture)
+strips_there : (extent : Rect) (picture : Picture) (list : List Piece) → AreStrips extent picture list → All (Contains (map corner_of list)) (corners extent picture)
 unfolding corners
 strips_there extent picture list strips =
     All-squares_where (Contains (map corner_of list)) (is_corner extent picture) (columns extent) (rows extent)
@@ -49,14 +49,14 @@ strips_there extent picture list strips =
     let up = range_with_len-Contains extent.bottom extent.top y row in
     strip_there extent picture list strips x y (between_holds extent x y across.0 across.1 up.0 up.1) corner)
 
-corners_ascend : (extent : Extent) (picture : Picture) → AllPairs StandsBefore (corners extent picture)
+corners_ascend : (extent : Rect) (picture : Picture) → AllPairs StandsBefore (corners extent picture)
 unfolding corners
 corners_ascend extent picture =
     AllPairs-squares_where (is_corner extent picture) (columns extent) (rows extent) (AllPairs-range_with_len extent.left (extent.right - extent.left))
     (AllPairs-range_with_len extent.bottom (extent.top - extent.bottom))
 
 -- so the strips have just these lower-left squares, in this order
-corners-AreStrips : (extent : Extent) (picture : Picture) (list : List Piece) → AreStrips extent picture list → map corner_of list ≡ corners extent picture
+corners-AreStrips : (extent : Rect) (picture : Picture) (list : List Piece) → AreStrips extent picture list → map corner_of list ≡ corners extent picture
 corners-AreStrips extent picture list strips =
     let there = All-map (Contains (corners extent picture)) corner_of list (λ k d within. corner_there extent picture (get_or list k d) (strips.each k d within)) in
     same_ascending StandsBefore stands_before_one_way (map corner_of list) (corners extent picture) (AllPairs-map StandsBefore corner_of list strips.ordered)
@@ -64,7 +64,7 @@ corners-AreStrips extent picture list strips =
     (λ s. All-contains (Contains (map corner_of list)) (corners extent picture) s (strips_there extent picture list strips))
 
 -- two lists of strips of one picture are one
-pub strips_are_one : (extent : Extent) (picture : Picture) (xs ys : List Piece) → AreStrips extent picture xs → AreStrips extent picture ys → xs ≡ ys
+pub strips_are_one : (extent : Rect) (picture : Picture) (xs ys : List Piece) → AreStrips extent picture xs → AreStrips extent picture ys → xs ≡ ys
 strips_are_one extent picture xs ys strips others =
     let same = corners-AreStrips extent picture xs strips ∙ sym (corners-AreStrips extent picture ys others) in
     let lengths : length xs ≡ length ys = sym (length-map xs corner_of) ∙ ap length same ∙ length-map ys corner_of in
@@ -75,7 +75,7 @@ strips_are_one extent picture xs ys strips others =
     same_strip extent picture (get_or xs k d) (get_or ys k d) (strips.each k d within) (others.each k d within') (ap (λ s. s.0) at) (ap (λ s. s.1) at))
 
 -- the strips of a picture number its tile count
-pub strips_number : (extent : Extent) (picture : Picture) (list : List Piece) → AreStrips extent picture list → length list ≡ tile_count extent picture
+pub strips_number : (extent : Rect) (picture : Picture) (list : List Piece) → AreStrips extent picture list → length list ≡ tile_count extent picture
 unfolding corners tile_count
 strips_number extent picture list strips =
     sym (length-map list corner_of) ∙ ap length (corners-AreStrips extent picture list strips) ∙ length-squares_where (is_corner extent picture) (columns extent) (rows extent)

@@ -2,7 +2,7 @@
 use Rattle.std.proofs.Common.{◌≡◌, ℕ, true, false, List, get_or, ⊎_elim, sym, ◌∙◌, arith}
 use Rattle.std.proofs.Math.Path.{fun_ext}
 use Rattle.std.proofs.lemmas.Bool.{cases_Bool, both_ways, false_from_ne_true}
-use Rattle.mls_geom.specs.Extents.{Extent, holds}
+use Rattle.mls_geom.specs.Rects.{Rect, holds}
 use Rattle.mls_geom.specs.Pictures.{Picture, empty_picture, picture_of}
 use Rattle.mls_geom.specs.Strips.{IsStrip, AreStrips}
 use Rattle.mls_geom.specs.declared.piece.Piece.{Piece}
@@ -10,13 +10,13 @@ use Rattle.mls_geom.proofs.Holds.{holds_between, between_holds}
 use Rattle.mls_geom.proofs.Overlays.{overlaid_outside, overlaid_agreed}
 
 -- the squares of a strip have its kind
-pub kind-IsStrip : (extent : Extent) (picture : Picture) (piece : Piece) (x y : ℕ) → IsStrip extent picture piece → holds piece.rect x y ≡ true → piece.kind ≡ picture x y
+pub kind-IsStrip : (extent : Rect) (picture : Picture) (piece : Piece) (x y : ℕ) → IsStrip extent picture piece → holds piece.rect x y ≡ true → piece.kind ≡ picture x y
 kind-IsStrip extent picture piece x y strip inside =
     let lines = holds_between piece.rect x y inside in
     sym ((strip.rows y lines.2 lines.3).one_kind x lines.0 lines.1)
 
 -- and lie in the extent
-pub holds-IsStrip : (extent : Extent) (picture : Picture) (piece : Piece) (x y : ℕ) → IsStrip extent picture piece → holds piece.rect x y ≡ true → holds extent x y ≡ true
+pub holds-IsStrip : (extent : Rect) (picture : Picture) (piece : Piece) (x y : ℕ) → IsStrip extent picture piece → holds piece.rect x y ≡ true → holds extent x y ≡ true
 holds-IsStrip extent picture piece x y strip inside =
     let lines = holds_between piece.rect x y inside in
     let run = strip.rows y lines.2 lines.3 in
@@ -24,20 +24,20 @@ holds-IsStrip extent picture piece x y strip inside =
 
 -- the strips of a picture show it in the extent
 pub picture_of_strips_inside :
-    (extent : Extent) (picture : Picture) (list : List Piece) (x y : ℕ) → AreStrips extent picture list → holds extent x y ≡ true → picture_of list x y ≡ picture x y
+    (extent : Rect) (picture : Picture) (list : List Piece) (x y : ℕ) → AreStrips extent picture list → holds extent x y ≡ true → picture_of list x y ≡ picture x y
 picture_of_strips_inside extent picture list x y strips inside =
     overlaid_agreed empty_picture list x y (picture x y) (λ k d within. kind-IsStrip extent picture (get_or list k d) x y (strips.each k d within)) (strips.whole x y inside)
 
 -- and nothing outside it
 pub picture_of_strips_outside :
-    (extent : Extent) (picture : Picture) (list : List Piece) (x y : ℕ) → AreStrips extent picture list → holds extent x y ≡ false → picture_of list x y ≡ 0
+    (extent : Rect) (picture : Picture) (list : List Piece) (x y : ℕ) → AreStrips extent picture list → holds extent x y ≡ false → picture_of list x y ≡ 0
 picture_of_strips_outside extent picture list x y strips outside =
     overlaid_outside empty_picture list x y
     (λ k d within. false_from_ne_true _ (λ inside. both_ways (holds extent x y) outside (holds-IsStrip extent picture (get_or list k d) x y (strips.each k d within) inside)))
 
 -- so they show the whole of a picture that has nothing outside
 pub picture_of_strips :
-    (extent : Extent) (picture : Picture) (list : List Piece) → AreStrips extent picture list → ((x y : ℕ) → holds extent x y ≡ false → picture x y ≡ 0) → picture_of list ≡ picture
+    (extent : Rect) (picture : Picture) (list : List Piece) → AreStrips extent picture list → ((x y : ℕ) → holds extent x y ≡ false → picture x y ≡ 0) → picture_of list ≡ picture
 picture_of_strips extent picture list strips empty = fun_ext (λ x. fun_ext (λ y. ⊎_elim
     (picture_of_strips_inside extent picture list x y strips)
     (λ outside. picture_of_strips_outside extent picture list x y strips outside ∙ sym (empty x y outside)) (cases_Bool (holds extent x y))))

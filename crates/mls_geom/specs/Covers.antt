@@ -1,21 +1,21 @@
 -- What a caller sees of a cover.
 use Rattle.std.specs.Prelude.{ℕ, ◌≤◌, List, length, filter}
-use Rattle.mls_geom.specs.Extents.{Extent, meets}
+use Rattle.mls_geom.specs.Rects.{Rect, meets}
 use Rattle.mls_geom.specs.Pictures.{picture_of}
 use Rattle.mls_geom.specs.Strips.{AreStrips}
 use Rattle.mls_geom.specs.World.{world}
 use Rattle.mls_geom.specs.declared.piece.Piece.{Piece}
 
 -- the strips that cover the world, and how many there is room for
-pub record Covering : Type 0 where
+pub record Cover : Type 0 where
   pub strips : List Piece
   pub room : ℕ
 
 -- the strips are those of the picture that they show, and there is room for them
-pub record CoversWorld (covering : Covering) : Type 0 where
+pub record CoversWorld (covering : Cover) : Type 0 where
   pub strips : AreStrips world (picture_of covering.strips) covering.strips
   pub room : length covering.strips ≤ covering.room
 
 -- the pieces that have a square in the rectangle
-abbrev pub meeting : List Piece → Extent → List Piece
+abbrev pub meeting : List Piece → Rect → List Piece
 meeting pieces e = filter (λ piece. meets piece.rect e) pieces

@@ -1,7 +1,7 @@
 pub mod ActivePieces
 pub mod BandLines
 pub mod Covers
-pub mod Extents
+pub mod Rects
 pub mod Pictures
 pub mod RowRooms
 pub mod Rows

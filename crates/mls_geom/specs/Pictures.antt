@@ -1,7 +1,7 @@
 -- What is painted where: for each unit square a kind (Ousterhout 1984: a plane is covered completely).
 use Rattle.std.specs.Prelude.{ℕ, ◌^◌, ◌==◌, ◌-◌, Bool, if◌then◌else◌, List, [], ◌∷◌}
 use Rattle.std.specs.List.{list_any, range_with_len, sum_by}
-use Rattle.mls_geom.specs.Extents.{Extent, holds}
+use Rattle.mls_geom.specs.Rects.{Rect, holds}
 use Rattle.mls_geom.specs.declared.piece.Piece.{Piece}
 
 -- the kind of the square at each column and row; 0 is space
@@ -26,14 +26,14 @@ abbrev pub picture_of : List Piece → Picture
 picture_of pieces = overlaid empty_picture pieces
 
 -- the columns and the rows of a rectangle
-abbrev pub columns : Extent → List ℕ
+abbrev pub columns : Rect → List ℕ
 columns e = range_with_len e.left (e.right - e.left)
 
-abbrev pub rows : Extent → List ℕ
+abbrev pub rows : Rect → List ℕ
 rows e = range_with_len e.bottom (e.top - e.bottom)
 
 -- some square of the rectangle has this kind
-abbrev pub shows : Picture → Extent → ℕ → Bool
+abbrev pub shows : Picture → Rect → ℕ → Bool
 shows picture e kind = list_any (λ y. list_any (λ x. picture x y == kind) (columns e)) (rows e)
 
 -- the number whose bit k is 1 exactly where the test passes k, for k below n
@@ -41,5 +41,5 @@ abbrev pub bits_where : (ℕ → Bool) → ℕ → ℕ
 bits_where test n = sum_by (λ k. if test k then 2 ^ k else 0) (range_with_len 0 n)
 
 -- bit k for each kind k below 64 that some square of the rectangle has
-unfoldable pub kinds_in : Picture → Extent → ℕ
+unfoldable pub kinds_in : Picture → Rect → ℕ
 kinds_in picture e = bits_where (shows picture e) 64

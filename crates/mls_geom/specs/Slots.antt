@@ -3,19 +3,19 @@
 use Rattle.std.specs.Prelude.{◌≡◌, ℕ, ◌+◌, ◌-◌, ◌<◌, ◌≤◌, Bool, nat_lt, if◌then◌else◌, List, length, slice_get, slice_index, IsSomeAnd}
 use Rattle.std.specs.List.{All, Contains}
 use Rattle.std.specs.List.Sorted.{IsStrictlyIncreasing}
-use Rattle.mls_geom.specs.Extents.{Extent}
+use Rattle.mls_geom.specs.Rects.{Rect}
 use Rattle.mls_geom.specs.Pictures.{Picture}
 use Rattle.mls_geom.specs.declared.piece.Piece.{Piece}
 
 -- lines from left to right that cut the extent: the first is its left line, and the last its right line
-pub record AreCuts (extent : Extent) (lines : List ℕ) : Type 0 where
+pub record AreCuts (extent : Rect) (lines : List ℕ) : Type 0 where
   pub ascending : IsStrictlyIncreasing lines
   pub some : 0 < length lines
   pub first : slice_index lines 0 ≡ extent.left
   pub last : slice_index lines (length lines - 1) ≡ extent.right
 
 -- the rectangle reaches from one of the lines to another
-pub record IsBetweenLines (lines : List ℕ) (rect : Extent) : Type 0 where
+pub record IsBetweenLines (lines : List ℕ) (rect : Rect) : Type 0 where
   pub left : Contains lines rect.left
   pub right : Contains lines rect.right
 

@@ -1,7 +1,7 @@
 -- The strips of the rows below a line, as the sweep upward keeps them.
 use Rattle.std.specs.Prelude.{◌≡◌, ℕ, ◌-◌, ◌<◌, ◌≤◌, List, [], length, slice_get, IsSomeAnd}
 use Rattle.std.specs.List.{All}
-use Rattle.mls_geom.specs.Extents.{Extent}
+use Rattle.mls_geom.specs.Rects.{Rect}
 use Rattle.mls_geom.specs.Pictures.{Picture}
 use Rattle.mls_geom.specs.Rows.{AreRuns}
 use Rattle.mls_geom.specs.Strips.{AreStrips}
@@ -10,7 +10,7 @@ use Rattle.mls_geom.specs.declared.piece.Piece.{Piece}
 use Rattle.mls_geom.specs.declared.run.Run.{Run}
 
 -- the part of the extent below the line y
-abbrev pub up_to : ℕ → Extent → Extent
+abbrev pub up_to : ℕ → Rect → Rect
 up_to y e = record { left = e.left; bottom = e.bottom; right = e.right; top = y }
 
 -- the piece is the strip that the run belongs to, as far as it reaches below the line y
@@ -25,7 +25,7 @@ abbrev pub NameStrips : ℕ → List Piece → List Run → Type 0
 NameStrips y strips runs = All (λ run. IsSomeAnd (slice_get strips run.strip) (ReachesUp y run)) runs
 
 -- the strips are those of the picture below the line y, and the runs are those of the row just below it, each with the strip that it belongs to
-pub record AreStacked (extent : Extent) (picture : Picture) (y : ℕ) (strips : List Piece) (below : List Run) : Type 0 where
+pub record AreStacked (extent : Rect) (picture : Picture) (y : ℕ) (strips : List Piece) (below : List Run) : Type 0 where
   pub laid : AreStrips (up_to y extent) picture strips
   pub count : length strips ≡ tile_count (up_to y extent) picture
   pub first : y ≤ extent.bottom → below ≡ []
@@ -33,7 +33,7 @@ pub record AreStacked (extent : Extent) (picture : Picture) (y : ℕ) (strips : 
   pub named : NameStrips y strips below
 
 -- the rows from one line up to the next are alike
-abbrev pub AreAlike : Extent → Picture → ℕ → ℕ → Type 0
+abbrev pub AreAlike : Rect → Picture → ℕ → ℕ → Type 0
 AreAlike extent picture bottom top = (x y : ℕ) → extent.left ≤ x → x < extent.right → bottom ≤ y → y < top → picture x y ≡ picture x bottom
 
 -- the strip, as far as another top line

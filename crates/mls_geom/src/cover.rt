@@ -22,9 +22,9 @@ pub struct Cover {
 
 impl Model for Cover {
     ghost use Rattle.std.specs.Prelude.{◌≤◌, vec_capacity};
-    ghost use Rattle.mls_geom.specs.Covers.{CoversWorld, Covering};
+    ghost use Rattle.mls_geom.specs.Covers.{CoversWorld, Cover};
 
-    ghost Value = { Covering };
+    ghost Value = { Cover };
 
     ghost view = { λ c. record { strips = c.strips.items; room = c.room } };
 

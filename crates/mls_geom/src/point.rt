@@ -14,9 +14,9 @@ pub struct Point {
 
 impl Model for Point {
     ghost use Rattle.std.specs.Prelude.{IsTrue};
-    ghost use Rattle.mls_geom.specs.Extents.{Square, holds};
+    ghost use Rattle.mls_geom.specs.Rects.{Point, holds};
 
-    ghost Value = { Square };
+    ghost Value = { Point };
 
     ghost use Rattle.mls_geom.specs.World.{world};
 

@@ -1,6 +1,6 @@
 //! Rectangles of squares of the world.
 ghost use Rattle.std.specs.Prelude.{◌≡◌, ◌&&◌, ◌+ℤ◌, ℕ, IfNone, IfSome, false, pos};
-ghost use Rattle.mls_geom.specs.Extents.{IsRectangleIn, clipped, common, grown, holds, meets};
+ghost use Rattle.mls_geom.specs.Rects.{IsRectangleIn, clipped, common, grown, holds, meets};
 ghost use Rattle.mls_geom.specs.World.{rect_of, world};
 
 use crate::Point;
@@ -27,9 +27,9 @@ pub struct Rect {
 }
 
 impl Model for Rect {
-    ghost use Rattle.mls_geom.specs.Extents.{Extent, IsRectangleIn};
+    ghost use Rattle.mls_geom.specs.Rects.{Rect, IsRectangleIn};
 
-    ghost Value = { Extent };
+    ghost Value = { Rect };
 
     ghost use Rattle.mls_geom.specs.World.{world};
 

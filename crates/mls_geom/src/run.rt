@@ -1,6 +1,6 @@
 //! Runs of a row.
 ghost use Rattle.std.specs.Prelude.{◌≡◌, ◌≢◌, ℕ, ◌+◌, ◌-◌, ◌<◌, ◌≤◌, length, slice_index, vec_capacity};
-ghost use Rattle.mls_geom.specs.Extents.{Extent};
+ghost use Rattle.mls_geom.specs.Rects.{Rect};
 ghost use Rattle.mls_geom.specs.Pictures.{Picture};
 ghost use Rattle.mls_geom.specs.Rows.{AreRuns};
 ghost use Rattle.mls_geom.specs.Slots.{AreCuts, AreSlotKinds};
@@ -18,7 +18,7 @@ pub(crate) struct Run {
 pub(crate) fn join_slots(lines: &[u32], kinds: &[u8], runs: &mut Vec<Run>)
     requires count { length lines.now ≡ length kinds.now + 1 }
     requires room { length kinds.now ≤ vec_capacity runs.old }
-    ensures runs { (extent : Extent) (picture : Picture) (y : ℕ)
+    ensures runs { (extent : Rect) (picture : Picture) (y : ℕ)
         → AreCuts extent lines.now
         → AreSlotKinds picture y lines.now kinds.now
         → AreRuns extent picture y runs.new.items }

@@ -16,10 +16,10 @@ pub struct Scratch {
 
 impl Model for Scratch {
     ghost use Rattle.std.specs.Prelude.{◌≤◌, vec_capacity};
-    ghost use Rattle.mls_geom.specs.Scratches.{Kept};
+    ghost use Rattle.mls_geom.specs.Scratches.{Scratch};
     ghost use Rattle.mls_geom.specs.SweepRooms.{HasSweepRoom};
 
-    ghost Value = { Kept };
+    ghost Value = { Scratch };
 
     ghost view = { λ s. record { strips = s.strips.items; room = s.room } };
 

@@ -1,7 +1,7 @@
 //! Stacking the runs of a band on the strips below it.
 ghost use Rattle.std.specs.Prelude.{◌≡◌, ℕ, ◌<◌, ◌≤◌, ◌↔◌, [], ◌∷◌, ◌++◌, IfOk, IfSome, IsErr, IsSome, IsSomeAnd, OnOk, OnErr, length, slice_get, vec_len, vec_capacity};
 ghost use Rattle.std.specs.List.{AllWithin};
-ghost use Rattle.mls_geom.specs.Extents.{IsRectangleIn};
+ghost use Rattle.mls_geom.specs.Rects.{IsRectangleIn};
 ghost use Rattle.mls_geom.specs.Rows.{AreRuns};
 ghost use Rattle.mls_geom.specs.Stacks.{AreStacked, AreAlike, StandsOn, begun, raised, up_to};
 ghost use Rattle.mls_geom.specs.TileCounts.{tile_count};

@@ -9,7 +9,7 @@ use Rattle.std.specs.Fmt.{decimal}
 use Rattle.std.specs.List.{flat_map}
 use Rattle.std.specs.Io.KnownBytes.{Appends}
 use Rattle.mls_wire.specs.Serving.{AppendsFront}
-use Rattle.mls_wire.specs.Watches.{Watch}
+use Rattle.mls_wire.specs.Watches.{Watched}
 use Rattle.mls_tech.specs.declared.rule_line.Skipped.{Skipped}
 use Rattle.mls_magicd.specs.Messages.{Says, Tells, faulty_line, skipped_line, unreadable_line}
 
@@ -53,15 +53,15 @@ front-more old mid new parts i d within before front missing split written =
     regroup a b c d = simp append_assoc
 
 -- nothing was said
-pub Says-nil : {E : Type 0} (contents : E → Option (List ℕ)) (watch : Watch E) → Says contents watch watch []
+pub Says-nil : {E : Type 0} (contents : E → Option (List ℕ)) (watch : Watched E) → Says contents watch watch []
 unfolding Says
 Says-nil contents watch = refl
 
 -- one message more
-pub Says-more : {E : Type 0} (contents : E → Option (List ℕ)) (old mid new : Watch E) (messages : List (List ℕ)) (message : List ℕ)
+pub Says-more : {E : Type 0} (contents : E → Option (List ℕ)) (old mid new : Watched E) (messages : List (List ℕ)) (message : List ℕ)
     → Says contents old mid messages → Tells contents mid new message → Says contents old new (messages ++ message ∷ [])
 unfolding Says
-Says-more {E} contents old mid new [] message before told = (new, subst (λ (w : Watch E). Tells contents w new message) before told, refl)
+Says-more {E} contents old mid new [] message before told = (new, subst (λ (w : Watched E). Tells contents w new message) before told, refl)
 Says-more contents old mid new (first ∷ messages) message before told =
     (before.0, before.1, Says-more contents before.0 mid new messages message before.2 told)
 

@@ -17,7 +17,7 @@ use Rattle.mls_magicd.specs.declared.options.OptionsFault.TheVariants.{Refused, 
 use Rattle.mls_magicd.specs.declared.technology.TechnologyFault.{TechnologyFault}
 use Rattle.mls_magicd.specs.declared.technology.TechnologyFault.TheVariants.{Unreadable, Faulty, Memory as TechnologyMemory}
 use Rattle.mls_wire.specs.Serving.{AppendsFront}
-use Rattle.mls_wire.specs.Watches.{Watch, HasCause}
+use Rattle.mls_wire.specs.Watches.{Watched, HasCause}
 use Rattle.mls_wire.specs.declared.serving.ServeFault.{ServeFault}
 use Rattle.mls_wire.specs.declared.serving.ServeFault.TheVariants.{Read, Write, Memory as ServeMemory}
 
@@ -80,12 +80,12 @@ skipped_line skipped = codes "magicd: tech line " ++ decimal skipped.line ++ cod
 -- ---- what is written of them
 
 -- the message was written whole, or a beginning of it, and then the device for messages had failed
-abbrev pub Tells : {E : Type 0} → (E → Option (List ℕ)) → Watch E → Watch E → List ℕ → Type 0
+abbrev pub Tells : {E : Type 0} → (E → Option (List ℕ)) → Watched E → Watched E → List ℕ → Type 0
 Tells contents old new message =
     Appends (contents old.device) (contents new.device) message
     ⊎ (AppendsFront (contents old.device) (contents new.device) message × HasCause new)
 
 -- the messages were told one after another, and nothing else was written
-unfoldable pub Says : {E : Type 0} → (E → Option (List ℕ)) → Watch E → Watch E → List (List ℕ) → Type 0
+unfoldable pub Says : {E : Type 0} → (E → Option (List ℕ)) → Watched E → Watched E → List (List ℕ) → Type 0
 Says contents old new [] = new ≡ old
-Says {E} contents old new (message ∷ messages) = (mid : Watch E) × Tells contents old mid message × Says contents mid new messages
+Says {E} contents old new (message ∷ messages) = (mid : Watched E) × Tells contents old mid message × Says contents mid new messages

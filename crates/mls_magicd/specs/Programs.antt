@@ -3,11 +3,11 @@ use Rattle.std.specs.Prelude.{◌≡◌, ◌≢◌, ◌⊎◌, ℕ, Option, None
 use Rattle.mls_edgerule.specs.Compiling.{compiled}
 use Rattle.mls_edgerule.specs.declared.edge_rule.EdgeRule.{EdgeRule}
 use Rattle.mls_edgerule.specs.declared.fault.RuleFault.{RuleFault}
-use Rattle.mls_tech.specs.Readings.{Reading}
+use Rattle.mls_tech.specs.Readings.{Tech}
 use Rattle.mls_tech.specs.declared.fault.TechFault.{TechFault}
 use Rattle.mls_wire.specs.Runs.{Seat, Setting}
 use Rattle.mls_wire.specs.Serving.{HasReason, WritesRun, WritesCutRun}
-use Rattle.mls_wire.specs.Watches.{Watch}
+use Rattle.mls_wire.specs.Watches.{Watched}
 use Rattle.mls_wire.specs.declared.serving.ServeFault.{ServeFault}
 use Rattle.mls_magicd.specs.CommandLines.{faults_in, file_named, quota_named, IsQuotaOf}
 use Rattle.mls_magicd.specs.Messages.{Says, Tells, fault_line, memory_line, rule_fault_line, serve_fault_line, skipped_line, unreadable_line}
@@ -17,7 +17,7 @@ use Rattle.mls_magicd.specs.declared.options.OptionsFault.TheVariants.{Memory, R
 use Rattle.mls_magicd.specs.declared.program.TheConstants.{FAILED, BAD_COMMAND_LINE}
 
 -- each rule line of the technology gives a rule
-abbrev pub Compiles : Reading → Type 0
+abbrev pub Compiles : Tech → Type 0
 Compiles tech = (rules : List EdgeRule) × (compiled tech ≡ Ok rules)
 
 -- the words are taken, and name the technology's file, or none, and the quota, or none; files may be read as `reads_as` says
@@ -41,7 +41,7 @@ options_status (Refused text) = BAD_COMMAND_LINE
 options_status Memory = FAILED
 
 -- a line for each line of the technology that was passed over, in the order of the file
-abbrev pub skipped_lines : Reading → List (List ℕ)
+abbrev pub skipped_lines : Tech → List (List ℕ)
 skipped_lines tech = map skipped_line tech.skipped
 
 -- why there is no technology: memory ran out, its file can't be read, or it has a fault
@@ -53,34 +53,34 @@ IsReasonToEnd reads_as may_fail words message =
 
 -- the reason was told
 abbrev pub TellsReason : {E : Type 0} → (List ℕ → List ℕ → Type 0) → (List ℕ → Type 0) → List (List ℕ)
-    → (E → Option (List ℕ)) → Watch E → Watch E → Type 0
+    → (E → Option (List ℕ)) → Watched E → Watched E → Type 0
 TellsReason reads_as may_fail words contents old new =
     (message : List ℕ) × IsReasonToEnd reads_as may_fail words message × Tells contents old new message
 
 -- the technology has a rule line that gives no rule: the lines that were passed over were told, and then the fault
-abbrev pub TellsRuleFault : {E : Type 0} → (List ℕ → List ℕ → Type 0) → List (List ℕ) → (E → Option (List ℕ)) → Watch E → Watch E → Type 0
+abbrev pub TellsRuleFault : {E : Type 0} → (List ℕ → List ℕ → Type 0) → List (List ℕ) → (E → Option (List ℕ)) → Watched E → Watched E → Type 0
 TellsRuleFault reads_as words contents old new =
-    (tech : Reading) × (fault : RuleFault) × (faults_in words ≡ []) × HasReading reads_as (file_named words) tech × (compiled tech ≡ Err fault)
+    (tech : Tech) × (fault : RuleFault) × (faults_in words ≡ []) × HasReading reads_as (file_named words) tech × (compiled tech ≡ Err fault)
     × Says contents old new (skipped_lines tech ++ rule_fault_line fault ∷ [])
 
 -- the start failed, and it was told why
 abbrev pub TellsFailedStart : {E : Type 0} → (List ℕ → List ℕ → Type 0) → (List ℕ → Type 0) → List (List ℕ)
-    → (E → Option (List ℕ)) → Watch E → Watch E → Type 0
+    → (E → Option (List ℕ)) → Watched E → Watched E → Type 0
 TellsFailedStart reads_as may_fail words contents old new =
     TellsReason reads_as may_fail words contents old new ⊎ TellsRuleFault reads_as words contents old new
 
 -- the words have a fault, and the parser's text was told
-abbrev pub TellsUsage : {E : Type 0} → List (List ℕ) → (E → Option (List ℕ)) → Watch E → Watch E → Type 0
+abbrev pub TellsUsage : {E : Type 0} → List (List ℕ) → (E → Option (List ℕ)) → Watched E → Watched E → Type 0
 TellsUsage words contents old new = (faults_in words ≢ []) × ((text : List ℕ) × Tells contents old new text)
 
 -- the program ends before the script with this status
 abbrev pub EndsEarly : {E : Type 0} → (List ℕ → List ℕ → Type 0) → (List ℕ → Type 0) → List (List ℕ)
-    → (E → Option (List ℕ)) → Watch E → Watch E → ℕ → Type 0
+    → (E → Option (List ℕ)) → Watched E → Watched E → ℕ → Type 0
 EndsEarly reads_as may_fail words contents old new status =
     ((status ≡ FAILED) × TellsFailedStart reads_as may_fail words contents old new)
     ⊎ ((status ≡ BAD_COMMAND_LINE) × TellsUsage words contents old new)
 
 -- a fault that has its reason was told after the lines that were passed over
-abbrev pub TellsCut : {R W E : Type 0} → Setting → Watch R → Watch W → (E → Option (List ℕ)) → Watch E → Watch E → Type 0
+abbrev pub TellsCut : {R W E : Type 0} → Setting → Watched R → Watched W → (E → Option (List ℕ)) → Watched E → Watched E → Type 0
 TellsCut setting input output contents old new =
     (fault : ServeFault) × HasReason fault input output × Says contents old new (skipped_lines setting.tech ++ serve_fault_line fault ∷ [])

@@ -1,6 +1,6 @@
 -- Which technology is served. This project's own.
 use Rattle.std.specs.Prelude.{◌≡◌, ℕ, Option, Some, None, List, Result, Ok, Err, ⊤}
-use Rattle.mls_tech.specs.Readings.{Reading, ReadsUnlessMemory, reading_of}
+use Rattle.mls_tech.specs.Readings.{Tech, ReadsUnlessMemory, reading_of}
 use Rattle.mls_tech.specs.declared.technology_m.TheConstants.{TECHNOLOGY_M}
 use Rattle.mls_tech.specs.declared.fault.TechFault.{TechFault}
 use Rattle.mls_magicd.specs.declared.technology.TechnologyFault.{TechnologyFault}
@@ -12,13 +12,13 @@ IsTechnologyText reads_as None text = text ≡ TECHNOLOGY_M.now
 IsTechnologyText reads_as (Some path) text = reads_as path text
 
 -- the technology's text is read as this
-abbrev pub HasReading : (List ℕ → List ℕ → Type 0) → Option (List ℕ) → Reading → Type 0
+abbrev pub HasReading : (List ℕ → List ℕ → Type 0) → Option (List ℕ) → Tech → Type 0
 HasReading reads_as path reading = (text : List ℕ) × IsTechnologyText reads_as path text × (reading_of text ≡ Ok reading)
 
 -- it has this fault, or memory ran out over it
 abbrev pub HasFault : (List ℕ → List ℕ → Type 0) → Option (List ℕ) → TechFault → Type 0
 HasFault reads_as path fault =
-    (text : List ℕ) × IsTechnologyText reads_as path text × ReadsUnlessMemory {A = Reading} (Err fault) (reading_of text)
+    (text : List ℕ) × IsTechnologyText reads_as path text × ReadsUnlessMemory {A = Tech} (Err fault) (reading_of text)
 
 -- the path is that of a file that may fail to be read
 abbrev pub CannotRead : (List ℕ → Type 0) → Option (List ℕ) → List ℕ → Type 0
@@ -30,6 +30,6 @@ LacksTechnology reads_as may_fail path (Unreadable at) = CannotRead may_fail pat
 LacksTechnology reads_as may_fail path (Faulty fault) = HasFault reads_as path fault
 LacksTechnology reads_as may_fail path Memory = ⊤
 
-abbrev pub OpensTechnology : (List ℕ → List ℕ → Type 0) → (List ℕ → Type 0) → Option (List ℕ) → Result Reading TechnologyFault → Type 0
+abbrev pub OpensTechnology : (List ℕ → List ℕ → Type 0) → (List ℕ → Type 0) → Option (List ℕ) → Result Tech TechnologyFault → Type 0
 OpensTechnology reads_as may_fail path (Ok reading) = HasReading reads_as path reading
 OpensTechnology reads_as may_fail path (Err fault) = LacksTechnology reads_as may_fail path fault

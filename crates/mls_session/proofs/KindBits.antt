@@ -9,7 +9,7 @@ use Rattle.std.proofs.lemmas.List.{map-id}
 use Rattle.std.proofs.lemmas.List.Folds.{list_any-append}
 use Rattle.std.proofs.lemmas.List.FromFn.{map-range_with_len_more, sum_by-map-range_with_len_more}
 use Rattle.std.proofs.lemmas.Nat.{or_block}
-use Rattle.mls_geom.specs.Extents.{Extent}
+use Rattle.mls_geom.specs.Rects.{Rect}
 use Rattle.mls_session.specs.Own.{Config, Layout, OwnState, shows_type, types_in, what_step}
 use Rattle.mls_geom.specs.Pictures.{bits_where, kinds_in, shows}
 use Rattle.mls_session.specs.declared.reply.Reply.TheVariants.{Kinds}
@@ -54,11 +54,11 @@ any_more p n =
     let more = simp map-id at (map-range_with_len_more (λ k. k) 0 n n (omega arith)) in
     rw (more, list_any-append, or-false)
 
-pub types_none : (config : Config) (layout : Layout) (e : Extent) → types_in (record config { planes = 0 }) layout e ≡ 0
+pub types_none : (config : Config) (layout : Layout) (e : Rect) → types_in (record config { planes = 0 }) layout e ≡ 0
 unfolding types_in
 types_none config layout e = refl
 
-pub types_more : (config : Config) (layout : Layout) (e : Extent) (n : ℕ)
+pub types_more : (config : Config) (layout : Layout) (e : Rect) (n : ℕ)
     → types_in (record config { planes = n + 1 }) layout e ≡ bit_or (types_in (record config { planes = n }) layout e) (kinds_in (layout n) e)
 unfolding types_in kinds_in
 types_more config layout e n =
@@ -66,9 +66,9 @@ types_more config layout e n =
     ∙ bits_where-or (shows_type (record config { planes = n }) layout e) (shows (layout n) e) 64
 
 -- those on the first planes are those on all
-pub types_all : (config : Config) (layout : Layout) (e : Extent) (n : ℕ) → n ≡ config.planes → types_in (record config { planes = n }) layout e ≡ types_in config layout e
+pub types_all : (config : Config) (layout : Layout) (e : Rect) (n : ℕ) → n ≡ config.planes → types_in (record config { planes = n }) layout e ≡ types_in config layout e
 types_all config layout e n all = ap (λ planes. types_in (record config { planes = planes }) layout e) all
 
 -- what is told of a box
-pub what_step-Kinds : (config : Config) (own : OwnState) (box : Option Extent) (e : Extent) (kinds : ℕ) → box ≡ Some e → kinds ≡ types_in config own.layout e → what_step config own box ≡ (own, Kinds kinds)
+pub what_step-Kinds : (config : Config) (own : OwnState) (box : Option Rect) (e : Rect) (kinds : ℕ) → box ≡ Some e → kinds ≡ types_in config own.layout e → what_step config own box ≡ (own, Kinds kinds)
 what_step-Kinds config own box e kinds is_set are_all = rw (is_set, are_all)

@@ -1,7 +1,7 @@
 -- One session's machine: its own state, and what each command does to it. This project's own.
 use Rattle.std.specs.Prelude.{◌≡◌, ℕ, ◌==◌, nat_lt, if◌then◌else◌, Bool, Option, Some, None, Result, Ok, Err}
 use Rattle.std.specs.List.{list_any, range_with_len}
-use Rattle.mls_geom.specs.Extents.{Extent}
+use Rattle.mls_geom.specs.Rects.{Rect}
 use Rattle.mls_geom.specs.Pictures.{Picture, painted, shows, bits_where, empty_picture}
 use Rattle.mls_geom.specs.TileCounts.{tile_count}
 use Rattle.mls_geom.specs.World.{world, rect_of}
@@ -24,7 +24,7 @@ pub record Config : Type 0 where
   pub quota : ℕ
 
 pub record OwnState : Type 0 where
-  pub box : Option Extent
+  pub box : Option Rect
   pub layout : Layout
 
 -- how a session begins
@@ -36,15 +36,15 @@ abbrev pub with_plane : Layout → ℕ → Picture → Layout
 with_plane layout plane picture p = if p == plane then picture else layout p
 
 -- some square of the rectangle has this type on some plane
-abbrev pub shows_type : Config → Layout → Extent → ℕ → Bool
+abbrev pub shows_type : Config → Layout → Rect → ℕ → Bool
 shows_type config layout e kind = list_any (λ plane. shows (layout plane) e kind) (range_with_len 0 config.planes)
 
 -- bit k for each type k of the rectangle, space among them, on all planes
-unfoldable pub types_in : Config → Layout → Extent → ℕ
+unfoldable pub types_in : Config → Layout → Rect → ℕ
 types_in config layout e = bits_where (shows_type config layout e) 64
 
 -- the box becomes the rectangle, or is refused by its first fault
-abbrev pub box_step : OwnState → Result Extent RectFault → OwnState × Reply
+abbrev pub box_step : OwnState → Result Rect RectFault → OwnState × Reply
 box_step own (Ok e) = (record own { box = Some e }, Done)
 box_step own (Err Empty) = (own, Refused EmptyBox)
 box_step own (Err Outside) = (own, Refused OutsideWorld)
@@ -56,20 +56,20 @@ repaint_step config own plane picture =
     else (record own { layout = with_plane own.layout plane picture }, Done)
 
 -- the box gets the type, on its plane
-abbrev pub paint_on : Config → OwnState → Extent → ℕ → Option ℕ → OwnState × Reply
+abbrev pub paint_on : Config → OwnState → Rect → ℕ → Option ℕ → OwnState × Reply
 paint_on config own e kind None = (own, Refused UnknownType)
 paint_on config own e kind (Some plane) = repaint_step config own plane (painted (own.layout plane) (record { rect = e; kind = kind }))
 
-abbrev pub paint_in : Config → OwnState → Extent → Option ℕ → OwnState × Reply
+abbrev pub paint_in : Config → OwnState → Rect → Option ℕ → OwnState × Reply
 paint_in config own e None = (own, Refused UnknownType)
 paint_in config own e (Some kind) = paint_on config own e kind (config.plane_of kind)
 
-abbrev pub paint_step : Config → OwnState → Option Extent → Option ℕ → OwnState × Reply
+abbrev pub paint_step : Config → OwnState → Option Rect → Option ℕ → OwnState × Reply
 paint_step config own None kind = (own, Refused NoBox)
 paint_step config own (Some e) kind = paint_in config own e kind
 
 -- the types in the box
-abbrev pub what_step : Config → OwnState → Option Extent → OwnState × Reply
+abbrev pub what_step : Config → OwnState → Option Rect → OwnState × Reply
 what_step config own None = (own, Refused NoBox)
 what_step config own (Some e) = (own, Kinds (types_in config own.layout e))
 

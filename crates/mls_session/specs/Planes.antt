@@ -1,18 +1,18 @@
 -- The covers of a session's planes.
 use Rattle.std.specs.Prelude.{◌≡◌, ℕ, ◌≤◌, List, length}
 use Rattle.std.specs.List.{All}
-use Rattle.mls_geom.specs.Covers.{Covering}
+use Rattle.mls_geom.specs.Covers.{Cover}
 use Rattle.mls_geom.specs.Pictures.{empty_picture, picture_of}
 
 -- the cover has room for so many strips, and no more strips
-pub record HasRoom (quota : ℕ) (cover : Covering) : Type 0 where
+pub record HasRoom (quota : ℕ) (cover : Cover) : Type 0 where
   pub room : cover.room ≡ quota
   pub within : length cover.strips ≤ quota
 
 -- each cover has room for the quota
-abbrev pub ArePlanes : ℕ → List Covering → Type 0
+abbrev pub ArePlanes : ℕ → List Cover → Type 0
 ArePlanes quota planes = All (HasRoom quota) planes
 
 -- the covers show space alone
-abbrev pub AreEmpty : List Covering → Type 0
+abbrev pub AreEmpty : List Cover → Type 0
 AreEmpty planes = All (λ cover. picture_of cover.strips ≡ empty_picture) planes

@@ -23,9 +23,9 @@ impl Model for Session {
     ghost use Rattle.std.specs.Prelude.{◌≡◌, ◌+◌};
     ghost use Rattle.mls_session.specs.Planes.{ArePlanes};
     ghost use Rattle.mls_session.specs.Quotas.{IsQuota};
-    ghost use Rattle.mls_session.specs.Sessions.{Drawing};
+    ghost use Rattle.mls_session.specs.Sessions.{Session};
 
-    ghost Value = { Drawing };
+    ghost Value = { Session };
 
     ghost view = { λ s. record { box = s.box_rect; planes = s.planes.items; quota = s.quota } };
 

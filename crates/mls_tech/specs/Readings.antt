@@ -16,7 +16,7 @@ use Rattle.mls_tech.specs.declared.rule.Rule.{Rule}
 use Rattle.mls_tech.specs.declared.rule_line.RuleLine.{RuleLine}
 use Rattle.mls_tech.specs.declared.rule_line.Skipped.{Skipped}
 use Rattle.mls_tech.specs.declared.section.Section.{Section}
-use Rattle.mls_tech.specs.declared.section.Section.TheVariants.{Tech, Planes, Types, Drc, Other}
+use Rattle.mls_tech.specs.declared.section.Section.TheVariants.{Tech as TechSection, Planes, Types, Drc, Other}
 
 -- names with the numbers of what they name, in the order of the file; the first name of a number is the one that is printed
 abbrev pub Numbered : Type 0
@@ -24,7 +24,7 @@ Numbered = List (List ℕ × ℕ)
 
 -- what the lines so far add up to: the technology's name, if they told it; the names of planes, which are numbered from 0, and how many
 -- planes there are; the names of types, where type 0 is space, and the plane of each other type, from type 1 on; the lines of the section `drc`
-pub record Reading : Type 0 where
+pub record Tech : Type 0 where
   pub name : Option (List ℕ)
   pub planes : Numbered
   pub plane_count : ℕ
@@ -33,7 +33,7 @@ pub record Reading : Type 0 where
   pub rules : List RuleLine
   pub skipped : List Skipped
 
-abbrev pub nothing_read : Reading
+abbrev pub nothing_read : Tech
 nothing_read = record { name = None; planes = []; plane_count = 0; types = (codes "space", 0) ∷ []; type_planes = []; rules = []; skipped = [] }
 
 -- numbers lie within the limits: at most 4 planes and 63 types besides space, and each name has the number of one, as each type has that of a plane
@@ -64,7 +64,7 @@ why_of rules n = if n == 0 then None else option_map (λ rule. rule.why) (slice_
 abbrev pub lies_on_plane : List ℕ → ℕ → ℕ → Bool
 lies_on_plane type_planes plane kind = kind == 0 || option_map_or (λ on. on == plane) (slice_get type_planes (kind - 1)) false
 
-abbrev pub scope_of : Reading → Scope
+abbrev pub scope_of : Tech → Scope
 scope_of reading = record {
   type_of = number_named reading.types;
   plane_of = number_named reading.planes;
@@ -82,25 +82,25 @@ names_added is_spelled number names (word ∷ words) =
 
 -- ---- one line in each section
 -- the first line whose first word isn't `format` names the technology
-abbrev pub name_told : Reading → List ℕ → Reading
+abbrev pub name_told : Tech → List ℕ → Tech
 name_told reading word =
     if is_none reading.name && not (same_word word (codes "format")) then record reading { name = Some word } else reading
 
-unfoldable pub tech_line : Reading → List (List ℕ) → Result Reading TechFaultKind
+unfoldable pub tech_line : Tech → List (List ℕ) → Result Tech TechFaultKind
 tech_line reading [] = Ok reading
 tech_line reading (word ∷ words) = Ok (name_told reading word)
 
 -- at most 4 planes
-abbrev pub plane_added : Reading → Numbered → Result Reading TechFaultKind
+abbrev pub plane_added : Tech → Numbered → Result Tech TechFaultKind
 plane_added reading names =
     if nat_lt reading.plane_count 4 then Ok (record reading { planes = names; plane_count = reading.plane_count + 1 }) else Err Limit
 
-unfoldable pub planes_line : Reading → List (List ℕ) → Result Reading TechFaultKind
+unfoldable pub planes_line : Tech → List (List ℕ) → Result Tech TechFaultKind
 planes_line reading (word ∷ []) = names_added is_name reading.plane_count reading.planes (pieces_of word) >>= plane_added reading
 planes_line reading _ = Err BadForm
 
 -- at most 63 types besides space
-abbrev pub type_added : Reading → ℕ → Numbered → Result Reading TechFaultKind
+abbrev pub type_added : Tech → ℕ → Numbered → Result Tech TechFaultKind
 type_added reading plane names =
     if nat_lt (length reading.type_planes) 63 then Ok (record reading { types = names; type_planes = reading.type_planes ++ plane ∷ [] }) else Err Limit
 
@@ -109,33 +109,33 @@ abbrev pub without_dash : List ℕ → List ℕ
 without_dash [] = []
 without_dash (b ∷ bytes) = if b == 45 then bytes else b ∷ bytes
 
-unfoldable pub types_line : Reading → List (List ℕ) → Result Reading TechFaultKind
+unfoldable pub types_line : Tech → List (List ℕ) → Result Tech TechFaultKind
 types_line reading (plane ∷ names ∷ []) =
     or_fault UnknownPlane (number_named reading.planes (without_dash plane)) >>= λ known.
     names_added is_type_name (length reading.type_planes + 1) reading.types (pieces_of names) >>= type_added reading known
 types_line reading _ = Err BadForm
 
-abbrev pub rule_added : Reading → ℕ → Rule → List ℕ → Reading
+abbrev pub rule_added : Tech → ℕ → Rule → List ℕ → Tech
 rule_added reading n rule why = record reading { rules = reading.rules ++ record { line = n; rule = rule; why = why } ∷ [] }
 
-abbrev pub skipped_added : Reading → ℕ → List ℕ → Reading
+abbrev pub skipped_added : Tech → ℕ → List ℕ → Tech
 skipped_added reading n keyword = record reading { skipped = reading.skipped ++ record { line = n; keyword = keyword } ∷ [] }
 
-abbrev pub line_added : Reading → ℕ → DrcLine → Reading
+abbrev pub line_added : Tech → ℕ → DrcLine → Tech
 line_added reading n (States stated) = rule_added reading n stated.rule stated.why
 line_added reading n (Skips keyword) = skipped_added reading n keyword
 
 -- ---- sections
 abbrev pub section_named : List ℕ → Section
 section_named word =
-    if same_word word (codes "tech") then Tech
+    if same_word word (codes "tech") then TechSection
     else (if same_word word (codes "planes") then Planes
     else (if same_word word (codes "types") then Types
     else (if same_word word (codes "drc") then Drc else Other)))
 
 -- what a line adds in its section
-unfoldable pub section_line : Section → Reading → NumberedLine → Result Reading TechFaultKind
-section_line Tech reading line = tech_line reading (words_of line.bytes)
+unfoldable pub section_line : Section → Tech → NumberedLine → Result Tech TechFaultKind
+section_line TechSection reading line = tech_line reading (words_of line.bytes)
 section_line Planes reading line = planes_line reading (words_of line.bytes)
 section_line Types reading line = types_line reading (words_of line.bytes)
 section_line Drc reading line = drc_line (scope_of reading) line.bytes >>= λ said. Ok (line_added reading line.line said)
@@ -155,7 +155,7 @@ first_word (word ∷ words) = word
 
 -- what one line is read as outside a section at nothing, or in one, where these lines follow it: the section that it leaves open, and what is
 -- read with it. A section without its `end` is the fault of the line that names it, before any fault in it
-unfoldable pub line_read : Option Section → Reading → NumberedLine → List NumberedLine → Result (Option Section × Reading) TechFaultKind
+unfoldable pub line_read : Option Section → Tech → NumberedLine → List NumberedLine → Result (Option Section × Tech) TechFaultKind
 line_read None reading line lines =
     if list_any is_end lines then Ok (Some (section_named (first_word (words_of line.bytes))), reading) else Err NoEnd
 line_read (Some section) reading line lines =
@@ -171,7 +171,7 @@ read_after (Ok x) f = f x
 read_after (Err fault) f = Err fault
 
 -- what the lines from here on add, outside a section at nothing, or in one. A section without its `end` is the fault of the line that names it, before any fault in it
-unfoldable pub read_lines : Option Section → Reading → List NumberedLine → Result Reading TechFault
+unfoldable pub read_lines : Option Section → Tech → List NumberedLine → Result Tech TechFault
 read_lines place reading [] = Ok reading
 read_lines None reading (line ∷ lines) =
     if list_any is_end lines then read_lines (Some (section_named (first_word (words_of line.bytes)))) reading lines
@@ -184,7 +184,7 @@ read_lines (Some section) reading (line ∷ lines) =
 abbrev pub bad_line : List ℕ → ℕ
 bad_line bytes = count_by (λ b. b == 10) (take (utf8_valid_len bytes) bytes) + 1
 
-unfoldable pub reading_of : List ℕ → Result Reading TechFault
+unfoldable pub reading_of : List ℕ → Result Tech TechFault
 reading_of bytes =
     if utf8_valid_len bytes == length bytes then read_lines None nothing_read (content_lines bytes)
     else Err (record { line = bad_line bytes; kind = NotUtf8 })

@@ -25,9 +25,9 @@ pub struct Tech {
 }
 
 impl Model for Tech {
-    ghost use Rattle.mls_tech.specs.Readings.{Reading, IsWithinLimits};
+    ghost use Rattle.mls_tech.specs.Readings.{Tech, IsWithinLimits};
 
-    ghost Value = { Reading };
+    ghost Value = { Tech };
 
     ghost view = { λ tech. record {
       name = tech.name;

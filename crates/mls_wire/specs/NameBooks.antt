@@ -1,7 +1,7 @@
 -- What names mean to a reader of lines, and what numbers are called in replies.
 use Rattle.std.specs.Prelude.{ℕ, Bool, Option, List}
 
-pub record NameBook : Type 0 where
+pub record Names : Type 0 where
   -- the type of a name
   pub type_of : List ℕ → Option ℕ
   -- the first name of a type

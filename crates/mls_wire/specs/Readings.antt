@@ -1,17 +1,17 @@
 -- What a reader of lines keeps.
 use Rattle.std.specs.Prelude.{ℕ, ◌+◌, ◌*◌, Option, List, length}
 use Rattle.std.specs.Io.KnownBytes.{prepend_known}
-use Rattle.mls_wire.specs.Watches.{Watch}
+use Rattle.mls_wire.specs.Watches.{Watched}
 
 -- the bytes that were read and not yet taken, and the line that was taken last
-pub record Reading : Type 0 where
+pub record LineReader : Type 0 where
   pub ahead : List ℕ
   pub line : List ℕ
 
 -- the script that lies ahead, where it is known what the device has left
-abbrev pub script_ahead : Reading → Option (List ℕ) → Option (List ℕ)
+abbrev pub script_ahead : LineReader → Option (List ℕ) → Option (List ℕ)
 script_ahead reading remaining = prepend_known reading.ahead remaining
 
 -- no more lines than this can still come: each takes a call, or one of the at most 4096 bytes that a call gave
-abbrev pub lines_left : {D : Type 0} → Reading → Watch D → ℕ
+abbrev pub lines_left : {D : Type 0} → LineReader → Watched D → ℕ
 lines_left reading watch = 4097 * watch.calls_left + length reading.ahead

@@ -8,7 +8,7 @@ use Rattle.mls_session.specs.declared.refusal.Refusal.{Refusal}
 use Rattle.mls_session.specs.declared.refusal.Refusal.TheVariants.{EmptyBox, OutsideWorld, NoBox, UnknownType, Quota}
 use Rattle.mls_session.specs.declared.reply.Reply.{Reply}
 use Rattle.mls_session.specs.declared.reply.Reply.TheVariants.{Done, Kinds, Refused}
-use Rattle.mls_wire.specs.NameBooks.{NameBook}
+use Rattle.mls_wire.specs.NameBooks.{Names}
 use Rattle.mls_wire.specs.Says.{line_fault_number}
 use Rattle.std.specs.Fmt.{decimal}
 use Rattle.mls_wire.specs.declared.answer.Answer.{Answer}
@@ -50,17 +50,17 @@ unfoldable pub types_of : ℕ → List ℕ
 types_of bits = filter (λ kind. bit_at bits kind == 1) (range_with_len 1 63)
 
 -- a space and the type's first name
-abbrev pub type_text : NameBook → ℕ → List ℕ
+abbrev pub type_text : Names → ℕ → List ℕ
 type_text book kind = 32 ∷ unwrap_or (book.type_name kind) []
 
 -- a reply without its line's first word and its line feed
-unfoldable pub said_text : NameBook → Reply → List ℕ
+unfoldable pub said_text : Names → Reply → List ℕ
 said_text book Done = codes "ok"
 said_text book (Kinds bits) = codes "what " ++ decimal (length (types_of bits)) ++ flat_map (type_text book) (types_of bits)
 said_text book (Refused refusal) = codes "refused " ++ numbered (refusal_number refusal) (refusal_words refusal)
 
 -- the reply text of the answer to line n
-unfoldable pub answer_text : NameBook → ℕ → Answer → List ℕ
+unfoldable pub answer_text : Names → ℕ → Answer → List ℕ
 answer_text book n Silent = []
 answer_text book n (Fault fault) = codes "line " ++ decimal n ++ codes " fault " ++ numbered (line_fault_number fault) (line_fault_words fault) ++ 10 ∷ []
 answer_text book n (Opened name) = name ++ codes " opened" ++ 10 ∷ []

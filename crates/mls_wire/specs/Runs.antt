@@ -3,10 +3,10 @@ use Rattle.std.specs.Prelude.{◌≡◌, ℕ, ◌+◌, Bool, false, if◌then◌
 use Rattle.mls_session.specs.Own.{Config, OwnState, opening, own_step}
 use Rattle.mls_session.specs.Sessions.{config_with}
 use Rattle.mls_session.specs.declared.command.Command.{Command}
-use Rattle.mls_wire.specs.NameBooks.{NameBook}
+use Rattle.mls_wire.specs.NameBooks.{Names}
 use Rattle.mls_wire.specs.Replies.{answer_text}
 use Rattle.mls_wire.specs.Says.{said_by}
-use Rattle.mls_tech.specs.Readings.{Reading, number_named, first_named}
+use Rattle.mls_tech.specs.Readings.{Tech, number_named, first_named}
 use Rattle.mls_tech.specs.Words.{same_word}
 use Rattle.mls_wire.specs.declared.answer.Answer.{Answer}
 use Rattle.mls_wire.specs.declared.answer.Answer.TheVariants.{Silent as SilentAnswer, Fault, Opened, NotOpened, Replied}
@@ -17,7 +17,7 @@ use Rattle.mls_wire.specs.declared.line.LineFault.{LineFault}
 
 -- what no line changes: the technology, and how many tiles a plane may have
 pub record Setting : Type 0 where
-  pub tech : Reading
+  pub tech : Tech
   pub quota : ℕ
 
 abbrev pub config_for : Setting → Config
@@ -32,7 +32,7 @@ is_seated None name = false
 is_seated (Some seat) name = same_word seat.0 name
 
 -- what names mean while this session is open
-abbrev pub book_of : Setting → Seat → NameBook
+abbrev pub book_of : Setting → Seat → Names
 book_of setting seat =
     record { type_of = number_named setting.tech.types; type_name = first_named setting.tech.types; is_open = is_seated seat }
 

@@ -2,7 +2,7 @@
 use Rattle.std.specs.Prelude.{ℕ, ℤ, nat_lt, if◌then◌else◌, Option, Some, None, Result, Ok, Err, List, [], ◌∷◌, length, codes}
 use Rattle.mls_session.specs.declared.command.Command.{Command}
 use Rattle.mls_session.specs.declared.command.Command.TheVariants.{Box, Paint, What}
-use Rattle.mls_wire.specs.NameBooks.{NameBook}
+use Rattle.mls_wire.specs.NameBooks.{Names}
 use Rattle.mls_wire.specs.Numbers.{number_of}
 use Rattle.mls_tech.specs.Words.{begins_with, words_of, same_word}
 use Rattle.mls_wire.specs.SessionNames.{is_session_name}
@@ -20,7 +20,7 @@ abbrev pub box_says : List (List ℕ) → Result Command LineFault
 box_says (left ∷ bottom ∷ right ∷ top ∷ []) = box_of (number_of left) (number_of bottom) (number_of right) (number_of top)
 box_says _ = Err UnknownCommand
 
-abbrev pub paint_says : NameBook → List (List ℕ) → Result Command LineFault
+abbrev pub paint_says : Names → List (List ℕ) → Result Command LineFault
 paint_says book (name ∷ []) = Ok (Paint (book.type_of name))
 paint_says book _ = Err UnknownCommand
 
@@ -29,7 +29,7 @@ what_says [] = Ok What
 what_says _ = Err UnknownCommand
 
 -- the words after a session's name
-unfoldable pub command_of : NameBook → List (List ℕ) → Result Command LineFault
+unfoldable pub command_of : Names → List (List ℕ) → Result Command LineFault
 command_of book [] = Err UnknownCommand
 command_of book (verb ∷ words) =
     if same_word verb (codes "box") then box_says words
@@ -37,11 +37,11 @@ command_of book (verb ∷ words) =
     else (if same_word verb (codes "what") then what_says words else Err UnknownCommand))
 
 -- a command for a session: its name's form is told first, then the command's, and last that no session of the name is open
-abbrev pub asked : NameBook → List ℕ → Result Command LineFault → Result Line LineFault
+abbrev pub asked : Names → List ℕ → Result Command LineFault → Result Line LineFault
 asked book name (Ok command) = if book.is_open name then Ok (Ask name command) else Err NotOpen
 asked book name (Err fault) = Err fault
 
-unfoldable pub session_says : NameBook → List ℕ → List (List ℕ) → Result Line LineFault
+unfoldable pub session_says : Names → List ℕ → List (List ℕ) → Result Line LineFault
 session_says book name words = if is_session_name name then asked book name (command_of book words) else Err BadName
 
 -- the words after `%open`
@@ -50,20 +50,20 @@ open_says [] = Err BadName
 open_says (name ∷ []) = if is_session_name name then Ok (Open name) else Err BadName
 open_says (name ∷ more ∷ words) = if is_session_name name then Err UnknownCommand else Err BadName
 
-unfoldable pub words_say : NameBook → List (List ℕ) → Result Line LineFault
+unfoldable pub words_say : Names → List (List ℕ) → Result Line LineFault
 words_say book [] = Ok Silent
 words_say book (word ∷ words) =
     if same_word word (codes "%open") then open_says words
     else (if begins_with 37 word then Err UnknownCommand else session_says book word words)
 
 -- a comment begins with `#` in its very first byte
-unfoldable pub line_says : NameBook → List ℕ → Result Line LineFault
+unfoldable pub line_says : Names → List ℕ → Result Line LineFault
 line_says book bytes =
     if nat_lt 1024 (length bytes) then Err UnknownCommand
     else (if begins_with 35 bytes then Ok Silent else words_say book (words_of bytes))
 
 -- a line as it was read: one that is too long is a fault whatever it holds
-abbrev pub said_by : NameBook → Option (List ℕ) → Result Line LineFault
+abbrev pub said_by : Names → Option (List ℕ) → Result Line LineFault
 said_by book None = Err UnknownCommand
 said_by book (Some bytes) = line_says book bytes
 

@@ -3,7 +3,7 @@ use Rattle.std.specs.Prelude.{◌≡◌, ℕ, ◌+◌, Option, Some, None, List,
 use Rattle.std.specs.Io.KnownBytes.{Appends}
 use Rattle.mls_wire.specs.Lines.{script_of}
 use Rattle.mls_wire.specs.Runs.{Setting, Seat, LineRuns, Runs, Stops}
-use Rattle.mls_wire.specs.Watches.{Watch, HasCause}
+use Rattle.mls_wire.specs.Watches.{Watched, HasCause}
 use Rattle.mls_wire.specs.declared.serving.ServeFault.{ServeFault}
 use Rattle.mls_wire.specs.declared.serving.ServeFault.TheVariants.{Read, Write, Memory}
 
@@ -44,7 +44,7 @@ Serves setting old (Some script) written n None now seat = ⊥
 Serves setting old (Some script) written n (Some rest) now seat = Gains written now (λ out. IsServed setting old script out n rest seat)
 
 -- a fault of a device comes only where one of its calls failed, or all that can be counted were made
-abbrev pub HasReason : {R W : Type 0} → ServeFault → Watch R → Watch W → Type 0
+abbrev pub HasReason : {R W : Type 0} → ServeFault → Watched R → Watched W → Type 0
 HasReason Read input output = HasCause input
 HasReason Write input output = HasCause output
 HasReason Memory input output = ⊤

@@ -6,10 +6,10 @@ use crate::Name;
 
 /// What names mean to a reader of lines, and what numbers are called in replies.
 pub trait Names {
-    ghost use Rattle.mls_wire.specs.NameBooks.{NameBook};
+    ghost use Rattle.mls_wire.specs.NameBooks.{Names};
 
     /// The meanings.
-    ghost book: { Self → NameBook };
+    ghost book: { Self → Names };
 
     /// The type of a name, if it is one's.
     fn type_of(&self, word: &[u8]) -> Option<u8>

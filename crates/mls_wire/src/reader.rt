@@ -42,10 +42,10 @@ pub struct LineReader {
 
 impl Model for LineReader {
     ghost use Rattle.std.specs.Prelude.{◌≤◌, take, slice_range};
-    ghost use Rattle.mls_wire.specs.Readings.{Reading};
+    ghost use Rattle.mls_wire.specs.Readings.{LineReader};
     ghost use Rattle.mls_wire.specs.declared.reader.TheConstants.{AHEAD, KEPT};
 
-    ghost Value = { Reading };
+    ghost Value = { LineReader };
 
     ghost view = { λ r. record { ahead = slice_range r.bytes r.start r.end; line = take r.len r.kept } };
 

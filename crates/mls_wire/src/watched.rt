@@ -30,9 +30,9 @@ pub struct Watched<D> {
 
 impl<D> Model for Watched<D> {
     ghost use Rattle.std.specs.Prelude.{◌^◌, ◌<◌};
-    ghost use Rattle.mls_wire.specs.Watches.{Watch};
+    ghost use Rattle.mls_wire.specs.Watches.{Watched};
 
-    ghost Value = { Watch D };
+    ghost Value = { Watched D };
 
     ghost view = { λ w. record { device = w.device; calls_left = w.calls_left; failed = w.failed } };
 

@@ -1,6 +1,6 @@
 use Rattle.std.proofs.Common.{◌<◌, ◌≤◌, ◌&&◌, take, length, sym, ap, ◌∙◌, arith, rules}
 use Rattle.mls_edgerule.specs.Halos.{halo_of}
-use Rattle.mls_geom.specs.Extents.{holds}
+use Rattle.mls_geom.specs.Rects.{holds}
 use Rattle.mls_checker.specs.Copies.{copied_layout}
 use Rattle.mls_checker.specs.Marking.{SquareSet}
 use Rattle.mls_checker.proofs.FoundSquares.{marks-exact, wrong_by_some, wrong_by_some-more}

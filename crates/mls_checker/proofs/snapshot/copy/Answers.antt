@@ -1,5 +1,5 @@
 use Rattle.std.proofs.Common.{◌≡◌, true, ap, ◌∙◌}
-use Rattle.mls_geom.specs.Extents.{holds}
+use Rattle.mls_geom.specs.Rects.{holds}
 use Rattle.mls_geom.specs.Pictures.{empty_picture, painted}
 use Rattle.mls_checker.specs.Copies.{grid_picture}
 use Rattle.mls_checker.proofs.Copying.{filled-inside, overlaid-at, overlaid-meeting}

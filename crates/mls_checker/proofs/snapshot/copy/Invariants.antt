@@ -1,7 +1,7 @@
 -- The strips that are left, painted over the squares so far, show the plane.
 use Rattle.std.proofs.Common.{◌≡◌, ℕ, true}
 use Rattle.mls_checker.specs.Copies.{grid_picture}
-use Rattle.mls_geom.specs.Extents.{holds}
+use Rattle.mls_geom.specs.Rects.{holds}
 use Rattle.mls_geom.specs.Pictures.{overlaid, picture_of}
 use Rattle.mls_checker.proofs.snapshot.copy.Given as goal
 

@@ -2,7 +2,7 @@ use Rattle.std.proofs.Common.{refl, arith, rules}
 use Rattle.std.proofs.lemmas.Bool.{false≢true}
 use Rattle.std.proofs.lemmas.List.Elements.{All-head}
 use Rattle.mls_checker.specs.Copies.{IsShownBy}
-use Rattle.mls_geom.specs.Extents.{IsRectangleIn}
+use Rattle.mls_geom.specs.Rects.{IsRectangleIn}
 use Rattle.mls_geom.specs.World.{world}
 use Rattle.mls_checker.proofs.Copying.{copy_by_strips, shown-next, strips_by_copy}
 use Rattle.mls_checker.proofs.snapshot.is_copy.Goals as goal

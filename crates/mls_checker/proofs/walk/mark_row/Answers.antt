@@ -1,5 +1,5 @@
 use Rattle.std.proofs.Common.{◌≡◌, ◌-◌, ◌≤◌, ap, arith}
-use Rattle.mls_geom.specs.Extents.{Extent}
+use Rattle.mls_geom.specs.Rects.{Rect}
 use Rattle.mls_checker.specs.Copies.{copied_layout}
 use Rattle.mls_checker.specs.Reaches.{edge_reaches}
 use Rattle.mls_checker.proofs.Gathering.{gains_more_in_range, gains_nothing}
@@ -9,9 +9,9 @@ use Rattle.mls_checker.proofs.walk.mark_row.Goals.{then-is_edge, else-is_edge}
 
 pub loop-x-preserved : goal.loop-x-preserved
 loop-x-preserved g c =
-    let low : c.args.area.left ≤ c.loop-x.x = omega (arith, ap (λ (e : Extent). e.left) c.area.view_is) in
+    let low : c.args.area.left ≤ c.loop-x.x = omega (arith, ap (λ (e : Rect). e.left) c.area.view_is) in
     record {
-      within = omega (arith, ap (λ (e : Extent). e.right) c.area.view_is);
+      within = omega (arith, ap (λ (e : Rect). e.right) c.area.view_is);
       gains = gains_more_in_range g.M.Marker.comes_of c.args.rule.now (copied_layout c.args.snapshot.now)
           (λ u v column. edge_reaches c.args.rule.now (copied_layout c.args.snapshot.now) c.args.e (record { x = column; y = c.args.y }) u v)
           c.args.area.left c.loop-x.x c.args.marker.now c.loop-x.marker c.if-is_edge.marker low c.loop-x.invariant.gains
@@ -25,5 +25,5 @@ loop-x-preserved g c =
 pub returns : goal.returns
 returns g c =
     let all : c.loop-x.x - c.args.area.left ≡ c.args.area.right - c.args.area.left =
-    omega (arith, ap (λ (e : Extent). e.left) c.area.view_is, ap (λ (e : Extent). e.right) c.area.view_is) in
+    omega (arith, ap (λ (e : Rect). e.left) c.area.view_is, ap (λ (e : Rect). e.right) c.area.view_is) in
     rw all at c.loop-x.invariant.gains

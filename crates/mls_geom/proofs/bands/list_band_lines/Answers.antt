@@ -3,7 +3,7 @@ use Rattle.std.proofs.Common.{◌≡◌, take, subst, arith}
 use Rattle.std.proofs.lemmas.List.{take_all}
 use Rattle.std.proofs.lemmas.List.Elements.{All-more}
 use Rattle.mls_geom.proofs.BandLines.{AreBandLines-ascended, HaveEnds-more}
-use Rattle.mls_geom.specs.Extents.{IsRectangleIn}
+use Rattle.mls_geom.specs.Rects.{IsRectangleIn}
 use Rattle.mls_geom.specs.World.{world}
 use Rattle.mls_geom.specs.declared.piece.Piece.{Piece}
 use Rattle.mls_geom.proofs.bands.list_band_lines.Goals as goal

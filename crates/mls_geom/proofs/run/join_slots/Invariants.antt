@@ -1,6 +1,6 @@
 -- The runs so far are those left of the loop's slot, where the kind changes. There are no more of them than slots.
 use Rattle.std.proofs.Common.{◌≡◌, ◌≢◌, ℕ, ◌-◌, ◌<◌, ◌≤◌, length, slice_index, vec_len, vec_capacity}
-use Rattle.mls_geom.specs.Extents.{Extent}
+use Rattle.mls_geom.specs.Rects.{Rect}
 use Rattle.mls_geom.specs.Pictures.{Picture}
 use Rattle.mls_geom.specs.Slots.{AreCuts, AreSlotKinds}
 use Rattle.mls_geom.proofs.Joining.{AreRunsBefore}
@@ -10,7 +10,7 @@ abbrev pub invariant-loop-first : goal.invariant-loop-first
 invariant-loop-first l = record {
   within : l.first ≤ length l.kinds;
   starts : 0 < l.first → l.first < length l.kinds → slice_index l.kinds l.first ≢ slice_index l.kinds (l.first - 1);
-  runs : (extent : Extent) (picture : Picture) (y : ℕ) → AreCuts extent l.lines → AreSlotKinds picture y l.lines l.kinds
+  runs : (extent : Rect) (picture : Picture) (y : ℕ) → AreCuts extent l.lines → AreSlotKinds picture y l.lines l.kinds
       → AreRunsBefore extent picture y (slice_index l.lines l.first) l.runs.items;
   fits : vec_len l.runs ≤ l.first;
   room : vec_capacity l.runs ≡ vec_capacity l.fn.runs;

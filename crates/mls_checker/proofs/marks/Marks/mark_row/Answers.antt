@@ -1,5 +1,5 @@
 use Rattle.std.proofs.Common.{◌≤◌, sym, ◌∙◌, ap, arith}
-use Rattle.mls_geom.specs.Extents.{Extent}
+use Rattle.mls_geom.specs.Rects.{Rect}
 use Rattle.mls_checker.specs.Copies.{copied_layout}
 use Rattle.mls_checker.specs.Marking.{marks}
 use Rattle.mls_checker.proofs.MarkedSquares.{row_marked, row_passed}
@@ -8,16 +8,16 @@ use Rattle.mls_checker.proofs.marks.Marks.mark_row.Goals.{then-is_wrong, else-is
 
 pub loop-x-preserved : goal.loop-x-preserved
 loop-x-preserved c =
-    let from_left : c.args.block.left ≤ c.loop-x.x = omega (arith, ap (λ (e : Extent). e.left) c.block.view_is) in
+    let from_left : c.args.block.left ≤ c.loop-x.x = omega (arith, ap (λ (e : Rect). e.left) c.block.view_is) in
     elim c.if-is_wrong.branch [
       | then-is_wrong w ↦ rw (w.self-inside-is) record {
-        within = omega (arith, ap (λ (e : Extent). e.right) c.block.view_is);
+        within = omega (arith, ap (λ (e : Rect). e.right) c.block.view_is);
         rect = w.put.ensures.rect ∙ c.loop-x.invariant.rect;
         marks = row_marked c.args.rule.now (copied_layout c.args.snapshot.now) c.args.block c.loop-x.x c.args.y (marks c.args.self.now) c.loop-x.self-inside.squares w.put.new.self
             from_left (sym c.is_wrong.ensures ∙ w.if-is_wrong.true) w.put.ensures.picture c.loop-x.invariant.marks;
       }
       | else-is_wrong w ↦ rw (w.self-inside-is) record {
-        within = omega (arith, ap (λ (e : Extent). e.right) c.block.view_is);
+        within = omega (arith, ap (λ (e : Rect). e.right) c.block.view_is);
         rect = c.loop-x.invariant.rect;
         marks = row_passed c.args.rule.now (copied_layout c.args.snapshot.now) c.args.block c.loop-x.x c.args.y (marks c.args.self.now) c.loop-x.self-inside.squares
             from_left (sym c.is_wrong.ensures ∙ w.if-is_wrong.false) c.loop-x.invariant.marks;

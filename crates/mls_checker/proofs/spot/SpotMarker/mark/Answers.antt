@@ -1,5 +1,5 @@
 use Rattle.std.proofs.Common.{Bool, ◌||◌, sym, ap, ◌∙◌}
-use Rattle.mls_geom.specs.Extents.{Extent, common}
+use Rattle.mls_geom.specs.Rects.{Rect, common}
 use Rattle.mls_checker.specs.Copies.{copied_layout}
 use Rattle.mls_checker.specs.Forbids.{is_wrong}
 use Rattle.mls_checker.specs.Marking.{SquareSet, has_some}
@@ -15,7 +15,7 @@ returns c rect set (place, before) =
       place,
       elim c.if-self.branch [
         | then-self w ↦ w.self-is ∙ w.if-self.true ∙ sym (either ∙ ap (λ (b : Bool). b || more) (sym before ∙ w.if-self.true))
-        | else-self w ↦ w.self-is ∙ w.has_wrong-self.ensures ∙ ap (λ (e : Extent). has_some e wrong) (w.within.ensures ∙ ap (common c.args.block) place)
+        | else-self w ↦ w.self-is ∙ w.has_wrong-self.ensures ∙ ap (λ (e : Rect). has_some e wrong) (w.within.ensures ∙ ap (common c.args.block) place)
             ∙ sym (either ∙ ap (λ (b : Bool). b || more) (sym before ∙ w.if-self.false))
       ],
     )

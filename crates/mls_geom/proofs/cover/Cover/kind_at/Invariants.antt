@@ -1,6 +1,6 @@
 use Rattle.std.proofs.Common.{◌≡◌, false}
 use Rattle.std.specs.List.{AllWithin}
-use Rattle.mls_geom.specs.Extents.{holds}
+use Rattle.mls_geom.specs.Rects.{holds}
 use Rattle.mls_geom.proofs.cover.Cover.kind_at.Given as goal
 
 abbrev pub invariant-loop-strip : goal.invariant-loop-strip

@@ -2,7 +2,7 @@
 use Rattle.std.proofs.Common.{◌≡◌, Some, sym, ap, ◌∙◌, length, refl, arith}
 use Rattle.std.specs.List.{slice_get}
 use Rattle.std.proofs.lemmas.Option.{slice_get_read}
-use Rattle.mls_session.specs.Sessions.{Drawing, state_of}
+use Rattle.mls_session.specs.Sessions.{Session, state_of}
 use Rattle.mls_session.proofs.KindBits.{types_none, types_more, types_all, what_step-Kinds}
 use Rattle.mls_session.proofs.session.Session.what.Goals as goal
 
@@ -21,9 +21,9 @@ loop-cover-preserved c = λ config.
 pub returns : goal.returns
 returns c = λ config same.
     let drawing = c.args.self.now in
-    let is_set : drawing.box ≡ Some c.in-Some.rect = sym (ap (λ (kept : Drawing). kept.box) c.self.view_is) ∙ c.in-Some.is in
+    let is_set : drawing.box ≡ Some c.in-Some.rect = sym (ap (λ (kept : Session). kept.box) c.self.view_is) ∙ c.in-Some.is in
     let whole : length c.deref-cover-items.result.now ≡ length drawing.planes =
-    ap length c.deref-cover-items.ensures.value ∙ ap (λ (kept : Drawing). length kept.planes) c.self.view_is in
+    ap length c.deref-cover-items.ensures.value ∙ ap (λ (kept : Session). length kept.planes) c.self.view_is in
     let all : c.loop-cover.cover-index ≡ config.planes = omega arith in
     let kinds = c.loop-cover.invariant config ∙ types_all config (state_of drawing).layout c.in-Some.rect _ all in
     what_step-Kinds config (state_of drawing) _ _ _ is_set kinds

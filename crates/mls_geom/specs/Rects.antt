@@ -2,23 +2,23 @@
 use Rattle.std.specs.Prelude.{ℕ, ◌+◌, ◌-◌, ◌<◌, ◌≤◌, max, min, Bool, ◌&&◌, nat_lt, nat_le, if◌then◌else◌, Option, Some, None}
 
 -- the four lines of a rectangle, of the world, or of a zone
-pub record Extent : Type 0 where
+pub record Rect : Type 0 where
   pub left : ℕ
   pub bottom : ℕ
   pub right : ℕ
   pub top : ℕ
 
 -- a unit square by its left line and its bottom line, which are its column and its row
-pub record Square : Type 0 where
+pub record Point : Type 0 where
   pub x : ℕ
   pub y : ℕ
 
 -- the square at column x and row y lies in the rectangle
-abbrev pub holds : Extent → ℕ → ℕ → Bool
+abbrev pub holds : Rect → ℕ → ℕ → Bool
 holds e x y = nat_le e.left x && nat_lt x e.right && nat_le e.bottom y && nat_lt y e.top
 
 -- a rectangle with at least one square, inside another
-pub record IsRectangleIn (outer e : Extent) : Type 0 where
+pub record IsRectangleIn (outer e : Rect) : Type 0 where
   pub left_in : outer.left ≤ e.left
   pub wide : e.left < e.right
   pub right_in : e.right ≤ outer.right
@@ -27,21 +27,21 @@ pub record IsRectangleIn (outer e : Extent) : Type 0 where
   pub top_in : e.top ≤ outer.top
 
 -- the squares that lie in both have these lines; where there are none, a left line is not below its right one, or a bottom not below its top
-abbrev pub common : Extent → Extent → Extent
+abbrev pub common : Rect → Rect → Rect
 common a b = record { left = max a.left b.left; bottom = max a.bottom b.bottom; right = min a.right b.right; top = min a.top b.top }
 
 -- the rectangle has a square
-abbrev pub has_squares : Extent → Bool
+abbrev pub has_squares : Rect → Bool
 has_squares e = nat_lt e.left e.right && nat_lt e.bottom e.top
 
 -- the rectangle of the squares that lie in both, if there are any
-abbrev pub clipped : Extent → Extent → Option Extent
+abbrev pub clipped : Rect → Rect → Option Rect
 clipped a b = if has_squares (common a b) then Some (common a b) else None
 
 -- some square lies in both
-abbrev pub meets : Extent → Extent → Bool
+abbrev pub meets : Rect → Rect → Bool
 meets a b = has_squares (common a b)
 
 -- h squares more on each side
-abbrev pub grown : ℕ → Extent → Extent
+abbrev pub grown : ℕ → Rect → Rect
 grown h e = record { left = e.left - h; bottom = e.bottom - h; right = e.right + h; top = e.top + h }
