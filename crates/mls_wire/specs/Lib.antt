@@ -1,13 +1,14 @@
 pub mod KeptNames
+pub mod LineReaders
 pub mod Lines
 pub mod NameBooks
+pub mod NextLines
 pub mod Numbers
-pub mod Readings
 pub mod Replies
 pub mod Runs
 pub mod Says
-pub mod Scripts
-pub mod Seats
+pub mod ScriptLines
 pub mod Serving
 pub mod SessionNames
+pub mod Solos
 pub mod Watches

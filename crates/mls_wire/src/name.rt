@@ -3,7 +3,7 @@ ghost use Rattle.std.specs.Prelude.{◌≡◌, IsTrue, None, Some, if◌then◌e
 ghost use Rattle.std.specs.Cmp.{partial_equiv_from_equiv};
 ghost use Rattle.std.specs.Cmp.Lexicographic.{nat_list_eq_equiv};
 ghost use Rattle.std.specs.List.{list_all};
-ghost use Rattle.mls_tech.specs.Words.{same_word};
+ghost use Rattle.mls_text.specs.Words.{same_word};
 ghost use Rattle.mls_wire.specs.SessionNames.{is_name_byte as is_name_byte_lem, is_session_name};
 
 use std::marker::Model;

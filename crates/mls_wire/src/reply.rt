@@ -2,41 +2,41 @@
 ghost use Rattle.std.specs.Prelude.{◌≡◌, ◌+◌, ◌++◌, ◌∷◌, ◌<◌, ◌==◌, OnOk, length, decimal, codes};
 ghost use Rattle.std.specs.List.{flat_map};
 ghost use Rattle.std.specs.Int.{bit_at};
-ghost use Rattle.mls_wire.specs.Replies.{answer_text, said_text, type_text, types_of, line_fault_words, open_fault_words, refusal_words, numbered};
+ghost use Rattle.mls_wire.specs.Replies.{response_text, reply_text, type_text, types_of, refusal_text as refusal_text_lem, numbered};
 
-use crate::{Answer, LineFault, Names, OpenFault};
+use crate::{Names, Response};
 use itoa::{Buffer, Integer};
 use mls_session::{Refusal, Reply};
 use std::alloc::AllocError;
 
-/// Appends the text of the answer to line `n`.
-#[tactic(auto, unfolding(crate::specs::Replies::answer_text))]
-pub fn reply_text<N: Names>(
+/// Appends the reply text of the response to line `n`.
+#[tactic(auto, unfolding(crate::specs::Replies::response_text))]
+pub fn push_response<N: Names>(
     names: &N,
     n: u128,
-    answer: &Answer,
+    response: &Response,
     out: &mut Vec<u8>,
 ) -> Result<(), AllocError>
-    ensures { OnOk result (out.new.items ≡ out.old.items ++ answer_text (N.book names.now) n answer.now) }
+    ensures { OnOk result (out.new.items ≡ out.old.items ++ response_text (N.book names.now) n response.now) }
 {
-    match answer {
-        Answer::Silent => return Ok(()),
-        Answer::Fault(fault) => {
+    match response {
+        Response::Silent => return Ok(()),
+        Response::Fault(fault) => {
             out.extend_from_slice(b"line ")?;
             push_decimal(n, out)?;
             out.extend_from_slice(b" fault ")?;
-            push_numbered(fault.number(), line_fault_text(*fault), out)?;
+            push_numbered(fault.number(), fault.text().as_bytes(), out)?;
         }
-        Answer::Opened(name) => {
+        Response::Opened(name) => {
             out.extend_from_slice(name.as_bytes())?;
             out.extend_from_slice(b" opened")?;
         }
-        Answer::NotOpened(name, fault) => {
+        Response::NotOpened(name, fault) => {
             out.extend_from_slice(name.as_bytes())?;
             out.extend_from_slice(b" refused open ")?;
-            push_numbered(fault.number(), open_fault_text(*fault), out)?;
+            push_numbered(fault.number(), fault.text().as_bytes(), out)?;
         }
-        Answer::Replied(name, reply) => {
+        Response::Replied(name, reply) => {
             out.extend_from_slice(name.as_bytes())?;
             out.push(b' ')?;
             push_reply(names, *reply, out)?;
@@ -61,29 +61,8 @@ fn push_numbered(n: u8, text: &[u8], out: &mut Vec<u8>) -> Result<(), AllocError
     out.extend_from_slice(text)
 }
 
-fn line_fault_text(fault: LineFault) -> &'static [u8]
-    ensures { result.now ≡ line_fault_words fault }
-{
-    match fault {
-        LineFault::UnknownCommand => b"unknown command",
-        LineFault::BadNumber => b"bad number",
-        LineFault::BadName => b"name",
-        LineFault::NotOpen => b"not open",
-    }
-}
-
-fn open_fault_text(fault: OpenFault) -> &'static [u8]
-    ensures { result.now ≡ open_fault_words fault }
-{
-    match fault {
-        OpenFault::OpenAlready => b"open already",
-        OpenFault::SessionsFull => b"sessions full",
-        OpenFault::Memory => b"memory",
-    }
-}
-
 fn refusal_text(refusal: Refusal) -> &'static [u8]
-    ensures { result.now ≡ refusal_words refusal }
+    ensures { result.now ≡ refusal_text_lem refusal }
 {
     match refusal {
         Refusal::EmptyBox => b"empty box",
@@ -94,9 +73,9 @@ fn refusal_text(refusal: Refusal) -> &'static [u8]
     }
 }
 
-#[tactic(auto, unfolding(crate::specs::Replies::said_text))]
+#[tactic(auto, unfolding(crate::specs::Replies::reply_text))]
 fn push_reply<N: Names>(names: &N, reply: Reply, out: &mut Vec<u8>) -> Result<(), AllocError>
-    ensures { OnOk result (out.new.items ≡ out.old.items ++ said_text (N.book names.now) reply) }
+    ensures { OnOk result (out.new.items ≡ out.old.items ++ reply_text (N.book names.now) reply) }
 {
     match reply {
         Reply::Done => out.extend_from_slice(b"ok"),

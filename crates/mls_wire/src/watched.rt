@@ -171,6 +171,3 @@ impl<W: Write> Watched<W> {
         Err(WriteFault)
     }
 }
-
-#[cfg(test)]
-mod tests;

@@ -1,7 +1,7 @@
 use Rattle.std.proofs.Common.{◌++◌, ◌∙◌, length, take, sym, ap, arith}
 use Rattle.std.proofs.KnownBytes.{Appends-trans}
 use Rattle.std.proofs.lemmas.List.{length-append}
-use Rattle.mls_wire.proofs.Pieces.{next_of_rest}
+use Rattle.mls_wire.proofs.Chunks.{next_of_rest}
 use Rattle.mls_wire.proofs.watched.Watched.write_whole.Goals as goal
 
 pub parts-preserved : goal.parts-preserved

@@ -1,4 +1,4 @@
--- A list that is taken piece by piece, and one that is filled so, as far as there is room.
+-- A list that is taken chunk by chunk, and one that is filled so, as far as there is room.
 use Rattle.std.proofs.Common.{◌≡◌, ℕ, zero, suc, ◌+◌, ◌-◌, ◌≤◌, min, List, [], ◌∷◌, ◌++◌, length, take, drop, slice_range, refl, sym, ap, ◌∙◌, arith, append_assoc, take-append-drop}
 use Rattle.std.proofs.Math.Seq.{take-append-add}
 use Rattle.std.proofs.lemmas.List.{take_rest, drop-drop, length-take-le, length-take, take_min}
@@ -22,18 +22,18 @@ take-take_append zero xs ys = refl
 take-take_append (suc n) [] ys = refl
 take-take_append (suc n) (x ∷ xs) ys = ap (λ l. x ∷ l) (take-take_append n xs ys)
 
--- as many of the second list as there is room for behind the first
+-- as many of the second list as there is room for after the first
 pub take-append : (room : ℕ) (xs ys : List ℕ) → length xs ≤ room → take room (xs ++ ys) ≡ xs ++ take (room - length xs) ys
 take-append room xs ys fits =
     let split : room ≡ length xs + (room - length xs) = omega arith in
     ap (λ n. take n (xs ++ ys)) split ∙ take-append-add xs ys (room - length xs)
 
--- a piece was written behind the first len elements of a line, as far as there was room
-pub take-put_piece : (line piece part : List ℕ) (len count k : ℕ) → len ≤ length line → count ≡ min (length line - len) (length piece) → part ≡ take count piece
-    → take (len + count) (put_mid len k line part) ≡ take (length line) (take len line ++ piece)
-take-put_piece line piece part len count k within count_is part_is =
+-- a chunk was written after the first len elements of a line, as far as there was room
+pub take-put_chunk : (line chunk part : List ℕ) (len count k : ℕ) → len ≤ length line → count ≡ min (length line - len) (length chunk) → part ≡ take count chunk
+    → take (len + count) (put_mid len k line part) ≡ take (length line) (take len line ++ chunk)
+take-put_chunk line chunk part len count k within count_is part_is =
     let written : len + count ≡ len + length part = rw part_is (omega (arith, length-take {A = ℕ})) in
     let kept : length (take len line) ≡ len = length-take-le len line within in
     take-put_mid len k line part (len + count) written within
-    ∙ ap (λ l. take len line ++ l) (part_is ∙ ap (λ n. take n piece) count_is ∙ take_min (length line - len) piece)
-    ∙ sym (rw kept at (take-append (length line) (take len line) piece (omega arith)))
+    ∙ ap (λ l. take len line ++ l) (part_is ∙ ap (λ n. take n chunk) count_is ∙ take_min (length line - len) chunk)
+    ∙ sym (rw kept at (take-append (length line) (take len line) chunk (omega arith)))

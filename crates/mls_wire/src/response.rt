@@ -1,14 +1,14 @@
-//! What a line is answered.
+//! Responses to lines.
 ghost use Rattle.std.specs.Prelude.{◌≡◌};
 
 use crate::{LineFault, Name};
 use mls_session::Reply;
 use thiserror::Error;
 
-/// What a line is answered.
+/// The response to a line.
 #[derive(Drop)]
-pub enum Answer {
-    /// The line says nothing.
+pub enum Response {
+    /// The line has no command.
     Silent,
     /// The line can't be read.
     Fault(LineFault),
@@ -22,19 +22,20 @@ pub enum Answer {
 
 /// Why a session can't be opened.
 #[derive(Clone, Copy, Debug, PartialEq, Eq, Error)]
+#[error("{}", self.text())]
 pub enum OpenFault {
-    #[error("open already")]
+    /// A session of this name is open already.
     OpenAlready,
-    #[error("sessions full")]
+    /// No more sessions can be open.
     SessionsFull,
-    #[error("memory")]
+    /// Memory ran out.
     Memory,
 }
 
 impl OpenFault {
-    ghost use Rattle.mls_wire.specs.Replies.{open_fault_number};
+    ghost use Rattle.mls_wire.specs.Replies.{open_fault_number, open_fault_text};
 
-    /// The number that replies give it.
+    /// Returns the fault's number in replies.
     pub fn number(self) -> u8
         ensures { result ≡ open_fault_number self }
     {
@@ -42,6 +43,17 @@ impl OpenFault {
             OpenFault::OpenAlready => 1,
             OpenFault::SessionsFull => 2,
             OpenFault::Memory => 4,
+        }
+    }
+
+    /// Returns the fault's text in replies.
+    pub fn text(self) -> &'static str
+        ensures { result.now ≡ open_fault_text self }
+    {
+        match self {
+            OpenFault::OpenAlready => "open already",
+            OpenFault::SessionsFull => "sessions full",
+            OpenFault::Memory => "memory",
         }
     }
 }
