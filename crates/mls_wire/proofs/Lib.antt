@@ -6,4 +6,3 @@ pub mod Results
 pub mod RunLemmas
 pub mod ScriptTexts
 pub mod ServingLemmas
-pub mod TypeBits

@@ -1,7 +1,7 @@
-pub mod KeptNames
 pub mod LineReaders
 pub mod Lines
 pub mod NameBooks
+pub mod NameBytes
 pub mod NextLines
 pub mod Numbers
 pub mod Replies

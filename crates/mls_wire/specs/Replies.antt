@@ -1,8 +1,8 @@
 -- The text of a line's response. Each reply ends with a line feed. This project's own.
 use Rattle.std.specs.Prelude.{ℕ, ◌==◌, List, [], ◌∷◌, ◌++◌, length, codes}
-use Rattle.std.specs.List.{filter, flat_map, range_with_len}
+use Rattle.std.specs.List.{flat_map}
 use Rattle.std.specs.Option.{unwrap_or}
-use Rattle.std.specs.Int.{bit_at}
+use Rattle.mls_kinds.specs.KindSets.{difference, members, set_of}
 use Rattle.mls_session.specs.Refusals.{refusal_number}
 use Rattle.mls_session.specs.declared.refusal.Refusal.{Refusal}
 use Rattle.mls_session.specs.declared.refusal.Refusal.TheVariants.{EmptyBox, OutsideWorld, NoBox, UnknownType, Quota}
@@ -37,9 +37,9 @@ refusal_text NoBox = codes "no box"
 refusal_text UnknownType = codes "unknown type"
 refusal_text Quota = codes "quota"
 
--- the types whose bits are 1, without space, in order of numbers
-unfoldable pub types_of : ℕ → List ℕ
-types_of bits = filter (λ kind. bit_at bits kind == 1) (range_with_len 1 63)
+-- the kinds other than space
+unfoldable pub types_in : ℕ → ℕ
+types_in kinds = difference kinds (set_of (λ kind. kind == 0))
 
 -- a space and the type's first name
 abbrev pub type_text : Names → ℕ → List ℕ
@@ -48,7 +48,7 @@ type_text book kind = 32 ∷ unwrap_or (book.type_name kind) []
 -- a reply without its line's first word and its line feed
 unfoldable pub reply_text : Names → Reply → List ℕ
 reply_text book Done = codes "ok"
-reply_text book (Kinds bits) = codes "what " ++ decimal (length (types_of bits)) ++ flat_map (type_text book) (types_of bits)
+reply_text book (Kinds kinds) = codes "what " ++ decimal (length (members (types_in kinds))) ++ flat_map (type_text book) (members (types_in kinds))
 reply_text book (Refused refusal) = codes "refused " ++ numbered (refusal_number refusal) (refusal_text refusal)
 
 -- the reply text of the response to line n

@@ -1,11 +1,12 @@
 //! The text of replies.
 ghost use Rattle.std.specs.Prelude.{◌≡◌, ◌+◌, ◌++◌, ◌∷◌, ◌<◌, ◌==◌, OnOk, length, decimal, codes};
 ghost use Rattle.std.specs.List.{flat_map};
-ghost use Rattle.std.specs.Int.{bit_at};
-ghost use Rattle.mls_wire.specs.Replies.{response_text, reply_text, type_text, types_of, refusal_text as refusal_text_lem, numbered};
+ghost use Rattle.mls_kinds.specs.KindSets.{members};
+ghost use Rattle.mls_wire.specs.Replies as spec;
 
 use crate::{Names, Response};
 use itoa::{Buffer, Integer};
+use mls_kinds::KindSet;
 use mls_session::{Refusal, Reply};
 use std::alloc::AllocError;
 
@@ -17,7 +18,7 @@ pub fn push_response<N: Names>(
     response: &Response,
     out: &mut Vec<u8>,
 ) -> Result<(), AllocError>
-    ensures { OnOk result (out.new.items ≡ out.old.items ++ response_text (N.book names.now) n response.now) }
+    ensures { OnOk result (out.new.items ≡ out.old.items ++ spec.response_text (N.book names.now) n response.now) }
 {
     match response {
         Response::Silent => return Ok(()),
@@ -46,6 +47,7 @@ pub fn push_response<N: Names>(
     Ok(())
 }
 
+/// Appends a number.
 fn push_decimal<I: Integer>(n: I, out: &mut Vec<u8>) -> Result<(), AllocError>
     ensures { OnOk result (out.new.items ≡ out.old.items ++ I.text n) }
 {
@@ -53,16 +55,18 @@ fn push_decimal<I: Integer>(n: I, out: &mut Vec<u8>) -> Result<(), AllocError>
     out.extend_from_slice(buffer.format(n).as_bytes())
 }
 
+/// Appends a number and its text.
 fn push_numbered(n: u8, text: &[u8], out: &mut Vec<u8>) -> Result<(), AllocError>
-    ensures { OnOk result (out.new.items ≡ out.old.items ++ numbered n text.now) }
+    ensures { OnOk result (out.new.items ≡ out.old.items ++ spec.numbered n text.now) }
 {
     push_decimal(n, out)?;
     out.push(b' ')?;
     out.extend_from_slice(text)
 }
 
+/// Returns the refusal's text in replies.
 fn refusal_text(refusal: Refusal) -> &'static [u8]
-    ensures { result.now ≡ refusal_text_lem refusal }
+    ensures { result.now ≡ spec.refusal_text refusal }
 {
     match refusal {
         Refusal::EmptyBox => b"empty box",
@@ -73,16 +77,18 @@ fn refusal_text(refusal: Refusal) -> &'static [u8]
     }
 }
 
+/// Appends a reply, without its line's first word and its line feed.
 #[tactic(auto, unfolding(crate::specs::Replies::reply_text))]
 fn push_reply<N: Names>(names: &N, reply: Reply, out: &mut Vec<u8>) -> Result<(), AllocError>
-    ensures { OnOk result (out.new.items ≡ out.old.items ++ reply_text (N.book names.now) reply) }
+    ensures { OnOk result (out.new.items ≡ out.old.items ++ spec.reply_text (N.book names.now) reply) }
 {
     match reply {
         Reply::Done => out.extend_from_slice(b"ok"),
         Reply::Kinds(bits) => {
             out.extend_from_slice(b"what ")?;
-            push_decimal(count_types(bits), out)?;
-            push_types(names, bits, out)
+            let types = types_in(bits);
+            push_decimal(types.len() as u64, out)?;
+            push_types(names, types, out)
         }
         Reply::Refused(refusal) => {
             out.extend_from_slice(b"refused ")?;
@@ -91,39 +97,27 @@ fn push_reply<N: Names>(names: &N, reply: Reply, out: &mut Vec<u8>) -> Result<()
     }
 }
 
-/// The bit of a type.
-fn has_type(bits: u64, kind: u8) -> bool
-    requires { kind < 64 }
-    ensures { result ≡ (bit_at bits kind == 1) }
+/// Returns the kinds other than space.
+#[tactic(auto, unfolding(crate::specs::Replies::types_in))]
+fn types_in(bits: u64) -> KindSet
+    ensures { result ≡ spec.types_in bits }
 {
-    bits >> kind & 1 == 1
+    KindSet::from_bits(bits).difference(KindSet::single(0))
 }
 
-fn count_types(bits: u64) -> u8
-    ensures { result ≡ length (types_of bits) }
+/// Appends the name of each type after a space, in the order of their numbers.
+fn push_types<N: Names>(names: &N, types: KindSet, out: &mut Vec<u8>) -> Result<(), AllocError>
+    ensures { OnOk result (out.new.items ≡ out.old.items ++ flat_map (spec.type_text (N.book names.now)) (members types)) }
 {
-    let mut count = 0;
-    for kind in 1..64 {
-        if has_type(bits, kind) {
-            count += 1;
-        }
-    }
-    count
-}
-
-fn push_types<N: Names>(names: &N, bits: u64, out: &mut Vec<u8>) -> Result<(), AllocError>
-    ensures { OnOk result (out.new.items ≡ out.old.items ++ flat_map (type_text (N.book names.now)) (types_of bits)) }
-{
-    for kind in 1..64 {
-        if has_type(bits, kind) {
-            push_type(names, kind, out)?;
-        }
+    for kind in types.iter() {
+        push_type(names, kind, out)?;
     }
     Ok(())
 }
 
+/// Appends a space and the type's first name.
 fn push_type<N: Names>(names: &N, kind: u8, out: &mut Vec<u8>) -> Result<(), AllocError>
-    ensures { OnOk result (out.new.items ≡ out.old.items ++ type_text (N.book names.now) kind) }
+    ensures { OnOk result (out.new.items ≡ out.old.items ++ spec.type_text (N.book names.now) kind) }
 {
     out.push(b' ')?;
     if let Some(name) = names.type_name(kind) {
