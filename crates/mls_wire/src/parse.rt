@@ -55,7 +55,7 @@ fn parse_session<N: Names>(names: &N, name: &[u8], words: Words) -> Result<Line,
     if !names.is_open(&name) {
         return Err(LineFault::NotOpen);
     }
-    Ok(Line::Ask(name, command))
+    Ok(Line::Run(name, command))
 }
 
 /// Returns the command of the words after a session's name.

@@ -70,7 +70,7 @@ impl From<AllocError> for ServeFault {
 
 /// Serves a script: runs its lines one after another, and writes and flushes the reply to each before more is read.
 ///
-/// At a [`ServeFault::Read`] the whole lines that the input gave have their replies, and a line that it only began is lost.
+/// At a [`ServeFault::Read`] the whole lines that were read have their replies, and a line of which only a beginning was read is lost.
 /// At the other faults the last line was run too, and a beginning of its reply was written, or nothing where memory ran out.
 pub fn serve<R: Read, W: Write>(
     alloc: Global,
