@@ -6,9 +6,9 @@ use Rattle.std.proofs.lemmas.Bool.{lt-ltb, ltb-true}
 use Rattle.std.proofs.lemmas.List.Elements.{All-append, All-contains, All-filter, All-nil, All-weaker, Contains-append_cases, filter_passes}
 use Rattle.std.proofs.lemmas.List.Sorted.{All-permutation, Contains-permutation, IsPermutation-append_left}
 use Rattle.std.proofs.lemmas.Map.Keys.{IsStrictlyIncreasing-from_distinct}
-use Rattle.mls_geom.specs.ActivePieces.{ArePartedAt, AreStarts, BeginsBelow, EndsFrom, HasPiece, JoinUpTo, NamesPiece, ends_above, pieces_of}
+use Rattle.mls_geom.specs.Sweep.ActivePieces.{ArePartedAt, AreStarts, BeginsBelow, EndsFrom, HasPiece, JoinUpTo, NamesPiece, ends_above, pieces_of}
 use Rattle.mls_geom.specs.Rects.{Rect, IsRectangleIn}
-use Rattle.mls_geom.specs.Rows.{AreActive}
+use Rattle.mls_geom.specs.Sweep.Rows.{AreActive}
 use Rattle.mls_geom.specs.declared.active.Start.{Start}
 use Rattle.mls_geom.specs.declared.piece.Piece.{Piece}
 use Rattle.mls_geom.proofs.ListLemmas.{All-append_left, All-append_right, Contains-filter_append, IsDistinct-append_left, IsDistinct-filter_append, IsDistinct-moved, IsNonDecreasingBy-append_right, IsSomeAnd-both, IsSomeAnd-const, IsSomeAnd-from_option_map_or, IsSomeAnd-weaker, option_map_or-true, within-from_IsSomeAnd}

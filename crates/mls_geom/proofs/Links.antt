@@ -5,7 +5,7 @@ use Rattle.std.proofs.lemmas.Bool.{cases_lt}
 use Rattle.std.proofs.lemmas.Bool.Decides.{nat_tests}
 use Rattle.std.proofs.lemmas.Grind.{common_steps}
 use Rattle.std.proofs.lemmas.List.{length-set}
-use Rattle.mls_geom.specs.Slots.{AreLinks, AreSlots, is_painted, shown}
+use Rattle.mls_geom.specs.Sweep.Slots.{AreLinks, AreSlots, is_painted, shown}
 
 -- a link may lead anywhere to the right, if all slots between are painted
 AreLinks-set :

@@ -1,7 +1,7 @@
 -- What painted slots show.
 use Rattle.std.proofs.Common.{◌≡◌, ℕ, ◌<◌, false, List, length, slice_index, inl, inr, sym, ◌∙◌, arith}
 use Rattle.std.proofs.lemmas.Bool.{cond-false, cond-true, le-ltb, lt-ltb, cases_lt}
-use Rattle.mls_geom.specs.Slots.{AreSlots, is_painted, shown}
+use Rattle.mls_geom.specs.Sweep.Slots.{AreSlots, is_painted, shown}
 
 -- where nothing is painted, the kind below shows
 pub shown_free : (kinds free : List ℕ) (slot below : ℕ) → is_painted free slot ≡ false → shown kinds free slot below ≡ below

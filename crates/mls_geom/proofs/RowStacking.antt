@@ -7,8 +7,8 @@ use Rattle.std.proofs.lemmas.List.{take_all, take_more_set}
 use Rattle.std.proofs.lemmas.List.Elements.{All-push, All-weaker}
 use Rattle.mls_geom.specs.Rects.{Rect}
 use Rattle.mls_geom.specs.Pictures.{Picture}
-use Rattle.mls_geom.specs.Rows.{AreRuns}
-use Rattle.mls_geom.specs.Stacks.{AreStacked, AreAlike, NameStrips, ReachesUp, StandsOn, begun, raised, up_to}
+use Rattle.mls_geom.specs.Sweep.Rows.{AreRuns}
+use Rattle.mls_geom.specs.Sweep.Stacks.{AreStacked, AreAlike, NameStrips, ReachesUp, StandsOn, begun, raised, up_to}
 use Rattle.mls_geom.specs.TileCounts.{tile_count}
 use Rattle.mls_geom.specs.declared.piece.Piece.{Piece}
 use Rattle.mls_geom.specs.declared.run.Run.{Run}

@@ -3,7 +3,7 @@ use Rattle.std.proofs.Common.{◌≡◌, ◌≢◌, ℕ, ◌+◌, ◌-◌, ◌<�
 use Rattle.std.proofs.lemmas.List.Kept.{AllPairs-from_increasing}
 use Rattle.mls_geom.specs.Rects.{Rect}
 use Rattle.mls_geom.specs.Pictures.{Picture}
-use Rattle.mls_geom.specs.Slots.{AreCuts, AreSlotKinds}
+use Rattle.mls_geom.specs.Sweep.Slots.{AreCuts, AreSlotKinds}
 use Rattle.mls_geom.specs.Strips.{IsRun}
 use Rattle.mls_geom.proofs.CutLines.{before_from_less, rises, slot_at}
 

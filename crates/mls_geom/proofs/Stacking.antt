@@ -8,7 +8,7 @@ use Rattle.std.proofs.lemmas.List.Elements.{All-push, All-set}
 use Rattle.std.proofs.lemmas.List.Quantifiers.{any-set, Any-push, all_pairs_push}
 use Rattle.mls_geom.specs.Rects.{Rect, holds}
 use Rattle.mls_geom.specs.Pictures.{Picture}
-use Rattle.mls_geom.specs.Stacks.{AreAlike, up_to, raised, begun}
+use Rattle.mls_geom.specs.Sweep.Stacks.{AreAlike, up_to, raised, begun}
 use Rattle.mls_geom.specs.Strips.{AreStrips, IsRun, IsStrip, comes_before}
 use Rattle.mls_geom.specs.TileCounts.{goes_on_below, tile_count}
 use Rattle.mls_geom.specs.declared.piece.Piece.{Piece}

@@ -8,7 +8,7 @@ use Rattle.std.proofs.lemmas.List.Elements.{All-map, All-push, All-weaker}
 use Rattle.std.proofs.lemmas.List.FromFn.{length-range_with_len, get_or-range_with_len}
 use Rattle.std.proofs.lemmas.List.Sorted.{All-permutation, Contains-permutation, IsPermutation-map, length_permutation}
 use Rattle.std.proofs.lemmas.Option.{slice_get_read}
-use Rattle.mls_geom.specs.ActivePieces.{AreStarts, BeginsBelow, HasPiece, JoinUpTo, NamesPiece, pieces_of}
+use Rattle.mls_geom.specs.Sweep.ActivePieces.{AreStarts, BeginsBelow, HasPiece, JoinUpTo, NamesPiece, pieces_of}
 use Rattle.mls_geom.specs.declared.active.Start.{Start}
 use Rattle.mls_geom.specs.declared.piece.Piece.{Piece}
 use Rattle.mls_geom.proofs.ListLemmas.{IsDistinct-moved, IsDistinct-range_with_len, IsSomeAnd-all, IsSomeAnd-both, IsSomeAnd-const, IsSomeAnd-weaker, range_with_len_more}

@@ -3,7 +3,7 @@ use Rattle.std.proofs.Common.{◌≡◌, ℕ, ◌-◌, ◌<◌, ◌≤◌, inl, 
 use Rattle.std.proofs.lemmas.Bool.{cases_lt}
 use Rattle.mls_geom.specs.Rects.{Rect}
 use Rattle.mls_geom.specs.Pictures.{Picture}
-use Rattle.mls_geom.specs.Stacks.{up_to, raised, begun}
+use Rattle.mls_geom.specs.Sweep.Stacks.{up_to, raised, begun}
 use Rattle.mls_geom.specs.Strips.{IsRun, IsStrip}
 use Rattle.mls_geom.specs.declared.piece.Piece.{Piece}
 use Rattle.mls_geom.specs.declared.run.Run.{Run}

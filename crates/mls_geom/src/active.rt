@@ -1,8 +1,9 @@
 //! The pieces as a sweep upward meets them.
 ghost use Rattle.std.specs.Prelude.{◌≡◌, ◌+◌, ◌<◌, ◌≤◌, filter, length, vec_len, vec_capacity};
 ghost use Rattle.std.specs.List.Sorted.{IsNonDecreasingBy};
-ghost use Rattle.mls_geom.specs.ActivePieces.{ArePartedAt, AreStarts, JoinUpTo, ends_above};
-ghost use Rattle.mls_geom.specs.Rows.{AreActive, AreLegal};
+ghost use Rattle.mls_geom.specs.Sweep.ActivePieces.{ArePartedAt, AreStarts, JoinUpTo, ends_above};
+ghost use Rattle.mls_geom.specs.Sweep.Rows.{AreActive};
+ghost use Rattle.mls_geom.specs.World.{AreLegal};
 
 use crate::Piece;
 
@@ -21,8 +22,9 @@ pub(crate) fn list_starts(pieces: &[Piece], starts: &mut Vec<Start>)
 {
     starts.clear();
     for (i, piece) in pieces.iter().enumerate() {
+        let edges = piece.rect.area();
         starts.push_reserved(Start {
-            bottom: piece.rect.bottom_line(),
+            bottom: edges.bottom,
             piece: i,
         });
     }
@@ -35,7 +37,7 @@ fn ends_above(pieces: &[Piece], line: u32, i: usize) -> bool
 {
     pieces
         .get(i)
-        .is_some_and(|piece| line < piece.rect.top_line())
+        .is_some_and(|piece| line < piece.rect.area().top)
 }
 
 /// Takes out the pieces that end at the line or below it.

@@ -2,9 +2,8 @@
 ghost use Rattle.std.specs.Prelude.{◌≡◌, ◌+◌, ◌<◌, ◌≤◌, ◌↔◌, IfOk, OnErr, OnOk, IsErr, length, vec_capacity};
 ghost use Rattle.mls_geom.specs.Covers.{CoversWorld, meeting};
 ghost use Rattle.mls_geom.specs.Pictures.{empty_picture, kinds_in, overlaid, picture_of};
-ghost use Rattle.mls_geom.specs.Rows.{AreLegal};
+ghost use Rattle.mls_geom.specs.World.{AreLegal, world};
 ghost use Rattle.mls_geom.specs.TileCounts.{tile_count};
-ghost use Rattle.mls_geom.specs.World.{world};
 
 use crate::sweep::strips;
 use crate::world::{HIGH, LOW};

@@ -2,7 +2,7 @@
 ghost use Rattle.std.specs.Prelude.{◌≡◌};
 ghost use Rattle.mls_geom.specs.World.{square_of};
 
-use crate::world::{HIGH, is_outside, line_of};
+use crate::world::{HIGH, coordinate_of, is_outside};
 use std::marker::Model;
 
 /// A square of the world, named by its lower-left corner.
@@ -37,7 +37,7 @@ impl Point {
         if is_outside(x) || is_outside(y) {
             return None;
         }
-        let (x, y) = (line_of(x), line_of(y));
+        let (x, y) = (coordinate_of(x), coordinate_of(y));
         if x < HIGH && y < HIGH {
             Some(Point { x, y })
         } else {

@@ -1,10 +1,10 @@
 //! Rectangles of squares of the world.
 ghost use Rattle.std.specs.Prelude.{◌≡◌, ◌&&◌, ◌+ℤ◌, ℕ, IfNone, IfSome, false, pos};
 ghost use Rattle.mls_geom.specs.Rects.{IsRectangleIn, clipped, common, grown, holds, meets};
-ghost use Rattle.mls_geom.specs.World.{rect_of, world};
+ghost use Rattle.mls_geom.specs.World.{origin, rect_of, world};
 
-use crate::Point;
-use crate::world::{HIGH, LOW, ORIGIN, is_outside, line_of, user_line};
+use crate::world::{HIGH, LOW, coordinate_of, is_outside, user_coordinate};
+use crate::{Area, Point};
 use std::marker::Model;
 use thiserror::Error;
 
@@ -53,10 +53,10 @@ impl Rect {
             return Err(RectFault::Outside);
         }
         Ok(Rect {
-            left: line_of(left),
-            bottom: line_of(bottom),
-            right: line_of(right),
-            top: line_of(top),
+            left: coordinate_of(left),
+            bottom: coordinate_of(bottom),
+            right: coordinate_of(right),
+            top: coordinate_of(top),
         })
     }
 
@@ -73,36 +73,17 @@ impl Rect {
         }
     }
 
-    /// The left line, counted as in the world.
-    pub fn left_line(self) -> u32
-        ensures value { result ≡ self.left }
+    /// The squares of the rectangle by their coordinates.
+    pub fn area(self) -> Area
+        ensures value { result ≡ self }
         ensures legal { IsRectangleIn world self }
     {
-        self.left
-    }
-
-    /// The bottom line, counted as in the world.
-    pub fn bottom_line(self) -> u32
-        ensures value { result ≡ self.bottom }
-        ensures legal { IsRectangleIn world self }
-    {
-        self.bottom
-    }
-
-    /// The right line, counted as in the world.
-    pub fn right_line(self) -> u32
-        ensures value { result ≡ self.right }
-        ensures legal { IsRectangleIn world self }
-    {
-        self.right
-    }
-
-    /// The top line, counted as in the world.
-    pub fn top_line(self) -> u32
-        ensures value { result ≡ self.top }
-        ensures legal { IsRectangleIn world self }
-    {
-        self.top
+        Area {
+            left: self.left,
+            bottom: self.bottom,
+            right: self.right,
+            top: self.top,
+        }
     }
 
     /// Whether the square lies in the rectangle.
@@ -124,34 +105,34 @@ impl Rect {
 
     /// The user's left line.
     pub fn left(self) -> i32
-        ensures value { pos self.left ≡ result +ℤ pos ORIGIN }
+        ensures value { pos self.left ≡ result +ℤ pos origin }
         ensures legal { IsRectangleIn world self }
     {
-        user_line(self.left)
+        user_coordinate(self.left)
     }
 
     /// The user's bottom line.
     pub fn bottom(self) -> i32
-        ensures value { pos self.bottom ≡ result +ℤ pos ORIGIN }
+        ensures value { pos self.bottom ≡ result +ℤ pos origin }
         ensures legal { IsRectangleIn world self }
     {
-        user_line(self.bottom)
+        user_coordinate(self.bottom)
     }
 
     /// The user's right line.
     pub fn right(self) -> i32
-        ensures value { pos self.right ≡ result +ℤ pos ORIGIN }
+        ensures value { pos self.right ≡ result +ℤ pos origin }
         ensures legal { IsRectangleIn world self }
     {
-        user_line(self.right)
+        user_coordinate(self.right)
     }
 
     /// The user's top line.
     pub fn top(self) -> i32
-        ensures value { pos self.top ≡ result +ℤ pos ORIGIN }
+        ensures value { pos self.top ≡ result +ℤ pos origin }
         ensures legal { IsRectangleIn world self }
     {
-        user_line(self.top)
+        user_coordinate(self.top)
     }
 
     /// The rectangle with so many squares more on each side, as far as the world reaches.

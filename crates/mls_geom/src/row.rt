@@ -2,9 +2,9 @@
 ghost use Rattle.std.specs.Prelude.{◌≡◌, ℕ, ◌+◌, ◌*◌, ◌<◌, ◌≤◌, length, vec_len, vec_capacity};
 ghost use Rattle.std.specs.List.{All};
 ghost use Rattle.mls_geom.specs.Pictures.{picture_of};
-ghost use Rattle.mls_geom.specs.Rows.{AreActive, AreLegal, AreRuns};
-ghost use Rattle.mls_geom.specs.Slots.{AreBetweenLines, AreCuts};
-ghost use Rattle.mls_geom.specs.World.{world};
+ghost use Rattle.mls_geom.specs.Sweep.Rows.{AreActive, AreRuns};
+ghost use Rattle.mls_geom.specs.World.{AreLegal, world};
+ghost use Rattle.mls_geom.specs.Sweep.Slots.{AreBetweenLines, AreCuts};
 
 use crate::Piece;
 use crate::lines::ascend;
@@ -22,7 +22,7 @@ pub(crate) struct Row {
 }
 
 impl Row {
-    ghost use Rattle.mls_geom.specs.RowRooms.{HasRowRoom};
+    ghost use Rattle.mls_geom.specs.Sweep.RowRooms.{HasRowRoom};
 
     /// Leaves in `runs` the runs of row `y`. The active pieces are those that have squares in it.
     pub(crate) fn find_runs(&mut self, pieces: &[Piece], active: &[usize], y: u32)
@@ -52,9 +52,9 @@ fn list_lines(pieces: &[Piece], active: &[usize], lines: &mut Vec<u32>)
     lines.push_reserved(LOW);
     lines.push_reserved(HIGH);
     for i in active {
-        let rect = pieces[*i].rect;
-        lines.push_reserved(rect.left_line());
-        lines.push_reserved(rect.right_line());
+        let edges = pieces[*i].rect.area();
+        lines.push_reserved(edges.left);
+        lines.push_reserved(edges.right);
     }
     ascend(lines);
 }

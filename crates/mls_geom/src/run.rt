@@ -2,8 +2,8 @@
 ghost use Rattle.std.specs.Prelude.{◌≡◌, ◌≢◌, ℕ, ◌+◌, ◌-◌, ◌<◌, ◌≤◌, length, slice_index, vec_capacity};
 ghost use Rattle.mls_geom.specs.Rects.{Rect};
 ghost use Rattle.mls_geom.specs.Pictures.{Picture};
-ghost use Rattle.mls_geom.specs.Rows.{AreRuns};
-ghost use Rattle.mls_geom.specs.Slots.{AreCuts, AreSlotKinds};
+ghost use Rattle.mls_geom.specs.Sweep.Rows.{AreRuns};
+ghost use Rattle.mls_geom.specs.Sweep.Slots.{AreCuts, AreSlotKinds};
 
 /// The squares of a row from one line to another, all of one kind, and the strip they belong to.
 #[derive(Clone, Copy)]

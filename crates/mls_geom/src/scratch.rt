@@ -17,7 +17,7 @@ pub struct Scratch {
 impl Model for Scratch {
     ghost use Rattle.std.specs.Prelude.{◌≤◌, vec_capacity};
     ghost use Rattle.mls_geom.specs.Scratches.{Scratch};
-    ghost use Rattle.mls_geom.specs.SweepRooms.{HasSweepRoom};
+    ghost use Rattle.mls_geom.specs.Sweep.SweepRooms.{HasSweepRoom};
 
     ghost Value = { Scratch };
 

@@ -4,8 +4,8 @@ ghost use Rattle.std.specs.Prelude.{◌≡◌, ℕ, ◌+◌, ◌<◌, ◌≤◌,
 ghost use Rattle.std.specs.List.{Contains};
 ghost use Rattle.std.specs.List.Sorted.{IsStrictlyIncreasing};
 ghost use Rattle.mls_geom.specs.Pictures.{Picture, overlaid, painted, picture_of};
-ghost use Rattle.mls_geom.specs.Rows.{AreActive};
-ghost use Rattle.mls_geom.specs.Slots.{AreBetweenLines, AreLinks, AreSlotKinds, AreSlots, IsBetweenLines, is_painted, shown};
+ghost use Rattle.mls_geom.specs.Sweep.Rows.{AreActive};
+ghost use Rattle.mls_geom.specs.Sweep.Slots.{AreBetweenLines, AreLinks, AreSlotKinds, AreSlots, IsBetweenLines, is_painted, shown};
 
 use crate::Piece;
 
@@ -94,8 +94,9 @@ fn paint_piece(piece: Piece, lines: &[u32], kinds: &mut [u8], free: &mut [usize]
         → shown kinds.new free.new slot (below x y)
         ≡ shown kinds.old free.old slot (painted below piece x y) }
 {
-    let from = place_of(lines, piece.rect.left_line());
-    let to = place_of(lines, piece.rect.right_line());
+    let edges = piece.rect.area();
+    let from = place_of(lines, edges.left);
+    let to = place_of(lines, edges.right);
     paint_below(kinds, free, from, to, piece.kind);
 }
 

@@ -2,8 +2,8 @@
 ghost use Rattle.std.specs.Prelude.{◌≡◌, ℕ, ◌<◌, ◌≤◌, ◌↔◌, [], ◌∷◌, ◌++◌, IfOk, IfSome, IsErr, IsSome, IsSomeAnd, OnOk, OnErr, length, slice_get, vec_len, vec_capacity};
 ghost use Rattle.std.specs.List.{AllWithin};
 ghost use Rattle.mls_geom.specs.Rects.{IsRectangleIn};
-ghost use Rattle.mls_geom.specs.Rows.{AreRuns};
-ghost use Rattle.mls_geom.specs.Stacks.{AreStacked, AreAlike, StandsOn, begun, raised, up_to};
+ghost use Rattle.mls_geom.specs.Sweep.Rows.{AreRuns};
+ghost use Rattle.mls_geom.specs.Sweep.Stacks.{AreStacked, AreAlike, StandsOn, begun, raised, up_to};
 ghost use Rattle.mls_geom.specs.TileCounts.{tile_count};
 ghost use Rattle.mls_geom.specs.World.{world};
 
@@ -42,8 +42,8 @@ fn raise(strip: &mut Piece, top: u32)
     requires to { top ≤ world.top }
     ensures { strip.new ≡ raised top strip.old }
 {
-    let rect = strip.rect;
-    strip.rect = Rect::between(rect.left_line(), rect.bottom_line(), rect.right_line(), top);
+    let edges = strip.rect.area();
+    strip.rect = Rect::between(edges.left, edges.bottom, edges.right, top);
 }
 
 /// Begins a strip with a run, from the line `bottom` up to the line `top`, and answers its index.

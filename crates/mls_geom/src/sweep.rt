@@ -1,13 +1,12 @@
 //! The maximal strips of painted planes.
 ghost use Rattle.std.specs.Prelude.{◌≡◌, ℕ, ◌+◌, ◌<◌, ◌≤◌, ◌↔◌, ◌++◌, [], IfOk, OnOk, OnErr, IsErr, length, vec_len, vec_capacity};
-ghost use Rattle.mls_geom.specs.ActivePieces.{AreStarts};
-ghost use Rattle.mls_geom.specs.BandLines.{AreBandLines};
+ghost use Rattle.mls_geom.specs.Sweep.ActivePieces.{AreStarts};
+ghost use Rattle.mls_geom.specs.Sweep.BandLines.{AreBandLines};
 ghost use Rattle.mls_geom.specs.Pictures.{overlaid, picture_of};
-ghost use Rattle.mls_geom.specs.Rows.{AreLegal};
-ghost use Rattle.mls_geom.specs.Stacks.{AreStacked};
+ghost use Rattle.mls_geom.specs.World.{AreLegal, world};
+ghost use Rattle.mls_geom.specs.Sweep.Stacks.{AreStacked};
 ghost use Rattle.mls_geom.specs.Strips.{AreStrips};
 ghost use Rattle.mls_geom.specs.TileCounts.{tile_count};
-ghost use Rattle.mls_geom.specs.World.{world};
 
 use crate::active::{Start, activate, list_starts};
 use crate::bands::list_band_lines;
@@ -37,7 +36,7 @@ pub(crate) struct Sweep {
 }
 
 impl Sweep {
-    ghost use Rattle.mls_geom.specs.SweepRooms.{HasSweepRoom};
+    ghost use Rattle.mls_geom.specs.Sweep.SweepRooms.{HasSweepRoom};
 
     /// Reserves the room for so many pieces and so many strips.
     pub(crate) fn new(alloc: Global, room: u32) -> Result<Sweep, AllocError>
@@ -152,6 +151,3 @@ pub fn strips(
     swap(&mut scratch.strips, &mut scratch.sweep.strips);
     Ok(scratch.strips.len())
 }
-
-#[cfg(test)]
-mod tests;

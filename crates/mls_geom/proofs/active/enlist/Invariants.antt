@@ -1,5 +1,5 @@
 use Rattle.std.proofs.Common.{◌≡◌, ◌+◌, ◌++◌, take, vec_len, vec_capacity}
-use Rattle.mls_geom.specs.ActivePieces.{pieces_of}
+use Rattle.mls_geom.specs.Sweep.ActivePieces.{pieces_of}
 use Rattle.mls_geom.proofs.active.enlist.Given as goal
 
 abbrev pub invariant-loop-start : goal.invariant-loop-start

@@ -1,7 +1,7 @@
 -- `retain` keeps what its closure tests.
 use Rattle.std.proofs.Common.{rules}
 use Rattle.std.proofs.lemmas.Fn.{filter_same}
-use Rattle.mls_geom.specs.ActivePieces.{ends_above}
+use Rattle.mls_geom.specs.Sweep.ActivePieces.{ends_above}
 use Rattle.mls_geom.proofs.active.retire.Goals as goal
 
 pub returns-clause-kept : goal.returns-clause-kept

@@ -4,7 +4,7 @@ use Rattle.std.proofs.lemmas.Iterator.Adapters.{YieldsList-from_rev_slice}
 use Rattle.std.proofs.lemmas.Iterator.Consumers.{YieldsList-end, YieldsList-turn}
 use Rattle.std.proofs.lemmas.List.{length_push, length-reverse}
 use Rattle.mls_geom.specs.Pictures.{painted}
-use Rattle.mls_geom.specs.Slots.{IsBetweenLines}
+use Rattle.mls_geom.specs.Sweep.Slots.{IsBetweenLines}
 use Rattle.mls_geom.proofs.ActivePieces.{IsTurn-from_reverse, overlaid_active}
 use Rattle.mls_geom.proofs.slots.paint_slots.Goals as goal
 

@@ -1,8 +1,8 @@
 -- The pieces gone over, the last of them first, are painted over whatever is below.
 use Rattle.std.proofs.Common.{◌≡◌, ℕ, ◌+◌, ◌-◌, ◌<◌, ◌≤◌, drop, length, slice_index}
 use Rattle.mls_geom.specs.Pictures.{Picture, overlaid}
-use Rattle.mls_geom.specs.Rows.{AreActive}
-use Rattle.mls_geom.specs.Slots.{AreSlots, shown}
+use Rattle.mls_geom.specs.Sweep.Rows.{AreActive}
+use Rattle.mls_geom.specs.Sweep.Slots.{AreSlots, shown}
 use Rattle.mls_geom.proofs.ActivePieces.{pieces_at}
 use Rattle.mls_geom.proofs.slots.paint_slots.Given as goal
 

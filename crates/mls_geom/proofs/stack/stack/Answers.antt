@@ -1,7 +1,7 @@
 -- Each iteration stacks one run more, whatever the picture is that the strips and the runs are of; that there is one keeps the indices and the lines legal.
 use Rattle.std.proofs.Common.{◌<◌, ◌∙◌, Result, Ok, Err, OnErr, ap, length, set, vec_capacity, vec_len, arith, refl}
 use Rattle.std.proofs.lemmas.Bool.{false≢true}
-use Rattle.mls_geom.specs.Stacks.{raised}
+use Rattle.mls_geom.specs.Sweep.Stacks.{raised}
 use Rattle.mls_geom.proofs.RowStacking.{BeginsAt-found, IsRowStacked-begun, IsRowStacked-end, IsRowStacked-raised, IsRowStacked-start, IsStripUnder-named, length-lt-tile_count_of_row}
 use Rattle.mls_geom.proofs.stack.stack.Goals as goal
 use Rattle.mls_geom.proofs.stack.stack.Goals.{in-Some, in-None+in_ok-run-in-None}

@@ -2,7 +2,7 @@
 use Rattle.std.proofs.Common.{◌≡◌, ℕ, vec_len, length, refl, ap, ◌∙◌, arith}
 use Rattle.std.proofs.lemmas.List.{length-append}
 use Rattle.mls_geom.specs.Pictures.{overlaid, picture_of}
-use Rattle.mls_geom.specs.SweepRooms.{HasSweepRoom}
+use Rattle.mls_geom.specs.Sweep.SweepRooms.{HasSweepRoom}
 use Rattle.mls_geom.specs.World.{world}
 use Rattle.mls_geom.proofs.PiecePictures.{picture_of_both, space_outside}
 use Rattle.mls_geom.proofs.StripPictures.{picture_of_strips}

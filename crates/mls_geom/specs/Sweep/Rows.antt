@@ -2,16 +2,11 @@
 use Rattle.std.specs.Prelude.{ℕ, ◌<◌, ◌≤◌, ◌↔◌, List, slice_get, IsSomeAnd}
 use Rattle.std.specs.List.{All, Any, AllPairs, Contains}
 use Rattle.std.specs.List.Sorted.{IsStrictlyIncreasing}
-use Rattle.mls_geom.specs.Rects.{Rect, IsRectangleIn}
+use Rattle.mls_geom.specs.Rects.{Rect}
 use Rattle.mls_geom.specs.Pictures.{Picture}
 use Rattle.mls_geom.specs.Strips.{IsRun}
-use Rattle.mls_geom.specs.World.{world}
 use Rattle.mls_geom.specs.declared.piece.Piece.{Piece}
 use Rattle.mls_geom.specs.declared.run.Run.{Run}
-
--- each piece is a rectangle of the world
-abbrev pub AreLegal : List Piece → Type 0
-AreLegal pieces = All (λ piece. IsRectangleIn world piece.rect) pieces
 
 -- the indices of the pieces that have squares in row y, in ascending order
 pub record AreActive (pieces : List Piece) (y : ℕ) (active : List ℕ) : Type 0 where

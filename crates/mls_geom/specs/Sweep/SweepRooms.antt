@@ -1,6 +1,6 @@
 -- Room for a sweep.
 use Rattle.std.specs.Prelude.{ℕ, ◌+◌, ◌*◌, ◌≤◌, vec_capacity}
-use Rattle.mls_geom.specs.RowRooms.{HasRowRoom}
+use Rattle.mls_geom.specs.Sweep.RowRooms.{HasRowRoom}
 use Rattle.mls_geom.specs.declared.sweep.Sweep.{Sweep}
 
 -- a sweep over so many pieces fits: each gives two lines, and the world two

@@ -3,7 +3,7 @@ use Rattle.std.specs.Prelude.{◌≡◌, ℕ, ◌-◌, ◌<◌, ◌≤◌, List,
 use Rattle.std.specs.List.{All}
 use Rattle.mls_geom.specs.Rects.{Rect}
 use Rattle.mls_geom.specs.Pictures.{Picture}
-use Rattle.mls_geom.specs.Rows.{AreRuns}
+use Rattle.mls_geom.specs.Sweep.Rows.{AreRuns}
 use Rattle.mls_geom.specs.Strips.{AreStrips}
 use Rattle.mls_geom.specs.TileCounts.{tile_count}
 use Rattle.mls_geom.specs.declared.piece.Piece.{Piece}
