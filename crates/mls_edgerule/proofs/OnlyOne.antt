@@ -23,13 +23,13 @@ module _ (test : ℕ → Bool) where
   passing-miss i n h miss = rw (range-next i n h, miss) refl
 
   -- the first one
-  pub meeting-first : (one : Option ℕ) (i n : ℕ) → i < n → test i ≡ true → is_some one ≡ false → only_one (found one (passing i n)) ≡ only_one (found (Some i) (passing (i + 1) n))
-  meeting-first None i n h hit first = rw (passing-hit i n h hit) refl
-  meeting-first (Some plane) i n h hit first = cc
+  pub only_one-first : (one : Option ℕ) (i n : ℕ) → i < n → test i ≡ true → is_some one ≡ false → only_one (found one (passing i n)) ≡ only_one (found (Some i) (passing (i + 1) n))
+  only_one-first None i n h hit first = rw (passing-hit i n h hit) refl
+  only_one-first (Some plane) i n h hit first = cc
 
   -- none
-  pub meeting-other : (one : Option ℕ) (i n : ℕ) → i < n → test i ≡ false → only_one (found one (passing i n)) ≡ only_one (found one (passing (i + 1) n))
-  meeting-other one i n h miss = ap (λ others. only_one (found one others)) (passing-miss i n h miss)
+  pub only_one-other : (one : Option ℕ) (i n : ℕ) → i < n → test i ≡ false → only_one (found one (passing i n)) ≡ only_one (found one (passing (i + 1) n))
+  only_one-other one i n h miss = ap (λ others. only_one (found one others)) (passing-miss i n h miss)
 
   -- a second one
   pub only_one-twice : (plane i n : ℕ) → i < n → test i ≡ true → only_one (found (Some plane) (passing i n)) ≡ None
