@@ -2,7 +2,7 @@
 use Rattle.std.proofs.Common.{◌≡◌, ◌≤◌, ℕ, ◌+◌, zero, suc, max, true, ◌||◌, List, [], ◌∷◌, Contains, ap, le_of_suc-le-suc, arith}
 use Rattle.std.specs.List.{list_any}
 use Rattle.mls_edgerule.specs.Halos.{halo_of}
-use Rattle.mls_edgerule.specs.RuleLists.{across, directions_in}
+use Rattle.mls_edgerule.specs.Directions.{across, directions_in}
 use Rattle.mls_edgerule.specs.declared.edge_rule.EdgeRule.{EdgeRule}
 use Rattle.mls_geom.specs.Rects.{Rect, IsRectangleIn, grown, holds}
 use Rattle.mls_geom.specs.World.{world}

@@ -29,7 +29,7 @@ impl Model for Area {
 }
 
 impl Area {
-    /// The rectangle with this many more squares on each side, whether the world has them or not.
+    /// Returns the rectangle with this many more squares on each side, whether the world has them or not.
     pub fn around(rect: Rect, squares: u32) -> Area
         requires { squares ≤ 256 }
         ensures value { result ≡ grown squares rect }
@@ -44,7 +44,7 @@ impl Area {
         }
     }
 
-    /// The squares of the area that lie in the rectangle too.
+    /// Returns the squares of the area that lie in the rectangle too.
     pub fn within(self, rect: Rect) -> Area
         ensures { result ≡ common self rect }
     {

@@ -4,7 +4,7 @@ ghost use Rattle.mls_geom.specs.Sweep.BandLines.{AreBandLines};
 ghost use Rattle.mls_geom.specs.World.{AreLegal, world};
 
 use crate::Piece;
-use crate::lines::ascend;
+use crate::lines::sort_dedup;
 use crate::world::{HIGH, LOW};
 
 /// Lists the lines at which the world or a piece begins or ends, from the bottom up.
@@ -22,5 +22,5 @@ pub(crate) fn list_band_lines(pieces: &[Piece], lines: &mut Vec<u32>)
         lines.push_reserved(edges.bottom);
         lines.push_reserved(edges.top);
     }
-    ascend(lines);
+    sort_dedup(lines);
 }

@@ -8,11 +8,13 @@ use crate::{Area, Point};
 use std::marker::Model;
 use thiserror::Error;
 
-/// Why four lines make no rectangle of the world.
+/// Why four coordinates make no rectangle of the world.
 #[derive(Clone, Copy, Debug, PartialEq, Eq, Error)]
 pub enum RectFault {
+    /// The box has no square.
     #[error("empty box")]
     Empty,
+    /// A side lies outside the world.
     #[error("outside the world")]
     Outside,
 }
@@ -41,7 +43,8 @@ impl Model for Rect {
 }
 
 impl Rect {
-    /// The rectangle between four of the user's lines.
+    /// Returns the rectangle between four of the user's coordinates, or the first fault: [`RectFault::Empty`],
+    /// then [`RectFault::Outside`].
     #[tactic(auto, unfolding(crate::specs::World::rect_of))]
     pub fn new(left: i32, bottom: i32, right: i32, top: i32) -> Result<Rect, RectFault>
         ensures { result ≡ rect_of left bottom right top }
@@ -60,7 +63,7 @@ impl Rect {
         })
     }
 
-    /// The rectangle between four lines of the world.
+    /// Returns the rectangle between four coordinates of the world.
     pub(crate) fn between(left: u32, bottom: u32, right: u32, top: u32) -> Rect
         requires { IsRectangleIn world (record { left = left; bottom = bottom; right = right; top = top }) }
         ensures { result ≡ record { left = left; bottom = bottom; right = right; top = top } }
@@ -73,7 +76,7 @@ impl Rect {
         }
     }
 
-    /// The squares of the rectangle by their coordinates.
+    /// Returns the same squares as an area, whose coordinates can be read.
     pub fn area(self) -> Area
         ensures value { result ≡ self }
         ensures legal { IsRectangleIn world self }
@@ -86,7 +89,7 @@ impl Rect {
         }
     }
 
-    /// Whether the square lies in the rectangle.
+    /// Returns whether the square lies in the rectangle.
     pub(crate) fn holds(self, at: Point) -> bool
         ensures { result ≡ holds self at.x at.y }
     {
@@ -96,14 +99,14 @@ impl Rect {
             && at.row() < self.top
     }
 
-    /// Whether some square lies in both.
+    /// Returns whether some square lies in both rectangles.
     pub(crate) fn meets(self, other: Rect) -> bool
         ensures { result ≡ meets self other }
     {
         self.clip(other).is_some()
     }
 
-    /// The user's left line.
+    /// Returns the left side as users count it.
     pub fn left(self) -> i32
         ensures value { pos self.left ≡ result +ℤ pos origin }
         ensures legal { IsRectangleIn world self }
@@ -111,7 +114,7 @@ impl Rect {
         user_coordinate(self.left)
     }
 
-    /// The user's bottom line.
+    /// Returns the bottom side as users count it.
     pub fn bottom(self) -> i32
         ensures value { pos self.bottom ≡ result +ℤ pos origin }
         ensures legal { IsRectangleIn world self }
@@ -119,7 +122,7 @@ impl Rect {
         user_coordinate(self.bottom)
     }
 
-    /// The user's right line.
+    /// Returns the right side as users count it.
     pub fn right(self) -> i32
         ensures value { pos self.right ≡ result +ℤ pos origin }
         ensures legal { IsRectangleIn world self }
@@ -127,7 +130,7 @@ impl Rect {
         user_coordinate(self.right)
     }
 
-    /// The user's top line.
+    /// Returns the top side as users count it.
     pub fn top(self) -> i32
         ensures value { pos self.top ≡ result +ℤ pos origin }
         ensures legal { IsRectangleIn world self }
@@ -135,7 +138,7 @@ impl Rect {
         user_coordinate(self.top)
     }
 
-    /// The rectangle with so many squares more on each side, as far as the world reaches.
+    /// Returns the rectangle with this many more squares on each side, clipped to the world.
     pub fn grow(self, squares: u32) -> Rect
         ensures value { result ≡ common (grown squares self) world }
         ensures squares { (x y : ℕ)
@@ -149,7 +152,8 @@ impl Rect {
         }
     }
 
-    /// The squares that lie in both. `None` where there are none, as where the rectangles only touch.
+    /// Returns the squares that lie in both rectangles, or `None` if there are none. Rectangles that only
+    /// touch share no square.
     pub fn clip(self, other: Rect) -> Option<Rect>
         ensures value { result ≡ clipped self other }
         ensures some { IfSome result

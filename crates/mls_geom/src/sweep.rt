@@ -18,12 +18,12 @@ use std::alloc::{AllocError, Global};
 use std::mem::swap;
 use thiserror::Error;
 
-/// A plane would have more tiles than it may.
+/// The plane would have more strips than its limit.
 #[derive(Clone, Copy, Debug, PartialEq, Eq, Error)]
 #[error("too many tiles")]
 pub struct TooMany;
 
-/// Room to sweep upward over pieces in.
+/// Buffers of a sweep upward over pieces.
 #[derive(Drop)]
 pub(crate) struct Sweep {
     pieces: Vec<Piece>,
@@ -38,7 +38,7 @@ pub(crate) struct Sweep {
 impl Sweep {
     ghost use Rattle.mls_geom.specs.Sweep.SweepRooms.{HasSweepRoom};
 
-    /// Reserves the room for so many pieces and so many strips.
+    /// Reserves room for `room` pieces and `room` strips.
     pub(crate) fn new(alloc: Global, room: u32) -> Result<Sweep, AllocError>
         ensures { IfOk result (λ sweep. HasSweepRoom sweep room) }
     {
@@ -60,7 +60,7 @@ impl Sweep {
         })
     }
 
-    /// Lists the cover's pieces, and after them those painted over it.
+    /// Lists the pieces of the cover, and after them those that are painted over it.
     fn gather(&mut self, cover: &[Piece], over: &[Piece])
         requires { length cover.now + length over.now ≤ vec_capacity self.old.pieces }
         ensures pieces { self.new.pieces.items ≡ cover.now ++ over.now }
@@ -110,7 +110,7 @@ impl Sweep {
         Ok(())
     }
 
-    /// Leaves in `strips` the maximal strips that the gathered pieces show.
+    /// Fills `strips` with the maximal strips that the gathered pieces show.
     fn find_strips(&mut self, limit: usize) -> Result<(), TooMany>
         requires room { HasSweepRoom self.old (vec_len self.old.pieces) }
         requires limit { limit ≤ vec_capacity self.old.strips }
@@ -129,8 +129,11 @@ impl Sweep {
     }
 }
 
-/// Leaves in the scratch the maximal strips of a list of pieces that covers the world, with other pieces
-/// painted over it in turn, and answers their number.
+/// Finds the maximal strips of a plane with pieces painted over it in turn, leaves them in the scratch,
+/// and returns their number.
+///
+/// `cover` has the pieces of the plane; a square of none of them is space. Fails if there are more than
+/// `limit` strips, and then leaves the scratch as it was.
 pub fn strips(
     cover: &[Piece],
     over: &[Piece],

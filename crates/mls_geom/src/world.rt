@@ -16,7 +16,7 @@ pub(crate) const LOW: u32 = ORIGIN - REACH;
 /// The greatest coordinate of the world, which users call 32768.
 pub(crate) const HIGH: u32 = ORIGIN + REACH;
 
-/// Whether the world ends before the user's coordinate.
+/// Returns whether the user's coordinate lies outside the world.
 #[tactic(auto, unfolding(crate::specs::World::is_outside))]
 pub(crate) fn is_outside(coordinate: i32) -> bool
     ensures { result ≡ spec.is_outside coordinate }
@@ -24,7 +24,7 @@ pub(crate) fn is_outside(coordinate: i32) -> bool
     coordinate.unsigned_abs() > REACH
 }
 
-/// The user's coordinate, counted as in the world.
+/// Returns the user's coordinate as it is counted here.
 #[tactic(auto, unfolding(crate::specs::World::is_outside, crate::specs::World::coordinate_of))]
 pub(crate) fn coordinate_of(coordinate: i32) -> u32
     requires { spec.is_outside coordinate ≡ false }
@@ -36,7 +36,7 @@ pub(crate) fn coordinate_of(coordinate: i32) -> u32
     (ORIGIN as i32 + coordinate) as u32
 }
 
-/// The coordinate as users count it.
+/// Returns a coordinate as users count it.
 pub(crate) fn user_coordinate(coordinate: u32) -> i32
     requires low { world.left ≤ coordinate }
     requires high { coordinate ≤ world.right }

@@ -28,7 +28,7 @@ pub record AreSlotKinds (picture : Picture) (y : ℕ) (lines kinds : List ℕ) :
   pub count : length lines ≡ length kinds + 1
   pub each : (slot x : ℕ) → slot < length kinds → slice_index lines slot ≤ x → x < slice_index lines (slot + 1) → picture x y ≡ slice_index kinds slot
 
--- the links lead from each slot to the right, past painted slots alone; a free slot is its own link, and so is the last place, the row's end
+-- the links lead from each slot to the right, past painted slots alone; a free slot is its own link, and so is the last index, the row's end
 pub record AreLinks (free : List ℕ) : Type 0 where
   pub forward : (slot : ℕ) → slot < length free → slot ≤ slice_index free slot
   pub within : (slot : ℕ) → slot < length free → slice_index free slot < length free
@@ -45,5 +45,5 @@ abbrev pub is_painted : List ℕ → ℕ → Bool
 is_painted free slot = nat_lt slot (slice_index free slot)
 
 -- a painted slot's kind, and for a free one the kind below it
-abbrev pub shown : List ℕ → List ℕ → ℕ → ℕ → ℕ
-shown kinds free slot below = if is_painted free slot then slice_index kinds slot else below
+abbrev pub slot_kind : List ℕ → List ℕ → ℕ → ℕ → ℕ
+slot_kind kinds free slot below = if is_painted free slot then slice_index kinds slot else below

@@ -36,13 +36,13 @@ pub record AreStacked (extent : Rect) (picture : Picture) (y : ℕ) (strips : Li
 abbrev pub AreAlike : Rect → Picture → ℕ → ℕ → Type 0
 AreAlike extent picture bottom top = (x y : ℕ) → extent.left ≤ x → x < extent.right → bottom ≤ y → y < top → picture x y ≡ picture x bottom
 
--- the strip, as far as another top line
-abbrev pub raised : ℕ → Piece → Piece
-raised top strip = record { rect = record { left = strip.rect.left; bottom = strip.rect.bottom; right = strip.rect.right; top = top }; kind = strip.kind }
+-- the strip, extended up to another line
+abbrev pub extended : ℕ → Piece → Piece
+extended top strip = record { rect = record { left = strip.rect.left; bottom = strip.rect.bottom; right = strip.rect.right; top = top }; kind = strip.kind }
 
--- the strip that begins with a run, from one line up to another
-abbrev pub begun : ℕ → ℕ → Run → Piece
-begun bottom top run = record { rect = record { left = run.left; bottom = bottom; right = run.right; top = top }; kind = run.kind }
+-- the strip that a run starts, from one line up to another
+abbrev pub new_strip : ℕ → ℕ → Run → Piece
+new_strip bottom top run = record { rect = record { left = run.left; bottom = bottom; right = run.right; top = top }; kind = run.kind }
 
 -- the run has the ends and the kind of another, which lies below it
 pub record StandsOn (run under : Run) : Type 0 where

@@ -3,7 +3,7 @@ use Rattle.std.specs.Prelude.{ℕ, ◌+◌, ◌*◌, ◌≤◌, vec_capacity}
 use Rattle.mls_geom.specs.Sweep.RowRooms.{HasRowRoom}
 use Rattle.mls_geom.specs.declared.sweep.Sweep.{Sweep}
 
--- a sweep over so many pieces fits: each gives two lines, and the world two
+-- a sweep over this many pieces fits: each piece has two lines, and so has the world
 pub record HasSweepRoom (sweep : Sweep) (room : ℕ) : Type 0 where
   pub pieces : room ≤ vec_capacity sweep.pieces
   pub lines : 2 * room + 2 ≤ vec_capacity sweep.lines

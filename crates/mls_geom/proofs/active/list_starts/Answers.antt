@@ -1,4 +1,4 @@
--- The starts are listed by the places of their pieces, and then sorted.
+-- The starts are listed by the indices of their pieces, and then sorted.
 use Rattle.std.proofs.Common.{◌≡◌, length, ap, ◌∙◌, arith, rules}
 use Rattle.std.proofs.lemmas.List.Sorted.{IsNonDecreasingBy-from_sort_by_key}
 use Rattle.mls_geom.specs.Rects.{Rect}

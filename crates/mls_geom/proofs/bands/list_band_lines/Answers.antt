@@ -29,4 +29,4 @@ pub returns-clause-lines : goal.returns-clause-lines
 returns-clause-lines c =
     let pieces = c.args.pieces.now in
     let all : take c.loop-piece.piece-index pieces ≡ pieces = take_all c.loop-piece.piece-index pieces (omega arith) in
-    AreBandLines-ascended world pieces c.loop-piece.lines.items _ (rw all at c.loop-piece.invariant.members) c.ascend.ensures.ascending c.ascend.ensures.members
+    AreBandLines-ascended world pieces c.loop-piece.lines.items _ (rw all at c.loop-piece.invariant.members) c.sort_dedup.ensures.ascending c.sort_dedup.ensures.members

@@ -1,4 +1,4 @@
--- `ascend` keeps the lines, so that the first and the last are the world's.
+-- `sort_dedup` keeps the lines, so that the first and the last are the world's.
 use Rattle.std.proofs.Common.{slice_index, ap, ◌∙◌, arith}
 use Rattle.std.proofs.lemmas.List.{take_all}
 use Rattle.std.proofs.lemmas.Option.{slice_get-get_or}
@@ -24,9 +24,9 @@ loop-i-preserved c =
 pub returns-clause-cuts : goal.returns-clause-cuts
 returns-clause-cuts c =
     let all = rw (take_all c.loop-i.i-index c.args.active.now c.loop-i-test.false) at c.loop-i.invariant.lines in
-    AreCuts-from_lines world c.args.pieces.now c.args.active.now _ _ all c.ascend.ensures.members c.ascend.ensures.ascending
+    AreCuts-from_lines world c.args.pieces.now c.args.active.now _ _ all c.sort_dedup.ensures.members c.sort_dedup.ensures.ascending
 
 pub returns-clause-between : goal.returns-clause-between
 returns-clause-between c =
     let all = rw (take_all c.loop-i.i-index c.args.active.now c.loop-i-test.false) at c.loop-i.invariant.lines in
-    AreBetweenLines-from_lines world c.args.pieces.now c.args.active.now _ _ all c.ascend.ensures.members
+    AreBetweenLines-from_lines world c.args.pieces.now c.args.active.now _ _ all c.sort_dedup.ensures.members
