@@ -91,9 +91,12 @@ fn parse_box(mut words: Words) -> Result<Command, LineFault>
         number_of(right),
         number_of(top),
     ) {
-        (Some(left), Some(bottom), Some(right), Some(top)) => Ok(Command::Box(
-            left, bottom, right, top,
-        )),
+        (Some(left), Some(bottom), Some(right), Some(top)) => Ok(Command::Box {
+            left,
+            bottom,
+            right,
+            top,
+        }),
         _ => Err(LineFault::BadNumber),
     }
 }

@@ -47,8 +47,7 @@ pub struct LineReader {
 
 impl Model for LineReader {
     ghost use Rattle.std.specs.Prelude.{◌≤◌, take, slice_range};
-    ghost use Rattle.mls_text.specs.Lines.{IsUnbroken};
-ghost use Rattle.mls_wire.specs.LineReaders.{LineReader};
+    ghost use Rattle.mls_wire.specs.LineReaders.{LineReader};
     ghost use Rattle.mls_wire.specs.declared.reader.TheConstants.{AHEAD, KEPT};
 
     ghost Value = { LineReader };

@@ -6,7 +6,8 @@ ghost use Rattle.mls_wire.specs.Serving.{AppendsFront, WritesRun, WritesCutRun, 
 ghost use Rattle.mls_wire.specs.Solos.{open_session_of, setting_of};
 ghost use Rattle.mls_wire.specs.Watches.{HasCause};
 
-use crate::{LineReader, NextLine, ReadFault, ScriptLine, Solo, Watched, WriteFault, push_response};
+use crate::reader::{LineReader, NextLine};
+use crate::{ReadFault, ScriptLine, Solo, Watched, WriteFault, push_response};
 use std::alloc::{AllocError, Global};
 use std::io::{Read, Write};
 use thiserror::Error;
@@ -95,7 +96,14 @@ pub fn serve<R: Read, W: Write>(
     'lines: loop {
         match reader.next_line(input)? {
             NextLine::End => return Ok(()),
-            NextLine::LastLine => return serve_line(alloc, solo, n, reader.line(), &mut text, output),
+            NextLine::LastLine => return serve_line(
+                alloc,
+                solo,
+                n,
+                reader.line(),
+                &mut text,
+                output,
+            ),
             NextLine::Line => serve_line(alloc, solo, n, reader.line(), &mut text, output)?,
         }
         n += 1;
