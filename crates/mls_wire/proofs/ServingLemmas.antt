@@ -1,5 +1,5 @@
 -- Serving a script line by line.
-use Rattle.std.proofs.Common.{◌≡◌, ◌≢◌, ℕ, ◌+◌, ◌<◌, ◌≤◌, Option, Some, None, List, [], ◌∷◌, ◌++◌, Result, Ok, Err, OnOk, IfErr, All, length, map, refl, sym, ap, subst, ◌∙◌, arith, append_assoc, append-nil}
+use Rattle.std.proofs.Common.{◌≡◌, ◌≢◌, ℕ, ◌+◌, ◌<◌, ◌≤◌, Option, Some, None, List, [], ◌∷◌, ◌++◌, Result, OnOk, IfErr, All, length, map, refl, sym, ap, subst, ◌∙◌, arith, append_assoc, append-nil}
 use Rattle.std.proofs.KnownBytes.{Appends-nil, Appends-kept, Appends-trans}
 use Rattle.std.proofs.lemmas.List.{length-append, length-map, map-append}
 use Rattle.std.proofs.lemmas.List.Elements.{All-append, All-cons, All-nil}
@@ -10,7 +10,7 @@ use Rattle.mls_text.proofs.LineLemmas.{lines_of-last}
 use Rattle.mls_text.specs.Lines.{IsUnbroken, lines_of}
 use Rattle.mls_wire.specs.Lines.{read_line, script_of}
 use Rattle.mls_wire.specs.NextLines.{BeginsKnownLine, TakesLine, TakesKnownLine}
-use Rattle.mls_wire.specs.Runs.{Setting, OpenSession, RunsLine, Runs, RunsUpTo}
+use Rattle.mls_wire.specs.Runs.{Setting, OpenSession, RunsLine, Runs}
 use Rattle.mls_wire.specs.Serving.{AppendsFront, Gains, StopsAtLine, WritesRun, WritesCutRun, WritesLine, WritesCutLine}
 use Rattle.mls_wire.specs.declared.reader.NextLine.{NextLine}
 use Rattle.mls_wire.specs.declared.reader.NextLine.TheVariants.{End, Line, LastLine}

@@ -1,5 +1,5 @@
 -- What a script, its run and its output have to do with each other, where the bytes of the devices are known.
-use Rattle.std.specs.Prelude.{◌≡◌, ℕ, ◌+◌, ◌≤◌, Option, Some, None, List, [], ◌++◌, length, codes, ⊤}
+use Rattle.std.specs.Prelude.{◌≡◌, ℕ, ◌≤◌, Option, Some, None, List, [], ◌++◌, length, codes, ⊤}
 use Rattle.std.specs.Io.KnownBytes.{Appends}
 use Rattle.mls_text.specs.Lines.{lines_of}
 use Rattle.mls_wire.specs.Lines.{script_of, whole_script_of}

@@ -1,4 +1,4 @@
-use Rattle.std.proofs.Common.{◌<◌, ◌∷◌, ◌∙◌, ap, subst, inl, inr, ⊎_elim, length, arith}
+use Rattle.std.proofs.Common.{◌∷◌, ◌∙◌, subst, inl, inr, ⊎_elim, arith}
 use Rattle.mls_text.specs.Lines.{IsUnbroken}
 use Rattle.mls_wire.specs.LineReaders.{script_ahead}
 use Rattle.mls_wire.proofs.NextLineLemmas.{HasCome, HasCome-chunk, HasCome-all, TakesKnownLine-fed, TakesKnownLine-last, TakesKnownLine-end, BeginsKnownLine-come}
