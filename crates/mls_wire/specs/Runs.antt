@@ -3,7 +3,7 @@ use Rattle.std.specs.Prelude.{◌≡◌, ℕ, ◌+◌, Bool, false, if◌then◌
 use Rattle.mls_session.specs.Own.{Config, OwnState, opening, own_step}
 use Rattle.mls_session.specs.Sessions.{config_with}
 use Rattle.mls_session.specs.declared.command.Command.{Command}
-use Rattle.mls_tech.specs.Readings.{Tech, number_named, first_named}
+use Rattle.mls_tech.specs.Readings.{Tech, number_named, name_of}
 use Rattle.mls_text.specs.Words.{same_word}
 use Rattle.mls_wire.specs.NameBooks.{Names}
 use Rattle.mls_wire.specs.Replies.{response_text}
@@ -35,7 +35,7 @@ is_named (Some session) name = same_word session.0 name
 -- what names mean while this session is open
 abbrev pub book_of : Setting → OpenSession → Names
 book_of setting session =
-    record { type_of = number_named setting.tech.types; type_name = first_named setting.tech.types; is_open = is_named session }
+    record { type_of = number_named setting.tech.types; type_name = name_of setting.tech.types; is_open = is_named session }
 
 -- a session is opened where none is, unless memory runs out
 abbrev pub Opens : OpenSession → List ℕ → Response → OpenSession → Type 0
