@@ -153,6 +153,7 @@ impl<W: Write> Watched<W> {
     pub fn flush(&mut self) -> Result<(), WriteFault>
         ensures bytes { Keeps (W.contents self.old.device) (W.contents self.new.device) }
         ensures calls { self.new.calls_left ≤ self.old.calls_left }
+        ensures fewer { OnOk result (self.new.calls_left < self.old.calls_left) }
         ensures failed { OnOk result (self.new.failed ≡ self.old.failed) }
         ensures cause { OnErr result (HasCause self.new) }
         ensures lasting { IsTrue self.old.failed → IsTrue self.new.failed }
