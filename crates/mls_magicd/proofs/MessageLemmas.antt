@@ -11,7 +11,7 @@ use Rattle.std.specs.Io.KnownBytes.{Appends}
 use Rattle.mls_wire.specs.Serving.{AppendsFront}
 use Rattle.mls_wire.specs.Watches.{Watched}
 use Rattle.mls_tech.specs.declared.rule_line.Skipped.{Skipped}
-use Rattle.mls_magicd.specs.Messages.{Says, Tells, faulty_line, skipped_line, unreadable_line}
+use Rattle.mls_magicd.specs.Messages.{ReportsAll, Reports, faulty_line, skipped_line, unreadable_line}
 
 -- the text of parts
 abbrev pub text_of : List (Bor (List ℕ)) → List ℕ
@@ -53,17 +53,17 @@ front-more old mid new parts i d within before front missing split written =
     regroup a b c d = simp append_assoc
 
 -- nothing was said
-pub Says-nil : {E : Type 0} (contents : E → Option (List ℕ)) (watch : Watched E) → Says contents watch watch []
-unfolding Says
-Says-nil contents watch = refl
+pub ReportsAll-nil : {E : Type 0} (contents : E → Option (List ℕ)) (watch : Watched E) → ReportsAll contents watch watch []
+unfolding ReportsAll
+ReportsAll-nil contents watch = refl
 
 -- one message more
-pub Says-more : {E : Type 0} (contents : E → Option (List ℕ)) (old mid new : Watched E) (messages : List (List ℕ)) (message : List ℕ)
-    → Says contents old mid messages → Tells contents mid new message → Says contents old new (messages ++ message ∷ [])
-unfolding Says
-Says-more {E} contents old mid new [] message before told = (new, subst (λ (w : Watched E). Tells contents w new message) before told, refl)
-Says-more contents old mid new (first ∷ messages) message before told =
-    (before.0, before.1, Says-more contents before.0 mid new messages message before.2 told)
+pub ReportsAll-more : {E : Type 0} (contents : E → Option (List ℕ)) (old mid new : Watched E) (messages : List (List ℕ)) (message : List ℕ)
+    → ReportsAll contents old mid messages → Reports contents mid new message → ReportsAll contents old new (messages ++ message ∷ [])
+unfolding ReportsAll
+ReportsAll-more {E} contents old mid new [] message before told = (new, subst (λ (w : Watched E). Reports contents w new message) before told, refl)
+ReportsAll-more contents old mid new (first ∷ messages) message before told =
+    (before.0, before.1, ReportsAll-more contents before.0 mid new messages message before.2 told)
 
 -- the texts of one element more
 pub map-more : {X : Type 0} (f : X → List ℕ) (xs : List X) (i : ℕ) (x : X) → i < length xs → x ≡ get_or xs i x

@@ -1,4 +1,4 @@
--- What the program says, each message a line, and what of it is written. This project's own.
+-- The messages of the program, each a line but for the parser's, and what of them is written. This project's own.
 use Rattle.std.specs.Prelude.{◌≡◌, ◌⊎◌, ℕ, Option, List, [], ◌∷◌, ◌++◌, codes}
 use Rattle.std.specs.Fmt.{decimal}
 use Rattle.std.specs.Io.KnownBytes.{Appends}
@@ -12,6 +12,8 @@ use Rattle.mls_tech.specs.declared.fault.TechFaultKind.{TechFaultKind}
 use Rattle.mls_tech.specs.declared.fault.TechFaultKind.TheVariants.{NotUtf8, NoEnd, UnknownPlane, UnknownType, NameTwice, BadNumber, BadList, BadForm, Limit, Memory}
 use Rattle.mls_tech.specs.declared.rule_line.Skipped.{Skipped}
 use Rattle.std.specs.String.{string_bytes}
+use Rattle.mls_magicd.specs.declared.fault.Fault.{Fault}
+use Rattle.mls_magicd.specs.declared.fault.Fault.TheVariants.{Options, Technology, Rule, Serve}
 use Rattle.mls_magicd.specs.declared.options.OptionsFault.{OptionsFault}
 use Rattle.mls_magicd.specs.declared.options.OptionsFault.TheVariants.{Refused, Memory as OptionsMemory}
 use Rattle.mls_magicd.specs.declared.technology.TechnologyFault.{TechnologyFault}
@@ -51,8 +53,8 @@ unfoldable pub faulty_line : List ℕ → ℕ → ℕ → List ℕ → List ℕ
 faulty_line sort line number words = codes "magicd: tech line " ++ decimal line ++ sort ++ decimal number ++ 32 ∷ words ++ 10 ∷ []
 
 -- the technology's fault, with its line, number and words
-abbrev pub fault_line : TechFault → List ℕ
-fault_line fault = faulty_line (codes " fault ") fault.line (fault_number fault.kind) (fault_words fault.kind)
+abbrev pub tech_fault_line : TechFault → List ℕ
+tech_fault_line fault = faulty_line (codes " fault ") fault.line (fault_number fault.kind) (fault_words fault.kind)
 
 abbrev pub rule_fault_words : RuleFaultKind → List ℕ
 rule_fault_words Planes = codes "planes"
@@ -65,7 +67,7 @@ rule_fault_line fault = faulty_line (codes " rule fault ") fault.line (rule_faul
 -- why there is no technology
 abbrev pub technology_fault_line : TechnologyFault → List ℕ
 technology_fault_line (Unreadable path) = unreadable_line path.now
-technology_fault_line (Faulty fault) = fault_line fault
+technology_fault_line (Faulty fault) = tech_fault_line fault
 technology_fault_line TechnologyMemory = memory_line
 
 -- why the words are refused
@@ -73,19 +75,27 @@ abbrev pub options_fault_text : OptionsFault → List ℕ
 options_fault_text (Refused text) = string_bytes text
 options_fault_text OptionsMemory = memory_line
 
--- a line of the technology that was passed over
+-- the message for a fault of the program
+abbrev pub fault_text : Fault → List ℕ
+fault_text (Options fault) = options_fault_text fault
+fault_text (Technology fault) = technology_fault_line fault
+fault_text (Rule fault) = rule_fault_line fault
+fault_text (Serve fault) = serve_fault_line fault
+
+-- a skipped line of the technology
 unfoldable pub skipped_line : Skipped → List ℕ
 skipped_line skipped = codes "magicd: tech line " ++ decimal skipped.line ++ codes " skipped " ++ skipped.keyword ++ 10 ∷ []
 
 -- ---- what is written of them
 
 -- the message was written whole, or a beginning of it, and then the device for messages had failed
-abbrev pub Tells : {E : Type 0} → (E → Option (List ℕ)) → Watched E → Watched E → List ℕ → Type 0
-Tells contents old new message =
+abbrev pub Reports : {E : Type 0} → (E → Option (List ℕ)) → Watched E → Watched E → List ℕ → Type 0
+Reports contents old new message =
     Appends (contents old.device) (contents new.device) message
     ⊎ (AppendsFront (contents old.device) (contents new.device) message × HasCause new)
 
--- the messages were told one after another, and nothing else was written
-unfoldable pub Says : {E : Type 0} → (E → Option (List ℕ)) → Watched E → Watched E → List (List ℕ) → Type 0
-Says contents old new [] = new ≡ old
-Says {E} contents old new (message ∷ messages) = (mid : Watched E) × Tells contents old mid message × Says contents mid new messages
+-- the messages were reported one after another, and nothing else was written
+unfoldable pub ReportsAll : {E : Type 0} → (E → Option (List ℕ)) → Watched E → Watched E → List (List ℕ) → Type 0
+ReportsAll contents old new [] = new ≡ old
+ReportsAll {E} contents old new (message ∷ messages) =
+    (between : Watched E) × Reports contents old between message × ReportsAll contents between new messages
