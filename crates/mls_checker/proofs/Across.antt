@@ -2,7 +2,7 @@
 use Rattle.std.proofs.Common.{◌≡◌, Bool, true, false, true≢false, ◌||◌, inl, inr, refl, sym}
 use Rattle.std.specs.List.{list_any}
 use Rattle.std.proofs.lemmas.Bool.{or_left, or_right, or_cases}
-use Rattle.mls_edgerule.specs.RuleLists.{across}
+use Rattle.mls_edgerule.specs.Directions.{across}
 use Rattle.mls_edgerule.specs.declared.direction.Direction.{Direction}
 use Rattle.mls_edgerule.specs.declared.direction.Direction.TheVariants.{Right, Up, Left, Down}
 

@@ -2,7 +2,7 @@
 -- Columns and rows are counted from a corner so far outside the world that no step from a square near it leads below 0.
 use Rattle.std.specs.Prelude.{ℕ, ◌+◌, ◌-◌, Bool, not, ◌||◌, ◌&&◌, List}
 use Rattle.std.specs.List.{list_any, range_with_len}
-use Rattle.mls_edgerule.specs.RuleLists.{across, directions_in}
+use Rattle.mls_edgerule.specs.Directions.{across, directions_in}
 use Rattle.mls_edgerule.specs.declared.direction.Direction.{Direction}
 use Rattle.mls_edgerule.specs.declared.direction.Direction.TheVariants.{Right, Up, Left, Down}
 use Rattle.mls_edgerule.specs.declared.edge_rule.EdgeRule.{EdgeRule}

@@ -1,7 +1,7 @@
 -- How far one edge reaches, as rectangles of squares (Taylor and Ousterhout 1984).
 use Rattle.std.specs.Prelude.{ℕ, ◌+◌, ◌-◌, Bool, ◌||◌, ◌&&◌}
 use Rattle.std.specs.List.{list_any}
-use Rattle.mls_edgerule.specs.RuleLists.{across, directions_in}
+use Rattle.mls_edgerule.specs.Directions.{across, directions_in}
 use Rattle.mls_edgerule.specs.declared.direction.Direction.{Direction}
 use Rattle.mls_edgerule.specs.declared.direction.Direction.TheVariants.{Right, Up, Left, Down}
 use Rattle.mls_edgerule.specs.declared.edge_rule.EdgeRule.{EdgeRule}

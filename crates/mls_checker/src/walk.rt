@@ -5,7 +5,7 @@ ghost use Rattle.mls_checker.specs.Copies.{copied_layout};
 ghost use Rattle.mls_checker.specs.Forbids.{is_edge as is_edge_test};
 ghost use Rattle.mls_checker.specs.Marking.{GainsWrong, IsNear, IsNearArea};
 ghost use Rattle.mls_checker.specs.Reaches.{area_reaches, block_holds, direction_reaches, edge_reaches, row_reaches};
-ghost use Rattle.mls_edgerule.specs.RuleLists.{across};
+ghost use Rattle.mls_edgerule.specs.Directions.{across};
 
 use crate::Snapshot;
 use crate::block::Block;

@@ -2,7 +2,7 @@
 use Rattle.std.specs.Prelude.{◌≡◌, ◌⊎◌, ℕ, Option, List, [], ◌∷◌, ◌++◌, codes}
 use Rattle.std.specs.Fmt.{decimal}
 use Rattle.std.specs.Io.KnownBytes.{Appends}
-use Rattle.mls_edgerule.specs.Faults.{fault_number as rule_fault_number}
+use Rattle.mls_edgerule.specs.Faults.{rule_fault_number}
 use Rattle.mls_edgerule.specs.declared.fault.RuleFault.{RuleFault}
 use Rattle.mls_edgerule.specs.declared.fault.RuleFaultKind.{RuleFaultKind}
 use Rattle.mls_edgerule.specs.declared.fault.RuleFaultKind.TheVariants.{Planes, TooManyRules}

@@ -1,0 +1,4 @@
+pub mod Digits
+pub mod Fields
+pub mod Lines
+pub mod Words

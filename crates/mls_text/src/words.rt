@@ -1,0 +1,90 @@
+//! The words of a line.
+ghost use Rattle.std.specs.Prelude.{◌≡◌, ◌≢◌, true, [], ◌∷◌, length, MatchOption};
+ghost use Rattle.std.specs.List.{position_or_len, prefix_len};
+ghost use Rattle.std.specs.Iterator.{YieldsFirstBy, item_count};
+ghost use Rattle.mls_text.specs.Words as spec;
+
+use std::marker::Model;
+
+/// An iterator over the words of a line: its longest runs of bytes other than blanks.
+///
+/// Blanks are spaces and tabs; a carriage return is part of a word.
+#[derive(Drop)]
+pub struct Words<'a> {
+    rest: &'a [u8],
+}
+
+impl<'a> Model for Words<'a> {
+    ghost use Rattle.std.specs.Prelude.{ℕ, List};
+    ghost use Rattle.mls_text.specs.Words as spec;
+
+    ghost Value = { List (List ℕ) };
+
+    ghost view = { λ words. spec.words_of words.rest.now };
+}
+
+impl<'a> Words<'a> {
+    /// Returns an iterator over the words of `line`.
+    pub fn new(line: &'a [u8]) -> Words<'a>
+        ensures { result ≡ spec.words_of line.now }
+    {
+        Words { rest: line }
+    }
+}
+
+impl<'a> Iterator for Words<'a> {
+    type Item = &'a [u8];
+
+    ghost next_gives = { YieldsFirstBy (λ word. word.now) (λ words. words) };
+
+    ghost remaining = { item_count (λ words. words) };
+
+    fn next(&mut self) -> Option<&'a [u8]> {
+        let (word, rest) = first_word(self.rest)?;
+        self.rest = rest;
+        Some(word)
+    }
+}
+
+/// Splits a line after its first word.
+#[tactic(auto, using(crate::proofs::WordLemmas::first))]
+fn first_word(line: &[u8]) -> Option<(&[u8], &[u8])>
+    ensures { MatchOption result (spec.words_of line.now ≡ [])
+        (λ parts. spec.words_of line.now ≡ parts.0.now ∷ spec.words_of parts.1.now) }
+{
+    let begun = after_blanks(line);
+    if begun.is_empty() {
+        return None;
+    }
+    Some(begun.split_at(word_len(begun)))
+}
+
+/// Returns the line from its first word on.
+#[tactic(auto, using(crate::proofs::WordLemmas::blanks))]
+fn after_blanks(line: &[u8]) -> &[u8]
+    ensures same { spec.words_of result.now ≡ spec.words_of line.now }
+    ensures begins { length result.now ≢ 0 → spec.begins_with_word result.now ≡ true }
+{
+    &line[blanks_len(line)..]
+}
+
+/// Returns the number of blanks that `bytes` begins with.
+pub fn blanks_len(bytes: &[u8]) -> usize
+    ensures { result ≡ prefix_len spec.is_blank bytes.now }
+{
+    bytes.iter().take_while(|byte| is_blank(**byte)).count()
+}
+
+/// Returns the number of bytes before the first blank, or the length of `bytes` if there is none.
+pub fn word_len(bytes: &[u8]) -> usize
+    ensures { result ≡ position_or_len spec.is_blank bytes.now }
+{
+    bytes.iter().take_while(|byte| !is_blank(**byte)).count()
+}
+
+/// Returns whether the byte separates words.
+fn is_blank(byte: u8) -> bool
+    ensures { result ≡ spec.is_blank byte }
+{
+    byte == b' ' || byte == b'\t'
+}
