@@ -77,10 +77,10 @@ pub skipped_line-parts : (skipped : Skipped) (line keyword : List ℕ) → line 
 unfolding skipped_line
 skipped_line-parts skipped line keyword line_is keyword_is = rw (line_is, keyword_is) (simp append_assoc)
 
-pub faulty_line-parts : (sort : List ℕ) (n m : ℕ) (line number words : List ℕ) → line ≡ decimal n → number ≡ decimal m
-    → codes "magicd: tech line " ++ (line ++ (sort ++ (number ++ (32 ∷ [] ++ (words ++ 10 ∷ []))))) ≡ faulty_line sort n m words
+pub faulty_line-parts : (sort words : List ℕ) (n m : ℕ) (line number text : List ℕ) → line ≡ decimal n → number ≡ decimal m → text ≡ words
+    → codes "magicd: tech line " ++ (line ++ (sort ++ (number ++ (32 ∷ [] ++ (text ++ 10 ∷ []))))) ≡ faulty_line sort n m words
 unfolding faulty_line
-faulty_line-parts sort n m line number words line_is number_is = rw (line_is, number_is) (simp append_assoc)
+faulty_line-parts sort words n m line number text line_is number_is text_is = rw (line_is, number_is, text_is) (simp append_assoc)
 
 pub unreadable_line-parts : (path part : List ℕ) → part ≡ path → codes "magicd: cannot read " ++ (part ++ 10 ∷ []) ≡ unreadable_line path
 unfolding unreadable_line

@@ -4,8 +4,6 @@ use Rattle.std.specs.Fmt.{decimal}
 use Rattle.std.specs.Io.KnownBytes.{Appends}
 use Rattle.mls_edgerule.specs.Faults.{rule_fault_number}
 use Rattle.mls_edgerule.specs.declared.fault.RuleFault.{RuleFault}
-use Rattle.mls_edgerule.specs.declared.fault.RuleFaultKind.{RuleFaultKind}
-use Rattle.mls_edgerule.specs.declared.fault.RuleFaultKind.TheVariants.{Planes, TooManyRules}
 use Rattle.mls_tech.specs.Faults.{fault_number}
 use Rattle.mls_tech.specs.declared.fault.TechFault.{TechFault}
 use Rattle.mls_tech.specs.declared.fault.TechFaultKind.{TechFaultKind}
@@ -50,19 +48,15 @@ fault_words Memory = codes "memory"
 
 -- a line of the technology has a fault of this sort
 unfoldable pub faulty_line : List ℕ → ℕ → ℕ → List ℕ → List ℕ
-faulty_line sort line number words = codes "magicd: tech line " ++ decimal line ++ sort ++ decimal number ++ 32 ∷ words ++ 10 ∷ []
+faulty_line sort line number text = codes "magicd: tech line " ++ decimal line ++ sort ++ decimal number ++ 32 ∷ text ++ 10 ∷ []
 
--- the technology's fault, with its line, number and words
+-- the technology's fault, with its line, number and text
 abbrev pub tech_fault_line : TechFault → List ℕ
 tech_fault_line fault = faulty_line (codes " fault ") fault.line (fault_number fault.kind) (fault_words fault.kind)
 
-abbrev pub rule_fault_words : RuleFaultKind → List ℕ
-rule_fault_words Planes = codes "planes"
-rule_fault_words TooManyRules = codes "too many rules"
-
--- the fault of a rule line, with its line, number and words
+-- the fault of a rule line, with its line, number and text
 abbrev pub rule_fault_line : RuleFault → List ℕ
-rule_fault_line fault = faulty_line (codes " rule fault ") fault.line (rule_fault_number fault.kind) (rule_fault_words fault.kind)
+rule_fault_line fault = faulty_line (codes " rule fault ") fault.line (rule_fault_number fault.kind) (rule_fault_text fault.kind)
 
 -- why there is no technology
 abbrev pub technology_fault_line : TechnologyFault → List ℕ

@@ -9,7 +9,7 @@ ghost use Rattle.mls_magicd.specs.Messages as spec;
 use crate::{Fault, OptionsFault, TechnologyFault};
 use arrayvec::ArrayVec;
 use itoa::Buffer;
-use mls_edgerule::{RuleFault, RuleFaultKind};
+use mls_edgerule::RuleFault;
 use mls_tech::{Skipped, TechFault, TechFaultKind};
 use mls_wire::{ServeFault, Watched, WriteFault};
 use std::io::Write;
@@ -83,22 +83,16 @@ fn report_unreadable<E: Write>(faults: &mut Watched<E>, path: &str)
 fn report_tech_fault<E: Write>(faults: &mut Watched<E>, fault: TechFault)
     ensures { spec.Reports E.contents faults.old faults.new (spec.tech_fault_line fault) }
 {
-    let text = fault_text(fault.kind);
-    report_faulty_line(faults, b" fault ", fault.line, fault.kind.number(), text);
+    let TechFault { line, kind } = fault;
+    report_faulty_line(faults, b" fault ", line, kind.number(), fault_text(kind));
 }
 
 /// Reports a rule line that can't be compiled.
 fn report_rule_fault<E: Write>(faults: &mut Watched<E>, fault: RuleFault)
     ensures { spec.Reports E.contents faults.old faults.new (spec.rule_fault_line fault) }
 {
-    let text = rule_fault_text(fault.kind);
-    report_faulty_line(
-        faults,
-        b" rule fault ",
-        fault.line,
-        fault.kind.number(),
-        text,
-    );
+    let RuleFault { line, kind } = fault;
+    report_faulty_line(faults, b" rule fault ", line, kind.number(), kind.text());
 }
 
 /// Reports a fault of this sort in a line of the technology file.
@@ -107,7 +101,7 @@ fn report_faulty_line<E: Write>(
     sort: &[u8],
     line: usize,
     number: u8,
-    text: &[u8],
+    text: &str,
 )
     ensures { spec.Reports E.contents faults.old faults.new (spec.faulty_line sort.now line number text.now) }
 {
@@ -121,7 +115,7 @@ fn report_faulty_line<E: Write>(
             sort,
             number_text.format(number).as_bytes(),
             b" ",
-            text,
+            text.as_bytes(),
             b"\n",
         ],
     );
@@ -186,29 +180,19 @@ fn write_parts<E: Write>(faults: &mut Watched<E>, parts: &[&[u8]]) -> Result<(),
 }
 
 /// The text of a fault of a technology.
-fn fault_text(kind: TechFaultKind) -> &'static [u8]
+fn fault_text(kind: TechFaultKind) -> &'static str
     ensures { result.now ≡ spec.fault_words kind }
 {
     match kind {
-        TechFaultKind::NotUtf8 => b"not UTF-8",
-        TechFaultKind::NoEnd => b"no end",
-        TechFaultKind::UnknownPlane => b"unknown plane",
-        TechFaultKind::UnknownType => b"unknown type",
-        TechFaultKind::NameTwice => b"name twice",
-        TechFaultKind::BadNumber => b"bad number",
-        TechFaultKind::BadList => b"bad list",
-        TechFaultKind::BadForm => b"bad form",
-        TechFaultKind::Limit => b"limit",
-        TechFaultKind::Memory => b"memory",
-    }
-}
-
-/// The text of a fault of a rule line.
-fn rule_fault_text(kind: RuleFaultKind) -> &'static [u8]
-    ensures { result.now ≡ spec.rule_fault_words kind }
-{
-    match kind {
-        RuleFaultKind::Planes => b"planes",
-        RuleFaultKind::TooManyRules => b"too many rules",
+        TechFaultKind::NotUtf8 => "not UTF-8",
+        TechFaultKind::NoEnd => "no end",
+        TechFaultKind::UnknownPlane => "unknown plane",
+        TechFaultKind::UnknownType => "unknown type",
+        TechFaultKind::NameTwice => "name twice",
+        TechFaultKind::BadNumber => "bad number",
+        TechFaultKind::BadList => "bad list",
+        TechFaultKind::BadForm => "bad form",
+        TechFaultKind::Limit => "limit",
+        TechFaultKind::Memory => "memory",
     }
 }
