@@ -16,20 +16,17 @@ use Rattle.mls_magicd.specs.declared.options.OptionsFault.{OptionsFault}
 use Rattle.mls_magicd.specs.declared.options.OptionsFault.TheVariants.{Refused, Memory as OptionsMemory}
 use Rattle.mls_magicd.specs.declared.technology.TechnologyFault.{TechnologyFault}
 use Rattle.mls_magicd.specs.declared.technology.TechnologyFault.TheVariants.{Unreadable, Faulty, Memory as TechnologyMemory}
-use Rattle.mls_wire.specs.Serving.{AppendsFront}
+use Rattle.mls_wire.specs.Serving.{AppendsFront, serve_fault_text}
 use Rattle.mls_wire.specs.Watches.{Watched, HasCause}
 use Rattle.mls_wire.specs.declared.serving.ServeFault.{ServeFault}
-use Rattle.mls_wire.specs.declared.serving.ServeFault.TheVariants.{Read, Write, Memory as ServeMemory}
 
 -- ---- texts
 
 abbrev pub memory_line : List ℕ
 memory_line = codes "magicd: memory\n"
 
-abbrev pub serve_fault_line : ServeFault → List ℕ
-serve_fault_line Read = codes "magicd: input failed\n"
-serve_fault_line Write = codes "magicd: output failed\n"
-serve_fault_line ServeMemory = memory_line
+unfoldable pub serve_fault_line : ServeFault → List ℕ
+serve_fault_line fault = codes "magicd: " ++ serve_fault_text fault ++ 10 ∷ []
 
 unfoldable pub unreadable_line : List ℕ → List ℕ
 unreadable_line path = codes "magicd: cannot read " ++ path ++ 10 ∷ []

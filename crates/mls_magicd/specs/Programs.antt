@@ -3,7 +3,7 @@ use Rattle.std.specs.Prelude.{◌≡◌, ◌≢◌, ℕ, Option, None, Ok, Err, 
 use Rattle.mls_edgerule.specs.Compiling.{compiled}
 use Rattle.mls_edgerule.specs.declared.edge_rule.EdgeRule.{EdgeRule}
 use Rattle.mls_tech.specs.Readings.{Tech}
-use Rattle.mls_wire.specs.Runs.{Seat, Setting}
+use Rattle.mls_wire.specs.Runs.{OpenSession, Setting}
 use Rattle.mls_wire.specs.Serving.{HasReason, WritesRun, WritesCutRun}
 use Rattle.mls_wire.specs.Watches.{Watched}
 use Rattle.mls_wire.specs.declared.serving.ServeFault.{ServeFault}
@@ -37,11 +37,11 @@ status_after (Serve fault) = failed
 
 -- ---- the start
 
--- each rule line of the technology gives a rule
+-- each rule line of the technology compiles
 abbrev pub Compiles : Tech → Type 0
 Compiles tech = (rules : List EdgeRule) × (compiled tech ≡ Ok rules)
 
--- the words have no fault, and the setting has the technology and the quota that they name; files may be read as `reads_as` says
+-- the words have no fault, and the setting has the technology and the quota that they name; `reads_as` relates paths to the bytes that their files may be read as
 pub record IsConfiguredBy (reads_as : List ℕ → List ℕ → Type 0) (words : List (List ℕ)) (setting : Setting) : Type 0 where
   pub taken : faults_in words ≡ []
   pub tech : HasReading reads_as (file_named words) setting.tech
@@ -78,17 +78,17 @@ RefusesWords words contents old new = (faults_in words ≢ []) × ((text : List 
 
 -- the output gained the reply texts of the script's run over sessions of this setting, none of which is open at first
 abbrev pub ServesScript : Setting → Option (List ℕ) → Option (List ℕ) → Option (List ℕ) → Type 0
-ServesScript setting script written now = (last : Seat) × WritesRun setting None script written now last
+ServesScript setting script written now = (last : OpenSession) × WritesRun setting None script written now last
 
 -- it gained those of a run that was cut by this fault
-abbrev pub FailsInScript : {R W : Type 0} → Setting → Option (List ℕ) → Option (List ℕ) → Option (List ℕ)
+abbrev pub FailsInScript : {R W : Type 0} → Setting → Option (List ℕ) → Option (List ℕ) → Option (List ℕ) → Option (List ℕ)
     → Watched R → Watched W → ServeFault → Type 0
-FailsInScript setting script written now input output fault =
-    ((last : Seat) × WritesCutRun setting None script written now last) × HasReason fault input output
+FailsInScript setting script rest written now input output fault =
+    ((last : OpenSession) × WritesCutRun setting None fault script rest written now last) × HasReason fault input output
 
 -- so it did, and the fault was reported after the skipped lines
-abbrev pub EndsInScript : {R W E : Type 0} → Setting → Option (List ℕ) → Option (List ℕ) → Option (List ℕ)
+abbrev pub EndsInScript : {R W E : Type 0} → Setting → Option (List ℕ) → Option (List ℕ) → Option (List ℕ) → Option (List ℕ)
     → Watched R → Watched W → (E → Option (List ℕ)) → Watched E → Watched E → Type 0
-EndsInScript setting script written now input output contents old new =
-    (fault : ServeFault) × FailsInScript setting script written now input output fault
+EndsInScript setting script rest written now input output contents old new =
+    (fault : ServeFault) × FailsInScript setting script rest written now input output fault
     × ReportsAll contents old new (skipped_lines setting.tech ++ serve_fault_line fault ∷ [])

@@ -65,11 +65,7 @@ fn report_technology_fault<E: Write>(faults: &mut Watched<E>, fault: TechnologyF
 fn report_serve_fault<E: Write>(faults: &mut Watched<E>, fault: ServeFault)
     ensures { spec.Reports E.contents faults.old faults.new (spec.serve_fault_line fault) }
 {
-    match fault {
-        ServeFault::Read => report(faults, &[b"magicd: input failed\n"]),
-        ServeFault::Write => report(faults, &[b"magicd: output failed\n"]),
-        ServeFault::Memory => report(faults, &[MEMORY]),
-    }
+    report(faults, &[b"magicd: ", fault.text().as_bytes(), b"\n"]);
 }
 
 /// Reports that the file at a path can't be read.

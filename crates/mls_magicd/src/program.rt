@@ -1,7 +1,7 @@
 //! The whole program, over any words, files and streams.
 ghost use Rattle.std.specs.Prelude.{◌≡◌, ◌≤◌, ◌⊎◌, None, OnOk, IfOk, IfErr, false, map};
 ghost use Rattle.mls_wire.specs.Runs.{Setting};
-ghost use Rattle.mls_wire.specs.Seats.{desk_setting, seat_of};
+ghost use Rattle.mls_wire.specs.Solos.{open_session_of, setting_of};
 ghost use Rattle.mls_wire.specs.declared.serving.ServeFault.{ServeFault};
 ghost use Rattle.mls_magicd.specs.Messages.{Reports, ReportsAll, fault_text};
 ghost use Rattle.mls_magicd.specs.Programs as spec;
@@ -40,16 +40,16 @@ pub fn run<S: AsStr, F: Files, R: Read, W: Write, E: Write>(
         × spec.ServesScript setting (R.remaining input.old.device) (W.contents output.old.device) (W.contents output.new.device)
         × ReportsAll E.contents faults.old faults.new (spec.skipped_lines setting.tech) }
 
-    // Either the start failed, for a reason that was reported, and the script was neither read nor answered; or the script
+    // Either the start failed, for a reason that was reported, and no line of the script was read; or the script
     // was left before its end, for a reason that was reported, and the output is that of a run that was cut.
     ensures failed { result ≡ spec.failed →
         (spec.EndsAtStart (F.reads_as files.now) (F.may_fail files.now) (map S.text words.now) E.contents faults.old faults.new
         × (input.new ≡ input.old) × (output.new ≡ output.old))
         ⊎ ((setting : Setting) × spec.IsConfiguredBy (F.reads_as files.now) (map S.text words.now) setting
-        × spec.EndsInScript setting (R.remaining input.old.device) (W.contents output.old.device) (W.contents output.new.device)
+        × spec.EndsInScript setting (R.remaining input.old.device) (R.remaining input.new.device) (W.contents output.old.device) (W.contents output.new.device)
         input.new output.new E.contents faults.old faults.new) }
 
-    // The words have a fault, the parser's text was reported, and the script was neither read nor answered.
+    // The words have a fault, the parser's text was reported, and no line of the script was read.
     ensures refused { result ≡ spec.bad_command_line → spec.RefusesWords (map S.text words.now) E.contents faults.old faults.new
         × (input.new ≡ input.old) × (output.new ≡ output.old) }
 {
@@ -87,7 +87,7 @@ fn serve_words<'a, S: AsStr, F: Files, R: Read, W: Write, E: Write>(
         × (input.new ≡ input.old) × (output.new ≡ output.old))
         ⊎ ((setting : Setting) × (cause : ServeFault) × (fault ≡ Fault.Serve cause)
         × spec.IsConfiguredBy (F.reads_as files.now) (map S.text words.now) setting
-        × spec.FailsInScript setting (R.remaining input.old.device) (W.contents output.old.device) (W.contents output.new.device)
+        × spec.FailsInScript setting (R.remaining input.old.device) (R.remaining input.new.device) (W.contents output.old.device) (W.contents output.new.device)
         input.new output.new cause
         × ReportsAll E.contents faults.old faults.new (spec.skipped_lines setting.tech))) }
 {
@@ -104,7 +104,7 @@ fn start<'a, S: AsStr, F: Files, E: Write>(
     files: &F,
     faults: &mut Watched<E>,
 ) -> Result<Solo, Fault<'a>>
-    ensures ok { IfOk result (λ solo. spec.IsConfiguredBy (F.reads_as files.now) (map S.text words.now) (desk_setting solo) × (seat_of solo ≡ None)
+    ensures ok { IfOk result (λ solo. spec.IsConfiguredBy (F.reads_as files.now) (map S.text words.now) (setting_of solo) × (open_session_of solo ≡ None)
         × ReportsAll E.contents faults.old faults.new (spec.skipped_lines solo.tech)) }
     ensures err { IfErr result (spec.FailsAtStart (F.reads_as files.now) (F.may_fail files.now) (map S.text words.now) E.contents faults.old faults.new) }
 {
