@@ -2,11 +2,11 @@
 use Rattle.std.proofs.Common.{◌≡◌, ℕ, Bool, true, false, cond, Option, Some, None, List, [], ◌∷◌, Result, Ok, Err, refl, sym, subst, codes}
 use Rattle.mls_session.specs.declared.command.Command.{Command}
 use Rattle.mls_wire.specs.Runs.{Setting, OpenSession, CanExecute, book_of}
-use Rattle.mls_wire.specs.Says.{line_says, words_say, session_says, open_says, command_of, asked}
+use Rattle.mls_wire.specs.Says.{line_says, words_say, session_says, open_says, command_of, line_with}
 use Rattle.mls_text.specs.Words.{begins_with, words_of, same_word}
 use Rattle.mls_wire.specs.SessionNames.{is_session_name}
 use Rattle.mls_wire.specs.declared.line.Line.{Line}
-use Rattle.mls_wire.specs.declared.line.Line.TheVariants.{Silent, Open, Ask}
+use Rattle.mls_wire.specs.declared.line.Line.TheVariants.{Silent, Open, Run}
 use Rattle.mls_wire.specs.declared.line.LineFault.{LineFault}
 use Rattle.mls_wire.specs.declared.line.LineFault.TheVariants.{UnknownCommand, BadName, NotOpen}
 
@@ -19,18 +19,18 @@ choice : (session : OpenSession) (test : Bool) (x y : Result Line LineFault) →
 choice session true x y h k = h
 choice session false x y h k = k
 
-if_open : (setting : Setting) (session : OpenSession) (name : List ℕ) (command : Command) (test : Bool) → (book_of setting session).is_open name ≡ test → CanExecuteSaid session (cond test (Ok (Ask name command)) (Err NotOpen))
+if_open : (setting : Setting) (session : OpenSession) (name : List ℕ) (command : Command) (test : Bool) → (book_of setting session).is_open name ≡ test → CanExecuteSaid session (cond test (Ok (Run name command)) (Err NotOpen))
 if_open setting session name command true h = h
 if_open setting session name command false h = tt
 
-asked_executable : (setting : Setting) (session : OpenSession) (name : List ℕ) (r : Result Command LineFault) → CanExecuteSaid session (asked (book_of setting session) name r)
-asked_executable setting session name (Ok command) = if_open setting session name command _ refl
-asked_executable setting session name (Err fault) = tt
+line_with_executable : (setting : Setting) (session : OpenSession) (name : List ℕ) (r : Result Command LineFault) → CanExecuteSaid session (line_with (book_of setting session) name r)
+line_with_executable setting session name (Ok command) = if_open setting session name command _ refl
+line_with_executable setting session name (Err fault) = tt
 
 session_executable : (setting : Setting) (session : OpenSession) (name : List ℕ) (words : List (List ℕ)) → CanExecuteSaid session (session_says (book_of setting session) name words)
 unfolding session_says
 session_executable setting session name words =
-    choice session (is_session_name name) _ _ (asked_executable setting session name (command_of (book_of setting session) words)) tt
+    choice session (is_session_name name) _ _ (line_with_executable setting session name (command_of (book_of setting session) words)) tt
 
 open_executable : (session : OpenSession) (words : List (List ℕ)) → CanExecuteSaid session (open_says words)
 unfolding open_says

@@ -1,12 +1,12 @@
 -- The lines of a script: the first bytes of a line are enough to read it, and whole lines one after another.
-use Rattle.std.proofs.Common.{◌≡◌, ◌≢◌, ℕ, ◌+◌, ◌<◌, ◌≤◌, ◌==◌, if◌then◌else◌, true, false, None, List, [], ◌∷◌, ◌++◌, length, take, All, refl, sym, ap, ◌∙◌, arith, ⊎_elim, append_assoc, append-nil}
+use Rattle.std.proofs.Common.{◌≡◌, ◌≢◌, ℕ, ◌<◌, ◌≤◌, None, List, [], ◌∷◌, ◌++◌, length, take, All, refl, sym, ap, ◌∙◌, arith, ⊎_elim, append_assoc}
 use Rattle.std.proofs.lemmas.List.Elements.{All-head, All-tail}
 use Rattle.std.proofs.lemmas.Bool.{cases_lt}
 use Rattle.std.proofs.lemmas.Bool.Decides.{nat_tests}
 use Rattle.std.proofs.lemmas.List.{length-take, take_all}
 use Rattle.mls_text.proofs.LastBytes.{length-without_return}
 use Rattle.mls_text.proofs.LineLemmas.{lines_of-fed}
-use Rattle.mls_text.specs.Lines.{IsUnbroken, lines_of, without_return}
+use Rattle.mls_text.specs.Lines.{IsUnbroken, lines_of}
 use Rattle.mls_wire.specs.Lines.{onto_whole, read_line, whole_lines_of}
 
 pub read_line-long : (line : List ℕ) → 1025 < length line → read_line line ≡ None

@@ -1,5 +1,5 @@
 -- Serving a script line by line.
-use Rattle.std.proofs.Common.{◌≡◌, ◌≢◌, ℕ, ◌+◌, ◌<◌, ◌≤◌, Option, Some, None, List, [], ◌∷◌, ◌++◌, Result, Ok, Err, OnOk, IfErr, All, length, map, refl, sym, ap, subst, ◌∙◌, arith, append_assoc, append-nil}
+use Rattle.std.proofs.Common.{◌≡◌, ◌≢◌, ℕ, ◌+◌, ◌<◌, ◌≤◌, Option, Some, None, List, [], ◌∷◌, ◌++◌, Result, OnOk, IfErr, All, length, map, refl, sym, ap, subst, ◌∙◌, arith, append_assoc, append-nil}
 use Rattle.std.proofs.KnownBytes.{Appends-nil, Appends-kept, Appends-trans}
 use Rattle.std.proofs.lemmas.List.{length-append, length-map, map-append}
 use Rattle.std.proofs.lemmas.List.Elements.{All-append, All-cons, All-nil}
@@ -10,7 +10,7 @@ use Rattle.mls_text.proofs.LineLemmas.{lines_of-last}
 use Rattle.mls_text.specs.Lines.{IsUnbroken, lines_of}
 use Rattle.mls_wire.specs.Lines.{read_line, script_of}
 use Rattle.mls_wire.specs.NextLines.{BeginsKnownLine, TakesLine, TakesKnownLine}
-use Rattle.mls_wire.specs.Runs.{Setting, OpenSession, RunsLine, Runs, RunsUpTo}
+use Rattle.mls_wire.specs.Runs.{Setting, OpenSession, RunsLine, Runs}
 use Rattle.mls_wire.specs.Serving.{AppendsFront, Gains, StopsAtLine, WritesRun, WritesCutRun, WritesLine, WritesCutLine}
 use Rattle.mls_wire.specs.declared.reader.NextLine.{NextLine}
 use Rattle.mls_wire.specs.declared.reader.NextLine.TheVariants.{End, Line, LastLine}
@@ -178,7 +178,7 @@ served_begun setting old session n (Some script) written (Some left) (Some rest)
     let lines = whole_lines_of-begun served.lines t.0 served.unbroken t.1 in (
       s.0,
       record {
-        given = fed served.lines ++ t.0;
+        consumed = fed served.lines ++ t.0;
         split = served.split ∙ ap (λ l. fed served.lines ++ l) t.2 ∙ sym (append_assoc (fed served.lines) t.0 rest);
         runs = subst (λ all. Runs setting old 1 all s.0 session) (sym (ap (map read_line) lines)) served.runs;
       },
@@ -271,7 +271,7 @@ module _ (setting other : Setting) (equal : other ≡ setting) (old session new 
   last_done r next t = on_ok-map r _ _ (λ w. served_last setting old session new n kept script written left next now then served t (in_setting w))
 
   module _ (ahead : List ℕ) (rest : Option (List ℕ)) (near : length ahead ≤ 4096) where
-    -- a line that was not answered whole
+    -- a line whose reply text was not written whole
     pub line_cut : {T : Type 0} (r : Result T ServeFault) (fault : ServeFault) → IsErr r × IsErrAnd r (λ given. given ≡ fault) → fault ≢ Read
         → TakesKnownLine left (prepend_known ahead rest) Line kept → WritesCutLine other session n line fault now then new
         → IfErr r (λ given. WritesCutRun setting old given script rest written then new)

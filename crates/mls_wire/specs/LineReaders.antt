@@ -12,6 +12,6 @@ pub record LineReader : Type 0 where
 abbrev pub script_ahead : LineReader → Option (List ℕ) → Option (List ℕ)
 script_ahead reader remaining = prepend_known reader.ahead remaining
 
--- no more lines than this can still come: each takes a call, or one of the at most 4096 bytes that a call gave
+-- no more lines than this can still come: each takes a call, or one of the at most 4096 bytes of a call
 abbrev pub lines_left : {D : Type 0} → LineReader → Watched D → ℕ
 lines_left reader input = 4097 * input.calls_left + length reader.ahead

@@ -3,9 +3,7 @@ use Rattle.std.specs.Prelude.{ℕ, ◌==◌, List, [], ◌∷◌, ◌++◌, leng
 use Rattle.std.specs.List.{flat_map}
 use Rattle.std.specs.Option.{unwrap_or}
 use Rattle.mls_kinds.specs.KindSets.{difference, members, set_of}
-use Rattle.mls_session.specs.Refusals.{refusal_number}
-use Rattle.mls_session.specs.declared.refusal.Refusal.{Refusal}
-use Rattle.mls_session.specs.declared.refusal.Refusal.TheVariants.{EmptyBox, OutsideWorld, NoBox, UnknownType, Quota}
+use Rattle.mls_session.specs.Refusals.{refusal_number, refusal_text}
 use Rattle.mls_session.specs.declared.reply.Reply.{Reply}
 use Rattle.mls_session.specs.declared.reply.Reply.TheVariants.{Done, Kinds, Refused}
 use Rattle.mls_wire.specs.NameBooks.{Names}
@@ -30,16 +28,9 @@ open_fault_text OpenAlready = codes "open already"
 open_fault_text SessionsFull = codes "sessions full"
 open_fault_text Memory = codes "memory"
 
-abbrev pub refusal_text : Refusal → List ℕ
-refusal_text EmptyBox = codes "empty box"
-refusal_text OutsideWorld = codes "outside the world"
-refusal_text NoBox = codes "no box"
-refusal_text UnknownType = codes "unknown type"
-refusal_text Quota = codes "quota"
-
 -- the kinds other than space
-unfoldable pub types_in : ℕ → ℕ
-types_in kinds = difference kinds (set_of (λ kind. kind == 0))
+unfoldable pub without_space : ℕ → ℕ
+without_space kinds = difference kinds (set_of (λ kind. kind == 0))
 
 -- a space and the type's first name
 abbrev pub type_text : Names → ℕ → List ℕ
@@ -48,7 +39,7 @@ type_text book kind = 32 ∷ unwrap_or (book.type_name kind) []
 -- a reply without its line's first word and its line feed
 unfoldable pub reply_text : Names → Reply → List ℕ
 reply_text book Done = codes "ok"
-reply_text book (Kinds kinds) = codes "what " ++ decimal (length (members (types_in kinds))) ++ flat_map (type_text book) (members (types_in kinds))
+reply_text book (Kinds kinds) = codes "what " ++ decimal (length (members (without_space kinds))) ++ flat_map (type_text book) (members (without_space kinds))
 reply_text book (Refused refusal) = codes "refused " ++ numbered (refusal_number refusal) (refusal_text refusal)
 
 -- the reply text of the response to line n

@@ -9,7 +9,7 @@ use Rattle.mls_wire.specs.NameBooks.{Names}
 use Rattle.mls_wire.specs.Replies.{response_text}
 use Rattle.mls_wire.specs.Says.{line_says}
 use Rattle.mls_wire.specs.declared.line.Line.{Line}
-use Rattle.mls_wire.specs.declared.line.Line.TheVariants.{Silent, Open, Ask}
+use Rattle.mls_wire.specs.declared.line.Line.TheVariants.{Silent, Open, Run}
 use Rattle.mls_wire.specs.declared.line.LineFault.{LineFault}
 use Rattle.mls_wire.specs.declared.response.OpenFault.TheVariants.{OpenAlready, SessionsFull, Memory}
 use Rattle.mls_wire.specs.declared.response.Response.{Response}
@@ -56,13 +56,13 @@ abbrev pub Executes : Setting → OpenSession → Result Line LineFault → Resp
 Executes setting old (Err fault) response new = (response ≡ Fault fault) × (new ≡ old)
 Executes setting old (Ok Silent) response new = (response ≡ NoResponse) × (new ≡ old)
 Executes setting old (Ok (Open name)) response new = Opens old name response new
-Executes setting old (Ok (Ask name command)) response new = RunsCommand setting old name command response new
+Executes setting old (Ok (Run name command)) response new = RunsCommand setting old name command response new
 
 -- a line's session is open
 abbrev pub CanExecute : OpenSession → Line → Type 0
 CanExecute session Silent = Unit {0}
 CanExecute session (Open name) = Unit {0}
-CanExecute session (Ask name command) = IsTrue (is_named session name)
+CanExecute session (Run name command) = IsTrue (is_named session name)
 
 -- line n has this reply text, and leads to the new session
 abbrev pub RunsLine : Setting → OpenSession → ℕ → Option (List ℕ) → List ℕ → OpenSession → Type 0

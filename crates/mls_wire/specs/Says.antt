@@ -7,7 +7,7 @@ use Rattle.mls_wire.specs.Numbers.{number_of}
 use Rattle.mls_text.specs.Words.{begins_with, words_of, same_word}
 use Rattle.mls_wire.specs.SessionNames.{is_session_name}
 use Rattle.mls_wire.specs.declared.line.Line.{Line}
-use Rattle.mls_wire.specs.declared.line.Line.TheVariants.{Silent, Open, Ask}
+use Rattle.mls_wire.specs.declared.line.Line.TheVariants.{Silent, Open, Run}
 use Rattle.mls_wire.specs.declared.line.LineFault.{LineFault}
 use Rattle.mls_wire.specs.declared.line.LineFault.TheVariants.{UnknownCommand, BadNumber, BadName, NotOpen}
 
@@ -37,12 +37,12 @@ command_of book (verb ∷ words) =
     else (if same_word verb (codes "what") then what_says words else Err UnknownCommand))
 
 -- a command for a session: a fault of its name's form comes first, then one of the command's, and last that no session of the name is open
-abbrev pub asked : Names → List ℕ → Result Command LineFault → Result Line LineFault
-asked book name (Ok command) = if book.is_open name then Ok (Ask name command) else Err NotOpen
-asked book name (Err fault) = Err fault
+abbrev pub line_with : Names → List ℕ → Result Command LineFault → Result Line LineFault
+line_with book name (Ok command) = if book.is_open name then Ok (Run name command) else Err NotOpen
+line_with book name (Err fault) = Err fault
 
 unfoldable pub session_says : Names → List ℕ → List (List ℕ) → Result Line LineFault
-session_says book name words = if is_session_name name then asked book name (command_of book words) else Err BadName
+session_says book name words = if is_session_name name then line_with book name (command_of book words) else Err BadName
 
 -- the words after `%open`
 unfoldable pub open_says : List (List ℕ) → Result Line LineFault

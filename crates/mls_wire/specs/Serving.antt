@@ -1,5 +1,5 @@
 -- What a script, its run and its output have to do with each other, where the bytes of the devices are known.
-use Rattle.std.specs.Prelude.{◌≡◌, ℕ, ◌+◌, ◌≤◌, Option, Some, None, List, [], ◌++◌, length, codes, ⊤}
+use Rattle.std.specs.Prelude.{◌≡◌, ℕ, ◌≤◌, Option, Some, None, List, [], ◌++◌, length, codes, ⊤}
 use Rattle.std.specs.Io.KnownBytes.{Appends}
 use Rattle.mls_text.specs.Lines.{lines_of}
 use Rattle.mls_wire.specs.Lines.{script_of, whole_script_of}
@@ -31,14 +31,14 @@ WritesRun setting old (Some script) written now new = Gains written now (λ out.
 
 -- ---- a script that was left before
 
--- the device gave these bytes of a script, and has the rest; the run is that of exactly the whole lines among them
+-- the device was read up to `rest`, and the run is that of exactly the whole lines among the bytes that were read
 pub record StopsAtRead (setting : Setting) (old : OpenSession) (script rest out : List ℕ) (new : OpenSession) : Type 0 where
-  pub given : List ℕ
-  pub split : script ≡ given ++ rest
-  pub runs : Runs setting old 1 (whole_script_of given) out new
+  pub consumed : List ℕ
+  pub split : script ≡ consumed ++ rest
+  pub runs : Runs setting old 1 (whole_script_of consumed) out new
 
--- the device gave `taken` and at most 4096 bytes ahead of a script, and has the rest; `taken` ends where a line ends, and its last
--- line is the one whose reply text was not written whole
+-- the device was read up to `rest`, and at most 4096 of these bytes lie ahead of the lines that were taken; the last of these lines is
+-- the one whose reply text was not written whole
 pub record StopsAtLine (setting : Setting) (old : OpenSession) (script rest front out : List ℕ) (new : OpenSession) : Type 0 where
   pub taken : List ℕ
   pub ahead : List ℕ
@@ -61,7 +61,7 @@ WritesCutRun setting old fault (Some script) (Some rest) written now new = Gains
 
 -- ---- a line
 
--- line n was answered
+-- line n was run, and its reply text was written
 abbrev pub WritesLine : Setting → OpenSession → ℕ → Option (List ℕ) → Option (List ℕ) → Option (List ℕ) → OpenSession → Type 0
 WritesLine setting old n line written now new = Gains written now (λ text. RunsLine setting old n line text new)
 

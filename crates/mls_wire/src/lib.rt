@@ -24,5 +24,3 @@ pub use script_line::ScriptLine;
 pub use serving::{ServeFault, serve};
 pub use solo::Solo;
 pub use watched::{ReadFault, Watched, WriteFault};
-
-use reader::{LineReader, NextLine};

@@ -11,7 +11,7 @@ pub enum Line {
     /// Opens a session.
     Open(Name),
     /// Runs a command in an open session.
-    Ask(Name, Command),
+    Run(Name, Command),
 }
 
 /// Why a line can't be read.

@@ -55,7 +55,7 @@ fn parse_session<N: Names>(names: &N, name: &[u8], words: Words) -> Result<Line,
     if !names.is_open(&name) {
         return Err(LineFault::NotOpen);
     }
-    Ok(Line::Ask(name, command))
+    Ok(Line::Run(name, command))
 }
 
 /// Returns the command of the words after a session's name.
@@ -91,9 +91,12 @@ fn parse_box(mut words: Words) -> Result<Command, LineFault>
         number_of(right),
         number_of(top),
     ) {
-        (Some(left), Some(bottom), Some(right), Some(top)) => Ok(Command::Box(
-            left, bottom, right, top,
-        )),
+        (Some(left), Some(bottom), Some(right), Some(top)) => Ok(Command::Box {
+            left,
+            bottom,
+            right,
+            top,
+        }),
         _ => Err(LineFault::BadNumber),
     }
 }

@@ -47,8 +47,7 @@ pub struct LineReader {
 
 impl Model for LineReader {
     ghost use Rattle.std.specs.Prelude.{◌≤◌, take, slice_range};
-    ghost use Rattle.mls_text.specs.Lines.{IsUnbroken};
-ghost use Rattle.mls_wire.specs.LineReaders.{LineReader};
+    ghost use Rattle.mls_wire.specs.LineReaders.{LineReader};
     ghost use Rattle.mls_wire.specs.declared.reader.TheConstants.{AHEAD, KEPT};
 
     ghost Value = { LineReader };
@@ -94,7 +93,7 @@ impl LineReader {
         ensures begun { OnErr result (BeginsKnownLine
             (script_ahead self.old (R.remaining input.old.device)) (R.remaining input.new.device)) }
         ensures within { OnOk result (length self.new.ahead ≤ AHEAD) }
-        ensures asked { IsUnbroken self.old.ahead ⊎ (input.new ≡ input.old) }
+        ensures needed { IsUnbroken self.old.ahead ⊎ (input.new ≡ input.old) }
         ensures fewer { OnOk result (lines_left self.new input.new < lines_left self.old input.old) }
         ensures calls { input.new.calls_left ≤ input.old.calls_left }
         ensures failed { OnOk result (input.new.failed ≡ input.old.failed) }

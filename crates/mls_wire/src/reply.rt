@@ -7,7 +7,7 @@ ghost use Rattle.mls_wire.specs.Replies as spec;
 use crate::{Names, Response};
 use itoa::{Buffer, Integer};
 use mls_kinds::KindSet;
-use mls_session::{Refusal, Reply};
+use mls_session::Reply;
 use std::alloc::AllocError;
 
 /// Appends the reply text of the response to line `n`.
@@ -64,19 +64,6 @@ fn push_numbered(n: u8, text: &[u8], out: &mut Vec<u8>) -> Result<(), AllocError
     out.extend_from_slice(text)
 }
 
-/// Returns the refusal's text in replies.
-fn refusal_text(refusal: Refusal) -> &'static [u8]
-    ensures { result.now ≡ spec.refusal_text refusal }
-{
-    match refusal {
-        Refusal::EmptyBox => b"empty box",
-        Refusal::OutsideWorld => b"outside the world",
-        Refusal::NoBox => b"no box",
-        Refusal::UnknownType => b"unknown type",
-        Refusal::Quota => b"quota",
-    }
-}
-
 /// Appends a reply, without its line's first word and its line feed.
 #[tactic(auto, unfolding(crate::specs::Replies::reply_text))]
 fn push_reply<N: Names>(names: &N, reply: Reply, out: &mut Vec<u8>) -> Result<(), AllocError>
@@ -84,25 +71,25 @@ fn push_reply<N: Names>(names: &N, reply: Reply, out: &mut Vec<u8>) -> Result<()
 {
     match reply {
         Reply::Done => out.extend_from_slice(b"ok"),
-        Reply::Kinds(bits) => {
+        Reply::Kinds(kinds) => {
             out.extend_from_slice(b"what ")?;
-            let types = types_in(bits);
+            let types = without_space(kinds);
             push_decimal(types.len() as u64, out)?;
             push_types(names, types, out)
         }
         Reply::Refused(refusal) => {
             out.extend_from_slice(b"refused ")?;
-            push_numbered(refusal.number(), refusal_text(refusal), out)
+            push_numbered(refusal.number(), refusal.text().as_bytes(), out)
         }
     }
 }
 
 /// Returns the kinds other than space.
-#[tactic(auto, unfolding(crate::specs::Replies::types_in))]
-fn types_in(bits: u64) -> KindSet
-    ensures { result ≡ spec.types_in bits }
+#[tactic(auto, unfolding(crate::specs::Replies::without_space))]
+fn without_space(kinds: KindSet) -> KindSet
+    ensures { result ≡ spec.without_space kinds }
 {
-    KindSet::from_bits(bits).difference(KindSet::single(0))
+    kinds.difference(KindSet::single(0))
 }
 
 /// Appends the name of each type after a space, in the order of their numbers.

@@ -6,7 +6,8 @@ ghost use Rattle.mls_wire.specs.Serving.{AppendsFront, WritesRun, WritesCutRun, 
 ghost use Rattle.mls_wire.specs.Solos.{open_session_of, setting_of};
 ghost use Rattle.mls_wire.specs.Watches.{HasCause};
 
-use crate::{LineReader, NextLine, ReadFault, ScriptLine, Solo, Watched, WriteFault, push_response};
+use crate::reader::{LineReader, NextLine};
+use crate::{ReadFault, ScriptLine, Solo, Watched, WriteFault, push_response};
 use std::alloc::{AllocError, Global};
 use std::io::{Read, Write};
 use thiserror::Error;
@@ -70,7 +71,7 @@ impl From<AllocError> for ServeFault {
 
 /// Serves a script: runs its lines one after another, and writes and flushes the reply to each before more is read.
 ///
-/// At a [`ServeFault::Read`] the whole lines that the input gave have their replies, and a line that it only began is lost.
+/// At a [`ServeFault::Read`] the whole lines that were read have their replies, and a line of which only a beginning was read is lost.
 /// At the other faults the last line was run too, and a beginning of its reply was written, or nothing where memory ran out.
 pub fn serve<R: Read, W: Write>(
     alloc: Global,
@@ -95,7 +96,14 @@ pub fn serve<R: Read, W: Write>(
     'lines: loop {
         match reader.next_line(input)? {
             NextLine::End => return Ok(()),
-            NextLine::LastLine => return serve_line(alloc, solo, n, reader.line(), &mut text, output),
+            NextLine::LastLine => return serve_line(
+                alloc,
+                solo,
+                n,
+                reader.line(),
+                &mut text,
+                output,
+            ),
             NextLine::Line => serve_line(alloc, solo, n, reader.line(), &mut text, output)?,
         }
         n += 1;

@@ -64,7 +64,7 @@ impl Solo {
         match said {
             Line::Silent => Response::Silent,
             Line::Open(name) => self.open(alloc, name),
-            Line::Ask(name, command) => self.run_command(name, command),
+            Line::Run(name, command) => self.run_command(name, command),
         }
     }
 

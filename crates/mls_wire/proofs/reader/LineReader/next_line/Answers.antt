@@ -1,4 +1,4 @@
-use Rattle.std.proofs.Common.{◌<◌, ◌∷◌, ◌∙◌, ap, subst, inl, inr, ⊎_elim, length, arith}
+use Rattle.std.proofs.Common.{◌∷◌, ◌∙◌, subst, inl, inr, ⊎_elim, arith}
 use Rattle.mls_text.specs.Lines.{IsUnbroken}
 use Rattle.mls_wire.specs.LineReaders.{script_ahead}
 use Rattle.mls_wire.proofs.NextLineLemmas.{HasCome, HasCome-chunk, HasCome-all, TakesKnownLine-fed, TakesKnownLine-last, TakesKnownLine-end, BeginsKnownLine-come}
@@ -22,14 +22,14 @@ chunks-preserved g c =
     let read = c.in_ok-read_ahead.ensures in
     record {
       came = came_so_far g (goal.at.chunks-preserved g c).In_ok-read_ahead;
-      asked = inl (⊎_elim (λ unbroken. unbroken) (λ same. subst IsUnbroken same.1 c.chunks-test.ensures.all.0) before.asked);
+      needed = inl (⊎_elim (λ unbroken. unbroken) (λ same. subst IsUnbroken same.1 c.chunks-test.ensures.all.0) before.needed);
       lines = omega (arith, read.within, read.fewer);
       calls = omega (arith, read.calls);
       failed = read.failed ∙ before.failed;
     }
 
-pub returns-clause-asked : goal.returns-clause-asked
-returns-clause-asked g c = ⊎_elim inl (λ same. inr same.0) c.chunks.invariant.asked
+pub returns-clause-needed : goal.returns-clause-needed
+returns-clause-needed g c = ⊎_elim inl (λ same. inr same.0) c.chunks.invariant.needed
 
 pub returns-in_err-read_ahead-clause-begun : goal.returns-in_err-read_ahead-clause-begun
 returns-in_err-read_ahead-clause-begun g c =

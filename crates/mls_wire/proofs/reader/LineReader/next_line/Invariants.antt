@@ -10,7 +10,7 @@ invariant-chunks g l =
     let remaining = g.R.Read.remaining in
     record {
       came : HasCome (script_ahead l.fn.self (remaining l.fn.input.device)) (script_ahead l.self (remaining l.input.device)) l.self.line;
-      asked : IsUnbroken l.fn.self.ahead ⊎ ((l.input ≡ l.fn.input) × (l.self.ahead ≡ l.fn.self.ahead));
+      needed : IsUnbroken l.fn.self.ahead ⊎ ((l.input ≡ l.fn.input) × (l.self.ahead ≡ l.fn.self.ahead));
       lines : lines_left l.self l.input ≤ lines_left l.fn.self l.fn.input;
       calls : l.input.calls_left ≤ l.fn.input.calls_left;
       failed : l.input.failed ≡ l.fn.input.failed;
