@@ -2,12 +2,10 @@
 use Rattle.std.specs.Prelude.{◌≡◌, ◌⊎◌, ℕ, Option, List, [], ◌∷◌, ◌++◌, codes}
 use Rattle.std.specs.Fmt.{decimal}
 use Rattle.std.specs.Io.KnownBytes.{Appends}
-use Rattle.mls_edgerule.specs.Faults.{rule_fault_number}
+use Rattle.mls_edgerule.specs.Faults.{rule_fault_number, rule_fault_text}
 use Rattle.mls_edgerule.specs.declared.fault.RuleFault.{RuleFault}
-use Rattle.mls_tech.specs.Faults.{fault_number}
+use Rattle.mls_tech.specs.Faults.{fault_number as tech_fault_number, fault_text as tech_fault_text}
 use Rattle.mls_tech.specs.declared.fault.TechFault.{TechFault}
-use Rattle.mls_tech.specs.declared.fault.TechFaultKind.{TechFaultKind}
-use Rattle.mls_tech.specs.declared.fault.TechFaultKind.TheVariants.{NotUtf8, NoEnd, UnknownPlane, UnknownType, NameTwice, BadNumber, BadList, BadForm, Limit, Memory}
 use Rattle.mls_tech.specs.declared.rule_line.Skipped.{Skipped}
 use Rattle.std.specs.String.{string_bytes}
 use Rattle.mls_magicd.specs.declared.fault.Fault.{Fault}
@@ -31,25 +29,13 @@ serve_fault_line fault = codes "magicd: " ++ serve_fault_text fault ++ 10 ∷ []
 unfoldable pub unreadable_line : List ℕ → List ℕ
 unreadable_line path = codes "magicd: cannot read " ++ path ++ 10 ∷ []
 
-abbrev pub fault_words : TechFaultKind → List ℕ
-fault_words NotUtf8 = codes "not UTF-8"
-fault_words NoEnd = codes "no end"
-fault_words UnknownPlane = codes "unknown plane"
-fault_words UnknownType = codes "unknown type"
-fault_words NameTwice = codes "name twice"
-fault_words BadNumber = codes "bad number"
-fault_words BadList = codes "bad list"
-fault_words BadForm = codes "bad form"
-fault_words Limit = codes "limit"
-fault_words Memory = codes "memory"
-
 -- a line of the technology has a fault of this sort
 unfoldable pub faulty_line : List ℕ → ℕ → ℕ → List ℕ → List ℕ
 faulty_line sort line number text = codes "magicd: tech line " ++ decimal line ++ sort ++ decimal number ++ 32 ∷ text ++ 10 ∷ []
 
 -- the technology's fault, with its line, number and text
 abbrev pub tech_fault_line : TechFault → List ℕ
-tech_fault_line fault = faulty_line (codes " fault ") fault.line (fault_number fault.kind) (fault_words fault.kind)
+tech_fault_line fault = faulty_line (codes " fault ") fault.line (tech_fault_number fault.kind) (tech_fault_text fault.kind)
 
 -- the fault of a rule line, with its line, number and text
 abbrev pub rule_fault_line : RuleFault → List ℕ

@@ -10,7 +10,7 @@ use crate::{Fault, OptionsFault, TechnologyFault};
 use arrayvec::ArrayVec;
 use itoa::Buffer;
 use mls_edgerule::RuleFault;
-use mls_tech::{Skipped, TechFault, TechFaultKind};
+use mls_tech::{Skipped, TechFault};
 use mls_wire::{ServeFault, Watched, WriteFault};
 use std::io::Write;
 
@@ -80,7 +80,7 @@ fn report_tech_fault<E: Write>(faults: &mut Watched<E>, fault: TechFault)
     ensures { spec.Reports E.contents faults.old faults.new (spec.tech_fault_line fault) }
 {
     let TechFault { line, kind } = fault;
-    report_faulty_line(faults, b" fault ", line, kind.number(), fault_text(kind));
+    report_faulty_line(faults, b" fault ", line, kind.number(), kind.text());
 }
 
 /// Reports a rule line that can't be compiled.
@@ -173,22 +173,4 @@ fn write_parts<E: Write>(faults: &mut Watched<E>, parts: &[&[u8]]) -> Result<(),
         faults.write_whole(part)?;
     }
     Ok(())
-}
-
-/// The text of a fault of a technology.
-fn fault_text(kind: TechFaultKind) -> &'static str
-    ensures { result.now ≡ spec.fault_words kind }
-{
-    match kind {
-        TechFaultKind::NotUtf8 => "not UTF-8",
-        TechFaultKind::NoEnd => "no end",
-        TechFaultKind::UnknownPlane => "unknown plane",
-        TechFaultKind::UnknownType => "unknown type",
-        TechFaultKind::NameTwice => "name twice",
-        TechFaultKind::BadNumber => "bad number",
-        TechFaultKind::BadList => "bad list",
-        TechFaultKind::BadForm => "bad form",
-        TechFaultKind::Limit => "limit",
-        TechFaultKind::Memory => "memory",
-    }
 }
