@@ -2,7 +2,7 @@
 use Rattle.std.specs.Prelude.{ℕ, ◌+◌, nat_le, if◌then◌else◌, Option, Some, None, Result, Ok, Err, List, [], ◌∷◌}
 use Rattle.std.specs.Option.{option_and_then, option_map, unwrap_or}
 use Rattle.mls_tech.specs.Readings.{Tech}
-use Rattle.mls_tech.specs.TypeSets.{common, without}
+use Rattle.mls_kinds.specs.KindSets.{intersection, difference}
 use Rattle.mls_tech.specs.declared.rule.Adjacency.TheVariants.{TouchingOk, TouchingIllegal}
 use Rattle.mls_tech.specs.declared.rule.Edge.{Edge as EdgeWords}
 use Rattle.mls_tech.specs.declared.rule.Rule.{Rule}
@@ -21,7 +21,7 @@ use Rattle.mls_edgerule.specs.declared.fault.RuleFaultKind.TheVariants.{Planes, 
 -- types S are at least d wide: beyond an edge into S lies S, and beyond a corner of such an edge
 abbrev pub width_rule : Tech → ℕ → ℕ → ℕ → EdgeRule
 width_rule tech set d plane = record {
-  types1 = without (types_on tech plane) set;
+  types1 = difference (types_on tech plane) set;
   types2 = set;
   ok_types = set;
   corner_types = set;
@@ -36,9 +36,9 @@ width_rule tech set d plane = record {
 abbrev pub touching_ok_rule : Tech → ℕ → ℕ → ℕ → ℕ → EdgeRule
 touching_ok_rule tech a b d plane = record {
   types1 = a;
-  types2 = without (without (types_on tech plane) a) b;
-  ok_types = without (types_on tech plane) b;
-  corner_types = without (without (types_on tech plane) a) b;
+  types2 = difference (difference (types_on tech plane) a) b;
+  ok_types = difference (types_on tech plane) b;
+  corner_types = difference (difference (types_on tech plane) a) b;
   distance = d;
   corner_distance = d;
   directions = Four;
@@ -50,9 +50,9 @@ touching_ok_rule tech a b d plane = record {
 abbrev pub touching_illegal_rule : Tech → ℕ → ℕ → ℕ → ℕ → ℕ → EdgeRule
 touching_illegal_rule tech a b d plane check_plane = record {
   types1 = a;
-  types2 = without (types_on tech plane) a;
-  ok_types = without (types_on tech check_plane) b;
-  corner_types = without (types_on tech plane) a;
+  types2 = difference (types_on tech plane) a;
+  ok_types = difference (types_on tech check_plane) b;
+  corner_types = difference (types_on tech plane) a;
   distance = d;
   corner_distance = d;
   directions = Four;
@@ -63,10 +63,10 @@ touching_illegal_rule tech a b d plane check_plane = record {
 -- as the line states it, without types of other planes, which no square of the plane has
 abbrev pub edge_line_rule : Tech → Directions → EdgeWords → ℕ → ℕ → EdgeRule
 edge_line_rule tech directions edge plane check_plane = record {
-  types1 = common edge.types1 (types_on tech plane);
-  types2 = common edge.types2 (types_on tech plane);
-  ok_types = common edge.ok_types (types_on tech check_plane);
-  corner_types = common edge.corner_types (types_on tech plane);
+  types1 = intersection edge.types1 (types_on tech plane);
+  types2 = intersection edge.types2 (types_on tech plane);
+  ok_types = intersection edge.ok_types (types_on tech check_plane);
+  corner_types = intersection edge.corner_types (types_on tech plane);
   distance = edge.distance;
   corner_distance = edge.corner_distance;
   directions = directions;

@@ -6,7 +6,8 @@ ghost use Rattle.mls_edgerule.specs.Compiling as spec;
 
 use crate::plane_types::{is_on_plane, plane_of_set, trigger_plane, types_on};
 use crate::{Directions, EdgeRule, RuleFault, RuleFaultKind, Rules};
-use mls_tech::{Adjacency, Edge, Rule, RuleLine, Tech, TypeSet};
+use mls_kinds::KindSet;
+use mls_tech::{Adjacency, Edge, Rule, RuleLine, Tech};
 
 /// Compiles the rule lines of a technology: one edge rule for each line, in the order of the lines.
 ///
@@ -55,7 +56,7 @@ fn rule_of(tech: &Tech, rule: Rule) -> Option<EdgeRule>
 
 /// The rule of a `width` line, or `None` if its types don't lie on one plane.
 #[tactic(auto, unfolding(crate::specs::Compiling::rule_of))]
-fn width(tech: &Tech, set: TypeSet, distance: u8) -> Option<EdgeRule>
+fn width(tech: &Tech, set: KindSet, distance: u8) -> Option<EdgeRule>
     ensures { result ≡ spec.rule_of tech.now (Width set distance) }
 {
     let plane = plane_of_set(tech, set)?;
@@ -65,7 +66,7 @@ fn width(tech: &Tech, set: TypeSet, distance: u8) -> Option<EdgeRule>
 /// The rule of a `spacing` line with `touching_ok`, or `None` if the types of both lists don't lie on
 /// one plane.
 #[tactic(auto, unfolding(crate::specs::Compiling::rule_of))]
-fn touching_ok(tech: &Tech, from: TypeSet, to: TypeSet, distance: u8) -> Option<EdgeRule>
+fn touching_ok(tech: &Tech, from: KindSet, to: KindSet, distance: u8) -> Option<EdgeRule>
     ensures { result ≡ spec.rule_of tech.now (Spacing from to distance TouchingOk) }
 {
     let plane = plane_of_set(tech, from)?;
@@ -78,7 +79,7 @@ fn touching_ok(tech: &Tech, from: TypeSet, to: TypeSet, distance: u8) -> Option<
 /// The rule of a `spacing` line with `touching_illegal`, or `None` if the types of either list don't lie
 /// on one plane.
 #[tactic(auto, unfolding(crate::specs::Compiling::rule_of))]
-fn touching_illegal(tech: &Tech, from: TypeSet, to: TypeSet, distance: u8) -> Option<EdgeRule>
+fn touching_illegal(tech: &Tech, from: KindSet, to: KindSet, distance: u8) -> Option<EdgeRule>
     ensures { result ≡ spec.rule_of tech.now (Spacing from to distance TouchingIllegal) }
 {
     let plane = plane_of_set(tech, from)?;
@@ -88,7 +89,7 @@ fn touching_illegal(tech: &Tech, from: TypeSet, to: TypeSet, distance: u8) -> Op
 
 /// Demands that the types of the set are `distance` wide: beyond an edge into them, and beyond a corner
 /// of such an edge, there are only they.
-fn width_rule(tech: &Tech, set: TypeSet, distance: u8, plane: u8) -> EdgeRule
+fn width_rule(tech: &Tech, set: KindSet, distance: u8, plane: u8) -> EdgeRule
     ensures { result ≡ spec.width_rule tech.now set distance plane }
 {
     EdgeRule {
@@ -106,7 +107,7 @@ fn width_rule(tech: &Tech, set: TypeSet, distance: u8, plane: u8) -> EdgeRule
 
 /// Demands that types of one plane touch or are `distance` apart: beyond an edge from the first into
 /// neither there are none of the others.
-fn touching_ok_rule(tech: &Tech, from: TypeSet, to: TypeSet, distance: u8, plane: u8) -> EdgeRule
+fn touching_ok_rule(tech: &Tech, from: KindSet, to: KindSet, distance: u8, plane: u8) -> EdgeRule
     ensures { result ≡ spec.touching_ok_rule tech.now from to distance plane }
 {
     let all = types_on(tech, plane);
@@ -128,8 +129,8 @@ fn touching_ok_rule(tech: &Tech, from: TypeSet, to: TypeSet, distance: u8, plane
 /// `plane`, there are none of the others, which lie on `check_plane`.
 fn touching_illegal_rule(
     tech: &Tech,
-    from: TypeSet,
-    to: TypeSet,
+    from: KindSet,
+    to: KindSet,
     distance: u8,
     plane: u8,
     check_plane: u8,

@@ -1,6 +1,6 @@
 //! Compiled rules.
 use crate::Directions;
-use mls_tech::TypeSet;
+use mls_kinds::KindSet;
 
 /// A rule on the edges of a plane (Taylor and Ousterhout 1984).
 ///
@@ -12,10 +12,10 @@ use mls_tech::TypeSet;
 /// Distances are in squares, from 1 to 100, and corner distances from 0 to 100; planes are numbered from 0.
 #[derive(Clone, Copy, Debug, PartialEq, Eq)]
 pub struct EdgeRule {
-    pub types1: TypeSet,
-    pub types2: TypeSet,
-    pub ok_types: TypeSet,
-    pub corner_types: TypeSet,
+    pub types1: KindSet,
+    pub types2: KindSet,
+    pub ok_types: KindSet,
+    pub corner_types: KindSet,
     pub distance: u8,
     pub corner_distance: u8,
     pub directions: Directions,

@@ -2,7 +2,8 @@
 ghost use Rattle.std.specs.Prelude.{◌≡◌, ◌&&◌};
 ghost use Rattle.mls_edgerule.specs.PlaneTypes as spec;
 
-use mls_tech::{Tech, TypeScope, TypeSet};
+use mls_kinds::KindSet;
+use mls_tech::Tech;
 
 fn plane_count(tech: &Tech) -> u8
     ensures { result ≡ tech.now.plane_count }
@@ -12,14 +13,14 @@ fn plane_count(tech: &Tech) -> u8
 
 /// The types of the plane, space among them.
 #[tactic(auto, unfolding(crate::specs::PlaneTypes::types_on))]
-pub(crate) fn types_on(tech: &Tech, plane: u8) -> TypeSet
+pub(crate) fn types_on(tech: &Tech, plane: u8) -> KindSet
     ensures { result ≡ spec.types_on tech.now plane }
 {
     tech.plane_types(plane)
 }
 
 /// Whether the set isn't empty, is without space, and has only types of the plane.
-pub(crate) fn is_on_plane(tech: &Tech, set: TypeSet, plane: u8) -> bool
+pub(crate) fn is_on_plane(tech: &Tech, set: KindSet, plane: u8) -> bool
     ensures { result ≡ spec.is_on_plane tech.now set plane }
 {
     set.bits() != 0 && !set.contains(0) && set.difference(types_on(tech, plane)).bits() == 0
@@ -27,21 +28,21 @@ pub(crate) fn is_on_plane(tech: &Tech, set: TypeSet, plane: u8) -> bool
 
 /// The plane that has all types of the set, if the set isn't empty and is without space.
 #[tactic(auto, unfolding(crate::specs::PlaneTypes::plane_of_set))]
-pub(crate) fn plane_of_set(tech: &Tech, set: TypeSet) -> Option<u8>
+pub(crate) fn plane_of_set(tech: &Tech, set: KindSet) -> Option<u8>
     ensures { result ≡ spec.plane_of_set tech.now set }
 {
     (0..plane_count(tech)).find(|plane| is_on_plane(tech, set, *plane))
 }
 
 /// Whether the set has a type of the plane.
-fn has_member(tech: &Tech, set: TypeSet, plane: u8) -> bool
+fn has_member(tech: &Tech, set: KindSet, plane: u8) -> bool
     ensures { result ≡ spec.has_member tech.now set plane }
 {
     set.intersection(types_on(tech, plane)).bits() != 0
 }
 
 /// Whether the plane can have an edge between the sets: each has a type of it.
-fn has_edges(tech: &Tech, set: TypeSet, other: TypeSet, plane: u8) -> bool
+fn has_edges(tech: &Tech, set: KindSet, other: KindSet, plane: u8) -> bool
     ensures { result ≡ spec.has_edges tech.now set other plane }
 {
     has_member(tech, set, plane) && has_member(tech, other, plane)
@@ -49,7 +50,7 @@ fn has_edges(tech: &Tech, set: TypeSet, other: TypeSet, plane: u8) -> bool
 
 /// The only plane that can have an edge between the sets, or `None` if there is none or several.
 #[tactic(auto, unfolding(crate::specs::PlaneTypes::trigger_plane))]
-pub(crate) fn trigger_plane(tech: &Tech, set: TypeSet, other: TypeSet) -> Option<u8>
+pub(crate) fn trigger_plane(tech: &Tech, set: KindSet, other: KindSet) -> Option<u8>
     ensures { result ≡ spec.trigger_plane tech.now set other }
 {
     let mut found = None;

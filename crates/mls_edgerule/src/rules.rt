@@ -4,7 +4,7 @@ ghost use Rattle.mls_edgerule.specs.Halos.{halo_of};
 ghost use Rattle.mls_edgerule.specs.RuleLists as spec;
 
 use crate::{Directions, EdgeRule};
-use mls_tech::TypeSet;
+use mls_kinds::KindSet;
 use std::marker::Model;
 
 /// The most rules that a technology may have.
@@ -38,10 +38,10 @@ fn no_rule() -> EdgeRule
     ensures { result ≡ spec.no_rule }
 {
     EdgeRule {
-        types1: TypeSet::empty(),
-        types2: TypeSet::empty(),
-        ok_types: TypeSet::empty(),
-        corner_types: TypeSet::empty(),
+        types1: KindSet::empty(),
+        types2: KindSet::empty(),
+        ok_types: KindSet::empty(),
+        corner_types: KindSet::empty(),
         distance: 1,
         corner_distance: 0,
         directions: Directions::RightAndUp,
