@@ -3,19 +3,9 @@ ghost use Rattle.std.specs.Prelude.{◌≡◌};
 ghost use Rattle.mls_checker.specs.Copies.{copied_layout};
 ghost use Rattle.mls_checker.specs.Forbids.{back, is_corner, is_disallowed, is_edge, moved};
 ghost use Rattle.mls_checker.specs.Marking.{CanStep, IsNear};
-ghost use Rattle.mls_kinds.specs.KindSets.{holds as has_type};
 
 use crate::Snapshot;
 use mls_edgerule::{Direction, EdgeRule};
-use mls_kinds::KindSet;
-use mls_tech::TypeSet;
-
-/// Whether a type is in a set. No type from 64 on is in any.
-fn has_type(set: TypeSet, kind: u8) -> bool
-    ensures { result ≡ has_type set kind }
-{
-    KindSet::from_bits(set.bits()).contains(kind)
-}
 
 /// Returns the next square in a direction.
 fn square_after(direction: Direction, x: u32, y: u32) -> (u32, u32)
@@ -56,8 +46,8 @@ pub(crate) fn is_edge(
 {
     let plane = rule.trigger_plane;
     let (u, v) = square_before(direction, x, y);
-    has_type(rule.types2, snapshot.kind_at(plane, x, y))
-        && has_type(rule.types1, snapshot.kind_at(plane, u, v))
+    rule.types2.contains(snapshot.kind_at(plane, x, y))
+        && rule.types1.contains(snapshot.kind_at(plane, u, v))
 }
 
 /// Whether the square beside the one before this in the direction, on a side of it, has a corner type.
@@ -75,15 +65,13 @@ pub(crate) fn is_corner(
 {
     let (u, v) = square_before(direction, x, y);
     let (u, v) = square_after(side, u, v);
-    has_type(
-        rule.corner_types,
-        snapshot.kind_at(rule.trigger_plane, u, v),
-    )
+    rule.corner_types
+        .contains(snapshot.kind_at(rule.trigger_plane, u, v))
 }
 
 /// Whether the square's type on the check plane is none that the rule allows.
 pub(crate) fn is_disallowed(rule: &EdgeRule, snapshot: &Snapshot, x: u32, y: u32) -> bool
     ensures { result ≡ is_disallowed rule.now (copied_layout snapshot.now) (record { x = x; y = y }) }
 {
-    !has_type(rule.ok_types, snapshot.kind_at(rule.check_plane, x, y))
+    !rule.ok_types.contains(snapshot.kind_at(rule.check_plane, x, y))
 }

@@ -106,7 +106,8 @@ impl KindSet {
     /// Whether the set has no kinds.
     #[tactic(auto, using(crate::proofs::KindSetLemmas::empty_is))]
     pub fn is_empty(self) -> bool
-        ensures { IsTrue result ↔ (members self ≡ []) }
+        ensures value { result ≡ (self == 0) }
+        ensures members { IsTrue result ↔ (members self ≡ []) }
     {
         self.bits == 0
     }

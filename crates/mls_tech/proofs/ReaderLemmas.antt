@@ -1,5 +1,5 @@
 -- What reading on gives, and what one token does to it and to the room for lists that are open.
-use Rattle.std.proofs.Common.{◌≡◌, ◌≤◌, ◌+◌, ◌==◌, ℕ, Bool, true, false, if◌then◌else◌, Option, Some, None, Result, Err, List, [], ◌<◌, ◌∷◌, All, length, get_or, take, max, codes, count_by, refl, sym, ap, ◌∙◌, arith, ⊎_elim, subst}
+use Rattle.std.proofs.Common.{◌≡◌, ◌≤◌, ◌+◌, ◌==◌, ℕ, Bool, true, false, if◌then◌else◌, Option, Some, None, Result, Err, List, [], ◌<◌, ◌∷◌, All, length, get_or, take, max, codes, refl, sym, ap, ◌∙◌, arith, ⊎_elim, subst}
 use Rattle.std.proofs.lemmas.Bool.{cases_eq, ne_eqb}
 use Rattle.std.specs.Borrow.{Bor}
 use Rattle.std.proofs.Math.Nat.{le-max_left, le-max_right}

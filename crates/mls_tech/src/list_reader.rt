@@ -204,12 +204,7 @@ impl ListReader {
     }
 
     /// Reads a term of one word.
-    fn take_word(
-        &mut self,
-        tech: &Tech,
-        tildes: Tildes,
-        word: &[u8],
-    ) -> Result<(), TechFaultKind>
+    fn take_word(&mut self, tech: &Tech, tildes: Tildes, word: &[u8]) -> Result<(), TechFaultKind>
         ensures { Steps (spec.word_step (scope_of tech.now) self.old tildes word.now) result self.new }
     {
         if word == b"0".as_slice() {
