@@ -23,7 +23,7 @@ pub(crate) fn types_on(tech: &Tech, plane: u8) -> KindSet
 pub(crate) fn is_on_plane(tech: &Tech, set: KindSet, plane: u8) -> bool
     ensures { result ≡ spec.is_on_plane tech.now set plane }
 {
-    set.bits() != 0 && !set.contains(0) && set.difference(types_on(tech, plane)).bits() == 0
+    !set.is_empty() && !set.contains(0) && set.difference(types_on(tech, plane)).is_empty()
 }
 
 /// The plane that has all types of the set, if the set isn't empty and is without space.
@@ -38,7 +38,7 @@ pub(crate) fn plane_of_set(tech: &Tech, set: KindSet) -> Option<u8>
 fn has_member(tech: &Tech, set: KindSet, plane: u8) -> bool
     ensures { result ≡ spec.has_member tech.now set plane }
 {
-    set.intersection(types_on(tech, plane)).bits() != 0
+    !set.intersection(types_on(tech, plane)).is_empty()
 }
 
 /// Whether the plane can have an edge between the sets: each has a type of it.
