@@ -1,33 +1,46 @@
 #!/usr/bin/env bash
-# Lines a second through magicd, and how the cost of one paint grows with the tiles of the plane.
+# Lines a second through magicd, and how the cost of one paint grows with the tiles of the plane and their shape.
 #
-# The plane has k times k squares of poly, each apart from the others, which makes 2 k k + 2 k + 1 tiles.
-# The lines repaint those squares one after another, now with ndiff and now with poly, and look at each.
+# A grid is k times k squares of poly, each apart from the others, which makes 2 k k + 2 k + 1 tiles. A comb is n tall
+# bars beside a ladder of n short ones, as high together as each tall bar, which makes 6 n + 1 tiles: every band between
+# two of the ladder's edges crosses all tall bars. The lines repaint the squares, or the short bars, one after another,
+# now with ndiff and now with poly, and look at each.
 set -eu
 here=$(cd "$(dirname "${BASH_SOURCE[0]}")/.." && pwd)
 scripts=$(mktemp -d)
 trap 'rm -rf "$scripts"' EXIT
 
-# squares K: paints the squares
-squares() {
-    awk -v k="$1" 'BEGIN {
-        print "%open a"
-        for (i = 0; i < k; i++) for (j = 0; j < k; j++) {
-            printf "a box %d %d %d %d\na paint poly\n", 20 * j, 20 * i, 20 * j + 10, 20 * i + 10
-        }
-    }'
+# grid K ROUNDS: paints the squares, and then repaints ROUNDS squares and looks at each
+grid() {
+    awk -v k="$1" -v rounds="$2" '
+        function box(i, j) { printf "a box %d %d %d %d\n", 20 * j, 20 * i, 20 * j + 10, 20 * i + 10 }
+        BEGIN {
+            print "%open a"
+            for (i = 0; i < k; i++) for (j = 0; j < k; j++) { box(i, j); print "a paint poly" }
+            for (r = 0; r < rounds; r++) {
+                box(r % k, int(r / k) % k)
+                print (int(r / (k * k)) % 2 == 0) ? "a paint ndiff" : "a paint poly"
+                print "a what"
+            }
+        }'
 }
 
-# rounds K N: repaints N squares and looks at each
-rounds() {
-    awk -v k="$1" -v n="$2" 'BEGIN {
-        for (r = 0; r < n; r++) {
-            i = r % k; j = int(r / k) % k
-            printf "a box %d %d %d %d\n", 20 * j, 20 * i, 20 * j + 10, 20 * i + 10
-            print (int(r / (k * k)) % 2 == 0) ? "a paint ndiff" : "a paint poly"
-            print "a what"
-        }
-    }'
+# comb N ROUNDS: paints the ladder and the tall bars, and then repaints ROUNDS short bars and looks at each
+comb() {
+    awk -v n="$1" -v rounds="$2" '
+        function short(i) { printf "a box 0 %d 10 %d\n", 20 * i, 20 * i + 10 }
+        BEGIN {
+            print "%open a"
+            for (i = 0; i < n; i++) { short(i); print "a paint poly" }
+            for (j = 1; j <= n; j++) {
+                printf "a box %d 0 %d %d\na paint poly\n", -20 * j, -20 * j + 10, 20 * n - 10
+            }
+            for (r = 0; r < rounds; r++) {
+                short(r % n)
+                print (int(r / n) % 2 == 0) ? "a paint ndiff" : "a paint poly"
+                print "a what"
+            }
+        }'
 }
 
 # seconds FILE: how long magicd takes for a script, the best of three runs
@@ -35,7 +48,7 @@ seconds() {
     local best= start end took
     for _ in 1 2 3; do
         start=$(date +%s%N)
-        "$here/magicd" < "$1" > "$scripts/out"
+        "$here/magicd" --quota 16384 < "$1" > "$scripts/out"
         end=$(date +%s%N)
         took=$((end - start))
         if [ -z "$best" ] || [ "$took" -lt "$best" ]; then best=$took; fi
@@ -44,14 +57,28 @@ seconds() {
     awk -v ns="$best" 'BEGIN { printf "%.6f", ns / 1e9 }'
 }
 
-"$here/magicd" < /dev/null
-printf '%s\t%s\t%s\t%s\n' squares tiles lines/s 'us/round'
-for k in 7 12 22; do
-    squares "$k" > "$scripts/before"
-    { cat "$scripts/before"; rounds "$k" 3333; } > "$scripts/after"
+# micros SHAPE N ROUNDS: microseconds for one round of a box, a paint and a look
+micros() {
+    local before after
+    "$1" "$2" 0 > "$scripts/before"
+    "$1" "$2" "$3" > "$scripts/after"
     before=$(seconds "$scripts/before")
     after=$(seconds "$scripts/after")
-    awk -v k="$k" -v b="$before" -v a="$after" 'BEGIN {
-        printf "%d\t%d\t%.0f\t%.1f\n", k * k, 2 * k * k + 2 * k + 1, 9999 / (a - b), (a - b) / 3333 * 1e6
-    }'
+    awk -v n="$3" -v b="$before" -v a="$after" 'BEGIN { printf "%.1f", (a - b) / n * 1e6 }'
+}
+
+# row SHAPE N TILES MICROS: a row of the table; a round has three lines
+row() {
+    awk -v OFS='\t' -v shape="$1 of $2" -v tiles="$3" -v us="$4" \
+        'BEGIN { print shape, tiles, sprintf("%.0f", 3e6 / us), us }'
+}
+
+"$here/magicd" < /dev/null
+printf '%s\t%s\t%s\t%s\n' shape tiles lines/s us/round
+for k in 7 12 22 34; do
+    grid_us=$(micros grid "$k" 3333)
+    row grid "$((k * k))" "$((2 * k * k + 2 * k + 1))" "$grid_us"
 done
+comb_us=$(micros comb 400 50)
+row comb 400 2401 "$comb_us"
+awk -v grid="$grid_us" -v comb="$comb_us" 'BEGIN { printf "grid/comb\t%.4f\n", grid / comb }'

@@ -1,4 +1,4 @@
--- Copies of a zone by the pieces that meet it.
+-- Copies of a zone, made of the pieces that meet it.
 use Rattle.std.proofs.Common.{◌≡◌, ◌↔◌, ℕ, ◌&&◌, true, false, if◌then◌else◌, List, [], ◌∷◌, get_or, All, refl, sym, ap, ⊎_elim, ◌∙◌}
 use Rattle.std.proofs.lemmas.Bool.{both_ways, cases_Bool, cond-false, cond-true, cond_both, false_from_ne_true}
 use Rattle.std.proofs.Math.Path.{fun_ext}
@@ -14,10 +14,10 @@ use Rattle.mls_geom.proofs.Ascending.{Contains-filter}
 use Rattle.mls_geom.proofs.Overlays.{painted_outside}
 use Rattle.mls_geom.proofs.StripCovers.{kind-AreStrips}
 use Rattle.mls_geom.proofs.StripPictures.{kind-IsStrip}
-use Rattle.mls_checker.specs.Copies.{Squares, IsShownBy, grid_picture}
-use Rattle.mls_checker.proofs.Places.{grid_picture-outside}
+use Rattle.mls_checker.specs.Copies.{Grid, IsShownBy, grid_picture}
+use Rattle.mls_checker.proofs.GridIndexes.{grid_picture-outside}
 
--- what shows at a square after painting depends on what shows there below alone
+-- what a square shows after painting depends only on what it showed before
 painted-at : (below other : Picture) (piece : Piece) (x y : ℕ) → below x y ≡ other x y → painted below piece x y ≡ painted other piece x y
 painted-at below other piece x y same = ap (λ kind. if holds piece.rect x y then piece.kind else kind) same
 
@@ -30,7 +30,7 @@ apart : (piece zone : Rect) (x y : ℕ) → holds zone x y ≡ true → meets pi
 apart piece zone x y inside never =
     false_from_ne_true (holds piece x y) (λ there. both_ways (meets piece zone) never (meets_by_square piece zone x y there inside))
 
--- in a zone the pieces that meet it show what all show
+-- in a zone, the pieces that meet it show what all pieces show
 pub overlaid-meeting :
     (below : Picture) (pieces : List Piece) (zone : Rect) (x y : ℕ) → holds zone x y ≡ true → overlaid below (meeting pieces zone) x y ≡ overlaid below pieces x y
 overlaid-meeting below [] zone x y inside = refl
@@ -41,19 +41,19 @@ overlaid-meeting below (piece ∷ pieces) zone x y inside =
     overlaid-at below (painted below piece) (meeting pieces zone) x y (sym (painted_outside below piece x y (apart piece.rect zone x y inside never)))
     ∙ overlaid-meeting (painted below piece) pieces zone x y inside)
 
--- a piece painted as far as it lies in the zone is painted in the zone
+-- in the zone, a piece painted as far as it lies in the zone shows as the whole piece does
 pub filled-inside :
     (zone : Rect) (below : Picture) (piece : Piece) (x y : ℕ) → holds zone x y ≡ true
     → (if (holds zone x y && holds piece.rect x y) then piece.kind else below x y) ≡ painted below piece x y
 filled-inside zone below piece x y inside = rw inside refl
 
 -- the grid has what the pieces show in its rectangle
-abbrev pub IsCopy : Squares → List Piece → Type 0
+abbrev pub IsCopy : Grid → List Piece → Type 0
 IsCopy grid pieces = grid_picture grid ≡ (λ x y. if holds grid.rect x y then picture_of pieces x y else 0)
 
--- where the strips that meet the rectangle show what the grid has, it has what all show
+-- where the grid shows the strips that meet its rectangle, it shows all strips there
 shown_here :
-    (extent : Rect) (grid : Squares) (strips : List Piece) (x y : ℕ) → AreStrips extent (picture_of strips) strips → IsRectangleIn extent grid.rect
+    (extent : Rect) (grid : Grid) (strips : List Piece) (x y : ℕ) → AreStrips extent (picture_of strips) strips → IsRectangleIn extent grid.rect
     → All (IsShownBy grid) (meeting strips grid.rect) → holds grid.rect x y ≡ true → grid_picture grid x y ≡ picture_of strips x y
 shown_here extent grid strips x y are legal each inside =
     let (k, strip, within, is, in_strip) = are.whole x y (holds_outer extent grid.rect x y legal inside) in
@@ -62,23 +62,23 @@ shown_here extent grid strips x y are legal each inside =
     ∙ kind-AreStrips extent (picture_of strips) strips strip x y are (k, within, is) in_strip
 
 pub copy_by_strips :
-    (extent : Rect) (grid : Squares) (strips : List Piece) → AreStrips extent (picture_of strips) strips → IsRectangleIn extent grid.rect
+    (extent : Rect) (grid : Grid) (strips : List Piece) → AreStrips extent (picture_of strips) strips → IsRectangleIn extent grid.rect
     → All (IsShownBy grid) (meeting strips grid.rect) → IsCopy grid strips
 copy_by_strips extent grid strips are legal each = fun_ext (λ x. fun_ext (λ y. ⊎_elim
     (λ inside. shown_here extent grid strips x y are legal each inside ∙ sym (cond-true (holds grid.rect x y) (picture_of strips x y) 0 inside))
     (λ outside. grid_picture-outside grid x y outside ∙ sym (cond-false (holds grid.rect x y) (picture_of strips x y) 0 outside))
     (cases_Bool (holds grid.rect x y))))
 
--- and the other way round
+-- a copy of the strips shows each strip that meets its rectangle
 pub strips_by_copy :
-    (extent : Rect) (grid : Squares) (strips : List Piece) → AreStrips extent (picture_of strips) strips → IsCopy grid strips → All (IsShownBy grid) (meeting strips grid.rect)
+    (extent : Rect) (grid : Grid) (strips : List Piece) → AreStrips extent (picture_of strips) strips → IsCopy grid strips → All (IsShownBy grid) (meeting strips grid.rect)
 strips_by_copy extent grid strips are copy k d within x y inside in_strip =
     let strip = All-filter (λ piece. meets piece.rect grid.rect) (IsStrip extent (picture_of strips)) strips are.each k d within in
     ap (λ picture. picture x y) copy ∙ cond-true (holds grid.rect x y) (picture_of strips x y) 0 inside
     ∙ sym (kind-IsStrip extent (picture_of strips) (get_or (meeting strips grid.rect) k d) x y strip in_strip)
 
--- one strip more
+-- of the strips not yet compared, the first is shown: then all are if the others are
 pub shown-next :
-    (grid : Squares) (piece : Piece) (left more : List Piece) (P : Type 0) → left ≡ piece ∷ more → IsShownBy grid piece → All (IsShownBy grid) left ↔ P → All (IsShownBy grid) more ↔ P
+    (grid : Grid) (piece : Piece) (left more : List Piece) (P : Type 0) → left ≡ piece ∷ more → IsShownBy grid piece → All (IsShownBy grid) left ↔ P → All (IsShownBy grid) more ↔ P
 shown-next grid piece left more P is here so_far =
     (λ each. so_far.0 (rw is (All-cons (IsShownBy grid) piece more here each)), λ whole. All-tail (IsShownBy grid) piece more (rw is at (so_far.1 whole)))

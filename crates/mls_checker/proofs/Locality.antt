@@ -1,18 +1,19 @@
--- Which squares have a say in whether a square is forbidden.
+-- The squares on which it depends whether a square is forbidden.
 use Rattle.std.proofs.Common.{◌≡◌, ℕ, ◌+◌, ◌≤◌, Bool, true, false, not, ◌||◌, ◌&&◌, inl, inr, List, [], ◌∷◌, refl, sym, ap, ◌∙◌, arith}
 use Rattle.std.specs.List.{list_any}
 use Rattle.std.proofs.lemmas.Bool.{both_ways, cases_Bool, cond-false, cond-true, false_from_ne_true}
 use Rattle.mls_edgerule.specs.Halos.{halo_of}
-use Rattle.mls_edgerule.specs.RuleLists.{across, directions_in}
+use Rattle.mls_edgerule.specs.Directions.{across, directions_in}
 use Rattle.mls_edgerule.specs.declared.direction.Direction.{Direction}
 use Rattle.mls_edgerule.specs.declared.edge_rule.EdgeRule.{EdgeRule}
 use Rattle.mls_geom.specs.Rects.{Rect, Point, common, holds}
 use Rattle.mls_geom.specs.World.{world}
 use Rattle.mls_geom.proofs.Holds.{holds_between, between_holds}
-use Rattle.mls_tech.specs.TypeSets.{holds as has_type}
+use Rattle.mls_kinds.specs.KindSets.{holds as has_type}
 use Rattle.mls_checker.specs.Forbids.{back, forbidden, forbids, in_block, in_row, is_cornered, is_edge, moved, reaches}
 use Rattle.mls_checker.specs.Halos.{surroundings, zone_of}
-use Rattle.mls_checker.specs.Layouts.{AgreeIn, AgreeOutside, Layout, type_at, within}
+use Rattle.mls_checker.specs.ZoneLayouts.{AgreeIn, AgreeOutside, within}
+use Rattle.mls_geom.specs.Layouts.{Layout, type_at}
 use Rattle.mls_checker.proofs.Across.{crosses, list_any_same_across}
 use Rattle.mls_checker.proofs.ListTests.{list_any_same, list_any_same_in_range}
 use Rattle.mls_checker.proofs.Near.{IsWithin, before_block_within, before_row_within, block_within, corner_within, here_within, near_grown, row_within, within_grown}
@@ -30,50 +31,50 @@ same_or a b c d first second = rw (first, second) refl
 
 -- ---- one edge
 is_edge_same :
-    (rule : EdgeRule) (h x y : ℕ) (layout other : Layout) (e : Direction) (p : Point) → AgreeNear h x y layout other → IsWithin h x y p
-    → IsWithin h x y (moved (back e) 1 p) → is_edge rule layout e p ≡ is_edge rule other e p
-is_edge_same rule h x y layout other e p agree near near' =
-    same_and _ _ _ _ (ap (has_type rule.types2) (agree rule.trigger_plane p near)) (ap (has_type rule.types1) (agree rule.trigger_plane (moved (back e) 1 p) near'))
+    (rule : EdgeRule) (h x y : ℕ) (layout other : Layout) (direction : Direction) (p : Point) → AgreeNear h x y layout other → IsWithin h x y p
+    → IsWithin h x y (moved (back direction) 1 p) → is_edge rule layout direction p ≡ is_edge rule other direction p
+is_edge_same rule h x y layout other direction p agree near near' =
+    same_and _ _ _ _ (ap (has_type rule.types2) (agree rule.trigger_plane p near)) (ap (has_type rule.types1) (agree rule.trigger_plane (moved (back direction) 1 p) near'))
 
 is_cornered_same :
-    (rule : EdgeRule) (h x y : ℕ) (layout other : Layout) (e f : Direction) (p : Point) → AgreeNear h x y layout other → IsWithin h x y p
-    → IsWithin h x y (moved (back e) 1 p) → IsWithin h x y (moved f 1 (moved (back e) 1 p))
-    → is_cornered rule layout e f p ≡ is_cornered rule other e f p
-is_cornered_same rule h x y layout other e f p agree near near' near'' =
-    same_and _ _ _ _ (is_edge_same rule h x y layout other e p agree near near')
-    (ap (has_type rule.corner_types) (agree rule.trigger_plane (moved f 1 (moved (back e) 1 p)) near''))
+    (rule : EdgeRule) (h x y : ℕ) (layout other : Layout) (direction side : Direction) (p : Point) → AgreeNear h x y layout other → IsWithin h x y p
+    → IsWithin h x y (moved (back direction) 1 p) → IsWithin h x y (moved side 1 (moved (back direction) 1 p))
+    → is_cornered rule layout direction side p ≡ is_cornered rule other direction side p
+is_cornered_same rule h x y layout other direction side p agree near near' near'' =
+    same_and _ _ _ _ (is_edge_same rule h x y layout other direction p agree near near')
+    (ap (has_type rule.corner_types) (agree rule.trigger_plane (moved side 1 (moved (back direction) 1 p)) near''))
 
 -- ---- the edges that reach a square
 in_row_same :
-    (rule : EdgeRule) (h x y : ℕ) (layout other : Layout) (e : Direction) → rule.distance ≤ h → AgreeNear h x y layout other
-    → in_row rule layout e (at x y) ≡ in_row rule other e (at x y)
-in_row_same rule h x y layout other e far agree =
-    list_any_same_in_range (λ i. is_edge rule layout e (moved (back e) i (at x y))) (λ i. is_edge rule other e (moved (back e) i (at x y))) 0 rule.distance
-    (λ i above below. is_edge_same rule h x y layout other e (moved (back e) i (at x y)) agree
-    (row_within e i h x y (omega (arith, far, below))) (before_row_within e i h x y (omega (arith, far, below))))
+    (rule : EdgeRule) (h x y : ℕ) (layout other : Layout) (direction : Direction) → rule.distance ≤ h → AgreeNear h x y layout other
+    → in_row rule layout direction (at x y) ≡ in_row rule other direction (at x y)
+in_row_same rule h x y layout other direction far agree =
+    list_any_same_in_range (λ i. is_edge rule layout direction (moved (back direction) i (at x y))) (λ i. is_edge rule other direction (moved (back direction) i (at x y))) 0 rule.distance
+    (λ i above below. is_edge_same rule h x y layout other direction (moved (back direction) i (at x y)) agree
+    (row_within direction i h x y (omega (arith, far, below))) (before_row_within direction i h x y (omega (arith, far, below))))
 
 in_block_same :
-    (rule : EdgeRule) (h x y : ℕ) (layout other : Layout) (e f : Direction) → crosses e f ≡ true → rule.corner_distance ≤ h → AgreeNear h x y layout other
-    → in_block rule layout e (at x y) f ≡ in_block rule other e (at x y) f
-in_block_same rule h x y layout other e f cross far agree =
+    (rule : EdgeRule) (h x y : ℕ) (layout other : Layout) (direction side : Direction) → crosses direction side ≡ true → rule.corner_distance ≤ h → AgreeNear h x y layout other
+    → in_block rule layout direction (at x y) side ≡ in_block rule other direction (at x y) side
+in_block_same rule h x y layout other direction side cross far agree =
     list_any_same_in_range _ _ 0 rule.corner_distance (λ i above below. list_any_same_in_range
-    (λ j. is_cornered rule layout e f (moved (back f) (1 + j) (moved (back e) i (at x y))))
-    (λ j. is_cornered rule other e f (moved (back f) (1 + j) (moved (back e) i (at x y)))) 0 rule.corner_distance
-    (λ j above' below'. is_cornered_same rule h x y layout other e f (moved (back f) (1 + j) (moved (back e) i (at x y))) agree
-    (block_within e f i (1 + j) h x y cross (omega (arith, far, below)) (omega (arith, far, below')))
-    (before_block_within e f i (1 + j) h x y cross (omega (arith, far, below)) (omega (arith, far, below')))
-    (corner_within e f i (1 + j) h x y cross (omega (arith, far, below)) (omega (arith, far, below')))))
+    (λ j. is_cornered rule layout direction side (moved (back side) (1 + j) (moved (back direction) i (at x y))))
+    (λ j. is_cornered rule other direction side (moved (back side) (1 + j) (moved (back direction) i (at x y)))) 0 rule.corner_distance
+    (λ j above' below'. is_cornered_same rule h x y layout other direction side (moved (back side) (1 + j) (moved (back direction) i (at x y))) agree
+    (block_within direction side i (1 + j) h x y cross (omega (arith, far, below)) (omega (arith, far, below')))
+    (before_block_within direction side i (1 + j) h x y cross (omega (arith, far, below)) (omega (arith, far, below')))
+    (corner_within direction side i (1 + j) h x y cross (omega (arith, far, below)) (omega (arith, far, below')))))
 
 reaches_same :
     (rule : EdgeRule) (h x y : ℕ) (layout other : Layout) → rule.distance ≤ h → rule.corner_distance ≤ h → AgreeNear h x y layout other
     → reaches rule layout (at x y) ≡ reaches rule other (at x y)
 unfolding reaches
 reaches_same rule h x y layout other far far' agree =
-    list_any_same (λ e. in_row rule layout e (at x y) || list_any (in_block rule layout e (at x y)) (across e))
-    (λ e. in_row rule other e (at x y) || list_any (in_block rule other e (at x y)) (across e)) (directions_in rule.directions)
-    (λ e. same_or _ _ _ _ (in_row_same rule h x y layout other e far agree)
-    (list_any_same_across e (in_block rule layout e (at x y)) (in_block rule other e (at x y))
-    (λ f cross. in_block_same rule h x y layout other e f cross far' agree)))
+    list_any_same (λ direction. in_row rule layout direction (at x y) || list_any (in_block rule layout direction (at x y)) (across direction))
+    (λ direction. in_row rule other direction (at x y) || list_any (in_block rule other direction (at x y)) (across direction)) (directions_in rule.directions)
+    (λ direction. same_or _ _ _ _ (in_row_same rule h x y layout other direction far agree)
+    (list_any_same_across direction (in_block rule layout direction (at x y)) (in_block rule other direction (at x y))
+    (λ side cross. in_block_same rule h x y layout other direction side cross far' agree)))
 
 -- ---- what rules forbid
 forbids_same :
@@ -91,7 +92,7 @@ some_forbids_same (rule ∷ rules) h x y layout other far agree =
     same_or _ _ _ _ (forbids_same rule h x y layout other (omega (arith, far)) (omega (arith, far)) agree)
     (some_forbids_same rules h x y layout other (omega (arith, far)) agree)
 
--- only the squares within the halo of a square have a say in whether it is forbidden
+-- whether a square is forbidden depends only on the squares within the halo of it
 pub forbidden_same :
     (rules : List EdgeRule) (x y : ℕ) (layout other : Layout) → AgreeNear (halo_of rules) x y layout other → forbidden rules layout x y ≡ forbidden rules other x y
 forbidden_same rules x y layout other agree =
@@ -122,7 +123,7 @@ common_holds a b x y both =
     let lines = holds_between (common a b) x y both in
     between_holds b x y (omega (arith, lines.0)) (omega (arith, lines.1)) (omega (arith, lines.2)) (omega (arith, lines.3))
 
--- of a layout with space outside, the common part of two extents has what the one has
+-- where a layout has space outside one extent, cutting it to the common part of two leaves it the same in the other
 within_common :
     (a outer : Rect) (layout : Layout) → AgreeOutside outer layout (λ plane x y. 0) → AgreeIn a (within (common a outer) layout) layout
 within_common a outer layout space plane x y in_a = elim (cases_Bool (holds outer x y)) [

@@ -15,40 +15,40 @@ pub record IsWithin (h x y : ℕ) (p : Point) : Type 0 where
   pub below : y - h ≤ p.y
   pub above : p.y ≤ y + h
 
--- squares so near to one of a rectangle lie in the rectangle with as many squares more on each side
-pub within_grown : (e : Rect) (h x y : ℕ) (p : Point) → holds e x y ≡ true → IsWithin h x y p → holds (grown h e) p.x p.y ≡ true
-within_grown e h x y p here near =
-    let lines = holds_between e x y here in
-    between_holds (grown h e) p.x p.y (omega (arith, near.left, lines.0)) (omega (arith, near.right, lines.1))
+-- a square within h of one of a rectangle lies in the rectangle grown by h
+pub within_grown : (rect : Rect) (h x y : ℕ) (p : Point) → holds rect x y ≡ true → IsWithin h x y p → holds (grown h rect) p.x p.y ≡ true
+within_grown rect h x y p here near =
+    let lines = holds_between rect x y here in
+    between_holds (grown h rect) p.x p.y (omega (arith, near.left, lines.0)) (omega (arith, near.right, lines.1))
     (omega (arith, near.below, lines.2)) (omega (arith, near.above, lines.3))
 
--- and a square so near to one of a rectangle lies in it too
-pub near_grown : (e : Rect) (h x y : ℕ) (p : Point) → IsWithin h x y p → holds e p.x p.y ≡ true → holds (grown h e) x y ≡ true
-near_grown e h x y p near there =
-    let lines = holds_between e p.x p.y there in
-    between_holds (grown h e) x y (omega (arith, near.right, lines.0)) (omega (arith, near.left, lines.1))
+-- a square that has one of a rectangle within h lies in the rectangle grown by h
+pub near_grown : (rect : Rect) (h x y : ℕ) (p : Point) → IsWithin h x y p → holds rect p.x p.y ≡ true → holds (grown h rect) x y ≡ true
+near_grown rect h x y p near there =
+    let lines = holds_between rect p.x p.y there in
+    between_holds (grown h rect) x y (omega (arith, near.right, lines.0)) (omega (arith, near.left, lines.1))
     (omega (arith, near.above, lines.2)) (omega (arith, near.below, lines.3))
 
--- a square lies within no steps of itself
+-- a square lies within any distance of itself
 pub here_within : (h x y : ℕ) → IsWithin h x y (at x y)
 here_within h x y = record { left = omega arith; right = omega arith; below = omega arith; above = omega arith }
 
--- some steps from the square
-pub row_within : (e : Direction) (i h x y : ℕ) → i ≤ h → IsWithin h x y (moved (back e) i (at x y))
+-- i steps back from the square
+pub row_within : (direction : Direction) (i h x y : ℕ) → i ≤ h → IsWithin h x y (moved (back direction) i (at x y))
 row_within Right i h x y few = record { left = omega arith; right = omega arith; below = omega arith; above = omega arith }
 row_within Up i h x y few = record { left = omega arith; right = omega arith; below = omega arith; above = omega arith }
 row_within Left i h x y few = record { left = omega arith; right = omega arith; below = omega arith; above = omega arith }
 row_within Down i h x y few = record { left = omega arith; right = omega arith; below = omega arith; above = omega arith }
 
--- and one more
-pub before_row_within : (e : Direction) (i h x y : ℕ) → 1 + i ≤ h → IsWithin h x y (moved (back e) 1 (moved (back e) i (at x y)))
+-- i steps back from the square, and one more
+pub before_row_within : (direction : Direction) (i h x y : ℕ) → 1 + i ≤ h → IsWithin h x y (moved (back direction) 1 (moved (back direction) i (at x y)))
 before_row_within Right i h x y few = record { left = omega arith; right = omega arith; below = omega arith; above = omega arith }
 before_row_within Up i h x y few = record { left = omega arith; right = omega arith; below = omega arith; above = omega arith }
 before_row_within Left i h x y few = record { left = omega arith; right = omega arith; below = omega arith; above = omega arith }
 before_row_within Down i h x y few = record { left = omega arith; right = omega arith; below = omega arith; above = omega arith }
 
--- steps in two directions
-pub block_within : (e f : Direction) (i j h x y : ℕ) → crosses e f ≡ true → i ≤ h → j ≤ h → IsWithin h x y (moved (back f) j (moved (back e) i (at x y)))
+-- i steps back in the direction, and j back from the side
+pub block_within : (direction side : Direction) (i j h x y : ℕ) → crosses direction side ≡ true → i ≤ h → j ≤ h → IsWithin h x y (moved (back side) j (moved (back direction) i (at x y)))
 block_within Right Up i j h x y cross few few' = record { left = omega arith; right = omega arith; below = omega arith; above = omega arith }
 block_within Right Down i j h x y cross few few' = record { left = omega arith; right = omega arith; below = omega arith; above = omega arith }
 block_within Left Up i j h x y cross few few' = record { left = omega arith; right = omega arith; below = omega arith; above = omega arith }
@@ -57,11 +57,11 @@ block_within Up Right i j h x y cross few few' = record { left = omega arith; ri
 block_within Up Left i j h x y cross few few' = record { left = omega arith; right = omega arith; below = omega arith; above = omega arith }
 block_within Down Right i j h x y cross few few' = record { left = omega arith; right = omega arith; below = omega arith; above = omega arith }
 block_within Down Left i j h x y cross few few' = record { left = omega arith; right = omega arith; below = omega arith; above = omega arith }
-block_within e f i j h x y cross few few' = absurd (true≢false (sym cross))
+block_within direction side i j h x y cross few few' = absurd (true≢false (sym cross))
 
--- and one more in the first
+-- i steps back in the direction, j back from the side, and one more back in the direction
 pub before_block_within :
-    (e f : Direction) (i j h x y : ℕ) → crosses e f ≡ true → 1 + i ≤ h → j ≤ h → IsWithin h x y (moved (back e) 1 (moved (back f) j (moved (back e) i (at x y))))
+    (direction side : Direction) (i j h x y : ℕ) → crosses direction side ≡ true → 1 + i ≤ h → j ≤ h → IsWithin h x y (moved (back direction) 1 (moved (back side) j (moved (back direction) i (at x y))))
 before_block_within Right Up i j h x y cross few few' = record { left = omega arith; right = omega arith; below = omega arith; above = omega arith }
 before_block_within Right Down i j h x y cross few few' = record { left = omega arith; right = omega arith; below = omega arith; above = omega arith }
 before_block_within Left Up i j h x y cross few few' = record { left = omega arith; right = omega arith; below = omega arith; above = omega arith }
@@ -70,12 +70,12 @@ before_block_within Up Right i j h x y cross few few' = record { left = omega ar
 before_block_within Up Left i j h x y cross few few' = record { left = omega arith; right = omega arith; below = omega arith; above = omega arith }
 before_block_within Down Right i j h x y cross few few' = record { left = omega arith; right = omega arith; below = omega arith; above = omega arith }
 before_block_within Down Left i j h x y cross few few' = record { left = omega arith; right = omega arith; below = omega arith; above = omega arith }
-before_block_within e f i j h x y cross few few' = absurd (true≢false (sym cross))
+before_block_within direction side i j h x y cross few few' = absurd (true≢false (sym cross))
 
--- and one back in the second
+-- the same steps, and one to the side: the square where a corner type may lie
 pub corner_within :
-    (e f : Direction) (i j h x y : ℕ) → crosses e f ≡ true → 1 + i ≤ h → j ≤ h
-    → IsWithin h x y (moved f 1 (moved (back e) 1 (moved (back f) j (moved (back e) i (at x y)))))
+    (direction side : Direction) (i j h x y : ℕ) → crosses direction side ≡ true → 1 + i ≤ h → j ≤ h
+    → IsWithin h x y (moved side 1 (moved (back direction) 1 (moved (back side) j (moved (back direction) i (at x y)))))
 corner_within Right Up i j h x y cross few few' = record { left = omega arith; right = omega arith; below = omega arith; above = omega arith }
 corner_within Right Down i j h x y cross few few' = record { left = omega arith; right = omega arith; below = omega arith; above = omega arith }
 corner_within Left Up i j h x y cross few few' = record { left = omega arith; right = omega arith; below = omega arith; above = omega arith }
@@ -84,4 +84,4 @@ corner_within Up Right i j h x y cross few few' = record { left = omega arith; r
 corner_within Up Left i j h x y cross few few' = record { left = omega arith; right = omega arith; below = omega arith; above = omega arith }
 corner_within Down Right i j h x y cross few few' = record { left = omega arith; right = omega arith; below = omega arith; above = omega arith }
 corner_within Down Left i j h x y cross few few' = record { left = omega arith; right = omega arith; below = omega arith; above = omega arith }
-corner_within e f i j h x y cross few few' = absurd (true≢false (sym cross))
+corner_within direction side i j h x y cross few few' = absurd (true≢false (sym cross))

@@ -9,8 +9,8 @@ use Rattle.mls_checker.specs.Marking.{CanStep, IsNear}
 abbrev square : ℕ → ℕ → Point
 square x y = record { x = x; y = y }
 
--- a square beside a near one allows one step more
-pub stepped : (e : Direction) (x y u v : ℕ) → IsNear x y → square u v ≡ moved (back e) 1 (square x y) → CanStep u v
+-- from the square before a near one, another step is possible
+pub stepped : (direction : Direction) (x y u v : ℕ) → IsNear x y → square u v ≡ moved (back direction) 1 (square x y) → CanStep u v
 stepped Right x y u v near there =
     let column = ap (λ (p : Point). p.x) there in let row = ap (λ (p : Point). p.y) there in
     record { left = omega arith; below = omega arith; right = omega arith; above = omega arith }

@@ -1,4 +1,4 @@
--- Where steps lead, and the squares within the reach of an edge.
+-- Steps back from a square, and the row and the corner blocks that hold it.
 use Rattle.std.proofs.Common.{◌≡◌, ℕ, ◌+◌, ◌-◌, ◌<◌, ◌≤◌, true, true≢false, refl, sym, arith}
 use Rattle.mls_edgerule.specs.declared.direction.Direction.{Direction}
 use Rattle.mls_edgerule.specs.declared.direction.Direction.TheVariants.{Right, Up, Left, Down}
@@ -15,8 +15,8 @@ at x y = record { x = x; y = y }
 pub same_square : (x y a b : ℕ) → x ≡ a → y ≡ b → at x y ≡ at a b
 same_square x y a b columns rows = rw (columns, rows) refl
 
--- a square of the row from p on is some steps from p
-pub row_steps : (e : Direction) (d a b x y : ℕ) → holds (row_from e d (at a b)) x y ≡ true → (i : ℕ) × (i < d) × (moved (back e) i (at x y) ≡ at a b)
+-- p is some steps back from each square of the row that begins at p
+pub row_steps : (direction : Direction) (d a b x y : ℕ) → holds (row_from direction d (at a b)) x y ≡ true → (i : ℕ) × (i < d) × (moved (back direction) i (at x y) ≡ at a b)
 row_steps Right d a b x y here =
     let lines = holds_between (row_from Right d (at a b)) x y here in
     (x - a, omega arith, same_square (x - (x - a)) y a b (omega arith) (omega arith))
@@ -30,17 +30,17 @@ row_steps Down d a b x y here =
     let lines = holds_between (row_from Down d (at a b)) x y here in
     (b - y, omega arith, same_square x (y + (b - y)) a b (omega arith) (omega arith))
 
--- and so many steps on from p are in the row
-pub steps_row : (e : Direction) (d i x y : ℕ) → i < d → holds (row_from e d (moved (back e) i (at x y))) x y ≡ true
+-- a square lies in the row that begins i steps back from it
+pub steps_row : (direction : Direction) (d i x y : ℕ) → i < d → holds (row_from direction d (moved (back direction) i (at x y))) x y ≡ true
 steps_row Right d i x y few = between_holds (row_from Right d (at (x - i) y)) x y (omega arith) (omega arith) (omega arith) (omega arith)
 steps_row Up d i x y few = between_holds (row_from Up d (at x (y - i))) x y (omega arith) (omega arith) (omega arith) (omega arith)
 steps_row Left d i x y few = between_holds (row_from Left d (at (x + i) y)) x y (omega arith) (omega arith) (omega arith) (omega arith)
 steps_row Down d i x y few = between_holds (row_from Down d (at x (y + i))) x y (omega arith) (omega arith) (omega arith) (omega arith)
 
--- a square of the block beside p is some steps from p in both directions
+-- p is some steps back, in the direction and from the side, from each square of its corner block
 pub block_steps :
-    (e f : Direction) (c a b x y : ℕ) → holds (block_beside e f c (at a b)) x y ≡ true
-    → (i : ℕ) × (j : ℕ) × (i < c) × (j < c) × (moved (back f) (1 + j) (moved (back e) i (at x y)) ≡ at a b)
+    (direction side : Direction) (c a b x y : ℕ) → holds (block_beside direction side c (at a b)) x y ≡ true
+    → (i : ℕ) × (j : ℕ) × (i < c) × (j < c) × (moved (back side) (1 + j) (moved (back direction) i (at x y)) ≡ at a b)
 block_steps Right Up c a b x y here =
     let lines = holds_between (block_beside Right Up c (at a b)) x y here in
     (x - a, y - b - 1, omega arith, omega arith, same_square (x - (x - a)) (y - (1 + (y - b - 1))) a b (omega arith) (omega arith))
@@ -65,12 +65,12 @@ block_steps Down Right c a b x y here =
 block_steps Down Left c a b x y here =
     let lines = holds_between (block_beside Down Left c (at a b)) x y here in
     (b - y, a - x - 1, omega arith, omega arith, same_square (x + (1 + (a - x - 1))) (y + (b - y)) a b (omega arith) (omega arith))
-block_steps e f c a b x y here = let lines = holds_between (block_beside e f c (at a b)) x y here in absurd (omega arith)
+block_steps direction side c a b x y here = let lines = holds_between (block_beside direction side c (at a b)) x y here in absurd (omega arith)
 
--- and so many steps on from p are in the block
+-- a square lies in the corner block of the square that is i steps back in the direction and 1 + j back from the side
 pub steps_block :
-    (e f : Direction) (c i j x y : ℕ) → crosses e f ≡ true → 1 ≤ x → 1 ≤ y → i < c → j < c
-    → holds (block_beside e f c (moved (back f) (1 + j) (moved (back e) i (at x y)))) x y ≡ true
+    (direction side : Direction) (c i j x y : ℕ) → crosses direction side ≡ true → 1 ≤ x → 1 ≤ y → i < c → j < c
+    → holds (block_beside direction side c (moved (back side) (1 + j) (moved (back direction) i (at x y)))) x y ≡ true
 steps_block Right Up c i j x y cross left below few few' =
     between_holds (block_beside Right Up c (at (x - i) (y - (1 + j)))) x y (omega arith) (omega arith) (omega arith) (omega arith)
 steps_block Right Down c i j x y cross left below few few' =
@@ -87,4 +87,4 @@ steps_block Down Right c i j x y cross left below few few' =
     between_holds (block_beside Down Right c (at (x - (1 + j)) (y + i))) x y (omega arith) (omega arith) (omega arith) (omega arith)
 steps_block Down Left c i j x y cross left below few few' =
     between_holds (block_beside Down Left c (at (x + (1 + j)) (y + i))) x y (omega arith) (omega arith) (omega arith) (omega arith)
-steps_block e f c i j x y cross left below few few' = absurd (true≢false (sym cross))
+steps_block direction side c i j x y cross left below few few' = absurd (true≢false (sym cross))

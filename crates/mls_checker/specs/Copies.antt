@@ -1,4 +1,4 @@
--- Squares copied from a layout, as the code keeps them.
+-- Squares copied from a layout, as the code stores them.
 use Rattle.std.specs.Prelude.{◌≡◌, ℕ, ◌+◌, ◌-◌, ◌*◌, true, if◌then◌else◌, Option, Some, None, List, length, slice_get}
 use Rattle.std.specs.List.{All}
 use Rattle.std.specs.Option.{unwrap_or}
@@ -6,32 +6,32 @@ use Rattle.mls_geom.specs.Rects.{Rect, IsRectangleIn, holds}
 use Rattle.mls_geom.specs.Pictures.{Picture, empty_picture}
 use Rattle.mls_geom.specs.World.{world}
 use Rattle.mls_geom.specs.declared.piece.Piece.{Piece}
-use Rattle.mls_checker.specs.Layouts.{Layout}
+use Rattle.mls_geom.specs.Layouts.{Layout}
 
--- the kinds of a rectangle's squares, row by row from the bottom, each from the left
-pub record Squares : Type 0 where
+-- the kinds of a rectangle's squares, row by row from the bottom, each row from the left
+pub record Grid : Type 0 where
   pub rect : Rect
   pub kinds : List ℕ
 
 abbrev pub width : Rect → ℕ
-width e = e.right - e.left
+width rect = rect.right - rect.left
 
 abbrev pub height : Rect → ℕ
-height e = e.top - e.bottom
+height rect = rect.top - rect.bottom
 
--- where the square's kind stands in the list
-abbrev pub place_of : Rect → ℕ → ℕ → ℕ
-place_of e x y = (y - e.bottom) * width e + (x - e.left)
+-- the index of the square's kind in the list
+abbrev pub index_of : Rect → ℕ → ℕ → ℕ
+index_of rect x y = (y - rect.bottom) * width rect + (x - rect.left)
 
 -- what the grid shows, and space outside it
-abbrev pub grid_picture : Squares → Picture
-grid_picture grid x y = if holds grid.rect x y then unwrap_or (slice_get grid.kinds (place_of grid.rect x y)) 0 else 0
+abbrev pub grid_picture : Grid → Picture
+grid_picture grid x y = if holds grid.rect x y then unwrap_or (slice_get grid.kinds (index_of grid.rect x y)) 0 else 0
 
--- the grid shows the piece's kind in each square that lies in both
-abbrev pub IsShownBy : Squares → Piece → Type 0
+-- the grid shows the piece's kind in each square that lies in the grid and in the piece
+abbrev pub IsShownBy : Grid → Piece → Type 0
 IsShownBy grid piece = (x y : ℕ) → holds grid.rect x y ≡ true → holds piece.rect x y ≡ true → grid_picture grid x y ≡ piece.kind
 
--- there is a kind for each square
+-- the rectangle lies in the world, and there is one kind for each of its squares
 pub record IsWhole (rect : Rect) (kinds : List ℕ) : Type 0 where
   pub legal : IsRectangleIn world rect
   pub each : length kinds ≡ height rect * width rect
@@ -39,9 +39,10 @@ pub record IsWhole (rect : Rect) (kinds : List ℕ) : Type 0 where
 -- the squares of a zone on each plane
 pub record Snapshot : Type 0 where
   pub zone : Rect
-  pub planes : List Squares
+  pub planes : List Grid
 
-abbrev pub grid_shown : Option Squares → Picture
+-- what the grid of a plane shows, and space where there is no such plane
+abbrev pub grid_shown : Option Grid → Picture
 grid_shown None = empty_picture
 grid_shown (Some grid) = grid_picture grid
 
@@ -49,6 +50,6 @@ grid_shown (Some grid) = grid_picture grid
 abbrev pub copied_layout : Snapshot → Layout
 copied_layout copied plane = grid_shown (slice_get copied.planes plane)
 
--- each plane's squares are those of the zone
-abbrev pub AreOfZone : Rect → List Squares → Type 0
+-- the grid of each plane has the zone as its rectangle
+abbrev pub AreOfZone : Rect → List Grid → Type 0
 AreOfZone zone planes = All (λ grid. grid.rect ≡ zone) planes

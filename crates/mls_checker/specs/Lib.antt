@@ -2,6 +2,6 @@ pub mod Copies
 pub mod Findings
 pub mod Forbids
 pub mod Halos
-pub mod Layouts
 pub mod Marking
 pub mod Reaches
+pub mod ZoneLayouts

@@ -1,19 +1,22 @@
 //! Checking design rules in a copied zone of a layout (Taylor and Ousterhout 1984).
+//!
+//! A [`Snapshot`] copies the squares of a zone on each plane. [`check`] finds the squares of a piece that
+//! the rules forbid, and [`why`] the rules that forbid some square of a rectangle.
 #![tactic(auto)]
 
-mod block;
-mod broken;
+mod any_violation;
+mod edge_scan;
 mod edges;
 mod finding;
+mod grid;
 pub mod laws;
-mod marker;
 mod marks;
+mod reach;
 mod snapshot;
-mod spot;
-mod squares;
-mod walk;
+mod violated;
+mod violation_sink;
 
-pub use broken::why;
 pub use finding::{Finding, check};
 pub use marks::Marks;
 pub use snapshot::Snapshot;
+pub use violated::why;

@@ -1,20 +1,21 @@
 //! Copies of a zone of a layout.
 ghost use Rattle.std.specs.Prelude.{◌≡◌, ◌↔◌, ℕ, ◌<◌, ◌≤◌, ◌==◌, ◌&&◌, nat_lt, nat_le, if◌then◌else◌, IfOk, IsTrue, length};
 ghost use Rattle.mls_checker.specs.Copies.{IsShownBy, copied_layout, grid_picture};
-ghost use Rattle.mls_checker.specs.Layouts.{layout_of, within};
+ghost use Rattle.mls_checker.specs.ZoneLayouts.{within};
+ghost use Rattle.mls_geom.specs.Layouts.{layout_of};
 ghost use Rattle.mls_geom.specs.Rects.{holds};
 ghost use Rattle.mls_geom.specs.Pictures.{picture_of};
 
-use crate::squares::Squares;
+use crate::grid::Grid;
 use mls_geom::{Cover, Piece, Rect};
 use std::alloc::{AllocError, Global};
 use std::marker::Model;
 
-/// The squares of a zone on each plane, as they were when they were read.
+/// The squares of a zone on each plane, as they were when the snapshot was made.
 #[derive(Drop)]
 pub struct Snapshot {
     zone: Rect,
-    planes: Vec<Squares>,
+    planes: Vec<Grid>,
 }
 
 impl Model for Snapshot {
@@ -28,7 +29,7 @@ impl Model for Snapshot {
 }
 
 impl Snapshot {
-    /// Copies the zone.
+    /// Copies the squares of the zone on each plane.
     pub fn read(alloc: Global, planes: &[Cover], zone: Rect) -> Result<Snapshot, AllocError>
         ensures zone { IfOk result (λ s. s.zone ≡ zone) }
         ensures planes { IfOk result (λ s. length s.planes ≡ length planes.now) }
@@ -44,7 +45,7 @@ impl Snapshot {
         })
     }
 
-    /// Whether the zone of the planes still is as it was when it was read.
+    /// Whether there are as many planes as were copied, and each shows in the zone what was copied.
     pub fn same(&self, planes: &[Cover]) -> bool
         ensures { IsTrue result ↔ ((length self.now.planes ≡ length planes.now)
             × (copied_layout self.now ≡ within self.now.zone (layout_of planes.now))) }
@@ -60,105 +61,107 @@ impl Snapshot {
         true
     }
 
-    /// The zone.
+    /// Returns the zone.
     pub fn zone(&self) -> Rect
         ensures { result ≡ self.now.zone }
     {
         self.zone
     }
 
-    /// The type of a square, by its left line and its bottom line; 0 outside the zone.
+    /// Returns the type of a square on a plane, given its column and row; 0 outside the zone, and where
+    /// there is no such plane.
     pub(crate) fn kind_at(&self, plane: u8, x: u32, y: u32) -> u8
         ensures { result ≡ copied_layout self.now plane x y }
     {
         match self.planes.get(usize::from(plane)) {
-            Some(squares) => squares.kind_at(x, y),
+            Some(grid) => grid.kind_at(x, y),
             None => 0,
         }
     }
 }
 
-/// The squares of the zone on one plane.
-fn copy(alloc: Global, cover: &Cover, zone: Rect) -> Result<Squares, AllocError>
-    ensures rect { IfOk result (λ s. s.rect ≡ zone) }
-    ensures picture { IfOk result (λ s. grid_picture s
+/// Copies the squares of the zone on one plane.
+fn copy(alloc: Global, cover: &Cover, zone: Rect) -> Result<Grid, AllocError>
+    ensures rect { IfOk result (λ g. g.rect ≡ zone) }
+    ensures picture { IfOk result (λ g. grid_picture g
         ≡ (λ x y. if holds zone x y then picture_of cover.now.strips x y else 0)) }
 {
-    let mut squares = Squares::new(alloc, zone)?;
+    let mut grid = Grid::new(alloc, zone)?;
     for strip in cover.meeting(zone) {
-        fill(&mut squares, strip);
+        fill(&mut grid, strip);
     }
-    Ok(squares)
+    Ok(grid)
 }
 
-/// Gives the squares of a piece its kind, where they lie in the rectangle.
-fn fill(squares: &mut Squares, piece: Piece)
-    ensures picture { grid_picture squares.new
-        ≡ (λ x y. if holds squares.old.rect x y && holds piece.rect x y then piece.kind
-        else grid_picture squares.old x y) }
-    ensures rect { squares.new.rect ≡ squares.old.rect }
+/// Gives the grid's squares that lie in the piece its kind.
+fn fill(grid: &mut Grid, piece: Piece)
+    ensures picture { grid_picture grid.new
+        ≡ (λ x y. if holds grid.old.rect x y && holds piece.rect x y then piece.kind
+        else grid_picture grid.old x y) }
+    ensures rect { grid.new.rect ≡ grid.old.rect }
 {
-    let Some(part) = squares.rect().clip(piece.rect) else {
+    let Some(part) = grid.rect().clip(piece.rect) else {
         return;
     };
-    for y in part.bottom_line()..part.top_line() {
-        fill_row(squares, part, y, piece.kind);
+    let area = part.area();
+    for y in area.bottom..area.top {
+        fill_row(grid, part, y, piece.kind);
     }
 }
 
-/// Gives the squares of a row a kind, from the left to the right line of a part of the rectangle.
-fn fill_row(squares: &mut Squares, part: Rect, y: u32, kind: u8)
-    requires { (x : ℕ) → part.left ≤ x → x < part.right → IsTrue (holds squares.old.rect x y) }
-    ensures picture { grid_picture squares.new
+/// Gives the squares of one row of a part of the grid a kind.
+fn fill_row(grid: &mut Grid, part: Rect, y: u32, kind: u8)
+    requires { (x : ℕ) → part.left ≤ x → x < part.right → IsTrue (holds grid.old.rect x y) }
+    ensures picture { grid_picture grid.new
         ≡ (λ u v. if nat_le part.left u && nat_lt u part.right && v == y then kind
-        else grid_picture squares.old u v) }
-    ensures rect { squares.new.rect ≡ squares.old.rect }
+        else grid_picture grid.old u v) }
+    ensures rect { grid.new.rect ≡ grid.old.rect }
 {
-    for x in part.left_line()..part.right_line() {
-        squares.put(x, y, kind);
+    let area = part.area();
+    for x in area.left..area.right {
+        grid.put(x, y, kind);
     }
 }
 
-/// Whether the squares are those of the plane.
-fn is_copy(squares: &Squares, cover: &Cover) -> bool
-    ensures { IsTrue result ↔ (grid_picture squares.now
-        ≡ (λ x y. if holds squares.now.rect x y then picture_of cover.now.strips x y else 0)) }
+/// Whether the grid has what the plane shows in its rectangle.
+fn is_copy(grid: &Grid, cover: &Cover) -> bool
+    ensures { IsTrue result ↔ (grid_picture grid.now
+        ≡ (λ x y. if holds grid.now.rect x y then picture_of cover.now.strips x y else 0)) }
 {
-    for strip in cover.meeting(squares.rect()) {
-        if !has_kind(squares, strip) {
+    for strip in cover.meeting(grid.rect()) {
+        if !has_kind(grid, strip) {
             return false;
         }
     }
     true
 }
 
-/// Whether the squares of the piece have its kind, as far as they lie in the rectangle.
-fn has_kind(squares: &Squares, piece: Piece) -> bool
-    ensures { IsTrue result ↔ IsShownBy squares.now piece }
+/// Whether the grid's squares that lie in the piece have its kind.
+fn has_kind(grid: &Grid, piece: Piece) -> bool
+    ensures { IsTrue result ↔ IsShownBy grid.now piece }
 {
-    let Some(part) = squares.rect().clip(piece.rect) else {
+    let Some(part) = grid.rect().clip(piece.rect) else {
         return true;
     };
-    for y in part.bottom_line()..part.top_line() {
-        if !row_has_kind(squares, part, y, piece.kind) {
+    let area = part.area();
+    for y in area.bottom..area.top {
+        if !row_has_kind(grid, part, y, piece.kind) {
             return false;
         }
     }
     true
 }
 
-/// Whether the squares of a row have the kind, from the left to the right line of a rectangle.
-fn row_has_kind(squares: &Squares, part: Rect, y: u32, kind: u8) -> bool
+/// Whether the squares of one row of a part of the grid have the kind.
+fn row_has_kind(grid: &Grid, part: Rect, y: u32, kind: u8) -> bool
     ensures { IsTrue result
-        ↔ ((x : ℕ) → part.left ≤ x → x < part.right → grid_picture squares.now x y ≡ kind) }
+        ↔ ((x : ℕ) → part.left ≤ x → x < part.right → grid_picture grid.now x y ≡ kind) }
 {
-    for x in part.left_line()..part.right_line() {
-        if squares.kind_at(x, y) != kind {
+    let area = part.area();
+    for x in area.left..area.right {
+        if grid.kind_at(x, y) != kind {
             return false;
         }
     }
     true
 }
-
-#[cfg(test)]
-mod tests;

@@ -21,39 +21,39 @@ rules_before-one_more : (rules : List EdgeRule) (rule : EdgeRule) (others : Resu
 rules_before-one_more rules rule (Ok others) = ap Ok (append_assoc rules (rule ∷ []) others)
 rules_before-one_more rules rule (Err fault) = refl
 
--- what compiling gives where these rules were compiled, and these lines are left
+-- the result of compiling, once these rules were compiled and these lines are left
 abbrev pub continued : Tech → List EdgeRule → List RuleLine → Result (List EdgeRule) RuleFault
-continued reading rules lines = rules_before rules (compiled_after reading (length rules) lines)
+continued tech rules lines = rules_before rules (compiled_after tech (length rules) lines)
 
-pub continued-start : (reading : Tech) → continued reading [] reading.rules ≡ compiled reading
+pub continued-start : (tech : Tech) → continued tech [] tech.rules ≡ compiled tech
 unfolding compiled
-continued-start reading = rules_before-none _
+continued-start tech = rules_before-none _
 
-pub continued-end : (reading : Tech) (rules : List EdgeRule) → continued reading rules [] ≡ Ok rules
+pub continued-end : (tech : Tech) (rules : List EdgeRule) → continued tech rules [] ≡ Ok rules
 unfolding compiled_after
-continued-end reading rules = ap Ok (append-nil rules)
+continued-end tech rules = ap Ok (append-nil rules)
 
-after-full : (reading : Tech) (n : ℕ) (line : RuleLine) (lines : List RuleLine) → nat_le 128 n ≡ true → compiled_after reading n (line ∷ lines) ≡ Err (fault_at line TooManyRules)
+after-full : (tech : Tech) (n : ℕ) (line : RuleLine) (lines : List RuleLine) → nat_le 128 n ≡ true → compiled_after tech n (line ∷ lines) ≡ Err (fault_at line TooManyRules)
 unfolding compiled_after
-after-full reading n line lines full = rw full refl
+after-full tech n line lines full = rw full refl
 
-after-room : (reading : Tech) (n : ℕ) (line : RuleLine) (lines : List RuleLine) → nat_le 128 n ≡ false →
-    compiled_after reading n (line ∷ lines) ≡ with_rule line (rule_of reading line.rule) (compiled_after reading (n + 1) lines)
+after-room : (tech : Tech) (n : ℕ) (line : RuleLine) (lines : List RuleLine) → nat_le 128 n ≡ false →
+    compiled_after tech n (line ∷ lines) ≡ with_rule line (rule_of tech line.rule) (compiled_after tech (n + 1) lines)
 unfolding compiled_after
-after-room reading n line lines room = rw room refl
+after-room tech n line lines room = rw room refl
 
 -- at a line among the others
-module _ (reading : Tech) (rules : List EdgeRule) (lines : List RuleLine) (i : ℕ) (line : RuleLine) (inside : i < length lines) (here : line ≡ get_or lines i line) where
+module _ (tech : Tech) (rules : List EdgeRule) (lines : List RuleLine) (i : ℕ) (line : RuleLine) (inside : i < length lines) (here : line ≡ get_or lines i line) where
   lines-from : drop i lines ≡ line ∷ drop (i + 1) lines
   lines-from = drop_more lines i line inside ∙ ap (λ first. first ∷ drop (i + 1) lines) (sym here)
 
-  pub continued-full : nat_le 128 (length rules) ≡ true → continued reading rules (drop i lines) ≡ Err (fault_at line TooManyRules)
-  continued-full full = rw (lines-from, after-full reading (length rules) line (drop (i + 1) lines) full) refl
+  pub continued-full : nat_le 128 (length rules) ≡ true → continued tech rules (drop i lines) ≡ Err (fault_at line TooManyRules)
+  continued-full full = rw (lines-from, after-full tech (length rules) line (drop (i + 1) lines) full) refl
 
-  pub continued-planes : nat_le 128 (length rules) ≡ false → rule_of reading line.rule ≡ None → continued reading rules (drop i lines) ≡ Err (fault_at line Planes)
-  continued-planes room none = rw (lines-from, after-room reading (length rules) line (drop (i + 1) lines) room, none) refl
+  pub continued-planes : nat_le 128 (length rules) ≡ false → rule_of tech line.rule ≡ None → continued tech rules (drop i lines) ≡ Err (fault_at line Planes)
+  continued-planes room none = rw (lines-from, after-room tech (length rules) line (drop (i + 1) lines) room, none) refl
 
-  pub continued-rule : (rule : EdgeRule) → nat_le 128 (length rules) ≡ false → rule_of reading line.rule ≡ Some rule →
-      continued reading rules (drop i lines) ≡ continued reading (rules ++ rule ∷ []) (drop (i + 1) lines)
+  pub continued-rule : (rule : EdgeRule) → nat_le 128 (length rules) ≡ false → rule_of tech line.rule ≡ Some rule →
+      continued tech rules (drop i lines) ≡ continued tech (rules ++ rule ∷ []) (drop (i + 1) lines)
   continued-rule rule room one =
-      rw (lines-from, after-room reading (length rules) line (drop (i + 1) lines) room, one, rules_before-one_more, length-append) refl
+      rw (lines-from, after-room tech (length rules) line (drop (i + 1) lines) room, one, rules_before-one_more, length-append) refl

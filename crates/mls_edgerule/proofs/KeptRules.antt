@@ -6,7 +6,7 @@ use Rattle.std.proofs.lemmas.List.{length-replicate}
 use Rattle.mls_edgerule.specs.RuleLists.{no_rule, padded, KeepsRules}
 use Rattle.mls_edgerule.specs.declared.edge_rule.EdgeRule.{EdgeRule}
 
--- the place behind the rules gets one
+-- a rule fills the place after the others
 pub padded-set : (rules : List EdgeRule) (rule : EdgeRule) → length rules < 128 → slice_set (padded rules) (length rules) rule ≡ padded (rules ++ rule ∷ [])
 padded-set rules rule room =
     let places : 128 - length rules ≡ suc (127 - length rules) = omega arith in

@@ -1,4 +1,4 @@
 pub mod CompiledLines
 pub mod HaloLemmas
 pub mod KeptRules
-pub mod MeetingPlanes
+pub mod OnlyOne

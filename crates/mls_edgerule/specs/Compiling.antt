@@ -1,14 +1,15 @@
--- The edge rules that rule lines stand for (Taylor and Ousterhout 1984: width and spacing as edge rules). The table is this project's own.
+-- The edge rules that rule lines represent (Taylor and Ousterhout 1984: width and spacing as edge rules). The table is this project's own.
 use Rattle.std.specs.Prelude.{ℕ, ◌+◌, nat_le, if◌then◌else◌, Option, Some, None, Result, Ok, Err, List, [], ◌∷◌}
 use Rattle.std.specs.Option.{option_and_then, option_map, unwrap_or}
 use Rattle.mls_tech.specs.Readings.{Tech}
-use Rattle.mls_tech.specs.TypeSets.{common, without}
+use Rattle.mls_kinds.specs.KindSets.{intersection, difference}
 use Rattle.mls_tech.specs.declared.rule.Adjacency.TheVariants.{TouchingOk, TouchingIllegal}
 use Rattle.mls_tech.specs.declared.rule.Edge.{Edge as EdgeWords}
 use Rattle.mls_tech.specs.declared.rule.Rule.{Rule}
 use Rattle.mls_tech.specs.declared.rule.Rule.TheVariants.{Width, Spacing, Edge, Edge4Way}
 use Rattle.mls_tech.specs.declared.rule_line.RuleLine.{RuleLine}
-use Rattle.mls_edgerule.specs.PlaneTypes.{types_on, lies_wholly, home_of, meeting_plane}
+use Rattle.mls_edgerule.specs.PlaneTypes.{types_on, is_on_plane, plane_of_set, trigger_plane}
+use Rattle.mls_edgerule.specs.RuleLists.{rule_limit}
 use Rattle.mls_edgerule.specs.declared.direction.Directions.{Directions}
 use Rattle.mls_edgerule.specs.declared.direction.Directions.TheVariants.{RightAndUp, Four}
 use Rattle.mls_edgerule.specs.declared.edge_rule.EdgeRule.{EdgeRule}
@@ -19,8 +20,8 @@ use Rattle.mls_edgerule.specs.declared.fault.RuleFaultKind.TheVariants.{Planes, 
 -- ---- one rule, on the plane or the planes that were found for it
 -- types S are at least d wide: beyond an edge into S lies S, and beyond a corner of such an edge
 abbrev pub width_rule : Tech → ℕ → ℕ → ℕ → EdgeRule
-width_rule reading set d plane = record {
-  types1 = without (types_on reading plane) set;
+width_rule tech set d plane = record {
+  types1 = difference (types_on tech plane) set;
   types2 = set;
   ok_types = set;
   corner_types = set;
@@ -32,12 +33,12 @@ width_rule reading set d plane = record {
 }
 
 -- types A and B on one plane may touch, and are else at least d apart: beyond an edge from A into neither there is no B
-abbrev pub apart_rule : Tech → ℕ → ℕ → ℕ → ℕ → EdgeRule
-apart_rule reading a b d plane = record {
+abbrev pub touching_ok_rule : Tech → ℕ → ℕ → ℕ → ℕ → EdgeRule
+touching_ok_rule tech a b d plane = record {
   types1 = a;
-  types2 = without (without (types_on reading plane) a) b;
-  ok_types = without (types_on reading plane) b;
-  corner_types = without (without (types_on reading plane) a) b;
+  types2 = difference (difference (types_on tech plane) a) b;
+  ok_types = difference (types_on tech plane) b;
+  corner_types = difference (difference (types_on tech plane) a) b;
   distance = d;
   corner_distance = d;
   directions = Four;
@@ -46,53 +47,50 @@ apart_rule reading a b d plane = record {
 }
 
 -- types A and B may not touch and are at least d apart, on one plane or on two: beyond an edge out of A there is no B
-abbrev pub clear_rule : Tech → ℕ → ℕ → ℕ → ℕ → ℕ → EdgeRule
-clear_rule reading a b d plane other = record {
+abbrev pub touching_illegal_rule : Tech → ℕ → ℕ → ℕ → ℕ → ℕ → EdgeRule
+touching_illegal_rule tech a b d plane check_plane = record {
   types1 = a;
-  types2 = without (types_on reading plane) a;
-  ok_types = without (types_on reading other) b;
-  corner_types = without (types_on reading plane) a;
+  types2 = difference (types_on tech plane) a;
+  ok_types = difference (types_on tech check_plane) b;
+  corner_types = difference (types_on tech plane) a;
   distance = d;
   corner_distance = d;
   directions = Four;
   trigger_plane = plane;
-  check_plane = other;
+  check_plane = check_plane;
 }
 
--- as written, but for types of other planes, which no square of the plane has
-abbrev pub written_rule : Tech → Directions → EdgeWords → ℕ → ℕ → EdgeRule
-written_rule reading directions edge plane other = record {
-  types1 = common edge.types1 (types_on reading plane);
-  types2 = common edge.types2 (types_on reading plane);
-  ok_types = common edge.ok_types (types_on reading other);
-  corner_types = common edge.corner_types (types_on reading plane);
+-- as the line states it, without types of other planes, which no square of the plane has
+abbrev pub edge_line_rule : Tech → Directions → EdgeWords → ℕ → ℕ → EdgeRule
+edge_line_rule tech directions edge plane check_plane = record {
+  types1 = intersection edge.types1 (types_on tech plane);
+  types2 = intersection edge.types2 (types_on tech plane);
+  ok_types = intersection edge.ok_types (types_on tech check_plane);
+  corner_types = intersection edge.corner_types (types_on tech plane);
   distance = edge.distance;
   corner_distance = edge.corner_distance;
   directions = directions;
   trigger_plane = plane;
-  check_plane = other;
+  check_plane = check_plane;
 }
 
--- ---- what a line says, as an edge rule; nothing where its types don't lie on planes as they must
-abbrev pub apart : Tech → ℕ → ℕ → ℕ → ℕ → Option EdgeRule
-apart reading a b d plane = if lies_wholly reading b plane then Some (apart_rule reading a b d plane) else None
+-- ---- the edge rule of a line; none where its types don't lie on planes as they must
+abbrev pub touching_ok : Tech → ℕ → ℕ → ℕ → ℕ → Option EdgeRule
+touching_ok tech a b d plane = if is_on_plane tech b plane then Some (touching_ok_rule tech a b d plane) else None
 
-abbrev pub written : Tech → Directions → EdgeWords → Option EdgeRule
-written reading directions edge =
-    option_map (λ plane. written_rule reading directions edge plane (unwrap_or edge.plane plane)) (meeting_plane reading edge.types1 edge.types2)
+abbrev pub edge_line : Tech → Directions → EdgeWords → Option EdgeRule
+edge_line tech directions edge =
+    option_map (λ plane. edge_line_rule tech directions edge plane (unwrap_or edge.plane plane)) (trigger_plane tech edge.types1 edge.types2)
 
 unfoldable pub rule_of : Tech → Rule → Option EdgeRule
-rule_of reading (Width set d) = option_map (width_rule reading set d) (home_of reading set)
-rule_of reading (Spacing a b d TouchingOk) = option_and_then (apart reading a b d) (home_of reading a)
-rule_of reading (Spacing a b d TouchingIllegal) =
-    option_and_then (λ plane. option_map (clear_rule reading a b d plane) (home_of reading b)) (home_of reading a)
-rule_of reading (Edge edge) = written reading RightAndUp edge
-rule_of reading (Edge4Way edge) = written reading Four edge
+rule_of tech (Width set d) = option_map (width_rule tech set d) (plane_of_set tech set)
+rule_of tech (Spacing a b d TouchingOk) = option_and_then (touching_ok tech a b d) (plane_of_set tech a)
+rule_of tech (Spacing a b d TouchingIllegal) =
+    option_and_then (λ plane. option_map (touching_illegal_rule tech a b d plane) (plane_of_set tech b)) (plane_of_set tech a)
+rule_of tech (Edge edge) = edge_line tech RightAndUp edge
+rule_of tech (Edge4Way edge) = edge_line tech Four edge
 
 -- ---- all lines
-abbrev pub rule_limit : ℕ
-rule_limit = 128
-
 abbrev pub fault_at : RuleLine → RuleFaultKind → RuleFault
 fault_at line kind = record { line = line.line; kind = kind }
 
@@ -107,11 +105,11 @@ with_rule line (Some rule) others = rule_before rule others
 
 -- the rules of the lines from here on, where n lines stand before them, or the first fault
 unfoldable pub compiled_after : Tech → ℕ → List RuleLine → Result (List EdgeRule) RuleFault
-compiled_after reading n [] = Ok []
-compiled_after reading n (line ∷ lines) =
+compiled_after tech n [] = Ok []
+compiled_after tech n (line ∷ lines) =
     if nat_le rule_limit n then Err (fault_at line TooManyRules)
-    else with_rule line (rule_of reading line.rule) (compiled_after reading (n + 1) lines)
+    else with_rule line (rule_of tech line.rule) (compiled_after tech (n + 1) lines)
 
--- each line of the technology gives one rule, in the order of lines
+-- one rule for each line of the technology, in the order of lines
 unfoldable pub compiled : Tech → Result (List EdgeRule) RuleFault
-compiled reading = compiled_after reading 0 reading.rules
+compiled tech = compiled_after tech 0 tech.rules

@@ -2,32 +2,35 @@
 use Rattle.std.specs.Prelude.{ℕ, ◌==◌, Bool, not, ◌&&◌, Option, Some, None, List, [], ◌∷◌, find}
 use Rattle.std.specs.List.{filter, range_with_len}
 use Rattle.mls_tech.specs.Readings.{Tech, lies_on_plane}
-use Rattle.mls_tech.specs.TypeLists.{bits_of}
-use Rattle.mls_tech.specs.TypeSets.{holds, common, without}
+use Rattle.mls_kinds.specs.KindSets.{holds, set_of, intersection, difference}
 
--- the types that lie on the plane, space among them
+-- the types of the plane, space among them
 unfoldable pub types_on : Tech → ℕ → ℕ
-types_on reading plane = bits_of (lies_on_plane reading.type_planes plane)
+types_on tech plane = set_of (lies_on_plane tech.type_planes plane)
 
 abbrev pub planes_of : Tech → List ℕ
-planes_of reading = range_with_len 0 reading.plane_count
+planes_of tech = range_with_len 0 tech.plane_count
 
--- the set has a type, doesn't have space, and each of its types lies on the plane
-abbrev pub lies_wholly : Tech → ℕ → ℕ → Bool
-lies_wholly reading set plane = not (set == 0) && not (holds set 0) && without set (types_on reading plane) == 0
+-- the set isn't empty, is without space, and has only types of the plane
+abbrev pub is_on_plane : Tech → ℕ → ℕ → Bool
+is_on_plane tech set plane = not (set == 0) && not (holds set 0) && difference set (types_on tech plane) == 0
 
--- the plane on which each type of the set lies, where the set has a type and doesn't have space
-unfoldable pub home_of : Tech → ℕ → Option ℕ
-home_of reading set = find (lies_wholly reading set) (planes_of reading)
+-- the plane that has all types of the set, if the set isn't empty and is without space
+unfoldable pub plane_of_set : Tech → ℕ → Option ℕ
+plane_of_set tech set = find (is_on_plane tech set) (planes_of tech)
 
--- some type of the plane is in the set
+-- the set has a type of the plane
 abbrev pub has_member : Tech → ℕ → ℕ → Bool
-has_member reading set plane = not (common set (types_on reading plane) == 0)
+has_member tech set plane = not (intersection set (types_on tech plane) == 0)
 
 abbrev pub only_one : List ℕ → Option ℕ
 only_one (plane ∷ []) = Some plane
 only_one planes = None
 
--- the only plane that has a member of either set
-unfoldable pub meeting_plane : Tech → ℕ → ℕ → Option ℕ
-meeting_plane reading set other = only_one (filter (λ plane. has_member reading set plane && has_member reading other plane) (planes_of reading))
+-- the plane can have an edge between the sets: each has a type of it
+abbrev pub has_edges : Tech → ℕ → ℕ → ℕ → Bool
+has_edges tech set other plane = has_member tech set plane && has_member tech other plane
+
+-- the only plane that can have an edge between the sets
+unfoldable pub trigger_plane : Tech → ℕ → ℕ → Option ℕ
+trigger_plane tech set other = only_one (filter (has_edges tech set other) (planes_of tech))

@@ -2,16 +2,18 @@
 ghost use Rattle.std.specs.Prelude.{◌≡◌};
 ghost use Rattle.mls_tech.specs.declared.rule.Adjacency.TheVariants.{TouchingOk, TouchingIllegal};
 ghost use Rattle.mls_tech.specs.declared.rule.Rule.TheVariants.{Width, Spacing};
-ghost use Rattle.mls_edgerule.specs.Compiling.{compiled, fault_at as fault_at_lem, rule_of as rule_of_lem, width_rule as width_rule_lem, apart_rule as apart_rule_lem, clear_rule as clear_rule_lem, written as written_lem, written_rule as written_rule_lem};
+ghost use Rattle.mls_edgerule.specs.Compiling as spec;
 
-use crate::plane_types::{home_of, lies_wholly, meeting_plane, types_on};
+use crate::plane_types::{is_on_plane, plane_of_set, trigger_plane, types_on};
 use crate::{Directions, EdgeRule, RuleFault, RuleFaultKind, Rules};
-use mls_tech::{Adjacency, Edge, Rule, RuleLine, Tech, TypeSet};
+use mls_kinds::KindSet;
+use mls_tech::{Adjacency, Edge, Rule, RuleLine, Tech};
 
-/// The edge rules of a technology: one for each of its rule lines, in the order of the lines. It takes no
-/// memory.
+/// Compiles the rule lines of a technology: one edge rule for each line, in the order of the lines.
+///
+/// Allocates nothing. Returns the fault of the first line that has one.
 pub fn compile(tech: &Tech) -> Result<Rules, RuleFault>
-    ensures { result ≡ compiled tech.now }
+    ensures { result ≡ spec.compiled tech.now }
 {
     let mut rules = Rules::new();
     let lines = tech.lines();
@@ -27,9 +29,8 @@ pub fn compile(tech: &Tech) -> Result<Rules, RuleFault>
     Ok(rules)
 }
 
-/// The fault of this line.
 fn fault_at(line: &RuleLine, kind: RuleFaultKind) -> RuleFault
-    ensures { result ≡ fault_at_lem line.now kind }
+    ensures { result ≡ spec.fault_at line.now kind }
 {
     RuleFault {
         line: line.line,
@@ -37,58 +38,59 @@ fn fault_at(line: &RuleLine, kind: RuleFaultKind) -> RuleFault
     }
 }
 
-/// What a rule line says, as an edge rule; nothing where its types don't lie on planes as they must.
+/// The edge rule of a rule line, or `None` if its types don't lie on planes as its keyword demands.
 #[tactic(auto, unfolding(crate::specs::Compiling::rule_of))]
 fn rule_of(tech: &Tech, rule: Rule) -> Option<EdgeRule>
-    ensures { result ≡ rule_of_lem tech.now rule }
+    ensures { result ≡ spec.rule_of tech.now rule }
 {
     match rule {
-        Rule::Width(set, distance) => wide(tech, set, distance),
+        Rule::Width(set, distance) => width(tech, set, distance),
         Rule::Spacing(from, to, distance, adjacency) => match adjacency {
-            Adjacency::TouchingOk => apart(tech, from, to, distance),
-            Adjacency::TouchingIllegal => clear(tech, from, to, distance),
+            Adjacency::TouchingOk => touching_ok(tech, from, to, distance),
+            Adjacency::TouchingIllegal => touching_illegal(tech, from, to, distance),
         },
-        Rule::Edge(edge) => written(tech, Directions::RightAndUp, edge),
-        Rule::Edge4Way(edge) => written(tech, Directions::Four, edge),
+        Rule::Edge(edge) => edge_line(tech, Directions::RightAndUp, edge),
+        Rule::Edge4Way(edge) => edge_line(tech, Directions::Four, edge),
     }
 }
 
-/// The rule of a `width` line; nothing where its types don't lie on one plane.
+/// The rule of a `width` line, or `None` if its types don't lie on one plane.
 #[tactic(auto, unfolding(crate::specs::Compiling::rule_of))]
-fn wide(tech: &Tech, set: TypeSet, distance: u8) -> Option<EdgeRule>
-    ensures { result ≡ rule_of_lem tech.now (Width set distance) }
+fn width(tech: &Tech, set: KindSet, distance: u8) -> Option<EdgeRule>
+    ensures { result ≡ spec.rule_of tech.now (Width set distance) }
 {
-    let plane = home_of(tech, set)?;
+    let plane = plane_of_set(tech, set)?;
     Some(width_rule(tech, set, distance, plane))
 }
 
-/// The rule of a `spacing` line with `touching_ok`; nothing where its types don't lie on one plane.
+/// The rule of a `spacing` line with `touching_ok`, or `None` if the types of both lists don't lie on
+/// one plane.
 #[tactic(auto, unfolding(crate::specs::Compiling::rule_of))]
-fn apart(tech: &Tech, from: TypeSet, to: TypeSet, distance: u8) -> Option<EdgeRule>
-    ensures { result ≡ rule_of_lem tech.now (Spacing from to distance TouchingOk) }
+fn touching_ok(tech: &Tech, from: KindSet, to: KindSet, distance: u8) -> Option<EdgeRule>
+    ensures { result ≡ spec.rule_of tech.now (Spacing from to distance TouchingOk) }
 {
-    let plane = home_of(tech, from)?;
-    if !lies_wholly(tech, to, plane) {
+    let plane = plane_of_set(tech, from)?;
+    if !is_on_plane(tech, to, plane) {
         return None;
     }
-    Some(apart_rule(tech, from, to, distance, plane))
+    Some(touching_ok_rule(tech, from, to, distance, plane))
 }
 
-/// The rule of a `spacing` line with `touching_illegal`; nothing where either of its types don't lie on one
-/// plane.
+/// The rule of a `spacing` line with `touching_illegal`, or `None` if the types of either list don't lie
+/// on one plane.
 #[tactic(auto, unfolding(crate::specs::Compiling::rule_of))]
-fn clear(tech: &Tech, from: TypeSet, to: TypeSet, distance: u8) -> Option<EdgeRule>
-    ensures { result ≡ rule_of_lem tech.now (Spacing from to distance TouchingIllegal) }
+fn touching_illegal(tech: &Tech, from: KindSet, to: KindSet, distance: u8) -> Option<EdgeRule>
+    ensures { result ≡ spec.rule_of tech.now (Spacing from to distance TouchingIllegal) }
 {
-    let plane = home_of(tech, from)?;
-    let other = home_of(tech, to)?;
-    Some(clear_rule(tech, from, to, distance, plane, other))
+    let plane = plane_of_set(tech, from)?;
+    let check_plane = plane_of_set(tech, to)?;
+    Some(touching_illegal_rule(tech, from, to, distance, plane, check_plane))
 }
 
-/// A rule that types are so wide at least: beyond an edge into them they lie, and beyond a corner of such
-/// an edge.
-fn width_rule(tech: &Tech, set: TypeSet, distance: u8, plane: u8) -> EdgeRule
-    ensures { result ≡ width_rule_lem tech.now set distance plane }
+/// Demands that the types of the set are `distance` wide: beyond an edge into them, and beyond a corner
+/// of such an edge, there are only they.
+fn width_rule(tech: &Tech, set: KindSet, distance: u8, plane: u8) -> EdgeRule
+    ensures { result ≡ spec.width_rule tech.now set distance plane }
 {
     EdgeRule {
         types1: types_on(tech, plane).difference(set),
@@ -103,10 +105,10 @@ fn width_rule(tech: &Tech, set: TypeSet, distance: u8, plane: u8) -> EdgeRule
     }
 }
 
-/// A rule that types of one plane may touch and are else so far apart at least: beyond an edge from the
-/// first into neither there are none of the others.
-fn apart_rule(tech: &Tech, from: TypeSet, to: TypeSet, distance: u8, plane: u8) -> EdgeRule
-    ensures { result ≡ apart_rule_lem tech.now from to distance plane }
+/// Demands that types of one plane touch or are `distance` apart: beyond an edge from the first into
+/// neither there are none of the others.
+fn touching_ok_rule(tech: &Tech, from: KindSet, to: KindSet, distance: u8, plane: u8) -> EdgeRule
+    ensures { result ≡ spec.touching_ok_rule tech.now from to distance plane }
 {
     let all = types_on(tech, plane);
     let neither = all.difference(from).difference(to);
@@ -123,58 +125,61 @@ fn apart_rule(tech: &Tech, from: TypeSet, to: TypeSet, distance: u8, plane: u8) 
     }
 }
 
-/// A rule that types may not touch and are so far apart at least: beyond an edge out of the first, which
-/// lie on `plane`, there are none of the others, which lie on `other`.
-fn clear_rule(
+/// Demands that types are `distance` apart and don't touch: beyond an edge out of the first, which lie on
+/// `plane`, there are none of the others, which lie on `check_plane`.
+fn touching_illegal_rule(
     tech: &Tech,
-    from: TypeSet,
-    to: TypeSet,
+    from: KindSet,
+    to: KindSet,
     distance: u8,
     plane: u8,
-    other: u8,
+    check_plane: u8,
 ) -> EdgeRule
-    ensures { result ≡ clear_rule_lem tech.now from to distance plane other }
+    ensures { result ≡ spec.touching_illegal_rule tech.now from to distance plane check_plane }
 {
     let outside = types_on(tech, plane).difference(from);
     EdgeRule {
         types1: from,
         types2: outside,
-        ok_types: types_on(tech, other).difference(to),
+        ok_types: types_on(tech, check_plane).difference(to),
         corner_types: outside,
         distance,
         corner_distance: distance,
         directions: Directions::Four,
         trigger_plane: plane,
-        check_plane: other,
+        check_plane,
     }
 }
 
-/// The rule of an `edge` or `edge4way` line; nothing where its edges lie on no plane or on several.
-fn written(tech: &Tech, directions: Directions, edge: Edge) -> Option<EdgeRule>
-    ensures { result ≡ written_lem tech.now directions edge }
+/// The rule of an `edge` or `edge4way` line, or `None` if no plane or several planes have its edges.
+fn edge_line(tech: &Tech, directions: Directions, edge: Edge) -> Option<EdgeRule>
+    ensures { result ≡ spec.edge_line tech.now directions edge }
 {
-    let plane = meeting_plane(tech, edge.types1, edge.types2)?;
-    let other = edge.plane.unwrap_or(plane);
-    Some(written_rule(tech, directions, edge, plane, other))
+    let plane = trigger_plane(tech, edge.types1, edge.types2)?;
+    let check_plane = edge.plane.unwrap_or(plane);
+    Some(edge_line_rule(tech, directions, edge, plane, check_plane))
 }
 
-/// The rule as it is written, but for types of other planes.
-fn written_rule(tech: &Tech, directions: Directions, edge: Edge, plane: u8, other: u8) -> EdgeRule
-    ensures { result ≡ written_rule_lem tech.now directions edge plane other }
+/// The rule as the line states it, without types that its planes don't have.
+fn edge_line_rule(
+    tech: &Tech,
+    directions: Directions,
+    edge: Edge,
+    plane: u8,
+    check_plane: u8,
+) -> EdgeRule
+    ensures { result ≡ spec.edge_line_rule tech.now directions edge plane check_plane }
 {
     let all = types_on(tech, plane);
     EdgeRule {
         types1: edge.types1.intersection(all),
         types2: edge.types2.intersection(all),
-        ok_types: edge.ok_types.intersection(types_on(tech, other)),
+        ok_types: edge.ok_types.intersection(types_on(tech, check_plane)),
         corner_types: edge.corner_types.intersection(all),
         distance: edge.distance,
         corner_distance: edge.corner_distance,
         directions,
         trigger_plane: plane,
-        check_plane: other,
+        check_plane,
     }
 }
-
-#[cfg(test)]
-mod tests;

@@ -1,8 +1,8 @@
 //! The directions in which edge rules look.
 ghost use Rattle.std.specs.Prelude.{◌≡◌};
-ghost use Rattle.mls_edgerule.specs.RuleLists.{across, directions_in};
+ghost use Rattle.mls_edgerule.specs.Directions as spec;
 
-/// A direction: from the first side of an edge to the second.
+/// A direction, across an edge: from its first side to its second.
 #[derive(Clone, Copy, Debug, PartialEq, Eq)]
 pub enum Direction {
     Right,
@@ -12,9 +12,9 @@ pub enum Direction {
 }
 
 impl Direction {
-    /// The two directions across.
+    /// The two directions at right angles.
     pub fn across(self) -> &'static [Direction]
-        ensures { result.now ≡ across self }
+        ensures { result.now ≡ spec.across self }
     {
         match self {
             Direction::Right | Direction::Left => &[Direction::Up, Direction::Down],
@@ -33,7 +33,7 @@ pub enum Directions {
 impl Directions {
     /// The directions one by one.
     pub fn list(self) -> &'static [Direction]
-        ensures { result.now ≡ directions_in self }
+        ensures { result.now ≡ spec.directions_in self }
     {
         match self {
             Directions::RightAndUp => &[Direction::Right, Direction::Up],

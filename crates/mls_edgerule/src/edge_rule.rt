@@ -1,19 +1,21 @@
 //! Compiled rules.
 use crate::Directions;
-use mls_tech::TypeSet;
+use mls_kinds::KindSet;
 
-/// A rule on the edges of a plane (Taylor and Ousterhout 1984). Distances are in squares, from 1 to 100,
-/// and corner distances from 0 to 100; planes are numbered from 0.
+/// A rule on the edges of a plane (Taylor and Ousterhout 1984).
 ///
-/// Where a square of `types2` has a square of `types1` behind it on the trigger plane, the squares from it
-/// on for `distance` have `ok_types` on the check plane; so have those of a block beside them, where the
-/// square diagonally behind has one of `corner_types`.
+/// An edge lies between a square of `types1` and the next one in a direction, of `types2`, on the trigger
+/// plane. There the `distance` squares from the second one on must have `ok_types` on the check plane.
+/// Where the square beside the first one has one of `corner_types`, so must a block beside these, of
+/// `corner_distance` by `corner_distance` squares.
+///
+/// Distances are in squares, from 1 to 100, and corner distances from 0 to 100; planes are numbered from 0.
 #[derive(Clone, Copy, Debug, PartialEq, Eq)]
 pub struct EdgeRule {
-    pub types1: TypeSet,
-    pub types2: TypeSet,
-    pub ok_types: TypeSet,
-    pub corner_types: TypeSet,
+    pub types1: KindSet,
+    pub types2: KindSet,
+    pub ok_types: KindSet,
+    pub corner_types: KindSet,
     pub distance: u8,
     pub corner_distance: u8,
     pub directions: Directions,

@@ -5,26 +5,36 @@ use thiserror::Error;
 
 /// Why a rule line can't be compiled.
 #[derive(Clone, Copy, Debug, PartialEq, Eq, Error)]
+#[error("{}", self.text())]
 pub enum RuleFaultKind {
-    /// The line's types don't lie on planes as its keyword wants.
-    #[error("planes")]
+    /// The line's types don't lie on planes as its keyword demands.
     Planes = 1,
-    #[error("too many rules")]
+    /// The technology has more rules than the limit.
     TooManyRules,
 }
 
 impl RuleFaultKind {
-    ghost use Rattle.mls_edgerule.specs.Faults.{fault_number};
+    ghost use Rattle.mls_edgerule.specs.Faults as spec;
 
     /// The fault's number, 1 or 2.
     pub fn number(self) -> u8
-        ensures { result ≡ fault_number self }
+        ensures { result ≡ spec.rule_fault_number self }
     {
         self as u8
     }
+
+    /// The fault in words.
+    pub fn text(self) -> &'static str
+        ensures { result.now ≡ spec.rule_fault_text self }
+    {
+        match self {
+            RuleFaultKind::Planes => "planes",
+            RuleFaultKind::TooManyRules => "too many rules",
+        }
+    }
 }
 
-/// A fault and the line of the file that has it, from 1.
+/// A fault, and the line of the file that has it, from 1.
 #[derive(Clone, Copy, Debug, PartialEq, Eq, Error)]
 #[error("line {line}: {kind}")]
 pub struct RuleFault {

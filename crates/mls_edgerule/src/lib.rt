@@ -12,4 +12,4 @@ pub use compiling::compile;
 pub use direction::{Direction, Directions};
 pub use edge_rule::EdgeRule;
 pub use fault::{RuleFault, RuleFaultKind};
-pub use rules::{RULE_LIMIT, Rules};
+pub use rules::Rules;

@@ -1,66 +1,66 @@
 //! The types of each plane, and the planes on which sets of types lie.
 ghost use Rattle.std.specs.Prelude.{◌≡◌, ◌&&◌};
-ghost use Rattle.mls_edgerule.specs.PlaneTypes.{types_on as types_on_lem, lies_wholly as lies_wholly_lem, home_of as home_of_lem, has_member as has_member_lem, meeting_plane as meeting_plane_lem};
+ghost use Rattle.mls_edgerule.specs.PlaneTypes as spec;
 
-use mls_tech::{Tech, TypeScope, TypeSet};
+use mls_kinds::KindSet;
+use mls_tech::Tech;
 
-/// How many planes there are.
 fn plane_count(tech: &Tech) -> u8
     ensures { result ≡ tech.now.plane_count }
 {
     tech.planes() as u8
 }
 
-/// The types that lie on the plane, space among them.
+/// The types of the plane, space among them.
 #[tactic(auto, unfolding(crate::specs::PlaneTypes::types_on))]
-pub(crate) fn types_on(tech: &Tech, plane: u8) -> TypeSet
-    ensures { result ≡ types_on_lem tech.now plane }
+pub(crate) fn types_on(tech: &Tech, plane: u8) -> KindSet
+    ensures { result ≡ spec.types_on tech.now plane }
 {
     tech.plane_types(plane)
 }
 
-/// Whether the set has a type, doesn't have space, and each of its types lies on the plane.
-pub(crate) fn lies_wholly(tech: &Tech, set: TypeSet, plane: u8) -> bool
-    ensures { result ≡ lies_wholly_lem tech.now set plane }
+/// Whether the set isn't empty, is without space, and has only types of the plane.
+pub(crate) fn is_on_plane(tech: &Tech, set: KindSet, plane: u8) -> bool
+    ensures { result ≡ spec.is_on_plane tech.now set plane }
 {
     set.bits() != 0 && !set.contains(0) && set.difference(types_on(tech, plane)).bits() == 0
 }
 
-/// The plane on which each type of the set lies, where the set has a type and doesn't have space.
-#[tactic(auto, unfolding(crate::specs::PlaneTypes::home_of))]
-pub(crate) fn home_of(tech: &Tech, set: TypeSet) -> Option<u8>
-    ensures { result ≡ home_of_lem tech.now set }
+/// The plane that has all types of the set, if the set isn't empty and is without space.
+#[tactic(auto, unfolding(crate::specs::PlaneTypes::plane_of_set))]
+pub(crate) fn plane_of_set(tech: &Tech, set: KindSet) -> Option<u8>
+    ensures { result ≡ spec.plane_of_set tech.now set }
 {
-    (0..plane_count(tech)).find(|plane| lies_wholly(tech, set, *plane))
+    (0..plane_count(tech)).find(|plane| is_on_plane(tech, set, *plane))
 }
 
-/// Whether some type of the plane is in the set.
-fn has_member(tech: &Tech, set: TypeSet, plane: u8) -> bool
-    ensures { result ≡ has_member_lem tech.now set plane }
+/// Whether the set has a type of the plane.
+fn has_member(tech: &Tech, set: KindSet, plane: u8) -> bool
+    ensures { result ≡ spec.has_member tech.now set plane }
 {
     set.intersection(types_on(tech, plane)).bits() != 0
 }
 
-/// Whether the plane has a member of either set.
-fn meets(tech: &Tech, set: TypeSet, other: TypeSet, plane: u8) -> bool
-    ensures { result ≡ (has_member_lem tech.now set plane && has_member_lem tech.now other plane) }
+/// Whether the plane can have an edge between the sets: each has a type of it.
+fn has_edges(tech: &Tech, set: KindSet, other: KindSet, plane: u8) -> bool
+    ensures { result ≡ spec.has_edges tech.now set other plane }
 {
     has_member(tech, set, plane) && has_member(tech, other, plane)
 }
 
-/// The only plane that has a member of either set.
-#[tactic(auto, unfolding(crate::specs::PlaneTypes::meeting_plane))]
-pub(crate) fn meeting_plane(tech: &Tech, set: TypeSet, other: TypeSet) -> Option<u8>
-    ensures { result ≡ meeting_plane_lem tech.now set other }
+/// The only plane that can have an edge between the sets, or `None` if there is none or several.
+#[tactic(auto, unfolding(crate::specs::PlaneTypes::trigger_plane))]
+pub(crate) fn trigger_plane(tech: &Tech, set: KindSet, other: KindSet) -> Option<u8>
+    ensures { result ≡ spec.trigger_plane tech.now set other }
 {
-    let mut meeting = None;
+    let mut found = None;
     for plane in 0..plane_count(tech) {
-        if meets(tech, set, other, plane) {
-            if meeting.is_some() {
+        if has_edges(tech, set, other, plane) {
+            if found.is_some() {
                 return None;
             }
-            meeting = Some(plane);
+            found = Some(plane);
         }
     }
-    meeting
+    found
 }

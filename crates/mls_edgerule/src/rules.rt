@@ -1,20 +1,17 @@
 //! Lists of compiled rules.
-ghost use Rattle.std.specs.Prelude.{IsTrue, ◌↔◌, ◌≡◌, ◌≤◌, [], length, ◌<◌, ◌++◌, ◌∷◌, nat_le};
-ghost use Rattle.std.specs.Cmp.{partial_equiv_from_equiv};
-ghost use Rattle.mls_edgerule.specs.SameRules.{same_rules};
-ghost use Rattle.mls_edgerule.specs.SameRuleLaws.{same_rules_equivalence};
+ghost use Rattle.std.specs.Prelude.{◌≡◌, ◌≤◌, [], length, ◌<◌, ◌++◌, ◌∷◌, nat_le};
 ghost use Rattle.mls_edgerule.specs.Halos.{halo_of};
-ghost use Rattle.mls_edgerule.specs.RuleLists.{no_rule as no_rule_value, rule_numbered};
+ghost use Rattle.mls_edgerule.specs.RuleLists as spec;
 
 use crate::{Directions, EdgeRule};
-use mls_tech::TypeSet;
+use mls_kinds::KindSet;
 use std::marker::Model;
 
 /// The most rules that a technology may have.
-pub const RULE_LIMIT: usize = 128;
+const RULE_LIMIT: usize = 128;
 
 /// Compiled rules, at most 128, numbered from 1.
-#[derive(Clone, Copy)]
+#[derive(Clone, Copy, PartialEq, Eq)]
 pub struct Rules {
     rules: [EdgeRule; RULE_LIMIT],
     len: usize,
@@ -36,15 +33,15 @@ impl Model for Rules {
     ghost inverse_ok = { λ value kept i. record { rules = kept.rest i; len = kept.taken i } };
 }
 
-/// What fills the places without a rule.
+/// The content of a place without a rule.
 fn no_rule() -> EdgeRule
-    ensures { result ≡ no_rule_value }
+    ensures { result ≡ spec.no_rule }
 {
     EdgeRule {
-        types1: TypeSet::empty(),
-        types2: TypeSet::empty(),
-        ok_types: TypeSet::empty(),
-        corner_types: TypeSet::empty(),
+        types1: KindSet::empty(),
+        types2: KindSet::empty(),
+        ok_types: KindSet::empty(),
+        corner_types: KindSet::empty(),
         distance: 1,
         corner_distance: 0,
         directions: Directions::RightAndUp,
@@ -67,30 +64,30 @@ impl Rules {
     /// The rules in order.
     pub fn as_slice(&self) -> &[EdgeRule]
         ensures value { result.now ≡ self.now }
-        ensures limit { length self.now ≤ 128 }
+        ensures limit { length self.now ≤ spec.rule_limit }
     {
         &self.rules[..self.len]
     }
 
-    /// Whether there are as many as there may be.
+    /// Whether the list is as long as it may be.
     pub(crate) fn is_full(&self) -> bool
-        ensures { result ≡ nat_le 128 (length self.now) }
+        ensures { result ≡ nat_le spec.rule_limit (length self.now) }
     {
         self.len >= RULE_LIMIT
     }
 
-    /// Adds a rule behind the others.
+    /// Appends a rule.
     pub(crate) fn push(&mut self, rule: EdgeRule)
-        requires { length self.old < 128 }
+        requires { length self.old < spec.rule_limit }
         ensures { self.new ≡ self.old ++ rule ∷ [] }
     {
         self.rules[self.len] = rule;
         self.len += 1;
     }
 
-    /// Rule `n`, from 1.
+    /// Returns rule `n`, from 1.
     pub fn get(&self, n: usize) -> Option<EdgeRule>
-        ensures { result ≡ rule_numbered self.now n }
+        ensures { result ≡ spec.rule_numbered self.now n }
     {
         self.as_slice().get(n.checked_sub(1)?).copied()
     }
@@ -107,21 +104,4 @@ impl Rules {
         }
         reach
     }
-}
-
-impl PartialEq for Rules {
-    ghost eq = { same_rules };
-
-    ghost laws = { partial_equiv_from_equiv same_rules_equivalence };
-
-    fn eq(&self, other: &Self) -> bool
-        ensures value { result ≡ same_rules self.now other.now }
-        ensures equal { IsTrue result ↔ (self.now ≡ other.now) }
-    {
-        self.as_slice() == other.as_slice()
-    }
-}
-
-impl Eq for Rules {
-    ghost laws = { same_rules_equivalence };
 }

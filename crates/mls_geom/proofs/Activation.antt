@@ -6,13 +6,13 @@ use Rattle.std.proofs.lemmas.Bool.{lt-ltb, ltb-true}
 use Rattle.std.proofs.lemmas.List.Elements.{All-append, All-contains, All-filter, All-nil, All-weaker, Contains-append_cases, filter_passes}
 use Rattle.std.proofs.lemmas.List.Sorted.{All-permutation, Contains-permutation, IsPermutation-append_left}
 use Rattle.std.proofs.lemmas.Map.Keys.{IsStrictlyIncreasing-from_distinct}
-use Rattle.mls_geom.specs.ActivePieces.{ArePartedAt, AreStarts, BeginsBelow, EndsFrom, HasPiece, JoinUpTo, NamesPiece, ends_above, pieces_of}
+use Rattle.mls_geom.specs.Sweep.ActivePieces.{ArePartedAt, AreStarts, StartsBelow, EndsFrom, HasPiece, AddsStarted, NamesPiece, ends_above, pieces_of}
 use Rattle.mls_geom.specs.Rects.{Rect, IsRectangleIn}
-use Rattle.mls_geom.specs.Rows.{AreActive}
+use Rattle.mls_geom.specs.Sweep.Rows.{AreActive}
 use Rattle.mls_geom.specs.declared.active.Start.{Start}
 use Rattle.mls_geom.specs.declared.piece.Piece.{Piece}
 use Rattle.mls_geom.proofs.ListLemmas.{All-append_left, All-append_right, Contains-filter_append, IsDistinct-append_left, IsDistinct-filter_append, IsDistinct-moved, IsNonDecreasingBy-append_right, IsSomeAnd-both, IsSomeAnd-const, IsSomeAnd-from_option_map_or, IsSomeAnd-weaker, option_map_or-true, within-from_IsSomeAnd}
-use Rattle.mls_geom.proofs.Starts.{BeginsFrom, HasPiece-all, HasPiece-weaker, JoinUpTo-all, begun_below, start_from_piece, waiting_ahead}
+use Rattle.mls_geom.proofs.Starts.{StartsFrom, HasPiece-all, HasPiece-weaker, AddsStarted-all, started_below, start_from_piece, waiting_ahead}
 
 -- what passes the test ends above the line, and what ends above it passes
 EndsFrom-passed : (pieces : List Piece) (line i : ℕ) → ends_above pieces line i ≡ true → HasPiece pieces (EndsFrom (line + 1)) i
@@ -35,14 +35,14 @@ module _
     (ends : All (HasPiece pieces (EndsFrom (line + 1))) active) where
   squares_from_active : (i : ℕ) → Contains active i → HasPiece pieces (HasSquares line) i
   squares_from_active i held =
-      let begun = All-contains (HasPiece pieces (BeginsBelow (line + 1))) active i parted.begun held in
+      let started = All-contains (HasPiece pieces (StartsBelow (line + 1))) active i parted.started held in
       let ended = All-contains (HasPiece pieces (EndsFrom (line + 1))) active i ends held in
-      IsSomeAnd-both _ (BeginsBelow (line + 1)) (EndsFrom (line + 1)) (HasSquares line) (λ piece below above. (omega arith, omega arith)) begun ended
+      IsSomeAnd-both _ (StartsBelow (line + 1)) (EndsFrom (line + 1)) (HasSquares line) (λ piece below above. (omega arith, omega arith)) started ended
 
   not_waiting : (i : ℕ) → HasPiece pieces (HasSquares line) i → Contains (pieces_of waiting) i → ⊥
   not_waiting i at waits =
-      let ahead = All-contains (HasPiece pieces (BeginsFrom (line + 1))) (pieces_of waiting) i (waiting_ahead (line + 1) pieces waiting parted.named parted.ahead) waits in
-      IsSomeAnd-const _ ⊥ (IsSomeAnd-both _ (HasSquares line) (BeginsFrom (line + 1)) (λ _. ⊥) (λ piece squares from. omega (arith, squares.0)) at ahead)
+      let ahead = All-contains (HasPiece pieces (StartsFrom (line + 1))) (pieces_of waiting) i (waiting_ahead (line + 1) pieces waiting parted.named parted.ahead) waits in
+      IsSomeAnd-const _ ⊥ (IsSomeAnd-both _ (HasSquares line) (StartsFrom (line + 1)) (λ _. ⊥) (λ piece squares from. omega (arith, squares.0)) at ahead)
 
   active_from_squares : (i : ℕ) → HasPiece pieces (HasSquares line) i → Contains active i
   active_from_squares i at =
@@ -61,32 +61,32 @@ module _
 -- at a line those that ended leave, those that begin join, and all are put in order
 module _
     (line : ℕ) (pieces : List Piece) (active joined new : List ℕ) (waiting rest : List Start) (parted : ArePartedAt line pieces active waiting)
-    (join : JoinUpTo line waiting rest (filter (ends_above pieces line) active) joined) (moved : IsPermutation joined new) where
+    (join : AddsStarted line waiting rest (filter (ends_above pieces line) active) joined) (moved : IsPermutation joined new) where
   abbrev kept : List ℕ
   kept = filter (ends_above pieces line) active
 
-  named_parts : All (NamesPiece pieces) (join.begun ++ rest)
+  named_parts : All (NamesPiece pieces) (join.started ++ rest)
   named_parts = subst (All (NamesPiece pieces)) join.parted parted.named
 
   moved_parts : IsPermutation (joined ++ pieces_of rest) (new ++ pieces_of rest)
   moved_parts = IsPermutation-append_left (pieces_of rest) joined new moved
 
   same_parts : kept ++ pieces_of waiting ≡ joined ++ pieces_of rest
-  same_parts = JoinUpTo-all line waiting rest kept joined join
+  same_parts = AddsStarted-all line waiting rest kept joined join
 
   -- what holds of those that stay and of those that begin
-  All-new : (P : ℕ → Type 0) → All P kept → All P (pieces_of join.begun) → All P new
-  All-new P stay begin = All-permutation P joined new moved (rw join.joined (All-append P kept (pieces_of join.begun) stay begin))
+  All-new : (P : ℕ → Type 0) → All P kept → All P (pieces_of join.started) → All P new
+  All-new P stay begin = All-permutation P joined new moved (rw join.joined (All-append P kept (pieces_of join.started) stay begin))
 
   pub ArePartedAt-activate : ArePartedAt (line + 1) pieces new rest
   ArePartedAt-activate =
-      let below = HasPiece-weaker pieces (BeginsBelow line) (BeginsBelow (line + 1)) active (λ piece at. omega arith) parted.begun in
-      let reached = begun_below line pieces join.begun (All-append_left (NamesPiece pieces) join.begun rest named_parts) join.reached in
+      let below = HasPiece-weaker pieces (StartsBelow line) (StartsBelow (line + 1)) active (λ piece at. omega arith) parted.started in
+      let reached = started_below line pieces join.started (All-append_left (NamesPiece pieces) join.started rest named_parts) join.reached in
       record {
-        begun = All-new (HasPiece pieces (BeginsBelow (line + 1))) (All-filter (ends_above pieces line) (HasPiece pieces (BeginsBelow (line + 1))) active below) reached;
-        named = All-append_right (NamesPiece pieces) join.begun rest named_parts;
+        started = All-new (HasPiece pieces (StartsBelow (line + 1))) (All-filter (ends_above pieces line) (HasPiece pieces (StartsBelow (line + 1))) active below) reached;
+        named = All-append_right (NamesPiece pieces) join.started rest named_parts;
         ahead = λ k d within. omega (arith, join.ahead k d within);
-        ordered = IsNonDecreasingBy-append_right (λ start. start.bottom) join.begun rest (subst (IsNonDecreasingBy (λ start. start.bottom)) join.parted parted.ordered);
+        ordered = IsNonDecreasingBy-append_right (λ start. start.bottom) join.started rest (subst (IsNonDecreasingBy (λ start. start.bottom)) join.parted parted.ordered);
         once =
             IsDistinct-moved (joined ++ pieces_of rest) (new ++ pieces_of rest) moved_parts
             (subst (IsDistinct nat_eq) same_parts (IsDistinct-filter_append (ends_above pieces line) active (pieces_of waiting) parted.once));
@@ -101,11 +101,11 @@ module _
   EndsFrom-activate extent legal =
       let Ends : ℕ → Type 0 = HasPiece pieces (EndsFrom (line + 1)) in
       let stay = All-weaker (λ i. ends_above pieces line i ≡ true) Ends (EndsFrom-passed pieces line) kept (filter_passes (ends_above pieces line) active) in
-      let begun_ahead = All-append_left (λ (start : Start). line ≤ start.bottom) join.begun rest (subst (All (λ start. line ≤ start.bottom)) join.parted parted.ahead) in
-      let ahead = waiting_ahead line pieces join.begun (All-append_left (NamesPiece pieces) join.begun rest named_parts) begun_ahead in
-      let begin = All-weaker (HasPiece pieces (BeginsFrom line)) Ends
-      (λ i. HasPiece-all pieces (λ piece. IsRectangleIn extent piece.rect) (BeginsFrom line) (EndsFrom (line + 1)) i legal (λ piece rectangle from. omega (arith, rectangle.tall)))
-      (pieces_of join.begun) ahead in
+      let started_ahead = All-append_left (λ (start : Start). line ≤ start.bottom) join.started rest (subst (All (λ start. line ≤ start.bottom)) join.parted parted.ahead) in
+      let ahead = waiting_ahead line pieces join.started (All-append_left (NamesPiece pieces) join.started rest named_parts) started_ahead in
+      let begin = All-weaker (HasPiece pieces (StartsFrom line)) Ends
+      (λ i. HasPiece-all pieces (λ piece. IsRectangleIn extent piece.rect) (StartsFrom line) (EndsFrom (line + 1)) i legal (λ piece rectangle from. omega (arith, rectangle.tall)))
+      (pieces_of join.started) ahead in
       All-new Ends stay begin
 
 -- up to the next line at which a piece begins nothing changes
@@ -115,7 +115,7 @@ pub ArePartedAt-up :
 ArePartedAt-up line next pieces active waiting parted above between =
     let Rises : Piece → Type 0 = λ piece. line < piece.rect.bottom → next ≤ piece.rect.bottom in
     record {
-      begun = HasPiece-weaker pieces (BeginsBelow (line + 1)) (BeginsBelow next) active (λ piece below. omega arith) parted.begun;
+      started = HasPiece-weaker pieces (StartsBelow (line + 1)) (StartsBelow next) active (λ piece below. omega arith) parted.started;
       named = parted.named;
       ahead = λ k d within. start_from_piece pieces _ Rises _ between (λ piece rises is. omega (arith, is, rises, parted.ahead k d within)) (parted.named k d within);
       ordered = parted.ordered;
@@ -125,11 +125,11 @@ ArePartedAt-up line next pieces active waiting parted above between =
 
 -- at a line below which no piece begins all are waiting
 pub ArePartedAt-starts :
-    (line : ℕ) (pieces : List Piece) (starts : List Start) → AreStarts pieces starts → All (BeginsFrom line) pieces → ArePartedAt line pieces [] starts
+    (line : ℕ) (pieces : List Piece) (starts : List Start) → AreStarts pieces starts → All (StartsFrom line) pieces → ArePartedAt line pieces [] starts
 ArePartedAt-starts line pieces starts all from = record {
-  begun = All-nil (HasPiece pieces (BeginsBelow line));
+  started = All-nil (HasPiece pieces (StartsBelow line));
   named = all.named;
-  ahead = λ k d within. start_from_piece pieces _ (BeginsFrom line) _ from (λ piece at is. omega arith) (all.named k d within);
+  ahead = λ k d within. start_from_piece pieces _ (StartsFrom line) _ from (λ piece at is. omega arith) (all.named k d within);
   ordered = all.ordered;
   once = all.once;
   whole = λ i at. all.whole i (within-from_IsSomeAnd pieces i (EndsFrom line) at);

@@ -9,7 +9,7 @@ use Rattle.std.proofs.lemmas.List.Kept.{AllPairs-from_increasing}
 use Rattle.std.proofs.lemmas.Option.{slice_get_read}
 use Rattle.mls_geom.specs.Rects.{holds}
 use Rattle.mls_geom.specs.Pictures.{Picture, overlaid, painted}
-use Rattle.mls_geom.specs.Rows.{AreActive}
+use Rattle.mls_geom.specs.Sweep.Rows.{AreActive}
 use Rattle.mls_geom.specs.declared.piece.Piece.{Piece}
 use Rattle.mls_geom.proofs.Holds.{holds_between}
 use Rattle.mls_geom.proofs.Overlays.{painted_outside}
@@ -24,10 +24,10 @@ pub active_within : (pieces : List Piece) (y : ℕ) (active : List ℕ) → AreA
 active_within pieces y active meet = λ k d in_list.
     named_within (λ p. (p.rect.bottom ≤ y) × (y < p.rect.top)) pieces (get_or active k d) ((meet.members _).0 (Contains-get_or active k d in_list))
 
--- numbers that ascend are no smaller than their places
-at_least_place : (xs : List ℕ) → IsStrictlyIncreasing xs → (k : ℕ) → k < length xs → k ≤ slice_index xs k
-at_least_place xs ascending zero within = omega arith
-at_least_place xs ascending (suc k) within = omega (arith, at_least_place xs ascending k (omega arith), rw add-one at (ascending k (omega arith)))
+-- ascending numbers are at least their indices
+at_least_index : (xs : List ℕ) → IsStrictlyIncreasing xs → (k : ℕ) → k < length xs → k ≤ slice_index xs k
+at_least_index xs ascending zero within = omega arith
+at_least_index xs ascending (suc k) within = omega (arith, at_least_index xs ascending k (omega arith), rw add-one at (ascending k (omega arith)))
 
 -- no more pieces are active than there are
 pub active_fit : (pieces : List Piece) (y : ℕ) (active : List ℕ) → AreActive pieces y active → length active ≤ length pieces
@@ -35,14 +35,14 @@ active_fit pieces y active meet =
     elim (cases_eq (length active) 0) [
       | inl none ↦ omega arith
       | inr some ↦ (let last = length active - 1 in
-          omega (arith, at_least_place active meet.ascending last (omega arith), active_within pieces y active meet last 0 (omega arith)))
+          omega (arith, at_least_index active meet.ascending last (omega arith), active_within pieces y active meet last 0 (omega arith)))
     ]
 
 -- the pieces of these indices
 abbrev pub pieces_at : List Piece → List ℕ → List Piece
 pieces_at pieces indices = filter_map (slice_get pieces) indices
 
--- the first of those from one place of the indices on
+-- the first of those from one index of the indices on
 pieces_at-more :
     (pieces : List Piece) (indices : List ℕ) (k : ℕ) (piece : Piece) → k < length indices → slice_get pieces (slice_index indices k) ≡ Some piece
     → pieces_at pieces (drop k indices) ≡ piece ∷ pieces_at pieces (drop (k + 1) indices)
@@ -61,9 +61,9 @@ pub IsTurn-from_reverse :
 IsTurn-from_reverse P pieces indices n i piece named turn there read =
     let within : n < length indices = omega (arith, length-reverse indices) in
     let k = length indices - (n + 1) in
-    let place : length indices - 1 - n ≡ k = omega arith in
+    let index : length indices - 1 - n ≡ k = omega arith in
     let next : k + 1 ≡ length indices - n = omega arith in
-    let here = rw place at (sym (get_or-reverse indices n i within) ∙ sym there) in
+    let here = rw index at (sym (get_or-reverse indices n i within) ∙ sym there) in
     let in_list = named_within P pieces i (rw here at (named k i (omega arith))) in
     let is = slice_get_read pieces (length pieces) i piece refl in_list read in
     record {
@@ -112,7 +112,7 @@ module _ (pieces : List Piece) (active : List ℕ) (x y : ℕ) (meet : AreActive
       let (q, in_list, there) = (meet.members i).1 (rw is (between.2, between.3)) in
       absent q in_list (get_or_default active q 0 i in_list ∙ there))
 
-  -- the rest are the pieces from index i on, and the active ones among them are those from place m on
+  -- the rest are the pieces from index i on, and the active ones among them are those from index m on
   overlaid_rest :
       (rest : List Piece) (i m : ℕ) → ((k : ℕ) → slice_get pieces (i + k) ≡ slice_get rest k) → Splits active m i → (below other : Picture)
       → below x y ≡ other x y → overlaid below (pieces_at pieces (drop m active)) x y ≡ overlaid other rest x y

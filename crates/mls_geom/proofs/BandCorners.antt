@@ -3,7 +3,7 @@ use Rattle.std.proofs.Common.{◌≡◌, ℕ, ◌+◌, ◌-◌, ◌<◌, ◌≤�
 use Rattle.std.proofs.lemmas.Bool.{and_parts, and_from, or_from, ne_eqb, and_left, and_right, not_from_true, cases_Bool, cond-false, eqb-true, ltb-true, lt-ltb}
 use Rattle.mls_geom.specs.Rects.{Rect}
 use Rattle.mls_geom.specs.Pictures.{Picture}
-use Rattle.mls_geom.specs.Stacks.{AreAlike, up_to}
+use Rattle.mls_geom.specs.Sweep.Stacks.{AreAlike, up_to}
 use Rattle.mls_geom.specs.Strips.{IsRun}
 use Rattle.mls_geom.specs.TileCounts.{starts_run, goes_on_below, tile_count}
 use Rattle.mls_geom.proofs.CornerCounts.{corner_at, corners_between, sum_by-between, sum_by-first, sum_by-none, tile_count-up_to}

@@ -6,7 +6,7 @@ use Rattle.std.proofs.lemmas.Bool.{cases_lt}
 use Rattle.std.proofs.lemmas.List.{get_or_default}
 use Rattle.std.proofs.lemmas.List.Elements.{All-contains, All-contains_itself, All-more, All-push, All-weaker, Contains-append_left, Contains-push}
 use Rattle.std.proofs.lemmas.Map.Keys.{non_decreasing_from_sorted, sorted_from_strictly_increasing}
-use Rattle.mls_geom.specs.BandLines.{AreBandLines, HaveEnds, HaveEndsOf, IsLineOf}
+use Rattle.mls_geom.specs.Sweep.BandLines.{AreBandLines, HaveEnds, HaveEndsOf, IsLineOf}
 use Rattle.mls_geom.specs.Rects.{Rect, IsRectangleIn}
 use Rattle.mls_geom.specs.declared.piece.Piece.{Piece}
 use Rattle.mls_geom.proofs.BandRows.{IsBand}

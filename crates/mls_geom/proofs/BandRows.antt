@@ -4,7 +4,7 @@ use Rattle.std.proofs.lemmas.Bool.Decides.{nat_tests}
 use Rattle.std.proofs.lemmas.List.Elements.{All-head, All-tail}
 use Rattle.mls_geom.specs.Rects.{Rect, holds}
 use Rattle.mls_geom.specs.Pictures.{Picture, empty_picture, overlaid, painted, picture_of}
-use Rattle.mls_geom.specs.Stacks.{AreAlike}
+use Rattle.mls_geom.specs.Sweep.Stacks.{AreAlike}
 use Rattle.mls_geom.specs.declared.piece.Piece.{Piece}
 
 -- the piece neither begins nor ends between the two lines

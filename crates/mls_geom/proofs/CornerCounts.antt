@@ -6,7 +6,7 @@ use Rattle.std.proofs.lemmas.List.FromFn.{length-range_with_len, get_or-range_wi
 use Rattle.std.proofs.lemmas.List.Sums.{sum_by-append, sum_by-cons, sum_by-le}
 use Rattle.mls_geom.specs.Rects.{Rect}
 use Rattle.mls_geom.specs.Pictures.{Picture}
-use Rattle.mls_geom.specs.Stacks.{AreStacked, up_to}
+use Rattle.mls_geom.specs.Sweep.Stacks.{AreStacked, up_to}
 use Rattle.mls_geom.specs.TileCounts.{is_corner, tile_count}
 
 -- 1 at a corner, and 0 elsewhere

@@ -14,7 +14,7 @@ rises lines ascending i j before within =
       | inr above ↦ (let same : i ≡ j = omega arith in rw same (omega arith))
     ]
 
--- lines stand in the order of their places
+-- lines stand in the order of their indices
 pub before_from_less :
     (lines : List ℕ) → IsStrictlyIncreasing lines → (i j : ℕ) → i < length lines → slice_index lines i < slice_index lines j → i < j
 before_from_less lines ascending i j within less =
@@ -31,12 +31,12 @@ slot_at lines x from (suc n) after before =
       | inr above ↦ (from + n, omega arith, omega arith, above, rw (add-one, ← add-suc) before)
     ]
 
--- a rectangle that reaches from the line at one place to that at another has the squares of the slots from the one place up to the other
-pub holds-places :
+-- a rectangle that reaches from the line at one index to that at another has the squares of the slots from the one index up to the other
+pub holds-indices :
     (lines : List ℕ) (rect : Rect) (from to slot x y : ℕ) → IsStrictlyIncreasing lines → from < length lines → to < length lines → slot + 1 < length lines
     → slice_index lines from ≡ rect.left → slice_index lines to ≡ rect.right → rect.bottom ≤ y → y < rect.top
     → slice_index lines slot ≤ x → x < slice_index lines (slot + 1) → holds rect x y ≡ (nat_le from slot && nat_lt slot to)
-holds-places lines rect from to slot x y ascending from_in to_in slot_in is_left is_right above below after before =
+holds-indices lines rect from to slot x y ascending from_in to_in slot_in is_left is_right above below after before =
     elim (cases_lt slot from) [
       | inl left ↦ (let far = rises lines ascending (slot + 1) from (omega arith) from_in in grind (arith, nat_tests))
       | inr inside ↦ (let near = rises lines ascending from slot inside (omega arith) in

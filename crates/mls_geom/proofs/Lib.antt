@@ -9,7 +9,6 @@ pub mod Corners
 pub mod CutLines
 pub mod Holds
 pub mod Joining
-pub mod KindBits
 pub mod KindsShown
 pub mod Links
 pub mod ListChanges

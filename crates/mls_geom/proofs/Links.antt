@@ -5,7 +5,7 @@ use Rattle.std.proofs.lemmas.Bool.{cases_lt}
 use Rattle.std.proofs.lemmas.Bool.Decides.{nat_tests}
 use Rattle.std.proofs.lemmas.Grind.{common_steps}
 use Rattle.std.proofs.lemmas.List.{length-set}
-use Rattle.mls_geom.specs.Slots.{AreLinks, AreSlots, is_painted, shown}
+use Rattle.mls_geom.specs.Sweep.Slots.{AreLinks, AreSlots, is_painted, slot_kind}
 
 -- a link may lead anywhere to the right, if all slots between are painted
 AreLinks-set :
@@ -17,7 +17,7 @@ AreLinks-set free slot next links within right in_list between = record {
   past_painted = λ k other k_in after before. grind (arith, common_steps, links.past_painted k other, between other);
 }
 
--- a walk has come from one place to another over painted ones, and has painted and freed none
+-- a walk has come from one index to another over painted ones, and has painted and freed none
 pub record HasWalked (start free : List ℕ) (from slot : ℕ) : Type 0 where
   pub links : AreLinks free
   pub painted : (other : ℕ) → is_painted free other ≡ is_painted start other
@@ -49,14 +49,14 @@ HasWalked-further start free from slot walk painted =
       passed = λ other after before. grind (arith, common_steps, walk.passed other, between other);
     }
 
--- the slots from one place up to another are painted as far as a free slot, below what was painted at the start
+-- the slots from one index up to another are painted as far as a free slot, below what was painted at the start
 pub record HasPainted (old_kinds old_free kinds free : List ℕ) (from to kind slot : ℕ) : Type 0 where
   pub slots : AreSlots kinds free
   pub within : slot ≤ length kinds
   pub here : slice_index free slot ≡ slot
   pub at_least : from ≤ slot
-  pub done : (other below : ℕ) → other < slot → shown kinds free other below ≡ shown old_kinds old_free other (if nat_le from other && nat_lt other to then kind else below)
-  pub left : (other below : ℕ) → slot ≤ other → shown kinds free other below ≡ shown old_kinds old_free other below
+  pub done : (other below : ℕ) → other < slot → slot_kind kinds free other below ≡ slot_kind old_kinds old_free other (if nat_le from other && nat_lt other to then kind else below)
+  pub left : (other below : ℕ) → slot ≤ other → slot_kind kinds free other below ≡ slot_kind old_kinds old_free other below
 
 -- one more slot, and the walk to the next free one
 pub HasPainted-more :

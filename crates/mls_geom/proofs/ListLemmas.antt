@@ -1,4 +1,4 @@
--- Lists and what a place in a list holds.
+-- Lists and what an index in a list holds.
 use Rattle.std.proofs.Common.{◌≡◌, ℕ, zero, suc, ◌+◌, ◌<◌, Bool, true, false, nat_eq, List, [], ◌∷◌, ◌++◌, length, slice_get, All, Option, None, Some, refl, sym, ap, subst, ◌∙◌, arith, inl, inr}
 use Rattle.std.specs.List.{AllByRecursion, Contains, IsDistinct, filter, range_with_len}
 use Rattle.std.specs.List.Sorted.{IsNonDecreasingBy, IsPermutation}
@@ -25,7 +25,7 @@ pub IsSomeAnd-const : {X : Type 0} (o : Option X) (P : Type 0) → IsSomeAnd o (
 IsSomeAnd-const None P at = absurd at
 IsSomeAnd-const (Some x) P at = at
 
--- a place that holds a value is within the list
+-- an index that holds a value is within the list
 pub within-from_IsSomeAnd : {X : Type 0} (xs : List X) (i : ℕ) (P : X → Type 0) → IsSomeAnd (slice_get xs i) P → i < length xs
 within-from_IsSomeAnd [] i P at = absurd at
 within-from_IsSomeAnd (x ∷ xs) zero P at = omega arith
@@ -42,7 +42,7 @@ pub IsSomeAnd-from_option_map_or :
 IsSomeAnd-from_option_map_or p None P says passed = cc
 IsSomeAnd-from_option_map_or p (Some x) P says passed = says x passed
 
--- what holds of each element holds of the one at a place
+-- what holds of each element holds of the one at an index
 pub IsSomeAnd-all : {X : Type 0} (xs : List X) (i : ℕ) (P Q : X → Type 0) → All P xs → IsSomeAnd (slice_get xs i) Q → IsSomeAnd (slice_get xs i) P
 IsSomeAnd-all [] i P Q all at = at
 IsSomeAnd-all (x ∷ xs) zero P Q all at = All-head P x xs all
@@ -70,11 +70,11 @@ IsDistinct-append_left xs ys apart = IsDistinct-from_apart nat_eq xs (λ i j d b
 pub IsDistinct-moved : (xs ys : List ℕ) → IsPermutation xs ys → IsDistinct nat_eq xs → IsDistinct nat_eq ys
 IsDistinct-moved xs ys moved apart = IsDistinct-IsPermutation nat_eq (λ x y. grind (arith, nat_tests)) xs ys moved apart
 
--- one place more
+-- one index more
 pub range_with_len_more : (n : ℕ) → range_with_len 0 (n + 1) ≡ range_with_len 0 n ++ n ∷ []
 range_with_len_more n = sym (map-id _) ∙ map-range_with_len_more (λ k. k) 0 n n (omega arith) ∙ ap (λ l. l ++ n ∷ []) (map-id _)
 
--- the places of a list differ
+-- the indices of a list differ
 pub IsDistinct-range_with_len : (a n : ℕ) → IsDistinct nat_eq (range_with_len a n)
 IsDistinct-range_with_len a n = IsDistinct-from_apart nat_eq (range_with_len a n) (λ i j d below within.
     let within_range : j < n = omega (arith, length-range_with_len a n) in

@@ -43,10 +43,10 @@ Agrees x y kind piece = holds piece.rect x y ≡ true → piece.kind ≡ kind
 -- pieces that agree with what shows below change nothing
 pub overlaid_stays :
     (below : Picture) (pieces : List Piece) (x y kind : ℕ) → All (Agrees x y kind) pieces → below x y ≡ kind → overlaid below pieces x y ≡ kind
-overlaid_stays below [] x y kind agree shown = shown
-overlaid_stays below (piece ∷ pieces) x y kind agree shown =
+overlaid_stays below [] x y kind agree below_shows = below_shows
+overlaid_stays below (piece ∷ pieces) x y kind agree below_shows =
     overlaid_stays (painted below piece) pieces x y kind (All-tail (Agrees x y kind) piece pieces agree)
-    (cond_both (holds piece.rect x y) piece.kind (below x y) (λ k. k ≡ kind) (All-head (Agrees x y kind) piece pieces agree) (λ outside. shown))
+    (cond_both (holds piece.rect x y) piece.kind (below x y) (λ k. k ≡ kind) (All-head (Agrees x y kind) piece pieces agree) (λ outside. below_shows))
 
 -- where some piece has the square, and all agree on its kind, that kind shows
 pub overlaid_agreed :

@@ -5,7 +5,7 @@ use Rattle.std.specs.List.Sorted.{IsStrictlyIncreasing}
 use Rattle.std.proofs.lemmas.List.{get_or_default}
 use Rattle.std.proofs.lemmas.List.Elements.{All-contains, All-cons, All-more, All-nil, All-push, Contains-append_left, Contains-get_or, Contains-push}
 use Rattle.mls_geom.specs.Rects.{Rect}
-use Rattle.mls_geom.specs.Slots.{AreBetweenLines, AreCuts, IsBetweenLines}
+use Rattle.mls_geom.specs.Sweep.Slots.{AreBetweenLines, AreCuts, IsBetweenLines}
 use Rattle.mls_geom.specs.declared.piece.Piece.{Piece}
 use Rattle.mls_geom.proofs.CutLines.{rises}
 

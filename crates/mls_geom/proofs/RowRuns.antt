@@ -6,8 +6,8 @@ use Rattle.std.proofs.lemmas.List.{get_or-map, get_or_past, get_or_default, leng
 use Rattle.std.proofs.lemmas.List.Elements.{All-set}
 use Rattle.mls_geom.specs.Rects.{Rect}
 use Rattle.mls_geom.specs.Pictures.{Picture}
-use Rattle.mls_geom.specs.Rows.{AreRuns}
-use Rattle.mls_geom.specs.Stacks.{up_to}
+use Rattle.mls_geom.specs.Sweep.Rows.{AreRuns}
+use Rattle.mls_geom.specs.Sweep.Stacks.{up_to}
 use Rattle.mls_geom.specs.Strips.{IsRun}
 use Rattle.mls_geom.specs.declared.run.Run.{Run}
 use Rattle.mls_geom.proofs.ListChanges.{AllPairs-set, Any-set_kept}

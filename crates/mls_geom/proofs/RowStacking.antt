@@ -7,22 +7,22 @@ use Rattle.std.proofs.lemmas.List.{take_all, take_more_set}
 use Rattle.std.proofs.lemmas.List.Elements.{All-push, All-weaker}
 use Rattle.mls_geom.specs.Rects.{Rect}
 use Rattle.mls_geom.specs.Pictures.{Picture}
-use Rattle.mls_geom.specs.Rows.{AreRuns}
-use Rattle.mls_geom.specs.Stacks.{AreStacked, AreAlike, NameStrips, ReachesUp, StandsOn, begun, raised, up_to}
+use Rattle.mls_geom.specs.Sweep.Rows.{AreRuns}
+use Rattle.mls_geom.specs.Sweep.Stacks.{AreStacked, AreAlike, NameStrips, ReachesUp, StandsOn, new_strip, extended, up_to}
 use Rattle.mls_geom.specs.TileCounts.{tile_count}
 use Rattle.mls_geom.specs.declared.piece.Piece.{Piece}
 use Rattle.mls_geom.specs.declared.run.Run.{Run}
 use Rattle.mls_geom.proofs.ListChanges.{IsSomeAnd-append, IsSomeAnd-push, IsSomeAnd-set, IsSomeAnd-set_same, at_IsSomeAnd}
 use Rattle.mls_geom.proofs.RowRuns.{AreOneRun, AreRuns-alike, AreRuns-set, left_line, left_line-first, left_line-next, left_line-past, left_line-set, left_line-within, named, run_listed}
-use Rattle.mls_geom.proofs.Stacking.{BeginsAt, IsBand, IsPartlyStacked, IsPartlyStacked-begun, IsPartlyStacked-end, IsPartlyStacked-raised, IsPartlyStacked-start, length-lt-tile_count}
+use Rattle.mls_geom.proofs.Stacking.{BeginsAt, IsBand, IsPartlyStacked, IsPartlyStacked-new_strip, IsPartlyStacked-end, IsPartlyStacked-extended, IsPartlyStacked-start, length-lt-tile_count}
 
--- of the band's row the first n runs are stacked, and of the runs below it those before the place are passed
-pub record IsRowStacked (extent : Rect) (picture : Picture) (bottom top : ℕ) (below row : List Run) (place n : ℕ) (strips : List Piece) : Type 0 where
+-- of the band's row the first n runs are stacked, and of the runs below it those before the index are passed
+pub record IsRowStacked (extent : Rect) (picture : Picture) (bottom top : ℕ) (below row : List Run) (index n : ℕ) (strips : List Piece) : Type 0 where
   pub band : IsBand extent picture bottom top
   pub runs : AreRuns extent picture bottom row
   pub runs_below : extent.bottom < bottom → AreRuns extent picture (bottom - 1) below
   pub partly : IsPartlyStacked extent picture bottom top (left_line row n extent.right) strips
-  pub passed : AllWithin (λ under. under.left < left_line row n extent.right) below 0 place
+  pub passed : AllWithin (λ under. under.left < left_line row n extent.right) below 0 index
   pub named : NameStrips top strips (take n row)
   pub named_below : All (λ under. left_line row n extent.right ≤ under.left → IsSomeAnd (slice_get strips under.strip) (ReachesUp bottom under)) below
 
@@ -43,8 +43,8 @@ IsRowStacked-start {bottom} {top} {row} wide from tall stacked runs alike = reco
 
 -- after the last run
 pub IsRowStacked-end :
-    {extent : Rect} {picture : Picture} {bottom top place n : ℕ} {below row : List Run} {strips : List Piece}
-    → IsRowStacked extent picture bottom top below row place n strips → length row ≤ n → AreStacked extent picture top strips row
+    {extent : Rect} {picture : Picture} {bottom top index n : ℕ} {below row : List Run} {strips : List Piece}
+    → IsRowStacked extent picture bottom top below row index n strips → length row ≤ n → AreStacked extent picture top strips row
 IsRowStacked-end {extent} {top} {n} {row} state all =
     let band = state.band in
     let (laid, count) = IsPartlyStacked-end band (rw (left_line-past row n extent.right all) at state.partly) in
@@ -63,8 +63,8 @@ pub record IsStripUnder (bottom : ℕ) (run : Run) (strip : Piece) : Type 0 wher
   pub same : AreOneRun strip.rect.left strip.rect.right strip.kind run.left run.right run.kind
 
 pub IsStripUnder-named :
-    {extent : Rect} {picture : Picture} {bottom top place n : ℕ} {below row : List Run} {strips : List Piece} (d : Run) (at strip : ℕ)
-    → IsRowStacked extent picture bottom top below row place n strips → n < length row
+    {extent : Rect} {picture : Picture} {bottom top index n : ℕ} {below row : List Run} {strips : List Piece} (d : Run) (at strip : ℕ)
+    → IsRowStacked extent picture bottom top below row index n strips → n < length row
     → IsSomeAnd (slice_get below at) (StandsOn (get_or row n d)) → IsSomeAnd (slice_get below at) (λ under. under.strip ≡ strip)
     → (strip < length strips) × HoldsAt (IsStripUnder bottom (get_or row n d)) strips strip
 IsStripUnder-named {extent} {bottom} {n} {below} {row} {strips} d at strip state within stands is =
@@ -83,19 +83,19 @@ IsStripUnder-named {extent} {bottom} {n} {below} {row} {strips} d at strip state
 
 -- the runs passed on the way to a run of the row
 passed_here :
-    {extent : Rect} {picture : Picture} {bottom top place n : ℕ} {below row : List Run} {strips : List Piece} (d : Run) (at : ℕ)
-    → IsRowStacked extent picture bottom top below row place n strips → n < length row
-    → AllWithin (λ under. under.left < (get_or row n d).left) below place at → AllWithin (λ under. under.left < (get_or row n d).left) below 0 at
-passed_here {extent} {place} {n} {row} d at state within passed k e above before = elim (cases_lt k place) [
+    {extent : Rect} {picture : Picture} {bottom top index n : ℕ} {below row : List Run} {strips : List Piece} (d : Run) (at : ℕ)
+    → IsRowStacked extent picture bottom top below row index n strips → n < length row
+    → AllWithin (λ under. under.left < (get_or row n d).left) below index at → AllWithin (λ under. under.left < (get_or row n d).left) below 0 at
+passed_here {extent} {index} {n} {row} d at state within passed k e above before = elim (cases_lt k index) [
   | inl sooner ↦ rw (left_line-within row n extent.right d within) at (state.passed k e above sooner)
   | inr later ↦ passed k e later before
 ]
 
 -- a run that stands on none of those below begins a strip
 pub BeginsAt-found :
-    {extent : Rect} {picture : Picture} {bottom top place n : ℕ} {below row : List Run} {strips : List Piece} (d : Run) (at : ℕ)
-    → IsRowStacked extent picture bottom top below row place n strips → n < length row
-    → AllWithin (λ under. under.left < (get_or row n d).left) below place at → IfSome (slice_get below at) (λ under. (get_or row n d).left ≤ under.left)
+    {extent : Rect} {picture : Picture} {bottom top index n : ℕ} {below row : List Run} {strips : List Piece} (d : Run) (at : ℕ)
+    → IsRowStacked extent picture bottom top below row index n strips → n < length row
+    → AllWithin (λ under. under.left < (get_or row n d).left) below index at → IfSome (slice_get below at) (λ under. (get_or row n d).left ≤ under.left)
     → ¬ (IsSomeAnd (slice_get below at) (StandsOn (get_or row n d))) → BeginsAt extent picture bottom (get_or row n d)
 BeginsAt-found {below} d at state within passed stopped stands_on_none above run_below =
     let list = state.runs_below above in
@@ -124,22 +124,22 @@ named_more top row n run old new within names kept names_own =
     rw (take_more_set row n run within) (All-push (λ p. IsSomeAnd (slice_get new p.strip) (ReachesUp top p)) (take n row) run names_kept names_own)
 
 -- one run more, which goes on with a strip
-pub IsRowStacked-raised :
-    {extent : Rect} {picture : Picture} {bottom top place n : ℕ} {below row : List Run} {strips : List Piece} (d : Run) (e : Piece) (at strip : ℕ)
-    → IsRowStacked extent picture bottom top below row place n strips → n < length row → AllWithin (λ under. under.left < (get_or row n d).left) below place at
+pub IsRowStacked-extended :
+    {extent : Rect} {picture : Picture} {bottom top index n : ℕ} {below row : List Run} {strips : List Piece} (d : Run) (e : Piece) (at strip : ℕ)
+    → IsRowStacked extent picture bottom top below row index n strips → n < length row → AllWithin (λ under. under.left < (get_or row n d).left) below index at
     → strip < length strips → IsStripUnder bottom (get_or row n d) (get_or strips strip e)
-    → IsRowStacked extent picture bottom top below (set row n (named strip (get_or row n d))) at (n + 1) (set strips strip (raised top (get_or strips strip e)))
-IsRowStacked-raised {extent} {bottom} {top} {n} {below} {row} {strips} d e at strip state within passed strip_within under =
+    → IsRowStacked extent picture bottom top below (set row n (named strip (get_or row n d))) at (n + 1) (set strips strip (extended top (get_or strips strip e)))
+IsRowStacked-extended {extent} {bottom} {top} {n} {below} {row} {strips} d e at strip state within passed strip_within under =
     let run = get_or row n d in
     let here = state.runs.each n d within in
     let line = left_line-within row n extent.right d within in
     let next = next_line row n strip d state.runs within in
-    let new = raised top (get_or strips strip e) in
+    let new = extended top (get_or strips strip e) in
     record {
       band = state.band;
       runs = AreRuns-set row n strip d within state.runs;
       runs_below = state.runs_below;
-      partly = rw next (IsPartlyStacked-raised run strip e state.band here (rw line at state.partly) strip_within under.reaches under.same);
+      partly = rw next (IsPartlyStacked-extended run strip e state.band here (rw line at state.partly) strip_within under.reaches under.same);
       passed = rw next (λ k f above before. omega (arith, passed_here d at state within passed k f above before, here.wide));
       named = named_more top row n (named strip run) strips (set strips strip new) within state.named
           (λ p. IsSomeAnd-set (ReachesUp top p) strips strip p.strip new e (λ reaches. record { left = reaches.left; right = reaches.right; top = refl; kind = reaches.kind }))
@@ -151,22 +151,22 @@ IsRowStacked-raised {extent} {bottom} {top} {n} {below} {row} {strips} d e at st
     }
 
 -- one run more, which begins a strip
-pub IsRowStacked-begun :
-    {extent : Rect} {picture : Picture} {bottom top place n : ℕ} {below row : List Run} {strips : List Piece} (d : Run) (at : ℕ)
-    → IsRowStacked extent picture bottom top below row place n strips → n < length row → AllWithin (λ under. under.left < (get_or row n d).left) below place at
+pub IsRowStacked-new_strip :
+    {extent : Rect} {picture : Picture} {bottom top index n : ℕ} {below row : List Run} {strips : List Piece} (d : Run) (at : ℕ)
+    → IsRowStacked extent picture bottom top below row index n strips → n < length row → AllWithin (λ under. under.left < (get_or row n d).left) below index at
     → BeginsAt extent picture bottom (get_or row n d)
-    → IsRowStacked extent picture bottom top below (set row n (named (length strips) (get_or row n d))) at (n + 1) (strips ++ begun bottom top (get_or row n d) ∷ [])
-IsRowStacked-begun {extent} {bottom} {top} {n} {below} {row} {strips} d at state within passed begins =
+    → IsRowStacked extent picture bottom top below (set row n (named (length strips) (get_or row n d))) at (n + 1) (strips ++ new_strip bottom top (get_or row n d) ∷ [])
+IsRowStacked-new_strip {extent} {bottom} {top} {n} {below} {row} {strips} d at state within passed begins =
     let run = get_or row n d in
     let here = state.runs.each n d within in
     let line = left_line-within row n extent.right d within in
     let next = next_line row n (length strips) d state.runs within in
-    let new = begun bottom top run in
+    let new = new_strip bottom top run in
     record {
       band = state.band;
       runs = AreRuns-set row n (length strips) d within state.runs;
       runs_below = state.runs_below;
-      partly = rw next (IsPartlyStacked-begun run state.band here (rw line at state.partly) begins);
+      partly = rw next (IsPartlyStacked-new_strip run state.band here (rw line at state.partly) begins);
       passed = rw next (λ k f above before. omega (arith, passed_here d at state within passed k f above before, here.wide));
       named = named_more top row n (named (length strips) run) strips (strips ++ new ∷ []) within state.named
           (λ p. IsSomeAnd-append (ReachesUp top p) strips (new ∷ []) p.strip)
@@ -177,8 +177,8 @@ IsRowStacked-begun {extent} {bottom} {top} {n} {below} {row} {strips} d at state
 
 -- where one more run begins a strip, there are more strips than are stacked so far
 pub length-lt-tile_count_of_row :
-    {extent : Rect} {picture : Picture} {bottom top place n : ℕ} {below row : List Run} {strips : List Piece} (d : Run)
-    → IsRowStacked extent picture bottom top below row place n strips → n < length row
+    {extent : Rect} {picture : Picture} {bottom top index n : ℕ} {below row : List Run} {strips : List Piece} (d : Run)
+    → IsRowStacked extent picture bottom top below row index n strips → n < length row
     → BeginsAt extent picture bottom (get_or row n d) → length strips < tile_count (up_to top extent) picture
 length-lt-tile_count_of_row {extent} {n} {row} d state within begins =
     length-lt-tile_count (get_or row n d) state.band (state.runs.each n d within) (rw (left_line-within row n extent.right d within) at state.partly) begins

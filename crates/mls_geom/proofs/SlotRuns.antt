@@ -3,30 +3,30 @@ use Rattle.std.proofs.Common.{◌≡◌, ◌≢◌, ℕ, ◌+◌, ◌-◌, ◌<�
 use Rattle.std.proofs.lemmas.List.Kept.{AllPairs-from_increasing}
 use Rattle.mls_geom.specs.Rects.{Rect}
 use Rattle.mls_geom.specs.Pictures.{Picture}
-use Rattle.mls_geom.specs.Slots.{AreCuts, AreSlotKinds}
+use Rattle.mls_geom.specs.Sweep.Slots.{AreCuts, AreSlotKinds}
 use Rattle.mls_geom.specs.Strips.{IsRun}
 use Rattle.mls_geom.proofs.CutLines.{before_from_less, rises, slot_at}
 
-module _ (extent : Rect) (picture : Picture) (y : ℕ) (lines kinds : List ℕ) (cuts : AreCuts extent lines) (shown : AreSlotKinds picture y lines kinds) where
+module _ (extent : Rect) (picture : Picture) (y : ℕ) (lines kinds : List ℕ) (cuts : AreCuts extent lines) (slot_kinds : AreSlotKinds picture y lines kinds) where
   -- the squares on both sides of a line
-  right_of_line : (place : ℕ) → place < length kinds → picture (slice_index lines place) y ≡ slice_index kinds place
-  right_of_line place within =
-      let count = shown.count in
-      shown.each place _ within (omega arith) (cuts.ascending place (omega arith))
+  right_of_line : (index : ℕ) → index < length kinds → picture (slice_index lines index) y ≡ slice_index kinds index
+  right_of_line index within =
+      let count = slot_kinds.count in
+      slot_kinds.each index _ within (omega arith) (cuts.ascending index (omega arith))
 
-  left_of_line : (place : ℕ) → 0 < place → place ≤ length kinds → picture (slice_index lines place - 1) y ≡ slice_index kinds (place - 1)
-  left_of_line place some within =
-      let count = shown.count in
-      let next : place - 1 + 1 ≡ place = omega arith in
-      let wide = rw next at (cuts.ascending (place - 1) (omega arith)) in
-      shown.each (place - 1) _ (omega arith) (omega arith) (rw next (omega arith))
+  left_of_line : (index : ℕ) → 0 < index → index ≤ length kinds → picture (slice_index lines index - 1) y ≡ slice_index kinds (index - 1)
+  left_of_line index some within =
+      let count = slot_kinds.count in
+      let next : index - 1 + 1 ≡ index = omega arith in
+      let wide = rw next at (cuts.ascending (index - 1) (omega arith)) in
+      slot_kinds.each (index - 1) _ (omega arith) (omega arith) (rw next (omega arith))
 
   pub IsRun-from_slots :
       (first end : ℕ) → first < end → end ≤ length kinds → ((slot : ℕ) → first ≤ slot → slot < end → slice_index kinds slot ≡ slice_index kinds first)
       → (0 < first → slice_index kinds first ≢ slice_index kinds (first - 1)) → (end < length kinds → slice_index kinds end ≢ slice_index kinds (end - 1))
       → IsRun extent picture (slice_index lines first) (slice_index lines end) y (slice_index kinds first)
   IsRun-from_slots first end wide within alike starts ends =
-      let count = shown.count in
+      let count = slot_kinds.count in
       record {
         from = omega (arith, cuts.first, rises lines cuts.ascending 0 first (omega arith) (omega arith));
         wide = AllPairs-from_increasing lines cuts.ascending first end 0 wide (omega arith);
@@ -34,7 +34,7 @@ module _ (extent : Rect) (picture : Picture) (y : ℕ) (lines kinds : List ℕ) 
         one_kind = λ x after before.
             (let there : first + (end - first) ≡ end = omega arith in
             let found = slot_at lines x first (end - first) after (rw there before) in
-            shown.each found.0 x (omega (arith, found.2)) found.3 found.4 ∙ alike found.0 found.1 (omega (arith, found.2)));
+            slot_kinds.each found.0 x (omega (arith, found.2)) found.3 found.4 ∙ alike found.0 found.1 (omega (arith, found.2)));
         ends_left = λ inside same.
             (let some = before_from_less lines cuts.ascending 0 first cuts.some (omega (arith, cuts.first)) in
             starts some (sym same ∙ left_of_line first some (omega arith)));

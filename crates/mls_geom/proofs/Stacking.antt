@@ -8,7 +8,7 @@ use Rattle.std.proofs.lemmas.List.Elements.{All-push, All-set}
 use Rattle.std.proofs.lemmas.List.Quantifiers.{any-set, Any-push, all_pairs_push}
 use Rattle.mls_geom.specs.Rects.{Rect, holds}
 use Rattle.mls_geom.specs.Pictures.{Picture}
-use Rattle.mls_geom.specs.Stacks.{AreAlike, up_to, raised, begun}
+use Rattle.mls_geom.specs.Sweep.Stacks.{AreAlike, up_to, extended, new_strip}
 use Rattle.mls_geom.specs.Strips.{AreStrips, IsRun, IsStrip, comes_before}
 use Rattle.mls_geom.specs.TileCounts.{goes_on_below, tile_count}
 use Rattle.mls_geom.specs.declared.piece.Piece.{Piece}
@@ -18,7 +18,7 @@ use Rattle.mls_geom.proofs.CornerCounts.{corners_between}
 use Rattle.mls_geom.proofs.Holds.{holds_between, between_holds}
 use Rattle.mls_geom.proofs.ListChanges.{All-set_others, AllPairs-set, Any-append, Any-set_kept}
 use Rattle.mls_geom.proofs.RowRuns.{AreOneRun, IsRun-alike, both_one_run, IsRun-extent, one_run}
-use Rattle.mls_geom.proofs.StripEnds.{IsStrip-begun, IsStrip-higher, IsStrip-raised, one_bottom}
+use Rattle.mls_geom.proofs.StripEnds.{IsStrip-new_strip, IsStrip-higher, IsStrip-extended, one_bottom}
 
 -- the piece has the square
 abbrev pub HasSquare : ℕ → ℕ → Piece → Type 0
@@ -92,41 +92,41 @@ row_below {extent} {bottom} run strip reaches same =
     let under = IsRun-extent extent bottom (strip.rows (bottom - 1) (omega (arith, strip.tall)) (omega (arith, strip.tall))) in
     (omega (arith, strip.from, strip.tall), rw (same.left, same.right, same.kind) at under)
 
--- a strip has its squares when it is raised, and those up to the new line
-holds_raised : (piece : Piece) (top x y : ℕ) → piece.rect.top ≤ top → HasSquare x y piece → HasSquare x y (raised top piece)
-holds_raised piece top x y up held =
+-- a strip has its squares when it is extended, and those up to the new line
+holds_extended : (piece : Piece) (top x y : ℕ) → piece.rect.top ≤ top → HasSquare x y piece → HasSquare x y (extended top piece)
+holds_extended piece top x y up held =
     let (left, right, bottom, below) = holds_between piece.rect x y held in
-    between_holds (raised top piece).rect x y left right bottom (omega arith)
+    between_holds (extended top piece).rect x y left right bottom (omega arith)
 
 -- the run goes on with a strip
-pub IsPartlyStacked-raised :
+pub IsPartlyStacked-extended :
     {extent : Rect} {picture : Picture} {bottom top : ℕ} {strips : List Piece} (run : Run) (n : ℕ) (d : Piece)
     → IsBand extent picture bottom top → IsRun extent picture run.left run.right bottom run.kind → IsPartlyStacked extent picture bottom top run.left strips
     → n < length strips → (get_or strips n d).rect.top ≡ bottom
     → AreOneRun (get_or strips n d).rect.left (get_or strips n d).rect.right (get_or strips n d).kind run.left run.right run.kind
-    → IsPartlyStacked extent picture bottom top run.right (set strips n (raised top (get_or strips n d)))
-IsPartlyStacked-raised {extent} {picture} {bottom} {top} {strips} run n d band here part within reaches same =
+    → IsPartlyStacked extent picture bottom top run.right (set strips n (extended top (get_or strips n d)))
+IsPartlyStacked-extended {extent} {picture} {bottom} {top} {strips} run n d band here part within reaches same =
     let strip = get_or strips n d in
     let stood = part.to_do n d within (omega (arith, same.left)) in
     let (above, under) = row_below run stood reaches same in
     let goes_on = goes_on_below-IsRun above here under in
-    let held_more = λ (x y : ℕ). holds_raised strip top x y (omega (arith, band.tall)) in
+    let held_more = λ (x y : ℕ). holds_extended strip top x y (omega (arith, band.tall)) in
     record {
-      done = All-set_others (λ strip. strip.rect.left < run.right → IsStrip (up_to top extent) picture strip) strips n (raised top strip) d
-          (λ _. IsStrip-raised extent bottom top band.tall stood reaches (rw (← same.left, ← same.right, ← same.kind) at (rows_of_run band here)))
+      done = All-set_others (λ strip. strip.rect.left < run.right → IsStrip (up_to top extent) picture strip) strips n (extended top strip) d
+          (λ _. IsStrip-extended extent bottom top band.tall stood reaches (rw (← same.left, ← same.right, ← same.kind) at (rows_of_run band here)))
           (λ k inside other before. ends_here run (get_or strips k d) band here (part.done k d inside) (part.to_do k d inside) before
           (λ stands up shared. other (one_strip strips k n d part.ordered inside within stands stood (up ∙ sym reaches) (both_one_run shared same))));
-      to_do = All-set_others (λ strip. run.right ≤ strip.rect.left → IsStrip (up_to bottom extent) picture strip) strips n (raised top strip) d
+      to_do = All-set_others (λ strip. run.right ≤ strip.rect.left → IsStrip (up_to bottom extent) picture strip) strips n (extended top strip) d
           (λ right. absurd (omega (arith, here.wide, same.left)))
           (λ k inside _ right. part.to_do k d inside (omega (arith, here.wide)));
-      low = All-set (λ strip. strip.rect.bottom ≤ bottom) strips n (raised top strip) (part.low n d within) part.low;
-      below = λ x y inside. Any-set_kept (HasSquare x y) strips n (raised top strip) d (held_more x y) (part.below x y inside);
+      low = All-set (λ strip. strip.rect.bottom ≤ bottom) strips n (extended top strip) (part.low n d within) part.low;
+      below = λ x y inside. Any-set_kept (HasSquare x y) strips n (extended top strip) d (held_more x y) (part.below x y inside);
       beside = λ x y left right above under. elim (cases_lt x run.left) [
-        | inl before ↦ Any-set_kept (HasSquare x y) strips n (raised top strip) d (held_more x y) (part.beside x y left before above under)
-        | inr from ↦ any-set (HasSquare x y) strips n (raised top strip) within
-            (between_holds (raised top strip).rect x y (omega (arith, same.left)) (omega (arith, same.right)) (omega (arith, part.low n d within)) under)
+        | inl before ↦ Any-set_kept (HasSquare x y) strips n (extended top strip) d (held_more x y) (part.beside x y left before above under)
+        | inr from ↦ any-set (HasSquare x y) strips n (extended top strip) within
+            (between_holds (extended top strip).rect x y (omega (arith, same.left)) (omega (arith, same.right)) (omega (arith, part.low n d within)) under)
       ];
-      ordered = AllPairs-set (λ p q. IsTrue (comes_before p q)) strips n (raised top strip) d (λ _ before. before) (λ _ before. before) part.ordered;
+      ordered = AllPairs-set (λ p q. IsTrue (comes_before p q)) strips n (extended top strip) d (λ _ before. before) (λ _ before. before) part.ordered;
       count = rw length-set (omega (arith, part.count, rw goes_on at (corners_between-run here)));
     }
 
@@ -140,10 +140,10 @@ corner_begins {extent} {picture} {bottom} run here begins =
     rw ends_below at (corners_between-run here)
 
 -- a strip that begins with a run of the band comes after those before it
-begun_last :
+new_strip_last :
     (bottom top : ℕ) (run : Run) (piece : Piece) → piece.rect.bottom ≤ bottom → (run.left ≤ piece.rect.left → piece.rect.bottom < bottom)
-    → IsTrue (comes_before piece (begun bottom top run))
-begun_last bottom top run piece low lower = elim (cases_lt piece.rect.left run.left) [
+    → IsTrue (comes_before piece (new_strip bottom top run))
+new_strip_last bottom top run piece low lower = elim (cases_lt piece.rect.left run.left) [
   | inl left ↦ grind (arith, nat_tests)
   | inr from ↦
       let under = lower from in
@@ -151,17 +151,17 @@ begun_last bottom top run piece low lower = elim (cases_lt piece.rect.left run.l
 ]
 
 -- the run begins a strip
-pub IsPartlyStacked-begun :
+pub IsPartlyStacked-new_strip :
     {extent : Rect} {picture : Picture} {bottom top : ℕ} {strips : List Piece} (run : Run)
     → IsBand extent picture bottom top → IsRun extent picture run.left run.right bottom run.kind → IsPartlyStacked extent picture bottom top run.left strips
-    → BeginsAt extent picture bottom run → IsPartlyStacked extent picture bottom top run.right (strips ++ begun bottom top run ∷ [])
-IsPartlyStacked-begun {extent} {picture} {bottom} {top} {strips} run band here part begins =
-    let strip = begun bottom top run in
+    → BeginsAt extent picture bottom run → IsPartlyStacked extent picture bottom top run.right (strips ++ new_strip bottom top run ∷ [])
+IsPartlyStacked-new_strip {extent} {picture} {bottom} {top} {strips} run band here part begins =
+    let strip = new_strip bottom top run in
     record {
       done = All-push (λ strip. strip.rect.left < run.right → IsStrip (up_to top extent) picture strip) strips strip
           (λ k d inside before. ends_here run (get_or strips k d) band here (part.done k d inside) (part.to_do k d inside) before
           (λ stands reaches same. (let (above, under) = row_below run stands reaches same in begins above under)))
-          (λ _. IsStrip-begun extent run bottom top band.from band.tall (rows_of_run band here) begins);
+          (λ _. IsStrip-new_strip extent run bottom top band.from band.tall (rows_of_run band here) begins);
       to_do = All-push (λ strip. run.right ≤ strip.rect.left → IsStrip (up_to bottom extent) picture strip) strips strip
           (λ k d inside right. part.to_do k d inside (omega (arith, here.wide)))
           (λ right. absurd (omega (arith, here.wide)));
@@ -171,7 +171,7 @@ IsPartlyStacked-begun {extent} {picture} {bottom} {top} {strips} run band here p
         | inl before ↦ Any-append (HasSquare x y) strips (strip ∷ []) (part.beside x y left before above under)
         | inr from ↦ Any-push (HasSquare x y) strips strip (between_holds strip.rect x y from right above under)
       ];
-      ordered = all_pairs_push (λ p q. IsTrue (comes_before p q)) strips strip part.ordered (λ k d inside. begun_last bottom top run (get_or strips k d) (part.low k d inside) (λ from. omega (arith, (part.to_do k d inside from).tall, (part.to_do k d inside from).to)));
+      ordered = all_pairs_push (λ p q. IsTrue (comes_before p q)) strips strip part.ordered (λ k d inside. new_strip_last bottom top run (get_or strips k d) (part.low k d inside) (λ from. omega (arith, (part.to_do k d inside from).tall, (part.to_do k d inside from).to)));
       count = rw length_push (omega (arith, part.count, corner_begins run here begins));
     }
 

@@ -8,28 +8,28 @@ use Rattle.std.proofs.lemmas.List.Elements.{All-map, All-push, All-weaker}
 use Rattle.std.proofs.lemmas.List.FromFn.{length-range_with_len, get_or-range_with_len}
 use Rattle.std.proofs.lemmas.List.Sorted.{All-permutation, Contains-permutation, IsPermutation-map, length_permutation}
 use Rattle.std.proofs.lemmas.Option.{slice_get_read}
-use Rattle.mls_geom.specs.ActivePieces.{AreStarts, BeginsBelow, HasPiece, JoinUpTo, NamesPiece, pieces_of}
+use Rattle.mls_geom.specs.Sweep.ActivePieces.{AreStarts, StartsBelow, HasPiece, AddsStarted, NamesPiece, pieces_of}
 use Rattle.mls_geom.specs.declared.active.Start.{Start}
 use Rattle.mls_geom.specs.declared.piece.Piece.{Piece}
 use Rattle.mls_geom.proofs.ListLemmas.{IsDistinct-moved, IsDistinct-range_with_len, IsSomeAnd-all, IsSomeAnd-both, IsSomeAnd-const, IsSomeAnd-weaker, range_with_len_more}
 
 -- the piece begins at the line or above it
-abbrev pub BeginsFrom : ℕ → Piece → Type 0
-BeginsFrom line piece = line ≤ piece.rect.bottom
+abbrev pub StartsFrom : ℕ → Piece → Type 0
+StartsFrom line piece = line ≤ piece.rect.bottom
 
--- what follows for the pieces at some places
+-- what follows for the pieces at some indices
 pub HasPiece-weaker :
-    (pieces : List Piece) (P Q : Piece → Type 0) (places : List ℕ) → ((piece : Piece) → P piece → Q piece) → All (HasPiece pieces P) places
-    → All (HasPiece pieces Q) places
-HasPiece-weaker pieces P Q places weaker = All-weaker (HasPiece pieces P) (HasPiece pieces Q) (λ i. IsSomeAnd-weaker (slice_get pieces i) P Q weaker) places
+    (pieces : List Piece) (P Q : Piece → Type 0) (indices : List ℕ) → ((piece : Piece) → P piece → Q piece) → All (HasPiece pieces P) indices
+    → All (HasPiece pieces Q) indices
+HasPiece-weaker pieces P Q indices weaker = All-weaker (HasPiece pieces P) (HasPiece pieces Q) (λ i. IsSomeAnd-weaker (slice_get pieces i) P Q weaker) indices
 
--- what follows for the piece at a place from what holds of all
+-- what follows for the piece at an index from what holds of all
 pub HasPiece-all :
     (pieces : List Piece) (P Q R : Piece → Type 0) (i : ℕ) → All P pieces → ((piece : Piece) → P piece → Q piece → R piece) → HasPiece pieces Q i
     → HasPiece pieces R i
 HasPiece-all pieces P Q R i all both at = IsSomeAnd-both (slice_get pieces i) P Q R both (IsSomeAnd-all pieces i P Q all at) at
 
--- the start of the piece at a place
+-- the start of the piece at an index
 NamesPiece-at :
     (pieces : List Piece) (i bottom : ℕ) (piece : Piece) → i < length pieces → piece ≡ get_or pieces i piece → bottom ≡ piece.rect.bottom
     → NamesPiece pieces (record { bottom = bottom; piece = i })
@@ -83,23 +83,23 @@ pieces_from_starts pieces starts P named says =
 
 pub waiting_ahead :
     (line : ℕ) (pieces : List Piece) (waiting : List Start) → All (NamesPiece pieces) waiting → All (λ start. line ≤ start.bottom) waiting
-    → All (HasPiece pieces (BeginsFrom line)) (pieces_of waiting)
+    → All (HasPiece pieces (StartsFrom line)) (pieces_of waiting)
 waiting_ahead line pieces waiting = pieces_from_starts pieces waiting (λ bottom. line ≤ bottom)
 
-pub begun_below :
-    (line : ℕ) (pieces : List Piece) (begun : List Start) → All (NamesPiece pieces) begun → All (λ start. start.bottom ≤ line) begun
-    → All (HasPiece pieces (BeginsBelow (line + 1))) (pieces_of begun)
-begun_below line pieces begun named reached =
-    HasPiece-weaker pieces (λ piece. piece.rect.bottom ≤ line) (BeginsBelow (line + 1)) (pieces_of begun) (λ piece at. omega arith)
-    (pieces_from_starts pieces begun (λ bottom. bottom ≤ line) named reached)
+pub started_below :
+    (line : ℕ) (pieces : List Piece) (started : List Start) → All (NamesPiece pieces) started → All (λ start. start.bottom ≤ line) started
+    → All (HasPiece pieces (StartsBelow (line + 1))) (pieces_of started)
+started_below line pieces started named reached =
+    HasPiece-weaker pieces (λ piece. piece.rect.bottom ≤ line) (StartsBelow (line + 1)) (pieces_of started) (λ piece at. omega arith)
+    (pieces_from_starts pieces started (λ bottom. bottom ≤ line) named reached)
 
 -- what a search for the line in the starts parts
-pub JoinUpTo-partition :
+pub AddsStarted-partition :
     (line : ℕ) (waiting : List Start) (reached : ℕ) (old new : List ℕ) → reached ≤ length waiting
     → IsPartitionPoint (λ start. leb start.bottom line ≡ true) (λ start. leb start.bottom line ≡ false) waiting reached
-    → new ≡ old ++ pieces_of (take reached waiting) → JoinUpTo line waiting (drop reached waiting) old new
-JoinUpTo-partition line waiting reached old new within parts joined = record {
-  begun = take reached waiting;
+    → new ≡ old ++ pieces_of (take reached waiting) → AddsStarted line waiting (drop reached waiting) old new
+AddsStarted-partition line waiting reached old new within parts joined = record {
+  started = take reached waiting;
   parted = sym (take-append-drop reached waiting);
   joined = joined;
   reached = λ k d in_front.
@@ -110,7 +110,7 @@ JoinUpTo-partition line waiting reached old new within parts joined = record {
 }
 
 -- those that joined and those that wait are those that waited
-pub JoinUpTo-all :
-    (line : ℕ) (waiting rest : List Start) (old new : List ℕ) → JoinUpTo line waiting rest old new → old ++ pieces_of waiting ≡ new ++ pieces_of rest
-JoinUpTo-all line waiting rest old new join =
-    rw (join.parted, join.joined, map-append (λ (start : Start). start.piece) join.begun rest) (sym (append_assoc old (pieces_of join.begun) (pieces_of rest)))
+pub AddsStarted-all :
+    (line : ℕ) (waiting rest : List Start) (old new : List ℕ) → AddsStarted line waiting rest old new → old ++ pieces_of waiting ≡ new ++ pieces_of rest
+AddsStarted-all line waiting rest old new join =
+    rw (join.parted, join.joined, map-append (λ (start : Start). start.piece) join.started rest) (sym (append_assoc old (pieces_of join.started) (pieces_of rest)))

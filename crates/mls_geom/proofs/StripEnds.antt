@@ -3,7 +3,7 @@ use Rattle.std.proofs.Common.{◌≡◌, ℕ, ◌-◌, ◌<◌, ◌≤◌, inl, 
 use Rattle.std.proofs.lemmas.Bool.{cases_lt}
 use Rattle.mls_geom.specs.Rects.{Rect}
 use Rattle.mls_geom.specs.Pictures.{Picture}
-use Rattle.mls_geom.specs.Stacks.{up_to, raised, begun}
+use Rattle.mls_geom.specs.Sweep.Stacks.{up_to, extended, new_strip}
 use Rattle.mls_geom.specs.Strips.{IsRun, IsStrip}
 use Rattle.mls_geom.specs.declared.piece.Piece.{Piece}
 use Rattle.mls_geom.specs.declared.run.Run.{Run}
@@ -28,10 +28,10 @@ IsStrip-higher extent {picture} {piece} y z up strip ends = record {
 }
 
 -- a strip that reaches up to a line goes on in the rows above that have its run too
-pub IsStrip-raised :
+pub IsStrip-extended :
     (extent : Rect) {picture : Picture} {piece : Piece} (y z : ℕ) → y < z → IsStrip (up_to y extent) picture piece → piece.rect.top ≡ y
-    → ((row : ℕ) → y ≤ row → row < z → IsRun extent picture piece.rect.left piece.rect.right row piece.kind) → IsStrip (up_to z extent) picture (raised z piece)
-IsStrip-raised extent y z up strip reaches rows = record {
+    → ((row : ℕ) → y ≤ row → row < z → IsRun extent picture piece.rect.left piece.rect.right row piece.kind) → IsStrip (up_to z extent) picture (extended z piece)
+IsStrip-extended extent y z up strip reaches rows = record {
   from = strip.from;
   tall = omega (arith, strip.tall);
   to = le_refl z;
@@ -44,11 +44,11 @@ IsStrip-raised extent y z up strip reaches rows = record {
 }
 
 -- a run that the row below doesn't have begins a strip
-pub IsStrip-begun :
+pub IsStrip-new_strip :
     (extent : Rect) {picture : Picture} (run : Run) (y z : ℕ) → extent.bottom ≤ y → y < z
     → ((row : ℕ) → y ≤ row → row < z → IsRun extent picture run.left run.right row run.kind) → (extent.bottom < y → ¬ (IsRun extent picture run.left run.right (y - 1) run.kind))
-    → IsStrip (up_to z extent) picture (begun y z run)
-IsStrip-begun extent run y z from up rows begins = record {
+    → IsStrip (up_to z extent) picture (new_strip y z run)
+IsStrip-new_strip extent run y z from up rows begins = record {
   from = from;
   tall = up;
   to = le_refl z;

@@ -1,7 +1,7 @@
 -- Room that is enough for more is enough for less.
 use Rattle.std.proofs.Common.{ℕ, ◌≤◌, arith}
-use Rattle.mls_geom.specs.RowRooms.{HasRowRoom}
-use Rattle.mls_geom.specs.SweepRooms.{HasSweepRoom}
+use Rattle.mls_geom.specs.Sweep.RowRooms.{HasRowRoom}
+use Rattle.mls_geom.specs.Sweep.SweepRooms.{HasSweepRoom}
 use Rattle.mls_geom.specs.declared.row.Row.{Row}
 use Rattle.mls_geom.specs.declared.sweep.Sweep.{Sweep}
 

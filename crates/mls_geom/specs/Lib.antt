@@ -1,14 +1,9 @@
-pub mod ActivePieces
-pub mod BandLines
 pub mod Covers
-pub mod Rects
+pub mod Layouts
 pub mod Pictures
-pub mod RowRooms
-pub mod Rows
+pub mod Rects
 pub mod Scratches
-pub mod Slots
-pub mod Stacks
 pub mod Strips
-pub mod SweepRooms
+pub mod Sweep
 pub mod TileCounts
 pub mod World

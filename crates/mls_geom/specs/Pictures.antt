@@ -1,7 +1,8 @@
 -- What is painted where: for each unit square a kind (Ousterhout 1984: a plane is covered completely).
-use Rattle.std.specs.Prelude.{ℕ, ◌^◌, ◌==◌, ◌-◌, Bool, if◌then◌else◌, List, [], ◌∷◌}
-use Rattle.std.specs.List.{list_any, range_with_len, sum_by}
+use Rattle.std.specs.Prelude.{ℕ, ◌==◌, ◌-◌, Bool, if◌then◌else◌, List, [], ◌∷◌}
+use Rattle.std.specs.List.{list_any, range_with_len}
 use Rattle.mls_geom.specs.Rects.{Rect, holds}
+use Rattle.mls_kinds.specs.KindSets.{set_of}
 use Rattle.mls_geom.specs.declared.piece.Piece.{Piece}
 
 -- the kind of the square at each column and row; 0 is space
@@ -36,10 +37,6 @@ rows e = range_with_len e.bottom (e.top - e.bottom)
 abbrev pub shows : Picture → Rect → ℕ → Bool
 shows picture e kind = list_any (λ y. list_any (λ x. picture x y == kind) (columns e)) (rows e)
 
--- the number whose bit k is 1 exactly where the test passes k, for k below n
-abbrev pub bits_where : (ℕ → Bool) → ℕ → ℕ
-bits_where test n = sum_by (λ k. if test k then 2 ^ k else 0) (range_with_len 0 n)
-
--- bit k for each kind k below 64 that some square of the rectangle has
+-- the set of the kinds below 64 that some square of the rectangle has
 unfoldable pub kinds_in : Picture → Rect → ℕ
-kinds_in picture e = bits_where (shows picture e) 64
+kinds_in picture e = set_of (shows picture e)

@@ -1,4 +1,4 @@
--- Maximal horizontal strips (Ousterhout 1984). The run of a square is the longest piece of its row round it of one kind; its strip is
+-- Maximal horizontal strips (Ousterhout 1984). The run of a square is the longest part of its row round it of one kind; its strip is
 -- the greatest range of rows round it in which the run has the same ends and the same kind. An extent is the world or a part of it:
 -- runs and strips end at its lines.
 use Rattle.std.specs.Prelude.{◌≡◌, ◌≢◌, ℕ, ◌-◌, ◌<◌, ◌≤◌, Bool, ◌&&◌, ◌||◌, ◌==◌, nat_lt, IsTrue, List}

@@ -1,19 +1,20 @@
-//! The pieces as a sweep upward meets them.
+//! The pieces that a sweep upward meets.
 ghost use Rattle.std.specs.Prelude.{◌≡◌, ◌+◌, ◌<◌, ◌≤◌, filter, length, vec_len, vec_capacity};
 ghost use Rattle.std.specs.List.Sorted.{IsNonDecreasingBy};
-ghost use Rattle.mls_geom.specs.ActivePieces.{ArePartedAt, AreStarts, JoinUpTo, ends_above};
-ghost use Rattle.mls_geom.specs.Rows.{AreActive, AreLegal};
+ghost use Rattle.mls_geom.specs.Sweep.ActivePieces.{ArePartedAt, AreStarts, AddsStarted, ends_above};
+ghost use Rattle.mls_geom.specs.Sweep.Rows.{AreActive};
+ghost use Rattle.mls_geom.specs.World.{AreLegal};
 
 use crate::Piece;
 
-/// The bottom line of a piece, and its place in the list of pieces.
+/// The bottom line of a piece, and the index of the piece.
 #[derive(Clone, Copy)]
 pub(crate) struct Start {
     pub(crate) bottom: u32,
     pub(crate) piece: usize,
 }
 
-/// Lists where the pieces begin, from the bottom up.
+/// Lists where the pieces start, from the bottom up.
 pub(crate) fn list_starts(pieces: &[Piece], starts: &mut Vec<Start>)
     requires { length pieces.now ≤ vec_capacity starts.old }
     ensures starts { AreStarts pieces.now starts.new.items }
@@ -21,25 +22,26 @@ pub(crate) fn list_starts(pieces: &[Piece], starts: &mut Vec<Start>)
 {
     starts.clear();
     for (i, piece) in pieces.iter().enumerate() {
+        let edges = piece.rect.area();
         starts.push_reserved(Start {
-            bottom: piece.rect.bottom_line(),
+            bottom: edges.bottom,
             piece: i,
         });
     }
     starts.sort_unstable_by_key(|start| start.bottom);
 }
 
-/// Whether the piece at place `i` ends above the line.
+/// Returns whether the piece at index `i` ends above the line.
 fn ends_above(pieces: &[Piece], line: u32, i: usize) -> bool
     ensures { result ≡ ends_above pieces.now line i }
 {
     pieces
         .get(i)
-        .is_some_and(|piece| line < piece.rect.top_line())
+        .is_some_and(|piece| line < piece.rect.area().top)
 }
 
-/// Takes out the pieces that end at the line or below it.
-fn retire(pieces: &[Piece], line: u32, active: &mut Vec<usize>)
+/// Removes the pieces that end at the line or below it.
+fn remove_ended(pieces: &[Piece], line: u32, active: &mut Vec<usize>)
     ensures kept { active.new.items ≡ filter (ends_above pieces.now line) active.old.items }
     ensures len { vec_len active.new ≤ vec_len active.old }
     ensures room { vec_capacity active.new ≡ vec_capacity active.old }
@@ -47,25 +49,25 @@ fn retire(pieces: &[Piece], line: u32, active: &mut Vec<usize>)
     active.retain(|i| ends_above(pieces, line, *i));
 }
 
-/// Puts in the pieces that begin at the line or below it, and answers the others.
-fn enlist<'a>(waiting: &'a [Start], line: u32, active: &mut Vec<usize>) -> &'a [Start]
+/// Adds the pieces that start at the line or below it, and returns the rest of `waiting`.
+fn add_started<'a>(waiting: &'a [Start], line: u32, active: &mut Vec<usize>) -> &'a [Start]
     requires ordered { IsNonDecreasingBy (λ start. start.bottom) waiting.now }
     requires room { vec_len active.old + length waiting.now ≤ vec_capacity active.old }
-    ensures joined { JoinUpTo line waiting.now result.now active.old.items active.new.items }
+    ensures joined { AddsStarted line waiting.now result.now active.old.items active.new.items }
     ensures len { vec_len active.new + length result.now
         ≡ vec_len active.old + length waiting.now }
     ensures room { vec_capacity active.new ≡ vec_capacity active.old }
 {
     let reached = waiting.partition_point(|start| start.bottom <= line);
-    let (begun, rest) = waiting.split_at(reached);
-    for start in begun {
+    let (started, rest) = waiting.split_at(reached);
+    for start in started {
         active.push_reserved(start.piece);
     }
     rest
 }
 
-/// Makes the pieces active that have squares in the row above the line, and answers those that wait
-/// for a line further up.
+/// Makes `active` the indices of the pieces that have squares in the row above the line, in order, and
+/// returns the starts further up.
 pub(crate) fn activate<'a>(
     pieces: &[Piece],
     waiting: &'a [Start],
@@ -81,8 +83,8 @@ pub(crate) fn activate<'a>(
         ≤ vec_len active.old + length waiting.now }
     ensures room { vec_capacity active.new ≡ vec_capacity active.old }
 {
-    retire(pieces, line, active);
-    let waiting = enlist(waiting, line, active);
+    remove_ended(pieces, line, active);
+    let waiting = add_started(waiting, line, active);
     active.sort_unstable();
     waiting
 }

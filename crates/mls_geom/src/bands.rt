@@ -1,11 +1,10 @@
 //! The lines between which all rows are alike.
 ghost use Rattle.std.specs.Prelude.{◌≡◌, ◌+◌, ◌*◌, ◌≤◌, length, vec_capacity};
-ghost use Rattle.mls_geom.specs.BandLines.{AreBandLines};
-ghost use Rattle.mls_geom.specs.Rows.{AreLegal};
-ghost use Rattle.mls_geom.specs.World.{world};
+ghost use Rattle.mls_geom.specs.Sweep.BandLines.{AreBandLines};
+ghost use Rattle.mls_geom.specs.World.{AreLegal, world};
 
 use crate::Piece;
-use crate::lines::ascend;
+use crate::lines::sort_dedup;
 use crate::world::{HIGH, LOW};
 
 /// Lists the lines at which the world or a piece begins or ends, from the bottom up.
@@ -19,8 +18,9 @@ pub(crate) fn list_band_lines(pieces: &[Piece], lines: &mut Vec<u32>)
     lines.push_reserved(LOW);
     lines.push_reserved(HIGH);
     for piece in pieces {
-        lines.push_reserved(piece.rect.bottom_line());
-        lines.push_reserved(piece.rect.top_line());
+        let edges = piece.rect.area();
+        lines.push_reserved(edges.bottom);
+        lines.push_reserved(edges.top);
     }
-    ascend(lines);
+    sort_dedup(lines);
 }

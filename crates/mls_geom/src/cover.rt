@@ -2,18 +2,19 @@
 ghost use Rattle.std.specs.Prelude.{◌≡◌, ◌+◌, ◌<◌, ◌≤◌, ◌↔◌, IfOk, OnErr, OnOk, IsErr, length, vec_capacity};
 ghost use Rattle.mls_geom.specs.Covers.{CoversWorld, meeting};
 ghost use Rattle.mls_geom.specs.Pictures.{empty_picture, kinds_in, overlaid, picture_of};
-ghost use Rattle.mls_geom.specs.Rows.{AreLegal};
+ghost use Rattle.mls_geom.specs.World.{AreLegal, world};
 ghost use Rattle.mls_geom.specs.TileCounts.{tile_count};
-ghost use Rattle.mls_geom.specs.World.{world};
 
 use crate::sweep::strips;
 use crate::world::{HIGH, LOW};
 use crate::{Meeting, Piece, Point, Rect, Scratch, TooMany};
+use mls_kinds::KindSet;
 use std::alloc::{AllocError, Global};
 use std::marker::Model;
 
-/// A plane of kinds, covered completely by its maximal strips, with room that is reserved when it
-/// is made.
+/// A plane of kinds, covered completely by its maximal strips.
+///
+/// All memory is reserved when the cover is made.
 #[derive(Drop)]
 pub struct Cover {
     room: usize,
@@ -33,7 +34,7 @@ impl Model for Cover {
 }
 
 impl Cover {
-    /// An empty plane, with room for so many strips.
+    /// Creates a plane of space, with room for `room` strips.
     pub fn new(alloc: Global, room: usize) -> Result<Cover, AllocError>
         requires { 1 ≤ room }
         ensures picture { IfOk result (λ c. picture_of c.strips ≡ empty_picture) }
@@ -48,7 +49,7 @@ impl Cover {
         Ok(Cover { room, strips })
     }
 
-    /// The strips, by bottom and then left.
+    /// Returns the strips, by bottom and then left.
     pub fn strips(&self) -> &[Piece]
         ensures value { result.now ≡ self.now.strips }
         ensures room { length self.now.strips ≤ self.now.room }
@@ -58,7 +59,7 @@ impl Cover {
         self.strips.as_slice()
     }
 
-    /// The kind of a square.
+    /// Returns the kind of a square.
     pub fn kind_at(&self, at: Point) -> u8
         ensures { result ≡ picture_of self.now.strips at.x at.y }
     {
@@ -70,7 +71,7 @@ impl Cover {
         unreachable!()
     }
 
-    /// How many maximal strips the plane has.
+    /// Returns the number of maximal strips.
     #[tactic(auto, using(crate::proofs::StripLaws::strips_number))]
     pub fn tile_count(&self) -> usize
         ensures { result ≡ tile_count world (picture_of self.now.strips) }
@@ -78,7 +79,7 @@ impl Cover {
         self.strips.len()
     }
 
-    /// The strips that have a square in the rectangle, each once, in order.
+    /// Returns an iterator over the strips that have a square in the rectangle, in order.
     pub fn meeting(&self, rect: Rect) -> Meeting<'_>
         ensures value { result ≡ meeting self.now.strips rect }
         ensures covers { CoversWorld self.now }
@@ -86,20 +87,22 @@ impl Cover {
         Meeting::new(&self.strips, rect)
     }
 
-    /// The kinds below 64 that the squares of the rectangle have: bit k for kind k.
-    pub fn kinds(&self, rect: Rect) -> u64
+    /// Returns the kinds below 64 that the squares of the rectangle have.
+    pub fn kinds(&self, rect: Rect) -> KindSet
         ensures { result ≡ kinds_in (picture_of self.now.strips) rect }
     {
-        let mut kinds = 0;
+        let mut kinds = KindSet::empty();
         for strip in self.meeting(rect) {
             if strip.kind < 64 {
-                kinds |= 1 << strip.kind;
+                kinds.insert(strip.kind);
             }
         }
         kinds
     }
 
-    /// Paints pieces over the plane in turn, unless it would then have more than `limit` strips.
+    /// Paints pieces over the plane in turn.
+    ///
+    /// Fails if the plane would then have more than `limit` strips, and leaves it as it was.
     pub fn overlay(
         &mut self,
         over: &[Piece],
@@ -119,13 +122,13 @@ impl Cover {
         ensures scratch_room { scratch.new.room ≡ scratch.old.room }
     {
         strips(&self.strips, over, limit, scratch)?;
-        refill(&mut self.strips, scratch.strips());
+        replace_all(&mut self.strips, scratch.strips());
         Ok(())
     }
 }
 
-/// Replaces what a list has, in the room that it has.
-fn refill(list: &mut Vec<Piece>, pieces: &[Piece])
+/// Replaces all elements of a list, within its capacity.
+fn replace_all(list: &mut Vec<Piece>, pieces: &[Piece])
     requires { length pieces.now ≤ vec_capacity list.old }
     ensures items { list.new.items ≡ pieces.now }
     ensures room { vec_capacity list.new ≡ vec_capacity list.old }

@@ -2,6 +2,7 @@
 #![tactic(auto)]
 
 mod active;
+mod area;
 mod bands;
 mod cover;
 pub mod laws;
@@ -16,10 +17,9 @@ mod scratch;
 mod slots;
 mod stack;
 mod sweep;
-#[cfg(test)]
-mod tests;
 mod world;
 
+pub use area::Area;
 pub use cover::Cover;
 pub use meeting::Meeting;
 pub use piece::Piece;
@@ -27,4 +27,3 @@ pub use point::Point;
 pub use rect::{Rect, RectFault};
 pub use scratch::Scratch;
 pub use sweep::{TooMany, strips};
-pub use world::{HIGH, LOW, ORIGIN};

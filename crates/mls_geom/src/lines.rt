@@ -3,8 +3,8 @@ ghost use Rattle.std.specs.Prelude.{◌≡◌, ◌≤◌, ◌↔◌, ℕ, vec_le
 ghost use Rattle.std.specs.List.{Contains};
 ghost use Rattle.std.specs.List.Sorted.{IsStrictlyIncreasing};
 
-/// Sorts lines and drops the doubles.
-pub(crate) fn ascend(lines: &mut Vec<u32>)
+/// Sorts lines and removes duplicates.
+pub(crate) fn sort_dedup(lines: &mut Vec<u32>)
     ensures ascending { IsStrictlyIncreasing lines.new.items }
     ensures members { (line : ℕ) → Contains lines.new.items line ↔ Contains lines.old.items line }
     ensures len { vec_len lines.new ≤ vec_len lines.old }

@@ -2,7 +2,8 @@
 use crate::{Piece, Rect};
 use std::marker::Model;
 
-/// The pieces of a list that have a square in a rectangle, in order.
+/// An iterator over the pieces that have a square in a rectangle, made by
+/// [`Cover::meeting`](crate::Cover::meeting).
 #[derive(Drop)]
 pub struct Meeting<'a> {
     pieces: &'a [Piece],

@@ -2,10 +2,10 @@
 ghost use Rattle.std.specs.Prelude.{◌≡◌};
 ghost use Rattle.mls_geom.specs.World.{square_of};
 
-use crate::world::{HIGH, is_outside, line_of};
+use crate::world::{HIGH, coordinate_of, is_outside};
 use std::marker::Model;
 
-/// A square of the world, named by its lower-left corner.
+/// A square of the world, by its lower-left corner.
 #[derive(Clone, Copy, Debug, PartialEq, Eq)]
 pub struct Point {
     x: u32,
@@ -28,7 +28,7 @@ impl Model for Point {
 }
 
 impl Point {
-    /// The square whose lower-left corner is where two of the user's lines cross. `None` where the
+    /// Returns the square whose lower-left corner has these coordinates of the user's, or `None` if the
     /// world has no such square.
     #[tactic(auto, unfolding(crate::specs::World::square_of))]
     pub fn new(x: i32, y: i32) -> Option<Point>
@@ -37,7 +37,7 @@ impl Point {
         if is_outside(x) || is_outside(y) {
             return None;
         }
-        let (x, y) = (line_of(x), line_of(y));
+        let (x, y) = (coordinate_of(x), coordinate_of(y));
         if x < HIGH && y < HIGH {
             Some(Point { x, y })
         } else {
@@ -45,14 +45,14 @@ impl Point {
         }
     }
 
-    /// The square's left line, counted as in the world.
+    /// Returns the column, counted from a corner far outside the world.
     pub fn column(self) -> u32
         ensures { result ≡ self.x }
     {
         self.x
     }
 
-    /// The square's bottom line, counted as in the world.
+    /// Returns the row, counted from a corner far outside the world.
     pub fn row(self) -> u32
         ensures { result ≡ self.y }
     {

@@ -1,18 +1,20 @@
 //! Rectangles of squares of the world.
 ghost use Rattle.std.specs.Prelude.{◌≡◌, ◌&&◌, ◌+ℤ◌, ℕ, IfNone, IfSome, false, pos};
 ghost use Rattle.mls_geom.specs.Rects.{IsRectangleIn, clipped, common, grown, holds, meets};
-ghost use Rattle.mls_geom.specs.World.{rect_of, world};
+ghost use Rattle.mls_geom.specs.World.{origin, rect_of, world};
 
-use crate::Point;
-use crate::world::{HIGH, LOW, ORIGIN, is_outside, line_of, user_line};
+use crate::world::{HIGH, LOW, coordinate_of, is_outside, user_coordinate};
+use crate::{Area, Point};
 use std::marker::Model;
 use thiserror::Error;
 
-/// Why four lines make no rectangle of the world.
+/// Why four coordinates make no rectangle of the world.
 #[derive(Clone, Copy, Debug, PartialEq, Eq, Error)]
 pub enum RectFault {
+    /// The box has no square.
     #[error("empty box")]
     Empty,
+    /// A side lies outside the world.
     #[error("outside the world")]
     Outside,
 }
@@ -41,7 +43,8 @@ impl Model for Rect {
 }
 
 impl Rect {
-    /// The rectangle between four of the user's lines.
+    /// Returns the rectangle between four of the user's coordinates, or the first fault: [`RectFault::Empty`],
+    /// then [`RectFault::Outside`].
     #[tactic(auto, unfolding(crate::specs::World::rect_of))]
     pub fn new(left: i32, bottom: i32, right: i32, top: i32) -> Result<Rect, RectFault>
         ensures { result ≡ rect_of left bottom right top }
@@ -53,14 +56,14 @@ impl Rect {
             return Err(RectFault::Outside);
         }
         Ok(Rect {
-            left: line_of(left),
-            bottom: line_of(bottom),
-            right: line_of(right),
-            top: line_of(top),
+            left: coordinate_of(left),
+            bottom: coordinate_of(bottom),
+            right: coordinate_of(right),
+            top: coordinate_of(top),
         })
     }
 
-    /// The rectangle between four lines of the world.
+    /// Returns the rectangle between four coordinates of the world.
     pub(crate) fn between(left: u32, bottom: u32, right: u32, top: u32) -> Rect
         requires { IsRectangleIn world (record { left = left; bottom = bottom; right = right; top = top }) }
         ensures { result ≡ record { left = left; bottom = bottom; right = right; top = top } }
@@ -73,39 +76,20 @@ impl Rect {
         }
     }
 
-    /// The left line, counted as in the world.
-    pub fn left_line(self) -> u32
-        ensures value { result ≡ self.left }
+    /// Returns the same squares as an area, whose coordinates can be read.
+    pub fn area(self) -> Area
+        ensures value { result ≡ self }
         ensures legal { IsRectangleIn world self }
     {
-        self.left
+        Area {
+            left: self.left,
+            bottom: self.bottom,
+            right: self.right,
+            top: self.top,
+        }
     }
 
-    /// The bottom line, counted as in the world.
-    pub fn bottom_line(self) -> u32
-        ensures value { result ≡ self.bottom }
-        ensures legal { IsRectangleIn world self }
-    {
-        self.bottom
-    }
-
-    /// The right line, counted as in the world.
-    pub fn right_line(self) -> u32
-        ensures value { result ≡ self.right }
-        ensures legal { IsRectangleIn world self }
-    {
-        self.right
-    }
-
-    /// The top line, counted as in the world.
-    pub fn top_line(self) -> u32
-        ensures value { result ≡ self.top }
-        ensures legal { IsRectangleIn world self }
-    {
-        self.top
-    }
-
-    /// Whether the square lies in the rectangle.
+    /// Returns whether the square lies in the rectangle.
     pub(crate) fn holds(self, at: Point) -> bool
         ensures { result ≡ holds self at.x at.y }
     {
@@ -115,46 +99,46 @@ impl Rect {
             && at.row() < self.top
     }
 
-    /// Whether some square lies in both.
+    /// Returns whether some square lies in both rectangles.
     pub(crate) fn meets(self, other: Rect) -> bool
         ensures { result ≡ meets self other }
     {
         self.clip(other).is_some()
     }
 
-    /// The user's left line.
+    /// Returns the left side as users count it.
     pub fn left(self) -> i32
-        ensures value { pos self.left ≡ result +ℤ pos ORIGIN }
+        ensures value { pos self.left ≡ result +ℤ pos origin }
         ensures legal { IsRectangleIn world self }
     {
-        user_line(self.left)
+        user_coordinate(self.left)
     }
 
-    /// The user's bottom line.
+    /// Returns the bottom side as users count it.
     pub fn bottom(self) -> i32
-        ensures value { pos self.bottom ≡ result +ℤ pos ORIGIN }
+        ensures value { pos self.bottom ≡ result +ℤ pos origin }
         ensures legal { IsRectangleIn world self }
     {
-        user_line(self.bottom)
+        user_coordinate(self.bottom)
     }
 
-    /// The user's right line.
+    /// Returns the right side as users count it.
     pub fn right(self) -> i32
-        ensures value { pos self.right ≡ result +ℤ pos ORIGIN }
+        ensures value { pos self.right ≡ result +ℤ pos origin }
         ensures legal { IsRectangleIn world self }
     {
-        user_line(self.right)
+        user_coordinate(self.right)
     }
 
-    /// The user's top line.
+    /// Returns the top side as users count it.
     pub fn top(self) -> i32
-        ensures value { pos self.top ≡ result +ℤ pos ORIGIN }
+        ensures value { pos self.top ≡ result +ℤ pos origin }
         ensures legal { IsRectangleIn world self }
     {
-        user_line(self.top)
+        user_coordinate(self.top)
     }
 
-    /// The rectangle with so many squares more on each side, as far as the world reaches.
+    /// Returns the rectangle with this many more squares on each side, clipped to the world.
     pub fn grow(self, squares: u32) -> Rect
         ensures value { result ≡ common (grown squares self) world }
         ensures squares { (x y : ℕ)
@@ -168,7 +152,8 @@ impl Rect {
         }
     }
 
-    /// The squares that lie in both. `None` where there are none, as where the rectangles only touch.
+    /// Returns the squares that lie in both rectangles, or `None` if there are none. Rectangles that only
+    /// touch share no square.
     pub fn clip(self, other: Rect) -> Option<Rect>
         ensures value { result ≡ clipped self other }
         ensures some { IfSome result

@@ -2,17 +2,17 @@
 ghost use Rattle.std.specs.Prelude.{◌≡◌, ℕ, ◌+◌, ◌*◌, ◌<◌, ◌≤◌, length, vec_len, vec_capacity};
 ghost use Rattle.std.specs.List.{All};
 ghost use Rattle.mls_geom.specs.Pictures.{picture_of};
-ghost use Rattle.mls_geom.specs.Rows.{AreActive, AreLegal, AreRuns};
-ghost use Rattle.mls_geom.specs.Slots.{AreBetweenLines, AreCuts};
-ghost use Rattle.mls_geom.specs.World.{world};
+ghost use Rattle.mls_geom.specs.Sweep.Rows.{AreActive, AreRuns};
+ghost use Rattle.mls_geom.specs.World.{AreLegal, world};
+ghost use Rattle.mls_geom.specs.Sweep.Slots.{AreBetweenLines, AreCuts};
 
 use crate::Piece;
-use crate::lines::ascend;
+use crate::lines::sort_dedup;
 use crate::run::{Run, join_slots};
 use crate::slots::paint_row;
 use crate::world::{HIGH, LOW};
 
-/// Room to find the runs of a row in.
+/// Buffers in which the runs of a row are found.
 #[derive(Drop)]
 pub(crate) struct Row {
     pub(crate) lines: Vec<u32>,
@@ -22,9 +22,9 @@ pub(crate) struct Row {
 }
 
 impl Row {
-    ghost use Rattle.mls_geom.specs.RowRooms.{HasRowRoom};
+    ghost use Rattle.mls_geom.specs.Sweep.RowRooms.{HasRowRoom};
 
-    /// Leaves in `runs` the runs of row `y`. The active pieces are those that have squares in it.
+    /// Fills `runs` with the runs of row `y`, in which the active pieces have squares.
     pub(crate) fn find_runs(&mut self, pieces: &[Piece], active: &[usize], y: u32)
         requires legal { AreLegal pieces.now }
         requires active { AreActive pieces.now y active.now }
@@ -38,7 +38,7 @@ impl Row {
     }
 }
 
-/// Leaves in `lines` those that cut the row: the world's left and right line, and each active piece's.
+/// Lists the lines that cut the row, from left to right: those of the world and of the active pieces.
 fn list_lines(pieces: &[Piece], active: &[usize], lines: &mut Vec<u32>)
     requires within { All (λ i. i < length pieces.now) active.now }
     requires no_more { length active.now ≤ length pieces.now }
@@ -52,9 +52,9 @@ fn list_lines(pieces: &[Piece], active: &[usize], lines: &mut Vec<u32>)
     lines.push_reserved(LOW);
     lines.push_reserved(HIGH);
     for i in active {
-        let rect = pieces[*i].rect;
-        lines.push_reserved(rect.left_line());
-        lines.push_reserved(rect.right_line());
+        let edges = pieces[*i].rect.area();
+        lines.push_reserved(edges.left);
+        lines.push_reserved(edges.right);
     }
-    ascend(lines);
+    sort_dedup(lines);
 }

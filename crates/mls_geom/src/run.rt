@@ -2,10 +2,10 @@
 ghost use Rattle.std.specs.Prelude.{◌≡◌, ◌≢◌, ℕ, ◌+◌, ◌-◌, ◌<◌, ◌≤◌, length, slice_index, vec_capacity};
 ghost use Rattle.mls_geom.specs.Rects.{Rect};
 ghost use Rattle.mls_geom.specs.Pictures.{Picture};
-ghost use Rattle.mls_geom.specs.Rows.{AreRuns};
-ghost use Rattle.mls_geom.specs.Slots.{AreCuts, AreSlotKinds};
+ghost use Rattle.mls_geom.specs.Sweep.Rows.{AreRuns};
+ghost use Rattle.mls_geom.specs.Sweep.Slots.{AreCuts, AreSlotKinds};
 
-/// The squares of a row from one line to another, all of one kind, and the strip they belong to.
+/// The squares of a row between two lines, all of one kind, and the index of their strip.
 #[derive(Clone, Copy)]
 pub(crate) struct Run {
     pub(crate) left: u32,
@@ -14,7 +14,7 @@ pub(crate) struct Run {
     pub(crate) strip: usize,
 }
 
-/// Leaves in `runs` the runs of a row, of which the slots between the lines have these kinds.
+/// Fills `runs` with the runs of a row, from the kinds of its slots.
 pub(crate) fn join_slots(lines: &[u32], kinds: &[u8], runs: &mut Vec<Run>)
     requires count { length lines.now ≡ length kinds.now + 1 }
     requires room { length kinds.now ≤ vec_capacity runs.old }
@@ -38,7 +38,7 @@ pub(crate) fn join_slots(lines: &[u32], kinds: &[u8], runs: &mut Vec<Run>)
     }
 }
 
-/// The place after the last of the slots from `first` on that have its kind.
+/// Returns the end of the slots from `first` on that have the kind of `first`.
 fn end_of_kind(kinds: &[u8], first: usize) -> usize
     requires { first < length kinds.now }
     ensures wide { first < result }

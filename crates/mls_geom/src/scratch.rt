@@ -1,4 +1,4 @@
-//! Room to make strips in.
+//! Buffers in which strips are found.
 ghost use Rattle.std.specs.Prelude.{◌≡◌, ◌≤◌, ◌↔◌, [], IfOk, IsTrue};
 
 use crate::Piece;
@@ -6,7 +6,9 @@ use crate::sweep::Sweep;
 use std::alloc::{AllocError, Global};
 use std::marker::Model;
 
-/// Room for the strips of so many pieces, reserved when it is made.
+/// Buffers in which [`strips`](crate::strips) and [`Cover::overlay`](crate::Cover::overlay) work.
+///
+/// All memory is reserved when the scratch is made.
 #[derive(Drop)]
 pub struct Scratch {
     room: usize,
@@ -17,7 +19,7 @@ pub struct Scratch {
 impl Model for Scratch {
     ghost use Rattle.std.specs.Prelude.{◌≤◌, vec_capacity};
     ghost use Rattle.mls_geom.specs.Scratches.{Scratch};
-    ghost use Rattle.mls_geom.specs.SweepRooms.{HasSweepRoom};
+    ghost use Rattle.mls_geom.specs.Sweep.SweepRooms.{HasSweepRoom};
 
     ghost Value = { Scratch };
 
@@ -27,7 +29,7 @@ impl Model for Scratch {
 }
 
 impl Scratch {
-    /// Room for so many pieces, and so many strips.
+    /// Creates a scratch with room for `room` pieces and `room` strips.
     pub fn new(alloc: Global, room: u32) -> Result<Scratch, AllocError>
         ensures made { IfOk result (λ s. (s.room ≡ room) × (s.strips ≡ [])) }
     {
@@ -38,14 +40,14 @@ impl Scratch {
         })
     }
 
-    /// Whether so many pieces and so many strips fit.
+    /// Returns whether this many pieces and strips fit.
     pub fn holds(&self, pieces: usize, strips: usize) -> bool
         ensures { IsTrue result ↔ (pieces ≤ self.now.room) × (strips ≤ self.now.room) }
     {
         pieces <= self.room && strips <= self.room
     }
 
-    /// The strips that the last sweep left.
+    /// Returns the strips that were found last.
     pub fn strips(&self) -> &[Piece]
         ensures { result.now ≡ self.now.strips }
     {

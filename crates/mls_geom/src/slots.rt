@@ -1,16 +1,16 @@
-//! Painting the slots of a row from above: what is painted once stays, and links over painted slots
-//! lead to the free ones.
+//! Painting the slots of a row, the uppermost piece first: a painted slot keeps its kind, and links
+//! over painted slots lead to the free ones.
 ghost use Rattle.std.specs.Prelude.{◌≡◌, ℕ, ◌+◌, ◌<◌, ◌≤◌, ◌&&◌, false, nat_lt, nat_le, if◌then◌else◌, length, slice_index, vec_len, vec_capacity};
 ghost use Rattle.std.specs.List.{Contains};
 ghost use Rattle.std.specs.List.Sorted.{IsStrictlyIncreasing};
 ghost use Rattle.mls_geom.specs.Pictures.{Picture, overlaid, painted, picture_of};
-ghost use Rattle.mls_geom.specs.Rows.{AreActive};
-ghost use Rattle.mls_geom.specs.Slots.{AreBetweenLines, AreLinks, AreSlotKinds, AreSlots, IsBetweenLines, is_painted, shown};
+ghost use Rattle.mls_geom.specs.Sweep.Rows.{AreActive};
+ghost use Rattle.mls_geom.specs.Sweep.Slots.{AreBetweenLines, AreLinks, AreSlotKinds, AreSlots, IsBetweenLines, is_painted, slot_kind};
 
 use crate::Piece;
 
-/// Leaves in `kinds` the kind of each slot between the lines, in a row that has squares of the active
-/// pieces alone. A later piece wins, and where there is none, there is space.
+/// Fills `kinds` with the kind of each slot between the lines, in the row whose pieces are the active
+/// ones. A later piece wins, and a slot of no piece is space.
 pub(crate) fn paint_row(
     pieces: &[Piece],
     active: &[usize],
@@ -33,7 +33,7 @@ pub(crate) fn paint_row(
     paint_slots(pieces, active, lines, kinds, free);
 }
 
-/// Makes so many slots, all of them free.
+/// Makes `count` free slots.
 fn clear_slots(count: usize, kinds: &mut Vec<u8>, free: &mut Vec<usize>)
     requires kinds_fit { count ≤ vec_capacity kinds.old }
     requires free_fit { count < vec_capacity free.old }
@@ -52,7 +52,7 @@ fn clear_slots(count: usize, kinds: &mut Vec<u8>, free: &mut Vec<usize>)
     free.push_reserved(count);
 }
 
-/// Paints the slots with the pieces that have squares in the row, of which a later one wins.
+/// Paints the slots with the active pieces, so that a later one wins.
 fn paint_slots(
     pieces: &[Piece],
     active: &[usize],
@@ -65,42 +65,43 @@ fn paint_slots(
     requires ascending { IsStrictlyIncreasing lines.now }
     requires between { AreBetweenLines lines.now pieces.now active.now }
     ensures slots { AreSlots kinds.new free.new }
-    ensures shown { (below : Picture) (slot x y : ℕ)
+    ensures slot_kinds { (below : Picture) (slot x y : ℕ)
         → AreActive pieces.now y active.now
         → slot < length kinds.old
         → slice_index lines.now slot ≤ x
         → x < slice_index lines.now (slot + 1)
-        → shown kinds.new free.new slot (below x y)
-        ≡ shown kinds.old free.old slot (overlaid below pieces.now x y) }
+        → slot_kind kinds.new free.new slot (below x y)
+        ≡ slot_kind kinds.old free.old slot (overlaid below pieces.now x y) }
 {
     for i in active.iter().rev() {
         paint_piece(pieces[*i], lines, kinds, free);
     }
 }
 
-/// Paints the free slots of a piece that has squares in the row.
+/// Paints the free slots among those of the piece.
 fn paint_piece(piece: Piece, lines: &[u32], kinds: &mut [u8], free: &mut [usize])
     requires slots { AreSlots kinds.old free.old }
     requires count { length lines.now ≡ length kinds.old + 1 }
     requires ascending { IsStrictlyIncreasing lines.now }
     requires between { IsBetweenLines lines.now piece.rect }
     ensures slots { AreSlots kinds.new free.new }
-    ensures shown { (below : Picture) (slot x y : ℕ)
+    ensures slot_kinds { (below : Picture) (slot x y : ℕ)
         → piece.rect.bottom ≤ y
         → y < piece.rect.top
         → slot < length kinds.old
         → slice_index lines.now slot ≤ x
         → x < slice_index lines.now (slot + 1)
-        → shown kinds.new free.new slot (below x y)
-        ≡ shown kinds.old free.old slot (painted below piece x y) }
+        → slot_kind kinds.new free.new slot (below x y)
+        ≡ slot_kind kinds.old free.old slot (painted below piece x y) }
 {
-    let from = place_of(lines, piece.rect.left_line());
-    let to = place_of(lines, piece.rect.right_line());
+    let edges = piece.rect.area();
+    let from = index_of(lines, edges.left);
+    let to = index_of(lines, edges.right);
     paint_below(kinds, free, from, to, piece.kind);
 }
 
-/// The place of a line among lines in ascending order.
-fn place_of(lines: &[u32], line: u32) -> usize
+/// Returns the index of a line in an ascending list.
+fn index_of(lines: &[u32], line: u32) -> usize
     requires ascending { IsStrictlyIncreasing lines.now }
     requires member { Contains lines.now line }
     ensures within { result < length lines.now }
@@ -109,15 +110,15 @@ fn place_of(lines: &[u32], line: u32) -> usize
     lines.binary_search(&line).unwrap()
 }
 
-/// Paints the free slots from one place up to another.
+/// Paints the free slots from index `from` up to, not including, `to`.
 fn paint_below(kinds: &mut [u8], free: &mut [usize], from: usize, to: usize, kind: u8)
     requires slots { AreSlots kinds.old free.old }
     requires from { from ≤ length kinds.old }
     requires to { to ≤ length kinds.old }
     ensures slots { AreSlots kinds.new free.new }
-    ensures shown { (slot below : ℕ) → slot < length kinds.old
-        → shown kinds.new free.new slot below
-        ≡ shown kinds.old free.old slot (if nat_le from slot && nat_lt slot to then kind else below) }
+    ensures slot_kinds { (slot below : ℕ) → slot < length kinds.old
+        → slot_kind kinds.new free.new slot below
+        ≡ slot_kind kinds.old free.old slot (if nat_le from slot && nat_lt slot to then kind else below) }
 {
     let mut slot = first_free(free, from);
     while slot < to {
@@ -127,7 +128,7 @@ fn paint_below(kinds: &mut [u8], free: &mut [usize], from: usize, to: usize, kin
     }
 }
 
-/// The first free place from one on. Halves the path of links on its way.
+/// Returns the first free slot from index `from` on. Halves the path of links on its way.
 fn first_free(free: &mut [usize], from: usize) -> usize
     requires links { AreLinks free.old }
     requires from { from < length free.old }

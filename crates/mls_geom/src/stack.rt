@@ -2,8 +2,8 @@
 ghost use Rattle.std.specs.Prelude.{◌≡◌, ℕ, ◌<◌, ◌≤◌, ◌↔◌, [], ◌∷◌, ◌++◌, IfOk, IfSome, IsErr, IsSome, IsSomeAnd, OnOk, OnErr, length, slice_get, vec_len, vec_capacity};
 ghost use Rattle.std.specs.List.{AllWithin};
 ghost use Rattle.mls_geom.specs.Rects.{IsRectangleIn};
-ghost use Rattle.mls_geom.specs.Rows.{AreRuns};
-ghost use Rattle.mls_geom.specs.Stacks.{AreStacked, AreAlike, StandsOn, begun, raised, up_to};
+ghost use Rattle.mls_geom.specs.Sweep.Rows.{AreRuns};
+ghost use Rattle.mls_geom.specs.Sweep.Stacks.{AreStacked, AreAlike, StandsOn, new_strip, extended, up_to};
 ghost use Rattle.mls_geom.specs.TileCounts.{tile_count};
 ghost use Rattle.mls_geom.specs.World.{world};
 
@@ -11,43 +11,45 @@ use crate::run::Run;
 use crate::sweep::TooMany;
 use crate::{Piece, Rect};
 
-/// The place of the first run from `place` on that begins at the line `left` or right of it.
-fn skip(below: &[Run], place: usize, left: u32) -> usize
-    requires { place ≤ length below.now }
-    ensures onward { place ≤ result }
+/// Returns the index of the first run, from index `from` on, that does not lie left of the line `left`,
+/// or the number of runs.
+fn first_at_or_after(below: &[Run], from: usize, left: u32) -> usize
+    requires { from ≤ length below.now }
+    ensures onward { from ≤ result }
     ensures within { result ≤ length below.now }
-    ensures passed { AllWithin (λ under. under.left < left) below.now place result }
+    ensures passed { AllWithin (λ under. under.left < left) below.now from result }
     ensures stopped { IfSome (slice_get below.now result) (λ under. left ≤ under.left) }
 {
-    let mut place = place;
-    while place < below.len() && below[place].left < left {
-        place += 1;
+    let mut index = from;
+    while index < below.len() && below[index].left < left {
+        index += 1;
     }
-    place
+    index
 }
 
-/// The strip of the run at `place`, if `run` stands on it: if both have the same ends and kind.
-fn strip_below(below: &[Run], place: usize, run: &Run) -> Option<usize>
-    ensures found { IsSome result ↔ IsSomeAnd (slice_get below.now place) (StandsOn run.now) }
-    ensures strip { IfSome result (λ strip. IsSomeAnd (slice_get below.now place) (λ under. under.strip ≡ strip)) }
+/// Returns the strip of the run at `index`, if it has the ends and the kind of `run`.
+fn strip_below(below: &[Run], index: usize, run: &Run) -> Option<usize>
+    ensures found { IsSome result ↔ IsSomeAnd (slice_get below.now index) (StandsOn run.now) }
+    ensures strip { IfSome result (λ strip. IsSomeAnd (slice_get below.now index) (λ under. under.strip ≡ strip)) }
 {
-    let under = below.get(place)?;
+    let under = below.get(index)?;
     let stands = under.left == run.left && under.right == run.right && under.kind == run.kind;
     stands.then_some(under.strip)
 }
 
-/// Lets a strip reach up to the line `top`.
-fn raise(strip: &mut Piece, top: u32)
+/// Extends a strip up to the line `top`.
+fn extend_to(strip: &mut Piece, top: u32)
     requires above { strip.old.rect.bottom < top }
     requires to { top ≤ world.top }
-    ensures { strip.new ≡ raised top strip.old }
+    ensures { strip.new ≡ extended top strip.old }
 {
-    let rect = strip.rect;
-    strip.rect = Rect::between(rect.left_line(), rect.bottom_line(), rect.right_line(), top);
+    let edges = strip.rect.area();
+    strip.rect = Rect::between(edges.left, edges.bottom, edges.right, top);
 }
 
-/// Begins a strip with a run, from the line `bottom` up to the line `top`, and answers its index.
-fn begin(
+/// Appends the strip that a run starts, from the line `bottom` up to the line `top`, and returns its index.
+/// Fails if there are `limit` strips already.
+fn push_strip(
     run: &Run,
     bottom: u32,
     top: u32,
@@ -56,8 +58,8 @@ fn begin(
 ) -> Result<usize, TooMany>
     requires room { limit ≤ vec_capacity strips.old }
     requires within { vec_len strips.old ≤ limit }
-    requires legal { IsRectangleIn world (begun bottom top run.now).rect }
-    ensures begun { OnOk result (strips.new.items ≡ strips.old.items ++ begun bottom top run.now ∷ []) }
+    requires legal { IsRectangleIn world (new_strip bottom top run.now).rect }
+    ensures pushed { OnOk result (strips.new.items ≡ strips.old.items ++ new_strip bottom top run.now ∷ []) }
     ensures index { IfOk result (λ strip. strip ≡ vec_len strips.old) }
     ensures too_many { IsErr result ↔ (vec_len strips.old ≡ limit) }
     ensures within { vec_len strips.new ≤ limit }
@@ -74,9 +76,10 @@ fn begin(
     Ok(strip)
 }
 
-/// Stacks a band, from the line `bottom` up to the line `top`, on the strips below it. `below` has the
-/// runs of the row under the band, and `row` those of the band's rows, which are all alike.
-/// A run that stands on a run of the same ends and kind belongs to its strip, and any other begins one.
+/// Stacks a band, from the line `bottom` up to the line `top`, on the strips below it.
+///
+/// `below` has the runs of the row below the band, and `row` those of the band's rows, which are all alike.
+/// A run above a run with the same ends and kind extends its strip, and any other run starts a strip.
 pub(crate) fn stack(
     below: &[Run],
     row: &mut [Run],
@@ -110,15 +113,15 @@ pub(crate) fn stack(
     ensures within { OnOk result (vec_len strips.new ≤ limit) }
     ensures room { vec_capacity strips.new ≡ vec_capacity strips.old }
 {
-    let mut place = 0;
+    let mut index = 0;
     for run in row.iter_mut() {
-        place = skip(below, place, run.left);
-        run.strip = match strip_below(below, place, run) {
+        index = first_at_or_after(below, index, run.left);
+        run.strip = match strip_below(below, index, run) {
             Some(strip) => {
-                raise(&mut strips[strip], top);
+                extend_to(&mut strips[strip], top);
                 strip
             }
-            None => begin(run, bottom, top, limit, strips)?,
+            None => push_strip(run, bottom, top, limit, strips)?,
         };
     }
     Ok(())

@@ -1,13 +1,12 @@
 //! The maximal strips of painted planes.
 ghost use Rattle.std.specs.Prelude.{◌≡◌, ℕ, ◌+◌, ◌<◌, ◌≤◌, ◌↔◌, ◌++◌, [], IfOk, OnOk, OnErr, IsErr, length, vec_len, vec_capacity};
-ghost use Rattle.mls_geom.specs.ActivePieces.{AreStarts};
-ghost use Rattle.mls_geom.specs.BandLines.{AreBandLines};
+ghost use Rattle.mls_geom.specs.Sweep.ActivePieces.{AreStarts};
+ghost use Rattle.mls_geom.specs.Sweep.BandLines.{AreBandLines};
 ghost use Rattle.mls_geom.specs.Pictures.{overlaid, picture_of};
-ghost use Rattle.mls_geom.specs.Rows.{AreLegal};
-ghost use Rattle.mls_geom.specs.Stacks.{AreStacked};
+ghost use Rattle.mls_geom.specs.World.{AreLegal, world};
+ghost use Rattle.mls_geom.specs.Sweep.Stacks.{AreStacked};
 ghost use Rattle.mls_geom.specs.Strips.{AreStrips};
 ghost use Rattle.mls_geom.specs.TileCounts.{tile_count};
-ghost use Rattle.mls_geom.specs.World.{world};
 
 use crate::active::{Start, activate, list_starts};
 use crate::bands::list_band_lines;
@@ -19,12 +18,12 @@ use std::alloc::{AllocError, Global};
 use std::mem::swap;
 use thiserror::Error;
 
-/// A plane would have more tiles than it may.
+/// The plane would have more strips than its limit.
 #[derive(Clone, Copy, Debug, PartialEq, Eq, Error)]
 #[error("too many tiles")]
 pub struct TooMany;
 
-/// Room to sweep upward over pieces in.
+/// Buffers of a sweep upward over pieces.
 #[derive(Drop)]
 pub(crate) struct Sweep {
     pieces: Vec<Piece>,
@@ -37,9 +36,9 @@ pub(crate) struct Sweep {
 }
 
 impl Sweep {
-    ghost use Rattle.mls_geom.specs.SweepRooms.{HasSweepRoom};
+    ghost use Rattle.mls_geom.specs.Sweep.SweepRooms.{HasSweepRoom};
 
-    /// Reserves the room for so many pieces and so many strips.
+    /// Reserves room for `room` pieces and `room` strips.
     pub(crate) fn new(alloc: Global, room: u32) -> Result<Sweep, AllocError>
         ensures { IfOk result (λ sweep. HasSweepRoom sweep room) }
     {
@@ -61,7 +60,7 @@ impl Sweep {
         })
     }
 
-    /// Lists the cover's pieces, and after them those painted over it.
+    /// Lists the pieces of the cover, and after them those that are painted over it.
     fn gather(&mut self, cover: &[Piece], over: &[Piece])
         requires { length cover.now + length over.now ≤ vec_capacity self.old.pieces }
         ensures pieces { self.new.pieces.items ≡ cover.now ++ over.now }
@@ -111,7 +110,7 @@ impl Sweep {
         Ok(())
     }
 
-    /// Leaves in `strips` the maximal strips that the gathered pieces show.
+    /// Fills `strips` with the maximal strips that the gathered pieces show.
     fn find_strips(&mut self, limit: usize) -> Result<(), TooMany>
         requires room { HasSweepRoom self.old (vec_len self.old.pieces) }
         requires limit { limit ≤ vec_capacity self.old.strips }
@@ -130,8 +129,11 @@ impl Sweep {
     }
 }
 
-/// Leaves in the scratch the maximal strips of a list of pieces that covers the world, with other pieces
-/// painted over it in turn, and answers their number.
+/// Finds the maximal strips of a plane with pieces painted over it in turn, leaves them in the scratch,
+/// and returns their number.
+///
+/// `cover` has the pieces of the plane; a square of none of them is space. Fails if there are more than
+/// `limit` strips, and then leaves the scratch as it was.
 pub fn strips(
     cover: &[Piece],
     over: &[Piece],
@@ -152,6 +154,3 @@ pub fn strips(
     swap(&mut scratch.strips, &mut scratch.sweep.strips);
     Ok(scratch.strips.len())
 }
-
-#[cfg(test)]
-mod tests;

@@ -1,45 +1,46 @@
-//! The lines of the world.
+//! The coordinates of the world.
 ghost use Rattle.std.specs.Prelude.{◌≡◌, ◌≤◌, ◌+ℤ◌, pos, false};
-ghost use Rattle.mls_geom.specs.World.{is_outside, line_of, world};
+ghost use Rattle.mls_geom.specs.World as spec;
+ghost use Rattle.mls_geom.specs.World.{origin, world};
 
-/// How many squares the world reaches to each side of the user's line 0.
+/// How many squares the world reaches from the user's 0 to each side.
 const REACH: u32 = 32_768;
 
-/// The line that users call 0. Lines are counted from a corner far outside the world, so that the
-/// squares round the world have numbers too.
-pub const ORIGIN: u32 = 4_194_304;
+/// What users call 0. Coordinates are counted from a corner far outside the world, so that the squares
+/// round the world have numbers too.
+const ORIGIN: u32 = 4_194_304;
 
-/// The world's left line and its bottom line: the user's line -32768.
-pub const LOW: u32 = ORIGIN - REACH;
+/// The least coordinate of the world, which users call -32768.
+pub(crate) const LOW: u32 = ORIGIN - REACH;
 
-/// The world's right line and its top line: the user's line 32768.
-pub const HIGH: u32 = ORIGIN + REACH;
+/// The greatest coordinate of the world, which users call 32768.
+pub(crate) const HIGH: u32 = ORIGIN + REACH;
 
-/// Whether the user's line is none of the world's.
+/// Returns whether the user's coordinate lies outside the world.
 #[tactic(auto, unfolding(crate::specs::World::is_outside))]
-pub(crate) fn is_outside(line: i32) -> bool
-    ensures { result ≡ is_outside line }
+pub(crate) fn is_outside(coordinate: i32) -> bool
+    ensures { result ≡ spec.is_outside coordinate }
 {
-    line.unsigned_abs() > REACH
+    coordinate.unsigned_abs() > REACH
 }
 
-/// The user's line, as it is counted here.
-#[tactic(auto, unfolding(crate::specs::World::is_outside, crate::specs::World::line_of))]
-pub(crate) fn line_of(line: i32) -> u32
-    requires { is_outside line ≡ false }
-    ensures value { result ≡ line_of line }
-    ensures tied { pos result ≡ line +ℤ pos ORIGIN }
+/// Returns the user's coordinate as it is counted here.
+#[tactic(auto, unfolding(crate::specs::World::is_outside, crate::specs::World::coordinate_of))]
+pub(crate) fn coordinate_of(coordinate: i32) -> u32
+    requires { spec.is_outside coordinate ≡ false }
+    ensures value { result ≡ spec.coordinate_of coordinate }
+    ensures tied { pos result ≡ coordinate +ℤ pos origin }
     ensures low { world.left ≤ result }
     ensures high { result ≤ world.right }
 {
-    (ORIGIN as i32 + line) as u32
+    (ORIGIN as i32 + coordinate) as u32
 }
 
-/// A line of the world, as users name it.
-pub(crate) fn user_line(line: u32) -> i32
-    requires low { world.left ≤ line }
-    requires high { line ≤ world.right }
-    ensures { pos line ≡ result +ℤ pos ORIGIN }
+/// Returns a coordinate as users count it.
+pub(crate) fn user_coordinate(coordinate: u32) -> i32
+    requires low { world.left ≤ coordinate }
+    requires high { coordinate ≤ world.right }
+    ensures { pos coordinate ≡ result +ℤ pos origin }
 {
-    line as i32 - ORIGIN as i32
+    coordinate as i32 - ORIGIN as i32
 }

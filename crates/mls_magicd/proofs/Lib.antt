@@ -1,5 +1,5 @@
 mod MessageLemmas
 mod OptionLemmas
-mod ProgramLemmas
 mod QuotaLemmas
 mod QuotaTexts
+mod TechnologyLemmas

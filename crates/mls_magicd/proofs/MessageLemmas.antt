@@ -8,10 +8,11 @@ use Rattle.std.specs.Borrow.{Bor}
 use Rattle.std.specs.Fmt.{decimal}
 use Rattle.std.specs.List.{flat_map}
 use Rattle.std.specs.Io.KnownBytes.{Appends}
-use Rattle.mls_wire.specs.Serving.{AppendsFront}
+use Rattle.mls_wire.specs.Serving.{AppendsFront, serve_fault_text}
+use Rattle.mls_wire.specs.declared.serving.ServeFault.{ServeFault}
 use Rattle.mls_wire.specs.Watches.{Watched}
 use Rattle.mls_tech.specs.declared.rule_line.Skipped.{Skipped}
-use Rattle.mls_magicd.specs.Messages.{Says, Tells, faulty_line, skipped_line, unreadable_line}
+use Rattle.mls_magicd.specs.Messages.{ReportsAll, Reports, faulty_line, serve_fault_line, skipped_line, unreadable_line}
 
 -- the text of parts
 abbrev pub text_of : List (Bor (List ℕ)) → List ℕ
@@ -27,7 +28,7 @@ text_of-more parts i d within =
     append_nil [] = refl
     append_nil (x ∷ xs) = ap (λ l. x ∷ l) (append_nil xs)
 
--- the parts up to one, that part, and those behind it
+-- the parts up to one, that part, and those after it
 text_of-split : (parts : List (Bor (List ℕ))) (i : ℕ) (d : Bor (List ℕ)) → i < length parts
     → text_of parts ≡ (text_of (take i parts) ++ (get_or parts i d).now) ++ text_of (drop (i + 1) parts)
 text_of-split parts i d within =
@@ -52,18 +53,18 @@ front-more old mid new parts i d within before front missing split written =
     regroup : (a b c d : List ℕ) → (a ++ (b ++ c)) ++ d ≡ (a ++ b) ++ (c ++ d)
     regroup a b c d = simp append_assoc
 
--- nothing was said
-pub Says-nil : {E : Type 0} (contents : E → Option (List ℕ)) (watch : Watched E) → Says contents watch watch []
-unfolding Says
-Says-nil contents watch = refl
+-- nothing was reported
+pub ReportsAll-nil : {E : Type 0} (contents : E → Option (List ℕ)) (watch : Watched E) → ReportsAll contents watch watch []
+unfolding ReportsAll
+ReportsAll-nil contents watch = refl
 
 -- one message more
-pub Says-more : {E : Type 0} (contents : E → Option (List ℕ)) (old mid new : Watched E) (messages : List (List ℕ)) (message : List ℕ)
-    → Says contents old mid messages → Tells contents mid new message → Says contents old new (messages ++ message ∷ [])
-unfolding Says
-Says-more {E} contents old mid new [] message before told = (new, subst (λ (w : Watched E). Tells contents w new message) before told, refl)
-Says-more contents old mid new (first ∷ messages) message before told =
-    (before.0, before.1, Says-more contents before.0 mid new messages message before.2 told)
+pub ReportsAll-more : {E : Type 0} (contents : E → Option (List ℕ)) (old mid new : Watched E) (messages : List (List ℕ)) (message : List ℕ)
+    → ReportsAll contents old mid messages → Reports contents mid new message → ReportsAll contents old new (messages ++ message ∷ [])
+unfolding ReportsAll
+ReportsAll-more {E} contents old mid new [] message before reported = (new, subst (λ (w : Watched E). Reports contents w new message) before reported, refl)
+ReportsAll-more contents old mid new (first ∷ messages) message before reported =
+    (before.0, before.1, ReportsAll-more contents before.0 mid new messages message before.2 reported)
 
 -- the texts of one element more
 pub map-more : {X : Type 0} (f : X → List ℕ) (xs : List X) (i : ℕ) (x : X) → i < length xs → x ≡ get_or xs i x
@@ -77,11 +78,16 @@ pub skipped_line-parts : (skipped : Skipped) (line keyword : List ℕ) → line 
 unfolding skipped_line
 skipped_line-parts skipped line keyword line_is keyword_is = rw (line_is, keyword_is) (simp append_assoc)
 
-pub faulty_line-parts : (sort : List ℕ) (n m : ℕ) (line number words : List ℕ) → line ≡ decimal n → number ≡ decimal m
-    → codes "magicd: tech line " ++ (line ++ (sort ++ (number ++ (32 ∷ [] ++ (words ++ 10 ∷ []))))) ≡ faulty_line sort n m words
+pub faulty_line-parts : (sort words : List ℕ) (n m : ℕ) (line number text : List ℕ) → line ≡ decimal n → number ≡ decimal m → text ≡ words
+    → codes "magicd: tech line " ++ (line ++ (sort ++ (number ++ (32 ∷ [] ++ (text ++ 10 ∷ []))))) ≡ faulty_line sort n m words
 unfolding faulty_line
-faulty_line-parts sort n m line number words line_is number_is = rw (line_is, number_is) (simp append_assoc)
+faulty_line-parts sort words n m line number text line_is number_is text_is = rw (line_is, number_is, text_is) (simp append_assoc)
 
 pub unreadable_line-parts : (path part : List ℕ) → part ≡ path → codes "magicd: cannot read " ++ (part ++ 10 ∷ []) ≡ unreadable_line path
 unfolding unreadable_line
 unreadable_line-parts path part part_is = rw part_is (simp append_assoc)
+
+pub serve_fault_line-parts : (fault : ServeFault) (part : List ℕ) → part ≡ serve_fault_text fault
+    → codes "magicd: " ++ (part ++ 10 ∷ []) ≡ serve_fault_line fault
+unfolding serve_fault_line
+serve_fault_line-parts fault part part_is = rw part_is (simp append_assoc)

@@ -1,4 +1,4 @@
--- What the parser says of the words, by the definitions of the command line.
+-- The parser's results, by the definitions of the command line.
 use Rattle.std.proofs.Common.{◌≡◌, ◌∙◌, ℕ, List, [], Option, Some, None, true, false, inl, inr, ap, ap₂, refl, sym, subst, codes}
 use Rattle.clap.proofs.WalkLemmas.{first_value-rows, one_text-rows}
 use Rattle.clap.specs.Words.{App, Text, AddsArg, HasKind, HasMatchesOf, IsAmong, Kinds, app_of, fault_of, first_of, first_value, found_of, is_simple, is_simple_and_free, kind_of, matches_of, new_app, one_of, one_text, rows_of, rule_of, with_rule}
@@ -31,7 +31,7 @@ pub magicd-free : is_simple_and_free magicd ≡ true
 unfolding magicd
 magicd-free = refl
 
--- words that are refused, but not for want of memory, have a fault
+-- words that are refused, and not since memory ran out, have a fault
 pub refused-for_fault : (words : List Text) (command : Command) (error : Error) (fault : OptionsFault) → app_of command ≡ magicd
     → (is_simple_and_free (app_of command) ≡ true → HasKind (fault_of (app_of command) words) error)
     → (kind_of error ≡ OutOfMemory → fault ≡ Memory) → IsRefusedBy words fault

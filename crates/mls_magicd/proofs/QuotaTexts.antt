@@ -95,7 +95,7 @@ reading-is : (command : Command) (m : ArgMatches) (p : IsParsedFrom command m) �
 reading-is command m p built how any =
     sym any.4.1 ∙ ap reading_of (quota-parser command m p built any.0 any.1 any.2 any.3 any.4.0)
 
--- what the entry of the quota gives
+-- the text of the entry of the quota
 entry-text : (command : Command) (m : ArgMatches) (p : IsParsedFrom command m) → app_of command ≡ magicd → groups_of p.built ≡ []
     → (e : Entry) → e.0.now ≡ codes "quota" → EntryPasses p.built e
     → (v : Bor (List ℕ)) (rest : List (Bor (List ℕ))) → e.1.vals.items ≡ v ∷ rest → IsQuotaText (read_as e.1.reading v.now)

@@ -1,8 +1,9 @@
--- The command line of `magicd`, and what its words say. This project's own.
+-- The command line of `magicd`, and what its words mean. This project's own.
 use Rattle.std.specs.Prelude.{◌≡◌, ◌≢◌, ℕ, Option, Some, None, List, [], Result, Ok, Err, pos, codes, option_map, ⊤}
 use Rattle.std.specs.Str.Parse.{digits_value, without_leading_plus}
 use Rattle.clap.specs.Words.{App, IsSignedIn, Kinds, Rule, Text, without_minus, fault_of, first_of, matches_of, new_app, new_rule, one_of, with_rule}
 use Rattle.clap.specs.declared.builder.value_parser.ValueParser.TheVariants.{Signed}
+use Rattle.mls_session.specs.Quotas.{least_quota, most_quota, default_quota}
 use Rattle.mls_magicd.specs.declared.options.Options.{Options}
 use Rattle.mls_magicd.specs.declared.options.OptionsFault.{OptionsFault}
 use Rattle.mls_magicd.specs.declared.options.OptionsFault.TheVariants.{Memory, Refused}
@@ -11,9 +12,9 @@ use Rattle.mls_magicd.specs.declared.options.OptionsFault.TheVariants.{Memory, R
 abbrev pub tech_rule : Rule
 tech_rule = record (new_rule (codes "tech")) { long = Some (codes "tech"); value_names = 1 }
 
--- `--quota N`, a number from 5 to 16384
+-- `--quota N`, a number that is a quota
 abbrev pub quota_rule : Rule
-quota_rule = record (new_rule (codes "quota")) { long = Some (codes "quota"); value_names = 1; parser = Some (Signed (pos 5) (pos 16384)) }
+quota_rule = record (new_rule (codes "quota")) { long = Some (codes "quota"); value_names = 1; parser = Some (Signed (pos least_quota) (pos most_quota)) }
 
 -- the two options, and the parser's own `--help`
 unfoldable pub magicd : App
@@ -37,11 +38,11 @@ number_in text = digits_value 10 (without_leading_plus text)
 
 -- the parser takes the text for a quota
 abbrev pub IsQuotaText : Text → Type 0
-IsQuotaText text = (written : Text) × (text ≡ without_minus written) × IsSignedIn (pos 5) (pos 16384) written
+IsQuotaText text = (written : Text) × (text ≡ without_minus written) × IsSignedIn (pos least_quota) (pos most_quota) written
 
--- the quota is the number that is named, or else 1024
+-- the quota is the number that is named, or else the default
 abbrev pub IsQuotaOf : Option Text → ℕ → Type 0
-IsQuotaOf None quota = quota ≡ 1024
+IsQuotaOf None quota = quota ≡ default_quota
 IsQuotaOf (Some text) quota = quota ≡ number_in text
 
 -- the words have no fault, and give these options
@@ -49,7 +50,7 @@ abbrev pub ParsesAs : List Text → Options → Type 0
 ParsesAs words options =
     (faults_in words ≡ []) × (option_map (λ path. path.now) options.tech ≡ file_named words) × IsQuotaOf (quota_named words) options.quota
 
--- the words are refused for a fault that they have; want of memory is left open
+-- the words are refused for a fault that they have; out of memory is left open
 abbrev pub IsRefusedBy : List Text → OptionsFault → Type 0
 IsRefusedBy words Memory = ⊤
 IsRefusedBy words (Refused text) = faults_in words ≢ []

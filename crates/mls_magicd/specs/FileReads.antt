@@ -1,4 +1,4 @@
--- What reading a file gives. This project's own.
+-- The results of reading a file. This project's own.
 use Rattle.std.specs.Prelude.{Result, Ok, Err, ⊤}
 use Rattle.mls_magicd.specs.declared.files.FileFault.{FileFault}
 use Rattle.mls_magicd.specs.declared.files.FileFault.TheVariants.{Unreadable, Memory}

@@ -1,71 +1,50 @@
--- What the program says, each message a line, and what of it is written. This project's own.
+-- The messages of the program, each a line but for the parser's, and what of them is written. This project's own.
 use Rattle.std.specs.Prelude.{◌≡◌, ◌⊎◌, ℕ, Option, List, [], ◌∷◌, ◌++◌, codes}
 use Rattle.std.specs.Fmt.{decimal}
 use Rattle.std.specs.Io.KnownBytes.{Appends}
-use Rattle.mls_edgerule.specs.Faults.{fault_number as rule_fault_number}
+use Rattle.mls_edgerule.specs.Faults.{rule_fault_number, rule_fault_text}
 use Rattle.mls_edgerule.specs.declared.fault.RuleFault.{RuleFault}
-use Rattle.mls_edgerule.specs.declared.fault.RuleFaultKind.{RuleFaultKind}
-use Rattle.mls_edgerule.specs.declared.fault.RuleFaultKind.TheVariants.{Planes, TooManyRules}
-use Rattle.mls_tech.specs.Faults.{fault_number}
+use Rattle.mls_tech.specs.Faults.{fault_number as tech_fault_number, fault_text as tech_fault_text}
 use Rattle.mls_tech.specs.declared.fault.TechFault.{TechFault}
-use Rattle.mls_tech.specs.declared.fault.TechFaultKind.{TechFaultKind}
-use Rattle.mls_tech.specs.declared.fault.TechFaultKind.TheVariants.{NotUtf8, NoEnd, UnknownPlane, UnknownType, NameTwice, BadNumber, BadList, BadForm, Limit, Memory}
 use Rattle.mls_tech.specs.declared.rule_line.Skipped.{Skipped}
 use Rattle.std.specs.String.{string_bytes}
+use Rattle.mls_magicd.specs.declared.fault.Fault.{Fault}
+use Rattle.mls_magicd.specs.declared.fault.Fault.TheVariants.{Options, Technology, Rule, Serve}
 use Rattle.mls_magicd.specs.declared.options.OptionsFault.{OptionsFault}
 use Rattle.mls_magicd.specs.declared.options.OptionsFault.TheVariants.{Refused, Memory as OptionsMemory}
 use Rattle.mls_magicd.specs.declared.technology.TechnologyFault.{TechnologyFault}
 use Rattle.mls_magicd.specs.declared.technology.TechnologyFault.TheVariants.{Unreadable, Faulty, Memory as TechnologyMemory}
-use Rattle.mls_wire.specs.Serving.{AppendsFront}
+use Rattle.mls_wire.specs.Serving.{AppendsFront, serve_fault_text}
 use Rattle.mls_wire.specs.Watches.{Watched, HasCause}
 use Rattle.mls_wire.specs.declared.serving.ServeFault.{ServeFault}
-use Rattle.mls_wire.specs.declared.serving.ServeFault.TheVariants.{Read, Write, Memory as ServeMemory}
 
 -- ---- texts
 
 abbrev pub memory_line : List ℕ
 memory_line = codes "magicd: memory\n"
 
-abbrev pub serve_fault_line : ServeFault → List ℕ
-serve_fault_line Read = codes "magicd: input failed\n"
-serve_fault_line Write = codes "magicd: output failed\n"
-serve_fault_line ServeMemory = memory_line
+unfoldable pub serve_fault_line : ServeFault → List ℕ
+serve_fault_line fault = codes "magicd: " ++ serve_fault_text fault ++ 10 ∷ []
 
 unfoldable pub unreadable_line : List ℕ → List ℕ
 unreadable_line path = codes "magicd: cannot read " ++ path ++ 10 ∷ []
 
-abbrev pub fault_words : TechFaultKind → List ℕ
-fault_words NotUtf8 = codes "not UTF-8"
-fault_words NoEnd = codes "no end"
-fault_words UnknownPlane = codes "unknown plane"
-fault_words UnknownType = codes "unknown type"
-fault_words NameTwice = codes "name twice"
-fault_words BadNumber = codes "bad number"
-fault_words BadList = codes "bad list"
-fault_words BadForm = codes "bad form"
-fault_words Limit = codes "limit"
-fault_words Memory = codes "memory"
-
 -- a line of the technology has a fault of this sort
 unfoldable pub faulty_line : List ℕ → ℕ → ℕ → List ℕ → List ℕ
-faulty_line sort line number words = codes "magicd: tech line " ++ decimal line ++ sort ++ decimal number ++ 32 ∷ words ++ 10 ∷ []
+faulty_line sort line number text = codes "magicd: tech line " ++ decimal line ++ sort ++ decimal number ++ 32 ∷ text ++ 10 ∷ []
 
--- the technology's fault, with its line, number and words
-abbrev pub fault_line : TechFault → List ℕ
-fault_line fault = faulty_line (codes " fault ") fault.line (fault_number fault.kind) (fault_words fault.kind)
+-- the technology's fault, with its line, number and text
+abbrev pub tech_fault_line : TechFault → List ℕ
+tech_fault_line fault = faulty_line (codes " fault ") fault.line (tech_fault_number fault.kind) (tech_fault_text fault.kind)
 
-abbrev pub rule_fault_words : RuleFaultKind → List ℕ
-rule_fault_words Planes = codes "planes"
-rule_fault_words TooManyRules = codes "too many rules"
-
--- the fault of a rule line, with its line, number and words
+-- the fault of a rule line, with its line, number and text
 abbrev pub rule_fault_line : RuleFault → List ℕ
-rule_fault_line fault = faulty_line (codes " rule fault ") fault.line (rule_fault_number fault.kind) (rule_fault_words fault.kind)
+rule_fault_line fault = faulty_line (codes " rule fault ") fault.line (rule_fault_number fault.kind) (rule_fault_text fault.kind)
 
 -- why there is no technology
 abbrev pub technology_fault_line : TechnologyFault → List ℕ
 technology_fault_line (Unreadable path) = unreadable_line path.now
-technology_fault_line (Faulty fault) = fault_line fault
+technology_fault_line (Faulty fault) = tech_fault_line fault
 technology_fault_line TechnologyMemory = memory_line
 
 -- why the words are refused
@@ -73,19 +52,27 @@ abbrev pub options_fault_text : OptionsFault → List ℕ
 options_fault_text (Refused text) = string_bytes text
 options_fault_text OptionsMemory = memory_line
 
--- a line of the technology that was passed over
+-- the message for a fault of the program
+abbrev pub fault_text : Fault → List ℕ
+fault_text (Options fault) = options_fault_text fault
+fault_text (Technology fault) = technology_fault_line fault
+fault_text (Rule fault) = rule_fault_line fault
+fault_text (Serve fault) = serve_fault_line fault
+
+-- a skipped line of the technology
 unfoldable pub skipped_line : Skipped → List ℕ
 skipped_line skipped = codes "magicd: tech line " ++ decimal skipped.line ++ codes " skipped " ++ skipped.keyword ++ 10 ∷ []
 
 -- ---- what is written of them
 
 -- the message was written whole, or a beginning of it, and then the device for messages had failed
-abbrev pub Tells : {E : Type 0} → (E → Option (List ℕ)) → Watched E → Watched E → List ℕ → Type 0
-Tells contents old new message =
+abbrev pub Reports : {E : Type 0} → (E → Option (List ℕ)) → Watched E → Watched E → List ℕ → Type 0
+Reports contents old new message =
     Appends (contents old.device) (contents new.device) message
     ⊎ (AppendsFront (contents old.device) (contents new.device) message × HasCause new)
 
--- the messages were told one after another, and nothing else was written
-unfoldable pub Says : {E : Type 0} → (E → Option (List ℕ)) → Watched E → Watched E → List (List ℕ) → Type 0
-Says contents old new [] = new ≡ old
-Says {E} contents old new (message ∷ messages) = (mid : Watched E) × Tells contents old mid message × Says contents mid new messages
+-- the messages were reported one after another, and nothing else was written
+unfoldable pub ReportsAll : {E : Type 0} → (E → Option (List ℕ)) → Watched E → Watched E → List (List ℕ) → Type 0
+ReportsAll contents old new [] = new ≡ old
+ReportsAll {E} contents old new (message ∷ messages) =
+    (between : Watched E) × Reports contents old between message × ReportsAll contents between new messages

@@ -1,14 +1,21 @@
 -- Which technology is served. This project's own.
-use Rattle.std.specs.Prelude.{◌≡◌, ℕ, Option, Some, None, List, Result, Ok, Err, ⊤}
+use Rattle.std.specs.Prelude.{◌≡◌, ℕ, Option, Some, None, List, ◌++◌, Result, Ok, Err, codes, ⊤}
 use Rattle.mls_tech.specs.Readings.{Tech, ReadsUnlessMemory, reading_of}
-use Rattle.mls_tech.specs.declared.technology_m.TheConstants.{TECHNOLOGY_M}
 use Rattle.mls_tech.specs.declared.fault.TechFault.{TechFault}
 use Rattle.mls_magicd.specs.declared.technology.TechnologyFault.{TechnologyFault}
 use Rattle.mls_magicd.specs.declared.technology.TechnologyFault.TheVariants.{Unreadable, Faulty, Memory}
 
--- the technology's text is what the file at the path may be read as, or the built-in one where there is no path
+-- technology M, which is built in
+unfoldable pub technology_m : List ℕ
+technology_m =
+    codes "tech\n  M\nend\n" ++ codes "planes\n  active,a\n  metal1\nend\n"
+    ++ codes "types\n  active poly,p\n  active ndiff,nd\n  metal1 m1\nend\n"
+    ++ codes "drc\n  width poly 2 \"poly width\"\n" ++ codes "  spacing poly poly 3 touching_ok \"poly spacing\"\n"
+    ++ codes "  spacing poly ndiff 1 touching_illegal \"poly to ndiff\"\n" ++ codes "  width m1 3 \"m1 width\"\nend\n"
+
+-- the technology's text is what the file at the path may be read as, or technology M where there is no path
 abbrev pub IsTechnologyText : (List ℕ → List ℕ → Type 0) → Option (List ℕ) → List ℕ → Type 0
-IsTechnologyText reads_as None text = text ≡ TECHNOLOGY_M.now
+IsTechnologyText reads_as None text = text ≡ technology_m
 IsTechnologyText reads_as (Some path) text = reads_as path text
 
 -- the technology's text is read as this

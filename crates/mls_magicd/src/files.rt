@@ -7,7 +7,7 @@ use std::io::{self, ErrorKind, Read};
 use std::{fs, rt};
 use thiserror::Error;
 
-/// Why a file gave no bytes.
+/// Why a file can't be read.
 #[derive(Clone, Copy, Debug, PartialEq, Eq, Error)]
 pub enum FileFault {
     #[error("unreadable")]
@@ -62,7 +62,7 @@ fn read_file<R: rt::Files>(runtime: &R, alloc: Global, path: &str) -> io::Result
     Ok(bytes)
 }
 
-/// Whether memory was wanting, or the file itself.
+/// Maps out-of-memory to `Memory`, everything else to `Unreadable`.
 fn fault_of(error: io::Error) -> FileFault {
     match error.kind() {
         ErrorKind::OutOfMemory => FileFault::Memory,

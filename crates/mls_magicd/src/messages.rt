@@ -1,109 +1,109 @@
-//! What the program says on its device for messages.
-ghost use Rattle.std.specs.Prelude.{◌≡◌, map, OnOk, OnErr};
+//! The messages of the program.
+ghost use Rattle.std.specs.Prelude.{◌≡◌, map, IfSome, OnOk, OnErr};
 ghost use Rattle.std.specs.List.{flat_map};
 ghost use Rattle.std.specs.Io.KnownBytes.{Appends};
 ghost use Rattle.mls_wire.specs.Serving.{AppendsFront};
 ghost use Rattle.mls_wire.specs.Watches.{HasCause};
-ghost use Rattle.mls_magicd.specs.Messages.{Says, Tells, fault_line, fault_words, faulty_line, options_fault_text, rule_fault_line, rule_fault_words, serve_fault_line, skipped_line, technology_fault_line, unreadable_line};
+ghost use Rattle.mls_magicd.specs.Messages as spec;
 
-use crate::options::OptionsFault;
-use crate::technology::TechnologyFault;
+use crate::{Fault, OptionsFault, TechnologyFault};
+use arrayvec::ArrayVec;
 use itoa::Buffer;
-use mls_edgerule::{RuleFault, RuleFaultKind};
-use mls_tech::{Skipped, TechFault, TechFaultKind};
+use mls_edgerule::RuleFault;
+use mls_tech::{Skipped, TechFault};
 use mls_wire::{ServeFault, Watched, WriteFault};
 use std::io::Write;
 
 const MEMORY: &[u8] = b"magicd: memory\n";
 
-/// Writes a message. Where it can't be written, there is nowhere left to say so.
-fn tell<E: Write>(faults: &mut Watched<E>, parts: &[&[u8]])
-    ensures { Tells E.contents faults.old faults.new (flat_map (λ part. part.now) parts.now) }
-{
-    let _ = write_parts(faults, parts);
-}
+/// The longest message that is written in one piece.
+const MESSAGE_ROOM: usize = 512;
 
-fn write_parts<E: Write>(faults: &mut Watched<E>, parts: &[&[u8]]) -> Result<(), WriteFault>
-    ensures ok { OnOk result
-        (Appends (E.contents faults.old.device) (E.contents faults.new.device) (flat_map (λ part. part.now) parts.now)) }
-    ensures err { OnErr result
-        (AppendsFront (E.contents faults.old.device) (E.contents faults.new.device) (flat_map (λ part. part.now) parts.now)) }
-    ensures cause { OnErr result (HasCause faults.new) }
-{
-    for part in parts {
-        faults.write_whole(part)?;
-    }
-    Ok(())
-}
-
-/// Says why the words of the command line are refused.
-pub fn tell_options_fault<E: Write>(faults: &mut Watched<E>, fault: &OptionsFault)
-    ensures { Tells E.contents faults.old faults.new (options_fault_text fault.now) }
+/// Reports a fault of the program.
+pub fn report_fault<E: Write>(faults: &mut Watched<E>, fault: &Fault<'_>)
+    ensures { spec.Reports E.contents faults.old faults.new (spec.fault_text fault.now) }
 {
     match fault {
-        OptionsFault::Refused(text) => tell(faults, &[text.as_bytes()]),
-        OptionsFault::Memory => tell(faults, &[MEMORY]),
+        Fault::Options(fault) => report_options_fault(faults, fault),
+        Fault::Technology(fault) => report_technology_fault(faults, *fault),
+        Fault::Rule(fault) => report_rule_fault(faults, *fault),
+        Fault::Serve(fault) => report_serve_fault(faults, *fault),
     }
 }
 
-/// Says why there is no technology.
-pub fn tell_technology_fault<E: Write>(faults: &mut Watched<E>, fault: TechnologyFault<'_>)
-    ensures { Tells E.contents faults.old faults.new (technology_fault_line fault.entry) }
+/// Reports each skipped line of a technology.
+pub fn report_skipped<E: Write>(faults: &mut Watched<E>, skipped: &[Skipped])
+    ensures { spec.ReportsAll E.contents faults.old faults.new (map spec.skipped_line skipped.now) }
+{
+    for line in skipped {
+        report_skipped_line(faults, line);
+    }
+}
+
+/// Reports why the words of the command line are refused.
+fn report_options_fault<E: Write>(faults: &mut Watched<E>, fault: &OptionsFault)
+    ensures { spec.Reports E.contents faults.old faults.new (spec.options_fault_text fault.now) }
 {
     match fault {
-        TechnologyFault::Unreadable(path) => tell_unreadable(faults, path),
-        TechnologyFault::Faulty(fault) => tell_tech_fault(faults, fault),
-        TechnologyFault::Memory => tell(faults, &[MEMORY]),
+        OptionsFault::Refused(text) => report(faults, &[text.as_bytes()]),
+        OptionsFault::Memory => report(faults, &[MEMORY]),
     }
 }
 
-/// Says why a script was left before its end.
-pub fn tell_serve_fault<E: Write>(faults: &mut Watched<E>, fault: ServeFault)
-    ensures { Tells E.contents faults.old faults.new (serve_fault_line fault) }
+/// Reports why there is no technology.
+fn report_technology_fault<E: Write>(faults: &mut Watched<E>, fault: TechnologyFault<'_>)
+    ensures { spec.Reports E.contents faults.old faults.new (spec.technology_fault_line fault.entry) }
 {
     match fault {
-        ServeFault::Read => tell(faults, &[b"magicd: input failed\n"]),
-        ServeFault::Write => tell(faults, &[b"magicd: output failed\n"]),
-        ServeFault::Memory => tell(faults, &[MEMORY]),
+        TechnologyFault::Unreadable(path) => report_unreadable(faults, path),
+        TechnologyFault::Faulty(fault) => report_tech_fault(faults, fault),
+        TechnologyFault::Memory => report(faults, &[MEMORY]),
     }
 }
 
-/// Says which file can't be read.
-fn tell_unreadable<E: Write>(faults: &mut Watched<E>, path: &str)
-    ensures { Tells E.contents faults.old faults.new (unreadable_line path.now) }
+/// Reports why a script was left before its end.
+fn report_serve_fault<E: Write>(faults: &mut Watched<E>, fault: ServeFault)
+    ensures { spec.Reports E.contents faults.old faults.new (spec.serve_fault_line fault) }
 {
-    tell(faults, &[b"magicd: cannot read ", path.as_bytes(), b"\n"]);
+    report(faults, &[b"magicd: ", fault.text().as_bytes(), b"\n"]);
 }
 
-/// Says what is wrong with the technology, and where.
-fn tell_tech_fault<E: Write>(faults: &mut Watched<E>, fault: TechFault)
-    ensures { Tells E.contents faults.old faults.new (fault_line fault) }
+/// Reports that the file at a path can't be read.
+fn report_unreadable<E: Write>(faults: &mut Watched<E>, path: &str)
+    ensures { spec.Reports E.contents faults.old faults.new (spec.unreadable_line path.now) }
 {
-    let text = fault_text(fault.kind);
-    tell_fault(faults, b" fault ", fault.line, fault.kind.number(), text);
+    report(faults, &[b"magicd: cannot read ", path.as_bytes(), b"\n"]);
 }
 
-/// Says which rule line gives no rule, and why.
-pub fn tell_rule_fault<E: Write>(faults: &mut Watched<E>, fault: RuleFault)
-    ensures { Tells E.contents faults.old faults.new (rule_fault_line fault) }
+/// Reports a fault of the technology file.
+fn report_tech_fault<E: Write>(faults: &mut Watched<E>, fault: TechFault)
+    ensures { spec.Reports E.contents faults.old faults.new (spec.tech_fault_line fault) }
 {
-    let text = rule_fault_text(fault.kind);
-    tell_fault(
-        faults,
-        b" rule fault ",
-        fault.line,
-        fault.kind.number(),
-        text,
-    );
+    let TechFault { line, kind } = fault;
+    report_faulty_line(faults, b" fault ", line, kind.number(), kind.text());
 }
 
-/// Says that a line of the technology has a fault of this sort.
-fn tell_fault<E: Write>(faults: &mut Watched<E>, sort: &[u8], line: usize, number: u8, text: &[u8])
-    ensures { Tells E.contents faults.old faults.new (faulty_line sort.now line number text.now) }
+/// Reports a rule line that can't be compiled.
+fn report_rule_fault<E: Write>(faults: &mut Watched<E>, fault: RuleFault)
+    ensures { spec.Reports E.contents faults.old faults.new (spec.rule_fault_line fault) }
+{
+    let RuleFault { line, kind } = fault;
+    report_faulty_line(faults, b" rule fault ", line, kind.number(), kind.text());
+}
+
+/// Reports a fault of this sort in a line of the technology file.
+fn report_faulty_line<E: Write>(
+    faults: &mut Watched<E>,
+    sort: &[u8],
+    line: usize,
+    number: u8,
+    text: &str,
+)
+    ensures { spec.Reports E.contents faults.old faults.new (spec.faulty_line sort.now line number text.now) }
 {
     let mut line_text = Buffer::new();
     let mut number_text = Buffer::new();
-    tell(
+    report(
         faults,
         &[
             b"magicd: tech line ",
@@ -111,26 +111,18 @@ fn tell_fault<E: Write>(faults: &mut Watched<E>, sort: &[u8], line: usize, numbe
             sort,
             number_text.format(number).as_bytes(),
             b" ",
-            text,
+            text.as_bytes(),
             b"\n",
         ],
     );
 }
 
-/// Says which lines of the technology were passed over.
-pub fn tell_skipped<E: Write>(faults: &mut Watched<E>, skipped: &[Skipped])
-    ensures { Says E.contents faults.old faults.new (map skipped_line skipped.now) }
-{
-    for line in skipped {
-        tell_skipped_line(faults, line);
-    }
-}
-
-fn tell_skipped_line<E: Write>(faults: &mut Watched<E>, skipped: &Skipped)
-    ensures { Tells E.contents faults.old faults.new (skipped_line skipped.now) }
+/// Reports a skipped line of the technology file.
+fn report_skipped_line<E: Write>(faults: &mut Watched<E>, skipped: &Skipped)
+    ensures { spec.Reports E.contents faults.old faults.new (spec.skipped_line skipped.now) }
 {
     let mut line = Buffer::new();
-    tell(
+    report(
         faults,
         &[
             b"magicd: tech line ",
@@ -142,30 +134,43 @@ fn tell_skipped_line<E: Write>(faults: &mut Watched<E>, skipped: &Skipped)
     );
 }
 
-/// The words for a fault of a technology.
-fn fault_text(kind: TechFaultKind) -> &'static [u8]
-    ensures { result.now ≡ fault_words kind }
+/// Writes the message that the parts make up.
+///
+/// It takes no memory, so that out of memory can be reported too: a message that fits on the stack is written in one
+/// piece, a longer one (a path, a keyword or the parser's text is long) part by part.
+fn report<E: Write>(faults: &mut Watched<E>, parts: &[&[u8]])
+    ensures { spec.Reports E.contents faults.old faults.new (flat_map (λ part. part.now) parts.now) }
 {
-    match kind {
-        TechFaultKind::NotUtf8 => b"not UTF-8",
-        TechFaultKind::NoEnd => b"no end",
-        TechFaultKind::UnknownPlane => b"unknown plane",
-        TechFaultKind::UnknownType => b"unknown type",
-        TechFaultKind::NameTwice => b"name twice",
-        TechFaultKind::BadNumber => b"bad number",
-        TechFaultKind::BadList => b"bad list",
-        TechFaultKind::BadForm => b"bad form",
-        TechFaultKind::Limit => b"limit",
-        TechFaultKind::Memory => b"memory",
-    }
+    // If the message can't be written, there is nowhere else to report that.
+    let _ = match joined(parts) {
+        Some(message) => faults.write_whole(&message),
+        None => write_parts(faults, parts),
+    };
 }
 
-/// The words for a fault of a rule line.
-fn rule_fault_text(kind: RuleFaultKind) -> &'static [u8]
-    ensures { result.now ≡ rule_fault_words kind }
+/// Joins the parts, if there is room for all of them.
+fn joined(parts: &[&[u8]]) -> Option<ArrayVec<u8, MESSAGE_ROOM>>
+    ensures { IfSome result (λ message. message.items ≡ flat_map (λ part. part.now) parts.now) }
 {
-    match kind {
-        RuleFaultKind::Planes => b"planes",
-        RuleFaultKind::TooManyRules => b"too many rules",
+    let mut message = ArrayVec::new();
+    for part in parts {
+        if message.try_extend_from_slice(part).is_err() {
+            return None;
+        }
     }
+    Some(message)
+}
+
+/// Writes the parts one after another.
+fn write_parts<E: Write>(faults: &mut Watched<E>, parts: &[&[u8]]) -> Result<(), WriteFault>
+    ensures ok { OnOk result
+        (Appends (E.contents faults.old.device) (E.contents faults.new.device) (flat_map (λ part. part.now) parts.now)) }
+    ensures err { OnErr result
+        (AppendsFront (E.contents faults.old.device) (E.contents faults.new.device) (flat_map (λ part. part.now) parts.now)) }
+    ensures cause { OnErr result (HasCause faults.new) }
+{
+    for part in parts {
+        faults.write_whole(part)?;
+    }
+    Ok(())
 }

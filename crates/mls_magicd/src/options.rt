@@ -3,6 +3,7 @@ ghost use Rattle.std.specs.Prelude.{◌≡◌, ℕ, List, IfOk, map, codes, fals
 ghost use Rattle.clap.specs.declared.builder.command.Command.TheViews.{out-Command as fields_of};
 ghost use Rattle.clap.specs.Words.{app_of, found_of, kind_of, one_text, rule_of, IsPlain, IsPlainArg};
 ghost use Rattle.clap.specs.declared.error.kind.ErrorKind.TheVariants.{OutOfMemory};
+ghost use Rattle.mls_session.specs.Quotas.{default_quota};
 ghost use Rattle.mls_magicd.specs.CommandLines.{magicd, tech_rule, quota_rule, number_in, IsQuotaText, ParsesWords};
 
 use clap::error::ErrorKind;
@@ -17,16 +18,16 @@ use thiserror::Error;
 pub struct Options<'a> {
     /// The path of the technology's file, if they name one.
     pub tech: Option<&'a str>,
-    /// How many tiles a plane may have.
+    /// The most tiles that a plane may have.
     pub quota: Quota,
 }
 
-/// Why the words of the command line give no options.
+/// Why the words of the command line are refused.
 #[derive(Debug, Drop, Error)]
 pub enum OptionsFault {
     #[error("memory")]
     Memory,
-    /// What the parser says of a fault in the words, or its help where they ask for it.
+    /// The words have a fault, or ask for help: the text of the parser.
     #[error("{0}")]
     Refused(String),
 }
@@ -91,9 +92,9 @@ fn quota_option<'a>(alloc: Global) -> Arg<'a>
         .help("Gives each plane N tiles, from 5 to 16384 [default: 1024]")
 }
 
-/// The quota that the matches name, or the usual one.
+/// The quota that the matches name, or the default.
 fn quota_given(matches: &ArgMatches<'_>) -> Quota
-    ensures usual { one_text (found_of matches.now) (codes "quota") ≡ None → result ≡ 1024 }
+    ensures usual { one_text (found_of matches.now) (codes "quota") ≡ None → result ≡ default_quota }
     ensures named { (text : List ℕ) → one_text (found_of matches.now) (codes "quota") ≡ Some text → IsQuotaText text
         → result ≡ number_in text }
 {
@@ -103,7 +104,7 @@ fn quota_given(matches: &ArgMatches<'_>) -> Quota
         .unwrap_or_default()
 }
 
-/// What becomes of the parser's error.
+/// Maps out-of-memory to `Memory`, everything else to `Refused` with the text of the parser.
 fn refusal(alloc: Global, error: &ParseError) -> OptionsFault
     ensures { kind_of error.now ≡ OutOfMemory → result ≡ OptionsFault.Memory }
 {

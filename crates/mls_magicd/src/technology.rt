@@ -1,9 +1,8 @@
 //! The technology that is served.
 ghost use Rattle.std.specs.Prelude.{◌≡◌, option_map};
-ghost use Rattle.mls_tech.specs.Readings.{ReadsUnlessMemory, reading_of};
 ghost use Rattle.mls_magicd.specs.Technologies.{OpensTechnology};
 
-use crate::files::{FileFault, Files};
+use crate::{FileFault, Files};
 use mls_tech::{TECHNOLOGY_M, Tech, TechFault};
 use std::alloc::Global;
 use thiserror::Error;
@@ -31,7 +30,7 @@ impl From<TechFault> for TechnologyFault<'_> {
     }
 }
 
-/// Reads the technology from the file at the path, or the built-in one where no path is given.
+/// Reads the technology from the file at the path, or the built-in technology M where there is no path.
 pub fn open_technology<'a, F: Files>(
     alloc: Global,
     files: &F,

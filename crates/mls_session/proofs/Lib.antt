@@ -1,3 +1,3 @@
-pub mod KindBits
+pub mod BoxTypes
 pub mod Openings
 pub mod Painting

@@ -4,9 +4,10 @@ use Rattle.std.specs.List.{slice_get}
 use Rattle.std.proofs.Math.Path.{fun_ext}
 use Rattle.mls_geom.specs.Covers.{Cover}
 use Rattle.mls_session.specs.Own.{opening}
+use Rattle.mls_geom.specs.Layouts.{shown}
 use Rattle.mls_geom.specs.Pictures.{empty_picture}
 use Rattle.mls_session.specs.Planes.{AreEmpty}
-use Rattle.mls_session.specs.Sessions.{shown, state_of}
+use Rattle.mls_session.specs.Sessions.{state_of}
 
 shown-empty : (planes : List Cover) → AreEmpty planes → (plane : ℕ) → shown (slice_get planes plane) ≡ empty_picture
 shown-empty [] empty plane = refl

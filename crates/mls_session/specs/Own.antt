@@ -2,22 +2,20 @@
 use Rattle.std.specs.Prelude.{◌≡◌, ℕ, ◌==◌, nat_lt, if◌then◌else◌, Bool, Option, Some, None, Result, Ok, Err}
 use Rattle.std.specs.List.{list_any, range_with_len}
 use Rattle.mls_geom.specs.Rects.{Rect}
-use Rattle.mls_geom.specs.Pictures.{Picture, painted, shows, bits_where, empty_picture}
+use Rattle.mls_geom.specs.Layouts.{Layout}
+use Rattle.mls_geom.specs.Pictures.{Picture, painted, shows, empty_picture}
 use Rattle.mls_geom.specs.TileCounts.{tile_count}
 use Rattle.mls_geom.specs.World.{world, rect_of}
 use Rattle.mls_geom.specs.declared.rect.RectFault.{RectFault}
 use Rattle.mls_geom.specs.declared.rect.RectFault.TheVariants.{Empty, Outside}
+use Rattle.mls_kinds.specs.KindSets.{set_of}
 use Rattle.mls_session.specs.declared.command.Command.{Command}
 use Rattle.mls_session.specs.declared.command.Command.TheVariants.{Box, Paint, What}
 use Rattle.mls_session.specs.declared.reply.Reply.{Reply}
 use Rattle.mls_session.specs.declared.reply.Reply.TheVariants.{Done, Kinds, Refused}
 use Rattle.mls_session.specs.declared.refusal.Refusal.TheVariants.{EmptyBox, OutsideWorld, NoBox, UnknownType, Quota}
 
--- the kind of each square, on each plane
-abbrev pub Layout : Type 0
-Layout = ℕ → Picture
-
--- what no command changes: how many planes there are, on which plane a type other than space lies, and how many tiles a plane may have
+-- what no command changes: the number of planes, the plane of each type but space, and the most tiles that a plane may have
 pub record Config : Type 0 where
   pub planes : ℕ
   pub plane_of : ℕ → Option ℕ
@@ -39,9 +37,9 @@ with_plane layout plane picture p = if p == plane then picture else layout p
 abbrev pub shows_type : Config → Layout → Rect → ℕ → Bool
 shows_type config layout e kind = list_any (λ plane. shows (layout plane) e kind) (range_with_len 0 config.planes)
 
--- bit k for each type k of the rectangle, space among them, on all planes
+-- the types of the rectangle, space among them, on all planes
 unfoldable pub types_in : Config → Layout → Rect → ℕ
-types_in config layout e = bits_where (shows_type config layout e) 64
+types_in config layout e = set_of (shows_type config layout e)
 
 -- the box becomes the rectangle, or is refused by its first fault
 abbrev pub box_step : OwnState → Result Rect RectFault → OwnState × Reply
@@ -49,13 +47,13 @@ box_step own (Ok e) = (record own { box = Some e }, Done)
 box_step own (Err Empty) = (own, Refused EmptyBox)
 box_step own (Err Outside) = (own, Refused OutsideWorld)
 
--- the plane becomes the picture, unless it would have more tiles than it may
+-- the plane becomes the picture, unless it would have more tiles than the quota
 abbrev pub repaint_step : Config → OwnState → ℕ → Picture → OwnState × Reply
 repaint_step config own plane picture =
     if nat_lt config.quota (tile_count world picture) then (own, Refused Quota)
     else (record own { layout = with_plane own.layout plane picture }, Done)
 
--- the box gets the type, on its plane
+-- the box is painted with the type, on the type's plane
 abbrev pub paint_on : Config → OwnState → Rect → ℕ → Option ℕ → OwnState × Reply
 paint_on config own e kind None = (own, Refused UnknownType)
 paint_on config own e kind (Some plane) = repaint_step config own plane (painted (own.layout plane) (record { rect = e; kind = kind }))

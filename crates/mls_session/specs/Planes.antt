@@ -4,7 +4,7 @@ use Rattle.std.specs.List.{All}
 use Rattle.mls_geom.specs.Covers.{Cover}
 use Rattle.mls_geom.specs.Pictures.{empty_picture, picture_of}
 
--- the cover has room for so many strips, and no more strips
+-- the cover has room for this number of strips, and at most as many strips
 pub record HasRoom (quota : ℕ) (cover : Cover) : Type 0 where
   pub room : cover.room ≡ quota
   pub within : length cover.strips ≤ quota

@@ -1,7 +1,17 @@
 -- How many tiles a plane may have. This project's own.
 use Rattle.std.specs.Prelude.{ℕ, ◌≤◌}
 
--- a plane may be given so many tiles; one rectangle in the middle of the world makes five
+-- one rectangle in the middle of the world makes five
+abbrev pub least_quota : ℕ
+least_quota = 5
+
+abbrev pub most_quota : ℕ
+most_quota = 16384
+
+abbrev pub default_quota : ℕ
+default_quota = 1024
+
+-- a plane may have this number of tiles at most
 pub record IsQuota (tiles : ℕ) : Type 0 where
-  pub enough : 5 ≤ tiles
-  pub bounded : tiles ≤ 16384
+  pub enough : least_quota ≤ tiles
+  pub bounded : tiles ≤ most_quota

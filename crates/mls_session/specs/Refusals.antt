@@ -1,5 +1,5 @@
--- The numbers by which users know refusals. This project's own.
-use Rattle.std.specs.Prelude.{ℕ}
+-- The numbers and texts of refusals. This project's own.
+use Rattle.std.specs.Prelude.{ℕ, List, codes}
 use Rattle.mls_session.specs.declared.refusal.Refusal.{Refusal}
 use Rattle.mls_session.specs.declared.refusal.Refusal.TheVariants.{EmptyBox, OutsideWorld, NoBox, UnknownType, Quota}
 
@@ -9,3 +9,10 @@ refusal_number OutsideWorld = 2
 refusal_number NoBox = 3
 refusal_number UnknownType = 4
 refusal_number Quota = 5
+
+abbrev pub refusal_text : Refusal → List ℕ
+refusal_text EmptyBox = codes "empty box"
+refusal_text OutsideWorld = codes "outside the world"
+refusal_text NoBox = codes "no box"
+refusal_text UnknownType = codes "unknown type"
+refusal_text Quota = codes "quota"

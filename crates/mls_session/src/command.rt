@@ -3,9 +3,14 @@
 /// A command of a session.
 #[derive(Clone, Copy, Debug, PartialEq, Eq)]
 pub enum Command {
-    /// Sets the box, by its left, bottom, right and top line.
-    Box(i32, i32, i32, i32),
-    /// Paints the box with a type, if the name that the user gave is one's.
+    /// Sets the box to the rectangle between these lines.
+    Box {
+        left: i32,
+        bottom: i32,
+        right: i32,
+        top: i32,
+    },
+    /// Paints the box with a type, or with `None` if no type has the name that the user wrote.
     Paint(Option<u8>),
     /// Asks for the types in the box.
     What,

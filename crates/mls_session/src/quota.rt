@@ -1,17 +1,20 @@
 //! How many tiles a plane may have.
 ghost use Rattle.std.specs.Prelude.{◌≡◌};
 ghost use Rattle.std.specs.Option.{SomeIff};
-ghost use Rattle.mls_session.specs.Quotas.{IsQuota};
+ghost use Rattle.mls_session.specs.Quotas.{IsQuota, default_quota};
 
 use std::marker::Model;
 
-/// The fewest tiles that a plane may be given: as many as one rectangle in the middle of the world makes.
+/// The least quota: the tiles of a plane with one rectangle in the middle of the world.
 const LEAST: u32 = 5;
 
-/// The most tiles that a plane may be given.
+/// The greatest quota.
 const MOST: u32 = 16_384;
 
-/// The number of tiles that a plane may have, from 5 to 16384.
+/// The quota of a session if the user gives none.
+const DEFAULT: u32 = 1024;
+
+/// The most tiles that each plane of a session may have, from 5 to 16384.
 #[derive(Clone, Copy, Debug, PartialEq, Eq)]
 pub struct Quota {
     tiles: u32,
@@ -31,7 +34,7 @@ impl Model for Quota {
 }
 
 impl Quota {
-    /// The quota of so many tiles, if a plane may be given as many.
+    /// The quota of `tiles`, or `None` if there is no such quota.
     pub fn new(tiles: u32) -> Option<Quota>
         ensures { SomeIff result (IsQuota tiles) tiles }
     {
@@ -50,11 +53,11 @@ impl Quota {
     }
 }
 
-/// 1024 tiles.
 impl Default for Quota {
-    ghost is_default = { λ quota. quota ≡ 1024 };
+    ghost is_default = { λ quota. quota ≡ default_quota };
 
+    /// Returns the quota of 1024 tiles.
     fn default() -> Quota {
-        Quota { tiles: 1024 }
+        Quota { tiles: DEFAULT }
     }
 }

@@ -1,13 +1,14 @@
-//! What a session answers.
+//! What a session replies.
 use crate::Refusal;
+use mls_kinds::KindSet;
 
 /// The reply to a command.
 #[derive(Clone, Copy, Debug, PartialEq, Eq)]
 pub enum Reply {
     /// The command is done.
     Done,
-    /// The types in the box: bit k for type k.
-    Kinds(u64),
+    /// The types in the box, space among them.
+    Kinds(KindSet),
     /// The command is refused, and nothing has changed.
     Refused(Refusal),
 }

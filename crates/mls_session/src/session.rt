@@ -6,11 +6,14 @@ ghost use Rattle.mls_session.specs.Planes.{AreEmpty, ArePlanes};
 
 use crate::{Command, Quota, Refusal, Reply};
 use mls_geom::{Cover, Piece, Rect, RectFault, Scratch};
+use mls_kinds::KindSet;
 use mls_tech::Tech;
 use std::alloc::{AllocError, Global};
 use std::marker::Model;
 
-/// A session: its box, and the strips of each plane.
+/// A session: its box, and what covers each plane.
+///
+/// A session reserves all its memory when it is made; no command allocates.
 #[derive(Drop)]
 pub struct Session {
     quota: Quota,
@@ -35,7 +38,9 @@ impl Model for Session {
 impl Session {
     ghost use Rattle.mls_session.specs.Sessions.{OnRefused, config_of, state_of};
 
-    /// A session over the planes of a technology, with no box and an empty layout, and with all the room that it will ever take.
+    /// Creates a session over the planes of a technology, with no box and an empty layout.
+    ///
+    /// Reserves the memory for as many tiles on each plane as the quota allows.
     #[tactic(auto, using(crate::proofs::Openings::state_of_empty))]
     pub fn new(alloc: Global, tech: &Tech, quota: Quota) -> Result<Session, AllocError>
         ensures opening { IfOk result (λ session. state_of session ≡ opening) }
@@ -52,7 +57,10 @@ impl Session {
         })
     }
 
-    /// Does what the user asks, or refuses it and changes nothing. It takes no memory. The technology is the one that the session was made for.
+    /// Carries out a command, or refuses it and changes nothing.
+    ///
+    /// Types are those of `tech`, which must have as many planes as the session. Pass the technology that
+    /// the session was made for: another one with as many planes may put a type on another plane.
     #[tactic(auto, unfolding(crate::specs::Own::own_step))]
     pub fn command(&mut self, tech: &Tech, command: Command) -> Reply
         requires made_for { length self.old.planes ≡ tech.now.plane_count }
@@ -62,15 +70,18 @@ impl Session {
         ensures refused { OnRefused result (self.new ≡ self.old) }
     {
         match command {
-            Command::Box(left, bottom, right, top) => {
-                self.set_box(Rect::new(left, bottom, right, top))
-            }
+            Command::Box {
+                left,
+                bottom,
+                right,
+                top,
+            } => self.set_box(Rect::new(left, bottom, right, top)),
             Command::Paint(kind) => self.paint(tech, kind),
             Command::What => self.what(),
         }
     }
 
-    /// Sets the box, where its lines made a rectangle.
+    /// Sets the box, or refuses it by the fault of its lines.
     fn set_box(&mut self, made: Result<Rect, RectFault>) -> Reply
         ensures step { box_step (state_of self.old) made ≡ (state_of self.new, result) }
         ensures quota { self.new.quota ≡ self.old.quota }
@@ -107,10 +118,10 @@ impl Session {
         self.repaint(usize::from(plane), Piece { rect, kind })
     }
 
-    /// Paints a piece on a plane, unless the plane would have more tiles than it may.
+    /// Paints a piece on a plane, unless the plane would then have more tiles than the quota.
     fn repaint(&mut self, plane: usize, piece: Piece) -> Reply
         requires { plane < length self.old.planes }
-        // Of what no command changes, the quota alone counts.
+        // It depends on the quota alone of what no command changes.
         ensures step { (config : Config) → config.quota ≡ self.old.quota
             → repaint_step config (state_of self.old) plane (painted ((state_of self.old).layout plane) piece) ≡ (state_of self.new, result) }
         ensures quota { self.new.quota ≡ self.old.quota }
@@ -125,24 +136,24 @@ impl Session {
         Reply::Done
     }
 
-    /// Tells the types in the box, space among them.
+    /// Returns the types in the box, space among them.
     fn what(&self) -> Reply
-        // Of what no command changes, the number of planes alone counts.
+        // It depends on the number of planes alone of what no command changes.
         ensures { (config : Config) → config.planes ≡ length self.now.planes
             → what_step config (state_of self.now) self.now.box ≡ (state_of self.now, result) }
     {
         let Some(rect) = self.box_rect else {
             return Reply::Refused(Refusal::NoBox);
         };
-        let mut kinds = 0;
+        let mut kinds = KindSet::empty();
         for cover in &self.planes {
-            kinds |= cover.kinds(rect);
+            kinds = kinds.union(cover.kinds(rect));
         }
         Reply::Kinds(kinds)
     }
 }
 
-/// So many covers, with nothing on them.
+/// Empty covers, with room for the quota each.
 fn empty_planes(alloc: Global, count: usize, quota: Quota) -> Result<Vec<Cover>, AllocError>
     ensures count { IfOk result (λ planes. length planes.items ≡ count) }
     ensures planes { IfOk result (λ planes. ArePlanes quota planes.items) }
@@ -154,6 +165,3 @@ fn empty_planes(alloc: Global, count: usize, quota: Quota) -> Result<Vec<Cover>,
     }
     Ok(planes)
 }
-
-#[cfg(test)]
-mod tests;

@@ -1,4 +1,4 @@
--- The first word of a line of `drc`, and the words behind it.
+-- The first word of a line of `drc`, and the words after it.
 use Rattle.std.proofs.Common.{◌≡◌, ℕ, ◌+◌, ◌<◌, ◌≤◌, true, false, not, ltb, Option, Some, None, List, [], ◌∷◌, ◌++◌, length, take, drop, refl, append_assoc, arith}
 use Rattle.std.specs.Borrow.{Bor}
 use Rattle.std.specs.List.{prefix_len, position, position_or_len, before_first, after_first}
@@ -9,9 +9,9 @@ use Rattle.std.proofs.lemmas.Option.{cond_some}
 use Rattle.std.proofs.lemmas.List.{append-nil, map-append, take_rest}
 use Rattle.std.proofs.lemmas.List.Sums.{prefix_len-le-length}
 use Rattle.mls_tech.specs.DrcLines.{Between, Bare, Quoted, is_quote, word_before, words_from}
-use Rattle.mls_tech.specs.DrcViews.{word_bytes}
-use Rattle.mls_tech.specs.Words.{is_blank, begins_with, begins_with_word}
-use Rattle.mls_tech.proofs.WordLemmas.{begins_with_word-drop_blanks}
+use Rattle.mls_tech.specs.Inner.DrcViews.{word_bytes}
+use Rattle.mls_text.specs.Words.{is_blank, begins_with, begins_with_word}
+use Rattle.mls_text.proofs.WordLemmas.{begins_with_word-drop_blanks}
 
 -- blanks in front are left out
 pub words_from-drop_blanks : (bytes : List ℕ) → words_from Between (drop (prefix_len is_blank bytes) bytes) ≡ words_from Between bytes

@@ -2,8 +2,9 @@
 use Rattle.std.proofs.Common.{◌≡◌, ◌<◌, ◌+◌, ℕ, true, false, List, [], ◌∷◌, ◌++◌, length, refl, ⊎_elim, append_assoc}
 use Rattle.std.specs.List.{position_or_len}
 use Rattle.std.proofs.lemmas.Bool.{cond_both, cases_lt}
-use Rattle.mls_tech.specs.FileLines.{NumberedLine, raw_lines, goes_on, with_blank, joined_to, joined_from}
-use Rattle.mls_tech.proofs.RawLineLemmas.{is_line_feed, raw_lines-feed, raw_lines-no_feed}
+use Rattle.mls_tech.specs.FileLines.{NumberedLine, goes_on, with_blank, joined_to, joined_from}
+use Rattle.mls_text.specs.Lines.{raw_lines}
+use Rattle.mls_text.proofs.RawLineLemmas.{is_line_feed, raw_lines-feed, raw_lines-no_feed}
 
 -- a text in front of a text
 joined_to-joined_to : (n m : ℕ) (text more : List ℕ) (lines : List NumberedLine) → joined_to n text (joined_to m more lines) ≡ joined_to n (text ++ more) lines

@@ -5,14 +5,9 @@ pub mod Limits
 pub mod ListReading
 pub mod ListSets
 pub mod NameTableLemmas
-pub mod NamingLemmas
-pub mod PieceLemmas
-pub mod RawLineLemmas
+pub mod NameLemmas
 pub mod ReaderLemmas
 pub mod ReadingLemmas
-pub mod SetBits
 pub mod TokenLemmas
 pub mod TypeTests
-pub mod WordLemmas
-pub mod WordTests
 pub mod SpelledLists

@@ -2,20 +2,21 @@
 use Rattle.std.proofs.Common.{◌≡◌, ℕ, suc, zero, ◌+◌, ◌*◌, ◌<◌, Bool, true, false, if◌then◌else◌, Option, Some, None, Result, Ok, List, [], ◌∷◌, length, codes, refl, sym, ◌∙◌, arith}
 use Rattle.std.specs.Option.{option_and_then, option_map}
 use Rattle.mls_tech.specs.Names.{is_name}
-use Rattle.mls_tech.specs.Words.{same_word}
-use Rattle.mls_tech.specs.TypeLists.{Scope, Token, Comma, Slash, Tilde, Opening, Closing, Word, TypeList, AllBut, Both, Spelled, Term, WholeList, spelled, closed, with_plane, word_term, bits_of, or_fault, ◌>>=◌, whole, list_in, set_of, types_in, bits_in, tokens_of}
-use Rattle.mls_tech.specs.TypeSets.{united, without}
-use Rattle.mls_tech.specs.ListReaders.{reader, tilde_more, after_tildes, first_fault, step, finish, at_first}
+use Rattle.mls_text.specs.Words.{same_word}
+use Rattle.mls_tech.specs.TypeLists.{Scope, Token, Comma, Slash, Tilde, Opening, Closing, Word, TypeList, AllBut, Both, Spelled, Term, WholeList, spelled, closed, with_plane, word_term, or_fault, ◌>>=◌, whole, list_in, types_of, types_in, bits_in, tokens_of}
+use Rattle.mls_kinds.specs.KindSets.{set_of}
+use Rattle.mls_kinds.specs.KindSets.{union, difference}
+use Rattle.mls_tech.specs.Inner.ListReaders.{reader, tilde_more, after_tildes, first_fault, step, finish, at_first}
 use Rattle.mls_tech.specs.declared.fault.TechFaultKind.{TechFaultKind}
 use Rattle.mls_tech.specs.declared.fault.TechFaultKind.TheVariants.{BadList}
 use Rattle.mls_tech.specs.declared.list_reader.Tildes.{Tildes}
 use Rattle.mls_tech.specs.declared.list_reader.Tildes.TheVariants.{NoTilde, Odd, Even}
-use Rattle.mls_tech.specs.declared.list_reader.Place.TheVariants.{BeforeTerm, AfterTerm, AfterItem}
+use Rattle.mls_tech.specs.declared.list_reader.Position.TheVariants.{BeforeTerm, AfterTerm, AfterItem}
 use Rattle.mls_tech.specs.declared.list_reader.OuterList.{OuterList}
-use Rattle.mls_tech.proofs.SetBits.{united-assoc, united-none, without-thrice}
+use Rattle.mls_kinds.proofs.KindSetLemmas.{union_assoc, union_none, difference_thrice}
 use Rattle.mls_tech.proofs.ReaderLemmas.{read_from}
 use Rattle.mls_tech.proofs.SpelledLists.{IsShorter, NoComma, more_items, spelled-shorter, spelled-no_comma, with_plane-shorter}
-use Rattle.mls_tech.proofs.ListSets.{set_in, unknown_in, set_in-lt, set_of-is}
+use Rattle.mls_tech.proofs.ListSets.{set_in, unknown_in, set_in-lt, types_of-is}
 
 first_fault-assoc : (a b c : Option TechFaultKind) → first_fault (first_fault a b) c ≡ first_fault a (first_fault b c)
 first_fault-assoc None b c = refl
@@ -25,13 +26,13 @@ first_fault-none : (fault : Option TechFaultKind) → first_fault fault None ≡
 first_fault-none None = refl
 first_fault-none (Some fault) = refl
 
-tilde_applied : (all : ℕ) (tildes : Tildes) (set : ℕ) → after_tildes all (tilde_more tildes) set ≡ after_tildes all tildes (without all set)
+tilde_applied : (all : ℕ) (tildes : Tildes) (set : ℕ) → after_tildes all (tilde_more tildes) set ≡ after_tildes all tildes (difference all set)
 tilde_applied all NoTilde set = refl
 tilde_applied all Odd set = refl
-tilde_applied all Even set = sym (without-thrice all set)
+tilde_applied all Even set = sym (difference_thrice all set)
 
-united_first : (scope : Scope) (list : TypeList) → united 0 (set_in scope list) ≡ set_in scope list
-united_first scope list = united-none _ (set_in-lt scope list)
+union_first : (scope : Scope) (list : TypeList) → union 0 (set_in scope list) ≡ set_in scope list
+union_first scope list = union_none _ (set_in-lt scope list)
 
 bind_if : {A B R : Type 0} (b : Bool) (x : A) (y : B) (f : A → Result R TechFaultKind) (g : B → Result R TechFaultKind) → f x ≡ g y →
     (or_fault BadList (if b then Some x else None) >>= f) ≡ (or_fault BadList (if b then Some y else None) >>= g)
@@ -43,24 +44,24 @@ bind_ifs : {A B R : Type 0} (b c : Bool) (x x' : A) (y y' : B) (f : A → Result
 bind_ifs true c x x' y y' f g e e' = e
 bind_ifs false c x x' y y' f g e e' = bind_if c x' y' f g e'
 
-module _ (scope : Scope) where
+module _ (scope : Scope) (room : ℕ) where
   -- what the reader gives once it went over a term
   term_gives : List OuterList → ℕ → Tildes → Option TechFaultKind → TypeList × List Token → Result ℕ TechFaultKind
   term_gives outer items tildes unknown found =
-      read_from scope (reader outer items (AfterTerm (after_tildes (bits_of scope.is_type) tildes (set_in scope found.0))) (first_fault unknown (unknown_in scope found.0))) found.1
+      read_from scope (reader room outer items (AfterTerm (after_tildes (set_of scope.is_type) tildes (set_in scope found.0))) (first_fault unknown (unknown_in scope found.0))) found.1
 
   -- and over a list, or the items of one
   list_gives : List OuterList → ℕ → Option TechFaultKind → TypeList × List Token → Result ℕ TechFaultKind
   list_gives outer items unknown found =
-      read_from scope (reader outer (united items (set_in scope found.0)) AfterItem (first_fault unknown (unknown_in scope found.0))) found.1
+      read_from scope (reader room outer (union items (set_in scope found.0)) AfterItem (first_fault unknown (unknown_in scope found.0))) found.1
 
   ReadsTerm : ℕ → Type 0
   ReadsTerm n = (tokens : List Token) → 2 * length tokens < n → (outer : List OuterList) (items : ℕ) (tildes : Tildes) (unknown : Option TechFaultKind) →
-      read_from scope (reader outer items (BeforeTerm tildes) unknown) tokens ≡ (or_fault BadList (spelled n Term tokens) >>= term_gives outer items tildes unknown)
+      read_from scope (reader room outer items (BeforeTerm tildes) unknown) tokens ≡ (or_fault BadList (spelled n Term tokens) >>= term_gives outer items tildes unknown)
 
   ReadsList : ℕ → Type 0
   ReadsList n = (tokens : List Token) → 2 * length tokens + 1 < n → (outer : List OuterList) (items : ℕ) (unknown : Option TechFaultKind) →
-      read_from scope (reader outer items (BeforeTerm NoTilde) unknown) tokens ≡ (or_fault BadList (spelled n WholeList tokens) >>= list_gives outer items unknown)
+      read_from scope (reader room outer items (BeforeTerm NoTilde) unknown) tokens ≡ (or_fault BadList (spelled n WholeList tokens) >>= list_gives outer items unknown)
 
   -- a plane may follow a term
   plane_read : (outer : List OuterList) (items : ℕ) (unknown : Option TechFaultKind) (term : TypeList) (tokens : List Token) →
@@ -72,13 +73,13 @@ module _ (scope : Scope) where
   plane_read outer items unknown term (Slash ∷ token ∷ tokens) = refl
   plane_read outer items unknown term (token ∷ tokens) = refl
 
-  -- where the list of the items after a comma is told, so is the list with an item before them
+  -- where the items after a comma are a list, so are they with an item before them
   both_gives : (n : ℕ) (outer : List OuterList) (items : ℕ) (unknown : Option TechFaultKind) (item : TypeList) (others : Spelled) →
-      (or_fault BadList others >>= list_gives outer (united items (set_in scope item)) (first_fault unknown (unknown_in scope item)))
+      (or_fault BadList others >>= list_gives outer (union items (set_in scope item)) (first_fault unknown (unknown_in scope item)))
       ≡ (or_fault BadList (option_map (λ others. (Both item others.0, others.1)) others) >>= list_gives outer items unknown)
   unfolding list_gives
   both_gives n outer items unknown item None = refl
-  both_gives n outer items unknown item (Some (others, tokens)) = rw (united-assoc, first_fault-assoc)
+  both_gives n outer items unknown item (Some (others, tokens)) = rw (union_assoc, first_fault-assoc)
 
   items_read : (n m : ℕ) → ReadsList n → 2 * m < n → (outer : List OuterList) (items : ℕ) (unknown : Option TechFaultKind) (item : Spelled) → IsShorter m item →
       (or_fault BadList item >>= list_gives outer items unknown) ≡ (or_fault BadList (option_and_then (more_items n) item) >>= list_gives outer items unknown)
@@ -89,7 +90,7 @@ module _ (scope : Scope) where
       reads tokens (omega (arith, short)) outer _ _ ∙ both_gives n outer items unknown item (spelled n WholeList tokens)
   items_read n m reads enough outer items unknown (Some (item, (token ∷ tokens))) short = refl
 
-  -- the plane of each term that is told
+  -- the plane of each term that is spelled
   planes_read : (outer : List OuterList) (items : ℕ) (unknown : Option TechFaultKind) (term : Spelled) →
       (or_fault BadList term >>= term_gives outer items NoTilde unknown) ≡ (or_fault BadList (option_and_then with_plane term) >>= list_gives outer items unknown)
   planes_read outer items unknown None = refl
@@ -107,7 +108,7 @@ module _ (scope : Scope) where
   unfolding read_from step finish term_gives list_gives
   closing_read outer items tildes unknown None ends = refl
   closing_read outer items tildes unknown (Some (list, [])) ends = refl
-  closing_read outer items tildes unknown (Some (list, (Closing ∷ tokens))) ends = rw united_first
+  closing_read outer items tildes unknown (Some (list, (Closing ∷ tokens))) ends = rw union_first
   closing_read outer items tildes unknown (Some (list, (Comma ∷ tokens))) ends = cc
   closing_read outer items tildes unknown (Some (list, (token ∷ tokens))) ends = refl
 
@@ -115,10 +116,10 @@ module _ (scope : Scope) where
       (or_fault BadList term >>= term_gives outer items (tilde_more tildes) unknown) ≡ (or_fault BadList (option_map (λ found. (AllBut found.0, found.1)) term) >>= term_gives outer items tildes unknown)
   unfolding term_gives
   tilde_read outer items tildes unknown None = refl
-  tilde_read outer items tildes unknown (Some (term, tokens)) = rw (tilde_applied (bits_of scope.is_type) tildes (set_in scope term))
+  tilde_read outer items tildes unknown (Some (term, tokens)) = rw (tilde_applied (set_of scope.is_type) tildes (set_in scope term))
 
   word_read : (outer : List OuterList) (items : ℕ) (tildes : Tildes) (unknown : Option TechFaultKind) (word : List ℕ) (tokens : List Token) →
-      read_from scope (reader outer items (BeforeTerm tildes) unknown) (Word word ∷ tokens) ≡ (or_fault BadList (word_term word tokens) >>= term_gives outer items tildes unknown)
+      read_from scope (reader room outer items (BeforeTerm tildes) unknown) (Word word ∷ tokens) ≡ (or_fault BadList (word_term word tokens) >>= term_gives outer items tildes unknown)
   unfolding read_from step term_gives
   word_read outer items tildes unknown word tokens =
       bind_ifs (same_word word (codes "0")) (is_name word) _ _ _ _ _ _ (rw first_fault-none) refl
@@ -138,16 +139,16 @@ module _ (scope : Scope) where
   both_read zero = (λ tokens enough outer items tildes unknown. absurd (omega arith), λ tokens enough outer items unknown. absurd (omega arith))
   both_read (suc n) = (term_read n (both_read n).0 (both_read n).1, list_read n (both_read n).0 (both_read n).1)
 
-  -- at the end of the word only a list may have been told
+  -- at the end of the word only a whole list is one
   whole_read : (list : Spelled) → NoComma list →
-      (or_fault BadList list >>= list_gives [] 0 None) ≡ ((or_fault BadList (option_and_then whole list) >>= set_of scope) >>= λ set. Ok (bits_of set))
+      (or_fault BadList list >>= list_gives [] 0 None) ≡ ((or_fault BadList (option_and_then whole list) >>= types_of scope) >>= λ set. Ok (set_of set))
   unfolding read_from step finish list_gives
   whole_read None ends = refl
-  whole_read (Some (list, [])) ends = rw united_first (sym (set_of-is scope list))
+  whole_read (Some (list, [])) ends = rw union_first (sym (types_of-is scope list))
   whole_read (Some (list, (Comma ∷ tokens))) ends = cc
   whole_read (Some (list, (token ∷ tokens))) ends = refl
 
-  pub read_from-is_bits_in : (word : List ℕ) → read_from scope at_first (tokens_of word) ≡ bits_in scope word
+  pub read_from-is_bits_in : (word : List ℕ) → read_from scope (at_first room) (tokens_of word) ≡ bits_in scope word
   unfolding bits_in types_in list_in ReadsList
   read_from-is_bits_in word =
       let n : ℕ = 2 * length (tokens_of word) + 2 in

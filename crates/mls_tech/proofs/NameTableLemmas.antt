@@ -2,8 +2,8 @@
 use Rattle.std.proofs.Common.{◌≡◌, ℕ, Bool, true, false, cond, List, [], ◌∷◌, ◌++◌, Option, Some, None, refl, ap, ◌∙◌}
 use Rattle.std.specs.Map.{lookup}
 use Rattle.indexmap.specs.IndexMap.{insert_entry}
-use Rattle.mls_tech.specs.Words.{same_word}
-use Rattle.mls_tech.specs.NameTables.{names_in}
+use Rattle.mls_text.specs.Words.{same_word}
+use Rattle.mls_tech.specs.Inner.NameTables.{names_in}
 use Rattle.mls_tech.specs.Readings.{number_named}
 
 -- what is nothing isn't found

@@ -1,8 +1,8 @@
--- What the grammar leaves of the tokens: no more than there were, and behind a list no comma.
+-- What the grammar leaves of the tokens: no more than there were, and after a list no comma.
 use Rattle.std.proofs.Common.{◌≡◌, ℕ, suc, zero, ◌≤◌, Bool, true, false, if◌then◌else◌, Some, None, List, [], ◌∷◌, length, codes, refl, arith}
 use Rattle.std.specs.Option.{option_and_then, option_map}
 use Rattle.mls_tech.specs.Names.{is_name}
-use Rattle.mls_tech.specs.Words.{same_word}
+use Rattle.mls_text.specs.Words.{same_word}
 use Rattle.mls_tech.specs.TypeLists.{Token, Comma, Slash, Tilde, Opening, Closing, Word, TypeList, Nothing, Named, AllBut, Both, OnPlane, Spelled, Term, WholeList, Part, spelled, closed, with_plane, at_comma, after_first, word_term}
 
 -- no more tokens are left than there were

@@ -5,10 +5,10 @@ use Rattle.std.proofs.Math.Numerals.{one-add}
 use Rattle.std.proofs.lemmas.Bool.{cases_Bool}
 use Rattle.std.proofs.lemmas.List.Sums.{prefix_len-le-length}
 use Rattle.mls_tech.specs.TypeLists.{Token, Comma, Slash, Tilde, Opening, Closing, Word, onto_word, tokens_of}
-use Rattle.mls_tech.specs.Tokens.{is_mark}
+use Rattle.mls_tech.specs.Inner.Tokens.{is_mark}
 
--- `token_onto` over the answers of its tests
-abbrev onto_by : (comma slash tilde opening closing : Bool) → ℕ → List Token → List Token
+-- `token_onto` by the results of its tests
+abbrev pub onto_by : (comma slash tilde opening closing : Bool) → ℕ → List Token → List Token
 onto_by comma slash tilde opening closing b tokens =
     if comma then Comma ∷ tokens
     else (if slash then Slash ∷ tokens

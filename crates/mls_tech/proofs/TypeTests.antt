@@ -4,13 +4,13 @@ use Rattle.std.proofs.lemmas.Bool.{cases_eq, cases_lt, lt-ltb, ne_eqb}
 use Rattle.std.proofs.lemmas.Bool.Decides.{nat_tests}
 use Rattle.std.proofs.lemmas.Option.{slice_get_past}
 use Rattle.mls_tech.specs.Readings.{lies_on_plane}
-use Rattle.mls_tech.specs.TypeLists.{bits_of}
-use Rattle.mls_tech.specs.TypeSets.{united}
-use Rattle.mls_tech.proofs.SetBits.{none-bits_of, united_tests}
+use Rattle.mls_kinds.specs.KindSets.{set_of}
+use Rattle.mls_kinds.specs.KindSets.{union}
+use Rattle.mls_kinds.proofs.KindSetLemmas.{set_of_none, union-set_of}
 
 -- tests that agree give one set
-bits_of-same : (test other : ℕ → Bool) → ((kind : ℕ) → test kind ≡ other kind) → bits_of test ≡ bits_of other
-bits_of-same test other same = λ i. bits_of (λ kind. same kind i)
+set_of-same : (test other : ℕ → Bool) → ((kind : ℕ) → test kind ≡ other kind) → set_of test ≡ set_of other
+set_of-same test other same = λ i. set_of (λ kind. same kind i)
 
 module _ (test : ℕ → Bool) where
   -- the types below n that pass
@@ -18,26 +18,26 @@ module _ (test : ℕ → Bool) where
   below n kind = nat_lt kind n && test kind
 
   -- below 0 there is none
-  pub bits_of-below_none : 0 ≡ bits_of (below 0)
-  bits_of-below_none = none-bits_of ∙ bits_of-same _ _ (λ kind. grind (arith, nat_tests))
+  pub set_of-below_none : 0 ≡ set_of (below 0)
+  set_of-below_none = set_of_none ∙ set_of-same _ _ (λ kind. grind (arith, nat_tests))
 
   -- one more that passes
-  pub bits_of-below_more : (n : ℕ) → test n ≡ true → united (bits_of (below n)) (bits_of (λ kind. kind == n)) ≡ bits_of (below (n + 1))
-  bits_of-below_more n passes = united_tests _ _ ∙ bits_of-same _ _ (λ kind. ⊎_elim
+  pub set_of-below_more : (n : ℕ) → test n ≡ true → union (set_of (below n)) (set_of (λ kind. kind == n)) ≡ set_of (below (n + 1))
+  set_of-below_more n passes = union-set_of _ _ ∙ set_of-same _ _ (λ kind. ⊎_elim
       (λ same. rw same (rw passes (grind (arith, nat_tests))))
       (λ other. grind (arith, nat_tests))
       (cases_eq kind n))
 
   -- one more that doesn't
-  pub bits_of-below_same : (n : ℕ) → test n ≡ false → bits_of (below n) ≡ bits_of (below (n + 1))
-  bits_of-below_same n fails = bits_of-same _ _ (λ kind. ⊎_elim
+  pub set_of-below_same : (n : ℕ) → test n ≡ false → set_of (below n) ≡ set_of (below (n + 1))
+  set_of-below_same n fails = set_of-same _ _ (λ kind. ⊎_elim
       (λ same. rw same (rw fails (grind (arith, nat_tests))))
       (λ other. grind (arith, nat_tests))
       (cases_eq kind n))
 
   -- where none from n on passes, these are all
-  pub bits_of-below_all : (n : ℕ) → ((kind : ℕ) → n ≤ kind → test kind ≡ false) → bits_of (below n) ≡ bits_of test
-  bits_of-below_all n fails = bits_of-same _ _ (λ kind. ⊎_elim
+  pub set_of-below_all : (n : ℕ) → ((kind : ℕ) → n ≤ kind → test kind ≡ false) → set_of (below n) ≡ set_of test
+  set_of-below_all n fails = set_of-same _ _ (λ kind. ⊎_elim
       (λ lt. rw (lt-ltb kind n lt) refl)
       (λ ge. rw (fails kind ge) (grind (arith, nat_tests)))
       (cases_lt kind n))

@@ -3,7 +3,7 @@ use Rattle.std.specs.Prelude.{ℕ, ◌==◌, Bool, true, false, if◌then◌else
 use Rattle.std.specs.Option.{option_map}
 use Rattle.mls_tech.specs.FileNumbers.{number_in}
 use Rattle.mls_tech.specs.TypeLists.{Scope, ◌>>=◌, or_fault, bits_in}
-use Rattle.mls_tech.specs.Words.{is_blank, same_word}
+use Rattle.mls_text.specs.Words.{is_blank, same_word}
 use Rattle.mls_tech.specs.declared.fault.TechFaultKind.{TechFaultKind}
 use Rattle.mls_tech.specs.declared.fault.TechFaultKind.TheVariants.{UnknownPlane, BadForm}
 use Rattle.mls_tech.specs.declared.rule.Adjacency.{Adjacency}
@@ -16,17 +16,17 @@ use Rattle.mls_tech.specs.declared.rule.Rule.TheVariants.{Width, Spacing, Edge, 
 abbrev pub is_quote : ℕ → Bool
 is_quote b = b == 34
 
--- where in a line the reading of words is: between two, in a bare word, or in a quoted one, of which these bytes were read
-pub data Place : Type 0 where
-  Between : Place
-  Bare : (word : List ℕ) → Place
-  Quoted : (word : List ℕ) → Place
+-- the state in which a line is read: between two words, in a bare word, or in a quoted one, of which these bytes were read
+pub data WordState : Type 0 where
+  Between : WordState
+  Bare : (word : List ℕ) → WordState
+  Quoted : (word : List ℕ) → WordState
 
 abbrev pub word_before : List ℕ → Option (List (List ℕ)) → Option (List (List ℕ))
 word_before word words = option_map (λ others. word ∷ others) words
 
 -- the words from here on; nothing where a second `"` is missing
-abbrev pub words_from : Place → List ℕ → Option (List (List ℕ))
+abbrev pub words_from : WordState → List ℕ → Option (List (List ℕ))
 words_from Between [] = Some []
 words_from Between (b ∷ bytes) =
     if is_blank b then words_from Between bytes
@@ -69,7 +69,7 @@ abbrev pub spacing_rule : Scope → Adjacency → List ℕ → List ℕ → List
 spacing_rule scope adjacency types1 types2 distance why =
     bits_in scope types1 >>= λ xs. bits_in scope types2 >>= λ ys. number_in 1 100 distance >>= λ d. Ok (stated (Spacing xs ys d adjacency) why)
 
--- five words are a rule where the adjacency is known; five or more are passed over where it isn't
+-- five words are a rule where the adjacency is known; five or more are skipped where it isn't
 abbrev pub spacing_by : Scope → Option Adjacency → List ℕ → List ℕ → List ℕ → List ℕ → List (List ℕ) → Result DrcLine TechFaultKind
 spacing_by scope None types1 types2 distance why more = Ok (Skips (codes "spacing"))
 spacing_by scope (Some adjacency) types1 types2 distance why [] = spacing_rule scope adjacency types1 types2 distance why

@@ -1,20 +1,8 @@
 -- The lines of a technology file (Magic Maintainer's Manual 2), numbered from 1.
-use Rattle.std.specs.Prelude.{ℕ, ◌+◌, ◌==◌, Bool, false, not, ◌&&◌, if◌then◌else◌, List, [], ◌∷◌, ◌++◌}
+use Rattle.std.specs.Prelude.{ℕ, ◌+◌, ◌==◌, Bool, false, not, if◌then◌else◌, List, [], ◌∷◌, ◌++◌}
 use Rattle.std.specs.List.{filter}
-use Rattle.mls_tech.specs.Words.{onto_first, words_of, begins_with}
-
--- the lines of a file: each ends with a line feed, with a carriage return before it dropped, or with the end of the file
-abbrev pub raw_lines : List ℕ → List (List ℕ)
-raw_lines [] = []
-raw_lines (b ∷ bytes) =
-    if b == 10 then [] ∷ raw_lines bytes
-    else (if b == 13 && begins_with 10 bytes then raw_lines bytes else onto_first b (raw_lines bytes))
-
--- the line without a carriage return at its end
-abbrev pub without_return : List ℕ → List ℕ
-without_return [] = []
-without_return (b ∷ []) = if b == 13 then [] else b ∷ []
-without_return (b ∷ c ∷ bytes) = b ∷ without_return (c ∷ bytes)
+use Rattle.mls_text.specs.Lines.{raw_lines}
+use Rattle.mls_text.specs.Words.{words_of, begins_with}
 
 -- a line with the number of its first raw line
 pub record NumberedLine : Type 0 where
@@ -53,11 +41,11 @@ begins_content (word ∷ words) = not (begins_with 35 word)
 abbrev pub has_content : NumberedLine → Bool
 has_content line = begins_content (words_of line.bytes)
 
--- the lines of a file that say something
+-- the lines of a file that have content
 unfoldable pub content_lines : List ℕ → List NumberedLine
 content_lines bytes = filter has_content (joined_from 1 (raw_lines bytes))
 
--- a place between two lines of a file: the bytes of the line that was read last, and the lines ahead
-pub record FilePlace : Type 0 where
+-- the bytes of the current line, and the lines ahead
+pub record FileLines : Type 0 where
   pub line : List ℕ
   pub ahead : List NumberedLine

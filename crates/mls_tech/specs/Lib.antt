@@ -1,15 +1,8 @@
 pub mod DrcLines
-pub mod DrcViews
 pub mod Faults
 pub mod FileLines
 pub mod FileNumbers
-pub mod Gives
-pub mod ListReaders
-pub mod NameTables
+pub mod Inner
 pub mod Names
-pub mod Namings
 pub mod Readings
-pub mod Tokens
 pub mod TypeLists
-pub mod TypeSets
-pub mod Words

@@ -1,16 +1,11 @@
 -- How planes and types are named (Magic Maintainer's Manual 2, "planes" and "types"; the spelling of names is this project's own).
-use Rattle.std.specs.Prelude.{ℕ, ◌==◌, Bool, true, false, not, ◌||◌, ◌&&◌, List, [], ◌∷◌, codes}
+use Rattle.std.specs.Prelude.{ℕ, ◌==◌, Bool, not, ◌||◌, ◌&&◌, List, [], ◌∷◌, codes, nat_eq}
 use Rattle.std.specs.List.{list_all, list_any, starts_with}
-use Rattle.std.specs.Prelude.{nat_eq}
-use Rattle.mls_tech.specs.Words.{same_word}
+use Rattle.mls_text.specs.Words.{is_empty, same_word}
 
 -- a byte that is no blank and none of `, ~ ( ) / "`
 abbrev pub is_name_byte : ℕ → Bool
 is_name_byte b = not (b == 32 || b == 9 || b == 44 || b == 126 || b == 40 || b == 41 || b == 47 || b == 34)
-
-abbrev pub is_empty : List ℕ → Bool
-is_empty [] = true
-is_empty (b ∷ bytes) = false
 
 -- the spelling of a name
 unfoldable pub is_name : List ℕ → Bool

@@ -1,4 +1,4 @@
--- What a technology file says: the value that its lines add up to, or its first fault with its line. It depends on the bytes alone.
+-- The meaning of a technology file: the value that its lines add up to, or its first fault with its line. It depends on the bytes alone.
 use Rattle.std.specs.Prelude.{◌≡◌, ◌<◌, ◌≤◌, ℕ, All, ◌+◌, ◌-◌, ◌==◌, Bool, false, not, ◌||◌, ◌&&◌, nat_lt, nat_le, if◌then◌else◌, Option, Some, None, Result, Ok, Err, List, [], ◌∷◌, ◌++◌, length, codes, slice_get, take, count_by, find, is_none, is_some}
 use Rattle.std.specs.List.{list_any}
 use Rattle.std.specs.Map.{lookup}
@@ -8,7 +8,8 @@ use Rattle.mls_tech.specs.DrcLines.{DrcLine, States, Skips, drc_line}
 use Rattle.mls_tech.specs.FileLines.{NumberedLine, content_lines}
 use Rattle.mls_tech.specs.Names.{is_name, is_type_name}
 use Rattle.mls_tech.specs.TypeLists.{Scope, ◌>>=◌, or_fault}
-use Rattle.mls_tech.specs.Words.{words_of, same_word, pieces_of}
+use Rattle.mls_text.specs.Fields.{fields_of}
+use Rattle.mls_text.specs.Words.{words_of, same_word}
 use Rattle.mls_tech.specs.declared.fault.TechFault.{TechFault}
 use Rattle.mls_tech.specs.declared.fault.TechFaultKind.{TechFaultKind}
 use Rattle.mls_tech.specs.declared.fault.TechFaultKind.TheVariants.{NotUtf8, NoEnd, UnknownPlane, NameTwice, BadForm, Limit, Memory}
@@ -22,7 +23,7 @@ use Rattle.mls_tech.specs.declared.section.Section.TheVariants.{Tech as TechSect
 abbrev pub Numbered : Type 0
 Numbered = List (List ℕ × ℕ)
 
--- what the lines so far add up to: the technology's name, if they told it; the names of planes, which are numbered from 0, and how many
+-- what the lines so far add up to: the technology's name, if they state it; the names of planes, which are numbered from 0, and how many
 -- planes there are; the names of types, where type 0 is space, and the plane of each other type, from type 1 on; the lines of the section `drc`
 pub record Tech : Type 0 where
   pub name : Option (List ℕ)
@@ -44,13 +45,13 @@ pub record IsWithinLimits (planes : Numbered) (plane_count : ℕ) (types : Numbe
   pub types_named : All (λ entry. entry.1 ≤ length type_planes) types
   pub planes_known : All (λ plane. plane < plane_count) type_planes
 
--- ---- what names stand for
+-- ---- what names mean
 abbrev pub number_named : Numbered → List ℕ → Option ℕ
 number_named names word = lookup (same_word word) names
 
 -- the first name of a number
-abbrev pub first_named : Numbered → ℕ → Option (List ℕ)
-first_named names number = option_map (λ entry. entry.0) (find (λ entry. entry.1 == number) names)
+abbrev pub name_of : Numbered → ℕ → Option (List ℕ)
+name_of names number = option_map (λ entry. entry.0) (find (λ entry. entry.1 == number) names)
 
 -- the plane of a type other than space
 abbrev pub plane_of_type : List ℕ → ℕ → Option ℕ
@@ -65,44 +66,44 @@ abbrev pub lies_on_plane : List ℕ → ℕ → ℕ → Bool
 lies_on_plane type_planes plane kind = kind == 0 || option_map_or (λ on. on == plane) (slice_get type_planes (kind - 1)) false
 
 abbrev pub scope_of : Tech → Scope
-scope_of reading = record {
-  type_of = number_named reading.types;
-  plane_of = number_named reading.planes;
-  is_type = λ kind. nat_le kind (length reading.type_planes);
-  lies_on = lies_on_plane reading.type_planes;
+scope_of tech = record {
+  type_of = number_named tech.types;
+  plane_of = number_named tech.planes;
+  is_type = λ kind. nat_le kind (length tech.type_planes);
+  lies_on = lies_on_plane tech.type_planes;
 }
 
 -- the names in a list, judged one by one from the left: the spelling first, and then whether something has the name already
-unfoldable pub names_added : (List ℕ → Bool) → ℕ → Numbered → List (List ℕ) → Result Numbered TechFaultKind
-names_added is_spelled number names [] = Ok names
-names_added is_spelled number names (word ∷ words) =
+unfoldable pub add_names : (List ℕ → Bool) → ℕ → Numbered → List (List ℕ) → Result Numbered TechFaultKind
+add_names is_spelled number names [] = Ok names
+add_names is_spelled number names (word ∷ words) =
     if not (is_spelled word) then Err BadForm
     else (if is_some (number_named names word) then Err NameTwice
-    else names_added is_spelled number (names ++ (word, number) ∷ []) words)
+    else add_names is_spelled number (names ++ (word, number) ∷ []) words)
 
 -- ---- one line in each section
 -- the first line whose first word isn't `format` names the technology
-abbrev pub name_told : Tech → List ℕ → Tech
-name_told reading word =
-    if is_none reading.name && not (same_word word (codes "format")) then record reading { name = Some word } else reading
+abbrev pub set_name : Tech → List ℕ → Tech
+set_name tech word =
+    if is_none tech.name && not (same_word word (codes "format")) then record tech { name = Some word } else tech
 
 unfoldable pub tech_line : Tech → List (List ℕ) → Result Tech TechFaultKind
-tech_line reading [] = Ok reading
-tech_line reading (word ∷ words) = Ok (name_told reading word)
+tech_line tech [] = Ok tech
+tech_line tech (word ∷ words) = Ok (set_name tech word)
 
 -- at most 4 planes
-abbrev pub plane_added : Tech → Numbered → Result Tech TechFaultKind
-plane_added reading names =
-    if nat_lt reading.plane_count 4 then Ok (record reading { planes = names; plane_count = reading.plane_count + 1 }) else Err Limit
+abbrev pub add_plane : Tech → Numbered → Result Tech TechFaultKind
+add_plane tech names =
+    if nat_lt tech.plane_count 4 then Ok (record tech { planes = names; plane_count = tech.plane_count + 1 }) else Err Limit
 
 unfoldable pub planes_line : Tech → List (List ℕ) → Result Tech TechFaultKind
-planes_line reading (word ∷ []) = names_added is_name reading.plane_count reading.planes (pieces_of word) >>= plane_added reading
-planes_line reading _ = Err BadForm
+planes_line tech (word ∷ []) = add_names is_name tech.plane_count tech.planes (fields_of word) >>= add_plane tech
+planes_line tech _ = Err BadForm
 
 -- at most 63 types besides space
-abbrev pub type_added : Tech → ℕ → Numbered → Result Tech TechFaultKind
-type_added reading plane names =
-    if nat_lt (length reading.type_planes) 63 then Ok (record reading { types = names; type_planes = reading.type_planes ++ plane ∷ [] }) else Err Limit
+abbrev pub add_type : Tech → ℕ → Numbered → Result Tech TechFaultKind
+add_type tech plane names =
+    if nat_lt (length tech.type_planes) 63 then Ok (record tech { types = names; type_planes = tech.type_planes ++ plane ∷ [] }) else Err Limit
 
 -- one leading `-` is dropped
 abbrev pub without_dash : List ℕ → List ℕ
@@ -110,20 +111,20 @@ without_dash [] = []
 without_dash (b ∷ bytes) = if b == 45 then bytes else b ∷ bytes
 
 unfoldable pub types_line : Tech → List (List ℕ) → Result Tech TechFaultKind
-types_line reading (plane ∷ names ∷ []) =
-    or_fault UnknownPlane (number_named reading.planes (without_dash plane)) >>= λ known.
-    names_added is_type_name (length reading.type_planes + 1) reading.types (pieces_of names) >>= type_added reading known
-types_line reading _ = Err BadForm
+types_line tech (plane ∷ names ∷ []) =
+    or_fault UnknownPlane (number_named tech.planes (without_dash plane)) >>= λ known.
+    add_names is_type_name (length tech.type_planes + 1) tech.types (fields_of names) >>= add_type tech known
+types_line tech _ = Err BadForm
 
-abbrev pub rule_added : Tech → ℕ → Rule → List ℕ → Tech
-rule_added reading n rule why = record reading { rules = reading.rules ++ record { line = n; rule = rule; why = why } ∷ [] }
+abbrev pub add_rule : Tech → ℕ → Rule → List ℕ → Tech
+add_rule tech n rule why = record tech { rules = tech.rules ++ record { line = n; rule = rule; why = why } ∷ [] }
 
-abbrev pub skipped_added : Tech → ℕ → List ℕ → Tech
-skipped_added reading n keyword = record reading { skipped = reading.skipped ++ record { line = n; keyword = keyword } ∷ [] }
+abbrev pub add_skipped : Tech → ℕ → List ℕ → Tech
+add_skipped tech n keyword = record tech { skipped = tech.skipped ++ record { line = n; keyword = keyword } ∷ [] }
 
-abbrev pub line_added : Tech → ℕ → DrcLine → Tech
-line_added reading n (States stated) = rule_added reading n stated.rule stated.why
-line_added reading n (Skips keyword) = skipped_added reading n keyword
+abbrev pub add_line : Tech → ℕ → DrcLine → Tech
+add_line tech n (States stated) = add_rule tech n stated.rule stated.why
+add_line tech n (Skips keyword) = add_skipped tech n keyword
 
 -- ---- sections
 abbrev pub section_named : List ℕ → Section
@@ -135,11 +136,11 @@ section_named word =
 
 -- what a line adds in its section
 unfoldable pub section_line : Section → Tech → NumberedLine → Result Tech TechFaultKind
-section_line TechSection reading line = tech_line reading (words_of line.bytes)
-section_line Planes reading line = planes_line reading (words_of line.bytes)
-section_line Types reading line = types_line reading (words_of line.bytes)
-section_line Drc reading line = drc_line (scope_of reading) line.bytes >>= λ said. Ok (line_added reading line.line said)
-section_line Other reading line = Ok reading
+section_line TechSection tech line = tech_line tech (words_of line.bytes)
+section_line Planes tech line = planes_line tech (words_of line.bytes)
+section_line Types tech line = types_line tech (words_of line.bytes)
+section_line Drc tech line = drc_line (scope_of tech) line.bytes >>= λ said. Ok (add_line tech line.line said)
+section_line Other tech line = Ok tech
 
 -- the line's only word is `end`, without quotes
 abbrev pub is_end_word : List (List ℕ) → Bool
@@ -153,13 +154,13 @@ abbrev pub first_word : List (List ℕ) → List ℕ
 first_word [] = []
 first_word (word ∷ words) = word
 
--- what one line is read as outside a section at nothing, or in one, where these lines follow it: the section that it leaves open, and what is
--- read with it. A section without its `end` is the fault of the line that names it, before any fault in it
-unfoldable pub line_read : Option Section → Tech → NumberedLine → List NumberedLine → Result (Option Section × Tech) TechFaultKind
-line_read None reading line lines =
-    if list_any is_end lines then Ok (Some (section_named (first_word (words_of line.bytes))), reading) else Err NoEnd
-line_read (Some section) reading line lines =
-    if is_end line then Ok (None, reading) else section_line section reading line >>= λ next. Ok (Some section, next)
+-- what one line adds, outside a section or inside one, where these lines follow it, and the section that the next line is in. A section
+-- without its `end` is the fault of the line that names it, before any fault in it
+unfoldable pub read_line : Option Section → Tech → NumberedLine → List NumberedLine → Result (Option Section × Tech) TechFaultKind
+read_line None tech line lines =
+    if list_any is_end lines then Ok (Some (section_named (first_word (words_of line.bytes))), tech) else Err NoEnd
+read_line (Some section) tech line lines =
+    if is_end line then Ok (None, tech) else section_line section tech line >>= λ next. Ok (Some section, next)
 
 -- ---- the file
 abbrev pub fault_at : {A : Type 0} → ℕ → Result A TechFaultKind → Result A TechFault
@@ -170,15 +171,10 @@ abbrev pub read_after : {A B : Type 0} → Result A TechFault → (A → Result 
 read_after (Ok x) f = f x
 read_after (Err fault) f = Err fault
 
--- what the lines from here on add, outside a section at nothing, or in one. A section without its `end` is the fault of the line that names it, before any fault in it
+-- what the lines from here on add, outside a section or inside one
 unfoldable pub read_lines : Option Section → Tech → List NumberedLine → Result Tech TechFault
-read_lines place reading [] = Ok reading
-read_lines None reading (line ∷ lines) =
-    if list_any is_end lines then read_lines (Some (section_named (first_word (words_of line.bytes)))) reading lines
-    else Err (record { line = line.line; kind = NoEnd })
-read_lines (Some section) reading (line ∷ lines) =
-    if is_end line then read_lines None reading lines
-    else read_after (fault_at line.line (section_line section reading line)) (λ next. read_lines (Some section) next lines)
+read_lines inside tech [] = Ok tech
+read_lines inside tech (line ∷ lines) = read_after (fault_at line.line (read_line inside tech line lines)) (λ next. read_lines next.0 next.1 lines)
 
 -- the line of the first byte that isn't UTF-8
 abbrev pub bad_line : List ℕ → ℕ
@@ -189,8 +185,8 @@ reading_of bytes =
     if utf8_valid_len bytes == length bytes then read_lines None nothing_read (content_lines bytes)
     else Err (record { line = bad_line bytes; kind = NotUtf8 })
 
--- ---- what reading gives where memory may run out
--- the fact, unless the fault is want of memory
+-- ---- out of memory
+-- the fact, unless the fault is out of memory
 abbrev pub UnlessMemory : TechFaultKind → Type 0 → Type 0
 UnlessMemory Memory P = Unit {0}
 UnlessMemory kind P = P

@@ -1,11 +1,11 @@
 -- Lists of types, as rules spell them: a set of types. This project's own spelling and meaning:
 --     list = item { "," item }      item = term [ "/" plane ]      term = "0" | name | "~" term | "(" list ")"
--- Commas unite, 0 is no type, ~ gives all types that aren't in the term, and /plane keeps those of the plane, of which space is one.
-use Rattle.std.specs.Prelude.{ℕ, suc, zero, ◌+◌, ◌*◌, ◌^◌, ◌==◌, Bool, true, false, not, ◌||◌, ◌&&◌, if◌then◌else◌, Option, Some, None, Result, Ok, Err, List, [], ◌∷◌, length, codes}
-use Rattle.std.specs.List.{range_with_len, sum_by}
+-- Commas unite, 0 is no type, ~ means all types that aren't in the term, and /plane keeps those of the plane, of which space is one.
+use Rattle.std.specs.Prelude.{ℕ, suc, zero, ◌+◌, ◌*◌, ◌==◌, Bool, true, false, not, ◌||◌, ◌&&◌, if◌then◌else◌, Option, Some, None, Result, Ok, Err, List, [], ◌∷◌, length, codes}
 use Rattle.std.specs.Option.{option_and_then, option_map}
+use Rattle.mls_kinds.specs.KindSets.{set_of}
 use Rattle.mls_tech.specs.Names.{is_name}
-use Rattle.mls_tech.specs.Words.{same_word}
+use Rattle.mls_text.specs.Words.{same_word}
 use Rattle.mls_tech.specs.declared.fault.TechFaultKind.{TechFaultKind}
 use Rattle.mls_tech.specs.declared.fault.TechFaultKind.TheVariants.{UnknownPlane, UnknownType, BadList}
 
@@ -74,7 +74,7 @@ pub data Part : Type 0 where
   Term : Part
   WholeList : Part
 
--- a term or a list at the front, spelled within so many steps
+-- a term or a list at the front, spelled within n steps
 unfoldable pub spelled : ℕ → Part → List Token → Spelled
 spelled zero part tokens = None
 spelled (suc n) Term [] = None
@@ -95,15 +95,15 @@ unfoldable pub list_in : List ℕ → Option TypeList
 list_in word = option_and_then whole (spelled (2 * length (tokens_of word) + 2) WholeList (tokens_of word))
 
 -- ---- meaning
--- what names stand for so far, and which types there are and on which planes they lie
+-- what names mean so far, and which types there are and on which planes they lie
 pub record Scope : Type 0 where
   pub type_of : List ℕ → Option ℕ
   pub plane_of : List ℕ → Option ℕ
   pub is_type : ℕ → Bool
   pub lies_on : ℕ → ℕ → Bool
 
-abbrev pub TypeSet : Type 0
-TypeSet = ℕ → Bool
+abbrev pub TypeTest : Type 0
+TypeTest = ℕ → Bool
 
 infixl 10 ◌>>=◌
 abbrev pub ◌>>=◌ : {A B : Type 0} → Result A TechFaultKind → (A → Result B TechFaultKind) → Result B TechFaultKind
@@ -115,21 +115,17 @@ or_fault fault None = Err fault
 or_fault fault (Some x) = Ok x
 
 -- the set of a list, or the leftmost name that isn't known
-unfoldable pub set_of : Scope → TypeList → Result TypeSet TechFaultKind
-set_of scope Nothing = Ok (λ kind. false)
-set_of scope (Named name) = or_fault UnknownType (scope.type_of name) >>= λ known. Ok (λ kind. kind == known)
-set_of scope (AllBut term) = set_of scope term >>= λ set. Ok (λ kind. scope.is_type kind && not (set kind))
-set_of scope (Both first others) = set_of scope first >>= λ xs. set_of scope others >>= λ ys. Ok (λ kind. xs kind || ys kind)
-set_of scope (OnPlane term plane) = set_of scope term >>= λ set. or_fault UnknownPlane (scope.plane_of plane) >>= λ known. Ok (λ kind. set kind && scope.lies_on known kind)
+unfoldable pub types_of : Scope → TypeList → Result TypeTest TechFaultKind
+types_of scope Nothing = Ok (λ kind. false)
+types_of scope (Named name) = or_fault UnknownType (scope.type_of name) >>= λ known. Ok (λ kind. kind == known)
+types_of scope (AllBut term) = types_of scope term >>= λ set. Ok (λ kind. scope.is_type kind && not (set kind))
+types_of scope (Both first others) = types_of scope first >>= λ xs. types_of scope others >>= λ ys. Ok (λ kind. xs kind || ys kind)
+types_of scope (OnPlane term plane) = types_of scope term >>= λ set. or_fault UnknownPlane (scope.plane_of plane) >>= λ known. Ok (λ kind. set kind && scope.lies_on known kind)
 
--- the set that a word spells: its spelling is told first
-unfoldable pub types_in : Scope → List ℕ → Result TypeSet TechFaultKind
-types_in scope word = or_fault BadList (list_in word) >>= set_of scope
+-- the set that a word spells, where a fault of its spelling comes first
+unfoldable pub types_in : Scope → List ℕ → Result TypeTest TechFaultKind
+types_in scope word = or_fault BadList (list_in word) >>= types_of scope
 
--- the set as a number whose bit k is 1 for each type k
-unfoldable pub bits_of : TypeSet → ℕ
-bits_of set = sum_by (λ kind. if set kind then 2 ^ kind else 0) (range_with_len 0 64)
-
--- the set that a word spells, as such a number
+-- the set that a word spells, as a number whose bit k is 1 for each type k
 unfoldable pub bits_in : Scope → List ℕ → Result ℕ TechFaultKind
-bits_in scope word = types_in scope word >>= λ set. Ok (bits_of set)
+bits_in scope word = types_in scope word >>= λ set. Ok (set_of set)

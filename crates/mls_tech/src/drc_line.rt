@@ -1,93 +1,111 @@
 //! The lines of the section `drc`.
-ghost use Rattle.std.specs.Prelude.{◌≡◌};
-ghost use Rattle.mls_tech.specs.DrcLines.{adjacency_of as adjacency_of_lem, drc_line as drc_line_lem, edge4way_line as edge4way_line_lem, edge_line as edge_line_lem, edge_words as edge_words_lem, keyword_line as keyword_line_lem, last_plane as last_plane_lem, spacing_line as spacing_line_lem, width_line as width_line_lem};
-ghost use Rattle.mls_tech.specs.DrcViews.{said, word_bytes};
-ghost use Rattle.mls_tech.specs.Gives.{GivesUnlessMemory};
+ghost use Rattle.std.specs.Prelude.{◌≡◌, ◌≤◌, All, IfOk};
+ghost use Rattle.mls_tech.specs.DrcLines as spec;
+ghost use Rattle.mls_tech.specs.Inner.DrcViews.{said, word_bytes};
+ghost use Rattle.mls_tech.specs.Inner.Gives.{Gives};
+ghost use Rattle.mls_tech.specs.Inner.ListReaders as lists;
+ghost use Rattle.mls_tech.specs.Readings.{scope_of};
 
 use crate::drc_words::drc_words;
+use crate::list_reader::{ListReader, openings};
 use crate::number::number_in;
-use crate::{Adjacency, Edge, Rule, TechFaultKind, TypeScope, read_types};
-use std::alloc::Global;
+use crate::{Adjacency, Edge, Rule, Tech, TechFaultKind};
+use std::alloc::{AllocError, Global};
 
 /// The largest distance that a rule may have, in squares.
 const DISTANCE_LIMIT: u8 = 100;
 
-/// What a line says.
+/// A line of the section `drc`.
 #[derive(Clone, Copy, Debug, PartialEq, Eq)]
-pub enum DrcLine<'a> {
+pub(crate) enum DrcLine<'a> {
     /// A rule, and why it is there.
     States(Rule, &'a [u8]),
-    /// The keyword of a line that is passed over.
+    /// The keyword of a line that is skipped.
     Skips(&'a [u8]),
 }
 
-/// What a line says, or its first fault.
+/// Reads a line, or returns its first fault.
 #[tactic(auto, unfolding(crate::specs::DrcLines::drc_line))]
-pub fn drc_line<'a, S: TypeScope>(
+pub(crate) fn drc_line<'a>(
     alloc: Global,
-    scope: &S,
+    tech: &Tech,
     line: &'a [u8],
-) -> Result<DrcLine<'a>, TechFaultKind>
-    ensures { GivesUnlessMemory said result (drc_line_lem (S.scope scope.now) line.now) }
+) -> Result<Result<DrcLine<'a>, TechFaultKind>, AllocError>
+    ensures { IfOk result (λ read. Gives said read (spec.drc_line (scope_of tech.now) line.now)) }
 {
-    let words = drc_words(alloc, line)?.ok_or(TechFaultKind::BadForm)?;
-    match words.split_first() {
-        None => Ok(DrcLine::Skips(&[])),
-        Some((keyword, words)) => keyword_line(alloc, scope, keyword, words),
-    }
+    let Some(words) = drc_words(alloc, line)? else {
+        return Ok(Err(TechFaultKind::BadForm));
+    };
+    let Some((keyword, words)) = words.split_first() else {
+        return Ok(Ok(DrcLine::Skips(&[])));
+    };
+    let mut reader = ListReader::new(alloc, most_openings(words))?;
+    Ok(keyword_line(tech, &mut reader, keyword, words))
 }
 
-/// What a keyword and the words behind it say.
+/// Returns the largest number of opening parentheses in one of the words.
+fn most_openings(words: &[&[u8]]) -> usize
+    ensures { All (λ word. lists.openings word.now ≤ result) words.now }
+{
+    let mut most = 0;
+    for word in words {
+        most = openings(word).max(most);
+    }
+    most
+}
+
+/// Reads a keyword and the words after it.
 #[tactic(auto, unfolding(crate::specs::DrcLines::keyword_line))]
-fn keyword_line<'a, S: TypeScope>(
-    alloc: Global,
-    scope: &S,
+fn keyword_line<'a>(
+    tech: &Tech,
+    reader: &mut ListReader,
     keyword: &'a [u8],
     words: &[&'a [u8]],
 ) -> Result<DrcLine<'a>, TechFaultKind>
-    ensures { GivesUnlessMemory said result
-        (keyword_line_lem (S.scope scope.now) keyword.now (word_bytes words.now)) }
+    requires fits { All (λ word. lists.openings word.now ≤ reader.old.room) words.now }
+    ensures { Gives said result
+        (spec.keyword_line (scope_of tech.now) keyword.now (word_bytes words.now)) }
 {
     if keyword == b"width".as_slice() {
-        width_line(alloc, scope, words)
+        width_line(tech, reader, words)
     } else if keyword == b"spacing".as_slice() {
-        spacing_line(alloc, scope, words)
+        spacing_line(tech, reader, words)
     } else if keyword == b"edge".as_slice() {
-        edge_line(alloc, scope, words)
+        edge_line(tech, reader, words)
     } else if keyword == b"edge4way".as_slice() {
-        edge4way_line(alloc, scope, words)
+        edge4way_line(tech, reader, words)
     } else {
         Ok(DrcLine::Skips(keyword))
     }
 }
 
-/// What the words after `width` say.
+/// Reads the words after `width`.
 #[tactic(auto, unfolding(crate::specs::DrcLines::width_line))]
-fn width_line<'a, S: TypeScope>(
-    alloc: Global,
-    scope: &S,
+fn width_line<'a>(
+    tech: &Tech,
+    reader: &mut ListReader,
     words: &[&'a [u8]],
 ) -> Result<DrcLine<'a>, TechFaultKind>
-    ensures { GivesUnlessMemory said result
-        (width_line_lem (S.scope scope.now) (word_bytes words.now)) }
+    requires fits { All (λ word. lists.openings word.now ≤ reader.old.room) words.now }
+    ensures { Gives said result (spec.width_line (scope_of tech.now) (word_bytes words.now)) }
 {
     let [types, distance, why] = words else {
         return Err(TechFaultKind::BadForm);
     };
-    let types = read_types(alloc, scope, types)?;
+    let types = reader.read(tech, types)?;
     let distance = number_in(1, DISTANCE_LIMIT, distance)?;
     Ok(DrcLine::States(Rule::Width(types, distance), why))
 }
 
-/// What the words after `spacing` say.
+/// Reads the words after `spacing`.
 #[tactic(auto, unfolding(crate::specs::DrcLines::spacing_line))]
-fn spacing_line<'a, S: TypeScope>(
-    alloc: Global,
-    scope: &S,
+fn spacing_line<'a>(
+    tech: &Tech,
+    reader: &mut ListReader,
     words: &[&'a [u8]],
 ) -> Result<DrcLine<'a>, TechFaultKind>
-    ensures { GivesUnlessMemory said result
-        (spacing_line_lem (S.scope scope.now) (word_bytes words.now)) }
+    requires fits { All (λ word. lists.openings word.now ≤ reader.old.room) words.now }
+    ensures { Gives said result (spec.spacing_line (scope_of tech.now) (word_bytes words.now)) }
 {
     let [types1, types2, distance, adjacency, why, more @ ..] = words else {
         return Err(TechFaultKind::BadForm);
@@ -98,15 +116,15 @@ fn spacing_line<'a, S: TypeScope>(
     if !more.is_empty() {
         return Err(TechFaultKind::BadForm);
     }
-    let types1 = read_types(alloc, scope, types1)?;
-    let types2 = read_types(alloc, scope, types2)?;
+    let types1 = reader.read(tech, types1)?;
+    let types2 = reader.read(tech, types2)?;
     let distance = number_in(1, DISTANCE_LIMIT, distance)?;
     Ok(DrcLine::States(Rule::Spacing(types1, types2, distance, adjacency), why))
 }
 
-/// The adjacency that a word names.
+/// Returns the adjacency that a word names.
 fn adjacency_of(word: &[u8]) -> Option<Adjacency>
-    ensures { result ≡ adjacency_of_lem word.now }
+    ensures { result ≡ spec.adjacency_of word.now }
 {
     if word == b"touching_ok".as_slice() {
         Some(Adjacency::TouchingOk)
@@ -117,47 +135,48 @@ fn adjacency_of(word: &[u8]) -> Option<Adjacency>
     }
 }
 
-/// What the words after `edge` say.
+/// Reads the words after `edge`.
 #[tactic(auto, unfolding(crate::specs::DrcLines::edge_line))]
-fn edge_line<'a, S: TypeScope>(
-    alloc: Global,
-    scope: &S,
+fn edge_line<'a>(
+    tech: &Tech,
+    reader: &mut ListReader,
     words: &[&'a [u8]],
 ) -> Result<DrcLine<'a>, TechFaultKind>
-    ensures { GivesUnlessMemory said result
-        (edge_line_lem (S.scope scope.now) (word_bytes words.now)) }
+    requires fits { All (λ word. lists.openings word.now ≤ reader.old.room) words.now }
+    ensures { Gives said result (spec.edge_line (scope_of tech.now) (word_bytes words.now)) }
 {
-    match edge_words(alloc, scope, words) {
+    match edge_words(tech, reader, words) {
         Ok((edge, why)) => Ok(DrcLine::States(Rule::Edge(edge), why)),
-        Err(fault) => Err(fault),
+        Err(kind) => Err(kind),
     }
 }
 
-/// What the words after `edge4way` say.
+/// Reads the words after `edge4way`.
 #[tactic(auto, unfolding(crate::specs::DrcLines::edge4way_line))]
-fn edge4way_line<'a, S: TypeScope>(
-    alloc: Global,
-    scope: &S,
+fn edge4way_line<'a>(
+    tech: &Tech,
+    reader: &mut ListReader,
     words: &[&'a [u8]],
 ) -> Result<DrcLine<'a>, TechFaultKind>
-    ensures { GivesUnlessMemory said result
-        (edge4way_line_lem (S.scope scope.now) (word_bytes words.now)) }
+    requires fits { All (λ word. lists.openings word.now ≤ reader.old.room) words.now }
+    ensures { Gives said result (spec.edge4way_line (scope_of tech.now) (word_bytes words.now)) }
 {
-    match edge_words(alloc, scope, words) {
+    match edge_words(tech, reader, words) {
         Ok((edge, why)) => Ok(DrcLine::States(Rule::Edge4Way(edge), why)),
-        Err(fault) => Err(fault),
+        Err(kind) => Err(kind),
     }
 }
 
-/// The edge that words state, and why.
+/// Reads the words of an edge, and returns it with why it is there.
 #[tactic(auto, unfolding(crate::specs::DrcLines::edge_words))]
-fn edge_words<'a, S: TypeScope>(
-    alloc: Global,
-    scope: &S,
+fn edge_words<'a>(
+    tech: &Tech,
+    reader: &mut ListReader,
     words: &[&'a [u8]],
 ) -> Result<(Edge, &'a [u8]), TechFaultKind>
-    ensures { GivesUnlessMemory (λ edge. (edge.0, edge.1.now)) result
-        (edge_words_lem (S.scope scope.now) (word_bytes words.now)) }
+    requires fits { All (λ word. lists.openings word.now ≤ reader.old.room) words.now }
+    ensures { Gives (λ edge. (edge.0, edge.1.now)) result
+        (spec.edge_words (scope_of tech.now) (word_bytes words.now)) }
 {
     let [
         types1,
@@ -176,30 +195,27 @@ fn edge_words<'a, S: TypeScope>(
         return Err(TechFaultKind::BadForm);
     }
     let edge = Edge {
-        types1: read_types(alloc, scope, types1)?,
-        types2: read_types(alloc, scope, types2)?,
+        types1: reader.read(tech, types1)?,
+        types2: reader.read(tech, types2)?,
         distance: number_in(1, DISTANCE_LIMIT, distance)?,
-        ok_types: read_types(alloc, scope, ok_types)?,
-        corner_types: read_types(alloc, scope, corner_types)?,
+        ok_types: reader.read(tech, ok_types)?,
+        corner_types: reader.read(tech, corner_types)?,
         corner_distance: number_in(0, DISTANCE_LIMIT, corner_distance)?,
-        plane: last_plane(scope, more)?,
+        plane: last_plane(tech, more)?,
     };
     Ok((edge, why))
 }
 
-/// The plane at the end of an edge line, if one is named.
-fn last_plane<S: TypeScope>(scope: &S, words: &[&[u8]]) -> Result<Option<u8>, TechFaultKind>
-    ensures { result ≡ last_plane_lem (S.scope scope.now) (word_bytes words.now) }
+/// Returns the plane at the end of an edge line, if one is named.
+fn last_plane(tech: &Tech, words: &[&[u8]]) -> Result<Option<u8>, TechFaultKind>
+    ensures { result ≡ spec.last_plane (scope_of tech.now) (word_bytes words.now) }
 {
     match words {
         [] => Ok(None),
         [plane] => {
-            let known = scope.plane_of(plane).ok_or(TechFaultKind::UnknownPlane)?;
+            let known = tech.plane_named(plane).ok_or(TechFaultKind::UnknownPlane)?;
             Ok(Some(known))
         }
         _ => Err(TechFaultKind::BadForm),
     }
 }
-
-#[cfg(test)]
-mod tests;

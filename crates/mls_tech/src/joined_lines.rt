@@ -1,12 +1,13 @@
 //! The lines of a file, each that ends with `\` joined with the next.
 ghost use Rattle.std.specs.Prelude.{◌≡◌, ◌+◌, ◌^◌, ◌<◌, ◌≤◌, ◌∷◌, ◌++◌, length, if◌then◌else◌, IfOk};
-ghost use Rattle.mls_tech.specs.FileLines.{NumberedLine, goes_on, joined_from, raw_lines, with_blank};
+ghost use Rattle.mls_text.specs.Lines.{raw_lines};
+ghost use Rattle.mls_tech.specs.FileLines.{NumberedLine, goes_on, joined_from, with_blank};
 
-use crate::raw_lines::first_line;
+use mls_text::next_line;
 use std::alloc::AllocError;
 
-/// Puts the first line of the bytes, joined with those that it goes on in, in place of `line`. The
-/// first line has the given number. Gives what stands behind, and the number of the line there.
+/// Replaces `line` by the first line of the bytes, joined with those that it goes on in. The first
+/// line has the given number. Returns the bytes that follow, and the number of the line there.
 #[tactic(auto, using(crate::proofs::JoinedLines::steps))]
 pub(crate) fn read_line<'a>(
     line: &mut Vec<u8>,
@@ -23,8 +24,8 @@ pub(crate) fn read_line<'a>(
     line.clear();
     let mut rest = bytes;
     let mut next = number;
-    while let Some((raw, behind)) = first_line(rest) {
-        rest = behind;
+    while let Some((raw, after)) = next_line(rest) {
+        rest = after;
         next += 1;
         if !append_line(line, raw)? {
             break;
@@ -33,7 +34,7 @@ pub(crate) fn read_line<'a>(
     Ok((rest, next))
 }
 
-/// Appends a line as it stands in the file, with a blank in place of a `\` at its end, and says
+/// Appends a line as it stands in the file, with a blank in place of a `\` at its end, and returns
 /// whether it had one.
 #[tactic(auto, using(crate::proofs::LastBytes::joins))]
 fn append_line(line: &mut Vec<u8>, raw: &[u8]) -> Result<bool, AllocError>

@@ -1,13 +1,14 @@
 //! A type list, read from the left.
 ghost use Rattle.std.specs.Prelude.{◌≡◌, ◌<◌};
 ghost use Rattle.std.specs.Option.{ForSome};
-ghost use Rattle.mls_tech.specs.ListReaders.{named_set as named_set_lem, plane_set as plane_set_lem};
+ghost use Rattle.mls_tech.specs.Inner.ListReaders as spec;
+ghost use Rattle.mls_tech.specs.Readings.{scope_of};
 
 use crate::name::is_name;
-use crate::token::Token;
-use crate::type_scope::TypeScope;
-use crate::{TechFaultKind, TypeSet};
-use std::alloc::Global;
+use crate::token::{Token, Tokens};
+use crate::{Tech, TechFaultKind};
+use mls_kinds::KindSet;
+use std::alloc::{AllocError, Global};
 use std::marker::Model;
 
 /// The tildes in front of a term.
@@ -21,12 +22,9 @@ enum Tildes {
 }
 
 impl Tildes {
-    ghost use Rattle.std.specs.Prelude.{◌≡◌};
-    ghost use Rattle.mls_tech.specs.ListReaders.{tilde_more, after_tildes};
-
-    /// With one more.
+    /// Returns these tildes with one more.
     fn more(self) -> Tildes
-        ensures { result ≡ tilde_more self }
+        ensures { result ≡ spec.tilde_more self }
     {
         match self {
             Tildes::Odd => Tildes::Even,
@@ -34,9 +32,9 @@ impl Tildes {
         }
     }
 
-    /// The set of a term with its tildes, each of which gives all types that the set lacks.
-    fn apply(self, all: TypeSet, set: TypeSet) -> TypeSet
-        ensures { result ≡ after_tildes all self set }
+    /// Returns the set of a term with its tildes, each of which means all types that the set lacks.
+    fn apply(self, all: KindSet, set: KindSet) -> KindSet
+        ensures { result ≡ spec.after_tildes all self set }
     {
         match self {
             Tildes::NoTilde => set,
@@ -46,16 +44,16 @@ impl Tildes {
     }
 }
 
-/// What may come next.
+/// A position in a list.
 #[derive(Clone, Copy)]
-enum Place {
-    /// A term, of which these tildes were read.
+enum Position {
+    /// Before a term, and after these tildes.
     BeforeTerm(Tildes),
-    /// What follows a term with this set: a slash, or what follows an item.
-    AfterTerm(TypeSet),
-    /// The plane of a term with this set.
-    BeforePlane(TypeSet),
-    /// A comma, a closing parenthesis or the end.
+    /// After a term with this set, where a slash or the end of the item may follow.
+    AfterTerm(KindSet),
+    /// Before the plane of a term with this set.
+    BeforePlane(KindSet),
+    /// After an item, where a comma, a closing parenthesis or the end may follow.
     AfterItem,
 }
 
@@ -63,134 +61,158 @@ enum Place {
 #[derive(Clone, Copy)]
 struct OuterList {
     /// The types of the items before the one with the parentheses.
-    items: TypeSet,
+    items: KindSet,
     /// The tildes in front of the parentheses.
     tildes: Tildes,
 }
 
-/// What was read of a type list so far.
+/// A reader of type lists, which takes no memory once it is made.
 #[derive(Drop)]
-pub struct ListReader {
+pub(crate) struct ListReader {
+    /// The largest number of lists that may be open at once.
+    room: usize,
     /// The lists around the one that is read, the innermost last.
     outer: Vec<OuterList>,
     /// The types of the items that this list has so far.
-    items: TypeSet,
-    place: Place,
+    items: KindSet,
+    position: Position,
     /// The fault of the first name that isn't known.
     unknown: Option<TechFaultKind>,
 }
 
 impl Model for ListReader {
-    ghost use Rattle.std.specs.Prelude.{reverse};
-    ghost use Rattle.mls_tech.specs.ListReaders.{Reader, reader};
+    ghost use Rattle.std.specs.Prelude.{◌≤◌, reverse, vec_capacity};
+    ghost use Rattle.mls_tech.specs.Inner.ListReaders.{Reader, reader};
 
     ghost Value = { Reader };
 
-    ghost view = { λ r. reader (reverse r.outer.items) r.items r.place r.unknown };
+    ghost view = { λ r. reader r.room (reverse r.outer.items) r.items r.position r.unknown };
+
+    ghost invariant = { λ r. r.room ≤ vec_capacity r.outer };
 }
 
 impl ListReader {
-    ghost use Rattle.std.specs.Prelude.{◌≡◌};
-    ghost use Rattle.mls_tech.specs.ListReaders.{at_first, Steps, step, finish as finish_lem, term_step, word_step, item_step, after_step, plane_step, closing_step, with_list, with_term, with_item, noting};
-    ghost use Rattle.mls_tech.specs.Tokens.{token_of};
+    ghost use Rattle.std.specs.Prelude.{◌≡◌, ◌<◌, ◌≤◌, length, IfOk};
+    ghost use Rattle.mls_tech.specs.Inner.ListReaders.{HasRoom, Steps, openings};
+    ghost use Rattle.mls_tech.specs.Inner.Tokens.{token_of};
+    ghost use Rattle.mls_tech.specs.TypeLists.{bits_in};
 
-    /// Before the first token.
-    pub fn new(alloc: Global) -> ListReader
-        ensures { result ≡ at_first }
+    /// Creates a reader of lists with at most `room` opening parentheses.
+    pub fn new(alloc: Global, room: usize) -> Result<ListReader, AllocError>
+        ensures { IfOk result (λ reader. reader ≡ spec.at_first room) }
     {
-        ListReader {
-            outer: Vec::new(alloc),
-            items: TypeSet::empty(),
-            place: Place::BeforeTerm(Tildes::NoTilde),
+        Ok(ListReader {
+            room,
+            outer: Vec::with_capacity(alloc, room)?,
+            items: KindSet::empty(),
+            position: Position::BeforeTerm(Tildes::NoTilde),
             unknown: None,
+        })
+    }
+
+    /// Reads a word that spells a list, and returns its set of types.
+    pub fn read(&mut self, tech: &Tech, word: &[u8]) -> Result<KindSet, TechFaultKind>
+        requires fits { openings word.now ≤ self.old.room }
+        ensures value { result ≡ bits_in (scope_of tech.now) word.now }
+        ensures room { IfOk result (λ _. self.new.room ≡ self.old.room) }
+    {
+        self.restart();
+        for token in Tokens::new(word) {
+            self.take(tech, token)?;
+        }
+        self.finish()
+    }
+
+    /// Goes back to the position before the first token of a list.
+    fn restart(&mut self)
+        ensures { self.new ≡ spec.at_first self.old.room }
+    {
+        self.outer.clear();
+        self.items = KindSet::empty();
+        self.position = Position::BeforeTerm(Tildes::NoTilde);
+        self.unknown = None;
+    }
+
+    /// Reads the next token. After a fault the rest of the list can't be read.
+    #[tactic(auto, unfolding(crate::specs::Inner::ListReaders::step))]
+    fn take(&mut self, tech: &Tech, token: Token<'_>) -> Result<(), TechFaultKind>
+        requires { HasRoom self.old (token_of token) }
+        ensures { Steps (spec.step (scope_of tech.now) self.old (token_of token.entry)) result self.new }
+    {
+        let position = self.position;
+        match position {
+            Position::BeforeTerm(tildes) => self.take_term(tech, tildes, token),
+            Position::AfterTerm(set) => self.take_after_term(tech, set, token),
+            Position::BeforePlane(set) => self.take_plane(tech, set, token),
+            Position::AfterItem => self.take_after_item(tech, token),
         }
     }
 
-    /// Reads the next token. After a fault the reader is of no more use.
-    #[tactic(auto, unfolding(crate::specs::ListReaders::step))]
-    pub fn take<S: TypeScope>(&mut self, scope: &S, token: Token<'_>) -> Result<(), TechFaultKind>
-        ensures { Steps (step (S.scope scope.now) self.old (token_of token.entry)) result self.new }
+    /// Returns the set of the whole list.
+    #[tactic(auto, unfolding(crate::specs::Inner::ListReaders::finish))]
+    fn finish(&self) -> Result<KindSet, TechFaultKind>
+        ensures { result ≡ spec.finish self.now }
     {
-        let place = self.place;
-        match place {
-            Place::BeforeTerm(tildes) => self.take_term(scope, tildes, token),
-            Place::AfterTerm(set) => self.take_after_term(scope, set, token),
-            Place::BeforePlane(set) => self.take_plane(scope, set, token),
-            Place::AfterItem => self.take_after_item(scope, token),
-        }
-    }
-
-    /// The set of the whole list.
-    #[tactic(auto, unfolding(crate::specs::ListReaders::finish))]
-    pub fn finish(self) -> Result<TypeSet, TechFaultKind>
-        ensures { result ≡ finish_lem self }
-    {
-        let place = self.place;
-        let set = match place {
-            Place::AfterTerm(set) => self.items.union(set),
-            Place::AfterItem => self.items,
+        let position = self.position;
+        let set = match position {
+            Position::AfterTerm(set) => self.items.union(set),
+            Position::AfterItem => self.items,
             _ => return Err(TechFaultKind::BadList),
         };
         if !self.outer.is_empty() {
             return Err(TechFaultKind::BadList);
         }
-        match self.unknown {
-            None => Ok(set),
-            Some(fault) => Err(fault),
-        }
+        self.unknown.map_or(Ok(set), Err)
     }
 
     /// Reads a token of a term.
-    fn take_term<S: TypeScope>(
+    fn take_term(
         &mut self,
-        scope: &S,
+        tech: &Tech,
         tildes: Tildes,
         token: Token<'_>,
     ) -> Result<(), TechFaultKind>
-        ensures { Steps (term_step (S.scope scope.now) self.old tildes (token_of token.entry)) result self.new }
+        requires { HasRoom self.old (token_of token) }
+        ensures { Steps (spec.term_step (scope_of tech.now) self.old tildes (token_of token.entry)) result self.new }
     {
         match token {
             Token::Tilde => {
-                self.place = Place::BeforeTerm(tildes.more());
+                self.position = Position::BeforeTerm(tildes.more());
                 Ok(())
             }
-            Token::Opening => self.open(tildes),
-            Token::Word(word) => self.take_word(scope, tildes, word),
+            Token::Opening => {
+                self.open(tildes);
+                Ok(())
+            }
+            Token::Word(word) => self.take_word(tech, tildes, word),
             _ => Err(TechFaultKind::BadList),
         }
     }
 
     /// Begins a list in parentheses.
-    fn open(&mut self, tildes: Tildes) -> Result<(), TechFaultKind>
-        ensures { Steps (Some (with_list self.old tildes)) result self.new }
+    fn open(&mut self, tildes: Tildes)
+        requires { length self.old.outer < self.old.room }
+        ensures { self.new ≡ spec.with_list self.old tildes }
     {
         let outer = OuterList {
             items: self.items,
             tildes,
         };
-        if self.outer.push(outer).is_err() {
-            return Err(TechFaultKind::Memory);
-        }
-        self.items = TypeSet::empty();
-        self.place = Place::BeforeTerm(Tildes::NoTilde);
-        Ok(())
+        let _ = self.outer.push(outer);
+        self.items = KindSet::empty();
+        self.position = Position::BeforeTerm(Tildes::NoTilde);
     }
 
     /// Reads a term of one word.
-    fn take_word<S: TypeScope>(
-        &mut self,
-        scope: &S,
-        tildes: Tildes,
-        word: &[u8],
-    ) -> Result<(), TechFaultKind>
-        ensures { Steps (word_step (S.scope scope.now) self.old tildes word.now) result self.new }
+    fn take_word(&mut self, tech: &Tech, tildes: Tildes, word: &[u8]) -> Result<(), TechFaultKind>
+        ensures { Steps (spec.word_step (scope_of tech.now) self.old tildes word.now) result self.new }
     {
         if word == b"0".as_slice() {
-            self.end_term(scope, tildes, TypeSet::empty());
+            self.end_term(tech, tildes, KindSet::empty());
         } else if is_name(word) {
-            let kind = scope.type_of(word);
+            let kind = tech.type_of(word);
             self.note(kind, TechFaultKind::UnknownType);
-            self.end_term(scope, tildes, named_set(kind));
+            self.end_term(tech, tildes, named_set(kind));
         } else {
             return Err(TechFaultKind::BadList);
         }
@@ -198,30 +220,30 @@ impl ListReader {
     }
 
     /// Reads a token that follows a term with this set.
-    fn take_after_term<S: TypeScope>(
+    fn take_after_term(
         &mut self,
-        scope: &S,
-        set: TypeSet,
+        tech: &Tech,
+        set: KindSet,
         token: Token<'_>,
     ) -> Result<(), TechFaultKind>
-        ensures { Steps (after_step (S.scope scope.now) self.old set (token_of token.entry)) result self.new }
+        ensures { Steps (spec.after_step (scope_of tech.now) self.old set (token_of token.entry)) result self.new }
     {
         if let Token::Slash = token {
-            self.place = Place::BeforePlane(set);
+            self.position = Position::BeforePlane(set);
             return Ok(());
         }
         self.end_item(set);
-        self.take_after_item(scope, token)
+        self.take_after_item(tech, token)
     }
 
     /// Reads the plane of a term with this set.
-    fn take_plane<S: TypeScope>(
+    fn take_plane(
         &mut self,
-        scope: &S,
-        set: TypeSet,
+        tech: &Tech,
+        set: KindSet,
         token: Token<'_>,
     ) -> Result<(), TechFaultKind>
-        ensures { Steps (plane_step (S.scope scope.now) self.old set (token_of token.entry)) result self.new }
+        ensures { Steps (spec.plane_step (scope_of tech.now) self.old set (token_of token.entry)) result self.new }
     {
         let Token::Word(word) = token else {
             return Err(TechFaultKind::BadList);
@@ -229,61 +251,57 @@ impl ListReader {
         if !is_name(word) {
             return Err(TechFaultKind::BadList);
         }
-        let plane = scope.plane_of(word);
+        let plane = tech.plane_named(word);
         self.note(plane, TechFaultKind::UnknownPlane);
-        self.end_item(plane_set(scope, set, plane));
+        self.end_item(plane_set(tech, set, plane));
         Ok(())
     }
 
     /// Reads a token that follows an item.
-    fn take_after_item<S: TypeScope>(
-        &mut self,
-        scope: &S,
-        token: Token<'_>,
-    ) -> Result<(), TechFaultKind>
-        ensures { Steps (item_step (S.scope scope.now) self.old (token_of token.entry)) result self.new }
+    fn take_after_item(&mut self, tech: &Tech, token: Token<'_>) -> Result<(), TechFaultKind>
+        ensures { Steps (spec.item_step (scope_of tech.now) self.old (token_of token.entry)) result self.new }
     {
         match token {
             Token::Comma => {
-                self.place = Place::BeforeTerm(Tildes::NoTilde);
+                self.position = Position::BeforeTerm(Tildes::NoTilde);
                 Ok(())
             }
-            Token::Closing => self.close(scope),
+            Token::Closing => self.close(tech),
             _ => Err(TechFaultKind::BadList),
         }
     }
 
     /// Ends a list in parentheses.
-    fn close<S: TypeScope>(&mut self, scope: &S) -> Result<(), TechFaultKind>
-        ensures { Steps (closing_step (S.scope scope.now) self.old self.old.outer) result self.new }
+    fn close(&mut self, tech: &Tech) -> Result<(), TechFaultKind>
+        ensures { Steps (spec.closing_step (scope_of tech.now) self.old self.old.outer) result self.new }
     {
         let Some(list) = self.outer.pop() else {
             return Err(TechFaultKind::BadList);
         };
         let set = self.items;
         self.items = list.items;
-        self.end_term(scope, list.tildes, set);
+        self.end_term(tech, list.tildes, set);
         Ok(())
     }
 
     /// Ends a term that has this set without its tildes.
-    fn end_term<S: TypeScope>(&mut self, scope: &S, tildes: Tildes, set: TypeSet)
-        ensures { self.new ≡ with_term (S.scope scope.now) self.old tildes set }
+    fn end_term(&mut self, tech: &Tech, tildes: Tildes, set: KindSet)
+        ensures { self.new ≡ spec.with_term (scope_of tech.now) self.old tildes set }
     {
-        self.place = Place::AfterTerm(tildes.apply(scope.all_types(), set));
+        self.position = Position::AfterTerm(tildes.apply(tech.all_types(), set));
     }
 
     /// Ends an item with this set.
-    fn end_item(&mut self, set: TypeSet)
-        ensures { self.new ≡ with_item self.old set }
+    fn end_item(&mut self, set: KindSet)
+        ensures { self.new ≡ spec.with_item self.old set }
     {
         self.items = self.items.union(set);
-        self.place = Place::AfterItem;
+        self.position = Position::AfterItem;
     }
 
-    /// Notes the fault of a name that stands for nothing, if it is the first.
+    /// Notes the fault of an unknown name, if it is the list's first.
     fn note(&mut self, known: Option<u8>, fault: TechFaultKind)
-        ensures { self.new ≡ noting self.old known fault }
+        ensures { self.new ≡ spec.noting self.old known fault }
     {
         if known.is_none() && self.unknown.is_none() {
             self.unknown = Some(fault);
@@ -291,23 +309,27 @@ impl ListReader {
     }
 }
 
-/// The type by itself, or no type.
-fn named_set(kind: Option<u8>) -> TypeSet
+/// Returns the set of the one type, or the empty set for an unknown one.
+fn named_set(kind: Option<u8>) -> KindSet
     requires { ForSome kind (λ known. known < 64) }
-    ensures { result ≡ named_set_lem kind }
+    ensures { result ≡ spec.named_set kind }
 {
-    match kind {
-        Some(known) => TypeSet::single(known),
-        None => TypeSet::empty(),
+    kind.map_or(KindSet::empty(), KindSet::single)
+}
+
+/// Returns the types of the set that lie on the plane, or all of them for an unknown plane.
+fn plane_set(tech: &Tech, set: KindSet, plane: Option<u8>) -> KindSet
+    ensures { result ≡ spec.plane_set (scope_of tech.now) set plane }
+{
+    match plane {
+        Some(known) => set.intersection(tech.plane_types(known)),
+        None => set,
     }
 }
 
-/// The types of the set that lie on the plane, or all of them.
-fn plane_set<S: TypeScope>(scope: &S, set: TypeSet, plane: Option<u8>) -> TypeSet
-    ensures { result ≡ plane_set_lem (S.scope scope.now) set plane }
+/// Returns the number of opening parentheses in a word.
+pub(crate) fn openings(word: &[u8]) -> usize
+    ensures { result ≡ spec.openings word.now }
 {
-    match plane {
-        Some(known) => set.intersection(scope.plane_types(known)),
-        None => set,
-    }
+    word.iter().filter(|b| **b == b'(').count()
 }

@@ -1,8 +1,14 @@
 //! Names of planes, or of types.
 ghost use Rattle.std.specs.Prelude.{◌≡◌, None, [], ◌∷◌, ◌++◌, OnOk, option_copied};
-ghost use Rattle.mls_tech.specs.Readings.{number_named, first_named};
+ghost use Rattle.mls_tech.specs.Inner.Gives.{GivesUnlessMemory};
+ghost use Rattle.mls_tech.specs.Inner.NameKinds.{spelling_of};
+ghost use Rattle.mls_tech.specs.Readings as spec;
+ghost use Rattle.mls_text.specs.Fields.{fields_of};
 
+use crate::TechFaultKind;
+use crate::name_kind::NameKind;
 use indexmap::IndexMap;
+use mls_text::Fields;
 use std::alloc::{AllocError, Global};
 use std::marker::Model;
 
@@ -14,7 +20,7 @@ pub(crate) struct NameTable {
 
 impl Model for NameTable {
     ghost use Rattle.std.specs.Prelude.{ℕ, List};
-    ghost use Rattle.mls_tech.specs.NameTables.{names_in};
+    ghost use Rattle.mls_tech.specs.Inner.NameTables.{names_in};
 
     ghost Value = { List (List ℕ × ℕ) };
 
@@ -22,7 +28,7 @@ impl Model for NameTable {
 }
 
 impl NameTable {
-    /// A table without names.
+    /// Creates a table without names.
     pub fn new(alloc: Global) -> NameTable
         ensures { result ≡ [] }
     {
@@ -31,25 +37,49 @@ impl NameTable {
         }
     }
 
-    /// What the word names.
+    /// Returns the number of what the word names.
     pub fn number_of(&self, word: &[u8]) -> Option<u8>
-        ensures { result ≡ number_named self.now word.now }
+        ensures { result ≡ spec.number_named self.now word.now }
     {
         self.numbers.get(word).copied()
     }
 
     /// Adds a name that names nothing yet.
     pub fn add(&mut self, alloc: Global, word: &[u8], number: u8) -> Result<(), AllocError>
-        requires { number_named self.old word.now ≡ None }
+        requires { spec.number_named self.old word.now ≡ None }
         ensures { OnOk result (self.new ≡ self.old ++ (word.now, number) ∷ []) }
     {
         self.numbers.insert(Vec::from_slice(alloc, word)?, number)?;
         Ok(())
     }
 
-    /// The first name of a number.
-    pub fn first_named(&self, number: u8) -> Option<&[u8]>
-        ensures { option_copied result ≡ first_named self.now number }
+    /// Adds the names between the commas of a list, each as a name of the number. At a fault, those
+    /// before it have been added.
+    pub fn add_names(
+        &mut self,
+        alloc: Global,
+        kind: NameKind,
+        number: u8,
+        list: &[u8],
+    ) -> Result<(), TechFaultKind>
+        ensures { GivesUnlessMemory (λ _. self.new) result
+            (spec.add_names (spelling_of kind) number self.old (fields_of list.now)) }
+    {
+        for word in Fields::new(list) {
+            if !kind.is_spelled(word) {
+                return Err(TechFaultKind::BadForm);
+            }
+            if self.number_of(word).is_some() {
+                return Err(TechFaultKind::NameTwice);
+            }
+            self.add(alloc, word, number)?;
+        }
+        Ok(())
+    }
+
+    /// Returns the first name of a number.
+    pub fn name_of(&self, number: u8) -> Option<&[u8]>
+        ensures { option_copied result ≡ spec.name_of self.now number }
     {
         for (name, named) in &self.numbers {
             if *named == number {

@@ -1,5 +1,5 @@
 //! The rule lines of a technology file, as they are written.
-use crate::TypeSet;
+use mls_kinds::KindSet;
 
 /// Whether types may touch that are spaced apart otherwise.
 #[derive(Clone, Copy, Debug, PartialEq, Eq)]
@@ -8,24 +8,24 @@ pub enum Adjacency {
     TouchingIllegal,
 }
 
-/// What an `edge` or `edge4way` line says. Distances are in squares.
+/// An `edge` or `edge4way` line. Distances are in squares.
 #[derive(Clone, Copy, Debug, PartialEq, Eq)]
 pub struct Edge {
-    pub types1: TypeSet,
-    pub types2: TypeSet,
+    pub types1: KindSet,
+    pub types2: KindSet,
     pub distance: u8,
-    pub ok_types: TypeSet,
-    pub corner_types: TypeSet,
+    pub ok_types: KindSet,
+    pub corner_types: KindSet,
     pub corner_distance: u8,
     /// The plane that is checked, if the line names one.
     pub plane: Option<u8>,
 }
 
-/// What a rule line says. Distances are in squares.
+/// A rule line. Distances are in squares.
 #[derive(Clone, Copy, Debug, PartialEq, Eq)]
 pub enum Rule {
-    Width(TypeSet, u8),
-    Spacing(TypeSet, TypeSet, u8, Adjacency),
+    Width(KindSet, u8),
+    Spacing(KindSet, KindSet, u8, Adjacency),
     Edge(Edge),
     Edge4Way(Edge),
 }

@@ -1,5 +1,6 @@
-//! What is kept of the lines of the section `drc`.
-use crate::{Rule, Word};
+//! The lines of the section `drc`.
+use crate::Rule;
+use mls_text::Word;
 
 /// A line that states a rule.
 #[derive(Debug, Drop)]
@@ -7,11 +8,11 @@ pub struct RuleLine {
     /// The line's number in the file, from 1.
     pub line: usize,
     pub rule: Rule,
-    /// Why the rule is there, as the line says it.
+    /// Why the rule is there, in the words of the line.
     pub why: Word,
 }
 
-/// A line that was passed over, since it states no rule that is known.
+/// A line that was skipped, since its keyword or its adjacency isn't known.
 #[derive(Debug, Drop)]
 pub struct Skipped {
     /// The line's number in the file, from 1.

@@ -1,21 +1,21 @@
 //! The sections of a technology file.
 ghost use Rattle.std.specs.Prelude.{◌≡◌};
 
-/// What the lines of a section are.
+/// The kind of a section.
 #[derive(Clone, Copy)]
 pub(crate) enum Section {
     Tech,
     Planes,
     Types,
     Drc,
-    /// Lines that are passed over.
+    /// Lines that are skipped.
     Other,
 }
 
 impl Section {
     ghost use Rattle.mls_tech.specs.Readings.{section_named};
 
-    /// The section of this name.
+    /// Returns the section with this name.
     pub fn named(word: &[u8]) -> Section
         ensures { result ≡ section_named word.now }
     {

@@ -1,17 +1,18 @@
 //! Technologies.
 ghost use Rattle.std.specs.Prelude.{◌≡◌, ◌<◌, ◌≤◌, length, IfOk, IfSome, option_copied};
-ghost use Rattle.mls_tech.specs.Readings.{nothing_read, number_named, first_named, plane_of_type, why_of};
+ghost use Rattle.mls_tech.specs.Readings as spec;
 
 mod file;
 mod lines;
-mod scope;
+mod type_sets;
 
 use crate::name_table::NameTable;
-use crate::{RuleLine, Skipped, TechFault, Word};
+use crate::{RuleLine, Skipped};
+use mls_text::Word;
 use std::alloc::{AllocError, Global};
 use std::marker::Model;
 
-/// A technology: its planes, its types and the rule lines, as a technology file states them.
+/// A technology: its planes, its types and its rule lines, as a technology file states them.
 #[derive(Drop)]
 pub struct Tech {
     name: Option<Word>,
@@ -43,9 +44,9 @@ impl Model for Tech {
 }
 
 impl Tech {
-    /// What no line adds up to: the type `space` alone.
+    /// Creates the technology of a file without lines, whose only type is `space`.
     fn new(alloc: Global) -> Result<Tech, AllocError>
-        ensures { IfOk result (λ tech. tech ≡ nothing_read) }
+        ensures { IfOk result (λ tech. tech ≡ spec.nothing_read) }
     {
         let mut types = NameTable::new(alloc);
         types.add(alloc, b"space", 0)?;
@@ -60,41 +61,46 @@ impl Tech {
         })
     }
 
-    /// The technology's name, if the file tells it.
+    /// Returns the technology's name, if the file has one.
     pub fn name(&self) -> Option<&[u8]>
         ensures { option_copied result ≡ self.now.name }
     {
-        match &self.name {
-            Some(name) => Some(name.as_slice()),
-            None => None,
-        }
+        self.name.as_ref().map(|name| name.as_slice())
     }
 
-    /// The type of this name. Type 0 is `space`.
+    /// Returns the type with this name. Type 0 is `space`.
     pub fn type_of(&self, name: &[u8]) -> Option<u8>
-        ensures value { result ≡ number_named self.now.types name.now }
+        ensures value { result ≡ spec.number_named self.now.types name.now }
         ensures known { IfSome result (λ kind. kind ≤ length self.now.type_planes) }
+        ensures small { IfSome result (λ kind. kind < 64) }
     {
         self.types.number_of(name)
     }
 
-    /// The first name of a type.
-    pub fn type_name(&self, kind: u8) -> Option<&[u8]>
-        ensures { option_copied result ≡ first_named self.now.types kind }
+    /// Returns the plane with this name.
+    pub(crate) fn plane_named(&self, name: &[u8]) -> Option<u8>
+        ensures { result ≡ spec.number_named self.now.planes name.now }
     {
-        self.types.first_named(kind)
+        self.planes.number_of(name)
     }
 
-    /// The plane of a type; `space` has none of its own.
+    /// Returns the first name of a type.
+    pub fn type_name(&self, kind: u8) -> Option<&[u8]>
+        ensures { option_copied result ≡ spec.name_of self.now.types kind }
+    {
+        self.types.name_of(kind)
+    }
+
+    /// Returns the plane of a type; `space` has none of its own.
     pub fn plane_of(&self, kind: u8) -> Option<u8>
-        ensures value { result ≡ plane_of_type self.now.type_planes kind }
+        ensures value { result ≡ spec.plane_of_type self.now.type_planes kind }
         ensures known { IfSome result (λ plane. plane < self.now.plane_count) }
     {
-        let before = usize::from(kind).checked_sub(1)?;
-        self.type_planes.get(before).copied()
+        let index = usize::from(kind).checked_sub(1)?;
+        self.type_planes.get(index).copied()
     }
 
-    /// How many planes there are, numbered from 0.
+    /// Returns the number of planes, which are numbered from 0.
     pub fn planes(&self) -> usize
         ensures value { result ≡ self.now.plane_count }
         ensures limit { result ≤ 4 }
@@ -102,7 +108,7 @@ impl Tech {
         usize::from(self.plane_count)
     }
 
-    /// How many types there are besides `space`, numbered from 1.
+    /// Returns the number of types besides `space`, which are numbered from 1.
     pub fn types(&self) -> usize
         ensures value { result ≡ length self.now.type_planes }
         ensures limit { result ≤ 63 }
@@ -110,28 +116,25 @@ impl Tech {
         self.type_planes.len()
     }
 
-    /// The lines that state rules, in the order of the file.
+    /// Returns the lines that state rules, in the order of the file.
     pub fn lines(&self) -> &[RuleLine]
         ensures { result.now ≡ self.now.rules }
     {
         self.rules.as_slice()
     }
 
-    /// The lines of the section `drc` that were passed over.
+    /// Returns the lines of the section `drc` that were skipped, in the order of the file.
     pub fn skipped(&self) -> &[Skipped]
         ensures { result.now ≡ self.now.skipped }
     {
         self.skipped.as_slice()
     }
 
-    /// Why rule `n` is there, from 1.
+    /// Returns why rule `n` is there, from 1.
     pub fn why(&self, n: usize) -> Option<&[u8]>
-        ensures { option_copied result ≡ why_of self.now.rules n }
+        ensures { option_copied result ≡ spec.why_of self.now.rules n }
     {
         let line = self.rules.get(n.checked_sub(1)?)?;
         Some(line.why.as_slice())
     }
 }
-
-#[cfg(test)]
-mod tests;

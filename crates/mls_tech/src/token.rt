@@ -3,13 +3,13 @@ ghost use Rattle.std.specs.Prelude.{◌≡◌, false, [], ◌∷◌, IsTrue, Mat
 ghost use Rattle.std.specs.List.{position_or_len};
 ghost use Rattle.std.specs.Iterator.{YieldsFirstBy, item_count};
 ghost use Rattle.mls_tech.specs.TypeLists.{tokens_of, Word};
-ghost use Rattle.mls_tech.specs.Tokens.{token_of, is_mark as is_mark_lem};
+ghost use Rattle.mls_tech.specs.Inner.Tokens as spec;
 
 use std::marker::Model;
 
 /// A token of a type list.
 #[derive(Clone, Copy)]
-pub enum Token<'a> {
+pub(crate) enum Token<'a> {
     Comma,
     Slash,
     Tilde,
@@ -20,7 +20,7 @@ pub enum Token<'a> {
 
 /// The tokens of a type list that are left, in order.
 #[derive(Drop)]
-pub struct Tokens<'a> {
+pub(crate) struct Tokens<'a> {
     rest: &'a [u8],
 }
 
@@ -34,7 +34,7 @@ impl<'a> Model for Tokens<'a> {
 }
 
 impl<'a> Tokens<'a> {
-    /// The tokens of a word.
+    /// Creates the tokens of a word.
     pub fn new(word: &'a [u8]) -> Tokens<'a>
         ensures { result ≡ tokens_of word.now }
     {
@@ -45,7 +45,7 @@ impl<'a> Tokens<'a> {
 impl<'a> Iterator for Tokens<'a> {
     type Item = Token<'a>;
 
-    ghost next_gives = { YieldsFirstBy token_of (λ tokens. tokens) };
+    ghost next_gives = { YieldsFirstBy spec.token_of (λ tokens. tokens) };
 
     ghost remaining = { item_count (λ tokens. tokens) };
 
@@ -56,11 +56,11 @@ impl<'a> Iterator for Tokens<'a> {
     }
 }
 
-/// The first token, and the bytes behind it.
-#[tactic(auto, unfolding(crate::specs::Tokens::is_mark))]
+/// Returns the first token and the bytes after it.
+#[tactic(auto, unfolding(crate::specs::Inner::Tokens::is_mark))]
 fn first_token(bytes: &[u8]) -> Option<(Token<'_>, &[u8])>
     ensures { MatchOption result (tokens_of bytes.now ≡ [])
-        (λ next. tokens_of bytes.now ≡ token_of next.0 ∷ tokens_of next.1.now) }
+        (λ next. tokens_of bytes.now ≡ spec.token_of next.0 ∷ tokens_of next.1.now) }
 {
     let token = match *bytes.first()? {
         b',' => Token::Comma,
@@ -73,28 +73,28 @@ fn first_token(bytes: &[u8]) -> Option<(Token<'_>, &[u8])>
     Some((token, &bytes[1..]))
 }
 
-/// The word that the bytes begin with, and the bytes behind it.
+/// Returns the word that the bytes begin with, and the bytes after it.
 #[tactic(auto, using(crate::proofs::TokenLemmas::first))]
 fn first_word(bytes: &[u8]) -> (Token<'_>, &[u8])
     requires begun { 0 < length bytes.now }
-    requires unmarked { is_mark_lem (slice_index bytes.now 0) ≡ false }
-    ensures { tokens_of bytes.now ≡ token_of result.0 ∷ tokens_of result.1.now }
+    requires unmarked { spec.is_mark (slice_index bytes.now 0) ≡ false }
+    ensures { tokens_of bytes.now ≡ spec.token_of result.0 ∷ tokens_of result.1.now }
 {
     let (word, rest) = bytes.split_at(word_len(bytes));
     (Token::Word(word), rest)
 }
 
-/// How many bytes stand before the first mark, or in all if there is none.
+/// Returns the number of bytes before the first mark, or of all if there is none.
 fn word_len(bytes: &[u8]) -> usize
-    ensures { result ≡ position_or_len is_mark_lem bytes.now }
+    ensures { result ≡ position_or_len spec.is_mark bytes.now }
 {
     bytes.iter().take_while(|byte| !is_mark(**byte)).count()
 }
 
-/// Whether the byte is a token by itself.
-#[tactic(auto, unfolding(crate::specs::Tokens::is_mark))]
+/// Returns whether the byte is a token by itself.
+#[tactic(auto, unfolding(crate::specs::Inner::Tokens::is_mark))]
 fn is_mark(byte: u8) -> bool
-    ensures { result ≡ is_mark_lem byte }
+    ensures { result ≡ spec.is_mark byte }
 {
     matches!(byte, b',' | b'/' | b'~' | b'(' | b')')
 }

@@ -1,7 +1,8 @@
-pub mod Heeding
+pub mod Chunks
+pub mod Executing
 pub mod NameLemmas
-pub mod Pieces
-pub mod ScriptLines
+pub mod NextLineLemmas
+pub mod Results
+pub mod RunLemmas
+pub mod ScriptTexts
 pub mod ServingLemmas
-pub mod TakingLines
-pub mod TypeBits

@@ -3,11 +3,11 @@ use Rattle.std.proofs.Common.{ℕ, ◌≤◌, List, ◌++◌, length, drop, repl
 use Rattle.std.proofs.Math.Seq.{take-append_seam}
 use Rattle.std.proofs.lemmas.List.{drop-replicate}
 use Rattle.mls_wire.specs.SessionNames.{is_session_name}
-use Rattle.mls_wire.specs.KeptNames.{padded, KeepsName}
+use Rattle.mls_wire.specs.NameBytes.{padded, HoldsName}
 
 -- a word over 32 zeros lies as a padded name
-pub KeepsName-over_zeros : (word : List ℕ) → IsTrue (is_session_name word) → length word ≤ 32 → KeepsName (word ++ drop (length word) (replicate 32 0)) (length word)
-KeepsName-over_zeros word name within =
+pub HoldsName-over_zeros : (word : List ℕ) → IsTrue (is_session_name word) → length word ≤ 32 → HoldsName (word ++ drop (length word) (replicate 32 0)) (length word)
+HoldsName-over_zeros word name within =
     let taken = take-append_seam word (drop (length word) (replicate 32 0)) in
     record {
       name = subst (λ (front : List ℕ). IsTrue (is_session_name front)) (sym taken) name;
@@ -16,4 +16,4 @@ KeepsName-over_zeros word name within =
       zeros = ap padded taken ∙ ap (λ (zeros : List ℕ). word ++ zeros) (sym (drop-replicate (length word) 32 0));
     }
 
-pub ruleset kept = (KeepsName-over_zeros, take-append_seam)
+pub ruleset kept = (HoldsName-over_zeros, take-append_seam)

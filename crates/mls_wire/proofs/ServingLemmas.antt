@@ -1,129 +1,287 @@
 -- Serving a script line by line.
-use Rattle.std.proofs.Common.{◌≡◌, ℕ, ◌+◌, inl, inr, Option, Some, None, List, [], ◌∷◌, ◌++◌, Result, Ok, Err, OnErr, refl, sym, ap, subst, ◌∙◌, append_assoc, append-nil}
-use Rattle.std.specs.Io.KnownBytes.{Appends, Keeps}
-use Rattle.mls_wire.specs.Lines.{script_of}
-use Rattle.mls_wire.specs.Scripts.{TakesKnownLine}
-use Rattle.mls_wire.specs.declared.reader.Taken.TheVariants.{End, TooLong, Line}
-use Rattle.mls_wire.specs.Runs.{Setting, Seat, LineRuns, Runs, Stops}
-use Rattle.mls_wire.specs.Serving.{AppendsFront, WritesRun, WritesCutRun, WritesLine, WritesCutLine, IsServed, Serves}
+use Rattle.std.proofs.Common.{◌≡◌, ◌≢◌, ℕ, ◌+◌, ◌<◌, ◌≤◌, Option, Some, None, List, [], ◌∷◌, ◌++◌, Result, OnOk, IfErr, All, length, map, refl, sym, ap, subst, ◌∙◌, arith, append_assoc, append-nil}
+use Rattle.std.proofs.KnownBytes.{Appends-nil, Appends-kept, Appends-trans}
+use Rattle.std.proofs.lemmas.List.{length-append, length-map, map-append}
+use Rattle.std.proofs.lemmas.List.Elements.{All-append, All-cons, All-nil}
+use Rattle.std.specs.Io.KnownBytes.{Appends, Keeps, prepend_known}
+use Rattle.std.specs.Prelude.{⊤}
+use Rattle.std.specs.Result.{IsErr, IsErrAnd}
+use Rattle.mls_text.proofs.LineLemmas.{lines_of-last}
+use Rattle.mls_text.specs.Lines.{IsUnbroken, lines_of}
+use Rattle.mls_wire.specs.Lines.{read_line, script_of}
+use Rattle.mls_wire.specs.NextLines.{BeginsKnownLine, TakesLine, TakesKnownLine}
+use Rattle.mls_wire.specs.Runs.{Setting, OpenSession, RunsLine, Runs}
+use Rattle.mls_wire.specs.Serving.{AppendsFront, Gains, StopsAtLine, WritesRun, WritesCutRun, WritesLine, WritesCutLine}
+use Rattle.mls_wire.specs.declared.reader.NextLine.{NextLine}
+use Rattle.mls_wire.specs.declared.reader.NextLine.TheVariants.{End, Line, LastLine}
+use Rattle.mls_wire.specs.declared.serving.ServeFault.{ServeFault}
+use Rattle.mls_wire.specs.declared.serving.ServeFault.TheVariants.{Read, Write, Memory}
+use Rattle.mls_wire.proofs.Results.{if_err, if_err-map, on_ok-map}
+use Rattle.mls_wire.proofs.RunLemmas.{Runs-snoc}
+use Rattle.mls_wire.proofs.ScriptTexts.{fed, fed-snoc, lines_of-whole, whole_lines_of-begun}
 
-pub appends_nothing : (known : Option (List ℕ)) → Appends known known []
-appends_nothing None = tt
-appends_nothing (Some bytes) = sym (append-nil bytes)
+-- bytes that were all written before the device failed
+pub AppendsFront-all : (a b c : Option (List ℕ)) (bytes : List ℕ) → Appends a b bytes → Keeps b c → AppendsFront a c bytes
+AppendsFront-all a b c bytes h k = (bytes, [], sym (append-nil bytes), Appends-kept a b c bytes h k)
 
-pub appends_kept : (a b c : Option (List ℕ)) (bytes : List ℕ) → Appends a b bytes → Keeps b c → Appends a c bytes
-appends_kept None b c bytes h k = tt
-appends_kept (Some x) None c bytes h k = absurd h
-appends_kept (Some x) (Some y) None bytes h k = k
-appends_kept (Some x) (Some y) (Some z) bytes h k = k ∙ h
+-- ---- one line
 
-pub appends_more : (a b c : Option (List ℕ)) (xs ys : List ℕ) → Appends a b xs → Appends b c ys → Appends a c (xs ++ ys)
-appends_more None b c xs ys h k = tt
-appends_more (Some x) None c xs ys h k = absurd h
-appends_more (Some x) (Some y) None xs ys h k = k
-appends_more (Some x) (Some y) (Some z) xs ys h k = k ∙ ap (λ l. l ++ ys) h ∙ append_assoc x xs ys
+module _ (setting : Setting) (old new : OpenSession) (n : ℕ) (line : Option (List ℕ)) (text : List ℕ) (runs : RunsLine setting old n line text new) where
+  -- memory ran out, and no byte of the text was written
+  pub cut_before : {T : Type 0} (r : Result T ServeFault) (known : Option (List ℕ)) → IsErr r × IsErrAnd r (λ fault. fault ≡ Memory)
+      → IfErr r (λ fault. WritesCutLine setting old n line fault known known new)
+  cut_before r known is = if_err r Memory (λ fault. WritesCutLine setting old n line fault known known new) is ([], ((text, runs), λ memory. refl), Appends-nil known)
 
--- a run can be cut before it begins
-pub stops_at_once : (setting : Setting) (seat : Seat) (n : ℕ) (lines : List (Option (List ℕ))) → Stops setting seat n lines [] seat
-stops_at_once setting seat n [] = (refl, refl)
-stops_at_once setting seat n (line ∷ lines) = inl (refl, refl)
+  -- a beginning of it was written
+  pub cut_within : {T : Type 0} (r : Result T ServeFault) (a b : Option (List ℕ)) (bytes : List ℕ) → IsErr r × IsErrAnd r (λ fault. fault ≡ Write) → bytes ≡ text → AppendsFront a b bytes
+      → IfErr r (λ fault. WritesCutLine setting old n line fault a b new)
+  cut_within r a b bytes is same h =
+      if_err r Write (λ fault. WritesCutLine setting old n line fault a b new) is
+      (h.0, ((h.1, subst (λ whole. RunsLine setting old n line whole new) (sym same ∙ h.2) runs), λ memory. absurd (cc)), h.3)
 
--- what holds anyway holds at an error
-pub on_err : {T E : Type 0} (r : Result T E) (P : Type 0) → P → OnErr r P
-on_err (Ok x) P p = tt
-on_err (Err e) P p = p
-
-module _ (setting : Setting) (old new : Seat) (n : ℕ) (line : Option (List ℕ)) (text : List ℕ) (runs : LineRuns setting old n line text new) where
-  -- no byte of the text was written
-  pub cut_before : (known : Option (List ℕ)) → WritesCutLine setting old n line known known new
-  cut_before known = ([], (text, runs), appends_nothing known)
-
-  -- a beginning of it was
-  pub cut_within : (a b : Option (List ℕ)) (bytes : List ℕ) → bytes ≡ text → AppendsFront a b bytes → WritesCutLine setting old n line a b new
-  cut_within a b bytes same h = (h.0, (h.1, subst (λ whole. LineRuns setting old n line whole new) (sym same ∙ h.2) runs), h.3)
-
-  -- all of it was
+  -- all of it was written
   pub done_line : (a b : Option (List ℕ)) (bytes : List ℕ) → bytes ≡ text → Appends a b bytes → WritesLine setting old n line a b new
   done_line a b bytes same h = (text, runs, subst (Appends a b) same h)
 
--- bytes that were all written before the device failed
-pub front_after : (a b c : Option (List ℕ)) (bytes : List ℕ) → Appends a b bytes → Keeps b c → AppendsFront a c bytes
-front_after a b c bytes h k = (bytes, [], sym (append-nil bytes), appends_kept a b c bytes h k)
+-- ---- the lines of a script
 
--- a line was taken from the script, as it is read
-abbrev pub TakesAs : Option (List ℕ) → Option (List ℕ) → Option (List ℕ) → Type 0
-TakesAs None new line = Unit {0}
-TakesAs (Some old) None line = ⊥
-TakesAs (Some old) (Some new) line = script_of old ≡ line ∷ script_of new
+-- the whole lines up to line n were served, with this output, and this is left of the script
+pub record IsServed (setting : Setting) (old : OpenSession) (script : List ℕ) (n : ℕ) (left out : List ℕ) (session : OpenSession) : Type 0 where
+  pub lines : List (List ℕ)
+  pub split : script ≡ fed lines ++ left
+  pub unbroken : All IsUnbroken lines
+  pub number : n ≡ length lines + 1
+  pub runs : Runs setting old 1 (map read_line lines) out session
 
-pub takes_too_long : (old new : Option (List ℕ)) (line : List ℕ) → TakesKnownLine old new TooLong line → TakesAs old new None
-takes_too_long None new line t = tt
-takes_too_long (Some old) None line t = t
-takes_too_long (Some old) (Some new) line t = t
+-- the same where the script is known
+abbrev pub Serves : Setting → OpenSession → Option (List ℕ) → Option (List ℕ) → ℕ → Option (List ℕ) → Option (List ℕ) → OpenSession → Type 0
+Serves setting old None written n left now session = ⊤
+Serves setting old (Some script) written n None now session = ⊥
+Serves setting old (Some script) written n (Some left) now session = Gains written now (λ out. IsServed setting old script n left out session)
 
-pub takes_line : (old new : Option (List ℕ)) (line : List ℕ) → TakesKnownLine old new Line line → TakesAs old new (Some line)
-takes_line None new line t = tt
-takes_line (Some old) None line t = t
-takes_line (Some old) (Some new) line t = t
-
-pub served_first : (setting : Setting) (old : Seat) (script written : Option (List ℕ)) → Serves setting old script written 0 script written old
+pub served_first : (setting : Setting) (old : OpenSession) (script written : Option (List ℕ)) → Serves setting old script written 1 script written old
 served_first setting old None written = tt
-served_first setting old (Some script) written = ([], record { runs = λ more last h. h; stops = λ more last h. h }, appends_nothing written)
+served_first setting old (Some script) written =
+    ([], record { lines = []; split = refl; unbroken = All-nil IsUnbroken; number = refl; runs = (refl, refl) }, Appends-nil written)
 
--- one more line was served
-served_line : (setting : Setting) (old seat next : Seat) (n : ℕ) (line : Option (List ℕ)) (script out text rest left : List ℕ) → IsServed setting old script out n rest seat → script_of rest ≡ line ∷ script_of left → LineRuns setting seat (n + 1) line text next → IsServed setting old script (out ++ text) (n + 1) left next
-served_line setting old seat next n line script out text rest left served taken run = record {
-  runs = λ more last h.
-      subst (λ all. Runs setting old 1 (script_of script) all last) (sym (append_assoc out text more))
-      (served.runs (text ++ more) last (subst (λ lines. Runs setting seat (n + 1) lines (text ++ more) last) (sym taken) (text, next, more, run, h, refl)));
-  stops = λ more last h.
-      subst (λ all. Stops setting old 1 (script_of script) all last) (sym (append_assoc out text more))
-      (served.stops (text ++ more) last (subst (λ lines. Stops setting seat (n + 1) lines (text ++ more) last) (sym taken) (inr (inr (text, next, more, run, h, refl)))));
-}
+-- the run of the served lines and one more
+runs_more : (setting : Setting) (old session new : OpenSession) (script : List ℕ) (n : ℕ) (left out text : List ℕ) (line : Option (List ℕ))
+    → (served : IsServed setting old script n left out session) → RunsLine setting session n line text new
+    → Runs setting old 1 (map read_line served.lines ++ line ∷ []) (out ++ text) new
+runs_more setting old session new script n left out text line served run =
+    let number : n ≡ 1 + length (map read_line served.lines) = omega (arith, served.number, length-map served.lines read_line) in
+    Runs-snoc setting old session new 1 (map read_line served.lines) line out text served.runs (subst (λ k. RunsLine setting session k line text new) number run)
 
-pub served_more : (setting : Setting) (old seat next : Seat) (n : ℕ) (line script written rest left now then : Option (List ℕ)) → Serves setting old script written n rest now seat → TakesAs rest left line → WritesLine setting seat (n + 1) line now then next → Serves setting old script written (n + 1) left then next
-served_more setting old seat next n line None written rest left now then s t w = tt
-served_more setting old seat next n line (Some script) written None left now then s t w = absurd s
-served_more setting old seat next n line (Some script) written (Some rest) None now then s t w = absurd t
-served_more setting old seat next n line (Some script) written (Some rest) (Some left) now then s t w =
-    (s.0 ++ w.0, served_line setting old seat next n line script s.0 w.0 rest left s.1 t w.1, appends_more written now then s.0 w.0 s.2 w.2)
+-- a line was taken whose text ends the part of the script that was taken
+record HasTaken (script left : List ℕ) (before : List (List ℕ)) (line : Option (List ℕ)) : Type 0 where
+  pub taken : List ℕ
+  pub split : script ≡ taken ++ left
+  pub whole : lines_of script ≡ lines_of taken ++ lines_of left
+  pub lines : script_of taken ≡ map read_line before ++ line ∷ []
+
+-- a line with its line feed
+taken_line : (script left next kept : List ℕ) (lines : List (List ℕ)) → script ≡ fed lines ++ left → All IsUnbroken lines → TakesLine left next Line kept
+    → HasTaken script next lines (read_line kept)
+taken_line script left next kept lines split unbroken taken =
+    let line = taken.0 in
+    let all = lines ++ line ∷ [] in
+    let each : All IsUnbroken all = All-append IsUnbroken lines (line ∷ []) unbroken (All-cons IsUnbroken line [] taken.1 (All-nil IsUnbroken)) in
+    let text : script ≡ fed all ++ next = split ∙ ap (λ l. fed lines ++ l) taken.2 ∙ fed-snoc lines line next in
+    let same : lines_of (fed all) ≡ all = ap lines_of (sym (append-nil (fed all))) ∙ lines_of-whole all [] each ∙ append-nil all in
+    record {
+      taken = fed all;
+      split = text;
+      whole = ap lines_of text ∙ lines_of-whole all next each ∙ ap (λ l. l ++ lines_of next) (sym same);
+      lines = ap (map read_line) same ∙ map-append read_line lines (line ∷ []) ∙ ap (λ l. map read_line lines ++ l ∷ []) (sym taken.3);
+    }
+
+-- the last line of the script, without one
+lines_of_script : (script left : List ℕ) (lines : List (List ℕ)) → script ≡ fed lines ++ left → All IsUnbroken lines → IsUnbroken left → 0 < length left
+    → lines_of script ≡ lines ++ left ∷ []
+lines_of_script script left lines split unbroken last some =
+    ap lines_of split ∙ lines_of-whole lines left unbroken ∙ ap (λ l. lines ++ l) (lines_of-last left last some)
+
+script_of_last : (script left next kept : List ℕ) (lines : List (List ℕ)) → script ≡ fed lines ++ left → All IsUnbroken lines → TakesLine left next LastLine kept
+    → script_of script ≡ map read_line lines ++ read_line kept ∷ []
+script_of_last script left next kept lines split unbroken taken =
+    ap (map read_line) (lines_of_script script left lines split unbroken taken.0 taken.1) ∙ map-append read_line lines (left ∷ [])
+    ∙ ap (λ l. map read_line lines ++ l ∷ []) (sym taken.3)
+
+taken_last : (script left next kept : List ℕ) (lines : List (List ℕ)) → script ≡ fed lines ++ left → All IsUnbroken lines → TakesLine left next LastLine kept
+    → HasTaken script next lines (read_line kept)
+taken_last script left next kept lines split unbroken taken =
+    record {
+      taken = script;
+      split = sym (ap (λ l. script ++ l) taken.2 ∙ append-nil script);
+      whole = sym (ap (λ l. lines_of script ++ lines_of l) taken.2 ∙ append-nil (lines_of script));
+      lines = script_of_last script left next kept lines split unbroken taken;
+    }
+
+-- a line with its line feed was served
+pub served_more : (setting : Setting) (old session new : OpenSession) (n : ℕ) (kept : List ℕ) (script written left next now then : Option (List ℕ))
+    → Serves setting old script written n left now session → TakesKnownLine left next Line kept → WritesLine setting session n (read_line kept) now then new
+    → Serves setting old script written (n + 1) next then new
+served_more setting old session new n kept None written left next now then s t w = tt
+served_more setting old session new n kept (Some script) written None next now then s t w = absurd s
+served_more setting old session new n kept (Some script) written (Some left) None now then s t w = absurd t
+served_more setting old session new n kept (Some script) written (Some left) (Some next) now then s t w =
+    let served = s.1 in
+    let line = t.0 in
+    let lines : map read_line (served.lines ++ line ∷ []) ≡ map read_line served.lines ++ read_line kept ∷ [] =
+    map-append read_line served.lines (line ∷ []) ∙ ap (λ l. map read_line served.lines ++ l ∷ []) (sym t.3) in (
+      s.0 ++ w.0,
+      record {
+        lines = served.lines ++ line ∷ [];
+        split = served.split ∙ ap (λ l. fed served.lines ++ l) t.2 ∙ fed-snoc served.lines line next;
+        unbroken = All-append IsUnbroken served.lines (line ∷ []) served.unbroken (All-cons IsUnbroken line [] t.1 (All-nil IsUnbroken));
+        number = omega (arith, served.number, length-append served.lines (line ∷ []));
+        runs = subst (λ all. Runs setting old 1 all (s.0 ++ w.0) new) (sym lines)
+            (runs_more setting old session new script n left s.0 w.0 (read_line kept) served w.1);
+      },
+      Appends-trans written now then s.0 w.0 s.2 w.2,
+    )
+
+-- the last line was served, and the script ends with it
+pub served_last : (setting : Setting) (old session new : OpenSession) (n : ℕ) (kept : List ℕ) (script written left next now then : Option (List ℕ))
+    → Serves setting old script written n left now session → TakesKnownLine left next LastLine kept → WritesLine setting session n (read_line kept) now then new
+    → WritesRun setting old script written then new
+served_last setting old session new n kept None written left next now then s t w = tt
+served_last setting old session new n kept (Some script) written None next now then s t w = absurd s
+served_last setting old session new n kept (Some script) written (Some left) None now then s t w = absurd t
+served_last setting old session new n kept (Some script) written (Some left) (Some next) now then s t w =
+    let served = s.1 in
+    let lines = script_of_last script left next kept served.lines served.split served.unbroken t in (
+      s.0 ++ w.0,
+      subst (λ all. Runs setting old 1 all (s.0 ++ w.0) new) (sym lines) (runs_more setting old session new script n left s.0 w.0 (read_line kept) served w.1),
+      Appends-trans written now then s.0 w.0 s.2 w.2,
+    )
 
 -- nothing was left of the script
-pub served_all : (setting : Setting) (old seat : Seat) (n : ℕ) (script written rest left now : Option (List ℕ)) (line : List ℕ) → Serves setting old script written n rest now seat → TakesKnownLine rest left End line → WritesRun setting old script written now seat
-served_all setting old seat n None written rest left now line s t = tt
-served_all setting old seat n (Some script) written None left now line s t = absurd s
-served_all setting old seat n (Some script) written (Some rest) None now line s t = absurd t
-served_all setting old seat n (Some script) written (Some rest) (Some left) now line s t = (
-  s.0,
-  subst (λ all. Runs setting old 1 (script_of script) all seat) (append-nil s.0)
-      (s.1.runs [] seat (subst (λ text. Runs setting seat (n + 1) (script_of text) [] seat) (sym t.0) (refl, refl))),
-  s.2,
-)
+pub served_all : (setting : Setting) (old session : OpenSession) (n : ℕ) (kept : List ℕ) (script written left next now : Option (List ℕ))
+    → Serves setting old script written n left now session → TakesKnownLine left next End kept → WritesRun setting old script written now session
+served_all setting old session n kept None written left next now s t = tt
+served_all setting old session n kept (Some script) written None next now s t = absurd s
+served_all setting old session n kept (Some script) written (Some left) None now s t = absurd t
+served_all setting old session n kept (Some script) written (Some left) (Some next) now s t =
+    let served = s.1 in
+    let lines : lines_of script ≡ served.lines = ap lines_of (served.split ∙ ap (λ l. fed served.lines ++ l) t.0) ∙ lines_of-whole served.lines [] served.unbroken ∙ append-nil served.lines in
+    (s.0, subst (λ all. Runs setting old 1 all s.0 session) (sym (ap (map read_line) lines)) served.runs, s.2)
 
--- the run was cut before a line
-pub served_before : (setting : Setting) (old seat : Seat) (n : ℕ) (script written rest now : Option (List ℕ)) → Serves setting old script written n rest now seat → WritesCutRun setting old script written now seat
-served_before setting old seat n None written rest now s = tt
-served_before setting old seat n (Some script) written None now s = absurd s
-served_before setting old seat n (Some script) written (Some rest) now s = (
-  s.0,
-  subst (λ all. Stops setting old 1 (script_of script) all seat) (append-nil s.0) (s.1.stops [] seat (stops_at_once setting seat (n + 1) (script_of rest))),
-  s.2,
-)
+-- the input failed within a line
+served_begun : (setting : Setting) (old session : OpenSession) (n : ℕ) (script written left rest now : Option (List ℕ))
+    → Serves setting old script written n left now session → BeginsKnownLine left rest → WritesCutRun setting old Read script rest written now session
+served_begun setting old session n None written left rest now s t = tt
+served_begun setting old session n (Some script) written None rest now s t = absurd s
+served_begun setting old session n (Some script) written (Some left) None now s t = absurd t.2
+served_begun setting old session n (Some script) written (Some left) (Some rest) now s t =
+    let served = s.1 in
+    let lines = whole_lines_of-begun served.lines t.0 served.unbroken t.1 in (
+      s.0,
+      record {
+        consumed = fed served.lines ++ t.0;
+        split = served.split ∙ ap (λ l. fed served.lines ++ l) t.2 ∙ sym (append_assoc (fed served.lines) t.0 rest);
+        runs = subst (λ all. Runs setting old 1 all s.0 session) (sym (ap (map read_line) lines)) served.runs;
+      },
+      s.2,
+    )
 
--- the run was cut within a line
-pub served_within : (setting : Setting) (old seat next : Seat) (n : ℕ) (line script written rest left now then : Option (List ℕ)) → Serves setting old script written n rest now seat → TakesAs rest left line → WritesCutLine setting seat (n + 1) line now then next → WritesCutRun setting old script written then next
-served_within setting old seat next n line None written rest left now then s t w = tt
-served_within setting old seat next n line (Some script) written None left now then s t w = absurd s
-served_within setting old seat next n line (Some script) written (Some rest) None now then s t w = absurd t
-served_within setting old seat next n line (Some script) written (Some rest) (Some left) now then s t w = (
-  s.0 ++ w.0,
-  s.1.stops w.0 next (subst (λ lines. Stops setting seat (n + 1) lines w.0 next) (sym t) (inr (inl w.1))),
-  appends_more written now then s.0 w.0 s.2 w.2,
-)
+pub failed_within : {T : Type 0} (r : Result T ServeFault) (setting : Setting) (old session : OpenSession) (n : ℕ) (script written left rest now : Option (List ℕ))
+    → IsErr r × IsErrAnd r (λ fault. fault ≡ Read) → Serves setting old script written n left now session → BeginsKnownLine left rest
+    → IfErr r (λ fault. WritesCutRun setting old fault script rest written now session)
+failed_within r setting old session n script written left rest now is s t =
+    if_err r Read (λ fault. WritesCutRun setting old fault script rest written now session) is (served_begun setting old session n script written left rest now s t)
 
--- the clauses of a served line, in an equal setting
-pub line_in_setting : (a b : Setting) → a ≡ b → (old new : Seat) (n : ℕ) (line written now : Option (List ℕ)) → WritesLine a old n line written now new → WritesLine b old n line written now new
-line_in_setting a b same old new n line written now w = subst (λ setting. WritesLine setting old n line written now new) same w
+-- a line that was taken was run, and its reply text was not written whole
+cut_line : (setting : Setting) (old session new : OpenSession) (n : ℕ) (script left ahead rest out front missing : List ℕ) (line : Option (List ℕ))
+    → (served : IsServed setting old script n left out session) → HasTaken script (ahead ++ rest) served.lines line → length ahead ≤ 4096
+    → RunsLine setting session n line (front ++ missing) new → StopsAtLine setting old script rest front (out ++ front) new
+cut_line setting old session new n script left ahead rest out front missing line served has near run =
+    let before = map read_line served.lines in
+    let number : n ≡ length before + 1 = omega (arith, served.number, length-map served.lines read_line) in
+    record {
+      taken = has.taken;
+      ahead = ahead;
+      split = has.split;
+      near = near;
+      whole = has.whole;
+      runs = record {
+        before = before;
+        last = line;
+        order = has.lines;
+        mid = session;
+        replies = out;
+        missing = missing;
+        runs = served.runs;
+        cut = subst (λ k. RunsLine setting session k line (front ++ missing) new) number run;
+        written = refl;
+      };
+    }
 
-pub cut_in_setting : (a b : Setting) → a ≡ b → (old new : Seat) (n : ℕ) (line written now : Option (List ℕ)) → WritesCutLine a old n line written now new → WritesCutLine b old n line written now new
-cut_in_setting a b same old new n line written now w = subst (λ setting. WritesCutLine setting old n line written now new) same w
+-- a line was taken from the script
+abbrev IsTaken : NextLine → Type 0
+IsTaken next = next ≢ End
+
+has_taken : (script left rest kept : List ℕ) (lines : List (List ℕ)) (next : NextLine) → IsTaken next → script ≡ fed lines ++ left → All IsUnbroken lines → TakesLine left rest next kept
+    → HasTaken script rest lines (read_line kept)
+has_taken script left rest kept lines End some split unbroken t = absurd (some refl)
+has_taken script left rest kept lines Line some split unbroken t = taken_line script left rest kept lines split unbroken t
+has_taken script left rest kept lines LastLine some split unbroken t = taken_last script left rest kept lines split unbroken t
+
+served_within : (setting : Setting) (old session new : OpenSession) (n : ℕ) (ahead kept : List ℕ) (script written left rest now then : Option (List ℕ))
+    (next : NextLine) (fault : ServeFault) → next ≢ End → fault ≢ Read → length ahead ≤ 4096 → Serves setting old script written n left now session
+    → TakesKnownLine left (prepend_known ahead rest) next kept → WritesCutLine setting session n (read_line kept) fault now then new
+    → WritesCutRun setting old fault script rest written then new
+served_within setting old session new n ahead kept None written left rest now then next fault some other near s t w = tt
+served_within setting old session new n ahead kept (Some script) written None rest now then next fault some other near s t w = absurd s
+served_within setting old session new n ahead kept (Some script) written (Some left) None now then next fault some other near s t w = absurd t
+served_within setting old session new n ahead kept (Some script) written (Some left) (Some rest) now then next Read some other near s t w = absurd (other refl)
+served_within setting old session new n ahead kept (Some script) written (Some left) (Some rest) now then next Write some other near s t w =
+    let has = has_taken script left (ahead ++ rest) kept s.1.lines next some s.1.split s.1.unbroken t in (
+      s.0 ++ w.0,
+      (w.0, cut_line setting old session new n script left ahead rest s.0 w.0 w.1.0.0 (read_line kept) s.1 has near w.1.0.1),
+      Appends-trans written now then s.0 w.0 s.2 w.2,
+    )
+served_within setting old session new n ahead kept (Some script) written (Some left) (Some rest) now then next Memory some other near s t w =
+    let has = has_taken script left (ahead ++ rest) kept s.1.lines next some s.1.split s.1.unbroken t in
+    let none : w.0 ≡ [] = w.1.1 refl in (
+      s.0 ++ w.0,
+      subst (λ front. StopsAtLine setting old script rest front (s.0 ++ w.0) new) none
+          (cut_line setting old session new n script left ahead rest s.0 w.0 w.1.0.0 (read_line kept) s.1 has near w.1.0.1),
+      Appends-trans written now then s.0 w.0 s.2 w.2,
+    )
+
+-- ---- the results of a line, which was run in an equal setting
+
+module _ (setting other : Setting) (equal : other ≡ setting) (old session new : OpenSession) (n : ℕ) (kept : List ℕ) (line : Option (List ℕ)) (same : line ≡ read_line kept)
+    (script written left now then : Option (List ℕ)) (served : Serves setting old script written n left now session) where
+  in_setting : WritesLine other session n line now then new → WritesLine setting session n (read_line kept) now then new
+  in_setting w = subst (λ a. WritesLine a session n (read_line kept) now then new) equal (subst (λ l. WritesLine other session n l now then new) same w)
+
+  cut_in_setting : (fault : ServeFault) → WritesCutLine other session n line fault now then new → WritesCutLine setting session n (read_line kept) fault now then new
+  cut_in_setting fault w =
+      subst (λ a. WritesCutLine a session n (read_line kept) fault now then new) equal (subst (λ l. WritesCutLine other session n l fault now then new) same w)
+
+  -- a line with its line feed
+  pub line_done : (next : Option (List ℕ)) → TakesKnownLine left next Line kept → WritesLine other session n line now then new → Serves setting old script written (n + 1) next then new
+  line_done next t w = served_more setting old session new n kept script written left next now then served t (in_setting w)
+
+  -- the last line
+  pub last_done : {T : Type 0} (r : Result T ServeFault) (next : Option (List ℕ)) → TakesKnownLine left next LastLine kept → OnOk r (WritesLine other session n line now then new)
+      → OnOk r (WritesRun setting old script written then new)
+  last_done r next t = on_ok-map r _ _ (λ w. served_last setting old session new n kept script written left next now then served t (in_setting w))
+
+  module _ (ahead : List ℕ) (rest : Option (List ℕ)) (near : length ahead ≤ 4096) where
+    -- a line whose reply text was not written whole
+    pub line_cut : {T : Type 0} (r : Result T ServeFault) (fault : ServeFault) → IsErr r × IsErrAnd r (λ given. given ≡ fault) → fault ≢ Read
+        → TakesKnownLine left (prepend_known ahead rest) Line kept → WritesCutLine other session n line fault now then new
+        → IfErr r (λ given. WritesCutRun setting old given script rest written then new)
+    line_cut r fault is write t w =
+        if_err r fault (λ given. WritesCutRun setting old given script rest written then new) is
+        (served_within setting old session new n ahead kept script written left rest now then Line fault (λ e. absurd (cc)) write near served t (cut_in_setting fault w))
+
+    pub last_cut : {T : Type 0} (r : Result T ServeFault) → TakesKnownLine left (prepend_known ahead rest) LastLine kept
+        → IfErr r (λ fault. fault ≢ Read) → IfErr r (λ fault. WritesCutLine other session n line fault now then new)
+        → IfErr r (λ fault. WritesCutRun setting old fault script rest written then new)
+    last_cut r t =
+        if_err-map r (λ fault. fault ≢ Read) (λ fault. WritesCutLine other session n line fault now then new) (λ fault. WritesCutRun setting old fault script rest written then new)
+        (λ fault write w. served_within setting old session new n ahead kept script written left rest now then LastLine fault (λ e. absurd (cc)) write near served t (cut_in_setting fault w))

@@ -1,13 +1,13 @@
 -- What a line of a script says, or its first fault. This project's own.
-use Rattle.std.specs.Prelude.{ℕ, ℤ, nat_lt, if◌then◌else◌, Option, Some, None, Result, Ok, Err, List, [], ◌∷◌, length, codes}
+use Rattle.std.specs.Prelude.{ℕ, ℤ, if◌then◌else◌, Option, Some, None, Result, Ok, Err, List, [], ◌∷◌, codes}
 use Rattle.mls_session.specs.declared.command.Command.{Command}
 use Rattle.mls_session.specs.declared.command.Command.TheVariants.{Box, Paint, What}
 use Rattle.mls_wire.specs.NameBooks.{Names}
 use Rattle.mls_wire.specs.Numbers.{number_of}
-use Rattle.mls_tech.specs.Words.{begins_with, words_of, same_word}
+use Rattle.mls_text.specs.Words.{begins_with, words_of, same_word}
 use Rattle.mls_wire.specs.SessionNames.{is_session_name}
 use Rattle.mls_wire.specs.declared.line.Line.{Line}
-use Rattle.mls_wire.specs.declared.line.Line.TheVariants.{Silent, Open, Ask}
+use Rattle.mls_wire.specs.declared.line.Line.TheVariants.{Silent, Open, Run}
 use Rattle.mls_wire.specs.declared.line.LineFault.{LineFault}
 use Rattle.mls_wire.specs.declared.line.LineFault.TheVariants.{UnknownCommand, BadNumber, BadName, NotOpen}
 
@@ -36,13 +36,13 @@ command_of book (verb ∷ words) =
     else (if same_word verb (codes "paint") then paint_says book words
     else (if same_word verb (codes "what") then what_says words else Err UnknownCommand))
 
--- a command for a session: its name's form is told first, then the command's, and last that no session of the name is open
-abbrev pub asked : Names → List ℕ → Result Command LineFault → Result Line LineFault
-asked book name (Ok command) = if book.is_open name then Ok (Ask name command) else Err NotOpen
-asked book name (Err fault) = Err fault
+-- a command for a session: a fault of its name's form comes first, then one of the command's, and last that no session of the name is open
+abbrev pub line_with : Names → List ℕ → Result Command LineFault → Result Line LineFault
+line_with book name (Ok command) = if book.is_open name then Ok (Run name command) else Err NotOpen
+line_with book name (Err fault) = Err fault
 
 unfoldable pub session_says : Names → List ℕ → List (List ℕ) → Result Line LineFault
-session_says book name words = if is_session_name name then asked book name (command_of book words) else Err BadName
+session_says book name words = if is_session_name name then line_with book name (command_of book words) else Err BadName
 
 -- the words after `%open`
 unfoldable pub open_says : List (List ℕ) → Result Line LineFault
@@ -56,16 +56,10 @@ words_say book (word ∷ words) =
     if same_word word (codes "%open") then open_says words
     else (if begins_with 37 word then Err UnknownCommand else session_says book word words)
 
--- a comment begins with `#` in its very first byte
-unfoldable pub line_says : Names → List ℕ → Result Line LineFault
-line_says book bytes =
-    if nat_lt 1024 (length bytes) then Err UnknownCommand
-    else (if begins_with 35 bytes then Ok Silent else words_say book (words_of bytes))
-
--- a line as it was read: one that is too long is a fault whatever it holds
-abbrev pub said_by : Names → Option (List ℕ) → Result Line LineFault
-said_by book None = Err UnknownCommand
-said_by book (Some bytes) = line_says book bytes
+-- a line as it was read: one that is too long is a fault whatever it holds, and a comment begins with `#` in its very first byte
+unfoldable pub line_says : Names → Option (List ℕ) → Result Line LineFault
+line_says book None = Err UnknownCommand
+line_says book (Some bytes) = if begins_with 35 bytes then Ok Silent else words_say book (words_of bytes)
 
 -- the number of a fault in its reply
 abbrev pub line_fault_number : LineFault → ℕ
@@ -73,3 +67,10 @@ line_fault_number UnknownCommand = 1
 line_fault_number BadNumber = 2
 line_fault_number BadName = 3
 line_fault_number NotOpen = 4
+
+-- its text
+abbrev pub line_fault_text : LineFault → List ℕ
+line_fault_text UnknownCommand = codes "unknown command"
+line_fault_text BadNumber = codes "bad number"
+line_fault_text BadName = codes "name"
+line_fault_text NotOpen = codes "not open"

@@ -1,47 +1,74 @@
--- What a script, its run and its output have to do with each other, where the devices tell their bytes.
-use Rattle.std.specs.Prelude.{◌≡◌, ℕ, ◌+◌, Option, Some, None, List, ◌++◌, ⊤}
+-- What a script, its run and its output have to do with each other, where the bytes of the devices are known.
+use Rattle.std.specs.Prelude.{◌≡◌, ℕ, ◌≤◌, Option, Some, None, List, [], ◌++◌, length, codes, ⊤}
 use Rattle.std.specs.Io.KnownBytes.{Appends}
-use Rattle.mls_wire.specs.Lines.{script_of}
-use Rattle.mls_wire.specs.Runs.{Setting, Seat, LineRuns, Runs, Stops}
+use Rattle.mls_text.specs.Lines.{lines_of}
+use Rattle.mls_wire.specs.Lines.{script_of, whole_script_of}
+use Rattle.mls_wire.specs.Runs.{Setting, OpenSession, RunsLine, Runs, RunsUpTo}
 use Rattle.mls_wire.specs.Watches.{Watched, HasCause}
 use Rattle.mls_wire.specs.declared.serving.ServeFault.{ServeFault}
 use Rattle.mls_wire.specs.declared.serving.ServeFault.TheVariants.{Read, Write, Memory}
+
+-- the text of a fault
+abbrev pub serve_fault_text : ServeFault → List ℕ
+serve_fault_text Read = codes "input failed"
+serve_fault_text Write = codes "output failed"
+serve_fault_text Memory = codes "memory"
 
 -- known bytes grow by a beginning of these
 abbrev pub AppendsFront : Option (List ℕ) → Option (List ℕ) → List ℕ → Type 0
 AppendsFront old new bytes = (front : List ℕ) × (missing : List ℕ) × (bytes ≡ front ++ missing) × Appends old new front
 
--- the output gained what the relation says of the bytes out
+-- known bytes grow by what the relation says
 abbrev pub Gains : Option (List ℕ) → Option (List ℕ) → (List ℕ → Type 0) → Type 0
 Gains old new P = (out : List ℕ) × P out × Appends old new out
 
--- the output gained the reply texts of the script's lines, and the run led to the new seat
-abbrev pub WritesRun : Setting → Seat → Option (List ℕ) → Option (List ℕ) → Option (List ℕ) → Seat → Type 0
+-- ---- a script that was read to its end
+
+-- the output gained the reply texts of the script's lines, and the run led to the new session
+abbrev pub WritesRun : Setting → OpenSession → Option (List ℕ) → Option (List ℕ) → Option (List ℕ) → OpenSession → Type 0
 WritesRun setting old None written now new = ⊤
 WritesRun setting old (Some script) written now new = Gains written now (λ out. Runs setting old 1 (script_of script) out new)
 
--- the same of a run that was cut
-abbrev pub WritesCutRun : Setting → Seat → Option (List ℕ) → Option (List ℕ) → Option (List ℕ) → Seat → Type 0
-WritesCutRun setting old None written now new = ⊤
-WritesCutRun setting old (Some script) written now new = Gains written now (λ out. Stops setting old 1 (script_of script) out new)
+-- ---- a script that was left before
 
--- line n was answered
-abbrev pub WritesLine : Setting → Seat → ℕ → Option (List ℕ) → Option (List ℕ) → Option (List ℕ) → Seat → Type 0
-WritesLine setting old n line written now new = Gains written now (λ text. LineRuns setting old n line text new)
+-- the device was read up to `rest`, and the run is that of exactly the whole lines among the bytes that were read
+pub record StopsAtRead (setting : Setting) (old : OpenSession) (script rest out : List ℕ) (new : OpenSession) : Type 0 where
+  pub consumed : List ℕ
+  pub split : script ≡ consumed ++ rest
+  pub runs : Runs setting old 1 (whole_script_of consumed) out new
 
--- line n was done, and a beginning of its answer was written
-abbrev pub WritesCutLine : Setting → Seat → ℕ → Option (List ℕ) → Option (List ℕ) → Option (List ℕ) → Seat → Type 0
-WritesCutLine setting old n line written now new = Gains written now (λ front. (missing : List ℕ) × LineRuns setting old n line (front ++ missing) new)
+-- the device was read up to `rest`, and at most 4096 of these bytes lie ahead of the lines that were taken; the last of these lines is
+-- the one whose reply text was not written whole
+pub record StopsAtLine (setting : Setting) (old : OpenSession) (script rest front out : List ℕ) (new : OpenSession) : Type 0 where
+  pub taken : List ℕ
+  pub ahead : List ℕ
+  pub split : script ≡ taken ++ (ahead ++ rest)
+  pub near : length ahead ≤ 4096
+  pub whole : lines_of script ≡ lines_of taken ++ lines_of (ahead ++ rest)
+  pub runs : RunsUpTo setting old (script_of taken) front out new
 
--- from the start of the script up to now, what was written is such that whatever a run of the rest writes completes a run of the whole
-pub record IsServed (setting : Setting) (old : Seat) (script : List ℕ) (out : List ℕ) (n : ℕ) (rest : List ℕ) (seat : Seat) : Type 0 where
-  pub runs : (more : List ℕ) (last : Seat) → Runs setting seat (n + 1) (script_of rest) more last → Runs setting old 1 (script_of script) (out ++ more) last
-  pub stops : (more : List ℕ) (last : Seat) → Stops setting seat (n + 1) (script_of rest) more last → Stops setting old 1 (script_of script) (out ++ more) last
+-- the output of a run that this fault cut; where memory ran out, nothing of the last line's reply text was written
+abbrev pub IsCut : Setting → OpenSession → ServeFault → List ℕ → List ℕ → List ℕ → OpenSession → Type 0
+IsCut setting old Read script rest out new = StopsAtRead setting old script rest out new
+IsCut setting old Write script rest out new = (front : List ℕ) × StopsAtLine setting old script rest front out new
+IsCut setting old Memory script rest out new = StopsAtLine setting old script rest [] out new
 
-abbrev pub Serves : Setting → Seat → Option (List ℕ) → Option (List ℕ) → ℕ → Option (List ℕ) → Option (List ℕ) → Seat → Type 0
-Serves setting old None written n rest now seat = ⊤
-Serves setting old (Some script) written n None now seat = ⊥
-Serves setting old (Some script) written n (Some rest) now seat = Gains written now (λ out. IsServed setting old script out n rest seat)
+-- the output gained that of a run that this fault cut, and the run led to the new session
+abbrev pub WritesCutRun : Setting → OpenSession → ServeFault → Option (List ℕ) → Option (List ℕ) → Option (List ℕ) → Option (List ℕ) → OpenSession → Type 0
+WritesCutRun setting old fault None rest written now new = ⊤
+WritesCutRun setting old fault (Some script) None written now new = ⊥
+WritesCutRun setting old fault (Some script) (Some rest) written now new = Gains written now (λ out. IsCut setting old fault script rest out new)
+
+-- ---- a line
+
+-- line n was run, and its reply text was written
+abbrev pub WritesLine : Setting → OpenSession → ℕ → Option (List ℕ) → Option (List ℕ) → Option (List ℕ) → OpenSession → Type 0
+WritesLine setting old n line written now new = Gains written now (λ text. RunsLine setting old n line text new)
+
+-- line n was run, and of its reply text a beginning was written, or nothing where memory ran out
+abbrev pub WritesCutLine : Setting → OpenSession → ℕ → Option (List ℕ) → ServeFault → Option (List ℕ) → Option (List ℕ) → OpenSession → Type 0
+WritesCutLine setting old n line fault written now new =
+    Gains written now (λ front. ((missing : List ℕ) × RunsLine setting old n line (front ++ missing) new) × (fault ≡ Memory → front ≡ []))
 
 -- a fault of a device comes only where one of its calls failed, or all that can be counted were made
 abbrev pub HasReason : {R W : Type 0} → ServeFault → Watched R → Watched W → Type 0

@@ -1,9 +1,6 @@
 //! Script lines in, reply lines out.
 #![tactic(auto)]
 
-mod answer;
-#[cfg(test)]
-mod devices;
 mod line;
 mod name;
 mod names;
@@ -11,17 +8,19 @@ mod number;
 mod parse;
 mod reader;
 mod reply;
+mod response;
+mod script_line;
 mod serving;
 mod solo;
 mod watched;
 
-pub use answer::{Answer, OpenFault};
 pub use line::{Line, LineFault};
-pub use name::{NAME_LIMIT, Name};
+pub use name::Name;
 pub use names::Names;
-pub use parse::{LINE_LIMIT, parse_line};
-pub use reader::{LineReader, Taken};
-pub use reply::reply_text;
+pub use parse::parse_line;
+pub use reply::push_response;
+pub use response::{OpenFault, Response};
+pub use script_line::ScriptLine;
 pub use serving::{ServeFault, serve};
 pub use solo::Solo;
 pub use watched::{ReadFault, Watched, WriteFault};

@@ -3,13 +3,13 @@ ghost use Rattle.std.specs.Prelude.{◌≡◌, IsTrue, None, Some, if◌then◌e
 ghost use Rattle.std.specs.Cmp.{partial_equiv_from_equiv};
 ghost use Rattle.std.specs.Cmp.Lexicographic.{nat_list_eq_equiv};
 ghost use Rattle.std.specs.List.{list_all};
-ghost use Rattle.mls_tech.specs.Words.{same_word};
-ghost use Rattle.mls_wire.specs.SessionNames.{is_name_byte as is_name_byte_lem, is_session_name};
+ghost use Rattle.mls_text.specs.Words.{same_word};
+ghost use Rattle.mls_wire.specs.SessionNames as spec;
 
 use std::marker::Model;
 
 /// The most bytes that a session's name may have.
-pub const NAME_LIMIT: usize = 32;
+const NAME_LIMIT: usize = 32;
 
 /// A session's name: 1 to 32 letters, digits and `_` of ASCII.
 #[derive(Clone, Copy, Debug)]
@@ -23,11 +23,11 @@ impl Model for Name {
 
     ghost Value = { List ℕ };
 
-    ghost use Rattle.mls_wire.specs.KeptNames.{padded, KeepsName};
+    ghost use Rattle.mls_wire.specs.NameBytes.{padded, HoldsName};
 
     ghost view = { λ name. take name.len name.bytes };
 
-    ghost invariant = { λ name. KeepsName name.bytes name.len };
+    ghost invariant = { λ name. HoldsName name.bytes name.len };
 
     ghost inverse = { λ word. record { bytes = padded word; len = length word } };
 
@@ -35,10 +35,10 @@ impl Model for Name {
 }
 
 impl Name {
-    /// The name that a word spells, if it spells one.
+    /// Returns the name that a word spells.
     #[tactic(auto, using(crate::proofs::NameLemmas::kept))]
     pub fn new(word: &[u8]) -> Option<Name>
-        ensures { result ≡ (if is_session_name word.now then Some word.now else None) }
+        ensures { result ≡ (if spec.is_session_name word.now then Some word.now else None) }
     {
         if !is_name(word) {
             return None;
@@ -51,10 +51,10 @@ impl Name {
         })
     }
 
-    /// The name's bytes.
+    /// Returns the name's bytes.
     pub fn as_bytes(&self) -> &[u8]
         ensures value { result.now ≡ self.now }
-        ensures name { IsTrue (is_session_name self.now) }
+        ensures name { IsTrue (spec.is_session_name self.now) }
     {
         &self.bytes[..self.len]
     }
@@ -74,23 +74,23 @@ impl Eq for Name {
     ghost laws = { nat_list_eq_equiv };
 }
 
-/// Whether the word is a session's name.
+/// Returns whether the word is a session's name.
 fn is_name(word: &[u8]) -> bool
-    ensures { result ≡ is_session_name word.now }
+    ensures { result ≡ spec.is_session_name word.now }
 {
     (1..=NAME_LIMIT).contains(&word.len()) && has_name_bytes(word)
 }
 
-/// Whether each byte of the word may stand in a name.
+/// Returns whether each byte of the word may be in a name.
 fn has_name_bytes(word: &[u8]) -> bool
-    ensures { result ≡ list_all is_name_byte_lem word.now }
+    ensures { result ≡ list_all spec.is_name_byte word.now }
 {
     word.iter().all(|b| is_name_byte(*b))
 }
 
-/// Whether the byte may stand in a name.
+/// Returns whether the byte may be in a name.
 fn is_name_byte(b: u8) -> bool
-    ensures { result ≡ is_name_byte_lem b }
+    ensures { result ≡ spec.is_name_byte b }
 {
     b.is_ascii_alphanumeric() || b == b'_'
 }

@@ -4,22 +4,22 @@ ghost use Rattle.std.specs.Option.{option_map};
 
 use crate::Name;
 
-/// What names mean to a reader of lines, and what numbers are called in replies.
+/// What names mean to a reader of lines, and what types are called in replies.
 pub trait Names {
     ghost use Rattle.mls_wire.specs.NameBooks.{Names};
 
     /// The meanings.
     ghost book: { Self → Names };
 
-    /// The type of a name, if it is one's.
+    /// Returns the type of this name.
     fn type_of(&self, word: &[u8]) -> Option<u8>
         ensures { result ≡ (book self.now).type_of word.now };
 
-    /// The first name of a type, if the number is one's.
+    /// Returns the first name of a type.
     fn type_name(&self, kind: u8) -> Option<&[u8]>
         ensures { option_map (λ name. name.now) result ≡ (book self.now).type_name kind };
 
-    /// Whether a session of this name is open.
+    /// Returns whether a session of this name is open.
     fn is_open(&self, name: &Name) -> bool
         ensures { result ≡ (book self.now).is_open name.now };
 }

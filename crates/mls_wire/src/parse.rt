@@ -1,30 +1,26 @@
 //! From a line to what it says.
 ghost use Rattle.std.specs.Prelude.{◌≡◌};
 ghost use Rattle.mls_wire.specs.Says.{box_says, command_of, line_says, open_says, paint_says, session_says, what_says, words_say};
+ghost use Rattle.mls_wire.specs.ScriptLines.{text_of};
 
 use crate::number::number_of;
-use crate::{Line, LineFault, Name, Names};
+use crate::{Line, LineFault, Name, Names, ScriptLine};
 use mls_session::Command;
-use mls_tech::Words;
+use mls_text::Words;
 
-/// The most bytes that a line may have, without its line feed and a carriage return before that.
-pub const LINE_LIMIT: usize = 1024;
-
-/// What a line says, or its first fault.
+/// Returns what a line says, or its first fault.
 #[tactic(auto, unfolding(crate::specs::Says::line_says))]
-pub fn parse_line<N: Names>(names: &N, line: &[u8]) -> Result<Line, LineFault>
-    ensures { result ≡ line_says (N.book names.now) line.now }
+pub fn parse_line<N: Names>(names: &N, line: ScriptLine<'_>) -> Result<Line, LineFault>
+    ensures { result ≡ line_says (N.book names.now) (text_of line.entry) }
 {
-    if line.len() > LINE_LIMIT {
-        return Err(LineFault::UnknownCommand);
-    }
     match line {
-        [b'#', ..] => Ok(Line::Silent),
-        _ => parse_words(names, Words::new(line)),
+        ScriptLine::TooLong => Err(LineFault::UnknownCommand),
+        ScriptLine::Text([b'#', ..]) => Ok(Line::Silent),
+        ScriptLine::Text(bytes) => parse_words(names, Words::new(bytes)),
     }
 }
 
-/// What the words of a line say.
+/// Returns what the words of a line say.
 #[tactic(auto, unfolding(crate::specs::Says::words_say))]
 fn parse_words<N: Names>(names: &N, mut words: Words) -> Result<Line, LineFault>
     ensures { result ≡ words_say (N.book names.now) words.entry }
@@ -37,7 +33,7 @@ fn parse_words<N: Names>(names: &N, mut words: Words) -> Result<Line, LineFault>
     }
 }
 
-/// What the words after `%open` say.
+/// Returns what the words after `%open` say.
 #[tactic(auto, unfolding(crate::specs::Says::open_says))]
 fn parse_open(mut words: Words) -> Result<Line, LineFault>
     ensures { result ≡ open_says words.entry }
@@ -49,7 +45,7 @@ fn parse_open(mut words: Words) -> Result<Line, LineFault>
     }
 }
 
-/// What a session's name and the words after it say.
+/// Returns what a session's name and the words after it say.
 #[tactic(auto, unfolding(crate::specs::Says::session_says))]
 fn parse_session<N: Names>(names: &N, name: &[u8], words: Words) -> Result<Line, LineFault>
     ensures { result ≡ session_says (N.book names.now) name.now words.entry }
@@ -59,10 +55,10 @@ fn parse_session<N: Names>(names: &N, name: &[u8], words: Words) -> Result<Line,
     if !names.is_open(&name) {
         return Err(LineFault::NotOpen);
     }
-    Ok(Line::Ask(name, command))
+    Ok(Line::Run(name, command))
 }
 
-/// The command of the words after a session's name.
+/// Returns the command of the words after a session's name.
 #[tactic(auto, unfolding(crate::specs::Says::command_of))]
 fn parse_command<N: Names>(names: &N, mut words: Words) -> Result<Command, LineFault>
     ensures { result ≡ command_of (N.book names.now) words.entry }
@@ -75,7 +71,7 @@ fn parse_command<N: Names>(names: &N, mut words: Words) -> Result<Command, LineF
     }
 }
 
-/// The command of the words after `box`.
+/// Returns the command of the words after `box`.
 #[tactic(auto, unfolding(crate::specs::Says::box_of))]
 fn parse_box(mut words: Words) -> Result<Command, LineFault>
     ensures { result ≡ box_says words.entry }
@@ -95,14 +91,17 @@ fn parse_box(mut words: Words) -> Result<Command, LineFault>
         number_of(right),
         number_of(top),
     ) {
-        (Some(left), Some(bottom), Some(right), Some(top)) => Ok(Command::Box(
-            left, bottom, right, top,
-        )),
+        (Some(left), Some(bottom), Some(right), Some(top)) => Ok(Command::Box {
+            left,
+            bottom,
+            right,
+            top,
+        }),
         _ => Err(LineFault::BadNumber),
     }
 }
 
-/// The command of the words after `paint`.
+/// Returns the command of the words after `paint`.
 fn parse_paint<N: Names>(names: &N, mut words: Words) -> Result<Command, LineFault>
     ensures { result ≡ paint_says (N.book names.now) words.entry }
 {
@@ -112,7 +111,7 @@ fn parse_paint<N: Names>(names: &N, mut words: Words) -> Result<Command, LineFau
     Ok(Command::Paint(names.type_of(name)))
 }
 
-/// The command of the words after `what`.
+/// Returns the command of the words after `what`.
 fn parse_what(mut words: Words) -> Result<Command, LineFault>
     ensures { result ≡ what_says words.entry }
 {
@@ -121,6 +120,3 @@ fn parse_what(mut words: Words) -> Result<Command, LineFault>
         Some(_) => Err(LineFault::UnknownCommand),
     }
 }
-
-#[cfg(test)]
-mod tests;

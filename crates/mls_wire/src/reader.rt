@@ -1,36 +1,41 @@
-//! The lines of a script, taken from a device whatever pieces it gives.
+//! The lines of a script, read from a device.
 ghost use Rattle.std.specs.Prelude.{◌≡◌, ◌+◌, ◌<◌, ◌≤◌, ◌==◌, ℕ, List, true, false, [], ◌∷◌, ◌++◌, ◌⊎◌, length, take, position, IsTrue, IfOk, OnOk, OnErr};
 ghost use Rattle.std.specs.Bool.{OnTrue, OnFalse};
 ghost use Rattle.std.specs.Io.KnownBytes.{Keeps, IsAtEnd};
+ghost use Rattle.mls_text.specs.Lines.{IsUnbroken};
+ghost use Rattle.mls_wire.specs.LineReaders.{script_ahead, lines_left};
+ghost use Rattle.mls_wire.specs.Lines as spec;
+ghost use Rattle.mls_wire.specs.NextLines.{BeginsKnownLine, TakesKnownLine};
 ghost use Rattle.mls_wire.specs.Watches.{HasCause};
-ghost use Rattle.mls_wire.specs.Lines.{without_return};
-ghost use Rattle.mls_wire.specs.Readings.{script_ahead, lines_left};
-ghost use Rattle.mls_wire.specs.Scripts.{IsUnbroken, ReadsAs, TakesKnownLine};
 
-use crate::{LINE_LIMIT, ReadFault, Watched};
+use crate::{ReadFault, ScriptLine, Watched};
+use mls_text::{line_feed_at, without_return};
 use std::io::Read;
 use std::marker::Model;
 
-/// The most bytes that are kept of a line: they tell that it is too long, even where the last of them is a carriage return.
+/// The most bytes that a line may have, without its line feed and a carriage return before that.
+const LINE_LIMIT: usize = 1024;
+
+/// The most bytes that are kept of a line: enough to see that it is too long, even where the last of them is a carriage return.
 const KEPT: usize = LINE_LIMIT + 2;
 
 /// The most bytes that are read ahead.
 const AHEAD: usize = 4096;
 
-/// What was taken from a script.
+/// What a script has next.
 #[derive(Clone, Copy, Debug, PartialEq, Eq)]
-pub enum Taken {
+pub enum NextLine {
     /// Nothing: the script has ended.
     End,
-    /// A line of more than 1024 bytes.
-    TooLong,
-    /// A line of at most 1024 bytes, without its line feed and a carriage return before that.
+    /// A line that ends with a line feed.
     Line,
+    /// A line that ends with the script.
+    LastLine,
 }
 
-/// Takes the lines of a script one by one.
+/// Reads the lines of a script one by one.
 ///
-/// It asks the device only where no whole line has been read ahead, and it keeps no more than 4096 bytes ahead and 1026 of a line, whatever comes.
+/// It reads from the device only where no whole line is ahead, and it keeps at most 4096 bytes ahead and 1026 of a line.
 #[derive(Drop)]
 pub struct LineReader {
     bytes: [u8; AHEAD],
@@ -42,7 +47,7 @@ pub struct LineReader {
 
 impl Model for LineReader {
     ghost use Rattle.std.specs.Prelude.{◌≤◌, take, slice_range};
-    ghost use Rattle.mls_wire.specs.Readings.{LineReader};
+    ghost use Rattle.mls_wire.specs.LineReaders.{LineReader};
     ghost use Rattle.mls_wire.specs.declared.reader.TheConstants.{AHEAD, KEPT};
 
     ghost Value = { LineReader };
@@ -53,7 +58,9 @@ impl Model for LineReader {
 }
 
 impl LineReader {
-    /// A reader that has read nothing yet.
+    ghost use Rattle.mls_wire.specs.ScriptLines.{text_of};
+
+    /// Creates a reader that has read nothing yet.
     pub fn new() -> LineReader
         ensures { result ≡ record { ahead = []; line = [] } }
     {
@@ -66,20 +73,27 @@ impl LineReader {
         }
     }
 
-    /// The line that was taken last.
-    pub fn line(&self) -> &[u8]
-        ensures { result.now ≡ self.now.line }
+    /// Returns the line that was read last.
+    pub fn line(&self) -> ScriptLine<'_>
+        ensures { text_of result ≡ spec.read_line self.now.line }
     {
-        &self.kept[..self.len]
+        let line = without_return(&self.kept[..self.len]);
+        if line.len() > LINE_LIMIT {
+            ScriptLine::TooLong
+        } else {
+            ScriptLine::Text(line)
+        }
     }
 
-    /// Takes the next line of the script: where that is a `Line`, `line` has its bytes. At an `Err` what had come of the line is lost.
-    pub fn next_line<R: Read>(&mut self, input: &mut Watched<R>) -> Result<Taken, ReadFault>
-        ensures taken { IfOk result (λ taken. TakesKnownLine
+    /// Reads the next line, which `line` then returns. At an `Err` what was read of the line is lost.
+    pub fn next_line<R: Read>(&mut self, input: &mut Watched<R>) -> Result<NextLine, ReadFault>
+        ensures taken { IfOk result (λ next. TakesKnownLine
             (script_ahead self.old (R.remaining input.old.device))
-            (script_ahead self.new (R.remaining input.new.device)) taken self.new.line) }
-        ensures short { OnOk result (length self.new.line ≤ 1024) }
-        ensures asked { IsUnbroken self.old.ahead ⊎ (input.new ≡ input.old) }
+            (script_ahead self.new (R.remaining input.new.device)) next self.new.line) }
+        ensures begun { OnErr result (BeginsKnownLine
+            (script_ahead self.old (R.remaining input.old.device)) (R.remaining input.new.device)) }
+        ensures within { OnOk result (length self.new.ahead ≤ AHEAD) }
+        ensures needed { IsUnbroken self.old.ahead ⊎ (input.new ≡ input.old) }
         ensures fewer { OnOk result (lines_left self.new input.new < lines_left self.old input.old) }
         ensures calls { input.new.calls_left ≤ input.old.calls_left }
         ensures failed { OnOk result (input.new.failed ≡ input.old.failed) }
@@ -87,15 +101,16 @@ impl LineReader {
         ensures lasting { IsTrue input.old.failed → IsTrue input.new.failed }
     {
         self.clear();
-        'pieces: while !self.take_piece() {
+        'chunks: while !self.take_to_newline() {
             if !self.read_ahead(input)? {
-                if self.line().is_empty() {
-                    return Ok(Taken::End);
-                }
-                return Ok(self.finish());
+                return Ok(if self.has_begun() {
+                    NextLine::LastLine
+                } else {
+                    NextLine::End
+                });
             }
         }
-        Ok(self.finish())
+        Ok(NextLine::Line)
     }
 
     /// Forgets the line.
@@ -106,19 +121,28 @@ impl LineReader {
         self.len = 0;
     }
 
-    /// Moves what was read ahead to the line, up to the first line feed, and says whether there was one. The line feed is dropped.
-    fn take_piece(&mut self) -> bool
-        ensures fed { OnTrue result ((piece : List ℕ) × IsUnbroken piece
-            × (self.old.ahead ≡ piece ++ 10 ∷ self.new.ahead)
-            × (self.new.line ≡ take KEPT (self.old.line ++ piece))) }
+    /// Whether the line has a byte.
+    fn has_begun(&self) -> bool
+        ensures begun { OnTrue result (0 < length self.now.line) }
+        ensures none { OnFalse result (self.now.line ≡ []) }
+    {
+        self.len > 0
+    }
+
+    /// Moves what was read ahead to the line, up to the first line feed, which is dropped. Returns whether there was one.
+    fn take_to_newline(&mut self) -> bool
+        ensures fed { OnTrue result ((chunk : List ℕ) × IsUnbroken chunk
+            × (self.old.ahead ≡ chunk ++ 10 ∷ self.new.ahead)
+            × (self.new.line ≡ take KEPT (self.old.line ++ chunk))) }
         ensures all { OnFalse result (IsUnbroken self.old.ahead
             × (self.new.ahead ≡ [])
             × (self.new.line ≡ take KEPT (self.old.line ++ self.old.ahead))) }
+        ensures within { length self.new.ahead ≤ AHEAD }
     {
         let kept = &mut self.kept;
         let bytes = &self.bytes[..];
         let ahead = &bytes[self.start..self.end];
-        match line_feed_in(ahead) {
+        match line_feed_at(ahead) {
             Some(count) => {
                 self.len = append_within(kept, self.len, &ahead[..count]);
                 self.start += count + 1;
@@ -132,7 +156,7 @@ impl LineReader {
         }
     }
 
-    /// Reads once, and says whether any bytes came.
+    /// Reads once, and returns whether any bytes came.
     fn read_ahead<R: Read>(&mut self, input: &mut Watched<R>) -> Result<bool, ReadFault>
         requires { self.old.ahead ≡ [] }
         ensures line { self.new.line ≡ self.old.line }
@@ -140,7 +164,7 @@ impl LineReader {
             (script_ahead self.new (R.remaining input.new.device)) }
         ensures end { IfOk result (λ came. came ≡ false
             → IsAtEnd (script_ahead self.new (R.remaining input.new.device))) }
-        ensures some { IfOk result (λ came. came ≡ true → 0 < length self.new.ahead) }
+        ensures none { OnErr result (self.new.ahead ≡ []) }
         ensures within { length self.new.ahead ≤ AHEAD }
         ensures calls { input.new.calls_left ≤ input.old.calls_left }
         ensures fewer { OnOk result (input.new.calls_left < input.old.calls_left) }
@@ -153,52 +177,16 @@ impl LineReader {
         self.end = count;
         Ok(count > 0)
     }
-
-    /// Drops the carriage return of a line that is whole, and says whether the line is too long. Such a line is forgotten.
-    fn finish(&mut self) -> Taken
-        ensures ahead { self.new.ahead ≡ self.old.ahead }
-        ensures line { ReadsAs self.old.line result self.new.line }
-        ensures short { length self.new.line ≤ LINE_LIMIT }
-    {
-        self.drop_return();
-        if self.len > LINE_LIMIT {
-            self.clear();
-            Taken::TooLong
-        } else {
-            Taken::Line
-        }
-    }
-
-    /// Drops a carriage return at the end of the line.
-    #[tactic(auto, using(crate::proofs::ScriptLines::drops_return, crate::proofs::ScriptLines::keeps_last))]
-    fn drop_return(&mut self)
-        ensures ahead { self.new.ahead ≡ self.old.ahead }
-        ensures line { self.new.line ≡ without_return self.old.line }
-    {
-        if self.len > 0 && self.kept[self.len - 1] == b'\r' {
-            self.len -= 1;
-        }
-    }
 }
 
-/// Where the first line feed stands.
-fn line_feed_in(bytes: &[u8]) -> Option<usize>
-    ensures { result ≡ position (λ b. b == 10) bytes.now }
-{
-    bytes.iter().position(|b| *b == b'\n')
-}
-
-/// Puts a piece behind the first `len` bytes of a line, as far as there is room, and says how long the line is then.
-fn append_within(line: &mut [u8], len: usize, piece: &[u8]) -> usize
+/// Copies a chunk after the first `len` bytes of a line, as far as there is room, and returns the line's length with it.
+fn append_within(line: &mut [u8], len: usize, chunk: &[u8]) -> usize
     requires { len ≤ length line.old }
     ensures within { result ≤ length line.old }
-    ensures bytes { take result line.new ≡ take (length line.old) (take len line.old ++ piece.now) }
+    ensures bytes { take result line.new ≡ take (length line.old) (take len line.old ++ chunk.now) }
 {
     let room = line.len() - len;
-    let count = room.min(piece.len());
-    line[len..len + count].copy_from_slice(&piece[..count]);
+    let count = room.min(chunk.len());
+    line[len..len + count].copy_from_slice(&chunk[..count]);
     len + count
 }
-
-#[cfg(test)]
-mod tests;

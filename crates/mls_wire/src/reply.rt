@@ -1,42 +1,43 @@
 //! The text of replies.
 ghost use Rattle.std.specs.Prelude.{◌≡◌, ◌+◌, ◌++◌, ◌∷◌, ◌<◌, ◌==◌, OnOk, length, decimal, codes};
 ghost use Rattle.std.specs.List.{flat_map};
-ghost use Rattle.std.specs.Int.{bit_at};
-ghost use Rattle.mls_wire.specs.Replies.{answer_text, said_text, type_text, types_of, line_fault_words, open_fault_words, refusal_words, numbered};
+ghost use Rattle.mls_kinds.specs.KindSets.{members};
+ghost use Rattle.mls_wire.specs.Replies as spec;
 
-use crate::{Answer, LineFault, Names, OpenFault};
+use crate::{Names, Response};
 use itoa::{Buffer, Integer};
-use mls_session::{Refusal, Reply};
+use mls_kinds::KindSet;
+use mls_session::Reply;
 use std::alloc::AllocError;
 
-/// Appends the text of the answer to line `n`.
-#[tactic(auto, unfolding(crate::specs::Replies::answer_text))]
-pub fn reply_text<N: Names>(
+/// Appends the reply text of the response to line `n`.
+#[tactic(auto, unfolding(crate::specs::Replies::response_text))]
+pub fn push_response<N: Names>(
     names: &N,
     n: u128,
-    answer: &Answer,
+    response: &Response,
     out: &mut Vec<u8>,
 ) -> Result<(), AllocError>
-    ensures { OnOk result (out.new.items ≡ out.old.items ++ answer_text (N.book names.now) n answer.now) }
+    ensures { OnOk result (out.new.items ≡ out.old.items ++ spec.response_text (N.book names.now) n response.now) }
 {
-    match answer {
-        Answer::Silent => return Ok(()),
-        Answer::Fault(fault) => {
+    match response {
+        Response::Silent => return Ok(()),
+        Response::Fault(fault) => {
             out.extend_from_slice(b"line ")?;
             push_decimal(n, out)?;
             out.extend_from_slice(b" fault ")?;
-            push_numbered(fault.number(), line_fault_text(*fault), out)?;
+            push_numbered(fault.number(), fault.text().as_bytes(), out)?;
         }
-        Answer::Opened(name) => {
+        Response::Opened(name) => {
             out.extend_from_slice(name.as_bytes())?;
             out.extend_from_slice(b" opened")?;
         }
-        Answer::NotOpened(name, fault) => {
+        Response::NotOpened(name, fault) => {
             out.extend_from_slice(name.as_bytes())?;
             out.extend_from_slice(b" refused open ")?;
-            push_numbered(fault.number(), open_fault_text(*fault), out)?;
+            push_numbered(fault.number(), fault.text().as_bytes(), out)?;
         }
-        Answer::Replied(name, reply) => {
+        Response::Replied(name, reply) => {
             out.extend_from_slice(name.as_bytes())?;
             out.push(b' ')?;
             push_reply(names, *reply, out)?;
@@ -46,6 +47,7 @@ pub fn reply_text<N: Names>(
     Ok(())
 }
 
+/// Appends a number.
 fn push_decimal<I: Integer>(n: I, out: &mut Vec<u8>) -> Result<(), AllocError>
     ensures { OnOk result (out.new.items ≡ out.old.items ++ I.text n) }
 {
@@ -53,98 +55,56 @@ fn push_decimal<I: Integer>(n: I, out: &mut Vec<u8>) -> Result<(), AllocError>
     out.extend_from_slice(buffer.format(n).as_bytes())
 }
 
+/// Appends a number and its text.
 fn push_numbered(n: u8, text: &[u8], out: &mut Vec<u8>) -> Result<(), AllocError>
-    ensures { OnOk result (out.new.items ≡ out.old.items ++ numbered n text.now) }
+    ensures { OnOk result (out.new.items ≡ out.old.items ++ spec.numbered n text.now) }
 {
     push_decimal(n, out)?;
     out.push(b' ')?;
     out.extend_from_slice(text)
 }
 
-fn line_fault_text(fault: LineFault) -> &'static [u8]
-    ensures { result.now ≡ line_fault_words fault }
-{
-    match fault {
-        LineFault::UnknownCommand => b"unknown command",
-        LineFault::BadNumber => b"bad number",
-        LineFault::BadName => b"name",
-        LineFault::NotOpen => b"not open",
-    }
-}
-
-fn open_fault_text(fault: OpenFault) -> &'static [u8]
-    ensures { result.now ≡ open_fault_words fault }
-{
-    match fault {
-        OpenFault::OpenAlready => b"open already",
-        OpenFault::SessionsFull => b"sessions full",
-        OpenFault::Memory => b"memory",
-    }
-}
-
-fn refusal_text(refusal: Refusal) -> &'static [u8]
-    ensures { result.now ≡ refusal_words refusal }
-{
-    match refusal {
-        Refusal::EmptyBox => b"empty box",
-        Refusal::OutsideWorld => b"outside the world",
-        Refusal::NoBox => b"no box",
-        Refusal::UnknownType => b"unknown type",
-        Refusal::Quota => b"quota",
-    }
-}
-
-#[tactic(auto, unfolding(crate::specs::Replies::said_text))]
+/// Appends a reply, without its line's first word and its line feed.
+#[tactic(auto, unfolding(crate::specs::Replies::reply_text))]
 fn push_reply<N: Names>(names: &N, reply: Reply, out: &mut Vec<u8>) -> Result<(), AllocError>
-    ensures { OnOk result (out.new.items ≡ out.old.items ++ said_text (N.book names.now) reply) }
+    ensures { OnOk result (out.new.items ≡ out.old.items ++ spec.reply_text (N.book names.now) reply) }
 {
     match reply {
         Reply::Done => out.extend_from_slice(b"ok"),
-        Reply::Kinds(bits) => {
+        Reply::Kinds(kinds) => {
             out.extend_from_slice(b"what ")?;
-            push_decimal(count_types(bits), out)?;
-            push_types(names, bits, out)
+            let types = without_space(kinds);
+            push_decimal(types.len() as u64, out)?;
+            push_types(names, types, out)
         }
         Reply::Refused(refusal) => {
             out.extend_from_slice(b"refused ")?;
-            push_numbered(refusal.number(), refusal_text(refusal), out)
+            push_numbered(refusal.number(), refusal.text().as_bytes(), out)
         }
     }
 }
 
-/// The bit of a type.
-fn has_type(bits: u64, kind: u8) -> bool
-    requires { kind < 64 }
-    ensures { result ≡ (bit_at bits kind == 1) }
+/// Returns the kinds other than space.
+#[tactic(auto, unfolding(crate::specs::Replies::without_space))]
+fn without_space(kinds: KindSet) -> KindSet
+    ensures { result ≡ spec.without_space kinds }
 {
-    bits >> kind & 1 == 1
+    kinds.difference(KindSet::single(0))
 }
 
-fn count_types(bits: u64) -> u8
-    ensures { result ≡ length (types_of bits) }
+/// Appends the name of each type after a space, in the order of their numbers.
+fn push_types<N: Names>(names: &N, types: KindSet, out: &mut Vec<u8>) -> Result<(), AllocError>
+    ensures { OnOk result (out.new.items ≡ out.old.items ++ flat_map (spec.type_text (N.book names.now)) (members types)) }
 {
-    let mut count = 0;
-    for kind in 1..64 {
-        if has_type(bits, kind) {
-            count += 1;
-        }
-    }
-    count
-}
-
-fn push_types<N: Names>(names: &N, bits: u64, out: &mut Vec<u8>) -> Result<(), AllocError>
-    ensures { OnOk result (out.new.items ≡ out.old.items ++ flat_map (type_text (N.book names.now)) (types_of bits)) }
-{
-    for kind in 1..64 {
-        if has_type(bits, kind) {
-            push_type(names, kind, out)?;
-        }
+    for kind in types.iter() {
+        push_type(names, kind, out)?;
     }
     Ok(())
 }
 
+/// Appends a space and the type's first name.
 fn push_type<N: Names>(names: &N, kind: u8, out: &mut Vec<u8>) -> Result<(), AllocError>
-    ensures { OnOk result (out.new.items ≡ out.old.items ++ type_text (N.book names.now) kind) }
+    ensures { OnOk result (out.new.items ≡ out.old.items ++ spec.type_text (N.book names.now) kind) }
 {
     out.push(b' ')?;
     if let Some(name) = names.type_name(kind) {

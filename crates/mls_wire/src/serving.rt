@@ -1,25 +1,42 @@
 //! Serving a script.
 ghost use Rattle.std.specs.Prelude.{◌≡◌, ◌≢◌, false, OnOk, OnErr, IfErr};
 ghost use Rattle.std.specs.Io.KnownBytes.{Appends};
-ghost use Rattle.std.specs.Option.{option_map};
-ghost use Rattle.mls_wire.specs.Watches.{HasCause};
+ghost use Rattle.mls_wire.specs.ScriptLines.{text_of};
 ghost use Rattle.mls_wire.specs.Serving.{AppendsFront, WritesRun, WritesCutRun, WritesLine, WritesCutLine, HasReason};
-ghost use Rattle.mls_wire.specs.Seats.{seat_of, desk_setting};
+ghost use Rattle.mls_wire.specs.Solos.{open_session_of, setting_of};
+ghost use Rattle.mls_wire.specs.Watches.{HasCause};
 
-use crate::{LineReader, ReadFault, Solo, Taken, Watched, WriteFault, reply_text};
+use crate::reader::{LineReader, NextLine};
+use crate::{ReadFault, ScriptLine, Solo, Watched, WriteFault, push_response};
 use std::alloc::{AllocError, Global};
 use std::io::{Read, Write};
 use thiserror::Error;
 
 /// Why a script was left before its end.
 #[derive(Clone, Copy, Debug, PartialEq, Eq, Error)]
+#[error("{}", self.text())]
 pub enum ServeFault {
-    #[error("input failed")]
+    /// The input failed.
     Read,
-    #[error("output failed")]
+    /// The output failed.
     Write,
-    #[error("memory")]
+    /// Memory ran out.
     Memory,
+}
+
+impl ServeFault {
+    ghost use Rattle.mls_wire.specs.Serving.{serve_fault_text};
+
+    /// Returns the fault's text.
+    pub fn text(self) -> &'static str
+        ensures { result.now ≡ serve_fault_text self }
+    {
+        match self {
+            ServeFault::Read => "input failed",
+            ServeFault::Write => "output failed",
+            ServeFault::Memory => "memory",
+        }
+    }
 }
 
 impl From<ReadFault> for ServeFault {
@@ -52,7 +69,10 @@ impl From<AllocError> for ServeFault {
     }
 }
 
-/// Answers the lines of a script one after another, each before the next is read.
+/// Serves a script: runs its lines one after another, and writes and flushes the reply to each before more is read.
+///
+/// At a [`ServeFault::Read`] the whole lines that were read have their replies, and a line of which only a beginning was read is lost.
+/// At the other faults the last line was run too, and a beginning of its reply was written, or nothing where memory ran out.
 pub fn serve<R: Read, W: Write>(
     alloc: Global,
     solo: &mut Solo,
@@ -61,53 +81,60 @@ pub fn serve<R: Read, W: Write>(
 ) -> Result<(), ServeFault>
     requires input_sound { input.old.failed ≡ false }
     requires output_sound { output.old.failed ≡ false }
-    // What is written is the reply text of the script's run.
-    ensures run { OnOk result (WritesRun (desk_setting solo.old) (seat_of solo.old) (R.remaining input.old.device)
-        (W.contents output.old.device) (W.contents output.new.device) (seat_of solo.new)) }
-    // After a fault it is that of a run that was cut.
-    ensures cut { OnErr result (WritesCutRun (desk_setting solo.old) (seat_of solo.old) (R.remaining input.old.device)
-        (W.contents output.old.device) (W.contents output.new.device) (seat_of solo.new)) }
+    ensures run { OnOk result (WritesRun (setting_of solo.old) (open_session_of solo.old) (R.remaining input.old.device)
+        (W.contents output.old.device) (W.contents output.new.device) (open_session_of solo.new)) }
+    ensures cut { IfErr result (λ fault. WritesCutRun (setting_of solo.old) (open_session_of solo.old) fault
+        (R.remaining input.old.device) (R.remaining input.new.device)
+        (W.contents output.old.device) (W.contents output.new.device) (open_session_of solo.new)) }
     ensures cause { IfErr result (λ fault. HasReason fault input.new output.new) }
+    ensures setting { setting_of solo.new ≡ setting_of solo.old }
 {
     prove!(!input.failed() && !output.failed());
     let mut reader = LineReader::new();
     let mut text = Vec::new(alloc);
-    let mut n: u128 = 0;
+    let mut n: u128 = 1;
     'lines: loop {
-        let line = match reader.next_line(input)? {
-            Taken::End => return Ok(()),
-            Taken::TooLong => None,
-            Taken::Line => Some(reader.line()),
-        };
+        match reader.next_line(input)? {
+            NextLine::End => return Ok(()),
+            NextLine::LastLine => return serve_line(
+                alloc,
+                solo,
+                n,
+                reader.line(),
+                &mut text,
+                output,
+            ),
+            NextLine::Line => serve_line(alloc, solo, n, reader.line(), &mut text, output)?,
+        }
         n += 1;
-        serve_line(alloc, solo, n, line, &mut text, output)?;
     }
 }
 
-/// Answers one line.
+/// Runs line `n`, and writes and flushes its reply.
 fn serve_line<W: Write>(
     alloc: Global,
     solo: &mut Solo,
     n: u128,
-    line: Option<&[u8]>,
+    line: ScriptLine<'_>,
     text: &mut Vec<u8>,
     output: &mut Watched<W>,
 ) -> Result<(), ServeFault>
-    ensures done { OnOk result (WritesLine (desk_setting solo.old) (seat_of solo.old) n (option_map (λ bytes. bytes.now) line.entry)
-        (W.contents output.old.device) (W.contents output.new.device) (seat_of solo.new)) }
-    ensures cut { OnErr result (WritesCutLine (desk_setting solo.old) (seat_of solo.old) n (option_map (λ bytes. bytes.now) line.entry)
-        (W.contents output.old.device) (W.contents output.new.device) (seat_of solo.new)) }
-    ensures setting { desk_setting solo.new ≡ desk_setting solo.old }
-    ensures cause { IfErr result (λ fault. (fault ≡ ServeFault.Write → HasCause output.new) × (fault ≢ ServeFault.Read)) }
+    ensures done { OnOk result (WritesLine (setting_of solo.old) (open_session_of solo.old) n (text_of line.entry)
+        (W.contents output.old.device) (W.contents output.new.device) (open_session_of solo.new)) }
+    ensures cut { IfErr result (λ fault. WritesCutLine (setting_of solo.old) (open_session_of solo.old) n (text_of line.entry) fault
+        (W.contents output.old.device) (W.contents output.new.device) (open_session_of solo.new)) }
+    ensures setting { setting_of solo.new ≡ setting_of solo.old }
+    ensures kind { IfErr result (λ fault. fault ≢ ServeFault.Read) }
+    ensures cause { IfErr result (λ fault. fault ≡ ServeFault.Write → HasCause output.new) }
 {
-    let answer = solo.answer(alloc, line);
+    let response = solo.respond(alloc, line);
     text.clear();
-    reply_text(solo, n, &answer, text)?;
+    push_response(solo, n, &response, text)?;
     send(text, output)?;
     Ok(())
 }
 
-/// Writes bytes, and sends them off.
+/// Writes bytes and flushes them.
 fn send<W: Write>(bytes: &[u8], output: &mut Watched<W>) -> Result<(), WriteFault>
     ensures ok { OnOk result (Appends (W.contents output.old.device) (W.contents output.new.device) bytes.now) }
     ensures err { OnErr result (AppendsFront (W.contents output.old.device) (W.contents output.new.device) bytes.now) }
@@ -116,6 +143,3 @@ fn send<W: Write>(bytes: &[u8], output: &mut Watched<W>) -> Result<(), WriteFaul
     output.write_whole(bytes)?;
     output.flush()
 }
-
-#[cfg(test)]
-mod tests;

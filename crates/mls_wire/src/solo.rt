@@ -1,113 +1,103 @@
 //! A server of one session.
 ghost use Rattle.std.specs.Prelude.{◌≡◌, IsTrue};
-ghost use Rattle.std.specs.Option.{option_map};
-ghost use Rattle.mls_wire.specs.Runs.{Opens, Asks, Answers, CanHeed, book_of, is_seated};
-ghost use Rattle.mls_wire.specs.Seats.{seat_of, desk_setting};
-ghost use Rattle.mls_wire.specs.Says.{said_by};
+ghost use Rattle.mls_wire.specs.Runs.{CanExecute, Executes, Opens, RunsCommand, book_of, is_named};
+ghost use Rattle.mls_wire.specs.Says.{line_says};
+ghost use Rattle.mls_wire.specs.ScriptLines.{text_of};
+ghost use Rattle.mls_wire.specs.Solos.{open_session_of, setting_of};
 
-use crate::{Answer, Line, LineFault, Name, Names, OpenFault, parse_line};
+use crate::{Line, Name, Names, OpenFault, Response, ScriptLine, parse_line};
 use mls_session::{Command, Quota, Session};
 use mls_tech::Tech;
 use std::alloc::Global;
 use std::marker::Model;
 
-/// A server that holds one session at most.
+/// A server that has one session at most.
 #[derive(Drop)]
 pub struct Solo {
     tech: Tech,
     quota: Quota,
-    seat: Option<(Name, Session)>,
+    session: Option<(Name, Session)>,
 }
 
 impl Model for Solo {
-    ghost use Rattle.mls_wire.specs.Seats.{Desk, IsSeatFor};
+    ghost use Rattle.mls_wire.specs.Solos.{IsOpenFor, Solo};
 
-    ghost Value = { Desk };
+    ghost Value = { Solo };
 
-    ghost view = { λ solo. record { tech = solo.tech; quota = solo.quota; seat = solo.seat } };
+    ghost view = { λ solo. record { tech = solo.tech; quota = solo.quota; session = solo.session } };
 
-    ghost invariant = { λ solo. IsSeatFor solo.tech solo.quota solo.seat };
+    ghost invariant = { λ solo. IsOpenFor solo.tech solo.quota solo.session };
 }
 
 impl Solo {
     ghost use Rattle.std.specs.Prelude.{None};
 
-    /// A server whose sessions have the planes and types of this technology and this quota, with none open.
+    /// Creates a server with no open session, whose sessions have the planes and types of this technology and this quota.
     pub fn new(tech: Tech, quota: Quota) -> Solo
-        ensures { result ≡ record { tech = tech; quota = quota; seat = None } }
+        ensures { result ≡ record { tech = tech; quota = quota; session = None } }
     {
         Solo {
             tech,
             quota,
-            seat: None,
+            session: None,
         }
     }
 
-    /// The technology of the sessions.
-    pub fn tech(&self) -> &Tech
-        ensures { result.now ≡ self.now.tech }
+    /// Executes a line, and returns the response to it.
+    pub fn respond(&mut self, alloc: Global, line: ScriptLine<'_>) -> Response
+        ensures executes { Executes (setting_of self.old) (open_session_of self.old)
+            (line_says (book_of (setting_of self.old) (open_session_of self.old)) (text_of line.entry)) result (open_session_of self.new) }
+        ensures setting { setting_of self.new ≡ setting_of self.old }
     {
-        &self.tech
-    }
-
-    /// Does what a line asks, and answers it. Nothing stands for a line that is too long.
-    pub fn answer(&mut self, alloc: Global, line: Option<&[u8]>) -> Answer
-        ensures answers { Answers (desk_setting self.old) (seat_of self.old)
-            (said_by (book_of (desk_setting self.old) (seat_of self.old)) (option_map (λ bytes. bytes.now) line.entry)) result (seat_of self.new) }
-        ensures setting { desk_setting self.new ≡ desk_setting self.old }
-    {
-        let Some(bytes) = line else {
-            return Answer::Fault(LineFault::UnknownCommand);
-        };
-        match parse_line(self, bytes) {
-            Ok(said) => self.heed(alloc, said),
-            Err(fault) => Answer::Fault(fault),
+        match parse_line(self, line) {
+            Ok(said) => self.execute(alloc, said),
+            Err(fault) => Response::Fault(fault),
         }
     }
 
-    /// Does what a line says.
-    fn heed(&mut self, alloc: Global, said: Line) -> Answer
-        requires { CanHeed (seat_of self.old) said }
-        ensures answers { Answers (desk_setting self.old) (seat_of self.old) (Ok said) result (seat_of self.new) }
-        ensures setting { desk_setting self.new ≡ desk_setting self.old }
+    /// Executes what a line says.
+    fn execute(&mut self, alloc: Global, said: Line) -> Response
+        requires { CanExecute (open_session_of self.old) said }
+        ensures executes { Executes (setting_of self.old) (open_session_of self.old) (Ok said) result (open_session_of self.new) }
+        ensures setting { setting_of self.new ≡ setting_of self.old }
     {
         match said {
-            Line::Silent => Answer::Silent,
+            Line::Silent => Response::Silent,
             Line::Open(name) => self.open(alloc, name),
-            Line::Ask(name, command) => self.ask(name, command),
+            Line::Run(name, command) => self.run_command(name, command),
         }
     }
 
     /// Opens a session, if none is open.
-    fn open(&mut self, alloc: Global, name: Name) -> Answer
-        ensures opens { Opens (seat_of self.old) name result (seat_of self.new) }
-        ensures setting { desk_setting self.new ≡ desk_setting self.old }
+    fn open(&mut self, alloc: Global, name: Name) -> Response
+        ensures opens { Opens (open_session_of self.old) name result (open_session_of self.new) }
+        ensures setting { setting_of self.new ≡ setting_of self.old }
     {
-        if let Some((other, _)) = &self.seat {
+        if let Some((other, _)) = &self.session {
             let fault = if *other == name {
                 OpenFault::OpenAlready
             } else {
                 OpenFault::SessionsFull
             };
-            return Answer::NotOpened(name, fault);
+            return Response::NotOpened(name, fault);
         }
         match Session::new(alloc, &self.tech, self.quota) {
             Ok(session) => {
-                self.seat = Some((name, session));
-                Answer::Opened(name)
+                self.session = Some((name, session));
+                Response::Opened(name)
             }
-            Err(_) => Answer::NotOpened(name, OpenFault::Memory),
+            Err(_) => Response::NotOpened(name, OpenFault::Memory),
         }
     }
 
-    /// Hands a command to the open session.
-    fn ask(&mut self, name: Name, command: Command) -> Answer
-        requires { IsTrue (is_seated (seat_of self.old) name) }
-        ensures asks { Asks (desk_setting self.old) (seat_of self.old) name command result (seat_of self.new) }
-        ensures setting { desk_setting self.new ≡ desk_setting self.old }
+    /// Runs a command in the open session.
+    fn run_command(&mut self, name: Name, command: Command) -> Response
+        requires { IsTrue (is_named (open_session_of self.old) name) }
+        ensures runs { RunsCommand (setting_of self.old) (open_session_of self.old) name command result (open_session_of self.new) }
+        ensures setting { setting_of self.new ≡ setting_of self.old }
     {
-        match &mut self.seat {
-            Some((_, session)) => Answer::Replied(name, session.command(&self.tech, command)),
+        match &mut self.session {
+            Some((_, session)) => Response::Replied(name, session.command(&self.tech, command)),
             None => unreachable!(),
         }
     }
@@ -115,9 +105,9 @@ impl Solo {
 
 impl Names for Solo {
     ghost use Rattle.mls_wire.specs.Runs.{book_of};
-    ghost use Rattle.mls_wire.specs.Seats.{seat_of, desk_setting};
+    ghost use Rattle.mls_wire.specs.Solos.{open_session_of, setting_of};
 
-    ghost book = { λ solo. book_of (desk_setting solo) (seat_of solo) };
+    ghost book = { λ solo. book_of (setting_of solo) (open_session_of solo) };
 
     fn type_of(&self, word: &[u8]) -> Option<u8> {
         self.tech.type_of(word)
@@ -128,8 +118,8 @@ impl Names for Solo {
     }
 
     fn is_open(&self, name: &Name) -> bool {
-        match &self.seat {
-            Some((seated, _)) => seated == name,
+        match &self.session {
+            Some((other, _)) => other == name,
             None => false,
         }
     }

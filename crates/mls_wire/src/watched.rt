@@ -1,24 +1,27 @@
-//! A device, with a count of its calls and a note of whether one has failed.
-ghost use Rattle.std.specs.Prelude.{◌≡◌, ◌-◌, ◌^◌, ◌<◌, ◌≤◌, ◌++◌, ℕ, List, [], false, length, IsTrue, IsOk, IfOk, OnOk, OnErr};
+//! Devices whose calls are counted and whose failures are noted.
+ghost use Rattle.std.specs.Prelude.{◌≡◌, ◌-◌, ◌^◌, ◌<◌, ◌≤◌, ◌++◌, ℕ, List, [], true, false, length, IsTrue, IsOk, IfOk, OnOk, OnErr};
+ghost use Rattle.std.specs.Bool.{OnTrue, OnFalse};
 ghost use Rattle.std.specs.Io.{ReadsAtMost, WritesAtMost};
 ghost use Rattle.std.specs.Io.KnownBytes.{Keeps, Appends, ReadConsumes, WriteAppends};
 ghost use Rattle.mls_wire.specs.Watches.{HasCause};
 
+use crate::ServeFault;
+use std::io;
 use std::io::{ErrorKind, Read, Write};
 use std::marker::Model;
 use thiserror::Error;
 
-/// The input failed, or gave no answer however often it was asked.
+/// The input failed, or had no calls left.
 #[derive(Clone, Copy, Debug, PartialEq, Eq, Error)]
-#[error("input failed")]
+#[error("{}", ServeFault::Read.text())]
 pub struct ReadFault;
 
-/// The output failed, or gave no answer however often it was asked.
+/// The output failed, or had no calls left.
 #[derive(Clone, Copy, Debug, PartialEq, Eq, Error)]
-#[error("output failed")]
+#[error("{}", ServeFault::Write.text())]
 pub struct WriteFault;
 
-/// A device that is asked at most `u64::MAX` times, and whether one of its calls has failed.
+/// A device that is called at most `u64::MAX` times, with a note of whether a call has failed.
 ///
 /// A call that was interrupted is made again, and is no failure.
 #[derive(Drop)]
@@ -40,7 +43,7 @@ impl<D> Model for Watched<D> {
 }
 
 impl<D> Watched<D> {
-    /// Watches a device, none of whose calls has failed yet.
+    /// Creates a watched device none of whose calls has failed.
     pub fn new(device: D) -> Watched<D>
         ensures { result ≡ record { device = device; calls_left = 2 ^ 64 - 1; failed = false } }
     {
@@ -51,7 +54,7 @@ impl<D> Watched<D> {
         }
     }
 
-    /// Whether a call has failed.
+    /// Returns whether a call has failed.
     pub fn failed(&self) -> bool
         ensures value { result ≡ self.now.failed }
         ensures counted { self.now.calls_left < 2 ^ 64 }
@@ -59,7 +62,7 @@ impl<D> Watched<D> {
         self.failed
     }
 
-    /// The device, which is watched no more.
+    /// Returns the device.
     pub fn into_inner(self) -> D
         ensures { result ≡ self.device }
     {
@@ -68,8 +71,8 @@ impl<D> Watched<D> {
 }
 
 impl<R: Read> Watched<R> {
-    /// Reads once into the buffer, and says how many bytes came. Into a buffer with room none come at the end of the input only.
-    /// An `Err` loses no byte.
+    /// Reads once into the buffer, and returns the number of bytes read. If the buffer has room, none are read only at the end of the input.
+    /// At an `Err` no byte is lost.
     pub fn read_some(&mut self, buffer: &mut [u8]) -> Result<usize, ReadFault>
         ensures bound { ReadsAtMost result buffer.new }
         ensures bytes { ReadConsumes (R.remaining self.old.device) (R.remaining self.new.device)
@@ -85,8 +88,7 @@ impl<R: Read> Watched<R> {
             match self.device.read(buffer) {
                 Ok(count) => return Ok(count),
                 Err(error) => {
-                    if error.kind() != ErrorKind::Interrupted {
-                        self.failed = true;
+                    if !is_interruption(&error, &mut self.failed) {
                         return Err(ReadFault);
                     }
                 }
@@ -97,7 +99,7 @@ impl<R: Read> Watched<R> {
 }
 
 impl<W: Write> Watched<W> {
-    /// Writes all the bytes, and calls the device for none where there are none. At an `Err` a beginning of them was written.
+    /// Writes all the bytes; for no bytes the device isn't called. At an `Err` a beginning of them was written.
     pub fn write_whole(&mut self, bytes: &[u8]) -> Result<(), WriteFault>
         ensures ok { OnOk result
             (Appends (W.contents self.old.device) (W.contents self.new.device) bytes.now) }
@@ -110,14 +112,14 @@ impl<W: Write> Watched<W> {
         ensures lasting { IsTrue self.old.failed → IsTrue self.new.failed }
     {
         let mut rest = bytes;
-        'parts: while !rest.is_empty() {
+        'chunks: while !rest.is_empty() {
             let count = self.write_some(rest)?;
             rest = &rest[count..];
         }
         Ok(())
     }
 
-    /// Writes once, and says how many of the bytes were taken: at least one.
+    /// Writes once, and returns the number of bytes written: at least one.
     fn write_some(&mut self, bytes: &[u8]) -> Result<usize, WriteFault>
         requires { 0 < length bytes.now }
         ensures bound { WritesAtMost result bytes.now }
@@ -138,8 +140,7 @@ impl<W: Write> Watched<W> {
                 }
                 Ok(count) => return Ok(count),
                 Err(error) => {
-                    if error.kind() != ErrorKind::Interrupted {
-                        self.failed = true;
+                    if !is_interruption(&error, &mut self.failed) {
                         return Err(WriteFault);
                     }
                 }
@@ -148,10 +149,11 @@ impl<W: Write> Watched<W> {
         Err(WriteFault)
     }
 
-    /// Has the device pass on what it holds back.
+    /// Flushes the device.
     pub fn flush(&mut self) -> Result<(), WriteFault>
         ensures bytes { Keeps (W.contents self.old.device) (W.contents self.new.device) }
         ensures calls { self.new.calls_left ≤ self.old.calls_left }
+        ensures fewer { OnOk result (self.new.calls_left < self.old.calls_left) }
         ensures failed { OnOk result (self.new.failed ≡ self.old.failed) }
         ensures cause { OnErr result (HasCause self.new) }
         ensures lasting { IsTrue self.old.failed → IsTrue self.new.failed }
@@ -161,8 +163,7 @@ impl<W: Write> Watched<W> {
             match self.device.flush() {
                 Ok(()) => return Ok(()),
                 Err(error) => {
-                    if error.kind() != ErrorKind::Interrupted {
-                        self.failed = true;
+                    if !is_interruption(&error, &mut self.failed) {
                         return Err(WriteFault);
                     }
                 }
@@ -172,5 +173,12 @@ impl<W: Write> Watched<W> {
     }
 }
 
-#[cfg(test)]
-mod tests;
+/// Returns whether a call was only interrupted and is to be made again. If not, the device has failed.
+fn is_interruption(error: &io::Error, failed: &mut bool) -> bool
+    ensures again { OnTrue result (failed.new ≡ failed.old) }
+    ensures noted { OnFalse result (failed.new ≡ true) }
+{
+    let interrupted = error.kind() == ErrorKind::Interrupted;
+    *failed |= !interrupted;
+    interrupted
+}

@@ -1,54 +1,53 @@
 //! The reading of a whole technology file.
 ghost use Rattle.std.specs.Prelude.{◌≡◌, ◌+◌, ◌==◌, None, count_by};
 ghost use Rattle.mls_tech.specs.FileLines.{content_lines};
-ghost use Rattle.mls_tech.specs.Readings.{ReadsUnlessMemory, fault_at, nothing_read, read_lines, reading_of};
+ghost use Rattle.mls_tech.specs.Readings.{ReadsUnlessMemory, nothing_read, reading_of};
+ghost use Rattle.mls_tech.specs.Readings as spec;
 
 use super::Tech;
-use crate::{FileLines, TechFault, TechFaultKind};
+use crate::file_lines::FileLines;
+use crate::{TechFault, TechFaultKind};
 use std::alloc::Global;
 
 impl Tech {
-    /// Reads a technology file. Where memory runs out, the fault has the line that was read last.
+    /// Reads a technology file.
+    ///
+    /// # Errors
+    ///
+    /// The first fault of the file, or `Memory` if memory runs out before it is found.
+    #[tactic(auto, unfolding(crate::specs::Readings::reading_of))]
     pub fn read(alloc: Global, bytes: &[u8]) -> Result<Tech, TechFault>
         ensures { ReadsUnlessMemory result (reading_of bytes.now) }
     {
-        let mut line = 0;
-        match read_file(alloc, bytes, &mut line) {
-            Ok(tech) => Ok(tech),
-            Err(kind) => Err(TechFault { line, kind }),
+        if let Err(error) = str::from_utf8(bytes) {
+            return Err(TechFault {
+                line: line_after(&bytes[..error.valid_up_to()]),
+                kind: TechFaultKind::NotUtf8,
+            });
         }
+        read_lines(alloc, bytes)
     }
 }
 
-/// Reads a file; `line` becomes the number of the line that was read last, from 1.
-#[tactic(auto, unfolding(crate::specs::Readings::reading_of))]
-fn read_file(alloc: Global, bytes: &[u8], line: &mut usize) -> Result<Tech, TechFaultKind>
-    ensures { ReadsUnlessMemory (fault_at line.new result) (reading_of bytes.now) }
-{
-    if let Err(error) = str::from_utf8(bytes) {
-        *line = line_behind(&bytes[..error.valid_up_to()]);
-        return Err(TechFaultKind::NotUtf8);
-    }
-    read_lines(alloc, bytes, line)
-}
-
-/// The number of the line that stands behind the bytes, from 1.
-fn line_behind(bytes: &[u8]) -> usize
+/// Returns the number of the line that follows the bytes, from 1.
+fn line_after(bytes: &[u8]) -> usize
     ensures { result ≡ count_by (λ b. b == 10) bytes.now + 1 }
 {
     bytes.iter().filter(|b| **b == b'\n').count() + 1
 }
 
-/// Reads the lines of a file; `line` becomes the number of the one that was read last.
-fn read_lines(alloc: Global, bytes: &[u8], line: &mut usize) -> Result<Tech, TechFaultKind>
-    ensures { ReadsUnlessMemory (fault_at line.new result) (read_lines None nothing_read (content_lines bytes.now)) }
+/// Reads the lines of a file.
+fn read_lines(alloc: Global, bytes: &[u8]) -> Result<Tech, TechFault>
+    ensures { ReadsUnlessMemory result (spec.read_lines None nothing_read (content_lines bytes.now)) }
 {
     let mut tech = Tech::new(alloc)?;
-    let mut place = None;
+    let mut inside = None;
     let mut lines = FileLines::new(alloc, bytes);
-    while let Some(number) = lines.advance()? {
-        *line = number;
-        (place, tech) = tech.read_line(alloc, place, number, &lines)?;
+    while let Some(line) = lines.advance()? {
+        inside = match tech.read_line(alloc, inside, line, &lines) {
+            Ok(section) => section,
+            Err(kind) => return Err(TechFault { line, kind }),
+        };
     }
     Ok(tech)
 }

@@ -3,7 +3,7 @@ use Rattle.mls_edgerule.specs.Halos.{halo_of}
 use Rattle.mls_geom.specs.Rects.{holds}
 use Rattle.mls_checker.specs.Copies.{copied_layout}
 use Rattle.mls_checker.specs.Marking.{SquareSet}
-use Rattle.mls_checker.proofs.FoundSquares.{marks-exact, wrong_by_some, wrong_by_some-more}
+use Rattle.mls_checker.proofs.FoundSquares.{marks-exact, forbidden_by_some, forbidden_by_some-more}
 use Rattle.mls_checker.proofs.finding.check.Goals as goal
 
 pub loop-rule-preserved : goal.loop-rule-preserved
@@ -12,12 +12,12 @@ loop-rule-preserved c =
     let layout = copied_layout c.args.snapshot in
     let area = c.around-area.result in
     let place = c.loop-rule.rule-index in
-    let more = c.mark_rule.ensures c.args.piece (wrong_by_some (take place rules) layout area) (c.loop-rule.invariant.of_piece, c.loop-rule.invariant.marked) in
+    let more = c.scan_rule.ensures c.args.piece (forbidden_by_some (take place rules) layout area) (c.loop-rule.invariant.of_piece, c.loop-rule.invariant.marked) in
     let below : place < length rules = omega arith in
     record {
       of_piece = more.0;
       marked = λ x y. more.1 x y
-          ∙ ap (λ (set : SquareSet). holds c.mark_rule.new.marker.rect x y && set x y) (wrong_by_some-more rules layout area place c.rule-item.result below (sym c.rule-item.is));
+          ∙ ap (λ (set : SquareSet). holds c.scan_rule.new.sink.rect x y && set x y) (forbidden_by_some-more rules layout area place c.rule-item.result below (sym c.rule-item.is));
     }
 
 exact : goal.invariant_of-result

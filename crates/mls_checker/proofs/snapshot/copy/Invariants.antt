@@ -1,4 +1,4 @@
--- The strips that are left, painted over the squares so far, show the plane.
+-- The strips not yet copied, painted over what the grid shows, show the plane.
 use Rattle.std.proofs.Common.{◌≡◌, ℕ, true}
 use Rattle.mls_checker.specs.Copies.{grid_picture}
 use Rattle.mls_geom.specs.Rects.{holds}
@@ -7,6 +7,6 @@ use Rattle.mls_checker.proofs.snapshot.copy.Given as goal
 
 abbrev pub invariant-loop-strip : goal.invariant-loop-strip
 invariant-loop-strip l = record {
-  rect : l.squares.rect ≡ l.fn.zone;
-  picture : (x y : ℕ) → holds l.fn.zone x y ≡ true → overlaid (grid_picture l.squares) l.strip-iterator x y ≡ picture_of l.cover.strips x y;
+  rect : l.grid.rect ≡ l.fn.zone;
+  picture : (x y : ℕ) → holds l.fn.zone x y ≡ true → overlaid (grid_picture l.grid) l.strip-iterator x y ≡ picture_of l.cover.strips x y;
 }

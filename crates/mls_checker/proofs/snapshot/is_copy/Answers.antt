@@ -9,21 +9,21 @@ use Rattle.mls_checker.proofs.snapshot.is_copy.Goals as goal
 
 pub returns-then-not-has_kind : goal.returns-then-not-has_kind
 returns-then-not-has_kind c =
-    let squares = c.args.squares.now in (
+    let grid = c.args.grid.now in (
       λ h. absurd (false≢true h),
       λ copy.
-          (let left = c.loop-strip.invariant.1 (strips_by_copy _ squares c.args.cover.now.strips c.meeting-strip-items.ensures.covers.strips copy) in
-          c.if-not-has_kind.ensures.1 (All-head (IsShownBy squares) c.in-Some.strip c.next.new.self (rw c.in-Some.ensures.steps at left))),
+          (let left = c.loop-strip.invariant.1 (strips_by_copy _ grid c.args.cover.now.strips c.meeting-strip-items.ensures.covers.strips copy) in
+          c.if-not-has_kind.ensures.1 (All-head (IsShownBy grid) c.in-Some.strip c.next.new.self (rw c.in-Some.ensures.steps at left))),
     )
 
 pub loop-strip-preserved : goal.loop-strip-preserved
 loop-strip-preserved c =
-    shown-next c.args.squares.now c.in-Some.strip _ _ _ c.in-Some.ensures.steps (c.if-not-has_kind.ensures.0 refl) c.loop-strip.invariant
+    shown-next c.args.grid.now c.in-Some.strip _ _ _ c.in-Some.ensures.steps (c.if-not-has_kind.ensures.0 refl) c.loop-strip.invariant
 
 pub returns : goal.returns
 returns c =
     let legal : IsRectangleIn world c.rect.result = search rules in (
-      λ _. copy_by_strips world c.args.squares.now c.args.cover.now.strips c.meeting-strip-items.ensures.covers.strips (rw c.rect.ensures at legal)
+      λ _. copy_by_strips world c.args.grid.now c.args.cover.now.strips c.meeting-strip-items.ensures.covers.strips (rw c.rect.ensures at legal)
           (c.loop-strip.invariant.0 (rw c.in-None.ensures.steps.0 (λ k d within. absurd (omega arith)))),
       λ _. refl,
     )

@@ -6,7 +6,7 @@ use Rattle.mls_geom.proofs.active.activate.Goals as goal
 
 pub returns-clause-active : goal.returns-clause-active
 returns-clause-active c =
-    let join = rw c.retire.ensures.kept at c.enlist-waiting.ensures.joined in
+    let join = rw c.remove_ended.ensures.kept at c.add_started-waiting.ensures.joined in
     let moved = c.sort_unstable.ensures.permutation in
     AreActive-parted c.args.line c.args.pieces.now _ _
     (ArePartedAt-activate c.args.line c.args.pieces.now _ _ _ _ _ c.requires.parted join moved)
@@ -15,5 +15,5 @@ returns-clause-active c =
 
 pub returns-clause-parted : goal.returns-clause-parted
 returns-clause-parted c =
-    let join = rw c.retire.ensures.kept at c.enlist-waiting.ensures.joined in
+    let join = rw c.remove_ended.ensures.kept at c.add_started-waiting.ensures.joined in
     ArePartedAt-activate c.args.line c.args.pieces.now _ _ _ _ _ c.requires.parted join c.sort_unstable.ensures.permutation

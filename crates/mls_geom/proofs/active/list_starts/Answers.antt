@@ -1,6 +1,7 @@
--- The starts are listed by the places of their pieces, and then sorted.
-use Rattle.std.proofs.Common.{◌≡◌, length, arith, rules}
+-- The starts are listed by the indices of their pieces, and then sorted.
+use Rattle.std.proofs.Common.{◌≡◌, length, ap, ◌∙◌, arith, rules}
 use Rattle.std.proofs.lemmas.List.Sorted.{IsNonDecreasingBy-from_sort_by_key}
+use Rattle.mls_geom.specs.Rects.{Rect}
 use Rattle.mls_geom.proofs.Starts.{AreStarts-sorted, NamesPiece-more, pieces_of-more}
 use Rattle.mls_geom.specs.declared.active.Start.{Start}
 use Rattle.mls_geom.proofs.active.list_starts.Goals as goal
@@ -8,7 +9,7 @@ use Rattle.mls_geom.proofs.active.list_starts.Goals as goal
 pub loop-i-preserved : goal.loop-i-preserved
 loop-i-preserved c =
     let piece = c.index-pieces-i in
-    let named = NamesPiece-more c.args.pieces.now c.loop-i.i _ piece.result _ c.loop-i-test.true piece.is c.bottom_line.ensures.value c.loop-i.invariant.named in
+    let named = NamesPiece-more c.args.pieces.now c.loop-i.i _ piece.result _ c.loop-i-test.true piece.is (ap (λ (e : Rect). e.bottom) (c.edges.view_is ∙ c.area-edges.ensures.value)) c.loop-i.invariant.named in
     record {
       named = rw c.push_reserved.ensures.items named;
       each = rw c.push_reserved.ensures.items (pieces_of-more _ c.loop-i.i _ c.loop-i.invariant.each);

@@ -1,6 +1,6 @@
 use Rattle.std.proofs.Common.{◌≡◌, vec_len, vec_capacity}
 use Rattle.std.specs.List.{All, range_with_len}
-use Rattle.mls_geom.specs.ActivePieces.{NamesPiece, pieces_of}
+use Rattle.mls_geom.specs.Sweep.ActivePieces.{NamesPiece, pieces_of}
 use Rattle.mls_geom.proofs.active.list_starts.Given as goal
 
 abbrev pub invariant-loop-i : goal.invariant-loop-i

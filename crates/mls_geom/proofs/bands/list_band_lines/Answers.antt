@@ -1,9 +1,9 @@
 -- The ends of each piece are put in, and all are sorted at the end.
-use Rattle.std.proofs.Common.{◌≡◌, take, subst, arith}
+use Rattle.std.proofs.Common.{◌≡◌, take, subst, ap, ◌∙◌, arith}
 use Rattle.std.proofs.lemmas.List.{take_all}
 use Rattle.std.proofs.lemmas.List.Elements.{All-more}
 use Rattle.mls_geom.proofs.BandLines.{AreBandLines-ascended, HaveEnds-more}
-use Rattle.mls_geom.specs.Rects.{IsRectangleIn}
+use Rattle.mls_geom.specs.Rects.{Rect, IsRectangleIn}
 use Rattle.mls_geom.specs.World.{world}
 use Rattle.mls_geom.specs.declared.piece.Piece.{Piece}
 use Rattle.mls_geom.proofs.bands.list_band_lines.Goals as goal
@@ -15,12 +15,12 @@ loop-piece-preserved c =
     let IsLegal : Piece → Type 0 = λ piece. IsRectangleIn world piece.rect in
     let piece = c.piece-item in
     let within = c.loop-piece-test.true in
-    let legal = c.top_line.ensures.legal in
+    let legal = c.area-edges.ensures.legal in
     record {
       legal = All-more IsLegal pieces i piece.result within c.loop-piece.invariant.legal (subst IsLegal piece.is legal);
       members =
           rw (c.push_reserved-in-loop-piece-2.ensures.items, c.push_reserved-in-loop-piece.ensures.items)
-          (HaveEnds-more world pieces i _ _ _ piece.result within piece.is legal c.bottom_line.ensures.value c.top_line.ensures.value c.loop-piece.invariant.members);
+          (HaveEnds-more world pieces i _ _ _ piece.result within piece.is legal (ap (λ (e : Rect). e.bottom) (c.edges.view_is ∙ c.area-edges.ensures.value)) (ap (λ (e : Rect). e.top) (c.edges.view_is ∙ c.area-edges.ensures.value)) c.loop-piece.invariant.members);
       len = omega arith;
       room = cc;
     }
@@ -29,4 +29,4 @@ pub returns-clause-lines : goal.returns-clause-lines
 returns-clause-lines c =
     let pieces = c.args.pieces.now in
     let all : take c.loop-piece.piece-index pieces ≡ pieces = take_all c.loop-piece.piece-index pieces (omega arith) in
-    AreBandLines-ascended world pieces c.loop-piece.lines.items _ (rw all at c.loop-piece.invariant.members) c.ascend.ensures.ascending c.ascend.ensures.members
+    AreBandLines-ascended world pieces c.loop-piece.lines.items _ (rw all at c.loop-piece.invariant.members) c.sort_dedup.ensures.ascending c.sort_dedup.ensures.members

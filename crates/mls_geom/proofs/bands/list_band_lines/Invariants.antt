@@ -1,7 +1,6 @@
 use Rattle.std.proofs.Common.{◌≡◌, ◌+◌, ◌*◌, take, vec_len, vec_capacity}
-use Rattle.mls_geom.specs.BandLines.{HaveEnds}
-use Rattle.mls_geom.specs.Rows.{AreLegal}
-use Rattle.mls_geom.specs.World.{world}
+use Rattle.mls_geom.specs.Sweep.BandLines.{HaveEnds}
+use Rattle.mls_geom.specs.World.{AreLegal, world}
 use Rattle.mls_geom.proofs.bands.list_band_lines.Given as goal
 
 abbrev pub invariant-loop-piece : goal.invariant-loop-piece

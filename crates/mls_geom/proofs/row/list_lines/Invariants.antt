@@ -1,4 +1,4 @@
--- The lines so far are the world's and those of the pieces gone over.
+-- The lines so far are the world's and those of the pieces visited.
 use Rattle.std.proofs.Common.{◌≡◌, ◌+◌, ◌*◌, take, vec_len, vec_capacity}
 use Rattle.mls_geom.specs.World.{world}
 use Rattle.mls_geom.proofs.RowLines.{AreLines}

@@ -2,7 +2,7 @@
 use Rattle.std.proofs.Common.{◌≡◌, ◌≢◌, ℕ, ◌-◌, ◌<◌, ◌≤◌, length, slice_index, vec_len, vec_capacity}
 use Rattle.mls_geom.specs.Rects.{Rect}
 use Rattle.mls_geom.specs.Pictures.{Picture}
-use Rattle.mls_geom.specs.Slots.{AreCuts, AreSlotKinds}
+use Rattle.mls_geom.specs.Sweep.Slots.{AreCuts, AreSlotKinds}
 use Rattle.mls_geom.proofs.Joining.{AreRunsBefore}
 use Rattle.mls_geom.proofs.run.join_slots.Given as goal
 

@@ -2,7 +2,7 @@
 use Rattle.std.proofs.Common.{◌≡◌, length, vec_len, sym, ◌∙◌, arith}
 use Rattle.std.proofs.lemmas.List.{take_at}
 use Rattle.mls_geom.specs.Pictures.{empty_picture, picture_of}
-use Rattle.mls_geom.proofs.Painted.{shown_free, shown_space}
+use Rattle.mls_geom.proofs.Painted.{slot_kind-free, slot_kind-space}
 use Rattle.mls_geom.proofs.slots.paint_row.Goals as goal
 
 pub returns-clause-kinds : goal.returns-clause-kinds
@@ -15,7 +15,7 @@ returns-clause-kinds c =
     (record {
       count = omega arith;
       each = λ slot x in_row after before.
-          sym (sym (shown_space kinds c.paint_slots.new.free slot painted.slots in_row)
-          ∙ painted.shown empty_picture slot x y meet (omega arith) after before
-          ∙ shown_free _ _ slot (picture_of c.args.pieces.now x y) (rw c.deref_mut-2.ensures.value (c.clear_slots.ensures.unpainted slot)));
+          sym (sym (slot_kind-space kinds c.paint_slots.new.free slot painted.slots in_row)
+          ∙ painted.slot_kinds empty_picture slot x y meet (omega arith) after before
+          ∙ slot_kind-free _ _ slot (picture_of c.args.pieces.now x y) (rw c.deref_mut-2.ensures.value (c.clear_slots.ensures.unpainted slot)));
     })

@@ -1,8 +1,8 @@
 -- Each iteration stacks one run more, whatever the picture is that the strips and the runs are of; that there is one keeps the indices and the lines legal.
 use Rattle.std.proofs.Common.{◌<◌, ◌∙◌, Result, Ok, Err, OnErr, ap, length, set, vec_capacity, vec_len, arith, refl}
 use Rattle.std.proofs.lemmas.Bool.{false≢true}
-use Rattle.mls_geom.specs.Stacks.{raised}
-use Rattle.mls_geom.proofs.RowStacking.{BeginsAt-found, IsRowStacked-begun, IsRowStacked-end, IsRowStacked-raised, IsRowStacked-start, IsStripUnder-named, length-lt-tile_count_of_row}
+use Rattle.mls_geom.specs.Sweep.Stacks.{extended}
+use Rattle.mls_geom.proofs.RowStacking.{BeginsAt-found, IsRowStacked-new_strip, IsRowStacked-end, IsRowStacked-extended, IsRowStacked-start, IsStripUnder-named, length-lt-tile_count_of_row}
 use Rattle.mls_geom.proofs.stack.stack.Goals as goal
 use Rattle.mls_geom.proofs.stack.stack.Goals.{in-Some, in-None+in_ok-run-in-None}
 
@@ -10,7 +10,7 @@ pub loop-run-init : goal.loop-run-init
 loop-run-init c = record {
   within = c.requires.within;
   room = refl;
-  place_within = omega arith;
+  index_within = omega arith;
   stacked = λ picture. IsRowStacked-start (omega arith) c.requires.from c.requires.tall;
 }
 
@@ -21,8 +21,8 @@ index_mut-requires c =
     let (within, _) = IsStripUnder-named _ _ _ state (omega arith) (c.in-Some.ensures.found.0 refl) c.in-Some.ensures.strip in
     omega (arith, c.loop-run.strips.ok.0)
 
-pub raise-requires-clause-above : goal.raise-requires-clause-above
-raise-requires-clause-above c =
+pub extend_to-requires-clause-above : goal.extend_to-requires-clause-above
+extend_to-requires-clause-above c =
     let (picture, stacked, runs, alike) = c.requires.drawn in
     let state = c.loop-run.invariant.stacked picture stacked runs alike in
     let (_, under) = IsStripUnder-named _ _ _ state (omega arith) (c.in-Some.ensures.found.0 refl) c.in-Some.ensures.strip in
@@ -37,38 +37,38 @@ pub returns-in_err-run-in-None-clause-too_many : goal.returns-in_err-run-in-None
 returns-in_err-run-in-None-clause-too_many c = on_err c.from_residual.result (λ picture stacked runs alike.
     let state = c.loop-run.invariant.stacked picture stacked runs alike in
     let within : c.loop-run.run-index < length c.loop-run.row = omega arith in
-    let passed = c.skip-place.ensures in
+    let passed = c.first_at_or_after-index.ensures in
     let begins = BeginsAt-found _ _ state within passed.passed passed.stopped (λ stands. false≢true (c.in-None.ensures.found.1 stands)) in
     omega (arith, length-lt-tile_count_of_row _ state within begins, c.in_err-run-in-None.ensures.too_many.0 refl, c.loop-run.strips.ok.0))
 
 pub loop-run-preserved : goal.loop-run-preserved
 loop-run-preserved c =
     let within : c.loop-run.run-index < length c.loop-run.row = omega arith in
-    let passed = c.skip-place.ensures in
+    let passed = c.first_at_or_after-index.ensures in
     elim c.match-strip_below.branch [
       | in-Some w ↦
           let strip = w.index_mut.result.now in
-          let written = w.raise.ensures ∙ ap (raised c.args.top) w.index_mut.ensures.value in
+          let written = w.extend_to.ensures ∙ ap (extended c.args.top) w.index_mut.ensures.value in
           let items = ap (λ strips. strips.items) w.strips-is ∙ ap (set c.loop-run.strips.items w.in-Some.strip) written in
           record {
             within = omega (arith, c.loop-run.invariant.within, ap vec_len w.strips-is);
             room = ap vec_capacity w.strips-is ∙ c.loop-run.invariant.room;
-            place_within = passed.within;
+            index_within = passed.within;
             stacked = λ picture stacked runs alike.
                 let state = c.loop-run.invariant.stacked picture stacked runs alike in
                 let (strip_within, under) = IsStripUnder-named _ _ _ state within (w.in-Some.ensures.found.0 refl) w.in-Some.ensures.strip in
-                rw (w.run-is, items) (IsRowStacked-raised _ strip _ _ state within passed.passed strip_within (under strip));
+                rw (w.run-is, items) (IsRowStacked-extended _ strip _ _ state within passed.passed strip_within (under strip));
           }
       | in-None+in_ok-run-in-None w ↦
-          let begun = w.in_ok-run-in-None.ensures in
+          let pushed = w.in_ok-run-in-None.ensures in
           record {
-            within = omega (arith, begun.within, ap vec_len w.strips-is);
-            room = ap vec_capacity w.strips-is ∙ begun.room ∙ c.loop-run.invariant.room;
-            place_within = passed.within;
+            within = omega (arith, pushed.within, ap vec_len w.strips-is);
+            room = ap vec_capacity w.strips-is ∙ pushed.room ∙ c.loop-run.invariant.room;
+            index_within = passed.within;
             stacked = λ picture stacked runs alike.
                 let state = c.loop-run.invariant.stacked picture stacked runs alike in
                 let begins = BeginsAt-found _ _ state within passed.passed passed.stopped (λ stands. false≢true (w.in-None.ensures.found.1 stands)) in
-                rw (w.run-is, begun.index, c.loop-run.strips.ok.0, w.strips-is, begun.begun) (IsRowStacked-begun _ _ state within passed.passed begins);
+                rw (w.run-is, pushed.index, c.loop-run.strips.ok.0, w.strips-is, pushed.pushed) (IsRowStacked-new_strip _ _ state within passed.passed begins);
           }
     ]
 

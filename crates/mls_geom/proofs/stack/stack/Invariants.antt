@@ -1,7 +1,7 @@
 use Rattle.std.proofs.Common.{◌≡◌, ◌≤◌, length, vec_capacity, vec_len}
 use Rattle.mls_geom.specs.Pictures.{Picture}
-use Rattle.mls_geom.specs.Rows.{AreRuns}
-use Rattle.mls_geom.specs.Stacks.{AreAlike, AreStacked}
+use Rattle.mls_geom.specs.Sweep.Rows.{AreRuns}
+use Rattle.mls_geom.specs.Sweep.Stacks.{AreAlike, AreStacked}
 use Rattle.mls_geom.specs.World.{world}
 use Rattle.mls_geom.proofs.RowStacking.{IsRowStacked}
 use Rattle.mls_geom.proofs.stack.stack.Given as goal
@@ -10,7 +10,7 @@ abbrev pub invariant-loop-run : goal.invariant-loop-run
 invariant-loop-run l = record {
   within : vec_len l.strips ≤ l.limit;
   room : vec_capacity l.strips ≡ vec_capacity l.fn.strips;
-  place_within : l.place ≤ length l.below;
+  index_within : l.index ≤ length l.below;
   stacked : (picture : Picture) → AreStacked world picture l.bottom l.fn.strips.items l.fn.below → AreRuns world picture l.bottom l.fn.row → AreAlike world picture l.bottom l.top
-      → IsRowStacked world picture l.bottom l.top l.below l.row l.place l.run-index l.strips.items;
+      → IsRowStacked world picture l.bottom l.top l.below l.row l.index l.run-index l.strips.items;
 }

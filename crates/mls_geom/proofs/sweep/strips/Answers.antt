@@ -2,7 +2,7 @@
 use Rattle.std.proofs.Common.{◌≡◌, ℕ, vec_len, length, refl, ap, ◌∙◌, arith}
 use Rattle.std.proofs.lemmas.List.{length-append}
 use Rattle.mls_geom.specs.Pictures.{overlaid, picture_of}
-use Rattle.mls_geom.specs.SweepRooms.{HasSweepRoom}
+use Rattle.mls_geom.specs.Sweep.SweepRooms.{HasSweepRoom}
 use Rattle.mls_geom.specs.World.{world}
 use Rattle.mls_geom.proofs.PiecePictures.{picture_of_both, space_outside}
 use Rattle.mls_geom.proofs.StripPictures.{picture_of_strips}
@@ -11,8 +11,8 @@ use Rattle.mls_geom.proofs.sweep.strips.Goals as goal
 use Rattle.mls_geom.proofs.sweep.strips.Goals.{After-gather}
 
 -- what the gathered pieces show, and the room that is left as it was
-shown : (c : After-gather) → picture_of c.gather.new.self.pieces.items ≡ overlaid (picture_of c.args.cover.now) c.args.over.now
-shown c = picture_of_both c.gather.new.self.pieces.items c.args.cover.now c.args.over.now c.gather.ensures.pieces
+gathered_picture : (c : After-gather) → picture_of c.gather.new.self.pieces.items ≡ overlaid (picture_of c.args.cover.now) c.args.over.now
+gathered_picture c = picture_of_both c.gather.new.self.pieces.items c.args.cover.now c.args.over.now c.gather.ensures.pieces
 
 room : (c : After-gather) → HasSweepRoom c.gather.new.self c.args.scratch.now.room
 room c = rw (ap (λ kept. kept.room) c.scratch.view_is) at (c.gather.ensures.room _ c.scratch.invariant.0)
@@ -30,7 +30,7 @@ invariant_of-scratch c = (c.find_strips.ensures.room _ (c.gather.ensures.room _ 
 
 pub returns-in_err-find_strips-clause-too_many : goal.returns-in_err-find_strips-clause-too_many
 returns-in_err-find_strips-clause-too_many c =
-    let same = shown (goal.at.returns-in_err-find_strips-clause-too_many c).After-gather in
+    let same = gathered_picture (goal.at.returns-in_err-find_strips-clause-too_many c).After-gather in
     (λ _. rw same at (c.in_err-find_strips.ensures.too_many.0 refl), λ _. c.from_residual.ensures.0)
 
 pub invariant_of-scratch-2 : goal.invariant_of-scratch-2
@@ -49,16 +49,16 @@ invariant_of-scratch-2 c =
     )
 
 pub returns-clause-strips : goal.returns-clause-strips
-returns-clause-strips c = rw (← shown (goal.at.returns-clause-strips c).After-gather, c.swap.ensures.x_after) c.in_ok-find_strips.ensures.strips
+returns-clause-strips c = rw (← gathered_picture (goal.at.returns-clause-strips c).After-gather, c.swap.ensures.x_after) c.in_ok-find_strips.ensures.strips
 
 pub returns-clause-picture : goal.returns-clause-picture
 returns-clause-picture c =
     let outside = λ (x y : ℕ). space_outside world c.gather.new.self.pieces.items x y c.in_ok-find_strips.ensures.legal in
-    rw (← shown (goal.at.returns-clause-picture c).After-gather, c.swap.ensures.x_after) (picture_of_strips world _ _ c.in_ok-find_strips.ensures.strips outside)
+    rw (← gathered_picture (goal.at.returns-clause-picture c).After-gather, c.swap.ensures.x_after) (picture_of_strips world _ _ c.in_ok-find_strips.ensures.strips outside)
 
 pub returns-clause-count : goal.returns-clause-count
 returns-clause-count c =
-    (omega arith, rw (← shown (goal.at.returns-clause-count c).After-gather) (c.len.ensures ∙ ap vec_len c.swap.ensures.x_after ∙ c.in_ok-find_strips.ensures.count))
+    (omega arith, rw (← gathered_picture (goal.at.returns-clause-count c).After-gather) (c.len.ensures ∙ ap vec_len c.swap.ensures.x_after ∙ c.in_ok-find_strips.ensures.count))
 
 pub returns-clause-too_many : goal.returns-clause-too_many
-returns-clause-too_many c = rw (← shown (goal.at.returns-clause-too_many c).After-gather) c.in_ok-find_strips.ensures.too_many
+returns-clause-too_many c = rw (← gathered_picture (goal.at.returns-clause-too_many c).After-gather) c.in_ok-find_strips.ensures.too_many

@@ -1,21 +1,23 @@
-use Rattle.std.proofs.Common.{inr, subst}
-use Rattle.mls_wire.specs.Runs.{Seat}
-use Rattle.mls_wire.specs.Seats.{desk_setting, seat_of}
-use Rattle.mls_wire.specs.Serving.{WritesCutRun}
-use Rattle.mls_magicd.specs.Messages.{serve_fault_line}
-use Rattle.mls_magicd.proofs.MessageLemmas.{Says-more}
+use Rattle.std.proofs.Common.{List, ℕ, inl, inr, ap, subst, sym, ◌∙◌}
+use Rattle.mls_magicd.specs.Messages.{Reports, fault_text, serve_fault_line}
+use Rattle.mls_magicd.specs.Programs.{skipped_lines}
+use Rattle.mls_magicd.proofs.MessageLemmas.{ReportsAll-more}
 use Rattle.mls_magicd.proofs.program.run.Goals as goal
 
-pub returns-in-Ok-clause-failed : goal.returns-in-Ok-clause-failed
-returns-in-Ok-clause-failed g c is =
-    let started = c.in-Ok.ensures.ok in
-    let setting = desk_setting c.in-Ok.solo in
-    let told = c.serve_script.ensures.told is in
-    let left = subst (λ (seat : Seat). WritesCutRun setting seat (g.R.Read.remaining c.args.input.now.device) (g.W.Write.contents c.args.output.now.device)
-    (g.W.Write.contents c.serve_script.new.output.device) (seat_of c.serve_script.new.solo)) started.1 (c.serve_script.ensures.left is) in
-    inr (
-      setting,
-      started.0,
-      (seat_of c.serve_script.new.solo, left),
-      (told.0, told.1, Says-more g.E.Write.contents c.args.faults.now c.start.new.faults c.serve_script.new.faults _ (serve_fault_line told.0) started.2 told.2),
-    )
+pub returns-in-Err-clause-failed : goal.returns-in-Err-clause-failed
+returns-in-Err-clause-failed g c is = elim c.in-Err.ensures.err [
+  | inl start ↦ inl ((c.in-Err.fault, c.serve_words.new.faults, sym c.fail.ensures.status ∙ is, start.0, c.fail.ensures.reported), start.1, start.2)
+  | inr script ↦
+      let message : Reports g.E.Write.contents c.serve_words.new.faults c.fail.new.faults (serve_fault_line script.1) =
+      subst (λ (text : List ℕ). Reports g.E.Write.contents c.serve_words.new.faults c.fail.new.faults text) (ap fault_text script.2) c.fail.ensures.reported in
+      inr (
+        script.0,
+        script.3,
+        (
+          script.1,
+          script.4,
+          ReportsAll-more g.E.Write.contents c.args.faults.now c.serve_words.new.faults c.fail.new.faults
+              (skipped_lines script.0.tech) (serve_fault_line script.1) script.5 message,
+        ),
+      )
+]

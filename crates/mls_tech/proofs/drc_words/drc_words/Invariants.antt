@@ -1,7 +1,7 @@
 use Rattle.std.proofs.Common.{◌≡◌, ◌++◌, length}
 use Rattle.std.specs.Option.{option_map}
 use Rattle.mls_tech.specs.DrcLines.{Between, words_from}
-use Rattle.mls_tech.specs.DrcViews.{word_bytes}
+use Rattle.mls_tech.specs.Inner.DrcViews.{word_bytes}
 use Rattle.mls_tech.proofs.drc_words.drc_words.Given as goal
 
 abbrev pub invariant-loop-words : goal.invariant-loop-words

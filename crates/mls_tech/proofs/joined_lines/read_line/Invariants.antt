@@ -1,6 +1,7 @@
 -- The text so far stands in front of the lines ahead, and those have fewer bytes.
 use Rattle.std.proofs.Common.{◌≡◌, ◌+◌, ◌≤◌, length}
-use Rattle.mls_tech.specs.FileLines.{joined_from, joined_to, raw_lines}
+use Rattle.mls_tech.specs.FileLines.{joined_from, joined_to}
+use Rattle.mls_text.specs.Lines.{raw_lines}
 use Rattle.mls_tech.proofs.joined_lines.read_line.Given as goal
 
 abbrev pub invariant-loop-raw : goal.invariant-loop-raw

@@ -1,40 +1,37 @@
 use Rattle.std.proofs.Common.{arith, ◌∙◌}
-use Rattle.std.specs.Option.{option_map}
-use Rattle.mls_wire.proofs.ServingLemmas.{on_err, TakesAs, served_more, served_all, served_before, served_within, takes_line, takes_too_long, line_in_setting, cut_in_setting}
-use Rattle.mls_wire.specs.Readings.{script_ahead}
-use Rattle.mls_wire.specs.Seats.{seat_of}
+use Rattle.mls_wire.proofs.ServingLemmas.{served_all, failed_within, line_done, last_done, line_cut, last_cut}
+use Rattle.mls_wire.specs.Solos.{open_session_of, setting_of}
 use Rattle.mls_wire.proofs.serving.serve.Goals as goal
-use Rattle.mls_wire.proofs.serving.serve.Goals.{in-TooLong, in-Line}
 
 pub returns-in_err-next_line-clause-cut : goal.returns-in_err-next_line-clause-cut
 returns-in_err-next_line-clause-cut g c =
-    on_err _ _ (served_before _ _ (seat_of c.lines.solo) c.lines.n _ _ _ _ c.lines.invariant.served)
+    failed_within c.from_residual.result _ _ (open_session_of c.lines.solo) c.lines.n _ _ _ _ _ c.from_residual.ensures c.lines.invariant.served c.in_err-next_line.ensures.begun
 
 pub returns-in-End-clause-run : goal.returns-in-End-clause-run
 returns-in-End-clause-run g c =
-    served_all _ _ (seat_of c.lines.solo) c.lines.n _ _ _ _ _ _ c.lines.invariant.served (rw c.in-End.is at c.in_ok-next_line.ensures.taken)
+    served_all _ _ (open_session_of c.lines.solo) c.lines.n _ _ _ _ _ _ c.lines.invariant.served (rw c.in-End.is at c.in_ok-next_line.ensures.taken)
+
+pub returns-in-LastLine-clause-run : goal.returns-in-LastLine-clause-run
+returns-in-LastLine-clause-run g c =
+    last_done (setting_of c.args.solo.now) (setting_of c.lines.solo) c.lines.invariant.setting _ (open_session_of c.lines.solo) (open_session_of c.serve_line.new.solo) c.lines.n _ _ c.line.ensures
+    _ _ _ _ _ c.lines.invariant.served c.serve_line.result _ (rw c.in-LastLine.is at c.in_ok-next_line.ensures.taken) c.serve_line.ensures.done
+
+pub returns-in-LastLine-clause-cut : goal.returns-in-LastLine-clause-cut
+returns-in-LastLine-clause-cut g c =
+    last_cut (setting_of c.args.solo.now) (setting_of c.lines.solo) c.lines.invariant.setting _ (open_session_of c.lines.solo) (open_session_of c.serve_line.new.solo) c.lines.n _ _ c.line.ensures
+    _ _ _ _ _ c.lines.invariant.served _ _ c.in_ok-next_line.ensures.within c.serve_line.result (rw c.in-LastLine.is at c.in_ok-next_line.ensures.taken) c.serve_line.ensures.kind c.serve_line.ensures.cut
+
+pub returns-in_err-serve_line-in-Line-clause-cut : goal.returns-in_err-serve_line-in-Line-clause-cut
+returns-in_err-serve_line-in-Line-clause-cut g c =
+    let cut = c.in_err-serve_line-in-Line.ensures in
+    line_cut (setting_of c.args.solo.now) (setting_of c.lines.solo) c.lines.invariant.setting _ (open_session_of c.lines.solo) (open_session_of c.serve_line-in-Line.new.solo) c.lines.n _ _ c.line-in-Line.ensures
+    _ _ _ _ _ c.lines.invariant.served _ _ c.in_ok-next_line.ensures.within c.from_residual-in_err-serve_line-in-Line.result c.in_err-serve_line-in-Line.field-0.0
+    c.from_residual-in_err-serve_line-in-Line.ensures cut.kind (rw c.in-Line.is at c.in_ok-next_line.ensures.taken) cut.cut
 
 pub lines-preserved : goal.lines-preserved
-lines-preserved g c =
-    let taken : TakesAs (script_ahead c.lines.reader (g.R.Read.remaining c.lines.input.device)) (script_ahead c.next_line.new.self (g.R.Read.remaining c.next_line.new.input.device)) (option_map (λ bytes. bytes.now) c.match-branch-2.line) =
-    elim c.match-branch-2.branch [
-      | in-TooLong w ↦ rw w.line-is (takes_too_long _ _ _ (rw w.in-TooLong.is at c.in_ok-next_line.ensures.taken))
-      | in-Line w ↦ rw (w.line-is, w.line.ensures) (takes_line _ _ _ (rw w.in-Line.is at c.in_ok-next_line.ensures.taken))
-    ] in
-    record {
-      served = served_more _ _ (seat_of c.lines.solo) (seat_of c.serve_line.new.solo) c.lines.n _ _ _ _ _ _ _ c.lines.invariant.served taken
-          (line_in_setting _ _ c.lines.invariant.setting (seat_of c.lines.solo) (seat_of c.serve_line.new.solo) _ _ _ _ c.in_ok-serve_line.ensures.done);
-      setting = c.serve_line.ensures.setting ∙ c.lines.invariant.setting;
-      numbered = omega (arith, c.in_ok-next_line.ensures.fewer);
-    }
-
-pub returns-in_err-serve_line-clause-cut : goal.returns-in_err-serve_line-clause-cut
-returns-in_err-serve_line-clause-cut g c =
-    let taken : TakesAs (script_ahead c.lines.reader (g.R.Read.remaining c.lines.input.device)) (script_ahead c.next_line.new.self (g.R.Read.remaining c.next_line.new.input.device)) (option_map (λ bytes. bytes.now) c.match-branch-2.line) =
-    elim c.match-branch-2.branch [
-      | in-TooLong w ↦ rw w.line-is (takes_too_long _ _ _ (rw w.in-TooLong.is at c.in_ok-next_line.ensures.taken))
-      | in-Line w ↦ rw (w.line-is, w.line.ensures) (takes_line _ _ _ (rw w.in-Line.is at c.in_ok-next_line.ensures.taken))
-    ] in
-    on_err _ _
-    (served_within _ _ (seat_of c.lines.solo) (seat_of c.serve_line.new.solo) c.lines.n _ _ _ _ _ _ _ c.lines.invariant.served taken
-    (cut_in_setting _ _ c.lines.invariant.setting (seat_of c.lines.solo) (seat_of c.serve_line.new.solo) _ _ _ _ c.in_err-serve_line.ensures.cut))
+lines-preserved g c = record {
+  served = line_done (setting_of c.args.solo.now) (setting_of c.lines.solo) c.lines.invariant.setting _ (open_session_of c.lines.solo) (open_session_of c.serve_line-in-Line.new.solo) c.lines.n _ _ c.line-in-Line.ensures
+      _ _ _ _ _ c.lines.invariant.served _ (rw c.in-Line.is at c.in_ok-next_line.ensures.taken) c.in_ok-serve_line-in-Line.ensures.done;
+  setting = c.serve_line-in-Line.ensures.setting ∙ c.lines.invariant.setting;
+  numbered = omega (arith, c.in_ok-next_line.ensures.fewer);
+}

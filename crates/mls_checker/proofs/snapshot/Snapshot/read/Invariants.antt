@@ -1,4 +1,4 @@
--- The copies so far are those of the planes so far.
+-- The copies so far are those of the planes read so far.
 use Rattle.std.proofs.Common.{take}
 use Rattle.std.specs.List.{AllZip}
 use Rattle.mls_checker.specs.Copies.{AreOfZone}

@@ -1,4 +1,4 @@
--- All are copies if those that are left are.
+-- All grids are copies of their planes if those not yet compared are.
 use Rattle.std.proofs.Common.{◌≡◌, ◌↔◌, length}
 use Rattle.std.specs.List.{AllZip}
 use Rattle.std.specs.Iterator.Adapters.{zip_first, zip_second}

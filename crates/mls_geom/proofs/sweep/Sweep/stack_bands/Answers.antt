@@ -3,8 +3,8 @@ use Rattle.std.proofs.Common.{◌≡◌, ◌+◌, ◌-◌, ◌≤◌, length, ge
 use Rattle.std.proofs.lemmas.List.{get_or_read, with_items_is}
 use Rattle.std.proofs.lemmas.Result.{err_from_is_err_and}
 use Rattle.mls_geom.specs.Pictures.{picture_of}
-use Rattle.mls_geom.specs.Rows.{AreRuns}
-use Rattle.mls_geom.specs.Stacks.{AreStacked}
+use Rattle.mls_geom.specs.Sweep.Rows.{AreRuns}
+use Rattle.mls_geom.specs.Sweep.Stacks.{AreStacked}
 use Rattle.mls_geom.specs.World.{world}
 use Rattle.mls_geom.proofs.Activation.{ArePartedAt-starts, ArePartedAt-up}
 use Rattle.mls_geom.proofs.BandLines.{IsBand-lines, IsLineOf-lines, first_line, last_line}

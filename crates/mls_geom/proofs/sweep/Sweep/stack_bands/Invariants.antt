@@ -1,9 +1,9 @@
 use Rattle.std.proofs.Common.{◌≡◌, ℕ, ◌+◌, ◌-◌, ◌*◌, ◌≤◌, length, slice_index, vec_len, vec_capacity}
-use Rattle.mls_geom.specs.ActivePieces.{ArePartedAt}
+use Rattle.mls_geom.specs.Sweep.ActivePieces.{ArePartedAt}
 use Rattle.mls_geom.specs.Pictures.{picture_of}
-use Rattle.mls_geom.specs.RowRooms.{HasRowRoom}
-use Rattle.mls_geom.specs.Stacks.{AreStacked}
-use Rattle.mls_geom.specs.SweepRooms.{HasSweepRoom}
+use Rattle.mls_geom.specs.Sweep.RowRooms.{HasRowRoom}
+use Rattle.mls_geom.specs.Sweep.Stacks.{AreStacked}
+use Rattle.mls_geom.specs.Sweep.SweepRooms.{HasSweepRoom}
 use Rattle.mls_geom.specs.World.{world}
 use Rattle.mls_geom.proofs.sweep.Sweep.stack_bands.Given as goal
 

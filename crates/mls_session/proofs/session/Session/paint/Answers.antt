@@ -5,8 +5,8 @@ use Rattle.mls_session.proofs.session.Session.paint.Goals as goal
 
 pub returns-clause-step : goal.returns-clause-step
 returns-clause-step c =
-    let drawing = c.args.self.now in
-    let config = config_of c.args.tech.now drawing in
-    let is_set : drawing.box ≡ Some c.in-Some.rect = sym (ap (λ (kept : Session). kept.box) c.self.view_is) ∙ c.in-Some.is in
+    let session = c.args.self.now in
+    let config = config_of c.args.tech.now session in
+    let is_set : session.box ≡ Some c.in-Some.rect = sym (ap (λ (kept : Session). kept.box) c.self.view_is) ∙ c.in-Some.is in
     let lies_on : config.plane_of c.in-Some-kind.kind ≡ Some c.from.result = sym c.in-Some-plane_of.ensures.value ∙ ap (λ plane. Some plane) (sym c.from.ensures) in
-    paint_step-repaint_step config (state_of drawing) _ _ _ _ _ _ is_set c.in-Some-kind.is lies_on (c.repaint.ensures.step config refl)
+    paint_step-repaint_step config (state_of session) _ _ _ _ _ _ is_set c.in-Some-kind.is lies_on (c.repaint.ensures.step config refl)

@@ -1,5 +1,5 @@
 use Rattle.std.proofs.Common.{◌≡◌, None, ap, refl, ◌∙◌}
-use Rattle.mls_tech.specs.NameTables.{names_in}
+use Rattle.mls_tech.specs.Inner.NameTables.{names_in}
 use Rattle.mls_tech.specs.Readings.{number_named}
 use Rattle.mls_tech.proofs.NameTableLemmas.{names_in-insert_entry}
 use Rattle.mls_tech.proofs.name_table.NameTable.add.Goals as goal

@@ -3,8 +3,8 @@ use Rattle.std.proofs.Common.{◌≡◌, ◌≤◌, ℕ, List, [], ◌++◌, len
 use Rattle.std.specs.Io.KnownBytes.{Appends}
 use Rattle.mls_wire.proofs.watched.Watched.write_whole.Given as goal
 
-abbrev pub invariant-parts : goal.invariant-parts
-invariant-parts g l =
+abbrev pub invariant-chunks : goal.invariant-chunks
+invariant-chunks g l =
     record {
       front : List ℕ;
       whole : l.initial.rest ≡ front ++ l.rest;
@@ -14,5 +14,5 @@ invariant-parts g l =
       calls : l.self.calls_left ≤ l.initial.self.calls_left;
     }
 
-abbrev pub decreases-parts : goal.decreases-parts
-decreases-parts g l = length l.rest
+abbrev pub decreases-chunks : goal.decreases-chunks
+decreases-chunks g l = length l.rest

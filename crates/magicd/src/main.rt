@@ -1,0 +1,41 @@
+//! `magicd`: a layout server on standard input and output.
+#![tactic(auto)]
+
+use mls_magicd::{HostFiles, OptionsFault, fail, run};
+use mls_wire::Watched;
+use std::env;
+use std::io::ErrorKind;
+use std::process::ExitCode;
+
+fn main(rt: HostRuntime) -> ExitCode {
+    let mut input = Watched::new(rt.stdin());
+    let mut output = Watched::new(rt.stdout());
+    let mut faults = Watched::new(rt.stderr());
+    let status = match command_line(&rt) {
+        Ok(words) => run(
+            rt.alloc(),
+            words.as_slice(),
+            &HostFiles::new(&rt),
+            &mut input,
+            &mut output,
+            &mut faults,
+        ),
+        Err(fault) => fail(&mut faults, &fault.into()),
+    };
+    ExitCode::from(status)
+}
+
+/// Returns the words of the command line, of which the first is the program's name.
+fn command_line(rt: &HostRuntime) -> Result<Vec<String>, OptionsFault> {
+    match env::args(rt) {
+        Ok(words) => Ok(words.collect(rt.alloc())?),
+        Err(error) if error.kind() == ErrorKind::OutOfMemory => Err(OptionsFault::Memory),
+        Err(_) => {
+            let text = String::from_str(
+                rt.alloc(),
+                "magicd: a word of the command line is not UTF-8\n",
+            )?;
+            Err(OptionsFault::Refused(text))
+        }
+    }
+}

@@ -1,0 +1,7 @@
+-- The parts so far are joined.
+use Rattle.std.proofs.Common.{◌≡◌, take}
+use Rattle.std.specs.List.{flat_map}
+use Rattle.mls_magicd.proofs.messages.joined.Given as goal
+
+abbrev pub invariant-loop-part : goal.invariant-loop-part
+invariant-loop-part l = l.message.items ≡ flat_map (λ part. part.now) (take l.part-index l.parts)

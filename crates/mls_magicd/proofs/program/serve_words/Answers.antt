@@ -1,0 +1,15 @@
+use Rattle.std.proofs.Common.{inr, refl, subst}
+use Rattle.std.proofs.lemmas.Result.{err_from_is_err_and}
+use Rattle.mls_wire.specs.Runs.{OpenSession}
+use Rattle.mls_wire.specs.Solos.{open_session_of, setting_of}
+use Rattle.mls_wire.specs.Serving.{WritesCutRun}
+use Rattle.mls_magicd.proofs.program.serve_words.Goals as goal
+
+pub returns-in_err-serve-clause-err : goal.returns-in_err-serve-clause-err
+returns-in_err-serve-clause-err g c =
+    let fault = err_from_is_err_and c.from_residual-in_err-serve.result c.from_residual-in_err-serve.ensures.1 in
+    let started = c.in_ok-solo.ensures.ok in
+    let setting = setting_of c.in_ok-solo.solo in
+    let left = subst (λ (session : OpenSession). WritesCutRun setting session c.in_err-serve.field-0.0 (g.R.Read.remaining c.args.input.now.device) (g.R.Read.remaining c.serve.new.input.device) (g.W.Write.contents c.args.output.now.device)
+    (g.W.Write.contents c.serve.new.output.device) (open_session_of c.serve.new.solo)) started.1 c.in_err-serve.ensures.cut in
+    rw fault.1 (inr (setting, c.in_err-serve.field-0.0, fault.2, started.0, ((open_session_of c.serve.new.solo, left), c.in_err-serve.ensures.cause), started.2))

@@ -1,0 +1,85 @@
+//! Why the program fails.
+ghost use Rattle.std.specs.Prelude.{◌≡◌};
+
+use crate::{OptionsFault, TechnologyFault};
+use mls_edgerule::RuleFault;
+use mls_wire::ServeFault;
+use thiserror::Error;
+
+/// The exit status where a file is bad or can't be read, or a stream or memory failed.
+const FAILED: u8 = 1;
+
+/// The exit status where the words of the command line are refused.
+const BAD_COMMAND_LINE: u8 = 2;
+
+/// Why the program ends before it has served the whole script.
+#[derive(Debug, Drop, Error)]
+pub enum Fault<'a> {
+    /// The command line is refused.
+    #[error(transparent)]
+    Options(OptionsFault),
+    /// There is no technology.
+    #[error(transparent)]
+    Technology(TechnologyFault<'a>),
+    /// A rule line of the technology can't be compiled.
+    #[error(transparent)]
+    Rule(RuleFault),
+    /// The script was left before its end.
+    #[error(transparent)]
+    Serve(ServeFault),
+}
+
+impl From<OptionsFault> for Fault<'_> {
+    ghost use Rattle.mls_magicd.specs.declared.fault.Fault.TheVariants.{Options};
+
+    ghost from_gives = { λ cause fault. fault ≡ Options cause };
+
+    fn from(cause: OptionsFault) -> Self {
+        Fault::Options(cause)
+    }
+}
+
+impl<'a> From<TechnologyFault<'a>> for Fault<'a> {
+    ghost use Rattle.mls_magicd.specs.declared.fault.Fault.TheVariants.{Technology};
+
+    ghost from_gives = { λ cause fault. fault ≡ Technology cause };
+
+    fn from(cause: TechnologyFault<'a>) -> Self {
+        Fault::Technology(cause)
+    }
+}
+
+impl From<RuleFault> for Fault<'_> {
+    ghost use Rattle.mls_magicd.specs.declared.fault.Fault.TheVariants.{Rule};
+
+    ghost from_gives = { λ cause fault. fault ≡ Rule cause };
+
+    fn from(cause: RuleFault) -> Self {
+        Fault::Rule(cause)
+    }
+}
+
+impl From<ServeFault> for Fault<'_> {
+    ghost use Rattle.mls_magicd.specs.declared.fault.Fault.TheVariants.{Serve};
+
+    ghost from_gives = { λ cause fault. fault ≡ Serve cause };
+
+    fn from(cause: ServeFault) -> Self {
+        Fault::Serve(cause)
+    }
+}
+
+impl Fault<'_> {
+    ghost use Rattle.mls_magicd.specs.Programs.{status_after};
+
+    /// The exit status that the fault ends the program with: 1 or 2.
+    pub fn status(&self) -> u8
+        ensures { result ≡ status_after self.now }
+    {
+        match self {
+            Fault::Options(OptionsFault::Refused(_)) => BAD_COMMAND_LINE,
+            Fault::Options(OptionsFault::Memory) => FAILED,
+            Fault::Technology(_) | Fault::Rule(_) | Fault::Serve(_) => FAILED,
+        }
+    }
+}

@@ -1,0 +1,16 @@
+//! The layout server `magicd` as a library: its command line, its files, its messages, and the whole program over any
+//! streams.
+#![tactic(auto)]
+
+mod fault;
+mod files;
+mod messages;
+mod options;
+mod program;
+mod technology;
+
+pub use fault::Fault;
+pub use files::{FileFault, Files, HostFiles};
+pub use options::OptionsFault;
+pub use program::{fail, run};
+pub use technology::TechnologyFault;

@@ -1,0 +1,287 @@
+//! Layouts whose forbidden squares were worked out by hand.
+ghost use Rattle.std.specs.Prelude.{◌≤◌, length};
+
+use mls_checker::{Snapshot, check, why};
+use mls_edgerule::{Rules, compile};
+use mls_geom::{Cover, Piece, Point, Rect, RectFault, Scratch};
+use mls_tech::{TECHNOLOGY_M, Tech};
+use std::alloc::Global;
+use std::process::Abort;
+use std::test::Fail;
+
+const POLY: u8 = 1;
+
+const NDIFF: u8 = 2;
+
+const M1: u8 = 3;
+
+/// The even coordinates from -8 to 14.
+const EVEN: [i32; 12] = [-8, -6, -4, -2, 0, 2, 4, 6, 8, 10, 12, 14];
+
+/// Four coordinates: left, bottom, right and top.
+type Sides = (i32, i32, i32, i32);
+
+/// The rules of a technology file.
+pub fn rules_of(alloc: Global, file: &[u8]) -> Result<Rules, Fail> {
+    Ok(compile(&Tech::read(alloc, file)?)?)
+}
+
+/// A rectangle.
+fn rect(sides: Sides) -> Result<Rect, RectFault> {
+    let (left, bottom, right, top) = sides;
+    Rect::new(left, bottom, right, top)
+}
+
+/// A rectangle of squares of one kind.
+pub fn piece(kind: u8, sides: Sides) -> Result<Piece, RectFault> {
+    Ok(Piece {
+        rect: rect(sides)?,
+        kind,
+    })
+}
+
+/// An empty plane with pieces painted over it.
+pub fn painted(alloc: Global, pieces: &[Piece]) -> Result<Cover, Fail>
+    requires { length pieces.now ≤ 16 }
+{
+    let mut cover = Cover::new(alloc, 100)?;
+    cover.overlay(pieces, 100, &mut Scratch::new(alloc, 100)?)?;
+    Ok(cover)
+}
+
+/// The planes of technology M, with pieces on the plane of poly and diffusion alone.
+fn active(alloc: Global, pieces: &[Piece]) -> Result<[Cover; 2], Fail>
+    requires { length pieces.now ≤ 16 }
+{
+    Ok([painted(alloc, pieces)?, painted(alloc, &[])?])
+}
+
+/// Whether the square is in one of the rectangles.
+fn is_in(rectangles: &[Sides], x: i32, y: i32) -> bool {
+    rectangles.iter().any(|(left, bottom, right, top)| *left <= x
+        && x < *right
+        && *bottom <= y
+        && y < *top)
+}
+
+/// Asserts that the marked squares of a piece are those of its squares that lie in the rectangles.
+fn expect_in_piece(
+    rt: &impl Abort,
+    alloc: Global,
+    rules: &Rules,
+    planes: &[Cover],
+    piece: Rect,
+    marked: &[Sides],
+) -> Result<(), Fail> {
+    let snapshot = Snapshot::read(alloc, planes, piece.grow(rules.halo()))?;
+    assert!(rt; snapshot.same(planes));
+    let finding = check(alloc, rules, snapshot, piece)?;
+    for y in piece.bottom()..piece.top() {
+        for x in piece.left()..piece.right() {
+            let square = Point::new(x, y).ok_or("no square")?;
+            let is_marked = finding.marks().is_marked(square);
+            assert_eq!(rt; is_marked, is_in(marked, x, y), "at {x}, {y}");
+        }
+    }
+    Ok(())
+}
+
+/// Asserts the same in technology M, of a piece that holds the whole layout and of pieces of 2 by 2 squares.
+fn expect_marks(
+    rt: &impl Abort,
+    alloc: Global,
+    pieces: &[Piece],
+    marked: &[Sides],
+) -> Result<(), Fail>
+    requires { length pieces.now ≤ 16 }
+{
+    let rules = rules_of(alloc, TECHNOLOGY_M)?;
+    let planes = active(alloc, pieces)?;
+    let whole = rect((-8, -8, 16, 16))?;
+    expect_in_piece(rt, alloc, &rules, &planes, whole, marked)?;
+    for bottom in EVEN {
+        for left in EVEN {
+            let (right, top) = (left.saturating_add(2), bottom.saturating_add(2));
+            let small = rect((left, bottom, right, top))?;
+            expect_in_piece(rt, alloc, &rules, &planes, small, marked)?;
+        }
+    }
+    Ok(())
+}
+
+/// The rules of technology M that forbid a square of a rectangle, in a layout of these pieces.
+fn violated(alloc: Global, pieces: &[Piece], sides: Sides) -> Result<u128, Fail>
+    requires { length pieces.now ≤ 16 }
+{
+    let looked = rect(sides)?;
+    let rules = rules_of(alloc, TECHNOLOGY_M)?;
+    let planes = active(alloc, pieces)?;
+    let snapshot = Snapshot::read(alloc, &planes, looked.grow(rules.halo()))?;
+    Ok(why(&rules, &snapshot, looked))
+}
+
+#[test]
+fn thin_bar(rt: HostRuntime) -> Result<(), Fail> {
+    let bar = [piece(POLY, (0, 0, 1, 10))?];
+    expect_marks(&rt, rt.alloc(), &bar, &[(1, 0, 2, 10)])?;
+    assert_eq!(rt; violated(rt.alloc(), &bar, (0, 0, 2, 10))?, 0b1);
+    Ok(())
+}
+
+#[test]
+fn close_bars(rt: HostRuntime) -> Result<(), Fail> {
+    let bars = [piece(POLY, (0, 0, 2, 10))?, piece(POLY, (4, 0, 6, 10))?];
+    expect_marks(&rt, rt.alloc(), &bars, &[(1, 0, 2, 10), (4, 0, 5, 10)])
+}
+
+#[test]
+fn diagonal_squares(rt: HostRuntime) -> Result<(), Fail> {
+    let squares = [piece(POLY, (0, 0, 2, 2))?, piece(POLY, (3, 3, 5, 5))?];
+    expect_marks(&rt, rt.alloc(), &squares, &[(0, 0, 2, 2), (3, 3, 5, 5)])
+}
+
+#[test]
+fn poly_beside_diffusion(rt: HostRuntime) -> Result<(), Fail> {
+    let pieces = [piece(POLY, (0, 0, 2, 4))?, piece(NDIFF, (2, 0, 4, 4))?];
+    expect_marks(&rt, rt.alloc(), &pieces, &[(2, 0, 3, 4)])
+}
+
+#[test]
+fn inner_corner(rt: HostRuntime) -> Result<(), Fail> {
+    let pieces = [piece(POLY, (2, 0, 4, 2))?, piece(POLY, (0, 2, 3, 4))?];
+    expect_marks(&rt, rt.alloc(), &pieces, &[(3, 2, 4, 4)])?;
+    assert_eq!(rt; violated(rt.alloc(), &pieces, (3, 2, 4, 4))?, 0b1);
+    Ok(())
+}
+
+#[test]
+fn diffusion_in_a_world_of_poly(rt: HostRuntime) -> Result<(), Fail> {
+    let pieces = [
+        piece(POLY, (-32768, -32768, 32768, 32768))?,
+        piece(NDIFF, (-32768, -32768, -32767, -32767))?,
+    ];
+    let corner = (-32768, -32768, -32760, -32760);
+    assert_eq!(rt; violated(rt.alloc(), &pieces, corner)?, 0b100);
+    Ok(())
+}
+
+/// Technology M, with a rule that metal over poly breaks at its edges to all sides.
+const FOUR_SIDES: &[u8] = b"planes
+ active,a
+ metal1
+end
+types
+ active poly,p
+ active ndiff,nd
+ metal1 m1
+end
+drc
+ edge4way space m1 1 space,ndiff 0 0 \"m1 edge over poly\" active
+end
+";
+
+/// The same of its left and lower edges alone.
+const TWO_SIDES: &[u8] = b"planes
+ active,a
+ metal1
+end
+types
+ active poly,p
+ active ndiff,nd
+ metal1 m1
+end
+drc
+ edge space m1 1 space,ndiff 0 0 \"m1 edge over poly\" active
+end
+";
+
+#[test]
+fn metal_over_poly(rt: HostRuntime) -> Result<(), Fail> {
+    let poly = [piece(POLY, (0, 0, 4, 4))?];
+    let metal = [piece(M1, (0, 0, 4, 4))?];
+    let planes = [painted(rt.alloc(), &poly)?, painted(rt.alloc(), &metal)?];
+    let whole = rect((-8, -8, 8, 8))?;
+    let four = rules_of(rt.alloc(), FOUR_SIDES)?;
+    let ring = [(0, 0, 4, 1), (0, 3, 4, 4), (0, 1, 1, 3), (3, 1, 4, 3)];
+    expect_in_piece(&rt, rt.alloc(), &four, &planes, whole, &ring)?;
+    let two = rules_of(rt.alloc(), TWO_SIDES)?;
+    let corner = [(0, 0, 1, 4), (1, 0, 4, 1)];
+    expect_in_piece(&rt, rt.alloc(), &two, &planes, whole, &corner)
+}
+
+#[test]
+fn corners_of_the_world(rt: HostRuntime) -> Result<(), Fail> {
+    let bars = [
+        piece(POLY, (-32768, -32768, -32767, -32758))?,
+        piece(POLY, (-32768, 32758, -32767, 32768))?,
+        piece(POLY, (32767, -32768, 32768, -32758))?,
+        piece(POLY, (32767, 32758, 32768, 32768))?,
+    ];
+    let marked = [
+        (-32767, -32768, -32766, -32758),
+        (-32767, 32758, -32766, 32768),
+    ];
+    let rules = rules_of(rt.alloc(), TECHNOLOGY_M)?;
+    let planes = active(rt.alloc(), &bars)?;
+    for corner in [
+        (-32768, -32768, -32752, -32752),
+        (-32768, 32752, -32752, 32768),
+        (32752, -32768, 32768, -32752),
+        (32752, 32752, 32768, 32768),
+    ] {
+        expect_in_piece(&rt, rt.alloc(), &rules, &planes, rect(corner)?, &marked)?;
+    }
+    Ok(())
+}
+
+/// Four planes with a type each, the first of them with the widest rules that there may be.
+const WIDE_RULES: &[u8] = b"planes
+ p0
+ p1
+ p2
+ p3
+end
+types
+ p0 wide
+ p1 b
+ p2 c
+ p3 top
+end
+drc
+ width wide 100 \"wide\"
+ spacing top top 100 touching_ok \"top apart\"
+ spacing top wide 100 touching_illegal \"top to wide\"
+end
+";
+
+#[test]
+fn largest_piece_and_halo(rt: HostRuntime) -> Result<(), Fail> {
+    let rules = rules_of(rt.alloc(), WIDE_RULES)?;
+    assert_eq!(rt; rules.halo(), 101);
+    let bar = [piece(1, (50, -50, 149, 300))?];
+    let tops = [
+        piece(4, (-200, 0, -40, 256))?,
+        piece(4, (248, 0, 400, 256))?,
+    ];
+    let planes = [
+        painted(rt.alloc(), &bar)?,
+        painted(rt.alloc(), &[])?,
+        painted(rt.alloc(), &[])?,
+        painted(rt.alloc(), &tops)?,
+    ];
+    let marked = [
+        // The bar is one square too thin.
+        (149, 0, 150, 256),
+        // The left top is 90 squares from the bar, whose next 10 columns are too close, as are those of the right top's last.
+        (50, 0, 60, 256),
+        (148, 0, 149, 256),
+    ];
+    expect_in_piece(
+        &rt,
+        rt.alloc(),
+        &rules,
+        &planes,
+        rect((0, 0, 256, 256))?,
+        &marked,
+    )
+}

@@ -1,0 +1,15 @@
+//! Tests of the layers from rectangles to sessions and checks.
+#![tactic(auto)]
+
+#[cfg(test)]
+mod checks;
+#[cfg(test)]
+mod covers;
+#[cfg(test)]
+mod dice;
+#[cfg(test)]
+mod grid;
+#[cfg(test)]
+mod random_checks;
+#[cfg(test)]
+mod sessions;

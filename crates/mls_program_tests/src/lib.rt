@@ -1,0 +1,13 @@
+//! Tests of scripts and of the whole program, over fake files and streams and over the real ones.
+#![tactic(auto)]
+
+#[cfg(test)]
+mod devices;
+#[cfg(test)]
+mod programs;
+#[cfg(test)]
+mod real_files;
+#[cfg(test)]
+mod scripts;
+#[cfg(test)]
+mod streams;

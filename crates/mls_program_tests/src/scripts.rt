@@ -1,0 +1,225 @@
+//! Scripts and their replies.
+use crate::devices::ByteReader;
+use mls_session::Quota;
+use mls_tech::{TECHNOLOGY_M, Tech};
+use mls_wire::{LineFault, OpenFault, ReadFault, ServeFault, Solo, Watched, WriteFault, serve};
+use std::alloc::Global;
+use std::io::{Read, Write};
+use std::test::Fail;
+
+/// Serves a script with technology M, and returns the outcome and the output.
+pub fn served<R: Read + Drop, W: Write + Drop>(
+    rt: &HostRuntime,
+    quota: u32,
+    input: R,
+    output: W,
+) -> Result<(Result<(), ServeFault>, W), Fail> {
+    served_with(rt, TECHNOLOGY_M, quota, input, output)
+}
+
+/// Serves a script with the technology of a file.
+fn served_with<R: Read + Drop, W: Write + Drop>(
+    rt: &HostRuntime,
+    file: &[u8],
+    quota: u32,
+    input: R,
+    output: W,
+) -> Result<(Result<(), ServeFault>, W), Fail> {
+    let quota = Quota::new(quota).ok_or("no quota")?;
+    let mut solo = Solo::new(Tech::read(rt.alloc(), file)?, quota);
+    let mut input = Watched::new(input);
+    let mut output = Watched::new(output);
+    let outcome = serve(rt.alloc(), &mut solo, &mut input, &mut output);
+    Ok((outcome, output.into_inner()))
+}
+
+/// Quotas, scripts and their replies.
+const ROWS: [(u32, &str, &str); 8] = [
+    (
+        1024,
+        "%open a\na box 0 0 4 4\na paint poly\na what\n",
+        "a opened\na ok\na ok\na what 1 poly\n",
+    ),
+    (
+        1024,
+        "%open a\na paint poly\na box 5 5 5 9\na box 0 0 40000 2\na box 0 0 1 1\na paint gold\na paint space\n",
+        "a opened\na refused 3 no box\na refused 1 empty box\na refused 2 outside the world\na ok\na refused 4 unknown type\na refused 4 unknown type\n",
+    ),
+    (
+        5,
+        "%open a\na box 0 0 10 10\na paint poly\na box 10 0 20 10\na paint poly\na box 0 20 1 21\na paint poly\na what\n",
+        "a opened\na ok\na ok\na ok\na ok\na ok\na refused 5 quota\na what 0\n",
+    ),
+    (
+        5,
+        "%open a\na box -32768 -32768 32768 32768\na paint p\na box -32768 -32768 -32767 -32767\na paint ndiff\na box 32767 32767 32768 32768\na paint nd\na what\na paint m1\na what\na box 0 0 1 1\na paint ndiff\na what\n",
+        "a opened\na ok\na ok\na ok\na ok\na ok\na ok\na what 1 ndiff\na ok\na what 2 ndiff m1\na ok\na refused 5 quota\na what 1 poly\n",
+    ),
+    // Sessions that can't be opened.
+    (
+        5,
+        "%open a\n%open a\n%open b\nb what\na what\n",
+        "a opened\na refused open 1 open already\nb refused open 2 sessions full\nline 4 fault 4 not open\na refused 3 no box\n",
+    ),
+    // Lines without replies, carriage returns, and a last line without its end.
+    (
+        5,
+        "# a comment\n\n \t\r\n%open a\r\n a \t what \r\na\rb what\na paint space",
+        "a opened\na refused 3 no box\nline 6 fault 3 name\na refused 3 no box\n",
+    ),
+    // Faults of lines, in the order in which they are looked for.
+    (
+        5,
+        "%close a\n%OPEN a\n%open\n%open a b\n%open \u{e9} b\n # x\na\nb box 0 0 4 x\nb what\nb drc check\na what now\na box x 0 4\n",
+        "line 1 fault 1 unknown command\nline 2 fault 1 unknown command\nline 3 fault 3 name\nline 4 fault 1 unknown command\nline 5 fault 3 name\nline 6 fault 3 name\nline 7 fault 1 unknown command\nline 8 fault 2 bad number\nline 9 fault 4 not open\nline 10 fault 1 unknown command\nline 11 fault 1 unknown command\nline 12 fault 1 unknown command\n",
+    ),
+    // Numbers.
+    (
+        5,
+        "%open a\na box 0 0 4 +4\na box 0 0 4 99999999999\na box 0 0 4 2147483648\na box -2147483649 0 4 4\na box -0 0000000000 4 2147483647\na box 0 0 4 -\na box 00000000000 0 4 4\n",
+        "a opened\nline 2 fault 2 bad number\nline 3 fault 2 bad number\nline 4 fault 2 bad number\nline 5 fault 2 bad number\na refused 2 outside the world\nline 7 fault 2 bad number\nline 8 fault 2 bad number\n",
+    ),
+];
+
+#[test]
+fn rows(rt: HostRuntime) -> Result<(), Fail> {
+    for (quota, script, replies) in ROWS {
+        let (outcome, out) = served(&rt, quota, script.as_bytes(), Vec::new(rt.alloc()))?;
+        assert_eq!(rt; outcome, Ok(()));
+        assert_eq!(rt; out.as_slice(), replies.as_bytes(), "after {script}");
+        let bytes = ByteReader::new(script.as_bytes());
+        let (outcome, out) = served(&rt, quota, bytes, Vec::new(rt.alloc()))?;
+        assert_eq!(rt; outcome, Ok(()));
+        assert_eq!(rt;
+            out.as_slice(),
+            replies.as_bytes(),
+            "by bytes after {script}"
+        );
+    }
+    Ok(())
+}
+
+/// Lines by their length, end and first byte.
+const LENGTHS: [(usize, &[u8], u8); 9] = [
+    (1024, b"\n", b'#'),
+    (1024, b"\r\n", b' '),
+    (1025, b"\n", b'#'),
+    (1025, b"\r\n", b' '),
+    (1023, b"\n", b'%'),
+    (4096, b"\n", b'#'),
+    (10000, b"\r\n", b'a'),
+    (0, b"\n", b'#'),
+    (1024, b"\r", b'\t'),
+];
+
+#[test]
+fn lines_of_many_lengths(rt: HostRuntime) -> Result<(), Fail> {
+    let replies = b"line 3 fault 1 unknown command
+line 4 fault 1 unknown command
+line 5 fault 1 unknown command
+line 6 fault 1 unknown command
+line 7 fault 1 unknown command
+"
+        .as_slice();
+    let mut script = Vec::new(rt.alloc());
+    for (length, end, byte) in LENGTHS {
+        let line = vec![in rt.alloc(); byte; length]?;
+        script.extend_from_slice(&line)?;
+        script.extend_from_slice(end)?;
+    }
+    let (outcome, out) = served(&rt, 5, script.as_slice(), Vec::new(rt.alloc()))?;
+    assert_eq!(rt; outcome, Ok(()));
+    assert_eq!(rt; out.as_slice(), replies);
+    let (outcome, out) = served(&rt, 5, ByteReader::new(&script), Vec::new(rt.alloc()))?;
+    assert_eq!(rt; outcome, Ok(()));
+    assert_eq!(rt; out.as_slice(), replies);
+    Ok(())
+}
+
+#[test]
+fn names_of_32_bytes(rt: HostRuntime) -> Result<(), Fail> {
+    let script = b"%open Name_of_32_bytes_0123456789_abcde
+%open Name_of_32_bytes_0123456789_abcd
+Name_of_32_bytes_0123456789_abcd what
+Name_of_32_bytes_0123456789_abcD what
+Name_of_32_bytes_0123456789_abcde what
+"
+        .as_slice();
+    let replies = b"line 1 fault 3 name
+Name_of_32_bytes_0123456789_abcd opened
+Name_of_32_bytes_0123456789_abcd refused 3 no box
+line 4 fault 4 not open
+line 5 fault 3 name
+"
+        .as_slice();
+    let (outcome, out) = served(&rt, 5, script, Vec::new(rt.alloc()))?;
+    assert_eq!(rt; outcome, Ok(()));
+    assert_eq!(rt; out.as_slice(), replies);
+    Ok(())
+}
+
+/// A technology of four planes and 63 types with long names, and a script that looks at all types at once.
+fn all_types(alloc: Global) -> Result<(String, String, String), Fail> {
+    let mut tech = String::from_str(alloc, "planes\np0\np1\np2\np3\nend\ntypes\n")?;
+    let mut script = String::from_str(alloc, "%open a\n")?;
+    let mut reply = String::from_str(alloc, "a what 63")?;
+    for kind in 1..64u8 {
+        let plane = kind % 4;
+        let name = format!(in alloc; "a_type_with_a_name_that_is_quite_long_{kind}")?;
+        tech.push_str(&format!(in alloc; "p{plane} {name},t{kind}\n")?)?;
+        script.push_str(&format!(in alloc; "a box {kind} 0 {kind}9 9\na paint t{kind}\n")?)?;
+        reply.push_str(" ")?;
+        reply.push_str(&name)?;
+    }
+    tech.push_str("end\n")?;
+    script.push_str("a box 0 0 1000 1000\na what\n")?;
+    reply.push_str("\n")?;
+    Ok((tech, script, reply))
+}
+
+#[test]
+fn look_at_63_types(rt: HostRuntime) -> Result<(), Fail> {
+    let (tech, script, reply) = all_types(rt.alloc())?;
+    let out = Vec::new(rt.alloc());
+    let (outcome, out) = served_with(&rt, tech.as_bytes(), 16384, script.as_bytes(), out)?;
+    assert_eq!(rt; outcome, Ok(()));
+    assert!(rt; out.starts_with(b"a opened\na ok\n"));
+    assert!(rt; out.ends_with(reply.as_bytes()));
+    assert_eq!(rt; out.len(), 127 * 5 + 9 + reply.len());
+    Ok(())
+}
+
+#[test]
+fn faults_in_words(rt: HostRuntime) -> Result<(), Fail> {
+    for (fault, text) in [
+        (LineFault::UnknownCommand, "unknown command"),
+        (LineFault::BadNumber, "bad number"),
+        (LineFault::BadName, "name"),
+        (LineFault::NotOpen, "not open"),
+    ] {
+        assert_eq!(rt; format!(in rt.alloc(); "{fault}")?.as_str(), text);
+    }
+    for (fault, text) in [
+        (OpenFault::OpenAlready, "open already"),
+        (OpenFault::SessionsFull, "sessions full"),
+        (OpenFault::Memory, "memory"),
+    ] {
+        assert_eq!(rt; format!(in rt.alloc(); "{fault}")?.as_str(), text);
+    }
+    for (fault, text) in [
+        (ServeFault::Read, "input failed"),
+        (ServeFault::Write, "output failed"),
+        (ServeFault::Memory, "memory"),
+    ] {
+        assert_eq!(rt; format!(in rt.alloc(); "{fault}")?.as_str(), text);
+    }
+    assert_eq!(rt;
+        format!(in rt.alloc(); "{ReadFault}")?.as_str(),
+        "input failed"
+    );
+    assert_eq!(rt;
+        format!(in rt.alloc(); "{WriteFault}")?.as_str(),
+        "output failed"
+    );
+    Ok(())
+}

@@ -1,8 +1,0 @@
-use Rattle.std.proofs.Common.{◌≡◌}
-use Rattle.mls_tech.specs.Readings.{lies_on_plane}
-use Rattle.mls_tech.specs.TypeLists.{bits_of}
-use Rattle.mls_tech.proofs.TypeTests.{below}
-use Rattle.mls_tech.proofs.tech.scope.TechTypeScope.plane_types.Given as goal
-
-abbrev pub invariant-loop-kind : goal.invariant-loop-kind
-invariant-loop-kind l = l.set ≡ bits_of (below (lies_on_plane l.self.type_planes l.plane) l.kind)

@@ -1,0 +1,23 @@
+-- Facts on results.
+use Rattle.std.proofs.Common.{◌≡◌, Result, Ok, Err, OnErr, OnOk, IfErr, sym, subst}
+use Rattle.std.specs.Result.{IsErr, IsErrAnd}
+
+-- what holds anyway holds at an error
+pub on_err : {T E : Type 0} (r : Result T E) (P : Type 0) → P → OnErr r P
+on_err (Ok x) P p = tt
+on_err (Err e) P p = p
+
+-- the result is this error
+pub if_err : {T E : Type 0} (r : Result T E) (e : E) (P : E → Type 0) → IsErr r × IsErrAnd r (λ given. given ≡ e) → P e → IfErr r P
+if_err (Ok x) e P h p = tt
+if_err (Err given) e P h p = subst P (sym h.1) p
+
+-- what holds of an error leads to another fact on it
+pub if_err-map : {T E : Type 0} (r : Result T E) (P Q R : E → Type 0) → ((e : E) → P e → Q e → R e) → IfErr r P → IfErr r Q → IfErr r R
+if_err-map (Ok x) P Q R f p q = tt
+if_err-map (Err e) P Q R f p q = f e p q
+
+-- what holds of a value leads to another fact on it
+pub on_ok-map : {T E : Type 0} (r : Result T E) (P Q : Type 0) → (P → Q) → OnOk r P → OnOk r Q
+on_ok-map (Ok x) P Q f p = f p
+on_ok-map (Err e) P Q f p = tt

@@ -1,0 +1,9 @@
+-- What a line of a script has.
+use Rattle.std.specs.Prelude.{ℕ, Option, Some, None, List}
+use Rattle.mls_wire.specs.declared.script_line.ScriptLine.{ScriptLine}
+use Rattle.mls_wire.specs.declared.script_line.ScriptLine.TheVariants.{TooLong, Text}
+
+-- the line's bytes: none where it is too long
+abbrev pub text_of : ScriptLine → Option (List ℕ)
+text_of TooLong = None
+text_of (Text bytes) = Some bytes.now

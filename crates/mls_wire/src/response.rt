@@ -1,0 +1,59 @@
+//! Responses to lines.
+ghost use Rattle.std.specs.Prelude.{◌≡◌};
+
+use crate::{LineFault, Name};
+use mls_session::Reply;
+use thiserror::Error;
+
+/// The response to a line.
+#[derive(Drop)]
+pub enum Response {
+    /// The line has no command.
+    Silent,
+    /// The line can't be read.
+    Fault(LineFault),
+    /// The session is open from now on.
+    Opened(Name),
+    /// The session can't be opened.
+    NotOpened(Name, OpenFault),
+    /// The session's reply to its command.
+    Replied(Name, Reply),
+}
+
+/// Why a session can't be opened.
+#[derive(Clone, Copy, Debug, PartialEq, Eq, Error)]
+#[error("{}", self.text())]
+pub enum OpenFault {
+    /// A session of this name is open already.
+    OpenAlready,
+    /// No more sessions can be open.
+    SessionsFull,
+    /// Memory ran out.
+    Memory,
+}
+
+impl OpenFault {
+    ghost use Rattle.mls_wire.specs.Replies.{open_fault_number, open_fault_text};
+
+    /// Returns the fault's number in replies.
+    pub fn number(self) -> u8
+        ensures { result ≡ open_fault_number self }
+    {
+        match self {
+            OpenFault::OpenAlready => 1,
+            OpenFault::SessionsFull => 2,
+            OpenFault::Memory => 4,
+        }
+    }
+
+    /// Returns the fault's text in replies.
+    pub fn text(self) -> &'static str
+        ensures { result.now ≡ open_fault_text self }
+    {
+        match self {
+            OpenFault::OpenAlready => "open already",
+            OpenFault::SessionsFull => "sessions full",
+            OpenFault::Memory => "memory",
+        }
+    }
+}
