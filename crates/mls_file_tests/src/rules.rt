@@ -107,13 +107,10 @@ fn too_many_rules(rt: HostRuntime) -> Result<(), Fail> {
 
 #[test]
 fn printed_faults(rt: HostRuntime) -> Result<(), Fail> {
-    let rows = [
-        (RuleFaultKind::Planes, "line 18: planes"),
-        (RuleFaultKind::TooManyRules, "line 18: too many rules"),
-    ];
-    for (kind, text) in rows {
-        let fault = RuleFault { line: 18, kind };
-        assert_eq!(rt; format!(in rt.alloc(); "{fault}")?.as_str(), text);
-    }
+    let fault = RuleFault {
+        line: 142,
+        kind: RuleFaultKind::TooManyRules,
+    };
+    assert_eq!(rt; format!(in rt.alloc(); "{fault}")?.as_str(), "line 142: too many rules");
     Ok(())
 }

@@ -159,21 +159,10 @@ fn technology_m(rt: HostRuntime) -> Result<(), Fail> {
 
 #[test]
 fn printed_faults(rt: HostRuntime) -> Result<(), Fail> {
-    let rows = [
-        (TechFaultKind::NotUtf8, "line 3: not UTF-8"),
-        (TechFaultKind::NoEnd, "line 3: no end"),
-        (TechFaultKind::UnknownPlane, "line 3: unknown plane"),
-        (TechFaultKind::UnknownType, "line 3: unknown type"),
-        (TechFaultKind::NameTwice, "line 3: name twice"),
-        (TechFaultKind::BadNumber, "line 3: bad number"),
-        (TechFaultKind::BadList, "line 3: bad list"),
-        (TechFaultKind::BadForm, "line 3: bad form"),
-        (TechFaultKind::Limit, "line 3: limit"),
-        (TechFaultKind::Memory, "line 3: memory"),
-    ];
-    for (kind, text) in rows {
-        let fault = TechFault { line: 3, kind };
-        assert_eq!(rt; format!(in rt.alloc(); "{fault}")?.as_str(), text);
-    }
+    let fault = TechFault {
+        line: 3,
+        kind: TechFaultKind::NotUtf8,
+    };
+    assert_eq!(rt; format!(in rt.alloc(); "{fault}")?.as_str(), "line 3: not UTF-8");
     Ok(())
 }
