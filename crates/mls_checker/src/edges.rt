@@ -73,5 +73,7 @@ pub(crate) fn is_corner(
 pub(crate) fn is_disallowed(rule: &EdgeRule, snapshot: &Snapshot, x: u32, y: u32) -> bool
     ensures { result ≡ is_disallowed rule.now (copied_layout snapshot.now) (record { x = x; y = y }) }
 {
-    !rule.ok_types.contains(snapshot.kind_at(rule.check_plane, x, y))
+    !rule
+        .ok_types
+        .contains(snapshot.kind_at(rule.check_plane, x, y))
 }

@@ -50,7 +50,10 @@ fn large_technologies(rt: HostRuntime) -> Result<(), Fail> {
 
 #[test]
 fn deep_lists(rt: HostRuntime) -> Result<(), Fail> {
-    let mut file = Vec::from_slice(rt.alloc(), b"planes\n p\nend\ntypes\n p q\nend\ndrc\n width ")?;
+    let mut file = Vec::from_slice(
+        rt.alloc(),
+        b"planes\n p\nend\ntypes\n p q\nend\ndrc\n width ",
+    )?;
     for _ in 0..10_000 {
         file.extend_from_slice(b"~(")?;
     }

@@ -23,10 +23,22 @@ const ROWS: [(&[u8], Option<Planes>); 8] = [
     (b"  width space/active 2 \"x\"\n", None),
     (b"  edge poly m1 1 poly poly 1 \"x\"\n", None),
     (b"  edge space ~space 2 poly poly 2 \"x\"\n", None),
-    (b"  edge space poly 2 poly poly 2 \"x\"\n", Some((Directions::RightAndUp, 0, 0))),
-    (b"  edge space m1 1 space,ndiff 0 0 \"e\" active\n", Some((Directions::RightAndUp, 1, 0))),
-    (b"  edge4way space m1 1 space,ndiff 0 0 \"e\" active\n", Some((Directions::Four, 1, 0))),
-    (b"  spacing poly m1 1 touching_illegal \"x\"\n", Some((Directions::Four, 0, 1))),
+    (
+        b"  edge space poly 2 poly poly 2 \"x\"\n",
+        Some((Directions::RightAndUp, 0, 0)),
+    ),
+    (
+        b"  edge space m1 1 space,ndiff 0 0 \"e\" active\n",
+        Some((Directions::RightAndUp, 1, 0)),
+    ),
+    (
+        b"  edge4way space m1 1 space,ndiff 0 0 \"e\" active\n",
+        Some((Directions::Four, 1, 0)),
+    ),
+    (
+        b"  spacing poly m1 1 touching_illegal \"x\"\n",
+        Some((Directions::Four, 0, 1)),
+    ),
 ];
 
 #[test]
@@ -61,10 +73,26 @@ fn looks_at(rules: &Rules, n: usize, planes: Planes) -> bool {
 /// The rules of technology M: types from `types1` to the corner types as bits, both distances,
 /// and where they look.
 const RULES_OF_M: [([u64; 4], u8, Planes); 4] = [
-    ([0b0101, 0b0010, 0b0010, 0b0010], 2, (Directions::RightAndUp, 0, 0)),
-    ([0b0010, 0b0101, 0b0101, 0b0101], 3, (Directions::Four, 0, 0)),
-    ([0b0010, 0b0101, 0b0011, 0b0101], 1, (Directions::Four, 0, 0)),
-    ([0b0001, 0b1000, 0b1000, 0b1000], 3, (Directions::RightAndUp, 1, 1)),
+    (
+        [0b0101, 0b0010, 0b0010, 0b0010],
+        2,
+        (Directions::RightAndUp, 0, 0),
+    ),
+    (
+        [0b0010, 0b0101, 0b0101, 0b0101],
+        3,
+        (Directions::Four, 0, 0),
+    ),
+    (
+        [0b0010, 0b0101, 0b0011, 0b0101],
+        1,
+        (Directions::Four, 0, 0),
+    ),
+    (
+        [0b0001, 0b1000, 0b1000, 0b1000],
+        3,
+        (Directions::RightAndUp, 1, 1),
+    ),
 ];
 
 /// The types of an edge rule as bits, from `types1` to the corner types.
@@ -85,7 +113,10 @@ fn technology_m(rt: HostRuntime) -> Result<(), Fail> {
         assert_eq!(rt; bits(rule), types);
         assert_eq!(rt; rule.distance, distance);
         assert_eq!(rt; rule.corner_distance, distance);
-        assert_eq!(rt; (rule.directions, rule.trigger_plane, rule.check_plane), planes);
+        assert_eq!(rt;
+            (rule.directions, rule.trigger_plane, rule.check_plane),
+            planes
+        );
     }
     assert_eq!(rt; rules.halo(), 4);
     Ok(())
@@ -111,6 +142,9 @@ fn printed_faults(rt: HostRuntime) -> Result<(), Fail> {
         line: 142,
         kind: RuleFaultKind::TooManyRules,
     };
-    assert_eq!(rt; format!(in rt.alloc(); "{fault}")?.as_str(), "line 142: too many rules");
+    assert_eq!(rt;
+        format!(in rt.alloc(); "{fault}")?.as_str(),
+        "line 142: too many rules"
+    );
     Ok(())
 }

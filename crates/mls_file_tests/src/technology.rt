@@ -25,7 +25,11 @@ const ROWS: [(usize, &[u8], Outcome); 33] = [
     (14, b"  width poly,~ 2 \"w\"", Outcome::Fault(7)),
     (14, b"  width gold/nowhere 2 \"w\"", Outcome::Fault(4)),
     (14, b"  width poly 2 \"w", Outcome::Fault(8)),
-    (15, b"  spacing poly poly 3 elsewhere m1 \"x\"", Outcome::Skipped(b"spacing")),
+    (
+        15,
+        b"  spacing poly poly 3 elsewhere m1 \"x\"",
+        Outcome::Skipped(b"spacing"),
+    ),
     (14, b"  width poly \\\n  2 \"poly width\"", Outcome::SameAsM),
     (5, b"  active\xff", Outcome::Fault(1)),
     (5, b"  active,0", Outcome::Fault(8)),
@@ -33,30 +37,65 @@ const ROWS: [(usize, &[u8], Outcome); 33] = [
     (6, b"  metal1,active", Outcome::Fault(5)),
     (9, b"  active space", Outcome::Fault(5)),
     (9, b"  active poly,poly,(", Outcome::Fault(5)),
-    (14, b"  width poly 1234567890123456789012345678901234567890 \"w\"", Outcome::Fault(9)),
+    (
+        14,
+        b"  width poly 1234567890123456789012345678901234567890 \"w\"",
+        Outcome::Fault(9),
+    ),
     (14, b"  width poly/nowhere 2 \"w\"", Outcome::Fault(3)),
     (14, b"  width ((poly) 2 \"w\"", Outcome::Fault(7)),
     (14, b"  width poly/0 2 \"w\"", Outcome::Fault(7)),
     (17, b"  edge m1 0 1 0 0 101 e nowhere", Outcome::Fault(9)),
-    (14, b"  overhang poly ndiff 2 \"oh\"", Outcome::Skipped(b"overhang")),
+    (
+        14,
+        b"  overhang poly ndiff 2 \"oh\"",
+        Outcome::Skipped(b"overhang"),
+    ),
     (17, b"  \"end\"", Outcome::Skipped(b"end")),
-    (14, b"  width poly 00000000000000000002 \"poly width\"", Outcome::SameAsM),
-    (14, b"  width ~~(poly,0)/active 2 \"poly width\"", Outcome::SameAsM),
+    (
+        14,
+        b"  width poly 00000000000000000002 \"poly width\"",
+        Outcome::SameAsM,
+    ),
+    (
+        14,
+        b"  width ~~(poly,0)/active 2 \"poly width\"",
+        Outcome::SameAsM,
+    ),
     (11, b"  metal1 m1,a", Outcome::SameAsM),
     (2, b"  format 27\n  M and more\n  N", Outcome::SameAsM),
     (1, b"# \\\nignored\ntech whatever", Outcome::SameAsM),
     (9, b"  -active poly,p", Outcome::SameAsM),
-    (7, b"end\nstyles\n  mos \"1,( ~\n  end 1\nend\n\"drc\"\nend", Outcome::SameAsM),
-    (10, b"end\nend\n  type\nend\ntypes\n  active ndiff,nd", Outcome::SameAsM),
-    (16, b"  spacing\tp nd 001 \"touching_illegal\"\"poly to ndiff\"\r", Outcome::SameAsM),
-    (17, b"  \"width\"~space/metal1 3 \"m1 width\"\n# end", Outcome::SameAsM),
+    (
+        7,
+        b"end\nstyles\n  mos \"1,( ~\n  end 1\nend\n\"drc\"\nend",
+        Outcome::SameAsM,
+    ),
+    (
+        10,
+        b"end\nend\n  type\nend\ntypes\n  active ndiff,nd",
+        Outcome::SameAsM,
+    ),
+    (
+        16,
+        b"  spacing\tp nd 001 \"touching_illegal\"\"poly to ndiff\"\r",
+        Outcome::SameAsM,
+    ),
+    (
+        17,
+        b"  \"width\"~space/metal1 3 \"m1 width\"\n# end",
+        Outcome::SameAsM,
+    ),
 ];
 
 #[test]
 fn changed_lines(rt: HostRuntime) -> Result<(), Fail> {
     for (line, text, outcome) in ROWS {
         let file = with_line(rt.alloc(), line, text)?;
-        assert!(rt; is_read_as(rt.alloc(), &file, line, outcome), "line {line} as {text:?}");
+        assert!(rt;
+            is_read_as(rt.alloc(), &file, line, outcome),
+            "line {line} as {text:?}"
+        );
     }
     Ok(())
 }
@@ -131,7 +170,11 @@ fn has_rules_of_m(tech: &Tech) -> bool {
 
 /// Whole files with the line and the number of their fault.
 const FAULTY_FILES: [(&[u8], usize, u8); 5] = [
-    (b"drc\n  width poly 2 \"w\"\nend\ntypes\n  a poly\nend\n", 2, 4),
+    (
+        b"drc\n  width poly 2 \"w\"\nend\ntypes\n  a poly\nend\n",
+        2,
+        4,
+    ),
     (b"\nplanes\n  0\n  end x\n", 2, 2),
     (b"tech\n  M\nend\nend\n", 4, 2),
     (b"planes\n a\n b\n c\n d\n e\nend", 6, 9),
@@ -141,7 +184,10 @@ const FAULTY_FILES: [(&[u8], usize, u8); 5] = [
 #[test]
 fn faulty_files(rt: HostRuntime) {
     for (file, line, number) in FAULTY_FILES {
-        assert!(rt; is_read_as(rt.alloc(), file, line, Outcome::Fault(number)), "{file:?}");
+        assert!(rt;
+            is_read_as(rt.alloc(), file, line, Outcome::Fault(number)),
+            "{file:?}"
+        );
     }
 }
 
@@ -163,6 +209,9 @@ fn printed_faults(rt: HostRuntime) -> Result<(), Fail> {
         line: 3,
         kind: TechFaultKind::NotUtf8,
     };
-    assert_eq!(rt; format!(in rt.alloc(); "{fault}")?.as_str(), "line 3: not UTF-8");
+    assert_eq!(rt;
+        format!(in rt.alloc(); "{fault}")?.as_str(),
+        "line 3: not UTF-8"
+    );
     Ok(())
 }
