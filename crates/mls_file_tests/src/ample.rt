@@ -14,8 +14,7 @@ fn large_technology(alloc: Global) -> Result<Vec<u8>, AllocError> {
     }
     file.extend_from_slice(b"end\ndrc\n")?;
     for number in 1..129 {
-        let line = format!(in alloc; "  width t{} 1 \"{number:.>300}\"\n", number % 63 + 1)?;
-        file.extend_from_slice(line.as_bytes())?;
+        push_rule(alloc, &mut file, number)?;
     }
     file.extend_from_slice(b"end\n")?;
     Ok(file)
@@ -27,7 +26,15 @@ fn push_type(alloc: Global, file: &mut Vec<u8>, kind: u8) -> Result<(), AllocErr
     for name in 0..10 {
         file.extend_from_slice(format!(in alloc; ",{name:_>100}_of_t{kind}")?.as_bytes())?;
     }
-    file.push(b'\n')
+    file.push(b'\n')?;
+    Ok(())
+}
+
+/// Appends the line of a rule.
+fn push_rule(alloc: Global, file: &mut Vec<u8>, number: usize) -> Result<(), AllocError> {
+    let line = format!(in alloc; "  width t{} 1 \"{number:.>300}\"\n", number % 63 + 1)?;
+    file.extend_from_slice(line.as_bytes())?;
+    Ok(())
 }
 
 /// Returns the numbers of planes, types and rules of a file, or `None` if it can't be read.

@@ -96,7 +96,7 @@ const RULES_OF_M: [([u64; 4], u8, Planes); 4] = [
 ];
 
 /// The types of an edge rule as bits, from `types1` to the corner types.
-pub fn bits(rule: &EdgeRule) -> [u64; 4] {
+fn bits(rule: &EdgeRule) -> [u64; 4] {
     [
         rule.types1.bits(),
         rule.types2.bits(),

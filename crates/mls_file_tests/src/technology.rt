@@ -162,10 +162,15 @@ fn is_type(tech: &Tech, kind: u8, plane: Option<u8>, name: &[u8], other: &[u8]) 
 /// Returns whether a technology has four rules with the texts of technology M.
 fn has_rules_of_m(tech: &Tech) -> bool {
     tech.lines().len() == 4
-        && tech.why(1) == Some(b"poly width")
-        && tech.why(2) == Some(b"poly spacing")
-        && tech.why(3) == Some(b"poly to ndiff")
-        && tech.why(4) == Some(b"m1 width")
+        && is_why(tech, 1, b"poly width")
+        && is_why(tech, 2, b"poly spacing")
+        && is_why(tech, 3, b"poly to ndiff")
+        && is_why(tech, 4, b"m1 width")
+}
+
+/// Returns whether rule `n` has this text.
+fn is_why(tech: &Tech, n: usize, why: &[u8]) -> bool {
+    tech.why(n) == Some(why)
 }
 
 /// Whole files with the line and the number of their fault.
