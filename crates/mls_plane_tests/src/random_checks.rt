@@ -1,4 +1,4 @@
-//! Random layouts in technology M, whose forbidden squares are told square by square.
+//! Random layouts in technology M, whose forbidden squares are found square by square.
 use crate::checks::{painted, piece, rules_of};
 use crate::dice::Dice;
 use crate::grid::{Grid, SIZE};
