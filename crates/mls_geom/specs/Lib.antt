@@ -1,5 +1,6 @@
 pub mod Covers
 pub mod Layouts
+pub mod Locality
 pub mod Pictures
 pub mod Rects
 pub mod Scratches

@@ -15,3 +15,23 @@ pub fn strips_are_one()
 pub fn strips_number()
     ensures { (extent : Rect) (picture : ℕ → ℕ → ℕ) (list : List Piece) → AreStrips extent picture list → length list ≡ tile_count extent picture }
 {}
+
+/// A strip that no painted piece touches, by a side or a corner, stays a strip.
+pub fn untouched_strips_stay()
+    ensures { (extent : Rect) (below : ℕ → ℕ → ℕ) (over : List Piece) (strip : Piece) → IsStrip extent below strip → is_touched over strip ≡ false → IsStrip extent (overlaid below over) strip }
+{}
+
+/// Strips in any order number the tile count.
+pub fn unordered_strips_number()
+    ensures { (extent : Rect) (picture : ℕ → ℕ → ℕ) (list : List Piece) → AreUnorderedStrips extent picture list → length list ≡ tile_count extent picture }
+{}
+
+/// The strips that painting touches give way to the strips of what they and the painted pieces cover; all others stay.
+pub fn touched_strips_give_way()
+    ensures { (extent : Rect) (below : ℕ → ℕ → ℕ) (over kept touched fresh : List Piece) → AreUnorderedStrips extent below (kept ++ touched) → HaveKinds (touched ++ over) → All (λ piece. IsRectangleIn extent piece.rect) over → AreUntouched over kept → AreCoveredStrips extent (laid (touched ++ over)) fresh → AreUnorderedStrips extent (overlaid below over) (kept ++ fresh) }
+{}
+
+/// So the new tile count is the old one less the touched strips, and with the fresh ones.
+pub fn fresh_strips_number()
+    ensures { (extent : Rect) (below : ℕ → ℕ → ℕ) (over kept touched : List Piece) → AreUnorderedStrips extent below (kept ++ touched) → HaveKinds (touched ++ over) → All (λ piece. IsRectangleIn extent piece.rect) over → AreUntouched over kept → tile_count extent (overlaid below over) ≡ length kept + covered_count extent (laid (touched ++ over)) }
+{}
