@@ -1,0 +1,166 @@
+//! The pool.
+ghost use Rattle.std.specs.Prelude.{◌≡◌, ◌+◌, ◌≤◌, ◌<◌, ◌↔◌, [], Some, None, IfOk, IfSome, OnOk, OnErr, IsErr, IsSome};
+ghost use Rattle.mls_tilepool.specs.Pools.{Changes, IsOwner, ListsTiles, Reserves, count_of, room_of, tile_at, unreserved};
+
+use crate::chain::{Place, Row};
+use crate::{Owner, Tile, TileId, Tiles};
+use slab::Slab;
+use std::alloc::{AllocError, Global};
+use std::marker::Model;
+use thiserror::Error;
+
+/// The pool has fewer unreserved tiles than that.
+#[derive(Clone, Copy, Debug, PartialEq, Eq, Error)]
+#[error("pool full")]
+pub struct PoolFull;
+
+/// The owner has as many tiles as it reserved.
+#[derive(Clone, Copy, Debug, PartialEq, Eq, Error)]
+#[error("no room")]
+pub struct NoRoom;
+
+/// A pool of tiles. Each tile lies under an owner, and each owner has at most as many tiles as it reserved.
+///
+/// All memory is reserved when the pool is made.
+#[derive(Drop)]
+pub struct Pool {
+    capacity: u32,
+    reserved: u32,
+    places: Slab<Place>,
+    rows: Slab<Row>,
+}
+
+impl Model for Pool {
+    ghost use Rattle.std.specs.Prelude.{map};
+    ghost use Rattle.std.specs.Option.{option_map};
+    ghost use Rattle.mls_tilepool.specs.Pools.{Pool};
+
+    ghost Value = { Pool };
+
+    ghost view = { λ p. record {
+      capacity = p.capacity;
+      rooms = map (option_map (λ row. row.room)) p.rows.slots;
+      places = map (option_map (λ place. record { owner = place.owner; tile = place.tile })) p.places.slots;
+    } };
+}
+
+impl Pool {
+    /// Creates a pool of `capacity` tiles, none of which is reserved.
+    pub fn new(alloc: Global, capacity: u32) -> Result<Pool, AllocError>
+        requires some { 1 ≤ capacity }
+        requires most { capacity ≤ 8388608 }
+        ensures capacity { IfOk result (λ pool. pool.capacity ≡ capacity) }
+        ensures no_owners { IfOk result (λ pool. pool.rooms ≡ []) }
+        ensures no_tiles { IfOk result (λ pool. pool.places ≡ []) }
+    {
+        Ok(Pool {
+            capacity,
+            reserved: 0,
+            places: Slab::with_capacity(alloc, capacity as usize)?,
+            rows: Slab::with_capacity(alloc, capacity as usize)?,
+        })
+    }
+
+    /// Returns how many tiles all owners together can have.
+    pub fn capacity(&self) -> u32
+        ensures { result ≡ self.now.capacity }
+    {
+        self.capacity
+    }
+
+    /// Returns how many tiles can still be reserved.
+    pub fn unreserved(&self) -> u32
+        ensures { result ≡ unreserved self.now }
+    {
+        self.capacity - self.reserved
+    }
+
+    /// Returns how many tiles the owner has reserved.
+    pub fn room(&self, owner: &Owner) -> u32
+        requires { IsOwner self.now owner.now }
+        ensures { room_of self.now owner.now ≡ Some result }
+    {
+        ?
+    }
+
+    /// Returns how many tiles the owner has.
+    pub fn count(&self, owner: &Owner) -> u32
+        requires { IsOwner self.now owner.now }
+        ensures value { result ≡ count_of self.now owner.now }
+        ensures within { IfSome (room_of self.now owner.now) (λ room. result ≤ room) }
+    {
+        ?
+    }
+
+    /// Reserves room for this many tiles under a new owner.
+    ///
+    /// Fails if fewer are unreserved, and leaves the pool as it was.
+    pub fn reserve(&mut self, tiles: u32) -> Result<Owner, PoolFull>
+        requires { 1 ≤ tiles }
+        ensures full { IsErr result ↔ (unreserved self.old < tiles) }
+        ensures new_owner { IfOk result (λ owner. room_of self.old owner ≡ None) }
+        ensures reserves { IfOk result (λ owner. Reserves self.old self.new owner (Some tiles)) }
+        ensures taken { OnOk result (unreserved self.new + tiles ≡ unreserved self.old) }
+        ensures refused { OnErr result (self.new ≡ self.old) }
+    {
+        ?
+    }
+
+    /// Removes all tiles of an owner, and gives its reserve back.
+    pub fn release(&mut self, owner: Owner)
+        requires { IsOwner self.old owner }
+        ensures releases { Reserves self.old self.new owner None }
+        ensures given_back { IfSome (room_of self.old owner)
+            (λ room. unreserved self.new ≡ unreserved self.old + room) }
+    {
+        ?
+    }
+
+    /// Adds a tile of an owner, and returns its name.
+    ///
+    /// Fails if the owner has as many tiles as it reserved, and leaves the pool as it was.
+    pub fn add(&mut self, owner: &Owner, tile: Tile) -> Result<TileId, NoRoom>
+        requires { IsOwner self.old owner.now }
+        ensures no_room { IsErr result ↔ (room_of self.old owner.now ≡ Some (count_of self.old owner.now)) }
+        ensures unused { IfOk result (λ id. (other : ℕ) → tile_at self.old other id ≡ None) }
+        ensures added { IfOk result (λ id. Changes self.old self.new owner.now id (Some tile)) }
+        ensures count { OnOk result (count_of self.new owner.now ≡ count_of self.old owner.now + 1) }
+        ensures refused { OnErr result (self.new ≡ self.old) }
+    {
+        ?
+    }
+
+    /// Returns the tile, if it is one of the owner's.
+    pub fn get(&self, owner: &Owner, id: TileId) -> Option<Tile>
+        ensures { result ≡ tile_at self.now owner.now id }
+    {
+        ?
+    }
+
+    /// Replaces a tile of the owner's by another under the same name.
+    pub fn set(&mut self, owner: &Owner, id: TileId, tile: Tile)
+        requires { IsSome (tile_at self.old owner.now id) }
+        ensures changes { Changes self.old self.new owner.now id (Some tile) }
+        ensures count { count_of self.new owner.now ≡ count_of self.old owner.now }
+    {
+        ?
+    }
+
+    /// Removes a tile of the owner's, and returns it.
+    pub fn remove(&mut self, owner: &Owner, id: TileId) -> Tile
+        requires { IsSome (tile_at self.old owner.now id) }
+        ensures tile { tile_at self.old owner.now id ≡ Some result }
+        ensures changes { Changes self.old self.new owner.now id None }
+        ensures count { count_of self.new owner.now + 1 ≡ count_of self.old owner.now }
+    {
+        ?
+    }
+
+    /// Returns an iterator over the owner's tiles and their names, each once, in any order.
+    pub fn tiles(&self, owner: &Owner) -> Tiles<'_>
+        requires { IsOwner self.now owner.now }
+        ensures { ListsTiles self.now owner.now result }
+    {
+        ?
+    }
+}
