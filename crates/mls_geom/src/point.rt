@@ -1,6 +1,7 @@
 //! Squares of the world.
-ghost use Rattle.std.specs.Prelude.{◌≡◌};
-ghost use Rattle.mls_geom.specs.World.{square_of};
+ghost use Rattle.std.specs.Prelude.{◌≡◌, IsTrue};
+ghost use Rattle.mls_geom.specs.Rects.{holds};
+ghost use Rattle.mls_geom.specs.World.{square_of, world};
 
 use crate::world::{HIGH, coordinate_of, is_outside};
 use std::marker::Model;
@@ -43,6 +44,14 @@ impl Point {
         } else {
             None
         }
+    }
+
+    /// Returns the square of the world at this column and row.
+    pub fn at(column: u32, row: u32) -> Point
+        requires { IsTrue (holds world column row) }
+        ensures { result ≡ record { x = column; y = row } }
+    {
+        Point { x: column, y: row }
     }
 
     /// Returns the column, counted from a corner far outside the world.

@@ -63,8 +63,15 @@ impl Rect {
         })
     }
 
-    /// Returns the rectangle between four coordinates of the world.
-    pub(crate) fn between(left: u32, bottom: u32, right: u32, top: u32) -> Rect
+    /// Returns all squares of the world.
+    pub fn world() -> Rect
+        ensures { result ≡ world }
+    {
+        Rect::between(LOW, LOW, HIGH, HIGH)
+    }
+
+    /// Returns the rectangle between four coordinates of the world, counted as those of [`Area`] are.
+    pub fn between(left: u32, bottom: u32, right: u32, top: u32) -> Rect
         requires { IsRectangleIn world (record { left = left; bottom = bottom; right = right; top = top }) }
         ensures { result ≡ record { left = left; bottom = bottom; right = right; top = top } }
     {
@@ -89,8 +96,15 @@ impl Rect {
         }
     }
 
+    /// Returns the lower-left square.
+    pub fn corner(self) -> Point
+        ensures { result ≡ record { x = self.left; y = self.bottom } }
+    {
+        Point::at(self.left, self.bottom)
+    }
+
     /// Returns whether the square lies in the rectangle.
-    pub(crate) fn holds(self, at: Point) -> bool
+    pub fn holds(self, at: Point) -> bool
         ensures { result ≡ holds self at.x at.y }
     {
         at.column() >= self.left
@@ -100,7 +114,7 @@ impl Rect {
     }
 
     /// Returns whether some square lies in both rectangles.
-    pub(crate) fn meets(self, other: Rect) -> bool
+    pub fn meets(self, other: Rect) -> bool
         ensures { result ≡ meets self other }
     {
         self.clip(other).is_some()

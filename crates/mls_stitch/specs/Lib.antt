@@ -1,0 +1,5 @@
+pub mod Areas
+pub mod Pending
+pub mod Replacements
+pub mod Stitches
+pub mod Tilings

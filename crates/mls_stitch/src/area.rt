@@ -1,0 +1,39 @@
+//! Area search.
+ghost use Rattle.std.specs.Prelude.{◌≡◌, ℕ, ◌+◌, ◌<◌, ◌≤◌, ◌↔◌, [], ◌∷◌, List, Some, None, IfOk, IfSome, OnOk, OnErr, IsErr, IsSomeAnd, length, map};
+ghost use Rattle.mls_tilepool.specs.Pools.{IsOwner, count_of, room_of, tile_in, tiles_of};
+ghost use Rattle.mls_stitch.specs.Tilings.{ChangesOnly, HasPlane, IsMaximal, block_at, shown};
+ghost use Rattle.mls_geom.specs.Pictures.{picture_of};
+ghost use Rattle.mls_geom.specs.Strips.{AreStrips};
+ghost use Rattle.mls_geom.specs.World.{world};
+ghost use Rattle.mls_stitch.specs.Areas.{AreInArea};
+
+use crate::{Plane, Scratch};
+use mls_geom::Rect;
+use mls_tilepool::Pool;
+
+impl Plane {
+    /// Finds the tiles that have a square of the area, by their bottom, clipped to the area, and then their left, and
+    /// leaves them in the scratch (Ousterhout 1984, area enumeration).
+    pub fn area(&mut self, pool: &Pool, area: Rect, scratch: &mut Scratch)
+        requires plane { HasPlane pool.now self.old }
+        requires room { count_of pool.now self.old ≤ scratch.old.room }
+        ensures found { AreInArea (block_at (tiles_of pool.now self.old)) area scratch.new.tiles }
+        ensures plane { self.new ≡ self.old }
+        ensures scratch_room { scratch.new.room ≡ scratch.old.room }
+    {
+    }
+
+    /// Finds all tiles of the plane, by bottom and then left, and leaves them in the scratch.
+    pub fn strips_of(&mut self, pool: &Pool, scratch: &mut Scratch)
+        requires plane { HasPlane pool.now self.old }
+        requires room { count_of pool.now self.old ≤ scratch.old.room }
+        ensures found { AreInArea (block_at (tiles_of pool.now self.old)) world scratch.new.tiles }
+        ensures picture { picture_of (map (λ tile. tile.piece) scratch.new.tiles) ≡ shown (tiles_of pool.now self.old) }
+        ensures strips { IsMaximal (tiles_of pool.now self.old) → AreStrips world (shown (tiles_of pool.now self.old)) (map (λ tile. tile.piece) scratch.new.tiles) }
+        ensures count { length scratch.new.tiles ≡ count_of pool.now self.old }
+        ensures plane { self.new ≡ self.old }
+        ensures scratch_room { scratch.new.room ≡ scratch.old.room }
+    {
+        self.area(pool, Rect::world(), scratch);
+    }
+}

@@ -1,0 +1,18 @@
+//! Corner stitching: planes of tiles in a pool, joined by four stitches each (Ousterhout 1984).
+#![tactic(auto)]
+
+mod area;
+mod build;
+mod find;
+mod laid_tile;
+mod plane;
+mod replace;
+mod scratch;
+mod split;
+mod stitch;
+mod stitching;
+
+pub use laid_tile::LaidTile;
+pub use plane::Plane;
+pub use scratch::Scratch;
+pub use stitch::Stitch;

@@ -1,0 +1,29 @@
+//! Planes of stitched tiles.
+use mls_tilepool::{Owner, TileId};
+use std::marker::Model;
+
+/// A plane of kinds, covered completely by the stitched tiles of one owner in a pool.
+#[derive(Drop)]
+pub struct Plane {
+    pub(crate) owner: Owner,
+    // A tile in hand, from which searches start. It may have been removed.
+    pub(crate) hint: TileId,
+}
+
+impl Model for Plane {
+    ghost use Rattle.std.specs.Prelude.{ℕ};
+
+    // The owner's number.
+    ghost Value = { ℕ };
+
+    ghost view = { λ p. p.owner };
+}
+
+impl Plane {
+    /// Gives the owner back, with the tiles of the plane.
+    pub fn into_owner(self) -> Owner
+        ensures { result ≡ self }
+    {
+        self.owner
+    }
+}

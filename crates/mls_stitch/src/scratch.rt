@@ -1,0 +1,56 @@
+//! Lists in which tiles are searched and stitched.
+ghost use Rattle.std.specs.Prelude.{◌≡◌, [], IfOk};
+
+use crate::LaidTile;
+use std::alloc::{AllocError, Global};
+use std::marker::Model;
+
+/// Lists in which the calls of [`Plane`](crate::Plane) work. Area search leaves there what it finds.
+///
+/// All memory is reserved when the scratch is made.
+#[derive(Drop)]
+pub struct Scratch {
+    room: usize,
+    pub(crate) tiles: Vec<LaidTile>,
+    // Twice as many: tiles to be stitched, and their neighbours.
+    pub(crate) entries: Vec<LaidTile>,
+}
+
+impl Model for Scratch {
+    ghost use Rattle.std.specs.Prelude.{◌≤◌, ◌+◌, vec_capacity};
+    ghost use Rattle.mls_stitch.specs.Areas.{Scratch};
+
+    ghost Value = { Scratch };
+
+    ghost view = { λ s. record { tiles = s.tiles.items; room = s.room } };
+
+    ghost invariant = { λ s. (s.room ≤ vec_capacity s.tiles) × (s.room + s.room ≤ vec_capacity s.entries) };
+}
+
+impl Scratch {
+    /// Creates a scratch with room for `room` tiles.
+    pub fn new(alloc: Global, room: u32) -> Result<Scratch, AllocError>
+        ensures { IfOk result (λ s. (s.room ≡ room) × (s.tiles ≡ [])) }
+    {
+        let room = room as usize;
+        Ok(Scratch {
+            room,
+            tiles: Vec::with_capacity(alloc, room)?,
+            entries: Vec::with_capacity(alloc, 2 * room)?,
+        })
+    }
+
+    /// Returns how many tiles there is room for.
+    pub fn room(&self) -> usize
+        ensures { result ≡ self.now.room }
+    {
+        self.room
+    }
+
+    /// Returns the tiles that were found last.
+    pub fn tiles(&self) -> &[LaidTile]
+        ensures { result.now ≡ self.now.tiles }
+    {
+        &self.tiles
+    }
+}

@@ -1,0 +1,1 @@
+//! Splitting tiles and joining them.
