@@ -6,6 +6,7 @@ pub mod BandLines
 pub mod BandRows
 pub mod CornerCounts
 pub mod Corners
+pub mod CoveredStrips
 pub mod CutLines
 pub mod Holds
 pub mod Joining
@@ -29,3 +30,4 @@ pub mod StripEnds
 pub mod StripLaws
 pub mod StripPictures
 pub mod SweepRoomLemmas
+pub mod UntouchedStrips
