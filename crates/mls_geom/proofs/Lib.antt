@@ -10,6 +10,7 @@ pub mod CoveredStrips
 pub mod CutLines
 pub mod Holds
 pub mod Joining
+pub mod JoinedLists
 pub mod KindsShown
 pub mod Links
 pub mod ListChanges
@@ -30,4 +31,5 @@ pub mod StripEnds
 pub mod StripLaws
 pub mod StripPictures
 pub mod SweepRoomLemmas
+pub mod TouchedStrips
 pub mod UntouchedStrips

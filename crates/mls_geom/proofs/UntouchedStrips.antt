@@ -1,14 +1,13 @@
 -- A strip that no painted piece touches stays a strip.
-use Rattle.std.proofs.Common.{◌≡◌, ℕ, ◌+◌, ◌-◌, ◌<◌, ◌≤◌, max, min, Bool, true, false, List, get_or, All, sym, ◌∙◌, arith, lt-ltb}
-use Rattle.std.specs.List.{list_any}
+use Rattle.std.proofs.Common.{◌≡◌, ℕ, ◌+◌, ◌-◌, ◌<◌, ◌≤◌, max, min, false, List, get_or, All, sym, ◌∙◌, arith, lt-ltb}
 use Rattle.std.proofs.lemmas.Bool.{and_from, both_ways, false_from_ne_true}
-use Rattle.std.proofs.lemmas.List.Folds.{list_any_at}
 use Rattle.mls_geom.specs.Locality.{touches, is_touched}
 use Rattle.mls_geom.specs.Pictures.{Picture, overlaid}
 use Rattle.mls_geom.specs.Rects.{Rect, holds}
 use Rattle.mls_geom.specs.Strips.{IsRun, IsStrip}
 use Rattle.mls_geom.specs.declared.piece.Piece.{Piece}
 use Rattle.mls_geom.proofs.Holds.{holds_between}
+use Rattle.mls_geom.proofs.JoinedLists.{All-from_list_any}
 use Rattle.mls_geom.proofs.Overlays.{overlaid_outside}
 
 -- the pictures agree in the rectangle and on the squares round it
@@ -45,10 +44,6 @@ IsStrip-agree extent p q piece agree strip =
       ends_above = λ inside run.
           strip.ends_above inside (IsRun-agree extent piece.rect q p piece.rect.top piece.kind back (omega (arith, strip.tall)) (omega arith) run);
     }
-
--- no element passes a test that none passes
-All-from_list_any : {X : Type 0} (p : X → Bool) (xs : List X) → list_any p xs ≡ false → All (λ x. p x ≡ false) xs
-All-from_list_any p xs none k d within = false_from_ne_true _ (λ passes. both_ways (list_any p xs) none (list_any_at p xs k d within passes))
 
 -- a rectangle that does not touch another has no square in it or round it
 outside_round :
