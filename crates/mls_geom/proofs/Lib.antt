@@ -32,4 +32,5 @@ pub mod StripLaws
 pub mod StripPictures
 pub mod SweepRoomLemmas
 pub mod TouchedStrips
+pub mod UnorderedStrips
 pub mod UntouchedStrips
