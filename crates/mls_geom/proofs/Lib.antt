@@ -6,6 +6,7 @@ pub mod BandLines
 pub mod BandRows
 pub mod CornerCounts
 pub mod Corners
+pub mod CoveredCounts
 pub mod CoveredStrips
 pub mod CutLines
 pub mod Holds
