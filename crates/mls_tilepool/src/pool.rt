@@ -1,5 +1,5 @@
 //! The pool.
-ghost use Rattle.std.specs.Prelude.{◌≡◌, ◌+◌, ◌≤◌, ◌<◌, ◌↔◌, [], Some, None, IfOk, IfSome, OnOk, OnErr, IfNone, IsErr, IsSome};
+ghost use Rattle.std.specs.Prelude.{◌≡◌, ℕ, ◌+◌, ◌≤◌, ◌<◌, ◌↔◌, [], Some, None, IfOk, IfSome, OnOk, OnErr, IfNone, IsErr, IsSome};
 ghost use Rattle.mls_tilepool.specs.Pools.{Changes, IsOwner, ListsTiles, Reserves, count_of, room_of, tile_at, tiles_of, unreserved};
 
 use crate::chain::{Place, Row, link_next, link_previous};
