@@ -4,20 +4,21 @@ use Rattle.std.proofs.lemmas.Bool.Decides.{nat_tests}
 use Rattle.std.proofs.lemmas.List.{length-map}
 use Rattle.std.proofs.lemmas.List.Elements.{All-contains, All-map}
 use Rattle.std.proofs.lemmas.Option.{same_Some}
-use Rattle.mls_geom.specs.Rects.{Rect, holds}
+use Rattle.mls_geom.specs.Rects.{Rect, Point, holds}
 use Rattle.mls_geom.specs.Pictures.{picture_of}
 use Rattle.mls_geom.specs.Strips.{AreStrips, IsStrip, comes_before}
 use Rattle.mls_geom.specs.World.{world}
 use Rattle.mls_geom.specs.declared.piece.Piece.{Piece}
 use Rattle.mls_geom.proofs.Ascending.{AllPairs-map, Contains-map}
 use Rattle.mls_geom.proofs.PiecePictures.{holds_outer}
+use Rattle.mls_tilepool.proofs.TileLists.{tile_in_contains}
 use Rattle.mls_tilepool.specs.declared.tile.Tile.{Tile}
 use Rattle.mls_stitch.specs.Areas.{AreInArea}
 use Rattle.mls_stitch.specs.Tilings.{IsMaximal, IsPlane, block_at, block_of, shown}
 use Rattle.mls_stitch.specs.declared.laid_tile.LaidTile.{LaidTile}
 use Rattle.mls_stitch.proofs.DistinctNumbers.{length-le-AllPairs}
 use Rattle.mls_stitch.proofs.MaximalTiles.{holds_corner, shown-pieces, strip-IsMaximal}
-use Rattle.mls_stitch.proofs.ShownTiles.{KeysDiffer, block_at-KeysDiffer, entry_there, tile-block_at}
+use Rattle.mls_stitch.proofs.ShownTiles.{KeysDiffer, block_at-KeysDiffer, tile-block_at}
 use Rattle.mls_stitch.proofs.Sides.{HoldsAt-block, legal-AreBlocks, one_block}
 
 -- each tile of the list is laid as its block
@@ -38,7 +39,7 @@ length-le-AreLaid tiles list laid differ =
     (λ k d within.
     let tile = get_or list k d in
     let made = tile-block_at tiles tile.id tile.piece (laid k d within) in
-    Contains-map (λ entry. entry.0) tiles (tile.id, made.0) (entry_there tiles tile.id made.0 made.1)) in
+    Contains-map (λ entry. entry.0) tiles (tile.id, made.0) (tile_in_contains tiles tile.id made.0 made.1)) in
     omega (arith, length-le-AllPairs ids keys (AllPairs-map (λ a b. a ≢ b) (λ tile. tile.id) list differ) there, length-map list (λ (tile : LaidTile). tile.id), length-map tiles (λ (entry : ℕ × Tile). entry.0))
 
 -- where laid tiles cover the world, each tile of the plane is one of them
@@ -52,11 +53,12 @@ listed_there tiles list key block plane laid whole here =
     let corner = holds_corner world block.rect legal in
     let found = whole left bottom (holds_outer world block.rect left bottom legal corner) in
     let tile = found.1 in
-    let there = All-contains (λ t. block_at tiles t.id ≡ Some t.piece) list tile laid (found.0, found.2, found.3) in
-    (tile, (found.0, found.2, found.3),
-    plane.tiling.apart tile.id key (record { x = left; y = bottom }) (HoldsAt-block (block_at tiles) tile.id tile.piece (record { x = left; y = bottom }) there found.4)
-    (HoldsAt-block (block_at tiles) key block (record { x = left; y = bottom }) here corner),
-    one_block (block_at tiles) tile.id key tile.piece block left bottom plane.tiling there here found.4 corner)
+    let listed : Contains list tile = (found.0, found.2, found.3) in
+    let there = All-contains (λ t. block_at tiles t.id ≡ Some t.piece) list tile laid listed in
+    let at : Point = record { x = left; y = bottom } in
+    let held = HoldsAt-block (block_at tiles) tile.id tile.piece at there found.4 in
+    let held_here = HoldsAt-block (block_at tiles) key block at here corner in
+    (tile, listed, plane.tiling.apart tile.id key at held held_here, one_block (block_at tiles) tile.id key tile.piece block left bottom plane.tiling there here found.4 corner)
 
 -- so they are as many as all
 pub length-CoverWorld :
@@ -71,8 +73,13 @@ length-CoverWorld tiles list plane keys_differ laid differ whole =
     let entry = get_or tiles k d in
     let listed = listed_there tiles list entry.0 (block_of tiles entry.1) plane laid whole (block_at-KeysDiffer tiles keys_differ k d within) in
     subst (Contains ids) listed.2 (Contains-map (λ tile. tile.id) list listed.0 listed.1)) in
-    omega (arith, length-le-AreLaid tiles list laid differ, length-le-AllPairs keys ids (AllPairs-map (λ a b. a ≢ b) (λ entry. entry.0) tiles keys_differ) there,
-    length-map list (λ (tile : LaidTile). tile.id), length-map tiles (λ (entry : ℕ × Tile). entry.0))
+    omega (
+      arith,
+      length-le-AreLaid tiles list laid differ,
+      length-le-AllPairs keys ids (AllPairs-map (λ a b. a ≢ b) (λ entry. entry.0) tiles keys_differ) there,
+      length-map list (λ (tile : LaidTile). tile.id),
+      length-map tiles (λ (entry : ℕ × Tile). entry.0),
+    )
 
 -- nothing comes before itself
 not_first : (low p q left right : ℕ) → p ≡ q → left ≡ right → (nat_lt (max p low) (max q low) || (max p low == max q low && nat_lt left right)) ≡ true → ⊥

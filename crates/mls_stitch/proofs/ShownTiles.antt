@@ -1,18 +1,18 @@
 -- What a plane of tiles shows.
-use Rattle.std.proofs.Common.{◌≡◌, ◌≢◌, ℕ, ◌<◌, true, false, Option, Some, None, List, [], ◌∷◌, get_or, All, Any, AllPairs, Contains, inl, inr, ⊎_elim, refl, sym, ap, ◌∙◌, subst, arith}
+use Rattle.std.proofs.Common.{◌≡◌, ◌≢◌, ℕ, ◌<◌, true, false, Option, Some, None, List, [], ◌∷◌, get_or, All, Any, AllPairs, Contains, ⊎_elim, refl, sym, ap, ◌∙◌, subst, arith}
 use Rattle.std.specs.Option.{option_map}
 use Rattle.std.proofs.Math.Path.{fun_ext}
-use Rattle.std.proofs.lemmas.Bool.{cases_Bool, cases_eq, cond-true, cond-false, eq-eqb, ne_eqb}
+use Rattle.std.proofs.lemmas.Bool.{cases_Bool, cond-true, cond-false, eq-eqb, ne_eqb}
 use Rattle.std.proofs.lemmas.List.Elements.{All-cons, All-contains, All-map}
-use Rattle.std.proofs.lemmas.Option.{same_Some}
 use Rattle.mls_geom.specs.Rects.{IsRectangleIn, holds}
 use Rattle.mls_geom.specs.Pictures.{Picture, empty_picture}
 use Rattle.mls_geom.specs.World.{world, AreLegal}
 use Rattle.mls_geom.specs.declared.piece.Piece.{Piece}
-use Rattle.mls_geom.proofs.Ascending.{AllPairs-first, AllPairs-rest, AllPairs-map, Contains-first, Contains-rest, Contains-map}
+use Rattle.mls_geom.proofs.Ascending.{AllPairs-first, AllPairs-rest, AllPairs-map, Contains-map}
 use Rattle.mls_geom.proofs.Overlays.{Agrees, overlaid_agreed}
 use Rattle.mls_geom.proofs.PiecePictures.{space_outside}
-use Rattle.mls_tilepool.specs.Pools.{tile_in}
+use Rattle.mls_tilepool.proofs.TileLists.{tile_in_contains, tiles_of-ascend}
+use Rattle.mls_tilepool.specs.Pools.{Pool, tile_in, tiles_of}
 use Rattle.mls_tilepool.specs.declared.tile.Tile.{Tile}
 use Rattle.mls_stitch.specs.Replacements.{AreApart}
 use Rattle.mls_stitch.specs.Tilings.{IsPlane, block_at, block_of, blocks_of, shown}
@@ -24,6 +24,10 @@ KeysDiffer tiles = AllPairs (λ a b. a.0 ≢ b.0) tiles
 
 pub KeysDiffer-ascending : (tiles : List (ℕ × Tile)) → AllPairs (λ a b. a.0 < b.0) tiles → KeysDiffer tiles
 KeysDiffer-ascending tiles up = λ i j d before within same. omega (arith, up i j d before within, same)
+
+-- so it is with the tiles of an owner
+pub KeysDiffer-tiles_of : (pool : Pool) (owner : ℕ) → KeysDiffer (tiles_of pool owner)
+KeysDiffer-tiles_of pool owner = KeysDiffer-ascending (tiles_of pool owner) (tiles_of-ascend pool owner)
 
 -- each tile stands under its key
 pub found-KeysDiffer : (tiles : List (ℕ × Tile)) → KeysDiffer tiles → All (λ e. tile_in tiles e.0 ≡ Some e.1) tiles
@@ -37,18 +41,6 @@ found-KeysDiffer (entry ∷ rest) differ =
 -- and so does its block
 pub block_at-KeysDiffer : (tiles : List (ℕ × Tile)) → KeysDiffer tiles → All (λ e. block_at tiles e.0 ≡ Some (block_of tiles e.1)) tiles
 block_at-KeysDiffer tiles differ = λ k d within. ap (option_map (block_of tiles)) (found-KeysDiffer tiles differ k d within)
-
--- a tile under a key stands in the list
-pub entry_there : (tiles : List (ℕ × Tile)) (key : ℕ) (tile : Tile) → tile_in tiles key ≡ Some tile → Contains tiles (key, tile)
-entry_there [] key tile found = cc
-entry_there (entry ∷ rest) key tile found = elim (cases_eq entry.0 key) [
-  | inl same ↦
-      let here : Some entry.1 ≡ Some tile = rw (eq-eqb entry.0 key same) at found in
-      let tiles : entry.1 ≡ tile = same_Some entry.1 tile here in
-      Contains-first entry (key, tile) rest (ap (λ k. (k, entry.1)) same ∙ ap (λ t. (key, t)) tiles)
-  | inr differs ↦
-      Contains-rest entry (key, tile) rest (entry_there rest key tile (rw (ne_eqb entry.0 key differs) at found))
-]
 
 made_from : {X Y : Type 0} (f : X → Y) (o : Option X) (y : Y) → option_map f o ≡ Some y → (x : X) × (o ≡ Some x) × (f x ≡ y)
 made_from f None y made = cc
@@ -68,7 +60,7 @@ All-blocks_of P tiles differ each =
 pub Contains-blocks_of : (tiles : List (ℕ × Tile)) (key : ℕ) (block : Piece) → block_at tiles key ≡ Some block → Contains (blocks_of tiles) block
 Contains-blocks_of tiles key block here =
     let made = tile-block_at tiles key block here in
-    subst (Contains (blocks_of tiles)) made.2 (Contains-map (λ e. block_of tiles e.1) tiles (key, made.0) (entry_there tiles key made.0 made.1))
+    subst (Contains (blocks_of tiles)) made.2 (Contains-map (λ e. block_of tiles e.1) tiles (key, made.0) (tile_in_contains tiles key made.0 made.1))
 
 pub key-blocks_of : (tiles : List (ℕ × Tile)) (block : Piece) → KeysDiffer tiles → Contains (blocks_of tiles) block → (key : ℕ) × (block_at tiles key ≡ Some block)
 key-blocks_of tiles block differ listed =
