@@ -1,0 +1,6 @@
+pub mod DistinctNumbers
+pub mod KeptStitches
+pub mod ListedTiles
+pub mod MaximalTiles
+pub mod ShownTiles
+pub mod Sides
