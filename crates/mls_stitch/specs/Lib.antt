@@ -1,5 +1,7 @@
 pub mod Areas
+pub mod Fresh
 pub mod Pending
 pub mod Replacements
+pub mod Splits
 pub mod Stitches
 pub mod Tilings
