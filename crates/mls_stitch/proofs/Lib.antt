@@ -1,1 +1,3 @@
+pub mod FreshTiles
+pub mod ReplacedBlocks
 pub mod Sides
