@@ -1,5 +1,7 @@
 pub mod Areas
+pub mod Enumerations
 pub mod Pending
 pub mod Replacements
 pub mod Stitches
 pub mod Tilings
+pub mod Walks
