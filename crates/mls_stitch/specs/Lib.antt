@@ -1,4 +1,5 @@
 pub mod Areas
+pub mod Enumerations
 pub mod Fresh
 pub mod Pending
 pub mod Placing
@@ -6,3 +7,4 @@ pub mod Replacements
 pub mod Splits
 pub mod Stitches
 pub mod Tilings
+pub mod Walks

@@ -8,7 +8,8 @@ ghost use Rattle.mls_stitch.specs.Tilings.{HasPlane, block_at};
 ghost use Rattle.mls_stitch.specs.declared.laid_tile.LaidTile.{LaidTile};
 
 use crate::LaidTile;
-use crate::area::{area_into, laid};
+use crate::area::area_into;
+use crate::laid_tile::laid;
 use mls_tilepool::{Owner, Pool, TileId};
 
 /// Lists the keys of the touched tiles in ascending order.
@@ -74,7 +75,7 @@ pub(crate) fn list_around(
     list_keys(touched, keys);
     entries.clear();
     for id in touched {
-        let area = laid(pool, owner, *id).piece.rect.grow(1);
+        let area = laid(pool, owner, *id).unwrap().piece.rect.grow(1);
         area_into(pool, owner, *id, area, found);
         if entries.capacity() - entries.len() < found.len() {
             sort_dedup(entries);

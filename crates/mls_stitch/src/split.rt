@@ -4,7 +4,7 @@ ghost use Rattle.mls_tilepool.specs.Pools.{count_of, room_of, tiles_of};
 ghost use Rattle.mls_stitch.specs.Splits.{JoinInX, JoinInY, Joins, Splits, joined_x, joined_y, left_of, lower_of, right_of, upper_of};
 ghost use Rattle.mls_stitch.specs.Tilings.{ChangesOnly, HasPlane, block_at};
 
-use crate::area::laid;
+use crate::laid_tile::laid;
 use crate::{Plane, Scratch};
 use mls_geom::{Piece, Point, Rect};
 use mls_tilepool::{NoRoom, Pool, TileId};
@@ -34,7 +34,7 @@ impl Plane {
         ensures only { ChangesOnly pool.old pool.new self.old }
         ensures scratch_room { scratch.new.room ≡ scratch.old.room }
     {
-        let whole = laid(pool, &self.owner, tile).piece;
+        let whole = laid(pool, &self.owner, tile).unwrap().piece;
         let area = whole.rect.area();
         let left = Piece {
             rect: Rect::between(area.left, area.bottom, x, area.top),
@@ -72,7 +72,7 @@ impl Plane {
         ensures only { ChangesOnly pool.old pool.new self.old }
         ensures scratch_room { scratch.new.room ≡ scratch.old.room }
     {
-        let whole = laid(pool, &self.owner, tile).piece;
+        let whole = laid(pool, &self.owner, tile).unwrap().piece;
         let area = whole.rect.area();
         let lower = Piece {
             rect: Rect::between(area.left, area.bottom, area.right, y),
@@ -105,9 +105,9 @@ impl Plane {
         ensures only { ChangesOnly pool.old pool.new self.old }
         ensures scratch_room { scratch.new.room ≡ scratch.old.room }
     {
-        let tile = laid(pool, &self.owner, left).piece;
+        let tile = laid(pool, &self.owner, left).unwrap().piece;
         let area = tile.rect.area();
-        let beside = laid(pool, &self.owner, right).piece.rect.area();
+        let beside = laid(pool, &self.owner, right).unwrap().piece.rect.area();
         let whole = Piece {
             rect: Rect::between(area.left, area.bottom, beside.right, area.top),
             kind: tile.kind,
@@ -137,9 +137,9 @@ impl Plane {
         ensures only { ChangesOnly pool.old pool.new self.old }
         ensures scratch_room { scratch.new.room ≡ scratch.old.room }
     {
-        let tile = laid(pool, &self.owner, lower).piece;
+        let tile = laid(pool, &self.owner, lower).unwrap().piece;
         let area = tile.rect.area();
-        let beside = laid(pool, &self.owner, upper).piece.rect.area();
+        let beside = laid(pool, &self.owner, upper).unwrap().piece.rect.area();
         let whole = Piece {
             rect: Rect::between(area.left, area.bottom, area.right, beside.top),
             kind: tile.kind,
