@@ -1,3 +1,4 @@
+pub mod CloseSquares
 pub mod DistinctNumbers
 pub mod FreshTiles
 pub mod KeptStitches
@@ -6,5 +7,6 @@ pub mod ListedTiles
 pub mod Listings
 pub mod MaximalTiles
 pub mod ReplacedBlocks
+pub mod ReplacedStitches
 pub mod ShownTiles
 pub mod Sides
