@@ -8,5 +8,6 @@ pub mod Listings
 pub mod MaximalTiles
 pub mod ReplacedBlocks
 pub mod ReplacedStitches
+pub mod ReplacedTiles
 pub mod ShownTiles
 pub mod Sides

@@ -22,7 +22,8 @@ use Rattle.mls_stitch.specs.declared.laid_tile.LaidTile.{LaidTile}
 use Rattle.mls_stitch.specs.declared.stitch.Stitch.{Stitch}
 use Rattle.mls_stitch.specs.declared.stitch.Stitch.TheVariants.{Lb, Bl, Tr, Rt}
 use Rattle.mls_stitch.proofs.CloseSquares.{AreClose, close_back, close_in_grown, inner_square}
-use Rattle.mls_stitch.proofs.FreshTiles.{entry-keys_of, keys_of-listed, listed_cases}
+use Rattle.mls_stitch.proofs.DistinctNumbers.{cases_Contains}
+use Rattle.mls_stitch.proofs.FreshTiles.{entry-keys_of, keys_of-listed}
 use Rattle.mls_stitch.proofs.ReplacedBlocks.{AreBlocks-replaced, HoldsAt-stays, entry-held, held-entry, held-touched, kept-unlisted, legal-entry, replaced-entry, replaced-gone, replaced-kept, replaced-stays, replaced_cases}
 use Rattle.mls_stitch.proofs.Sides.{HoldsAt-block, legal-AreBlocks}
 
@@ -64,13 +65,13 @@ module _ (old new : List (ℕ × Tile)) (blocks : ℕ → Option Piece) (touched
     (may : MayReplace blocks touched laid) (ways : GiveWay old new touched laid) (round : Surround blocks touched around) where
   -- each tile lies as its block
   pub placed-replaced : (key : ℕ) → ArePlaced (tile_in new key) (replaced blocks touched laid key)
-  placed-replaced key = elim (listed_cases (keys_of laid) key) [
+  placed-replaced key = elim (cases_Contains (keys_of laid) key) [
     | inl listed ↦
         let (entry, found, is) = entry-keys_of laid key listed in
         subst (λ k. ArePlaced (tile_in new k) (replaced blocks touched laid k)) is
         (ArePlaced-unstitched (tile_in new entry.id) (replaced blocks touched laid entry.id) entry.piece
         (All-contains (λ e. tile_in new e.id ≡ Some (unstitched e.piece)) laid entry ways.placed found) (replaced-entry blocks touched laid entry may.once found))
-    | inr unlisted ↦ elim (listed_cases touched key) [
+    | inr unlisted ↦ elim (cases_Contains touched key) [
       | inl found ↦ subst₂ ArePlaced (sym (ways.gone key found unlisted)) (sym (replaced-gone blocks touched laid key found unlisted)) refl
       | inr kept ↦ subst₂ ArePlaced (sym (ways.kept key kept unlisted)) (sym (replaced-kept blocks touched laid key kept unlisted)) (tiled.placed key)
     ]
@@ -142,7 +143,7 @@ module _ (old new : List (ℕ × Tile)) (blocks : ℕ → Option Piece) (touched
       → LeadsTo (replaced blocks touched laid) slot (beyond stitch block.rect)
       ⊎ (Contains (keys_of (around ++ laid)) key × Any (λ entry. IsTrue (holds entry.piece.rect (beyond stitch block.rect).x (beyond stitch block.rect).y)) (around ++ laid))
   pending-stitch key block stitch None kept is leads = inl leads
-  pending-stitch key block stitch (Some other) kept is leads = elim (listed_cases touched other) [
+  pending-stitch key block stitch (Some other) kept is leads = elim (cases_Contains touched other) [
     | inl (k, within, same) ↦
         let at = beyond stitch block.rect in
         let held : IsHeld blocks touched at = (k, other, within, same, leads) in
