@@ -1,3 +1,4 @@
+pub mod BuiltTiles
 pub mod CloseSquares
 pub mod DistinctNumbers
 pub mod FreshTiles
