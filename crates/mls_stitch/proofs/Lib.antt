@@ -1,6 +1,14 @@
+pub mod BuiltTiles
+pub mod CloseSquares
 pub mod DistinctNumbers
+pub mod FreshTiles
 pub mod KeptStitches
+pub mod Laying
 pub mod ListedTiles
+pub mod Listings
 pub mod MaximalTiles
+pub mod ReplacedBlocks
+pub mod ReplacedStitches
+pub mod ReplacedTiles
 pub mod ShownTiles
 pub mod Sides

@@ -2,9 +2,11 @@
 #![tactic(auto)]
 
 mod area;
+mod around;
 mod build;
 mod find;
 mod laid_tile;
+mod place;
 mod plane;
 mod replace;
 mod scratch;
