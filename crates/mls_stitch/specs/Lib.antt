@@ -1,4 +1,5 @@
 pub mod Areas
+pub mod Lookups
 pub mod Pending
 pub mod Replacements
 pub mod Stitches
