@@ -23,13 +23,20 @@ first_square Bl rect = record { x = rect.right - 1; y = rect.bottom }
 first_square Tr rect = record { x = rect.left; y = rect.bottom }
 first_square Rt rect = record { x = rect.left; y = rect.bottom }
 
+-- where a rectangle begins for the tiles whose stitch leads to it, and where the square beyond it lies
+abbrev pub start_of : Stitch → Rect → Place
+start_of stitch rect = place_of stitch (first_square stitch rect)
+
+abbrev pub place_beyond : Stitch → Rect → Place
+place_beyond stitch rect = place_of stitch (beyond stitch rect)
+
 -- by line, and then along it
 abbrev pub is_up_to : Place → Place → Bool
 is_up_to p q = nat_lt p.line q.line || (p.line == q.line && nat_le p.along q.along)
 
--- the tiles are in the order of their first squares
+-- the tiles are in the order in which they begin
 abbrev pub AreSortedFor : Stitch → List LaidTile → Type 0
-AreSortedFor stitch = AllPairs (λ p q. IsTrue (is_up_to (place_of stitch (first_square stitch p.piece.rect)) (place_of stitch (first_square stitch q.piece.rect))))
+AreSortedFor stitch = AllPairs (λ p q. IsTrue (is_up_to (start_of stitch p.piece.rect) (start_of stitch q.piece.rect)))
 
 -- the tile is laid as this block
 abbrev pub IsLaid : (ℕ → Option Piece) → LaidTile → Type 0

@@ -1,0 +1,2 @@
+pub mod SettingStitches
+pub mod TilesBeyond
