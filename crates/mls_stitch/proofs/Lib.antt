@@ -10,5 +10,7 @@ pub mod MaximalTiles
 pub mod ReplacedBlocks
 pub mod ReplacedStitches
 pub mod ReplacedTiles
+pub mod SettingStitches
 pub mod ShownTiles
 pub mod Sides
+pub mod TilesBeyond
