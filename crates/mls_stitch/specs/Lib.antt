@@ -1,5 +1,6 @@
 pub mod Areas
 pub mod Enumerations
+pub mod Lookups
 pub mod Pending
 pub mod Replacements
 pub mod Stitches

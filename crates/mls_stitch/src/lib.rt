@@ -5,6 +5,7 @@ mod area;
 mod build;
 mod find;
 mod laid_tile;
+mod lookup;
 mod plane;
 mod replace;
 mod scratch;

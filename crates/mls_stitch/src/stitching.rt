@@ -10,7 +10,6 @@ ghost use Rattle.mls_stitch.specs.Tilings.{AreTiledAs};
 use crate::LaidTile;
 use mls_tilepool::{Owner, Pool};
 
-
 /// Sets each stitch of the listed tiles that leads to a listed tile. In the order of n log n for n tiles.
 pub(crate) fn stitch_listed(pool: &mut Pool, owner: &Owner, entries: &mut [LaidTile])
     // Some blocks are those as which the tiles are placed.
@@ -18,5 +17,4 @@ pub(crate) fn stitch_listed(pool: &mut Pool, owner: &Owner, entries: &mut [LaidT
     ensures stitched { (blocks : ℕ → Option Piece) → AwaitStitches (tiles_of pool.old owner.now) blocks entries.old → AreTiledAs (tiles_of pool.new owner.now) blocks }
     ensures count { count_of pool.new owner.now ≡ count_of pool.old owner.now }
     ensures only { ChangesOnly pool.old pool.new owner.now }
-{
-}
+{}
