@@ -1,3 +1,4 @@
 pub mod Listings
+pub mod Neighbours
 pub mod SideListings
 pub mod Sides

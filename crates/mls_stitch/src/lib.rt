@@ -3,6 +3,7 @@
 
 mod area;
 mod build;
+mod enumeration;
 mod find;
 mod laid_tile;
 mod lookup;
@@ -12,6 +13,7 @@ mod scratch;
 mod split;
 mod stitch;
 mod stitching;
+mod walk;
 
 pub use laid_tile::LaidTile;
 pub use plane::Plane;
