@@ -1,4 +1,9 @@
+pub mod DistinctNumbers
+pub mod KeptStitches
+pub mod ListedTiles
 pub mod Listings
+pub mod MaximalTiles
 pub mod Neighbours
+pub mod ShownTiles
 pub mod SideListings
 pub mod Sides
