@@ -7,10 +7,12 @@ pub mod Laying
 pub mod ListedTiles
 pub mod Listings
 pub mod MaximalTiles
+pub mod Neighbours
 pub mod ReplacedBlocks
 pub mod ReplacedStitches
 pub mod ReplacedTiles
 pub mod SettingStitches
 pub mod ShownTiles
+pub mod SideListings
 pub mod Sides
 pub mod TilesBeyond
