@@ -1,5 +1,9 @@
+pub mod Adding
 pub mod ChainTiles
 pub mod Chains
+pub mod PoolChanges
 pub mod Relinking
+pub mod Removing
+pub mod Rows
 pub mod Slots
 pub mod TileLists
