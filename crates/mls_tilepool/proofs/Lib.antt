@@ -2,6 +2,7 @@ pub mod Adding
 pub mod ChainTiles
 pub mod Chains
 pub mod PoolChanges
+pub mod PoolSteps
 pub mod Relinking
 pub mod Removing
 pub mod Rows
