@@ -164,7 +164,7 @@ module _ (places : Slab Place) (owner : ℕ) (row : Row) (key : ℕ) (place : Pl
       ]
 
 -- a slot that is no place of the owner's has none of its tiles, and the other way round
-none_owned : (owner : ℕ) (slot : Option Place) → ((place : Place) → slot ≡ Some place → place.owner ≢ owner) → owned owner (held_of slot) ≡ None
+pub none_owned : (owner : ℕ) (slot : Option Place) → ((place : Place) → slot ≡ Some place → place.owner ≢ owner) → owned owner (held_of slot) ≡ None
 none_owned owner None apart = refl
 none_owned owner (Some place) apart = cond-false (eqb place.owner owner) (Some place.tile) None (ne_eqb place.owner owner (apart place refl))
 

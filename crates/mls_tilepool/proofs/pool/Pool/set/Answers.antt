@@ -1,19 +1,23 @@
-use Rattle.std.proofs.Common.{rules, ◌≡◌, ℕ, ◌+◌, ◌≤◌, ◌<◌, ◌↔◌, [], Some, None, IfOk, IfSome, OnOk, OnErr, IfNone, IsErr, IsSome, ◌-◌, ◌*◌, length, ◌/◌, ◌%◌, Bool, true, false, nat_eq, nat_lt, List, ◌∷◌, ◌++◌, slice_index_or, slice_set, bit_and, bit_or, Fits, w8, w32, w64, Bor, MutBor}
-use Rattle.mls_tilepool.specs.Pools.{Changes, IsOwner, ListsTiles, Reserves, count_of, room_of, tile_at, tiles_of, unreserved}
+use Rattle.std.proofs.Common.{IsSome}
+use Rattle.mls_tilepool.specs.Pools.{tile_at}
+use Rattle.mls_tilepool.specs.Chains.{pool_of}
+use Rattle.mls_tilepool.proofs.PoolViews.{place_owner, place_there, row_there}
+use Rattle.mls_tilepool.proofs.TileCalls.{Changes-retiled, IsPool-retiled, count_of-retiled}
 use Rattle.mls_tilepool.proofs.pool.Pool.set.Goals as goal
 
--- src/pool.rt:192:9
-pub index_mut-requires : goal.index_mut-requires
-index_mut-requires c = ?
+there : (c : goal.After-id) → IsSome (tile_at (pool_of c.self.inside.capacity c.self.inside.places.slots c.self.inside.rows.slots) c.args.owner.now c.id.inside.key)
+there c = rw (c.self.view_is, c.id.view_is) c.requires
 
--- src/pool.rt:187:5
+pub index_mut-requires : goal.index_mut-requires
+index_mut-requires c =
+    let s = c.self.inside in
+    place_there s.capacity s.reserved s.places s.rows c.args.owner.now c.id.inside.key (rw (c.self.view_is, c.id.view_is) c.requires)
+
 pub invariant_of-self : goal.invariant_of-self
 invariant_of-self c = ?
 
--- src/pool.rt:187:5
 pub returns-clause-changes : goal.returns-clause-changes
 returns-clause-changes c = ?
 
--- src/pool.rt:187:5
 pub returns-clause-count : goal.returns-clause-count
 returns-clause-count c = ?
