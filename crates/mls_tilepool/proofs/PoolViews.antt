@@ -17,6 +17,10 @@ pub IfSome-at : {X : Type 0} (P : X → Type 0) (o : Option X) (x : X) → o ≡
 IfSome-at P None x there holds = cc
 IfSome-at P (Some y) x there holds = let same : y ≡ x = cc in rw same holds
 
+pub some_value : {X : Type 0} (o : Option X) → IsSome o → (x : X) × (o ≡ Some x)
+some_value None there = absurd (cc)
+some_value (Some x) there = (x, refl)
+
 -- an owner's slot, and another's
 pub owned-held : (owner : ℕ) (place : Place) → place.owner ≡ owner → owned owner (held_of (Some place)) ≡ Some place.tile
 owned-held owner place owns = cond-true (eqb place.owner owner) (Some place.tile) None (eq-eqb place.owner owner owns)
