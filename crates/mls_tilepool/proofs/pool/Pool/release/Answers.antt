@@ -1,35 +1,36 @@
-use Rattle.std.proofs.Common.{rules, ◌≡◌, ℕ, ◌+◌, ◌≤◌, ◌<◌, ◌↔◌, [], Some, None, IfOk, IfSome, OnOk, OnErr, IfNone, IsErr, IsSome, ◌-◌, ◌*◌, length, ◌/◌, ◌%◌, Bool, true, false, nat_eq, nat_lt, List, ◌∷◌, ◌++◌, slice_index_or, slice_set, bit_and, bit_or, Fits, w8, w32, w64, Bor, MutBor}
-use Rattle.mls_tilepool.specs.Pools.{Changes, IsOwner, ListsTiles, Reserves, count_of, room_of, tile_at, tiles_of, unreserved}
+use Rattle.std.proofs.Common.{◌≡◌, ◌+◌, get_or, None, is_some, refl, sym, ap, ◌∙◌, arith}
+use Rattle.mls_tilepool.specs.Pools.{unreserved}
+use Rattle.mls_tilepool.proofs.OwnerCalls.{IsPool-let_go, OthersKeep, Reserves-from_released, Reserves-released, unreserved-released, unreserved-same}
+use Rattle.mls_tilepool.proofs.PoolViews.{IfSome-at, room_of-row}
 use Rattle.mls_tilepool.proofs.pool.Pool.release.Goals as goal
 
--- src/pool.rt:137:9
 pub loop-id-init : goal.loop-id-init
-loop-id-init c = ?
+loop-id-init c = record { rooms = refl; capacity = refl; others = λ other differs. refl }
 
--- src/pool.rt:137:30
 pub first-requires : goal.first-requires
-first-requires c = ?
+first-requires c = ap (λ rooms. is_some (get_or rooms c.args.owner None)) c.loop-id.invariant.rooms ∙ c.requires
 
--- src/pool.rt:137:9
 pub loop-id-smaller : goal.loop-id-smaller
-loop-id-smaller c = ?
+loop-id-smaller c = omega (arith, c.remove.ensures.count)
 
--- src/pool.rt:137:9
 pub loop-id-preserved : goal.loop-id-preserved
-loop-id-preserved c = ?
+loop-id-preserved c =
+    let changes = c.remove.ensures.changes in
+    let kept = c.loop-id.invariant in
+    record {
+      rooms = changes.rooms ∙ kept.rooms;
+      capacity = changes.capacity ∙ kept.capacity;
+      others = λ other differs. changes.others other differs ∙ kept.others other differs;
+    }
 
--- src/pool.rt:140:13
 pub remove-row-requires : goal.remove-row-requires
 remove-row-requires c = ?
 
--- src/pool.rt:131:5
 pub invariant_of-self : goal.invariant_of-self
 invariant_of-self c = ?
 
--- src/pool.rt:131:5
 pub returns-clause-releases : goal.returns-clause-releases
 returns-clause-releases c = ?
 
--- src/pool.rt:131:5
 pub returns-clause-given_back : goal.returns-clause-given_back
 returns-clause-given_back c = ?
