@@ -1,1 +1,2 @@
 pub mod FreshStrips
+pub mod OtherPlanes
