@@ -79,11 +79,11 @@ impl Sweep {
         requires starts { AreStarts self.old.pieces.items self.old.starts.items }
         requires room { HasSweepRoom self.old (vec_len self.old.pieces) }
         requires limit { limit ≤ vec_capacity self.old.strips }
-        ensures stacked { OnOk result (AreStacked world (picture_of self.old.pieces.items) world.top
+        ensures stacked { OnOk result (AreStacked world (laid self.old.pieces.items) world.top
             self.new.strips.items self.new.below.items) }
         ensures within { OnOk result (vec_len self.new.strips ≤ limit) }
         ensures too_many { OnErr result
-            (limit < tile_count world (picture_of self.old.pieces.items)) }
+            (limit < covered_count world (laid self.old.pieces.items)) }
         ensures room { (n : ℕ) → HasSweepRoom self.old n → HasSweepRoom self.new n }
     {
         let Sweep {
