@@ -1,7 +1,7 @@
 -- What painted slots show.
-use Rattle.std.proofs.Common.{◌≡◌, ℕ, ◌<◌, false, List, length, slice_index, inl, inr, sym, ◌∙◌, arith}
-use Rattle.std.proofs.lemmas.Bool.{cond-false, cond-true, le-ltb, lt-ltb, cases_lt}
-use Rattle.mls_geom.specs.Sweep.Slots.{AreSlots, is_painted, slot_kind}
+use Rattle.std.proofs.Common.{◌≡◌, ℕ, false, List, slice_index}
+use Rattle.std.proofs.lemmas.Bool.{cond-false}
+use Rattle.mls_geom.specs.Sweep.Slots.{is_painted, slot_kind}
 
 -- where nothing is painted, the kind below shows
 pub slot_kind-free : (kinds free : List ℕ) (slot below : ℕ) → is_painted free slot ≡ false → slot_kind kinds free slot below ≡ below
