@@ -1,5 +1,6 @@
 pub mod BuiltTiles
 pub mod CloseSquares
+pub mod CutBlocks
 pub mod DistinctNumbers
 pub mod FreshTiles
 pub mod KeptStitches
@@ -12,3 +13,4 @@ pub mod ReplacedStitches
 pub mod ReplacedTiles
 pub mod ShownTiles
 pub mod Sides
+pub mod SplitTiles
