@@ -1,5 +1,12 @@
+pub mod DistinctNumbers
 pub mod FreshTiles
+pub mod KeptStitches
 pub mod Laying
+pub mod ListedTiles
 pub mod Listings
+pub mod MaximalTiles
 pub mod ReplacedBlocks
+pub mod SettingStitches
+pub mod ShownTiles
 pub mod Sides
+pub mod TilesBeyond

@@ -1,6 +1,6 @@
 -- The sides of tiles: a tile's right side is the left side of the tile to which one stitch leads, and its top the bottom of another.
 use Rattle.std.proofs.Common.{◌≡◌, ℕ, ◌-◌, ◌<◌, ◌≤◌, true, false, Option, Some, None, List, inl, inr, refl, sym, ap, ◌∙◌, subst, arith}
-use Rattle.std.specs.Option.{IsSomeAnd, option_map, option_map_or}
+use Rattle.std.specs.Option.{IsSomeAnd, option_map}
 use Rattle.std.proofs.Math.Path.{fun_ext}
 use Rattle.std.proofs.lemmas.Bool.{both_ways, cases_lt}
 use Rattle.std.proofs.lemmas.Option.{same_Some}
@@ -10,7 +10,7 @@ use Rattle.mls_geom.specs.declared.piece.Piece.{Piece}
 use Rattle.mls_geom.proofs.Holds.{holds_between, between_holds}
 use Rattle.mls_tilepool.specs.Pools.{tile_in}
 use Rattle.mls_tilepool.specs.declared.tile.Tile.{Tile}
-use Rattle.mls_stitch.specs.Stitches.{HoldsAt, LeadsTo, beyond, stitch_of}
+use Rattle.mls_stitch.specs.Stitches.{HoldsAt, LeadsTo, beyond}
 use Rattle.mls_stitch.specs.Tilings.{AreBlocks, AreTiledAs, ArePlaced, IsPlaced, IsPlane, block_at, block_of, bottom_beyond, left_beyond}
 use Rattle.mls_stitch.specs.declared.stitch.Stitch.TheVariants.{Tr, Rt}
 

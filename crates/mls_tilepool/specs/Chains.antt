@@ -1,9 +1,9 @@
 -- How the pool keeps an owner's tiles: each owner has a row, and its tiles are a doubly linked list that runs through their places.
-use Rattle.std.specs.Prelude.{◌≡◌, ◌≢◌, ℕ, zero, suc, ◌+◌, ◌≤◌, ◌==◌, if◌then◌else◌, Bool, false, List, [], ◌∷◌, length, Option, Some, None, slice_index_or}
-use Rattle.std.specs.List.{All, Contains, sum_by}
+use Rattle.std.specs.Prelude.{◌≡◌, ℕ, zero, suc, ◌≤◌, ◌==◌, if◌then◌else◌, Bool, false, List, [], ◌∷◌, map, length, Option, Some, None, slice_index_or}
+use Rattle.std.specs.List.{Contains, sum_by}
 use Rattle.std.specs.Option.{option_map, option_map_or}
-use Rattle.slab.specs.Slab.{Slab, get, ContainsKey, slab_len}
-use Rattle.mls_tilepool.specs.Pools.{Held}
+use Rattle.slab.specs.Slab.{Slab, get, ContainsKey, entries_from, slab_len}
+use Rattle.mls_tilepool.specs.Pools.{Held, owned}
 use Rattle.mls_tilepool.specs.declared.chain.Place.{Place}
 use Rattle.mls_tilepool.specs.declared.chain.Row.{Row}
 use Rattle.mls_tilepool.specs.declared.tile.Tile.{Tile}
@@ -28,22 +28,22 @@ abbrev pub IsChain : List (Option Place) → ℕ → Option ℕ → Option ℕ �
 IsChain places owner previous link [] = link ≡ None
 IsChain places owner previous link (key ∷ rest) =
     (link ≡ Some key)
-    × All (λ other. other ≢ key) rest
+    × (¬ Contains rest key)
     × (place : Place)
     × (slice_index_or places key None ≡ Some place)
     × (place.owner ≡ owner)
     × (place.previous ≡ previous)
     × IsChain places owner (Some key) place.next rest
 
--- 1 for a place of the owner's, and otherwise 0
-abbrev pub owned_count : ℕ → Option Place → ℕ
-owned_count owner place = option_map_or (λ p. if p.owner == owner then 1 else 0) place 0
+-- for each key the owner's tile
+abbrev pub owned_slots : ℕ → List (Option Place) → List (Option Tile)
+owned_slots owner places = map (owned owner) (map held_of places)
 
 -- the owner has room, and its chain has all its places
 pub record IsRow (places : List (Option Place)) (owner : ℕ) (row : Row) : Type 0 where
   pub some : 1 ≤ row.room
   pub within : row.count ≤ row.room
-  pub count : row.count ≡ sum_by (owned_count owner) places
+  pub count : row.count ≡ length (entries_from 0 (owned_slots owner places))
   pub keys : List ℕ
   pub chain : IsChain places owner None row.first keys
   pub each : length keys ≡ row.count

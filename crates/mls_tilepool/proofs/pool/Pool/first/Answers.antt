@@ -1,0 +1,11 @@
+use Rattle.std.proofs.Common.{rules, ◌≡◌, ℕ, ◌+◌, ◌≤◌, ◌<◌, ◌↔◌, [], Some, None, IfOk, IfSome, OnOk, OnErr, IfNone, IsErr, IsSome, ◌-◌, ◌*◌, length, ◌/◌, ◌%◌, Bool, true, false, nat_eq, nat_lt, List, ◌∷◌, ◌++◌, slice_index_or, slice_set, bit_and, bit_or, Fits, w8, w32, w64, Bor, MutBor}
+use Rattle.mls_tilepool.specs.Pools.{Changes, IsOwner, ListsTiles, Reserves, count_of, room_of, tile_at, tiles_of, unreserved}
+use Rattle.mls_tilepool.proofs.pool.Pool.first.Goals as goal
+
+-- src/pool.rt:103:19
+pub returns-in_err-key-clause-none : goal.returns-in_err-key-clause-none
+returns-in_err-key-clause-none c = ?
+
+-- src/pool.rt:98:5
+pub returns-clause-some : goal.returns-clause-some
+returns-clause-some c = ?
