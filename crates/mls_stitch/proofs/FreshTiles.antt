@@ -61,17 +61,6 @@ Contains-from_map f (x ∷ xs) y found = elim (Contains-first_or_rest (f x) y (m
   | inr later ↦ let (z, there, is) = Contains-from_map f xs y later in (z, Contains-rest x z xs there, is)
 ]
 
--- a key is listed or not
-pub listed_cases : (keys : List ℕ) (key : ℕ) → Contains keys key ⊎ (¬ (Contains keys key))
-listed_cases [] key = inr (nothing_in_nil key)
-listed_cases (k ∷ keys) key = elim (cases_Bool (k == key)) [
-  | inl same ↦ inl (Contains-first k key keys (eqb-true k key same))
-  | inr differ ↦ elim (listed_cases keys key) [
-    | inl later ↦ inl (Contains-rest k key keys later)
-    | inr absent ↦ inr (λ found. ⊎_elim (eqb-false k key differ) absent (Contains-first_or_rest k key keys found))
-  ]
-]
-
 -- the test finds a listed key, and no other
 pub list_any-Contains : (keys : List ℕ) (key : ℕ) → Contains keys key → list_any (λ k. k == key) keys ≡ true
 list_any-Contains keys key (k, within, is) = list_any-from_Any (λ k. k == key) keys (k, key, within, is, eq-eqb key key refl)

@@ -1,3 +1,5 @@
+pub mod BuiltTiles
+pub mod CloseSquares
 pub mod DistinctNumbers
 pub mod FreshTiles
 pub mod KeptStitches
@@ -6,6 +8,8 @@ pub mod ListedTiles
 pub mod Listings
 pub mod MaximalTiles
 pub mod ReplacedBlocks
+pub mod ReplacedStitches
+pub mod ReplacedTiles
 pub mod SettingStitches
 pub mod ShownTiles
 pub mod Sides

@@ -15,11 +15,12 @@ use Rattle.mls_stitch.specs.Replacements.{AreApart, IsHeld}
 use Rattle.mls_stitch.specs.Stitches.{HoldsAt}
 use Rattle.mls_stitch.specs.Tilings.{AreBlocks}
 use Rattle.mls_stitch.specs.declared.laid_tile.LaidTile.{LaidTile}
-use Rattle.mls_stitch.proofs.FreshTiles.{AllPairs-either, AllPairs-from_map, Contains-from_map, cases_Option, entry-keys_of, fresh_at-absent, fresh_at-entry, fresh_at-listed, list_any-Contains, list_any-absent, listed_cases}
+use Rattle.mls_stitch.proofs.DistinctNumbers.{cases_Contains}
+use Rattle.mls_stitch.proofs.FreshTiles.{AllPairs-either, AllPairs-from_map, Contains-from_map, cases_Option, entry-keys_of, fresh_at-absent, fresh_at-entry, fresh_at-listed, list_any-Contains, list_any-absent}
 use Rattle.mls_stitch.proofs.Sides.{HoldsAt-block, legal-AreBlocks, there-IsSomeAnd}
 
 -- a listed tile's piece
-abbrev piece_of : LaidTile → Piece
+abbrev pub piece_of : LaidTile → Piece
 piece_of entry = entry.piece
 
 -- a listed tile has its piece
@@ -54,7 +55,7 @@ pub replaced_cases :
     (blocks : ℕ → Option Piece) (touched : List ℕ) (laid : List LaidTile) (key : ℕ) (piece : Piece) → replaced blocks touched laid key ≡ Some piece
     → Contains laid (record { id = key; piece = piece }) ⊎ ((¬ (Contains touched key)) × (blocks key ≡ Some piece))
 replaced_cases blocks touched laid key piece is = elim (cases_Option (fresh_at laid key)) [
-  | inl none ↦ elim (listed_cases touched key) [
+  | inl none ↦ elim (cases_Contains touched key) [
     | inl found ↦ absurd (none-some piece (sym (unlisted blocks touched laid key none ∙ untouched-there blocks touched key found) ∙ is))
     | inr absent ↦ inr (absent, sym (unlisted blocks touched laid key none ∙ untouched-absent blocks touched key absent) ∙ is)
   ]
@@ -144,7 +145,7 @@ module _ (blocks : ℕ → Option Piece) (touched : List ℕ) (laid : List LaidT
     whole : (at : Point) → IsTrue (holds world at.x at.y) → (key : ℕ) × HoldsAt (replaced blocks touched laid) key at
     whole at inside =
         let (key, held) = tiling.whole at inside in
-        elim (listed_cases touched key) [
+        elim (cases_Contains touched key) [
           | inl (k, within, is) ↦ let (entry, found, there) = entry-held at (k, key, within, is, held) in (entry.id, HoldsAt-entry entry at found there)
           | inr kept ↦ (key, HoldsAt-stays key at kept held)
         ]
