@@ -11,6 +11,8 @@ pub mod MaximalTiles
 pub mod ReplacedBlocks
 pub mod ReplacedStitches
 pub mod ReplacedTiles
+pub mod SettingStitches
 pub mod ShownTiles
 pub mod Sides
 pub mod SplitTiles
+pub mod TilesBeyond

@@ -1,6 +1,7 @@
 pub mod Areas
 pub mod Enumerations
 pub mod Fresh
+pub mod Lookups
 pub mod Pending
 pub mod Placing
 pub mod Replacements

@@ -6,6 +6,7 @@ mod around;
 mod build;
 mod find;
 mod laid_tile;
+mod lookup;
 mod place;
 mod plane;
 mod replace;

@@ -38,9 +38,10 @@ pub(crate) fn place_all(
     ensures room { vec_capacity entries.new ≡ vec_capacity entries.old }
 {
     for piece in pieces {
-        if let Ok(id) = pool.add(owner, unstitched_tile(piece)) {
-            entries.push_reserved(LaidTile { id, piece: *piece });
-        }
+        let Ok(id) = pool.add(owner, unstitched_tile(piece)) else {
+            unreachable!();
+        };
+        entries.push_reserved(LaidTile { id, piece: *piece });
     }
 }
 
