@@ -28,7 +28,11 @@ owned-held owner place owns = cond-true (eqb place.owner owner) (Some place.tile
 pub owned-not : (owner : ℕ) (place : Place) → place.owner ≢ owner → owned owner (held_of (Some place)) ≡ None
 owned-not owner place differs = cond-false (eqb place.owner owner) (Some place.tile) None (ne_eqb place.owner owner differs)
 
--- two lists of nothing
+row_live : (row : Option Row) → IsSome (room_in row) → IsSome row
+row_live None live = live
+row_live (Some row) live = refl
+
+-- a list of no elements
 empty_list : {X : Type 0} (xs : List X) → length xs ≡ 0 → xs ≡ []
 empty_list [] none = refl
 empty_list (x ∷ xs) none = absurd (omega (arith, none))
@@ -65,6 +69,10 @@ module _ (capacity reserved : ℕ) (places : Slab Place) (rows : Slab Row) where
       let both : Some own.0 ≡ Some place = sym own.1 ∙ found in
       let same : own.0 ≡ place = cc in
       ap (λ p. p.owner) (sym same) ∙ own.2
+
+  -- an owner has a row
+  pub owner_row : (owner : ℕ) → IsOwner viewed owner → ContainsKey rows owner
+  owner_row owner live = row_live (get rows owner) (ap is_some (sym (room_at rows.slots owner)) ∙ live)
 
   -- an owner's reserve, by its row
   pub room_of-row : (owner : ℕ) (row : Row) → get rows owner ≡ Some row → room_of viewed owner ≡ Some row.room

@@ -29,11 +29,11 @@ abbrev pub first_after : Option ℕ → Option ℕ → Option ℕ → Option ℕ
 first_after None next link = next
 first_after (Some before) next link = link
 
-first_after-some : (previous next link : Option ℕ) (before : ℕ) → previous ≡ Some before → first_after previous next link ≡ link
+pub first_after-some : (previous next link : Option ℕ) (before : ℕ) → previous ≡ Some before → first_after previous next link ≡ link
 first_after-some None next link before some = cc
 first_after-some (Some own) next link before some = refl
 
-first_after-none : (previous next link : Option ℕ) → previous ≡ None → first_after previous next link ≡ next
+pub first_after-none : (previous next link : Option ℕ) → previous ≡ None → first_after previous next link ≡ next
 first_after-none None next link none = refl
 first_after-none (Some own) next link none = cc
 

@@ -1,6 +1,6 @@
 use Rattle.std.proofs.Common.{◌≡◌, refl, sym, ap, ◌∙◌, arith}
 use Rattle.mls_tilepool.proofs.PoolViews.{place_owner, place_there, row_there, tile_at-place_own}
-use Rattle.mls_tilepool.proofs.Removing.{first_after}
+use Rattle.mls_tilepool.proofs.Removing.{first_after, first_after-none, first_after-some}
 use Rattle.mls_tilepool.proofs.TileCalls.{Changes-removed, IsPool-removed, count_of-removed, counted}
 use Rattle.mls_tilepool.proofs.pool.Pool.remove.Goals.{in-Some, in-None}
 use Rattle.mls_tilepool.proofs.pool.Pool.remove.Goals as goal
@@ -27,7 +27,13 @@ overflow_sub-row c =
 
 -- the row's first tile, as the code finds it
 first_is : (c : goal.After-self-1) → c.match-place.first ≡ first_after c.remove-place.result.previous c.remove-place.result.next c.index-row.result.now.first
-first_is c = ?
+first_is c =
+    let place = c.remove-place.result in
+    let link = c.index-row.result.now.first in
+    elim c.match-place.branch [
+      | in-Some w ↦ w.first-is ∙ sym (first_after-some place.previous place.next link _ w.in-Some.is)
+      | in-None w ↦ w.first-is ∙ sym (first_after-none place.previous place.next link w.in-None.is)
+    ]
 
 pub invariant_of-self : goal.invariant_of-self
 invariant_of-self c =
