@@ -40,8 +40,8 @@ vacant_apart places owner row is key vacant inside =
 vacant_unlinked : (places : List (Option Place)) (owner : ℕ) (row : Row) → IsRow places owner row → (key : ℕ) → get_or places key None ≡ None → leads_to row.first key ≡ false
 vacant_unlinked places owner row is key vacant =
     false_from_ne_true (leads_to row.first key) (λ leads.
-      vacant_apart places owner row is key vacant
-        (IsChain-head places owner None row.first is.keys key is.chain (leads_to-true row.first key leads)))
+    vacant_apart places owner row is key vacant
+    (IsChain-head places owner None row.first is.keys key is.chain (leads_to-true row.first key leads)))
 
 module _ (old new : List (Option Place)) (owner : ℕ) (row : Row) (key : ℕ) (tile : Tile) where
   -- what stands under the new key
@@ -70,21 +70,24 @@ module _ (old new : List (Option Place)) (owner : ℕ) (row : Row) (key : ℕ) (
         | inl same ↦
             let before : get_or old k None ≡ None = ap (λ x. get_or old x None) same ∙ vacant in
             let after : get_or new k None ≡ Some (fresh_place owner tile row.first) = ap (λ x. get_or new x None) same ∙ added_here is vacant adds in
-            inr (λ place found. absurd (cc), λ place found.
-              let both : Some (fresh_place owner tile row.first) ≡ Some place = sym after ∙ found in
-              let there : fresh_place owner tile row.first ≡ place = cc in
-              ap (λ p. p.owner) (sym there))
+            inr (
+              λ place found. absurd (cc),
+              λ place found.
+                  let both : Some (fresh_place owner tile row.first) ≡ Some place = sym after ∙ found in
+                  let there : fresh_place owner tile row.first ≡ place = cc in
+                  ap (λ p. p.owner) (sym there),
+            )
         | inr differs ↦
             let slot = get_or old k None in
             let kept = cond-false (eqb k key) (Some (fresh_place owner tile row.first)) slot (ne_eqb k key differs) in
             elim (cases_Bool (leads_to row.first k)) [
               | inl leads ↦
                   let there = IsChain-owner old owner None row.first is.keys k is.chain
-                      (IsChain-head old owner None row.first is.keys k is.chain (leads_to-true row.first k leads)) in
+                  (IsChain-head old owner None row.first is.keys k is.chain (leads_to-true row.first k leads)) in
                   let own : IsOwn owner slot = λ place found.
-                      let both : Some there.0 ≡ Some place = sym there.1 ∙ found in
-                      let same : there.0 ≡ place = cc in
-                      ap (λ p. p.owner) (sym same) ∙ there.2 in
+                  let both : Some there.0 ≡ Some place = sym there.1 ∙ found in
+                  let same : there.0 ≡ place = cc in
+                  ap (λ p. p.owner) (sym same) ∙ there.2 in
                   inr (own, IsOwn-held owner slot (get_or new k None) (added_held adds k differs) own)
               | inr away ↦ inl (adds k ∙ linked-false (with_previous (Some key)) row.first k _ away ∙ kept)
             ]
@@ -101,14 +104,27 @@ module _ (old new : List (Option Place)) (owner : ℕ) (row : Row) (key : ℕ) (
       record {
         some = is.some;
         within = omega (arith, fits);
-        count = omega (arith, is.count, change, ap (λ slot. tile_count (owned owner (held_of slot))) vacant,
-            ap (λ slot. tile_count (owned owner (held_of slot))) here, ap tile_count (owned-own owner tile));
+        count = omega (
+          arith,
+          is.count,
+          change,
+          ap (λ slot. tile_count (owned owner (held_of slot))) vacant,
+          ap (λ slot. tile_count (owned owner (held_of slot))) here,
+          ap tile_count (owned-own owner tile),
+        );
         keys = key ∷ is.keys;
-        chain = (refl, apart, fresh_place owner tile row.first, here, refl, refl,
+        chain = (
+          refl,
+          apart,
+          fresh_place owner tile row.first,
+          here,
+          refl,
+          refl,
           IsChain-relinked old new owner None (Some key) row.first is.keys (λ k inside.
-            adds k
-            ∙ ap (linked (with_previous (Some key)) row.first k)
-                (cond-false (eqb k key) (Some (fresh_place owner tile row.first)) (get_or old k None) (ne_eqb k key (λ same. apart (rw same at inside))))) is.chain);
+              adds k
+              ∙ ap (linked (with_previous (Some key)) row.first k)
+              (cond-false (eqb k key) (Some (fresh_place owner tile row.first)) (get_or old k None) (ne_eqb k key (λ same. apart (rw same at inside))))) is.chain,
+        );
         each = omega (arith, is.each);
         all = λ k place found owns.
             elim (cases_eq k key) [

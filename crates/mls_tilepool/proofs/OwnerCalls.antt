@@ -13,9 +13,9 @@ use Rattle.mls_tilepool.proofs.PoolViews.{IfSome-at, room_of-row, unreserved-poo
 pub unowned : (capacity reserved : ℕ) (places : Slab Place) (rows : Slab Row) (owner : ℕ) → IsPool capacity reserved places rows → get rows owner ≡ None → (key : ℕ) → owned owner (held_of (get places key)) ≡ None
 unowned capacity reserved places rows owner is vacant key =
     none_owned owner (get places key) (λ place found same.
-      let live = ap (λ k. is_some (get rows k)) (sym same) ∙ is.each key place found in
-      let none = ap is_some vacant in
-      cc)
+    let live = ap (λ k. is_some (get rows k)) (sym same) ∙ is.each key place found in
+    let none = ap is_some vacant in
+    cc)
 
 -- an owner whose row changes, and that has no place
 Reserves-updated :
@@ -58,8 +58,13 @@ module _ (capacity reserved : ℕ) (places : Slab Place) (rows new : Slab Row) (
 
     pub unreserved-released : unreserved (pool_of capacity places.slots new.slots) ≡ unreserved (pool_of capacity places.slots rows.slots) + row.room
     unreserved-released =
-        omega (arith, unreserved-pool capacity (reserved - row.room) places new IsPool-let_go, unreserved-pool capacity reserved places rows is,
-            room_reserved capacity reserved places rows owner row is found, is.within)
+        omega (
+          arith,
+          unreserved-pool capacity (reserved - row.room) places new IsPool-let_go,
+          unreserved-pool capacity reserved places rows is,
+          room_reserved capacity reserved places rows owner row is found,
+          is.within,
+        )
 
 -- two pools with the same capacity and reserves have as much unreserved
 pub unreserved-same : (old new : Pool) → new.rooms ≡ old.rooms → new.capacity ≡ old.capacity → unreserved new ≡ unreserved old

@@ -114,9 +114,9 @@ module _ (capacity reserved : ℕ) (places : Slab Place) (rows : Slab Row) where
       chain_lists key None at =
           let own = is.owners owner row found in
           let outside : ¬ Contains own.keys key = λ inside.
-              let place = IsChain-owner places.slots owner None row.first own.keys key own.chain inside in
-              let there = place.1 in
-              cc in
+          let place = IsChain-owner places.slots owner None row.first own.keys key own.chain inside in
+          let there = place.1 in
+          cc in
           ap (λ n. tile_in (tiles_from places.slots n row.first) key) (sym own.each)
           ∙ tile_in-tiles_from_none places.slots owner None row.first own.keys key own.chain outside
           ∙ sym (ap (λ s. owned owner (held_of s)) at)
@@ -127,10 +127,10 @@ module _ (capacity reserved : ℕ) (places : Slab Place) (rows : Slab Row) where
             | inl same ↦ tile_in-tiles_from places.slots owner None row.first own.keys key own.chain (own.all key place at same)
             | inr differs ↦
                 let outside : ¬ Contains own.keys key = λ inside.
-                    let there = IsChain-owner places.slots owner None row.first own.keys key own.chain inside in
-                    let both : Some there.0 ≡ Some place = sym there.1 ∙ at in
-                    let same : there.0 ≡ place = cc in
-                    differs (ap (λ p. p.owner) (sym same) ∙ there.2) in
+                let there = IsChain-owner places.slots owner None row.first own.keys key own.chain inside in
+                let both : Some there.0 ≡ Some place = sym there.1 ∙ at in
+                let same : there.0 ≡ place = cc in
+                differs (ap (λ p. p.owner) (sym same) ∙ there.2) in
                 tile_in-tiles_from_none places.slots owner None row.first own.keys key own.chain outside
                 ∙ sym (ap (λ s. owned owner (held_of s)) at ∙ owned-not owner place differs)
           ]

@@ -69,7 +69,7 @@ module _ (old new : List (Option Place)) (owner : ℕ) (row : Row) (gone : ℕ) 
   removed_here removes =
       removes gone
       ∙ ap (λ s. linked (with_previous place.previous) place.next gone (linked (with_next place.next) place.previous gone s))
-          (cond-true (eqb gone gone) None (get_or old gone None) (eq-eqb gone gone refl))
+      (cond-true (eqb gone gone) None (get_or old gone None) (eq-eqb gone gone refl))
       ∙ ap (linked (with_previous place.previous) place.next gone) (linked-none (with_next place.next) (leads_to place.previous gone))
       ∙ linked-none (with_previous place.previous) (leads_to place.next gone)
 
@@ -104,7 +104,7 @@ module _ (old new : List (Option Place)) (owner : ℕ) (row : Row) (gone : ℕ) 
   removed_stay is found owns removes k =
       let inside = is.all gone place found owns in
       let own_there : Contains is.keys k → k ≢ gone → (get_or new k None ≡ get_or old k None) ⊎ (IsOwn owner (get_or old k None) × IsOwn owner (get_or new k None)) =
-          λ within differs. inr (chain_own is k within, IsOwn-held owner (get_or old k None) (get_or new k None) (removed_held removes k differs) (chain_own is k within)) in
+      λ within differs. inr (chain_own is k within, IsOwn-held owner (get_or old k None) (get_or new k None) (removed_held removes k differs) (chain_own is k within)) in
       elim (cases_eq k gone) [
         | inl same ↦
             let after : get_or new k None ≡ None = ap (λ x. get_or new x None) same ∙ removed_here removes in
@@ -117,9 +117,9 @@ module _ (old new : List (Option Place)) (owner : ℕ) (row : Row) (gone : ℕ) 
                     | inl leads ↦ own_there (previous_own is inside found k leads) differs
                     | inr no_previous ↦
                         inl (removes k
-                          ∙ linked-false (with_previous place.previous) place.next k _ no_next
-                          ∙ linked-false (with_next place.next) place.previous k _ no_previous
-                          ∙ cond-false (eqb k gone) None (get_or old k None) (ne_eqb k gone differs))
+                        ∙ linked-false (with_previous place.previous) place.next k _ no_next
+                        ∙ linked-false (with_next place.next) place.previous k _ no_previous
+                        ∙ cond-false (eqb k gone) None (get_or old k None) (ne_eqb k gone differs))
                   ]
             ]
       ]
@@ -136,12 +136,18 @@ module _ (old new : List (Option Place)) (owner : ℕ) (row : Row) (gone : ℕ) 
       let inside = is.all gone place found owns in
       let change = owned_count-change old new owner gone (removed_held removes) in
       let held : held_of (get_or old gone None) ≡ Some (record { owner = owner; tile = place.tile }) =
-          ap held_of found ∙ ap (λ o. Some (record { owner = o; tile = place.tile })) owns in
+      ap held_of found ∙ ap (λ o. Some (record { owner = o; tile = place.tile })) owns in
       record {
         some = is.some;
         within = omega (arith, is.within);
-        count = omega (arith, is.count, change, ap (λ slot. tile_count (owned owner slot)) held, ap tile_count (owned-own owner place.tile),
-            ap (λ slot. tile_count (owned owner (held_of slot))) (removed_here removes));
+        count = omega (
+          arith,
+          is.count,
+          change,
+          ap (λ slot. tile_count (owned owner slot)) held,
+          ap tile_count (owned-own owner place.tile),
+          ap (λ slot. tile_count (owned owner (held_of slot))) (removed_here removes),
+        );
         keys = without gone is.keys;
         chain = rw (first_leads old owner row.first is.keys gone place is.chain inside found)
             at (IsChain-unlinked old new owner None row.first is.keys gone place removes (λ k within. refl) inside found is.chain);

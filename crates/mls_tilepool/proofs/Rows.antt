@@ -38,16 +38,16 @@ pub IsRow-others :
     (old new : List (Option Place)) (owner other : ℕ) (row : Row) → OthersStay owner old new → other ≢ owner → IsRow old other row → IsRow new other row
 IsRow-others old new owner other row stay differs is =
     let there : (key : ℕ) (place : Place) → get_or old key None ≡ Some place → place.owner ≡ other → get_or new key None ≡ get_or old key None =
-        λ key place found owns. elim (stay key) [ inl same ↦ same | inr own ↦ absurd (differs (sym owns ∙ own.0 place found)) ] in
+    λ key place found owns. elim (stay key) [ inl same ↦ same | inr own ↦ absurd (differs (sym owns ∙ own.0 place found)) ] in
     record {
       some = is.some;
       within = is.within;
       count = is.count ∙ ap length (sym (entries_from-same 0 (owned_slots other old) (owned_slots other new) (λ key.
           owned_at new other key
           ∙ elim (stay key) [
-              | inl same ↦ ap (λ slot. owned other (held_of slot)) same
-              | inr own ↦ IsOwn-other owner other (get_or new key None) differs own.1 ∙ sym (IsOwn-other owner other (get_or old key None) differs own.0)
-            ]
+            | inl same ↦ ap (λ slot. owned other (held_of slot)) same
+            | inr own ↦ IsOwn-other owner other (get_or new key None) differs own.1 ∙ sym (IsOwn-other owner other (get_or old key None) differs own.0)
+          ]
           ∙ sym (owned_at old other key))));
       keys = is.keys;
       chain = IsChain-same old new other None row.first is.keys (λ key inside.

@@ -44,9 +44,9 @@ invariant_of-self c =
     let found = c.remove-place.ensures.value in
     let owns = place_owner s.capacity s.reserved s.places s.rows owner key place (rw (c.self.view_is, c.id.view_is, c.owner.view_is) c.requires) found in
     rw (first_is c)
-      (IsPool-removed s.capacity s.reserved s.places s.rows owner c.index-row.result.now c.self.invariant c.index-row.ensures key place found owns
-        c.remove-place.new.self c.link_next.new.places c.link_previous.new.places c.remove-place.ensures.updates c.link_next.ensures.links c.link_previous.ensures.links
-        c.remove-place.ensures.len c.remove-place.ensures.capacity)
+    (IsPool-removed s.capacity s.reserved s.places s.rows owner c.index-row.result.now c.self.invariant c.index-row.ensures key place found owns
+    c.remove-place.new.self c.link_next.new.places c.link_previous.new.places c.remove-place.ensures.updates c.link_next.ensures.links c.link_previous.ensures.links
+    c.remove-place.ensures.len c.remove-place.ensures.capacity)
 
 pub returns-clause-tile : goal.returns-clause-tile
 returns-clause-tile c =
@@ -67,8 +67,8 @@ returns-clause-changes c =
     let found = c.remove-place.ensures.value in
     let owns = place_owner s.capacity s.reserved s.places s.rows owner key place (rw (c.self.view_is, c.id.view_is, c.owner.view_is) c.requires) found in
     rw (← c.self.view_is, ← c.owner.view_is, ← c.id.view_is, first_is c)
-      (Changes-removed s.capacity s.reserved s.places s.rows owner c.index-row.result.now c.self.invariant c.index-row.ensures key place found owns
-        c.remove-place.new.self c.link_next.new.places c.link_previous.new.places c.remove-place.ensures.updates c.link_next.ensures.links c.link_previous.ensures.links)
+    (Changes-removed s.capacity s.reserved s.places s.rows owner c.index-row.result.now c.self.invariant c.index-row.ensures key place found owns
+    c.remove-place.new.self c.link_next.new.places c.link_previous.new.places c.remove-place.ensures.updates c.link_next.ensures.links c.link_previous.ensures.links)
 
 pub returns-clause-count : goal.returns-clause-count
 returns-clause-count c =
@@ -79,6 +79,6 @@ returns-clause-count c =
     let found = c.remove-place.ensures.value in
     let owns = place_owner s.capacity s.reserved s.places s.rows owner key place (rw (c.self.view_is, c.id.view_is, c.owner.view_is) c.requires) found in
     rw (← c.self.view_is, ← c.owner.view_is, first_is c)
-      (count_of-removed s.capacity s.reserved s.places s.rows owner c.index-row.result.now c.self.invariant c.index-row.ensures key place found owns
-        c.remove-place.new.self c.link_next.new.places c.link_previous.new.places c.remove-place.ensures.updates c.link_next.ensures.links c.link_previous.ensures.links
-        c.remove-place.ensures.len c.remove-place.ensures.capacity)
+    (count_of-removed s.capacity s.reserved s.places s.rows owner c.index-row.result.now c.self.invariant c.index-row.ensures key place found owns
+    c.remove-place.new.self c.link_next.new.places c.link_previous.new.places c.remove-place.ensures.updates c.link_next.ensures.links c.link_previous.ensures.links
+    c.remove-place.ensures.len c.remove-place.ensures.capacity)
