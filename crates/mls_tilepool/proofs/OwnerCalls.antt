@@ -1,13 +1,13 @@
 -- What reserving for a new owner, and releasing an owner, leave of a pool.
-use Rattle.std.proofs.Common.{◌≡◌, ◌≢◌, ℕ, zero, suc, ◌+◌, ◌-◌, ◌<◌, ◌≤◌, Bool, true, false, eqb, cond, List, [], ◌∷◌, map, length, get_or, set, Option, Some, None, IsSome, IfSome, is_some, refl, sym, ap, ◌∙◌, ◌⊎◌, inl, inr, arith, Contains}
+use Rattle.std.proofs.Common.{◌≡◌, ◌≢◌, ℕ, ◌+◌, ◌-◌, ◌≤◌, [], get_or, Option, Some, None, is_some, refl, sym, ap, ◌∙◌, arith}
 use Rattle.slab.specs.Slab.{Slab, Updates, get}
-use Rattle.mls_tilepool.specs.Pools.{Held, Pool, Reserves, owned, reserved, room_of, tile_at, tiles_of, unreserved}
+use Rattle.mls_tilepool.specs.Pools.{Pool, Reserves, owned, reserved, tiles_of, unreserved}
 use Rattle.mls_tilepool.specs.Chains.{IsPool, held_of, pool_of, room_in}
 use Rattle.mls_tilepool.specs.declared.chain.Place.{Place}
 use Rattle.mls_tilepool.specs.declared.chain.Row.{Row}
 use Rattle.mls_tilepool.proofs.PoolChanges.{held_at, owned-none, room_at, tiles_of-none, tiles_of-same}
 use Rattle.mls_tilepool.proofs.PoolSteps.{IsPool-released, IsPool-reserved, none_owned, room_reserved}
-use Rattle.mls_tilepool.proofs.PoolViews.{IfSome-at, room_of-row, unreserved-pool}
+use Rattle.mls_tilepool.proofs.PoolViews.{unreserved-pool}
 
 -- an owner with no row has no place
 pub unowned : (capacity reserved : ℕ) (places : Slab Place) (rows : Slab Row) (owner : ℕ) → IsPool capacity reserved places rows → get rows owner ≡ None → (key : ℕ) → owned owner (held_of (get places key)) ≡ None

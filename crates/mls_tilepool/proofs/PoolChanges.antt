@@ -1,5 +1,5 @@
 -- What callers see of a pool, as its slots change.
-use Rattle.std.proofs.Common.{◌≡◌, ◌≢◌, ℕ, zero, suc, ◌+◌, ◌<◌, ◌≤◌, Bool, true, false, eqb, cond, List, [], ◌∷◌, map, length, get_or, Option, Some, None, is_some, count_by, refl, sym, ap, ◌∙◌, ◌⊎◌, inl, inr, arith, IsSome}
+use Rattle.std.proofs.Common.{◌≡◌, ◌≢◌, ℕ, ◌+◌, eqb, cond, List, [], ◌∷◌, map, length, get_or, Option, Some, None, is_some, refl, sym, ap, ◌∙◌, inl, inr, arith, IsSome}
 use Rattle.std.specs.List.{sum_by}
 use Rattle.std.specs.Option.{option_map_or}
 use Rattle.std.proofs.lemmas.Bool.{cases_eq, cond-true, cond-false, eq-eqb, ne_eqb}
@@ -7,7 +7,7 @@ use Rattle.std.proofs.lemmas.List.Sums.{sum_by-cons}
 use Rattle.std.proofs.Math.ListN.{get_or-map}
 use Rattle.slab.specs.Slab.{entries_from}
 use Rattle.slab.proofs.SlabLemmas.{length-entries_from}
-use Rattle.mls_tilepool.specs.Pools.{Changes, Held, IsOwner, Pool, count_of, owned, reserved, room_of, tile_at, tile_in, tiles_of}
+use Rattle.mls_tilepool.specs.Pools.{Changes, Pool, count_of, owned, reserved, tile_at, tile_in, tiles_of}
 use Rattle.mls_tilepool.specs.Chains.{held_of, owned_slots, room_in, rooms_sum}
 use Rattle.mls_tilepool.specs.declared.chain.Place.{Place}
 use Rattle.mls_tilepool.specs.declared.chain.Row.{Row}

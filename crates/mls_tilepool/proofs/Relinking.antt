@@ -1,11 +1,11 @@
 -- Chains of places while a tile comes in at the head or goes out anywhere.
-use Rattle.std.proofs.Common.{◌≡◌, ◌≢◌, ℕ, zero, suc, ◌+◌, ◌<◌, ◌≤◌, Bool, true, false, eqb, cond, List, [], ◌∷◌, length, get_or, Option, Some, None, refl, sym, ap, ◌∙◌, ◌⊎◌, inl, inr, arith, Contains}
+use Rattle.std.proofs.Common.{◌≡◌, ◌≢◌, ℕ, ◌+◌, Bool, true, false, eqb, cond, List, [], ◌∷◌, length, get_or, Option, Some, None, refl, sym, ap, ◌∙◌, inl, inr, arith, Contains}
 use Rattle.std.specs.Option.{option_map}
 use Rattle.std.proofs.lemmas.Bool.{cases_eq, cond-true, cond-false, eq-eqb, ne_eqb, false_from_ne_true}
 use Rattle.slab.proofs.SlabLemmas.{Contains-cons, Contains-cons_cases}
 use Rattle.mls_tilepool.specs.Chains.{IsChain, leads_to}
 use Rattle.mls_tilepool.specs.declared.chain.Place.{Place}
-use Rattle.mls_tilepool.proofs.Chains.{Contains-head, links_of, leads_to-same, leads_to-other, leads_to-true, IsChain-same, IsChain-head, IsChain-next, IsChain-previous}
+use Rattle.mls_tilepool.proofs.Chains.{Contains-head, links_of, leads_to-same, leads_to-other, leads_to-true, IsChain-same, IsChain-next, IsChain-previous}
 
 -- a place with another link back, or another link onward
 abbrev pub with_previous : Option ℕ → Place → Place

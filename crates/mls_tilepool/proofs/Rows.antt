@@ -1,13 +1,11 @@
 -- Rows of owners while places change.
-use Rattle.std.proofs.Common.{◌≡◌, ◌≢◌, ℕ, zero, suc, ◌+◌, ◌<◌, ◌≤◌, Bool, true, false, eqb, cond, List, [], ◌∷◌, map, length, get_or, Option, Some, None, is_some, refl, sym, ap, ◌∙◌, ◌⊎◌, inl, inr, arith, Contains}
-use Rattle.std.proofs.lemmas.Bool.{cases_eq, cases_Bool, cond-true, cond-false, eq-eqb, ne_eqb}
+use Rattle.std.proofs.Common.{◌≡◌, ◌≢◌, ℕ, eqb, List, length, get_or, Option, Some, None, refl, sym, ap, ◌∙◌, ◌⊎◌, inl, inr}
+use Rattle.std.proofs.lemmas.Bool.{cond-false, ne_eqb}
 use Rattle.std.specs.Option.{option_map}
-use Rattle.slab.specs.Slab.{entries_from}
-use Rattle.mls_tilepool.specs.Pools.{Held, owned}
-use Rattle.mls_tilepool.specs.Chains.{IsChain, IsRow, held_of, leads_to, owned_slots}
+use Rattle.mls_tilepool.specs.Pools.{owned}
+use Rattle.mls_tilepool.specs.Chains.{IsRow, held_of, owned_slots}
 use Rattle.mls_tilepool.specs.declared.chain.Place.{Place}
 use Rattle.mls_tilepool.specs.declared.chain.Row.{Row}
-use Rattle.mls_tilepool.specs.declared.tile.Tile.{Tile}
 use Rattle.mls_tilepool.proofs.Slots.{entries_from-same}
 use Rattle.mls_tilepool.proofs.Chains.{IsChain-owner, IsChain-same, links_of, option_map-some}
 use Rattle.mls_tilepool.proofs.PoolChanges.{owned_at}

@@ -1,16 +1,16 @@
 -- What adding, replacing and removing a tile leave of a pool.
-use Rattle.std.proofs.Common.{◌≡◌, ◌≢◌, ℕ, zero, suc, ◌+◌, ◌-◌, ◌<◌, ◌≤◌, Bool, true, false, eqb, cond, List, [], ◌∷◌, map, length, get_or, set, Option, Some, None, IsSome, IfSome, is_some, refl, sym, ap, ◌∙◌, ◌⊎◌, inl, inr, arith, Contains}
+use Rattle.std.proofs.Common.{◌≡◌, ◌≢◌, ℕ, ◌+◌, ◌-◌, ◌<◌, ◌≤◌, eqb, cond, List, set, Option, Some, None, refl, sym, ap, ◌∙◌, inl, inr, arith}
 use Rattle.std.proofs.lemmas.Bool.{cases_eq, cond-true, cond-false, eq-eqb, ne_eqb}
 use Rattle.std.proofs.lemmas.List.{set-get_or}
-use Rattle.slab.specs.Slab.{Slab, ContainsKey, HasRoomFor, Updates, get, slab_len, with_value}
-use Rattle.mls_tilepool.specs.Pools.{Changes, Held, Pool, count_of, owned, tile_at, tiles_of}
-use Rattle.mls_tilepool.specs.Chains.{IsPool, IsRow, Links, held_of, pool_of}
+use Rattle.slab.specs.Slab.{Slab, Updates, get, slab_len, with_value}
+use Rattle.mls_tilepool.specs.Pools.{Changes, count_of, owned}
+use Rattle.mls_tilepool.specs.Chains.{IsPool, Links, held_of, pool_of}
 use Rattle.mls_tilepool.specs.declared.chain.Place.{Place}
 use Rattle.mls_tilepool.specs.declared.chain.Row.{Row}
 use Rattle.mls_tilepool.specs.declared.tile.Tile.{Tile}
 use Rattle.mls_tilepool.proofs.Adding.{AddsPlace, added_held, added_here, added_row, added_stay, fresh_place}
 use Rattle.mls_tilepool.proofs.PoolChanges.{Changes-from_places, held_at, owned-other, owned-own}
-use Rattle.mls_tilepool.proofs.PoolSteps.{IsPool-written, get-with_value, get-with_value_other, retiled, retiled_row, retiled_stay, slab_len-with_value}
+use Rattle.mls_tilepool.proofs.PoolSteps.{IsPool-written, get-with_value, get-with_value_other, retiled_row, retiled_stay, slab_len-with_value}
 use Rattle.mls_tilepool.proofs.PoolViews.{count_of-row, owned-held, owned-not, rooms_kept}
 use Rattle.mls_tilepool.proofs.Relinking.{linked, with_next, with_previous}
 use Rattle.mls_tilepool.proofs.Removing.{RemovesPlace, first_after, removed_counted, removed_held, removed_here, removed_row, removed_stay}

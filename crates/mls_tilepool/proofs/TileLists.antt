@@ -1,11 +1,11 @@
 -- Lists of tiles with their keys, and what stands under a key.
-use Rattle.std.proofs.Common.{◌≡◌, ◌≢◌, ℕ, zero, suc, ◌+◌, ◌<◌, ◌≤◌, Bool, true, false, eqb, cond, List, [], ◌∷◌, map, length, get_or, Option, Some, None, is_some, count_by, refl, sym, ap, ◌∙◌, inl, inr, zero-add, add-zero, arith}
-use Rattle.std.specs.List.{All, AllPairs, Contains, sum_by}
+use Rattle.std.proofs.Common.{◌≡◌, ℕ, zero, suc, ◌+◌, ◌<◌, ◌≤◌, eqb, List, [], ◌∷◌, map, length, get_or, Option, Some, None, refl, sym, ap, ◌∙◌, inl, inr, zero-add, arith}
+use Rattle.std.specs.List.{All, AllPairs, Contains}
 use Rattle.std.proofs.lemmas.Bool.{cases_eq, cond-true, cond-false, eq-eqb, ne_eqb}
 use Rattle.std.proofs.Math.ListN.{get_or-map}
 use Rattle.slab.specs.Slab.{entries_from}
-use Rattle.slab.proofs.SlabLemmas.{Contains-cons, length-entries_from}
-use Rattle.mls_tilepool.specs.Pools.{Held, Pool, owned, tiles_of, tile_in, tile_at, count_of}
+use Rattle.slab.proofs.SlabLemmas.{Contains-cons}
+use Rattle.mls_tilepool.specs.Pools.{Held, Pool, owned, tiles_of, tile_in, tile_at}
 use Rattle.mls_tilepool.specs.declared.tile.Tile.{Tile}
 
 -- a tile found under a key stands in the list

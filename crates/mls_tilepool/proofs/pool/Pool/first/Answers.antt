@@ -1,5 +1,3 @@
-use Rattle.std.proofs.Common.{◌≡◌, [], IfNone}
-use Rattle.mls_tilepool.specs.Pools.{tiles_of}
 use Rattle.mls_tilepool.proofs.PoolViews.{first_none, first_tile}
 use Rattle.mls_tilepool.proofs.pool.Pool.first.Goals as goal
 

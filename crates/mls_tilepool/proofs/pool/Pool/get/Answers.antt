@@ -1,4 +1,4 @@
-use Rattle.std.proofs.Common.{sym, ◌∙◌}
+use Rattle.std.proofs.Common.{sym}
 use Rattle.mls_tilepool.proofs.PoolViews.{tile_at-place_other, tile_at-place_own, tile_at-vacant}
 use Rattle.mls_tilepool.proofs.pool.Pool.get.Goals as goal
 

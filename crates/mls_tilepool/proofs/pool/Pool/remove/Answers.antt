@@ -1,4 +1,4 @@
-use Rattle.std.proofs.Common.{◌≡◌, refl, sym, ap, ◌∙◌, arith}
+use Rattle.std.proofs.Common.{◌≡◌, sym, ◌∙◌}
 use Rattle.mls_tilepool.proofs.PoolViews.{place_owner, place_there, row_there, tile_at-place_own}
 use Rattle.mls_tilepool.proofs.Removing.{first_after, first_after-none, first_after-some}
 use Rattle.mls_tilepool.proofs.TileCalls.{Changes-removed, IsPool-removed, count_of-removed, counted}

@@ -1,4 +1,4 @@
-use Rattle.std.proofs.Common.{◌+◌, ◌≤◌, refl, arith}
+use Rattle.std.proofs.Common.{refl, arith}
 use Rattle.std.proofs.lemmas.Bool.{false≢true}
 use Rattle.mls_tilepool.proofs.OwnerCalls.{Reserves-reserved, unreserved-reserved}
 use Rattle.mls_tilepool.proofs.PoolSteps.{IsPool-reserved, room_for_row}
