@@ -1,5 +1,6 @@
 pub mod BuiltTiles
 pub mod CloseSquares
+pub mod CutBlocks
 pub mod DistinctNumbers
 pub mod FreshTiles
 pub mod KeptStitches
@@ -15,4 +16,5 @@ pub mod SettingStitches
 pub mod ShownTiles
 pub mod SideListings
 pub mod Sides
+pub mod SplitTiles
 pub mod TilesBeyond
