@@ -2,6 +2,7 @@ pub mod DistinctNumbers
 pub mod KeptStitches
 pub mod ListedTiles
 pub mod MaximalTiles
+pub mod PoolChanges
 pub mod SettingStitches
 pub mod ShownTiles
 pub mod Sides
