@@ -9,6 +9,7 @@ pub mod ListedTiles
 pub mod Listings
 pub mod MaximalTiles
 pub mod Neighbours
+pub mod PoolChanges
 pub mod ReplacedBlocks
 pub mod ReplacedStitches
 pub mod ReplacedTiles
