@@ -8,11 +8,14 @@ pub mod Laying
 pub mod ListedTiles
 pub mod Listings
 pub mod MaximalTiles
+pub mod Neighbours
+pub mod PoolChanges
 pub mod ReplacedBlocks
 pub mod ReplacedStitches
 pub mod ReplacedTiles
 pub mod SettingStitches
 pub mod ShownTiles
+pub mod SideListings
 pub mod Sides
 pub mod SplitTiles
 pub mod TilesBeyond
