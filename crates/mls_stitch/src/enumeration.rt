@@ -1,6 +1,6 @@
 //! The enumeration of an area's tiles (Ousterhout 1984), each of which has one parent.
 ghost use Rattle.std.specs.Prelude.{◌≡◌, ◌+◌, ◌-◌, ◌<◌, ◌≤◌, ◌&&◌, slice_index_or, vec_len, vec_capacity};
-ghost use Rattle.mls_geom.specs.Rects.{holds, meets};
+ghost use Rattle.mls_geom.specs.Rects.{IsRectangleIn, holds, meets};
 ghost use Rattle.mls_geom.specs.World.{world};
 ghost use Rattle.mls_tilepool.specs.Pools.{count_of, tiles_of};
 ghost use Rattle.mls_stitch.specs.Enumerations.{IsBeside, IsListedTo, first_row};
@@ -32,6 +32,7 @@ fn is_child(area: Rect, parent: &LaidTile, tile: &LaidTile) -> bool
 /// Lists the right neighbour of the tile at the index, where it is the tile's child.
 fn push_child(pool: &Pool, owner: &Owner, area: Rect, parent: &LaidTile, tile: &LaidTile, index: usize, list: &mut Vec<LaidTile>)
     requires plane { HasPlane pool.now owner.now }
+    requires legal { IsRectangleIn world area }
     requires room { count_of pool.now owner.now ≤ vec_capacity list.old }
     requires beside { IsBeside (block_at (tiles_of pool.now owner.now)) area list.old.items index parent.now tile.now }
     ensures listed { IsListedTo (block_at (tiles_of pool.now owner.now)) area list.new.items index tile.now.piece.rect.bottom }
@@ -47,6 +48,7 @@ fn push_child(pool: &Pool, owner: &Owner, area: Rect, parent: &LaidTile, tile: &
 /// Lists the right neighbours of the tile at the index of which it is the parent.
 fn push_children(pool: &Pool, owner: &Owner, area: Rect, index: usize, list: &mut Vec<LaidTile>)
     requires plane { HasPlane pool.now owner.now }
+    requires legal { IsRectangleIn world area }
     requires room { count_of pool.now owner.now ≤ vec_capacity list.old }
     requires within { index < vec_len list.old }
     requires listed { IsListedTo (block_at (tiles_of pool.now owner.now)) area list.old.items index world.top }
@@ -60,7 +62,7 @@ fn push_children(pool: &Pool, owner: &Owner, area: Rect, index: usize, list: &mu
     }
     let last_row = first_row(area, &parent);
     let mut tile = neighbour(pool, owner, &parent, Stitch::Tr);
-    loop {
+    'neighbours: loop {
         push_child(pool, owner, area, &parent, &tile, index, list);
         if tile.sides().bottom <= last_row {
             return;
