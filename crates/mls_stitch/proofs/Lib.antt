@@ -1,4 +1,5 @@
 pub mod DistinctNumbers
+pub mod FoundTiles
 pub mod KeptStitches
 pub mod ListedTiles
 pub mod Listings

@@ -1,8 +1,11 @@
 //! The enumeration of an area's tiles (Ousterhout 1984), each of which has one parent.
-ghost use Rattle.std.specs.Prelude.{◌≡◌, ◌+◌, ◌-◌, ◌<◌, ◌≤◌, ◌&&◌, slice_index_or, vec_len, vec_capacity};
+ghost use Rattle.std.specs.Prelude.{◌≡◌, ◌+◌, ◌-◌, ◌<◌, ◌≤◌, ◌&&◌, false, slice_index_or, vec_len, vec_capacity};
 ghost use Rattle.mls_geom.specs.Rects.{IsRectangleIn, holds, meets};
 ghost use Rattle.mls_geom.specs.World.{world};
 ghost use Rattle.mls_tilepool.specs.Pools.{count_of, tiles_of};
+ghost use Rattle.std.specs.List.{AllPairs};
+ghost use Rattle.std.specs.List.Sorted.{IsPermutation};
+ghost use Rattle.mls_stitch.specs.Areas.{AreInArea, comes_first};
 ghost use Rattle.mls_stitch.specs.Enumerations.{IsBeside, IsListedTo, first_row};
 ghost use Rattle.mls_stitch.specs.Tilings.{HasPlane, block_at};
 ghost use Rattle.mls_stitch.specs.declared.laid_tile.LaidTile.{LaidTile};
@@ -69,4 +72,61 @@ fn push_children(pool: &Pool, owner: &Owner, area: Rect, index: usize, list: &mu
         }
         tile = neighbour(pool, owner, &tile, Stitch::Lb);
     }
+}
+
+/// Makes `list` the tiles on the area's left side, from the bottom up.
+fn list_left_side(pool: &Pool, owner: &Owner, from: TileId, area: Rect, list: &mut Vec<LaidTile>)
+    requires plane { HasPlane pool.now owner.now }
+    requires room { count_of pool.now owner.now ≤ vec_capacity list.old }
+    ensures legal { IsRectangleIn world area }
+    ensures listed { IsListedTo (block_at (tiles_of pool.now owner.now)) area list.new.items 0 world.top }
+    ensures room { vec_capacity list.new ≡ vec_capacity list.old }
+{
+    list.clear();
+    let bounds = area.area();
+    let mut line = bounds.bottom;
+    let mut from = from;
+    'side: while line < bounds.top {
+        let tile = find_tile(pool, owner, from, Point::at(bounds.left, line));
+        list.push_reserved(tile);
+        line = tile.sides().top;
+        from = tile.id;
+    }
+}
+
+/// Makes `list` the tiles that have a square of the area, each once, in any order.
+fn list_tiles(pool: &Pool, owner: &Owner, from: TileId, area: Rect, list: &mut Vec<LaidTile>)
+    requires plane { HasPlane pool.now owner.now }
+    requires room { count_of pool.now owner.now ≤ vec_capacity list.old }
+    ensures legal { IsRectangleIn world area }
+    ensures listed { IsListedTo (block_at (tiles_of pool.now owner.now)) area list.new.items (vec_len list.new) world.top }
+    ensures room { vec_capacity list.new ≡ vec_capacity list.old }
+{
+    list_left_side(pool, owner, from, area, list);
+    let mut index = 0;
+    'tiles: while index < list.len() {
+        push_children(pool, owner, area, index, list);
+        index += 1;
+    }
+}
+
+/// Sorts tiles by their first row in the area, and then by their left.
+fn sort_rows(area: Rect, list: &mut Vec<LaidTile>)
+    ensures sorted { AllPairs (λ p q. comes_first area q p ≡ false) list.new.items }
+    ensures same { IsPermutation list.old.items list.new.items }
+    ensures room { vec_capacity list.new ≡ vec_capacity list.old }
+{
+    list.sort_unstable_by_key(|tile| (first_row(area, tile), tile.sides().left));
+}
+
+/// Lists the tiles that have a square of the area, by their bottom, clipped to the area, and then their left. The search
+/// starts at the tile `from`, if the owner has it.
+pub(crate) fn area_into(pool: &Pool, owner: &Owner, from: TileId, area: Rect, list: &mut Vec<LaidTile>)
+    requires plane { HasPlane pool.now owner.now }
+    requires room { count_of pool.now owner.now ≤ vec_capacity list.old }
+    ensures found { AreInArea (block_at (tiles_of pool.now owner.now)) area list.new.items }
+    ensures room { vec_capacity list.new ≡ vec_capacity list.old }
+{
+    list_tiles(pool, owner, from, area, list);
+    sort_rows(area, list);
 }
