@@ -6,9 +6,12 @@ pub mod BandLines
 pub mod BandRows
 pub mod CornerCounts
 pub mod Corners
+pub mod CoveredCounts
+pub mod CoveredStrips
 pub mod CutLines
 pub mod Holds
 pub mod Joining
+pub mod JoinedLists
 pub mod KindsShown
 pub mod Links
 pub mod ListChanges
@@ -29,3 +32,6 @@ pub mod StripEnds
 pub mod StripLaws
 pub mod StripPictures
 pub mod SweepRoomLemmas
+pub mod TouchedStrips
+pub mod UnorderedStrips
+pub mod UntouchedStrips

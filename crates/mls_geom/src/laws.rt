@@ -1,9 +1,9 @@
 //! Laws of strips. Each function does nothing, and its contract is the law.
-ghost use Rattle.std.specs.Prelude.{◌≡◌, ℕ, ◌+◌, ◌++◌, List, length, false};
+ghost use Rattle.std.specs.Prelude.{◌≡◌, ℕ, ◌+◌, false, List, ◌++◌, length};
 ghost use Rattle.std.specs.List.{All};
-ghost use Rattle.mls_geom.specs.Locality.{AreCoveredStrips, AreUnorderedStrips, AreUntouched, HaveKinds, covered_count, is_touched, laid};
+ghost use Rattle.mls_geom.specs.Locality.{AreUnorderedStrips, AreCoveredStrips, AreUntouched, HaveKinds, covered_count, is_touched, laid};
 ghost use Rattle.mls_geom.specs.Pictures.{overlaid};
-ghost use Rattle.mls_geom.specs.Rects.{IsRectangleIn, Rect};
+ghost use Rattle.mls_geom.specs.Rects.{Rect, IsRectangleIn};
 ghost use Rattle.mls_geom.specs.Strips.{AreStrips, IsStrip};
 ghost use Rattle.mls_geom.specs.TileCounts.{tile_count};
 ghost use Rattle.mls_geom.specs.declared.piece.Piece.{Piece};

@@ -29,7 +29,7 @@ LeadsTo-same blocks (Some a) None at tiling to_a to_b = absurd (both_ways _ to_b
 LeadsTo-same blocks (Some a) (Some b) at tiling to_a to_b = ap Some (tiling.apart a b at to_a to_b)
 
 -- a stitch to a square that its tile keeps, or that lies outside the world, stays
-kept_stitch :
+pub kept_stitch :
     (old new : ℕ → Option Piece) (touched : List ℕ) (a b : Option ℕ) (at : Point) → AreBlocks new
     → ((key : ℕ) (block : Piece) → ¬ (Contains touched key) → old key ≡ Some block → new key ≡ Some block) → LeadsTo old a at → LeadsTo new b at → IsKeptUnless touched a b
 kept_stitch old new touched None b at tiling kept to_a to_b = inl (LeadsTo-same new b None at tiling to_b to_a)

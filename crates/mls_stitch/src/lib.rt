@@ -2,11 +2,13 @@
 #![tactic(auto)]
 
 mod area;
+mod around;
 mod build;
 mod enumeration;
 mod find;
 mod laid_tile;
 mod lookup;
+mod place;
 mod plane;
 mod replace;
 mod scratch;

@@ -1,12 +1,13 @@
 //! Looking up the tile beyond another.
-ghost use Rattle.std.specs.Prelude.{◌≡◌, ℕ, Option, IfNone, IfSome};
-ghost use Rattle.std.specs.List.{All};
+ghost use Rattle.std.specs.Prelude.{◌≡◌, ◌≤◌, ℕ, true, false, Option, IfNone, IfSome, length};
+ghost use Rattle.std.specs.List.{All, AllWithin};
 ghost use Rattle.std.specs.List.Sorted.{IsPermutation};
 ghost use Rattle.mls_geom.specs.Rects.{holds};
 ghost use Rattle.mls_geom.specs.declared.piece.Piece.{Piece};
-ghost use Rattle.mls_stitch.specs.Lookups.{AreSortedFor, IsLaid, IsListedBeyond, first_square, is_up_to, place_of};
+ghost use Rattle.mls_stitch.specs.Lookups.{AreSortedFor, IsListedBeyond, first_square, is_up_to, place_of, start_of};
 ghost use Rattle.mls_stitch.specs.Stitches.{HoldsAt, beyond};
 ghost use Rattle.mls_stitch.specs.Tilings.{AreBlocks};
+ghost use Rattle.mls_stitch.specs.Walks.{IsLaid};
 
 use crate::{LaidTile, Stitch};
 use mls_geom::Rect;
@@ -123,7 +124,7 @@ impl Place {
 
 /// Returns where the tile begins for the tiles whose stitch leads to it.
 fn start(stitch: Stitch, entry: &LaidTile) -> Place
-    ensures { result ≡ place_of stitch (first_square stitch entry.now.piece.rect) }
+    ensures { result ≡ start_of stitch entry.now.piece.rect }
 {
     Place::of(stitch, Square::first(stitch, entry.piece.rect))
 }
@@ -137,7 +138,12 @@ pub(crate) fn sort_for(stitch: Stitch, entries: &mut [LaidTile])
 }
 
 /// Returns how many of the tiles begin at the place or before it.
-fn count_up_to(entries: &[LaidTile], stitch: Stitch, place: Place) -> usize {
+fn count_up_to(entries: &[LaidTile], stitch: Stitch, place: Place) -> usize
+    requires { AreSortedFor stitch entries.now }
+    ensures bound { result ≤ length entries.now }
+    ensures before { AllWithin (λ entry. is_up_to (start_of stitch entry.piece.rect) place ≡ true) entries.now 0 result }
+    ensures after { AllWithin (λ entry. is_up_to (start_of stitch entry.piece.rect) place ≡ false) entries.now result (length entries.now) }
+{
     entries.partition_point(|entry| start(stitch, entry).is_up_to(place))
 }
 

@@ -1,0 +1,80 @@
+-- The strips of a picture number its tile count, in whatever order they stand.
+use Rattle.std.proofs.Common.{◌≡◌, ◌≢◌, ℕ, Bool, ◌&&◌, ◌==◌, List, map, length, get_or, All, AllPairs, Contains, Decides, sym, ap, subst, ◌∙◌, arith}
+use Rattle.std.specs.Cmp.{IsEquivalence}
+use Rattle.std.proofs.lemmas.Bool.{and_parts, and_from, eqb-true, eq-eqb}
+use Rattle.std.proofs.lemmas.Bool.Decides.{nat_tests, same_from_decides}
+use Rattle.std.proofs.lemmas.List.{length-map}
+use Rattle.std.proofs.lemmas.List.Elements.{All-contains, All-map}
+use Rattle.std.proofs.lemmas.Map.Made.{length-from_same_keys, is_member-Decides, IsDistinct-from_AllPairs}
+use Rattle.mls_geom.specs.Locality.{AreUnorderedStrips}
+use Rattle.mls_geom.specs.Pictures.{Picture}
+use Rattle.mls_geom.specs.Rects.{Rect}
+use Rattle.mls_geom.specs.Strips.{IsStrip}
+use Rattle.mls_geom.specs.TileCounts.{tile_count}
+use Rattle.mls_geom.specs.declared.piece.Piece.{Piece}
+use Rattle.mls_geom.proofs.Ascending.{AllPairs-map}
+use Rattle.mls_geom.proofs.Corners.{same_strip}
+use Rattle.mls_geom.proofs.Squares.{StandsBefore, stands_before_one_way}
+use Rattle.mls_geom.proofs.StripLaws.{corners, corner_of, strip_corner_there, strip_there, All-corners, corners_ascend, length-corners}
+
+-- the squares are one
+abbrev is_square : ℕ × ℕ → ℕ × ℕ → Bool
+is_square s t = s.0 == t.0 && s.1 == t.1
+
+is_square-decides : (s t : ℕ × ℕ) → Decides (is_square s t) (s ≡ t)
+is_square-decides s t = (
+  λ same.
+      let tests = and_parts (s.0 == t.0) (s.1 == t.1) same in
+      let columns = eqb-true s.0 t.0 tests.0 in
+      let rows = eqb-true s.1 t.1 tests.1 in
+      λ i. (columns i, rows i),
+  λ same. and_from (s.0 == t.0) (s.1 == t.1) (eq-eqb s.0 t.0 (ap (λ p. p.0) same)) (eq-eqb s.1 t.1 (ap (λ p. p.1) same)),
+)
+
+is_square-laws : IsEquivalence is_square
+is_square-laws = record {
+  refl = λ s. grind (arith, nat_tests);
+  symm = λ s t. grind (arith, nat_tests);
+  congr = λ s t u same. grind (arith, nat_tests);
+}
+
+-- two lists that have the same squares, each once, are of one length
+pub same_length :
+    (xs ys : List (ℕ × ℕ)) → AllPairs (λ s t. s ≢ t) xs → AllPairs (λ s t. s ≢ t) ys → All (Contains ys) xs → All (Contains xs) ys → length xs ≡ length ys
+same_length xs ys once once' there back =
+    length-from_same_keys is_square-laws xs ys (IsDistinct-from_AllPairs is_square-decides xs once) (IsDistinct-from_AllPairs is_square-decides ys once')
+    (λ s.
+    let one = is_member-Decides is_square-decides xs s in
+    let other = is_member-Decides is_square-decides ys s in
+    same_from_decides {P = Contains xs s} _ _ one
+    (λ held. All-contains (Contains xs) ys s back (other.0 held), λ held. other.1 (All-contains (Contains ys) xs s there held)))
+
+-- squares in order are each there once
+pub once_from_order : (xs : List (ℕ × ℕ)) → AllPairs StandsBefore xs → AllPairs (λ s t. s ≢ t) xs
+once_from_order xs ordered i j d before within same =
+    let after = ordered i j d before within in
+    let itself = subst (λ s. StandsBefore s (get_or xs j d)) same after in
+    stands_before_one_way (get_or xs j d) (get_or xs j d) itself itself
+
+-- different strips have different lower-left squares
+pub corners_apart :
+    (extent : Rect) (picture : Picture) (list : List Piece) → All (IsStrip extent picture) list → AllPairs (λ p q. p ≢ q) list
+    → AllPairs (λ s t. s ≢ t) (map corner_of list)
+corners_apart extent picture list strips once =
+    AllPairs-map (λ s t. s ≢ t) corner_of list
+    (λ i j d before within same.
+    once i j d before within
+    (same_strip extent picture (get_or list i d) (get_or list j d) (strips i d (omega arith)) (strips j d within) (ap (λ s. s.0) same) (ap (λ s. s.1) same)))
+
+-- strips in any order number the tile count
+pub unordered_strips_number :
+    (extent : Rect) (picture : Picture) (list : List Piece) → AreUnorderedStrips extent picture list → length list ≡ tile_count extent picture
+unordered_strips_number extent picture list strips =
+    let there = All-map (Contains (corners extent picture)) corner_of list (λ k d within. strip_corner_there extent picture (get_or list k d) (strips.each k d within)) in
+    let back =
+    All-corners (Contains (map corner_of list)) extent picture
+    (λ x y inside corner. strip_there extent picture list x y strips.each (strips.whole x y inside) corner) in
+    let same =
+    same_length (map corner_of list) (corners extent picture) (corners_apart extent picture list strips.each strips.once)
+    (once_from_order (corners extent picture) (corners_ascend extent picture)) there back in
+    sym (length-map list corner_of) ∙ same ∙ length-corners extent picture
