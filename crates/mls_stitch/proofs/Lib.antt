@@ -1,6 +1,7 @@
 pub mod BuiltPlanes
 pub mod BuiltTiles
 pub mod CloseSquares
+pub mod CutBlocks
 pub mod DistinctNumbers
 pub mod FreshTiles
 pub mod KeptStitches
@@ -8,10 +9,14 @@ pub mod Laying
 pub mod ListedTiles
 pub mod Listings
 pub mod MaximalTiles
+pub mod Neighbours
+pub mod PoolChanges
 pub mod ReplacedBlocks
 pub mod ReplacedStitches
 pub mod ReplacedTiles
 pub mod SettingStitches
 pub mod ShownTiles
+pub mod SideListings
 pub mod Sides
+pub mod SplitTiles
 pub mod TilesBeyond

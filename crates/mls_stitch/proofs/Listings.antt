@@ -1,5 +1,5 @@
 -- What area search has listed so far, from step to step.
-use Rattle.std.proofs.Common.{◌≡◌, ◌≢◌, ◌⊎◌, ℕ, ◌+◌, ◌-◌, ◌<◌, ◌≤◌, true, max, List, [], ◌∷◌, ◌++◌, length, get_or, Option, Some, All, Any, AllPairs, Contains, inl, inr, refl, sym, ap, ◌∙◌, subst, arith}
+use Rattle.std.proofs.Common.{◌≡◌, ◌≢◌, ◌⊎◌, ℕ, zero, suc, ◌+◌, ◌-◌, ◌<◌, ◌≤◌, true, max, List, [], ◌∷◌, ◌++◌, length, get_or, Option, Some, All, Any, AllPairs, Contains, inl, inr, refl, sym, ap, ◌∙◌, subst, arith}
 use Rattle.std.proofs.lemmas.Bool.{cases_lt}
 use Rattle.std.proofs.lemmas.Bool.Decides.{nat_tests}
 use Rattle.std.proofs.lemmas.List.{get_or_append_left, get_or_push, length_push}
@@ -12,10 +12,12 @@ use Rattle.mls_geom.specs.declared.piece.Piece.{Piece}
 use Rattle.mls_geom.proofs.Holds.{holds_between, between_holds}
 use Rattle.mls_stitch.specs.Areas.{IsFound}
 use Rattle.mls_stitch.specs.Enumerations.{IsBeside, IsListedTo, IsParent, IsReached, first_row}
+use Rattle.mls_stitch.specs.Stitches.{beyond}
 use Rattle.mls_stitch.specs.Tilings.{AreBlocks}
 use Rattle.mls_stitch.specs.Walks.{IsLaid, IsLaidAt}
 use Rattle.mls_stitch.specs.declared.laid_tile.LaidTile.{LaidTile}
-use Rattle.mls_stitch.proofs.Sides.{left_neighbour, legal-AreBlocks}
+use Rattle.mls_stitch.specs.declared.stitch.Stitch.TheVariants.{Lb, Tr}
+use Rattle.mls_stitch.proofs.Sides.{left_neighbour, legal-AreBlocks, right_neighbour, there-IsSomeAnd}
 
 -- the lines of rectangles that share a square
 pub meets_lines : (a b : Rect) → meets a b ≡ true → (a.left < b.right) × (b.left < a.right) × (a.bottom < b.top) × (b.bottom < a.top)
@@ -43,7 +45,7 @@ one_tile blocks p q x y tiling is_p is_q in_p in_q =
     same_tile blocks p q is_p is_q same
 
 -- an element that passes is still one in a longer list
-any_push : {X : Type 0} (P : X → Type 0) (xs : List X) (y : X) → Any P xs → Any P (xs ++ y ∷ [])
+pub any_push : {X : Type 0} (P : X → Type 0) (xs : List X) (y : X) → Any P xs → Any P (xs ++ y ∷ [])
 any_push P xs y (k, x, within, is, passes) = (k, x, omega (arith, length_push xs y, within), get_or_append_left xs (y ∷ []) x k within ∙ is, passes)
 
 ⊎_map : {A B C D : Type 0} → (A → C) → (B → D) → A ⊎ B → C ⊎ D
@@ -83,9 +85,9 @@ child_here blocks area parent tile child line tiling inside laid beside found is
 
 -- where the tile's parent is, once it is reached at the index
 parent_here :
-    (area : Rect) (list : List LaidTile) (index line : ℕ) (parent tile : LaidTile) → ((d : LaidTile) → get_or list index d ≡ parent)
-    → (reached : IsReached area list index line tile) → reached.place ≡ index → IsParent area parent tile
-parent_here area list index line parent tile here reached at =
+    (area : Rect) (list : List LaidTile) (index at_index line : ℕ) (parent tile : LaidTile) → ((d : LaidTile) → get_or list index d ≡ parent)
+    → (reached : IsReached area list at_index line tile) → reached.place ≡ index → IsParent area parent tile
+parent_here area list index at_index line parent tile here reached at =
     let is : reached.parent ≡ parent = sym reached.there ∙ ap (λ place. get_or list place reached.parent) at ∙ here reached.parent in
     subst (λ p. IsParent area p tile) is reached.is_parent
 
@@ -100,7 +102,7 @@ reached_down blocks area list index line parent tile child tiling inside here la
   | inr (at, above) ↦
       elim (cases_lt (first_row area child) line) [
         | inl below ↦
-            let is_parent = parent_here area list index tile.piece.rect.bottom parent child here reached at in
+            let is_parent = parent_here area list index index tile.piece.rect.bottom parent child here reached at in
             inl (child_here blocks area parent tile child line tiling inside laid beside found is_parent above below, is_parent)
         | inr over ↦
             inr (record { place = reached.place; parent = reached.parent; within = reached.within; there = reached.there; is_parent = reached.is_parent; passed = inr (at, over) })
@@ -228,3 +230,208 @@ listed_skip blocks area list index parent tile tiling inside beside other =
           | inr before ↦ listed.reached child child_found beyond before
         ];
     }
+
+reached_past : (area : Rect) (list : List LaidTile) (index line : ℕ) (tile : LaidTile) → IsReached area list index line tile → IsReached area list (index + 1) world.top tile
+reached_past area list index line tile reached = elim reached.passed [
+  | inl before ↦
+      record { place = reached.place; parent = reached.parent; within = reached.within; there = reached.there; is_parent = reached.is_parent; passed = inl (omega (arith, before)) }
+  | inr (at, above) ↦
+      record { place = reached.place; parent = reached.parent; within = reached.within; there = reached.there; is_parent = reached.is_parent; passed = inl (omega (arith, at)) }
+]
+
+-- no row is as high as the world's top
+not_above : (area : Rect) (tile : LaidTile) → IsRectangleIn world area → first_row area tile < area.top → world.top ≤ first_row area tile → ⊥
+not_above area tile inside below above = omega (arith, below, above, inside.top_in)
+
+-- before its first right neighbour, nothing of the parent at the index is passed
+pub listed_from_top :
+    (blocks : ℕ → Option Piece) (area : Rect) (list : List LaidTile) (index : ℕ) (parent : LaidTile) → AreBlocks blocks → IsRectangleIn world area
+    → IsListedTo blocks area list index world.top → index < length list → ((d : LaidTile) → get_or list index d ≡ parent)
+    → IsListedTo blocks area list index parent.piece.rect.top
+listed_from_top blocks area list index parent tiling inside listed within here =
+    let laid = found_here blocks area list index parent listed.each within here in
+    let legal = legal-AreBlocks blocks parent.id parent.piece tiling laid.laid in
+    record {
+      each = listed.each;
+      once = listed.once;
+      on_side = listed.on_side;
+      listed = λ k d short. ⊎_map (λ e. e) (λ reached. reached_lower area list index world.top parent.piece.rect.top _ legal.top_in reached) (listed.listed k d short);
+      reached = λ child found beyond reached. listed.reached child found beyond (elim reached.passed [
+        | inl before ↦
+            record { place = reached.place; parent = reached.parent; within = reached.within; there = reached.there; is_parent = reached.is_parent; passed = inl before }
+        | inr (at, above) ↦
+            let is_parent = parent_here area list index index parent.piece.rect.top parent child here reached at in
+            let lines = holds_between parent.piece.rect (child.piece.rect.left - 1) (first_row area child) is_parent in
+            absurd (omega (arith, above, lines.3))
+      ]);
+    }
+
+-- the first right neighbour
+pub beside_first :
+    (blocks : ℕ → Option Piece) (area : Rect) (list : List LaidTile) (index : ℕ) (parent tile : LaidTile) → AreBlocks blocks → IsRectangleIn world area
+    → IsListedTo blocks area list index world.top → index < length list → ((d : LaidTile) → get_or list index d ≡ parent)
+    → parent.piece.rect.right < area.right → IsLaidAt blocks (beyond Tr parent.piece.rect) tile → IsBeside blocks area list index parent tile
+beside_first blocks area list index parent tile tiling inside listed within here before_end beside =
+    let laid = found_here blocks area list index parent listed.each within here in
+    let legal = legal-AreBlocks blocks parent.id parent.piece tiling laid.laid in
+    record {
+      line = parent.piece.rect.top;
+      listed = listed_from_top blocks area list index parent tiling inside listed within here;
+      within = within;
+      here = here;
+      beside = beside;
+      not_last = (first_row_found area parent inside legal laid.met).2;
+      up_to = omega arith;
+      before_end = before_end;
+    }
+
+-- the next one down
+pub beside_next :
+    (blocks : ℕ → Option Piece) (area : Rect) (list : List LaidTile) (index : ℕ) (parent tile next : LaidTile) → AreBlocks blocks
+    → IsRectangleIn world area → (old : List LaidTile) → IsBeside blocks area old index parent tile
+    → index < length list → ((d : LaidTile) → get_or list index d ≡ parent) → IsListedTo blocks area list index tile.piece.rect.bottom → first_row area parent < tile.piece.rect.bottom
+    → IsLaidAt blocks (beyond Lb tile.piece.rect) next → IsBeside blocks area list index parent next
+beside_next blocks area list index parent tile next tiling inside old was within here listed not_last below =
+    let laid = found_here blocks area list index parent listed.each within here in
+    let lines = holds_between tile.piece.rect parent.piece.rect.right (was.line - 1) was.beside.held in
+    let up_to = was.up_to in
+    let not_last' = was.not_last in
+    let at_right : tile.piece.rect.left ≡ parent.piece.rect.right =
+    right_neighbour blocks parent.id tile.id parent.piece tile.piece (was.line - 1) tiling laid.laid was.beside.laid (omega (arith, was.not_last)) (omega (arith, was.not_last, was.up_to)) was.beside.held in
+    record {
+      line = tile.piece.rect.bottom;
+      listed = listed;
+      within = within;
+      here = here;
+      beside = subst (λ x. IsLaidAt blocks (record { x = x; y = tile.piece.rect.bottom - 1 }) next) at_right below;
+      not_last = not_last;
+      up_to = omega (arith, lines.2, was.up_to);
+      before_end = was.before_end;
+    }
+
+-- after its last right neighbour, the parent at the index is passed
+pub listed_past :
+    (blocks : ℕ → Option Piece) (area : Rect) (list : List LaidTile) (index line : ℕ) (parent : LaidTile) → AreBlocks blocks → IsRectangleIn world area
+    → IsListedTo blocks area list index line → ((d : LaidTile) → get_or list index d ≡ parent) → line ≤ first_row area parent → IsListedTo blocks area list (index + 1) world.top
+listed_past blocks area list index line parent tiling inside listed here last = record {
+  each = listed.each;
+  once = listed.once;
+  on_side = listed.on_side;
+  listed = λ k d short. ⊎_map (λ e. e) (λ reached. reached_past area list index line _ reached) (listed.listed k d short);
+  reached = λ child found beyond reached. listed.reached child found beyond (elim reached.passed [
+    | inl before ↦
+        elim (cases_lt reached.place index) [
+          | inl earlier ↦
+              record { place = reached.place; parent = reached.parent; within = reached.within; there = reached.there; is_parent = reached.is_parent; passed = inl earlier }
+          | inr later ↦
+              let at : reached.place ≡ index = omega (arith, before, later) in
+              let is_parent = parent_here area list index (index + 1) world.top parent child here reached at in
+              let lines = holds_between parent.piece.rect (child.piece.rect.left - 1) (first_row area child) is_parent in
+              record { place = reached.place; parent = reached.parent; within = reached.within; there = reached.there; is_parent = reached.is_parent; passed = inr (at, omega (arith, last, lines.2)) }
+        ]
+    | inr (at, above) ↦
+        let rows = first_row_found area child inside (legal-AreBlocks blocks child.id child.piece tiling found.laid) found.met in
+        absurd (not_above area child inside rows.3 above)
+  ]);
+}
+
+-- a parent that reaches the area's right side has no child in the area
+pub listed_at_end :
+    (blocks : ℕ → Option Piece) (area : Rect) (list : List LaidTile) (index : ℕ) (parent : LaidTile) → AreBlocks blocks → IsRectangleIn world area
+    → IsListedTo blocks area list index world.top → index < length list → ((d : LaidTile) → get_or list index d ≡ parent) → area.right ≤ parent.piece.rect.right
+    → IsListedTo blocks area list (index + 1) world.top
+listed_at_end blocks area list index parent tiling inside listed within here at_end =
+    let laid = found_here blocks area list index parent listed.each within here in
+    record {
+      each = listed.each;
+      once = listed.once;
+      on_side = listed.on_side;
+      listed = λ k d short. ⊎_map (λ e. e) (λ reached. reached_past area list index world.top _ reached) (listed.listed k d short);
+      reached = λ child found beyond reached. listed.reached child found beyond (elim reached.passed [
+        | inl before ↦
+            elim (cases_lt reached.place index) [
+              | inl earlier ↦
+                  record { place = reached.place; parent = reached.parent; within = reached.within; there = reached.there; is_parent = reached.is_parent; passed = inl earlier }
+              | inr later ↦
+                  let at : reached.place ≡ index = omega (arith, before, later) in
+                  let is_parent = parent_here area list index (index + 1) world.top parent child here reached at in
+                  let at_right = child_beside blocks area parent child tiling inside laid.laid found is_parent in
+                  let lines = meets_lines child.piece.rect area found.met in
+                  absurd (omega (arith, at_end, at_right, lines.0))
+            ]
+        | inr (at, above) ↦
+            let rows = first_row_found area child inside (legal-AreBlocks blocks child.id child.piece tiling found.laid) found.met in
+            absurd (not_above area child inside rows.3 above)
+      ]);
+    }
+
+-- the tile that has a square, with its block
+pub tile_with : (blocks : ℕ → Option Piece) (x y : ℕ) → AreBlocks blocks → holds world x y ≡ true → (tile : LaidTile) × IsLaidAt blocks (record { x = x; y = y }) tile
+tile_with blocks x y tiling inside =
+    let (key, held) = tiling.whole (record { x = x; y = y }) inside in
+    let there = there-IsSomeAnd (blocks key) (λ block. holds block.rect x y ≡ true) held in
+    (record { id = key; piece = there.0 }, record { laid = there.1; held = there.2 })
+
+-- a tile with a square of the area is found there
+pub found_with :
+    (blocks : ℕ → Option Piece) (area : Rect) (tile : LaidTile) (x y : ℕ) → AreBlocks blocks → IsRectangleIn world area → holds area x y ≡ true
+    → IsLaidAt blocks (record { x = x; y = y }) tile → IsFound blocks area tile
+found_with blocks area tile x y tiling inside held is =
+    let square = holds_between area x y held in
+    let lines = holds_between tile.piece.rect x y is.held in
+    let legal = legal-AreBlocks blocks tile.id tile.piece tiling is.laid in
+    record {
+      laid = is.laid;
+      met =
+        lines_meet tile.piece.rect area legal.wide inside.wide legal.tall inside.tall (omega (arith, lines.0, square.1)) (omega (arith, square.0, lines.1)) (omega (arith, lines.2, square.3))
+        (omega (arith, square.2, lines.3));
+    }
+
+pub inside_world : (area : Rect) (x y : ℕ) → IsRectangleIn world area → holds area x y ≡ true → holds world x y ≡ true
+inside_world area x y inside held =
+    let square = holds_between area x y held in
+    between_holds world x y (omega (arith, square.0, inside.left_in)) (omega (arith, square.1, inside.right_in)) (omega (arith, square.2, inside.bottom_in)) (omega (arith, square.3, inside.top_in))
+
+-- the parent's square of a tile beyond the area's left side
+parent_square :
+    (area : Rect) (tile : LaidTile) → IsRectangleIn world area → IsRectangleIn world tile.piece.rect → meets tile.piece.rect area ≡ true → area.left < tile.piece.rect.left
+    → holds area (tile.piece.rect.left - 1) (first_row area tile) ≡ true
+parent_square area tile inside legal met beyond =
+    let rows = first_row_found area tile inside legal met in
+    let lines = meets_lines tile.piece.rect area met in
+    between_holds area (tile.piece.rect.left - 1) (first_row area tile) (omega (arith, beyond)) (omega (arith, lines.0, beyond)) rows.1 rows.3
+
+-- once all parents are passed, each square of the area is in a listed tile
+whole_below :
+    (blocks : ℕ → Option Piece) (area : Rect) (list : List LaidTile) → AreBlocks blocks → IsRectangleIn world area → IsListedTo blocks area list (length list) world.top → (n x y : ℕ)
+    → x < n → holds area x y ≡ true → Any (λ tile. holds tile.piece.rect x y ≡ true) list
+whole_below blocks area list tiling inside listed zero x y few held = absurd (omega arith)
+whole_below blocks area list tiling inside listed (suc n) x y few held =
+    let with' : (tile : LaidTile) × IsLaidAt blocks (record { x = x; y = y }) tile = tile_with blocks x y tiling (inside_world area x y inside held) in
+    let tile = with'.0 in
+    let is = with'.1 in
+    let found = found_with blocks area tile x y tiling inside held is in
+    elim (cases_lt area.left tile.piece.rect.left) [
+      | inl beyond ↦
+          let legal = legal-AreBlocks blocks tile.id tile.piece tiling is.laid in
+          let lines = holds_between tile.piece.rect x y is.held in
+          let (k, parent, within, there, is_parent) =
+          whole_below blocks area list tiling inside listed n (tile.piece.rect.left - 1) (first_row area tile) (omega (arith, few, lines.0, beyond))
+          (parent_square area tile inside legal found.met beyond) in
+          let (j, short, at) =
+          listed.reached tile found beyond (record { place = k; parent = parent; within = within; there = there; is_parent = is_parent; passed = inl within }) in
+          (j, tile, short, at, is.held)
+      | inr at_side ↦
+          let square = holds_between area x y held in
+          let lines = holds_between tile.piece.rect x y is.held in
+          let (k, other, within, there, on_side) = listed.on_side y square.2 square.3 in
+          let laid = (subst (IsFound blocks area) there (listed.each k other within)).laid in
+          let one =
+          one_tile blocks tile other area.left y tiling is.laid laid (between_holds tile.piece.rect area.left y at_side (omega (arith, square.0, lines.1)) lines.2 lines.3) on_side in
+          (k, other, within, there, subst (λ t. holds t.piece.rect x y ≡ true) one is.held)
+    ]
+
+pub listed_whole :
+    (blocks : ℕ → Option Piece) (area : Rect) (list : List LaidTile) → AreBlocks blocks → IsRectangleIn world area → IsListedTo blocks area list (length list) world.top
+    → (x y : ℕ) → holds area x y ≡ true → Any (λ tile. holds tile.piece.rect x y ≡ true) list
+listed_whole blocks area list tiling inside listed x y = whole_below blocks area list tiling inside listed (suc x) x y (omega arith)

@@ -4,7 +4,7 @@ ghost use Rattle.mls_tilepool.specs.Pools.{tiles_of};
 ghost use Rattle.mls_stitch.specs.Tilings.{HasPlane, bottom_beyond, left_beyond};
 ghost use Rattle.mls_stitch.specs.Walks.{laid_at};
 
-use mls_geom::{Piece, Rect};
+use mls_geom::{Area, Piece, Point, Rect};
 use mls_tilepool::{Owner, Pool, TileId};
 
 /// The name of a tile, with its rectangle and its kind.
@@ -12,6 +12,26 @@ use mls_tilepool::{Owner, Pool, TileId};
 pub struct LaidTile {
     pub id: TileId,
     pub piece: Piece,
+}
+
+impl LaidTile {
+    ghost use Rattle.mls_geom.specs.Rects.{IsRectangleIn, holds};
+    ghost use Rattle.mls_geom.specs.World.{world};
+
+    /// Returns whether the square lies in the tile.
+    pub(crate) fn holds(&self, at: Point) -> bool
+        ensures { result ≡ holds self.now.piece.rect at.x at.y }
+    {
+        self.piece.rect.holds(at)
+    }
+
+    /// Returns the four sides of the tile.
+    pub(crate) fn sides(&self) -> Area
+        ensures value { result ≡ self.now.piece.rect }
+        ensures legal { IsRectangleIn world self.now.piece.rect }
+    {
+        self.piece.rect.area()
+    }
 }
 
 /// Returns the left side of the tile that the stitch names, and the world's right side where it names none.

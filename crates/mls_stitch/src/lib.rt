@@ -4,6 +4,7 @@
 mod area;
 mod around;
 mod build;
+mod enumeration;
 mod find;
 mod laid_tile;
 mod lookup;
@@ -14,6 +15,7 @@ mod scratch;
 mod split;
 mod stitch;
 mod stitching;
+mod walk;
 
 pub use laid_tile::LaidTile;
 pub use plane::Plane;

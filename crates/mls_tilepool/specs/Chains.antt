@@ -3,7 +3,7 @@ use Rattle.std.specs.Prelude.{◌≡◌, ℕ, zero, suc, ◌≤◌, ◌==◌, if
 use Rattle.std.specs.List.{Contains, sum_by}
 use Rattle.std.specs.Option.{option_map, option_map_or}
 use Rattle.slab.specs.Slab.{Slab, get, ContainsKey, entries_from, slab_len}
-use Rattle.mls_tilepool.specs.Pools.{Held, owned}
+use Rattle.mls_tilepool.specs.Pools.{Held, Pool, owned}
 use Rattle.mls_tilepool.specs.declared.chain.Place.{Place}
 use Rattle.mls_tilepool.specs.declared.chain.Row.{Row}
 use Rattle.mls_tilepool.specs.declared.tile.Tile.{Tile}
@@ -15,6 +15,10 @@ held_of place = option_map (λ p. record { owner = p.owner; tile = p.tile }) pla
 -- what callers see of a row
 abbrev pub room_in : Option Row → Option ℕ
 room_in row = option_map (λ r. r.room) row
+
+-- what callers see of a pool
+abbrev pub pool_of : ℕ → List (Option Place) → List (Option Row) → Pool
+pool_of capacity places rows = record { capacity = capacity; rooms = map room_in rows; places = map held_of places }
 
 -- the tiles under these links, each with its key, of at most this many places
 abbrev pub tiles_from : List (Option Place) → ℕ → Option ℕ → List (ℕ × Tile)

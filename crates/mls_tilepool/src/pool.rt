@@ -31,17 +31,12 @@ pub struct Pool {
 }
 
 impl Model for Pool {
-    ghost use Rattle.std.specs.Prelude.{map};
-    ghost use Rattle.mls_tilepool.specs.Chains.{IsPool, held_of, room_in};
+    ghost use Rattle.mls_tilepool.specs.Chains.{IsPool, pool_of};
     ghost use Rattle.mls_tilepool.specs.Pools.{Pool};
 
     ghost Value = { Pool };
 
-    ghost view = { λ p. record {
-      capacity = p.capacity;
-      rooms = map room_in p.rows.slots;
-      places = map held_of p.places.slots;
-    } };
+    ghost view = { λ p. pool_of p.capacity p.places.slots p.rows.slots };
 
     ghost invariant = { λ p. IsPool p.capacity p.reserved p.places p.rows };
 }

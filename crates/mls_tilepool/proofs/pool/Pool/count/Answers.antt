@@ -1,11 +1,16 @@
-use Rattle.std.proofs.Common.{rules, ◌≡◌, ℕ, ◌+◌, ◌≤◌, ◌<◌, ◌↔◌, [], Some, None, IfOk, IfSome, OnOk, OnErr, IfNone, IsErr, IsSome, ◌-◌, ◌*◌, length, ◌/◌, ◌%◌, Bool, true, false, nat_eq, nat_lt, List, ◌∷◌, ◌++◌, slice_index_or, slice_set, bit_and, bit_or, Fits, w8, w32, w64, Bor, MutBor}
-use Rattle.mls_tilepool.specs.Pools.{Changes, IsOwner, ListsTiles, Reserves, count_of, room_of, tile_at, tiles_of, unreserved}
+use Rattle.std.proofs.Common.{◌≤◌}
+use Rattle.mls_tilepool.proofs.PoolViews.{IfSome-at, count_of-row, room_of-row}
 use Rattle.mls_tilepool.proofs.pool.Pool.count.Goals as goal
 
--- src/pool.rt:89:5
 pub returns-clause-value : goal.returns-clause-value
-returns-clause-value c = ?
+returns-clause-value c =
+    let s = c.self.inside in
+    rw (← c.self.view_is, ← c.owner.view_is) (count_of-row s.capacity s.reserved s.places s.rows c.self.invariant c.owner.inside.number c.index.result.now c.index.ensures)
 
--- src/pool.rt:89:5
 pub returns-clause-within : goal.returns-clause-within
-returns-clause-within c = ?
+returns-clause-within c =
+    let s = c.self.inside in
+    let row = c.index.result.now in
+    rw (← c.self.view_is, ← c.owner.view_is)
+    (IfSome-at (λ room. row.count ≤ room) _ row.room (room_of-row s.capacity s.reserved s.places s.rows c.owner.inside.number row c.index.ensures)
+    (c.self.invariant.owners c.owner.inside.number row c.index.ensures).within)

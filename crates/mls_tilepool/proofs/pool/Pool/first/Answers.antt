@@ -1,11 +1,14 @@
-use Rattle.std.proofs.Common.{rules, ◌≡◌, ℕ, ◌+◌, ◌≤◌, ◌<◌, ◌↔◌, [], Some, None, IfOk, IfSome, OnOk, OnErr, IfNone, IsErr, IsSome, ◌-◌, ◌*◌, length, ◌/◌, ◌%◌, Bool, true, false, nat_eq, nat_lt, List, ◌∷◌, ◌++◌, slice_index_or, slice_set, bit_and, bit_or, Fits, w8, w32, w64, Bor, MutBor}
-use Rattle.mls_tilepool.specs.Pools.{Changes, IsOwner, ListsTiles, Reserves, count_of, room_of, tile_at, tiles_of, unreserved}
+use Rattle.mls_tilepool.proofs.PoolViews.{first_none, first_tile}
 use Rattle.mls_tilepool.proofs.pool.Pool.first.Goals as goal
 
--- src/pool.rt:103:19
 pub returns-in_err-key-clause-none : goal.returns-in_err-key-clause-none
-returns-in_err-key-clause-none c = ?
+returns-in_err-key-clause-none c =
+    let s = c.self.inside in
+    rw (c.from_residual.ensures, ← c.self.view_is, ← c.owner.view_is)
+    (first_none s.capacity s.reserved s.places s.rows c.self.invariant c.owner.inside.number c.index.result.now c.index.ensures c.in_err-key.was)
 
--- src/pool.rt:98:5
 pub returns-clause-some : goal.returns-clause-some
-returns-clause-some c = ?
+returns-clause-some c =
+    let s = c.self.inside in
+    rw (← c.self.view_is, ← c.owner.view_is)
+    (first_tile s.capacity s.reserved s.places s.rows c.self.invariant c.owner.inside.number c.index.result.now c.index.ensures c.in_ok-key.key c.in_ok-key.was)

@@ -1,15 +1,21 @@
-use Rattle.std.proofs.Common.{rules, ◌≡◌, ℕ, ◌+◌, ◌≤◌, ◌<◌, ◌↔◌, [], Some, None, IfOk, IfSome, OnOk, OnErr, IfNone, IsErr, IsSome, ◌-◌, ◌*◌, length, ◌/◌, ◌%◌, Bool, true, false, nat_eq, nat_lt, List, ◌∷◌, ◌++◌, slice_index_or, slice_set, bit_and, bit_or, Fits, w8, w32, w64, Bor, MutBor}
-use Rattle.mls_tilepool.specs.Pools.{Changes, IsOwner, ListsTiles, Reserves, count_of, room_of, tile_at, tiles_of, unreserved}
+use Rattle.std.proofs.Common.{sym}
+use Rattle.mls_tilepool.proofs.PoolViews.{tile_at-place_other, tile_at-place_own, tile_at-vacant}
 use Rattle.mls_tilepool.proofs.pool.Pool.get.Goals as goal
 
--- src/pool.rt:178:21
 pub returns-in_err-place : goal.returns-in_err-place
-returns-in_err-place c = ?
+returns-in_err-place c =
+    let s = c.self.inside in
+    rw (c.from_residual.ensures, ← c.self.view_is, ← c.id.view_is)
+    (sym (tile_at-vacant s.capacity s.reserved s.places s.rows c.args.owner.now c.id.inside.key (sym c.in_err-place.ensures)))
 
--- src/pool.rt:175:5
 pub returns-then-place-owner : goal.returns-then-place-owner
-returns-then-place-owner c = ?
+returns-then-place-owner c =
+    let s = c.self.inside in
+    rw (← c.self.view_is, ← c.id.view_is, ← c.owner.view_is)
+    (sym (tile_at-place_own s.capacity s.reserved s.places s.rows c.owner.inside.number c.id.inside.key c.in_ok-place.place.now (sym c.in_ok-place.ensures) c.if-place-owner.true))
 
--- src/pool.rt:175:5
 pub returns-else-place-owner : goal.returns-else-place-owner
-returns-else-place-owner c = ?
+returns-else-place-owner c =
+    let s = c.self.inside in
+    rw (← c.self.view_is, ← c.id.view_is, ← c.owner.view_is)
+    (sym (tile_at-place_other s.capacity s.reserved s.places s.rows c.owner.inside.number c.id.inside.key c.in_ok-place.place.now (sym c.in_ok-place.ensures) c.if-place-owner.false))

@@ -1,9 +1,9 @@
-use Rattle.std.proofs.Common.{◌≡◌, ℕ, ◌+◌, ◌≤◌, ◌<◌, ◌↔◌, [], Some, None, IfOk, IfSome, OnOk, OnErr, IfNone, IsErr, IsSome, ◌-◌, ◌*◌, length}
-use Rattle.mls_tilepool.specs.Pools.{Changes, IsOwner, ListsTiles, Reserves, count_of, room_of, tile_at, tiles_of, unreserved}
+use Rattle.mls_tilepool.specs.Pools.{count_of}
+use Rattle.mls_tilepool.proofs.OwnerCalls.{OthersKeep}
 use Rattle.mls_tilepool.proofs.pool.Pool.release.Given as goal
 
 abbrev pub invariant-loop-id : goal.invariant-loop-id
-invariant-loop-id l = ?
+invariant-loop-id l = OthersKeep l.initial.self l.self l.owner
 
 abbrev pub decreases-loop-id : goal.decreases-loop-id
-decreases-loop-id l = ?
+decreases-loop-id l = count_of l.self l.owner

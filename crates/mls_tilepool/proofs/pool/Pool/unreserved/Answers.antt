@@ -1,7 +1,5 @@
-use Rattle.std.proofs.Common.{rules, ◌≡◌, ℕ, ◌+◌, ◌≤◌, ◌<◌, ◌↔◌, [], Some, None, IfOk, IfSome, OnOk, OnErr, IfNone, IsErr, IsSome, ◌-◌, ◌*◌, length, ◌/◌, ◌%◌, Bool, true, false, nat_eq, nat_lt, List, ◌∷◌, ◌++◌, slice_index_or, slice_set, bit_and, bit_or, Fits, w8, w32, w64, Bor, MutBor}
-use Rattle.mls_tilepool.specs.Pools.{Changes, IsOwner, ListsTiles, Reserves, count_of, room_of, tile_at, tiles_of, unreserved}
+use Rattle.mls_tilepool.proofs.PoolViews.{unreserved-pool}
 use Rattle.mls_tilepool.proofs.pool.Pool.unreserved.Goals as goal
 
--- src/pool.rt:74:5
 pub returns : goal.returns
-returns c = ?
+returns c = let s = c.self.inside in rw (← c.self.view_is) (unreserved-pool s.capacity s.reserved s.places s.rows c.self.invariant)

@@ -1,0 +1,70 @@
+//! The enumeration of an area's tiles (Ousterhout 1984), each of which has one parent.
+ghost use Rattle.std.specs.Prelude.{◌≡◌, ◌+◌, ◌-◌, ◌<◌, ◌≤◌, ◌&&◌, slice_index_or, vec_len, vec_capacity};
+ghost use Rattle.mls_geom.specs.Rects.{holds, meets};
+ghost use Rattle.mls_geom.specs.World.{world};
+ghost use Rattle.mls_tilepool.specs.Pools.{count_of, tiles_of};
+ghost use Rattle.mls_stitch.specs.Enumerations.{IsBeside, IsListedTo, first_row};
+ghost use Rattle.mls_stitch.specs.Tilings.{HasPlane, block_at};
+ghost use Rattle.mls_stitch.specs.declared.laid_tile.LaidTile.{LaidTile};
+
+use crate::walk::{find_tile, neighbour};
+use crate::{LaidTile, Stitch};
+use mls_geom::{Point, Rect};
+use mls_tilepool::{Owner, Pool, TileId};
+
+/// Returns the lowest row of the tile that is not below the area.
+fn first_row(area: Rect, tile: &LaidTile) -> u32
+    ensures { result ≡ first_row area tile.now }
+{
+    tile.sides().bottom.max(area.area().bottom)
+}
+
+/// Returns whether the tile has a square of the area, and the parent the square to the left of it in its first row.
+fn is_child(area: Rect, parent: &LaidTile, tile: &LaidTile) -> bool
+    ensures { result ≡ (holds parent.now.piece.rect (tile.now.piece.rect.left - 1) (first_row area tile.now) && meets tile.now.piece.rect area) }
+{
+    let row = first_row(area, tile);
+    let sides = parent.sides();
+    let left = tile.sides().left - 1;
+    sides.left <= left && left < sides.right && sides.bottom <= row && row < sides.top && tile.piece.rect.meets(area)
+}
+
+/// Lists the right neighbour of the tile at the index, where it is the tile's child.
+fn push_child(pool: &Pool, owner: &Owner, area: Rect, parent: &LaidTile, tile: &LaidTile, index: usize, list: &mut Vec<LaidTile>)
+    requires plane { HasPlane pool.now owner.now }
+    requires room { count_of pool.now owner.now ≤ vec_capacity list.old }
+    requires beside { IsBeside (block_at (tiles_of pool.now owner.now)) area list.old.items index parent.now tile.now }
+    ensures listed { IsListedTo (block_at (tiles_of pool.now owner.now)) area list.new.items index tile.now.piece.rect.bottom }
+    ensures kept { (d : LaidTile) → slice_index_or list.new.items index d ≡ parent.now }
+    ensures longer { vec_len list.old ≤ vec_len list.new }
+    ensures room { vec_capacity list.new ≡ vec_capacity list.old }
+{
+    if is_child(area, parent, tile) {
+        list.push_reserved(*tile);
+    }
+}
+
+/// Lists the right neighbours of the tile at the index of which it is the parent.
+fn push_children(pool: &Pool, owner: &Owner, area: Rect, index: usize, list: &mut Vec<LaidTile>)
+    requires plane { HasPlane pool.now owner.now }
+    requires room { count_of pool.now owner.now ≤ vec_capacity list.old }
+    requires within { index < vec_len list.old }
+    requires listed { IsListedTo (block_at (tiles_of pool.now owner.now)) area list.old.items index world.top }
+    ensures listed { IsListedTo (block_at (tiles_of pool.now owner.now)) area list.new.items (index + 1) world.top }
+    ensures longer { vec_len list.old ≤ vec_len list.new }
+    ensures room { vec_capacity list.new ≡ vec_capacity list.old }
+{
+    let parent = list[index];
+    if area.area().right <= parent.sides().right {
+        return;
+    }
+    let last_row = first_row(area, &parent);
+    let mut tile = neighbour(pool, owner, &parent, Stitch::Tr);
+    loop {
+        push_child(pool, owner, area, &parent, &tile, index, list);
+        if tile.sides().bottom <= last_row {
+            return;
+        }
+        tile = neighbour(pool, owner, &tile, Stitch::Lb);
+    }
+}
