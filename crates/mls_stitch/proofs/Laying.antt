@@ -361,3 +361,7 @@ Lays-instead {old} {mid} {low} {new} {before} {between} {after} touched fresh n 
         Lays-even first (Lays-surplus gone rest either) (All-drop (λ k. IsSome (tile_in old k)) n touched there) (λ key later. one_part touched n key once later)
         (length_takes touched fresh n (omega (arith, shared)) (omega (arith, shared))) in
     rw (take-append-drop n touched, take-append-drop n fresh) at joined
+
+-- the list is longer by the pieces
+pub Lays-long : {old new : List (ℕ × Tile)} {touched : List ℕ} {fresh : List Piece} {before after : List LaidTile} → Lays old new touched fresh before after → length after ≡ length before + length fresh
+Lays-long {before = before} a = ap length a.listed ∙ length-append before a.laid ∙ omega (arith, length_keys a.laid _ a.pieces, length-map a.laid (λ (e : LaidTile). e.id))
