@@ -1,5 +1,11 @@
 pub mod Areas
+pub mod Enumerations
+pub mod Fresh
+pub mod Lookups
 pub mod Pending
+pub mod Placing
 pub mod Replacements
+pub mod Splits
 pub mod Stitches
 pub mod Tilings
+pub mod Walks

@@ -27,3 +27,14 @@ pub record AwaitStitches (tiles : List (ℕ × Tile)) (blocks : ℕ → Option P
   pub listed : All (λ entry. blocks entry.id ≡ Some entry.piece) entries
   pub once : AllPairs (λ p q. p.id ≢ q.id) entries
   pub pending : (key : ℕ) (tile : Tile) (block : Piece) (stitch : Stitch) → tile_in tiles key ≡ Some tile → blocks key ≡ Some block → IsRightOrListed blocks entries key tile block stitch
+
+-- the stitch of the tile under the key leads where it is to lead
+abbrev pub IsStitchedAt : List (ℕ × Tile) → (ℕ → Option Piece) → Stitch → ℕ → Type 0
+IsStitchedAt tiles blocks stitch key =
+    (tile : Tile) (block : Piece) → tile_in tiles key ≡ Some tile → blocks key ≡ Some block → LeadsTo blocks (stitch_of stitch tile) (beyond stitch block.rect)
+
+-- one stitch of each tile leads where it is to lead, other stitches that do still do, and the rest wait as before
+pub record AreStitchedBy (stitch : Stitch) (old new : List (ℕ × Tile)) (blocks : ℕ → Option Piece) (entries : List LaidTile) : Type 0 where
+  pub awaiting : AwaitStitches new blocks entries
+  pub stitched : (key : ℕ) → IsStitchedAt new blocks stitch key
+  pub kept : (other : Stitch) (key : ℕ) → IsStitchedAt old blocks other key → IsStitchedAt new blocks other key

@@ -15,6 +15,13 @@ stitch_of Bl tile = tile.bl
 stitch_of Tr tile = tile.tr
 stitch_of Rt tile = tile.rt
 
+-- the tile with this stitch
+abbrev pub with_stitch : Stitch → Option ℕ → Tile → Tile
+with_stitch Lb to tile = record tile { lb = to }
+with_stitch Bl to tile = record tile { bl = to }
+with_stitch Tr to tile = record tile { tr = to }
+with_stitch Rt to tile = record tile { rt = to }
+
 -- the square to which the stitch of a tile over this rectangle leads; it may lie outside the world
 abbrev pub beyond : Stitch → Rect → Point
 beyond Lb rect = record { x = rect.left; y = rect.bottom - 1 }

@@ -1,12 +1,13 @@
 //! Area search.
-ghost use Rattle.std.specs.Prelude.{◌≡◌, ℕ, ◌+◌, ◌<◌, ◌≤◌, ◌↔◌, [], ◌∷◌, List, Some, None, IfOk, IfSome, OnOk, OnErr, IsErr, IsSomeAnd, length, map};
-ghost use Rattle.mls_tilepool.specs.Pools.{IsOwner, count_of, room_of, tile_in, tiles_of};
-ghost use Rattle.mls_stitch.specs.Tilings.{ChangesOnly, HasPlane, IsMaximal, block_at, shown};
+ghost use Rattle.std.specs.Prelude.{◌≡◌, ◌≤◌, length, map};
+ghost use Rattle.mls_tilepool.specs.Pools.{count_of, tiles_of};
+ghost use Rattle.mls_stitch.specs.Tilings.{HasPlane, IsMaximal, block_at, shown};
 ghost use Rattle.mls_geom.specs.Pictures.{picture_of};
 ghost use Rattle.mls_geom.specs.Strips.{AreStrips};
 ghost use Rattle.mls_geom.specs.World.{world};
 ghost use Rattle.mls_stitch.specs.Areas.{AreInArea};
 
+use crate::enumeration::area_into;
 use crate::{Plane, Scratch};
 use mls_geom::Rect;
 use mls_tilepool::Pool;
@@ -21,6 +22,10 @@ impl Plane {
         ensures plane { self.new ≡ self.old }
         ensures scratch_room { scratch.new.room ≡ scratch.old.room }
     {
+        area_into(pool, &self.owner, self.hint, area, &mut scratch.tiles);
+        if let Some(tile) = scratch.tiles.first() {
+            self.hint = tile.id;
+        }
     }
 
     /// Finds all tiles of the plane, by bottom and then left, and leaves them in the scratch.

@@ -6,6 +6,8 @@ ghost use Rattle.mls_geom.specs.Locality.{AreUnorderedStrips};
 ghost use Rattle.mls_geom.specs.Pictures.{picture_of};
 ghost use Rattle.mls_geom.specs.World.{world};
 
+use crate::place::place_all;
+use crate::stitching::stitch_listed;
 use crate::{Plane, Scratch};
 use mls_geom::Piece;
 use mls_tilepool::{Owner, Pool};
@@ -28,7 +30,10 @@ impl Plane {
         ensures only { ChangesOnly pool.old pool.new owner }
         ensures scratch_room { scratch.new.room ≡ scratch.old.room }
     {
-        let hint = pool.tiles(&owner).next().unwrap().0;
+        scratch.entries.clear();
+        place_all(pool, &owner, pieces, &mut scratch.entries);
+        let hint = scratch.entries[0].id;
+        stitch_listed(pool, &owner, &mut scratch.entries);
         Plane { owner, hint }
     }
 }

@@ -1,10 +1,11 @@
 //! Finding the tile that holds a square.
-ghost use Rattle.std.specs.Prelude.{◌≡◌, ℕ, ◌+◌, ◌<◌, ◌≤◌, ◌↔◌, [], ◌∷◌, List, Some, None, IfOk, IfSome, OnOk, OnErr, IsErr, IsSomeAnd, length, map};
-ghost use Rattle.mls_tilepool.specs.Pools.{IsOwner, count_of, room_of, tile_in, tiles_of};
-ghost use Rattle.mls_stitch.specs.Tilings.{ChangesOnly, HasPlane, IsMaximal, block_at, shown};
+ghost use Rattle.std.specs.Prelude.{◌≡◌};
+ghost use Rattle.mls_tilepool.specs.Pools.{tiles_of};
+ghost use Rattle.mls_stitch.specs.Tilings.{HasPlane, block_at};
 ghost use Rattle.mls_stitch.specs.Stitches.{HoldsAt};
 
 use crate::Plane;
+use crate::walk::find_tile;
 use mls_geom::Point;
 use mls_tilepool::{Pool, TileId};
 
@@ -17,6 +18,8 @@ impl Plane {
         ensures holds { HoldsAt (block_at (tiles_of pool.now self.old)) result at }
         ensures plane { self.new ≡ self.old }
     {
-        self.hint
+        let tile = find_tile(pool, &self.owner, self.hint, at);
+        self.hint = tile.id;
+        tile.id
     }
 }

@@ -2,15 +2,20 @@
 #![tactic(auto)]
 
 mod area;
+mod around;
 mod build;
+mod enumeration;
 mod find;
 mod laid_tile;
+mod lookup;
+mod place;
 mod plane;
 mod replace;
 mod scratch;
 mod split;
 mod stitch;
 mod stitching;
+mod walk;
 
 pub use laid_tile::LaidTile;
 pub use plane::Plane;

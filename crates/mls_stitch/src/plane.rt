@@ -1,4 +1,6 @@
 //! Planes of stitched tiles.
+ghost use Rattle.std.specs.Prelude.{◌≡◌};
+
 use mls_tilepool::{Owner, TileId};
 use std::marker::Model;
 

@@ -1,12 +1,25 @@
 //! Replacing tiles.
-ghost use Rattle.std.specs.Prelude.{◌≡◌, ℕ, ◌+◌, ◌<◌, ◌≤◌, ◌↔◌, [], ◌∷◌, List, Some, None, IfOk, IfSome, OnOk, OnErr, IsErr, IsSomeAnd, length, map};
+ghost use Rattle.std.specs.Prelude.{◌≡◌, ℕ, ◌+◌, ◌<◌, ◌≤◌, ◌↔◌, [], ◌∷◌, List, Some, None, IfOk, IfSome, OnOk, OnErr, IsErr, IsSomeAnd, IsTrue, length, map};
 ghost use Rattle.mls_tilepool.specs.Pools.{IsOwner, count_of, room_of, tile_in, tiles_of};
 ghost use Rattle.mls_stitch.specs.Tilings.{ChangesOnly, HasPlane, IsMaximal, block_at, shown};
 ghost use Rattle.mls_stitch.specs.Replacements.{Replaces, TakePlace};
 
+use crate::around::list_around;
+use crate::place::place_instead;
+use crate::stitching::stitch_listed;
 use crate::{Plane, Scratch};
 use mls_geom::Piece;
-use mls_tilepool::{NoRoom, Pool, TileId};
+use mls_tilepool::{NoRoom, Owner, Pool, TileId};
+
+/// Returns whether the owner's room is enough once as many tiles as are touched have given way to the fresh ones.
+fn has_room(pool: &Pool, owner: &Owner, touched: usize, fresh: usize) -> bool
+    requires live { IsOwner pool.now owner.now }
+    requires there { touched ≤ count_of pool.now owner.now }
+    ensures { IsTrue result ↔ IfSome (room_of pool.now owner.now) (λ room. count_of pool.now owner.now + fresh ≤ room + touched) }
+{
+    let unused = pool.room(owner) - pool.count(owner);
+    fresh <= unused as usize + touched
+}
 
 impl Plane {
     /// Replaces the touched tiles by pieces over exactly their squares.
@@ -26,6 +39,22 @@ impl Plane {
         ensures only { ChangesOnly pool.old pool.new self.old }
         ensures scratch_room { scratch.new.room ≡ scratch.old.room }
     {
+        if !has_room(pool, &self.owner, touched.len(), fresh.len()) {
+            return Err(NoRoom);
+        }
+        list_around(
+            pool,
+            &self.owner,
+            touched,
+            &mut scratch.touched,
+            &mut scratch.tiles,
+            &mut scratch.entries,
+        );
+        place_instead(pool, &self.owner, touched, fresh, &mut scratch.entries);
+        if let Some(tile) = scratch.entries.last() {
+            self.hint = tile.id;
+        }
+        stitch_listed(pool, &self.owner, &mut scratch.entries);
         Ok(())
     }
 }

@@ -14,6 +14,8 @@ pub struct Scratch {
     pub(crate) tiles: Vec<LaidTile>,
     // Twice as many: tiles to be stitched, and their neighbours.
     pub(crate) entries: Vec<LaidTile>,
+    // The keys of tiles that are to give way, in ascending order.
+    pub(crate) touched: Vec<usize>,
 }
 
 impl Model for Scratch {
@@ -24,7 +26,7 @@ impl Model for Scratch {
 
     ghost view = { λ s. record { tiles = s.tiles.items; room = s.room } };
 
-    ghost invariant = { λ s. (s.room ≤ vec_capacity s.tiles) × (s.room + s.room ≤ vec_capacity s.entries) };
+    ghost invariant = { λ s. (s.room ≤ vec_capacity s.tiles) × (s.room + s.room ≤ vec_capacity s.entries) × (s.room ≤ vec_capacity s.touched) };
 }
 
 impl Scratch {
@@ -37,6 +39,7 @@ impl Scratch {
             room,
             tiles: Vec::with_capacity(alloc, room)?,
             entries: Vec::with_capacity(alloc, 2 * room)?,
+            touched: Vec::with_capacity(alloc, room)?,
         })
     }
 

@@ -1,4 +1,7 @@
 //! The four stitches of a tile.
+ghost use Rattle.std.specs.Prelude.{◌≡◌};
+ghost use Rattle.mls_stitch.specs.Stitches.{stitch_of, with_stitch};
+
 use mls_tilepool::{Tile, TileId};
 
 /// One of the four stitches of a tile (Ousterhout 1984), which begin at its lower-left and its upper-right corner.
@@ -12,4 +15,30 @@ pub enum Stitch {
     Tr,
     /// From the upper-right corner up.
     Rt,
+}
+
+impl Stitch {
+    /// Returns this stitch of the tile.
+    pub fn of(self, tile: &Tile) -> Option<TileId>
+        ensures { result ≡ stitch_of self tile.now }
+    {
+        match self {
+            Stitch::Lb => tile.lb,
+            Stitch::Bl => tile.bl,
+            Stitch::Tr => tile.tr,
+            Stitch::Rt => tile.rt,
+        }
+    }
+
+    /// Makes this stitch of the tile lead to the tile `to`.
+    pub(crate) fn set(self, tile: &mut Tile, to: Option<TileId>)
+        ensures { tile.new ≡ with_stitch self to tile.old }
+    {
+        match self {
+            Stitch::Lb => tile.lb = to,
+            Stitch::Bl => tile.bl = to,
+            Stitch::Tr => tile.tr = to,
+            Stitch::Rt => tile.rt = to,
+        }
+    }
 }

@@ -1,8 +1,8 @@
 //! The pool.
-ghost use Rattle.std.specs.Prelude.{◌≡◌, ◌+◌, ◌≤◌, ◌<◌, ◌↔◌, [], Some, None, IfOk, IfSome, OnOk, OnErr, IsErr, IsSome};
-ghost use Rattle.mls_tilepool.specs.Pools.{Changes, IsOwner, ListsTiles, Reserves, count_of, room_of, tile_at, unreserved};
+ghost use Rattle.std.specs.Prelude.{◌≡◌, ℕ, ◌+◌, ◌≤◌, ◌<◌, ◌↔◌, [], Some, None, IfOk, IfSome, OnOk, OnErr, IfNone, IsErr, IsSome};
+ghost use Rattle.mls_tilepool.specs.Pools.{Changes, IsOwner, ListsTiles, Reserves, count_of, room_of, tile_at, tiles_of, unreserved};
 
-use crate::chain::{Place, Row};
+use crate::chain::{Place, Row, link_next, link_previous};
 use crate::{Owner, Tile, TileId, Tiles};
 use slab::Slab;
 use std::alloc::{AllocError, Global};
@@ -31,17 +31,14 @@ pub struct Pool {
 }
 
 impl Model for Pool {
-    ghost use Rattle.std.specs.Prelude.{map};
-    ghost use Rattle.std.specs.Option.{option_map};
+    ghost use Rattle.mls_tilepool.specs.Chains.{IsPool, pool_of};
     ghost use Rattle.mls_tilepool.specs.Pools.{Pool};
 
     ghost Value = { Pool };
 
-    ghost view = { λ p. record {
-      capacity = p.capacity;
-      rooms = map (option_map (λ row. row.room)) p.rows.slots;
-      places = map (option_map (λ place. record { owner = place.owner; tile = place.tile })) p.places.slots;
-    } };
+    ghost view = { λ p. pool_of p.capacity p.places.slots p.rows.slots };
+
+    ghost invariant = { λ p. IsPool p.capacity p.reserved p.places p.rows };
 }
 
 impl Pool {
@@ -80,7 +77,7 @@ impl Pool {
         requires { IsOwner self.now owner.now }
         ensures { room_of self.now owner.now ≡ Some result }
     {
-        ?
+        self.rows[owner.number].room
     }
 
     /// Returns how many tiles the owner has.
@@ -89,7 +86,17 @@ impl Pool {
         ensures value { result ≡ count_of self.now owner.now }
         ensures within { IfSome (room_of self.now owner.now) (λ room. result ≤ room) }
     {
-        ?
+        self.rows[owner.number].count
+    }
+
+    /// Returns the name of one of the owner's tiles, if it has any.
+    fn first(&self, owner: &Owner) -> Option<TileId>
+        requires { IsOwner self.now owner.now }
+        ensures some { IfSome result (λ id. IsSome (tile_at self.now owner.now id)) }
+        ensures none { IfNone result (tiles_of self.now owner.now ≡ []) }
+    {
+        let key = self.rows[owner.number].first?;
+        Some(TileId { key })
     }
 
     /// Reserves room for this many tiles under a new owner.
@@ -103,7 +110,16 @@ impl Pool {
         ensures taken { OnOk result (unreserved self.new + tiles ≡ unreserved self.old) }
         ensures refused { OnErr result (self.new ≡ self.old) }
     {
-        ?
+        if self.capacity - self.reserved < tiles {
+            return Err(PoolFull);
+        }
+        let number = self.rows.insert_reserved(Row {
+            room: tiles,
+            count: 0,
+            first: None,
+        });
+        self.reserved += tiles;
+        Ok(Owner { number })
     }
 
     /// Removes all tiles of an owner, and gives its reserve back.
@@ -113,7 +129,11 @@ impl Pool {
         ensures given_back { IfSome (room_of self.old owner)
             (λ room. unreserved self.new ≡ unreserved self.old + room) }
     {
-        ?
+        while let Some(id) = self.first(&owner) {
+            self.remove(&owner, id);
+        }
+        let row = self.rows.remove(owner.number);
+        self.reserved -= row.room;
     }
 
     /// Adds a tile of an owner, and returns its name.
@@ -127,14 +147,35 @@ impl Pool {
         ensures count { OnOk result (count_of self.new owner.now ≡ count_of self.old owner.now + 1) }
         ensures refused { OnErr result (self.new ≡ self.old) }
     {
-        ?
+        let row = self.rows[owner.number];
+        if row.count == row.room {
+            return Err(NoRoom);
+        }
+        let key = self.places.insert_reserved(Place {
+            owner: owner.number,
+            tile,
+            previous: None,
+            next: row.first,
+        });
+        link_previous(&mut self.places, row.first, Some(key));
+        self.rows[owner.number] = Row {
+            room: row.room,
+            count: row.count + 1,
+            first: Some(key),
+        };
+        Ok(TileId { key })
     }
 
     /// Returns the tile, if it is one of the owner's.
     pub fn get(&self, owner: &Owner, id: TileId) -> Option<Tile>
         ensures { result ≡ tile_at self.now owner.now id }
     {
-        ?
+        let place = self.places.get(id.key)?;
+        if place.owner == owner.number {
+            Some(place.tile)
+        } else {
+            None
+        }
     }
 
     /// Replaces a tile of the owner's by another under the same name.
@@ -143,7 +184,7 @@ impl Pool {
         ensures changes { Changes self.old self.new owner.now id (Some tile) }
         ensures count { count_of self.new owner.now ≡ count_of self.old owner.now }
     {
-        ?
+        self.places[id.key].tile = tile;
     }
 
     /// Removes a tile of the owner's, and returns it.
@@ -153,7 +194,20 @@ impl Pool {
         ensures changes { Changes self.old self.new owner.now id None }
         ensures count { count_of self.new owner.now + 1 ≡ count_of self.old owner.now }
     {
-        ?
+        let place = self.places.remove(id.key);
+        link_next(&mut self.places, place.previous, place.next);
+        link_previous(&mut self.places, place.next, place.previous);
+        let row = self.rows[owner.number];
+        let first = match place.previous {
+            Some(_) => row.first,
+            None => place.next,
+        };
+        self.rows[owner.number] = Row {
+            room: row.room,
+            count: row.count - 1,
+            first,
+        };
+        place.tile
     }
 
     /// Returns an iterator over the owner's tiles and their names, each once, in any order.
@@ -161,6 +215,7 @@ impl Pool {
         requires { IsOwner self.now owner.now }
         ensures { ListsTiles self.now owner.now result }
     {
-        ?
+        let row = self.rows[owner.number];
+        Tiles::new(&self.places, row.count, row.first)
     }
 }

@@ -1,0 +1,73 @@
+-- The tiles on the left side of an area, from the bottom up.
+use Rattle.std.proofs.Common.{◌≡◌, ◌≢◌, ℕ, ◌<◌, ◌≤◌, true, List, [], ◌∷◌, ◌++◌, length, get_or, Option, All, Any, AllPairs, Contains, inl, inr, refl, ap, ◌∙◌, arith}
+use Rattle.std.proofs.lemmas.Bool.{cases_lt}
+use Rattle.std.proofs.lemmas.List.Elements.{All-push, All-nil}
+use Rattle.std.proofs.lemmas.List.Quantifiers.{Any-push, all_pairs_push}
+use Rattle.mls_geom.specs.Rects.{Rect, IsRectangleIn, holds}
+use Rattle.mls_geom.specs.World.{world}
+use Rattle.mls_geom.specs.declared.piece.Piece.{Piece}
+use Rattle.mls_geom.proofs.Holds.{holds_between, between_holds}
+use Rattle.mls_stitch.specs.Areas.{IsFound}
+use Rattle.mls_stitch.specs.Enumerations.{IsListedTo, IsReached, IsSideListedTo, first_row}
+use Rattle.mls_stitch.specs.Tilings.{AreBlocks}
+use Rattle.mls_stitch.specs.Walks.{IsLaidAt}
+use Rattle.mls_stitch.specs.declared.laid_tile.LaidTile.{LaidTile}
+use Rattle.mls_stitch.proofs.Listings.{any_push, found_with, first_row_found, same_tile}
+use Rattle.mls_stitch.proofs.Sides.{legal-AreBlocks}
+
+pub side_none : (blocks : ℕ → Option Piece) (area : Rect) → IsSideListedTo blocks area [] area.bottom
+side_none blocks area = record {
+  each = λ k d within. absurd (omega arith);
+  once = λ i j d before within. absurd (omega arith);
+  on_side = λ y above below. absurd (omega (arith, above, below));
+  at_side = λ k d within. absurd (omega arith);
+  below = λ k d within. absurd (omega arith);
+}
+
+-- a tile at the line is none of those below it
+pub not_below :
+    (blocks : ℕ → Option Piece) (area : Rect) (list : List LaidTile) (line : ℕ) (tile : LaidTile) → IsSideListedTo blocks area list line
+    → IsLaidAt blocks (record { x = area.left; y = line }) tile → All (λ p. p.id ≢ tile.id) list
+not_below blocks area list line tile listed is k d within same =
+    let other = get_or list k d in
+    let one : other ≡ tile = same_tile blocks other tile (listed.each k d within).laid is.laid same in
+    let lines = holds_between tile.piece.rect area.left line is.held in
+    omega (arith, listed.below k d within, ap (λ (t : LaidTile). t.piece.rect.top) one, lines.3)
+
+-- the tile that has the side's square at the line goes on the list
+pub side_push :
+    (blocks : ℕ → Option Piece) (area : Rect) (list : List LaidTile) (line : ℕ) (tile : LaidTile) → AreBlocks blocks → IsRectangleIn world area → IsSideListedTo blocks area list line
+    → area.bottom ≤ line → line < area.top → IsLaidAt blocks (record { x = area.left; y = line }) tile → IsSideListedTo blocks area (list ++ tile ∷ []) tile.piece.rect.top
+side_push blocks area list line tile tiling inside listed low high is =
+    let square : holds area area.left line ≡ true = between_holds area area.left line (omega arith) inside.wide low high in
+    let found = found_with blocks area tile area.left line tiling inside square is in
+    let lines = holds_between tile.piece.rect area.left line is.held in
+    record {
+      each = All-push (IsFound blocks area) list tile listed.each found;
+      once = all_pairs_push (λ p q. p.id ≢ q.id) list tile listed.once (not_below blocks area list line tile listed is);
+      on_side = λ y above below.
+        elim (cases_lt y line) [
+          | inl before ↦ any_push (λ t. holds t.piece.rect area.left y ≡ true) list tile (listed.on_side y above before)
+          | inr after ↦
+              Any-push (λ t. holds t.piece.rect area.left y ≡ true) list tile (between_holds tile.piece.rect area.left y lines.0 lines.1 (omega (arith, lines.2, after)) below)
+        ];
+      at_side = All-push (λ t. t.piece.rect.left ≤ area.left) list tile listed.at_side lines.0;
+      below = All-push (λ t. t.piece.rect.top ≤ tile.piece.rect.top) list tile (λ k d within. omega (arith, listed.below k d within, lines.3)) (omega arith);
+    }
+
+-- the side is listed once the line reaches the area's top
+pub side_whole :
+    (blocks : ℕ → Option Piece) (area : Rect) (list : List LaidTile) (line : ℕ) → AreBlocks blocks → IsRectangleIn world area → IsSideListedTo blocks area list line → area.top ≤ line
+    → IsListedTo blocks area list 0 world.top
+side_whole blocks area list line tiling inside listed reaches = record {
+  each = listed.each;
+  once = listed.once;
+  on_side = λ y above below. listed.on_side y above (omega (arith, below, reaches));
+  listed = λ k d within. inl (listed.at_side k d within);
+  reached = λ tile found beyond reached. elim reached.passed [
+    | inl before ↦ absurd (omega (arith, before))
+    | inr (at, above) ↦
+        let rows = first_row_found area tile inside (legal-AreBlocks blocks tile.id tile.piece tiling found.laid) found.met in
+        absurd (omega (arith, above, rows.3, inside.top_in))
+  ];
+}

@@ -1,0 +1,10 @@
+-- The tile that has the square is not passed yet.
+use Rattle.std.proofs.Common.{ℕ}
+use Rattle.std.specs.Option.{IsSome}
+use Rattle.mls_tilepool.specs.Pools.{tile_in, tiles_of}
+use Rattle.mls_stitch.specs.Stitches.{HoldsAt}
+use Rattle.mls_stitch.specs.Tilings.{block_at}
+use Rattle.mls_stitch.proofs.walk.scan.Given as goal
+
+abbrev pub invariant-loop-id : goal.invariant-loop-id
+invariant-loop-id l = (key : ℕ) → HoldsAt (block_at (tiles_of l.pool l.owner)) key l.at → IsSome (tile_in l.id-iterator key)

@@ -1,0 +1,54 @@
+-- How area search goes over an area (after Ousterhout 1984, area enumeration): the tiles on the area's left side from the bottom up, and then, tile by
+-- tile of those listed, the right neighbours of which it is the parent. Each tile has one parent, so it is listed once.
+use Rattle.std.specs.Prelude.{◌≡◌, ◌≢◌, ◌⊎◌, ℕ, ◌-◌, ◌<◌, ◌≤◌, max, IsTrue, List, length, Option, Some, slice_index_or}
+use Rattle.std.specs.List.{All, Any, AllPairs, Contains}
+use Rattle.mls_geom.specs.Rects.{Rect, holds}
+use Rattle.mls_geom.specs.declared.piece.Piece.{Piece}
+use Rattle.mls_stitch.specs.Areas.{IsFound}
+use Rattle.mls_stitch.specs.Walks.{IsLaidAt}
+use Rattle.mls_stitch.specs.declared.laid_tile.LaidTile.{LaidTile}
+
+-- the lowest row of the tile that is not below the area
+abbrev pub first_row : Rect → LaidTile → ℕ
+first_row area tile = max tile.piece.rect.bottom area.bottom
+
+-- the parent has the square to the left of the tile in that row
+abbrev pub IsParent : Rect → LaidTile → LaidTile → Type 0
+IsParent area parent tile = IsTrue (holds parent.piece.rect (tile.piece.rect.left - 1) (first_row area tile))
+
+-- the list has the tile's parent before the index, or at the index, and then the tile's first row is at the line or above it
+pub record IsReached (area : Rect) (list : List LaidTile) (index line : ℕ) (tile : LaidTile) : Type 0 where
+  pub place : ℕ
+  pub parent : LaidTile
+  pub within : place < length list
+  pub there : slice_index_or list place parent ≡ parent
+  pub is_parent : IsParent area parent tile
+  pub passed : (place < index) ⊎ ((place ≡ index) × (line ≤ first_row area tile))
+
+-- the list has each tile on the area's left side, and to the right of that each whose parent was passed: all parents before the index, and the one at
+-- the index down to the line
+pub record IsListedTo (blocks : ℕ → Option Piece) (area : Rect) (list : List LaidTile) (index line : ℕ) : Type 0 where
+  pub each : All (IsFound blocks area) list
+  pub once : AllPairs (λ p q. p.id ≢ q.id) list
+  pub on_side : (y : ℕ) → area.bottom ≤ y → y < area.top → Any (λ tile. IsTrue (holds tile.piece.rect area.left y)) list
+  pub listed : All (λ tile. (tile.piece.rect.left ≤ area.left) ⊎ IsReached area list index line tile) list
+  pub reached : (tile : LaidTile) → IsFound blocks area tile → area.left < tile.piece.rect.left → IsReached area list index line tile → Contains list tile
+
+-- the list has the tiles on the area's left side up to the line
+pub record IsSideListedTo (blocks : ℕ → Option Piece) (area : Rect) (list : List LaidTile) (line : ℕ) : Type 0 where
+  pub each : All (IsFound blocks area) list
+  pub once : AllPairs (λ p q. p.id ≢ q.id) list
+  pub on_side : (y : ℕ) → area.bottom ≤ y → y < line → Any (λ tile. IsTrue (holds tile.piece.rect area.left y)) list
+  pub at_side : All (λ tile. tile.piece.rect.left ≤ area.left) list
+  pub below : All (λ tile. tile.piece.rect.top ≤ line) list
+
+-- the tile is the next right neighbour of the parent, which is the listed tile at the index; the neighbours above the line have been passed
+pub record IsBeside (blocks : ℕ → Option Piece) (area : Rect) (list : List LaidTile) (index : ℕ) (parent tile : LaidTile) : Type 0 where
+  pub line : ℕ
+  pub listed : IsListedTo blocks area list index line
+  pub within : index < length list
+  pub here : (d : LaidTile) → slice_index_or list index d ≡ parent
+  pub beside : IsLaidAt blocks (record { x = parent.piece.rect.right; y = line - 1 }) tile
+  pub not_last : first_row area parent < line
+  pub up_to : line ≤ parent.piece.rect.top
+  pub before_end : parent.piece.rect.right < area.right

@@ -1,0 +1,132 @@
+//! The enumeration of an area's tiles (Ousterhout 1984), each of which has one parent.
+ghost use Rattle.std.specs.Prelude.{◌≡◌, ◌+◌, ◌-◌, ◌<◌, ◌≤◌, ◌&&◌, false, slice_index_or, vec_len, vec_capacity};
+ghost use Rattle.mls_geom.specs.Rects.{IsRectangleIn, holds, meets};
+ghost use Rattle.mls_geom.specs.World.{world};
+ghost use Rattle.mls_tilepool.specs.Pools.{count_of, tiles_of};
+ghost use Rattle.std.specs.List.{AllPairs};
+ghost use Rattle.std.specs.List.Sorted.{IsPermutation};
+ghost use Rattle.mls_stitch.specs.Areas.{AreInArea, comes_first};
+ghost use Rattle.mls_stitch.specs.Enumerations.{IsBeside, IsListedTo, first_row};
+ghost use Rattle.mls_stitch.specs.Tilings.{HasPlane, block_at};
+ghost use Rattle.mls_stitch.specs.declared.laid_tile.LaidTile.{LaidTile};
+
+use crate::walk::{find_tile, neighbour};
+use crate::{LaidTile, Stitch};
+use mls_geom::{Point, Rect};
+use mls_tilepool::{Owner, Pool, TileId};
+
+/// Returns the lowest row of the tile that is not below the area.
+fn first_row(area: Rect, tile: &LaidTile) -> u32
+    ensures { result ≡ first_row area tile.now }
+{
+    tile.sides().bottom.max(area.area().bottom)
+}
+
+/// Returns whether the tile has a square of the area, and the parent the square to the left of it in its first row.
+fn is_child(area: Rect, parent: &LaidTile, tile: &LaidTile) -> bool
+    ensures { result ≡ (holds parent.now.piece.rect (tile.now.piece.rect.left - 1) (first_row area tile.now) && meets tile.now.piece.rect area) }
+{
+    let row = first_row(area, tile);
+    let sides = parent.sides();
+    let left = tile.sides().left - 1;
+    sides.left <= left && left < sides.right && sides.bottom <= row && row < sides.top && tile.piece.rect.meets(area)
+}
+
+/// Lists the right neighbour of the tile at the index, where it is the tile's child.
+fn push_child(pool: &Pool, owner: &Owner, area: Rect, parent: &LaidTile, tile: &LaidTile, index: usize, list: &mut Vec<LaidTile>)
+    requires plane { HasPlane pool.now owner.now }
+    requires legal { IsRectangleIn world area }
+    requires room { count_of pool.now owner.now ≤ vec_capacity list.old }
+    requires beside { IsBeside (block_at (tiles_of pool.now owner.now)) area list.old.items index parent.now tile.now }
+    ensures listed { IsListedTo (block_at (tiles_of pool.now owner.now)) area list.new.items index tile.now.piece.rect.bottom }
+    ensures kept { (d : LaidTile) → slice_index_or list.new.items index d ≡ parent.now }
+    ensures longer { vec_len list.old ≤ vec_len list.new }
+    ensures room { vec_capacity list.new ≡ vec_capacity list.old }
+{
+    if is_child(area, parent, tile) {
+        list.push_reserved(*tile);
+    }
+}
+
+/// Lists the right neighbours of the tile at the index of which it is the parent.
+fn push_children(pool: &Pool, owner: &Owner, area: Rect, index: usize, list: &mut Vec<LaidTile>)
+    requires plane { HasPlane pool.now owner.now }
+    requires legal { IsRectangleIn world area }
+    requires room { count_of pool.now owner.now ≤ vec_capacity list.old }
+    requires within { index < vec_len list.old }
+    requires listed { IsListedTo (block_at (tiles_of pool.now owner.now)) area list.old.items index world.top }
+    ensures listed { IsListedTo (block_at (tiles_of pool.now owner.now)) area list.new.items (index + 1) world.top }
+    ensures longer { vec_len list.old ≤ vec_len list.new }
+    ensures room { vec_capacity list.new ≡ vec_capacity list.old }
+{
+    let parent = list[index];
+    if area.area().right <= parent.sides().right {
+        return;
+    }
+    let last_row = first_row(area, &parent);
+    let mut tile = neighbour(pool, owner, &parent, Stitch::Tr);
+    'neighbours: loop {
+        push_child(pool, owner, area, &parent, &tile, index, list);
+        if tile.sides().bottom <= last_row {
+            return;
+        }
+        tile = neighbour(pool, owner, &tile, Stitch::Lb);
+    }
+}
+
+/// Makes `list` the tiles on the area's left side, from the bottom up.
+fn list_left_side(pool: &Pool, owner: &Owner, from: TileId, area: Rect, list: &mut Vec<LaidTile>)
+    requires plane { HasPlane pool.now owner.now }
+    requires room { count_of pool.now owner.now ≤ vec_capacity list.old }
+    ensures legal { IsRectangleIn world area }
+    ensures listed { IsListedTo (block_at (tiles_of pool.now owner.now)) area list.new.items 0 world.top }
+    ensures room { vec_capacity list.new ≡ vec_capacity list.old }
+{
+    list.clear();
+    let bounds = area.area();
+    let mut line = bounds.bottom;
+    let mut from = from;
+    'side: while line < bounds.top {
+        let tile = find_tile(pool, owner, from, Point::at(bounds.left, line));
+        list.push_reserved(tile);
+        line = tile.sides().top;
+        from = tile.id;
+    }
+}
+
+/// Makes `list` the tiles that have a square of the area, each once, in any order.
+fn list_tiles(pool: &Pool, owner: &Owner, from: TileId, area: Rect, list: &mut Vec<LaidTile>)
+    requires plane { HasPlane pool.now owner.now }
+    requires room { count_of pool.now owner.now ≤ vec_capacity list.old }
+    ensures legal { IsRectangleIn world area }
+    ensures listed { IsListedTo (block_at (tiles_of pool.now owner.now)) area list.new.items (vec_len list.new) world.top }
+    ensures room { vec_capacity list.new ≡ vec_capacity list.old }
+{
+    list_left_side(pool, owner, from, area, list);
+    let mut index = 0;
+    'tiles: while index < list.len() {
+        push_children(pool, owner, area, index, list);
+        index += 1;
+    }
+}
+
+/// Sorts tiles by their first row in the area, and then by their left.
+fn sort_rows(area: Rect, list: &mut Vec<LaidTile>)
+    ensures sorted { AllPairs (λ p q. comes_first area q p ≡ false) list.new.items }
+    ensures same { IsPermutation list.old.items list.new.items }
+    ensures room { vec_capacity list.new ≡ vec_capacity list.old }
+{
+    list.sort_unstable_by_key(|tile| (first_row(area, tile), tile.sides().left));
+}
+
+/// Lists the tiles that have a square of the area, by their bottom, clipped to the area, and then their left. The search
+/// starts at the tile `from`, if the owner has it.
+pub(crate) fn area_into(pool: &Pool, owner: &Owner, from: TileId, area: Rect, list: &mut Vec<LaidTile>)
+    requires plane { HasPlane pool.now owner.now }
+    requires room { count_of pool.now owner.now ≤ vec_capacity list.old }
+    ensures found { AreInArea (block_at (tiles_of pool.now owner.now)) area list.new.items }
+    ensures room { vec_capacity list.new ≡ vec_capacity list.old }
+{
+    list_tiles(pool, owner, from, area, list);
+    sort_rows(area, list);
+}

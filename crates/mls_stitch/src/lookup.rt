@@ -1,0 +1,163 @@
+//! Looking up the tile beyond another.
+ghost use Rattle.std.specs.Prelude.{◌≡◌, ◌≤◌, ℕ, true, false, Option, IfNone, IfSome, length};
+ghost use Rattle.std.specs.List.{All, AllWithin};
+ghost use Rattle.std.specs.List.Sorted.{IsPermutation};
+ghost use Rattle.mls_geom.specs.Rects.{holds};
+ghost use Rattle.mls_geom.specs.declared.piece.Piece.{Piece};
+ghost use Rattle.mls_stitch.specs.Lookups.{AreSortedFor, IsListedBeyond, first_square, is_up_to, place_of, start_of};
+ghost use Rattle.mls_stitch.specs.Stitches.{HoldsAt, beyond};
+ghost use Rattle.mls_stitch.specs.Tilings.{AreBlocks};
+ghost use Rattle.mls_stitch.specs.Walks.{IsLaid};
+
+use crate::{LaidTile, Stitch};
+use mls_geom::Rect;
+use mls_tilepool::TileId;
+use std::marker::Model;
+
+/// A square of the world or next to it, counted as [`Point`](mls_geom::Point) is.
+#[derive(Clone, Copy)]
+struct Square {
+    column: u32,
+    row: u32,
+}
+
+impl Model for Square {
+    ghost use Rattle.mls_geom.specs.Rects.{Point};
+
+    ghost Value = { Point };
+
+    ghost view = { λ s. record { x = s.column; y = s.row } };
+
+    ghost inverse = { λ p. record { column = p.x; row = p.y } };
+}
+
+impl Square {
+    /// Returns the square to which the stitch of a tile over the rectangle leads.
+    fn beyond(stitch: Stitch, rect: Rect) -> Square
+        ensures { result ≡ beyond stitch rect }
+    {
+        let area = rect.area();
+        match stitch {
+            Stitch::Lb => Square {
+                column: area.left,
+                row: area.bottom - 1,
+            },
+            Stitch::Bl => Square {
+                column: area.left - 1,
+                row: area.bottom,
+            },
+            Stitch::Tr => Square {
+                column: area.right,
+                row: area.top - 1,
+            },
+            Stitch::Rt => Square {
+                column: area.right - 1,
+                row: area.top,
+            },
+        }
+    }
+
+    /// Returns the first square of the rectangle on the line that it turns to the tiles whose stitch leads to it.
+    fn first(stitch: Stitch, rect: Rect) -> Square
+        ensures { result ≡ first_square stitch rect }
+    {
+        let area = rect.area();
+        match stitch {
+            Stitch::Lb => Square {
+                column: area.left,
+                row: area.top - 1,
+            },
+            Stitch::Bl => Square {
+                column: area.right - 1,
+                row: area.bottom,
+            },
+            Stitch::Tr | Stitch::Rt => Square {
+                column: area.left,
+                row: area.bottom,
+            },
+        }
+    }
+
+    /// Returns whether the square lies in the rectangle.
+    fn is_in(self, rect: Rect) -> bool
+        ensures { result ≡ holds rect self.x self.y }
+    {
+        let area = rect.area();
+        self.column >= area.left
+            && self.column < area.right
+            && self.row >= area.bottom
+            && self.row < area.top
+    }
+}
+
+/// A line of squares as a stitch sees it, and a place along that line.
+#[derive(Clone, Copy, PartialEq, Eq, PartialOrd, Ord)]
+struct Place {
+    line: u32,
+    along: u32,
+}
+
+impl Place {
+    /// Returns the place of the square.
+    fn of(stitch: Stitch, square: Square) -> Place
+        ensures { result ≡ place_of stitch square }
+    {
+        match stitch {
+            Stitch::Lb | Stitch::Rt => Place {
+                line: square.row,
+                along: square.column,
+            },
+            Stitch::Bl | Stitch::Tr => Place {
+                line: square.column,
+                along: square.row,
+            },
+        }
+    }
+
+    /// Returns whether this place comes before `other`, or is the same.
+    fn is_up_to(self, other: Place) -> bool
+        ensures { result ≡ is_up_to self other }
+    {
+        self <= other
+    }
+}
+
+/// Returns where the tile begins for the tiles whose stitch leads to it.
+fn start(stitch: Stitch, entry: &LaidTile) -> Place
+    ensures { result ≡ start_of stitch entry.now.piece.rect }
+{
+    Place::of(stitch, Square::first(stitch, entry.piece.rect))
+}
+
+/// Sorts the tiles by where they begin for the tiles whose stitch leads to them.
+pub(crate) fn sort_for(stitch: Stitch, entries: &mut [LaidTile])
+    ensures moved { IsPermutation entries.old entries.new }
+    ensures sorted { AreSortedFor stitch entries.new }
+{
+    entries.sort_unstable_by_key(|entry| start(stitch, entry));
+}
+
+/// Returns how many of the tiles begin at the place or before it.
+fn count_up_to(entries: &[LaidTile], stitch: Stitch, place: Place) -> usize
+    requires { AreSortedFor stitch entries.now }
+    ensures bound { result ≤ length entries.now }
+    ensures before { AllWithin (λ entry. is_up_to (start_of stitch entry.piece.rect) place ≡ true) entries.now 0 result }
+    ensures after { AllWithin (λ entry. is_up_to (start_of stitch entry.piece.rect) place ≡ false) entries.now result (length entries.now) }
+{
+    entries.partition_point(|entry| start(stitch, entry).is_up_to(place))
+}
+
+/// Returns the tile to which the stitch of `tile` leads, or `None` if it is not one of the listed tiles.
+pub(crate) fn tile_beyond(entries: &[LaidTile], stitch: Stitch, tile: &LaidTile) -> Option<TileId>
+    requires { AreSortedFor stitch entries.now }
+    ensures found { IfSome result (λ id. (blocks : ℕ → Option Piece) → All (IsLaid blocks) entries.now
+        → HoldsAt blocks id (beyond stitch tile.now.piece.rect)) }
+    ensures none { IfNone result ((blocks : ℕ → Option Piece) → AreBlocks blocks → All (IsLaid blocks) entries.now
+        → IsLaid blocks tile.now → ¬ (IsListedBeyond stitch tile.now.piece.rect entries.now)) }
+{
+    let square = Square::beyond(stitch, tile.piece.rect);
+    let reached = count_up_to(entries, stitch, Place::of(stitch, square));
+    let last = reached.checked_sub(1)?;
+    let entry = entries.get(last)?;
+    square.is_in(entry.piece.rect).then_some(entry.id)
+}

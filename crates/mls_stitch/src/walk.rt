@@ -1,0 +1,96 @@
+//! Walks from tile to tile along stitches.
+ghost use Rattle.std.specs.Prelude.{◌≡◌, IfSome, IsTrue, MatchOption};
+ghost use Rattle.mls_geom.specs.Rects.{holds};
+ghost use Rattle.mls_geom.specs.World.{world};
+ghost use Rattle.mls_tilepool.specs.Pools.{tiles_of};
+ghost use Rattle.mls_stitch.specs.Stitches.{HoldsAt, beyond};
+ghost use Rattle.mls_stitch.specs.Tilings.{HasPlane, block_at};
+ghost use Rattle.mls_stitch.specs.Walks.{IsLaid, IsLaidAt};
+
+use crate::laid_tile::laid;
+use crate::{LaidTile, Stitch};
+use mls_geom::Point;
+use mls_tilepool::{Owner, Pool, TileId};
+
+/// The greatest number of tiles that a walk goes through.
+const MOST_STEPS: u32 = 4096;
+
+/// Returns the tile to which a stitch of the tile leads, where that is a tile of the world.
+pub(crate) fn neighbour(pool: &Pool, owner: &Owner, tile: &LaidTile, stitch: Stitch) -> LaidTile
+    requires plane { HasPlane pool.now owner.now }
+    requires laid { IsLaid (block_at (tiles_of pool.now owner.now)) tile.now }
+    requires inside { IsTrue (holds world (beyond stitch tile.now.piece.rect).x (beyond stitch tile.now.piece.rect).y) }
+    ensures { IsLaidAt (block_at (tiles_of pool.now owner.now)) (beyond stitch tile.now.piece.rect) result }
+{
+    let found = pool.get(owner, tile.id).unwrap();
+    let next = stitch.of(&found).unwrap();
+    laid(pool, owner, next).unwrap()
+}
+
+/// Returns the tile to which a stitch of the tile leads on the way to the square.
+fn step_towards(pool: &Pool, owner: &Owner, tile: &LaidTile, at: Point) -> Option<LaidTile>
+    requires { HasPlane pool.now owner.now }
+    ensures { IfSome result (λ next. IsLaid (block_at (tiles_of pool.now owner.now)) next) }
+{
+    let found = pool.get(owner, tile.id)?;
+    let sides = tile.sides();
+    let next = if at.row() < sides.bottom {
+        found.lb
+    } else if sides.top <= at.row() {
+        found.rt
+    } else if at.column() < sides.left {
+        found.bl
+    } else {
+        found.tr
+    };
+    laid(pool, owner, next?)
+}
+
+/// Walks from a tile to the one that holds the square (Ousterhout 1984, point finding). Gives up after a number of steps, and where
+/// the owner has no such tile to start from.
+fn walk(pool: &Pool, owner: &Owner, from: TileId, at: Point) -> Option<LaidTile>
+    requires { HasPlane pool.now owner.now }
+    ensures { IfSome result (λ tile. IsLaidAt (block_at (tiles_of pool.now owner.now)) at tile) }
+{
+    let mut tile = laid(pool, owner, from)?;
+    for _ in 0..MOST_STEPS {
+        if tile.holds(at) {
+            return Some(tile);
+        }
+        tile = step_towards(pool, owner, &tile, at)?;
+    }
+    None
+}
+
+/// Returns the tile under the name, if it holds the square.
+fn laid_with(pool: &Pool, owner: &Owner, id: TileId, at: Point) -> Option<LaidTile>
+    requires { HasPlane pool.now owner.now }
+    ensures { MatchOption result (¬ (HoldsAt (block_at (tiles_of pool.now owner.now)) id at)) (λ tile. IsLaidAt (block_at (tiles_of pool.now owner.now)) at tile) }
+{
+    let tile = laid(pool, owner, id)?;
+    if tile.holds(at) { Some(tile) } else { None }
+}
+
+/// Looks at each tile of the owner for the one that holds the square.
+fn scan(pool: &Pool, owner: &Owner, at: Point) -> LaidTile
+    requires { HasPlane pool.now owner.now }
+    ensures { IsLaidAt (block_at (tiles_of pool.now owner.now)) at result }
+{
+    for (id, _) in pool.tiles(owner) {
+        if let Some(tile) = laid_with(pool, owner, id, at) {
+            return tile;
+        }
+    }
+    unreachable!()
+}
+
+/// Returns the tile that holds the square. The search starts at the tile `from`, if the owner has it.
+pub(crate) fn find_tile(pool: &Pool, owner: &Owner, from: TileId, at: Point) -> LaidTile
+    requires { HasPlane pool.now owner.now }
+    ensures { IsLaidAt (block_at (tiles_of pool.now owner.now)) at result }
+{
+    match walk(pool, owner, from, at) {
+        Some(tile) => tile,
+        None => scan(pool, owner, at),
+    }
+}

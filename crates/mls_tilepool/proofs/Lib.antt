@@ -1,0 +1,13 @@
+pub mod Adding
+pub mod ChainTiles
+pub mod Chains
+pub mod OwnerCalls
+pub mod PoolChanges
+pub mod PoolSteps
+pub mod PoolViews
+pub mod Relinking
+pub mod Removing
+pub mod Rows
+pub mod Slots
+pub mod TileCalls
+pub mod TileLists

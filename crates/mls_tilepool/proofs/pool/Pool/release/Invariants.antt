@@ -1,0 +1,9 @@
+use Rattle.mls_tilepool.specs.Pools.{count_of}
+use Rattle.mls_tilepool.proofs.OwnerCalls.{OthersKeep}
+use Rattle.mls_tilepool.proofs.pool.Pool.release.Given as goal
+
+abbrev pub invariant-loop-id : goal.invariant-loop-id
+invariant-loop-id l = OthersKeep l.initial.self l.self l.owner
+
+abbrev pub decreases-loop-id : goal.decreases-loop-id
+decreases-loop-id l = count_of l.self l.owner
