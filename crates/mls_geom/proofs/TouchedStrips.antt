@@ -8,7 +8,7 @@ use Rattle.std.specs.List.{list_any}
 use Rattle.mls_geom.specs.Locality.{AreUnorderedStrips, AreCoveredStrips, AreUntouched, HaveKinds, laid, uncovered}
 use Rattle.mls_geom.specs.Pictures.{Picture, painted, overlaid}
 use Rattle.mls_geom.specs.Rects.{Rect, IsRectangleIn, holds}
-use Rattle.mls_geom.specs.Strips.{AreStrips, IsStrip, comes_before}
+use Rattle.mls_geom.specs.Strips.{IsStrip, comes_before}
 use Rattle.mls_geom.specs.declared.piece.Piece.{Piece}
 use Rattle.mls_geom.proofs.Ascending.{AllPairs-append}
 use Rattle.mls_geom.proofs.Corners.{same_strip}
@@ -186,11 +186,3 @@ pub touched_strips_give_way :
 touched_strips_give_way extent below over kept touched fresh strips kinds _ untouched covered =
     AreUnorderedStrips-window extent (overlaid below over) (laid (touched ++ over)) kept fresh (IsWindow-laid extent below over kept touched strips kinds untouched)
     (AllPairs-append_left (λ p q. p ≢ q) kept touched strips.once) covered
-
--- strips in order are strips in any order
-pub AreUnorderedStrips-ordered : (extent : Rect) (picture : Picture) (list : List Piece) → AreStrips extent picture list → AreUnorderedStrips extent picture list
-AreUnorderedStrips-ordered extent picture list strips = record {
-  each = strips.each;
-  whole = strips.whole;
-  once = λ i j d before within. apart_from_order (get_or list i d) (get_or list j d) (strips.ordered i j d before within);
-}

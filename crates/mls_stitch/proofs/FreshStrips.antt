@@ -1,26 +1,28 @@
 -- What paints over a plane may take the place of the tiles that it touches: the strips of the squares that these tiles and the painted pieces cover.
-use Rattle.std.proofs.Common.{◌≡◌, ◌≢◌, ◌↔◌, ℕ, zero, suc, max, true, List, [], ◌∷◌, map, ◌++◌, get_or, All, AllPairs, Any, Option, Some, IsSome, IsSomeAnd, IsTrue, inl, inr, refl, ap, subst, ◌∙◌, sym, is_some, suc-le-suc, le_of_suc-le-suc, arith}
+use Rattle.std.proofs.Common.{◌≡◌, ◌≢◌, ◌↔◌, ℕ, zero, suc, ◌<◌, max, true, List, [], ◌∷◌, map, ◌++◌, get_or, All, AllPairs, Any, Option, Some, IsSome, IsSomeAnd, IsTrue, inl, inr, refl, ap, subst, ◌∙◌, sym, is_some, suc-le-suc, le_of_suc-le-suc, arith}
 use Rattle.std.proofs.lemmas.List.{length-map, get_or-map}
-use Rattle.std.proofs.lemmas.List.Elements.{All-map}
+use Rattle.std.proofs.lemmas.List.Elements.{All-append, All-cons, All-map}
 use Rattle.std.proofs.lemmas.Bool.Decides.{nat_tests}
 use Rattle.std.proofs.lemmas.Option.{same_Some}
 use Rattle.mls_geom.specs.Locality.{AreCoveredStrips, HaveKinds, laid, uncovered}
 use Rattle.mls_geom.specs.Pictures.{Picture}
-use Rattle.mls_geom.specs.Rects.{Rect, Point, IsRectangleIn, holds}
+use Rattle.mls_geom.specs.Rects.{Rect, Point, IsRectangleIn, common, grown, holds}
 use Rattle.mls_geom.specs.Strips.{IsStrip, comes_before}
 use Rattle.mls_geom.specs.World.{AreLegal, world}
 use Rattle.mls_geom.specs.declared.piece.Piece.{Piece}
 use Rattle.mls_geom.proofs.Ascending.{AllPairs-map}
+use Rattle.mls_geom.proofs.Holds.{holds_between, between_holds}
 use Rattle.mls_geom.proofs.JoinedLists.{Any-append_left, Any-append_cases}
 use Rattle.mls_geom.proofs.Overlays.{overlaid_outside}
 use Rattle.mls_geom.proofs.PiecePictures.{holds_outer}
 use Rattle.mls_geom.proofs.StripPictures.{kind-IsStrip}
 use Rattle.mls_geom.proofs.TouchedStrips.{holder, one_strip, overlaid_covered}
+use Rattle.mls_tilepool.specs.declared.tile.Tile.{Tile}
 use Rattle.mls_stitch.specs.Areas.{AreInArea, comes_first}
 use Rattle.mls_stitch.specs.Pending.{keys_of}
 use Rattle.mls_stitch.specs.Replacements.{AreApart, IsHeld, TakePlace}
 use Rattle.mls_stitch.specs.Stitches.{HoldsAt}
-use Rattle.mls_stitch.specs.Tilings.{AreBlocks}
+use Rattle.mls_stitch.specs.Tilings.{AreBlocks, IsPlane, block_at}
 use Rattle.mls_stitch.specs.declared.laid_tile.LaidTile.{LaidTile}
 
 -- the rectangles and kinds of the listed tiles
@@ -160,3 +162,25 @@ AreTouched-area blocks area touched over tiling found kinds legal within_area = 
   kinds = kinds;
   inside = λ k d within x y here. found.whole x y (within_area k d within x y here);
 }
+
+-- a rectangle lies in itself grown, clipped to what it lies in
+inside_grown : (outer rect : Rect) (x y : ℕ) → IsRectangleIn outer rect → holds rect x y ≡ true → holds (common (grown 1 rect) outer) x y ≡ true
+inside_grown outer rect x y legal here =
+    let lines = holds_between rect x y here in
+    between_holds (common (grown 1 rect) outer) x y (omega (arith, lines.0, legal.left_in)) (omega (arith, lines.1, legal.right_in))
+    (omega (arith, lines.2, legal.bottom_in)) (omega (arith, lines.3, legal.top_in))
+
+-- so the strips of what a piece and the tiles of the area round it cover take the place of those tiles
+pub TakePlace-area :
+    (tiles : List (ℕ × Tile)) (piece : Piece) (found : List LaidTile) (fresh : List Piece) → IsPlane tiles
+    → AreInArea (block_at tiles) (common (grown 1 piece.rect) world) found → HaveKinds (pieces_of found) → piece.kind < uncovered → IsRectangleIn world piece.rect
+    → AreCoveredStrips world (laid (pieces_of found ++ piece ∷ [])) fresh → TakePlace (block_at tiles) (keys_of found) fresh
+TakePlace-area tiles piece found fresh plane in_area kinds kind legal covered =
+    let area = common (grown 1 piece.rect) world in
+    let over = piece ∷ [] in
+    let one = λ (P : Piece → Type 0) (of_it : P piece). All-cons P piece [] of_it (λ k d within. absurd (omega arith)) in
+    let touched =
+    AreTouched-area (block_at tiles) area found over plane.tiling in_area (All-append (λ p. p.kind < uncovered) (pieces_of found) over kinds (one (λ p. p.kind < uncovered) kind))
+    (one (λ p. IsRectangleIn world p.rect) legal)
+    (one (λ p. (x y : ℕ) → holds p.rect x y ≡ true → holds area x y ≡ true) (λ x y here. inside_grown world piece.rect x y legal here)) in
+    TakePlace-strips (block_at tiles) found over fresh touched covered

@@ -1,6 +1,9 @@
+pub mod BuiltPlanes
 pub mod BuiltTiles
 pub mod CloseSquares
+pub mod CutBlocks
 pub mod DistinctNumbers
+pub mod FoundTiles
 pub mod FreshStrips
 pub mod FreshTiles
 pub mod KeptStitches
@@ -10,6 +13,7 @@ pub mod Listings
 pub mod MaximalTiles
 pub mod Neighbours
 pub mod OtherPlanes
+pub mod PoolChanges
 pub mod ReplacedBlocks
 pub mod ReplacedStitches
 pub mod ReplacedTiles
@@ -17,4 +21,5 @@ pub mod SettingStitches
 pub mod ShownTiles
 pub mod SideListings
 pub mod Sides
+pub mod SplitTiles
 pub mod TilesBeyond

@@ -1,5 +1,5 @@
 -- What one stitch that is set changes, and a round that sets one stitch of each tile.
-use Rattle.std.proofs.Common.{◌≡◌, ◌≢◌, ◌⊎◌, ℕ, ◌+◌, ◌<◌, ◌≤◌, List, [], ◌∷◌, length, get_or, All, nat_eq, Option, None, Some, IfSome, map, sym, refl, ap, subst, ◌∙◌, arith, inl, inr}
+use Rattle.std.proofs.Common.{◌≡◌, ◌≢◌, ◌⊎◌, ℕ, ◌+◌, ◌<◌, List, [], ◌∷◌, length, get_or, All, nat_eq, Option, Some, IfSome, sym, refl, subst, ◌∙◌, arith, inl, inr}
 use Rattle.std.specs.List.{AllPairs, AllWithin, Any, Contains, IsDistinct}
 use Rattle.std.specs.List.Sorted.{IsPermutation}
 use Rattle.std.proofs.lemmas.Bool.{cases_order, eqb-false, ne_eqb}
@@ -7,15 +7,17 @@ use Rattle.std.proofs.lemmas.List.{get_or-map, length-map}
 use Rattle.std.proofs.lemmas.List.Elements.{AllWithin-more, All-contains, All-from_all_within, All-map, at_read}
 use Rattle.std.proofs.lemmas.List.Sorted.{All-permutation, Contains-permutation, IsPermutation-map}
 use Rattle.std.proofs.lemmas.Map.Keys.{apart_from_distinct, IsDistinct-from_apart}
-use Rattle.std.proofs.lemmas.Option.{none-some, same_Some}
+use Rattle.std.proofs.lemmas.Option.{same_Some}
 use Rattle.mls_geom.specs.declared.piece.Piece.{Piece}
 use Rattle.mls_geom.proofs.ListLemmas.{IsDistinct-moved}
 use Rattle.mls_tilepool.specs.Pools.{Pool, Changes, tile_at, tile_in, tiles_of}
 use Rattle.mls_tilepool.specs.declared.tile.Tile.{Tile}
-use Rattle.mls_stitch.specs.Lookups.{IsLaid, IsListedBeyond}
+use Rattle.mls_stitch.proofs.PoolChanges.{ChangesOnly-one}
+use Rattle.mls_stitch.proofs.Sides.{placed_tile}
+use Rattle.mls_stitch.specs.Lookups.{IsListedBeyond}
 use Rattle.mls_stitch.specs.Pending.{AreStitchedBy, AwaitStitches, IsRightOrListed, IsStitchedAt, keys_of}
-use Rattle.mls_stitch.specs.Stitches.{HoldsAt, LeadsTo, beyond, stitch_of, with_stitch}
-use Rattle.mls_stitch.specs.Tilings.{AreBlocks, AreTiledAs, ArePlaced, ChangesOnly, IsPlaced}
+use Rattle.mls_stitch.specs.Stitches.{HoldsAt, beyond, stitch_of, with_stitch}
+use Rattle.mls_stitch.specs.Tilings.{AreTiledAs, ArePlaced, ChangesOnly, IsPlaced}
 use Rattle.mls_stitch.specs.declared.laid_tile.LaidTile.{LaidTile}
 use Rattle.mls_stitch.specs.declared.stitch.Stitch.{Stitch}
 use Rattle.mls_stitch.specs.declared.stitch.Stitch.TheVariants.{Lb, Bl, Tr, Rt}
@@ -234,16 +236,6 @@ AwaitStitches-moved {blocks} {xs} {ys} moved waits = record {
   ];
 }
 
--- a listed tile is in the pool
-listed_is_there :
-    (tiles : List (ℕ × Tile)) (blocks : ℕ → Option Piece) (id : ℕ) (piece : Piece) → ((key : ℕ) → ArePlaced (tile_in tiles key) (blocks key)) → blocks id ≡ Some piece
-    → (tile : Tile) × (tile_in tiles id ≡ Some tile)
-listed_is_there tiles blocks id piece placed laid = there (tile_in tiles id) (blocks id) laid (placed id)
-  where
-    there : (slot : Option Tile) (block : Option Piece) → block ≡ Some piece → ArePlaced slot block → (tile : Tile) × (slot ≡ Some tile)
-    there None block is none = absurd (none-some piece (sym none ∙ is))
-    there (Some tile) block is here = (tile, refl)
-
 -- four rounds, one for each stitch
 pub AreTiledAs-stitched :
     {tiles : List (ℕ × Tile)} {blocks : ℕ → Option Piece} {entries : List LaidTile} → AwaitStitches tiles blocks entries
@@ -261,20 +253,6 @@ each_stitch P lb bl tr rt Bl = bl
 each_stitch P lb bl tr rt Tr = tr
 each_stitch P lb bl tr rt Rt = rt
 
--- changes of one owner, one after another
-pub ChangesOnly-none : {pool : Pool} {owner : ℕ} → ChangesOnly pool pool owner
-ChangesOnly-none = record { others = λ other differs. refl; rooms = refl; capacity = refl }
-
-pub ChangesOnly-more : {old now new : Pool} {owner : ℕ} → ChangesOnly old now owner → ChangesOnly now new owner → ChangesOnly old new owner
-ChangesOnly-more first next = record {
-  others = λ other differs. next.others other differs ∙ first.others other differs;
-  rooms = next.rooms ∙ first.rooms;
-  capacity = next.capacity ∙ first.capacity;
-}
-
-ChangesOnly-change : {old new : Pool} {owner key : ℕ} {slot : Option Tile} → Changes old new owner key slot → ChangesOnly old new owner
-ChangesOnly-change change = record { others = change.others; rooms = change.rooms; capacity = change.capacity }
-
 -- a listed tile is there, so its stitch is set, and nothing of other owners changes
 pub set_there :
     {old new : Pool} {owner to : ℕ} {stitch : Stitch} (blocks : ℕ → Option Piece) (entry : LaidTile) → ((key : ℕ) → ArePlaced (tile_in (tiles_of old owner) key) (blocks key))
@@ -282,6 +260,6 @@ pub set_there :
     → IfSome (tile_at old owner entry.id) (λ tile. Changes old new owner entry.id (Some (with_stitch stitch (Some to) tile)))
     → (tile : Tile) × IsSet stitch (tiles_of old owner) (tiles_of new owner) entry.id to tile × ChangesOnly old new owner
 set_there {old} {owner} blocks entry placed laid changes =
-    let (tile, there) = listed_is_there (tiles_of old owner) blocks entry.id entry.piece placed laid in
+    let (tile, there, here) = placed_tile (tiles_of old owner) blocks entry.id entry.piece (placed entry.id) laid in
     let change = rw there at changes in
-    (tile, record { was = there; set = change.changed; others = change.kept }, ChangesOnly-change change)
+    (tile, record { was = there; set = change.changed; others = change.kept }, ChangesOnly-one change)

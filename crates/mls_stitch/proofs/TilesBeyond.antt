@@ -1,23 +1,24 @@
--- The tile beyond another is the last one that begins at the square beyond or before it: a tile that has that square begins on its line, since the
--- square next to it is the other tile's; and so does every tile that begins in between, on a square of the first.
-use Rattle.std.proofs.Common.{◌≡◌, ℕ, ◌+◌, ◌-◌, ◌<◌, ◌≤◌, IsTrue, Bool, true, false, List, length, get_or, All, Option, None, Some, Ordering, sym, refl, ap, subst, ◌∙◌, arith, inl, inr}
+-- The tile beyond another is the last one that begins at the square beyond it or before: the tile that has that square begins on its line, and every
+-- tile that begins in between would begin on a square of that one.
+use Rattle.std.proofs.Common.{◌≡◌, ℕ, ◌-◌, ◌<◌, ◌≤◌, IsTrue, true, false, List, length, get_or, All, Option, Some, Ordering, le_refl, sym, ap, subst, ◌∙◌, arith, inl, inr}
 use Rattle.std.specs.Cmp.{IsTotalOrder}
 use Rattle.std.specs.List.{AllWithin}
 use Rattle.std.specs.List.Sorted.{IsPartitionedBy, IsSortedByKey}
 use Rattle.std.specs.Ordering.{is_lt, nat_cmp, on, then_cmp}
-use Rattle.std.proofs.lemmas.Bool.{cases_lt, cases_order, false≢true}
+use Rattle.std.proofs.lemmas.Bool.{cases_lt, false≢true}
 use Rattle.std.proofs.lemmas.Bool.Decides.{nat_tests}
 use Rattle.std.proofs.lemmas.Cmp.{nat_cmp_total, on_total, then_total}
 use Rattle.std.proofs.lemmas.List.{get_or_default}
 use Rattle.std.proofs.lemmas.List.Sorted.{ranks_by, sorted_far}
-use Rattle.std.proofs.lemmas.Option.{same_Some}
 use Rattle.mls_geom.specs.Rects.{Rect, Point, IsRectangleIn, holds}
 use Rattle.mls_geom.specs.World.{world}
 use Rattle.mls_geom.specs.declared.piece.Piece.{Piece}
 use Rattle.mls_geom.proofs.Holds.{holds_between, between_holds}
-use Rattle.mls_stitch.specs.Lookups.{AreSortedFor, IsLaid, IsListedBeyond, first_square, is_up_to, place_beyond, start_of}
-use Rattle.mls_stitch.specs.Stitches.{HoldsAt, beyond}
+use Rattle.mls_stitch.proofs.Sides.{left_neighbour, legal-AreBlocks, lower_neighbour, one_block, right_neighbour, upper_neighbour}
+use Rattle.mls_stitch.specs.Lookups.{AreSortedFor, IsListedBeyond, first_square, is_up_to, place_beyond, start_of}
+use Rattle.mls_stitch.specs.Stitches.{beyond}
 use Rattle.mls_stitch.specs.Tilings.{AreBlocks}
+use Rattle.mls_stitch.specs.Walks.{IsLaid}
 use Rattle.mls_stitch.specs.declared.laid_tile.LaidTile.{LaidTile}
 use Rattle.mls_stitch.specs.declared.lookup.Place.{Place}
 use Rattle.mls_stitch.specs.declared.stitch.Stitch.{Stitch}
@@ -27,64 +28,33 @@ use Rattle.mls_stitch.specs.declared.stitch.Stitch.TheVariants.{Lb, Bl, Tr, Rt}
 abbrev Has : Rect → Point → Type 0
 Has rect at = IsTrue (holds rect at.x at.y)
 
--- the square inside a rectangle that is next to the one beyond it
-abbrev before : Stitch → Rect → Point
-before Lb rect = record { x = rect.left; y = rect.bottom }
-before Bl rect = record { x = rect.left; y = rect.bottom }
-before Tr rect = record { x = rect.right - 1; y = rect.top - 1 }
-before Rt rect = record { x = rect.right - 1; y = rect.top - 1 }
-
-has_before : (stitch : Stitch) (p : Rect) → IsRectangleIn world p → Has p (before stitch p)
-has_before Lb p legal = between_holds p p.left p.bottom (omega arith) legal.wide (omega arith) legal.tall
-has_before Bl p legal = between_holds p p.left p.bottom (omega arith) legal.wide (omega arith) legal.tall
-has_before Tr p legal = between_holds p (p.right - 1) (p.top - 1) (omega (arith, legal.wide)) (omega (arith, legal.wide)) (omega (arith, legal.tall)) (omega (arith, legal.tall))
-has_before Rt p legal = between_holds p (p.right - 1) (p.top - 1) (omega (arith, legal.wide)) (omega (arith, legal.wide)) (omega (arith, legal.tall)) (omega (arith, legal.tall))
-
+-- a rectangle has the square with which it begins
 has_first : (stitch : Stitch) (p : Rect) → IsRectangleIn world p → Has p (first_square stitch p)
 has_first Lb p legal = between_holds p p.left (p.top - 1) (omega arith) legal.wide (omega (arith, legal.tall)) (omega (arith, legal.tall))
 has_first Bl p legal = between_holds p (p.right - 1) p.bottom (omega (arith, legal.wide)) (omega (arith, legal.wide)) (omega arith) legal.tall
 has_first Tr p legal = between_holds p p.left p.bottom (omega arith) legal.wide (omega arith) legal.tall
 has_first Rt p legal = between_holds p p.left p.bottom (omega arith) legal.wide (omega arith) legal.tall
 
--- a rectangle doesn't have the square beyond it
-no_beyond : (stitch : Stitch) (p : Rect) → IsRectangleIn world p → ¬ (Has p (beyond stitch p))
-no_beyond Lb p legal held = let (left, right, bottom, top) = holds_between p p.left (p.bottom - 1) held in omega (arith, legal.bottom_in)
-no_beyond Bl p legal held = let (left, right, bottom, top) = holds_between p (p.left - 1) p.bottom held in omega (arith, legal.left_in)
-no_beyond Tr p legal held = let (left, right, bottom, top) = holds_between p p.right (p.top - 1) held in omega arith
-no_beyond Rt p legal held = let (left, right, bottom, top) = holds_between p (p.right - 1) p.top held in omega arith
-
--- a rectangle that has the square beyond another, and not the one next to it, begins on its line
+-- a block that has the square beyond another begins on that square's line, there or before
 begins :
-    (stitch : Stitch) (p e : Rect) → IsRectangleIn world p → Has e (beyond stitch p) → ¬ (Has e (before stitch p))
-    → ((start_of stitch e).line ≡ (place_beyond stitch p).line) × ((start_of stitch e).along ≤ (place_beyond stitch p).along)
-begins Lb p e legal held apart =
-    let (left, right, bottom, top) = holds_between e p.left (p.bottom - 1) held in
-    let up : e.top ≤ p.bottom = elim (cases_lt p.bottom e.top) [
-      | inl over ↦ absurd (apart (between_holds e p.left p.bottom left right (omega arith) over))
-      | inr under ↦ under
-    ] in
-    (omega (arith, legal.bottom_in), omega arith)
-begins Bl p e legal held apart =
-    let (left, right, bottom, top) = holds_between e (p.left - 1) p.bottom held in
-    let up : e.right ≤ p.left = elim (cases_lt p.left e.right) [
-      | inl over ↦ absurd (apart (between_holds e p.left p.bottom (omega arith) over bottom top))
-      | inr under ↦ under
-    ] in
-    (omega (arith, legal.left_in), omega arith)
-begins Tr p e legal held apart =
-    let (left, right, bottom, top) = holds_between e p.right (p.top - 1) held in
-    let up : p.right ≤ e.left = elim (cases_lt e.left p.right) [
-      | inl over ↦ absurd (apart (between_holds e (p.right - 1) (p.top - 1) (omega arith) (omega arith) bottom top))
-      | inr under ↦ under
-    ] in
-    (omega arith, omega arith)
-begins Rt p e legal held apart =
-    let (left, right, bottom, top) = holds_between e (p.right - 1) p.top held in
-    let up : p.top ≤ e.bottom = elim (cases_lt e.bottom p.top) [
-      | inl over ↦ absurd (apart (between_holds e (p.right - 1) (p.top - 1) left right (omega arith) (omega arith)))
-      | inr under ↦ under
-    ] in
-    (omega arith, omega arith)
+    {blocks : ℕ → Option Piece} (stitch : Stitch) (from to : ℕ) (p e : Piece) → AreBlocks blocks → blocks from ≡ Some p → blocks to ≡ Some e → Has e.rect (beyond stitch p.rect)
+    → ((start_of stitch e.rect).line ≡ (place_beyond stitch p.rect).line) × ((start_of stitch e.rect).along ≤ (place_beyond stitch p.rect).along)
+begins {blocks} Lb from to p e tiling p_laid e_laid held =
+    let legal = legal-AreBlocks blocks from p tiling p_laid in
+    let (left, right, bottom, top) = holds_between e.rect p.rect.left (p.rect.bottom - 1) held in
+    (ap (λ n. n - 1) (lower_neighbour blocks from to p e p.rect.left tiling p_laid e_laid (le_refl p.rect.left) legal.wide held), left)
+begins {blocks} Bl from to p e tiling p_laid e_laid held =
+    let legal = legal-AreBlocks blocks from p tiling p_laid in
+    let (left, right, bottom, top) = holds_between e.rect (p.rect.left - 1) p.rect.bottom held in
+    (ap (λ n. n - 1) (left_neighbour blocks from to p e p.rect.bottom tiling p_laid e_laid (le_refl p.rect.bottom) legal.tall held), bottom)
+begins {blocks} Tr from to p e tiling p_laid e_laid held =
+    let legal = legal-AreBlocks blocks from p tiling p_laid in
+    let (left, right, bottom, top) = holds_between e.rect p.rect.right (p.rect.top - 1) held in
+    (right_neighbour blocks from to p e (p.rect.top - 1) tiling p_laid e_laid (omega (arith, legal.tall)) (omega (arith, legal.tall)) held, bottom)
+begins {blocks} Rt from to p e tiling p_laid e_laid held =
+    let legal = legal-AreBlocks blocks from p tiling p_laid in
+    let (left, right, bottom, top) = holds_between e.rect (p.rect.right - 1) p.rect.top held in
+    (upper_neighbour blocks from to p e (p.rect.right - 1) tiling p_laid e_laid (omega (arith, legal.wide)) (omega (arith, legal.wide)) held, left)
 
 -- a rectangle that begins in between begins on a square of the other
 between :
@@ -117,47 +87,19 @@ up_to_itself p = grind (arith, nat_tests)
 up_to_chain : (p q r : Place) → is_up_to p q ≡ true → is_up_to q r ≡ true → is_up_to p r ≡ true
 up_to_chain p q r pq qr = grind (arith, nat_tests)
 
--- the block has the square
-holds_at : (blocks : ℕ → Option Piece) (key : ℕ) (block : Piece) (at : Point) → blocks key ≡ Some block → Has block.rect at → HoldsAt blocks key at
-holds_at blocks key block at laid held = rw laid held
-
--- and is legal
-legal_at : (blocks : ℕ → Option Piece) (key : ℕ) (block : Piece) → AreBlocks blocks → blocks key ≡ Some block → IsRectangleIn world block.rect
-legal_at blocks key block tiling laid = rw laid at (tiling.legal key)
-
--- a listed tile has the square beyond another: it is the other's square that it doesn't have
-not_before :
-    {blocks : ℕ → Option Piece} (stitch : Stitch) (from to : ℕ) (p e : Piece) → AreBlocks blocks → blocks from ≡ Some p → blocks to ≡ Some e
-    → Has e.rect (beyond stitch p.rect) → ¬ (Has e.rect (before stitch p.rect))
-not_before {blocks} stitch from to p e tiling p_laid e_laid held back =
-    let legal = legal_at blocks from p tiling p_laid in
-    let at = before stitch p.rect in
-    let same : from ≡ to = tiling.apart from to at (holds_at blocks from p at p_laid (has_before stitch p.rect legal)) (holds_at blocks to e at e_laid back) in
-    let one : p ≡ e = same_Some p e (sym p_laid ∙ ap blocks same ∙ e_laid) in
-    no_beyond stitch p.rect legal (rw (← one) at held)
-
--- a tile that has the square beyond another begins there or before
-begins_up_to :
-    {blocks : ℕ → Option Piece} (stitch : Stitch) (from to : ℕ) (p e : Piece) → AreBlocks blocks → blocks from ≡ Some p → blocks to ≡ Some e
-    → Has e.rect (beyond stitch p.rect) → is_up_to (start_of stitch e.rect) (place_beyond stitch p.rect) ≡ true
-begins_up_to {blocks} stitch from to p e tiling p_laid e_laid held =
-    let (line, along) = begins stitch p.rect e.rect (legal_at blocks from p tiling p_laid) held (not_before stitch from to p e tiling p_laid e_laid held) in
-    up_to_along _ _ line along
-
--- and any other that begins in between is the same
+-- any other that begins in between is the same
 last_is :
     {blocks : ℕ → Option Piece} (stitch : Stitch) (from to last : ℕ) (p e c : Piece) → AreBlocks blocks → blocks from ≡ Some p → blocks to ≡ Some e → blocks last ≡ Some c
     → Has e.rect (beyond stitch p.rect)
     → is_up_to (start_of stitch e.rect) (start_of stitch c.rect) ≡ true → is_up_to (start_of stitch c.rect) (place_beyond stitch p.rect) ≡ true
     → Has c.rect (beyond stitch p.rect)
 last_is {blocks} stitch from to last p e c tiling p_laid e_laid c_laid held after up_to =
-    let (line, along) = begins stitch p.rect e.rect (legal_at blocks from p tiling p_laid) held (not_before stitch from to p e tiling p_laid e_laid held) in
+    let (line, along) = begins stitch from to p e tiling p_laid e_laid held in
     let (c_line, low, high) = one_line (start_of stitch e.rect) (start_of stitch c.rect) (place_beyond stitch p.rect) line after up_to in
     let at = first_square stitch c.rect in
     let in_e = between stitch p.rect e.rect c.rect held c_line low high in
-    let same : last ≡ to = tiling.apart last to at (holds_at blocks last c at c_laid (has_first stitch c.rect (legal_at blocks last c tiling c_laid))) (holds_at blocks to e at e_laid in_e) in
-    let one : c ≡ e = same_Some c e (sym c_laid ∙ ap blocks same ∙ e_laid) in
-    rw one held
+    let in_c = has_first stitch c.rect (legal-AreBlocks blocks last c tiling c_laid) in
+    rw (one_block blocks last to c e at.x at.y tiling c_laid e_laid in_c in_e) held
 
 -- so where a listed tile has the square beyond another, the last that begins there or before has it
 pub last_has_beyond :
@@ -169,7 +111,8 @@ pub last_has_beyond :
     → (0 < reached) × ((d : LaidTile) → Has (get_or entries (reached - 1) d).piece.rect (beyond stitch tile.piece.rect))
 last_has_beyond {blocks} stitch tile entries reached place place_is tiling listed laid sorted front back within (k, e, inside, is, held) =
     let e_laid : blocks e.id ≡ Some e.piece = rw is at (listed k e inside) in
-    let up_to : is_up_to (start_of stitch e.piece.rect) place ≡ true = rw place_is (begins_up_to stitch tile.id e.id tile.piece e.piece tiling laid e_laid held) in
+    let (line, along) = begins stitch tile.id e.id tile.piece e.piece tiling laid e_laid held in
+    let up_to : is_up_to (start_of stitch e.piece.rect) place ≡ true = rw place_is (up_to_along (start_of stitch e.piece.rect) (place_beyond stitch tile.piece.rect) line along) in
     let early : k < reached = elim (cases_lt k reached) [
       | inl before ↦ before
       | inr after ↦ absurd (false≢true (sym (rw is at (back k e after inside)) ∙ up_to))

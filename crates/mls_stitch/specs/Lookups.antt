@@ -1,8 +1,7 @@
 -- How the tile beyond another is looked up. A stitch sees the squares in lines: columns where it leads to a side, rows where it leads up or down.
-use Rattle.std.specs.Prelude.{◌≡◌, ℕ, ◌-◌, Bool, ◌&&◌, ◌||◌, ◌==◌, nat_lt, nat_le, IsTrue, List, Option, Some}
-use Rattle.std.specs.List.{All, Any, AllPairs}
+use Rattle.std.specs.Prelude.{◌-◌, Bool, ◌&&◌, ◌||◌, ◌==◌, nat_lt, nat_le, IsTrue, List}
+use Rattle.std.specs.List.{Any, AllPairs}
 use Rattle.mls_geom.specs.Rects.{Rect, Point, holds}
-use Rattle.mls_geom.specs.declared.piece.Piece.{Piece}
 use Rattle.mls_stitch.specs.Stitches.{beyond}
 use Rattle.mls_stitch.specs.declared.laid_tile.LaidTile.{LaidTile}
 use Rattle.mls_stitch.specs.declared.lookup.Place.{Place}
@@ -37,10 +36,6 @@ is_up_to p q = nat_lt p.line q.line || (p.line == q.line && nat_le p.along q.alo
 -- the tiles are in the order in which they begin
 abbrev pub AreSortedFor : Stitch → List LaidTile → Type 0
 AreSortedFor stitch = AllPairs (λ p q. IsTrue (is_up_to (start_of stitch p.piece.rect) (start_of stitch q.piece.rect)))
-
--- the tile is laid as this block
-abbrev pub IsLaid : (ℕ → Option Piece) → LaidTile → Type 0
-IsLaid blocks tile = blocks tile.id ≡ Some tile.piece
 
 -- one of the tiles has the square beyond the rectangle
 abbrev pub IsListedBeyond : Stitch → Rect → List LaidTile → Type 0

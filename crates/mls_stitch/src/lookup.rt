@@ -4,9 +4,10 @@ ghost use Rattle.std.specs.List.{All, AllWithin};
 ghost use Rattle.std.specs.List.Sorted.{IsPermutation};
 ghost use Rattle.mls_geom.specs.Rects.{holds};
 ghost use Rattle.mls_geom.specs.declared.piece.Piece.{Piece};
-ghost use Rattle.mls_stitch.specs.Lookups.{AreSortedFor, IsLaid, IsListedBeyond, first_square, is_up_to, place_of, start_of};
+ghost use Rattle.mls_stitch.specs.Lookups.{AreSortedFor, IsListedBeyond, first_square, is_up_to, place_of, start_of};
 ghost use Rattle.mls_stitch.specs.Stitches.{HoldsAt, beyond};
 ghost use Rattle.mls_stitch.specs.Tilings.{AreBlocks};
+ghost use Rattle.mls_stitch.specs.Walks.{IsLaid};
 
 use crate::{LaidTile, Stitch};
 use mls_geom::Rect;

@@ -1,16 +1,15 @@
 -- A tile that comes in at the head of its owner's chain.
-use Rattle.std.proofs.Common.{◌≡◌, ◌≢◌, ℕ, zero, suc, ◌+◌, ◌<◌, ◌≤◌, Bool, true, false, eqb, cond, List, [], ◌∷◌, length, get_or, Option, Some, None, refl, sym, ap, ◌∙◌, ◌⊎◌, inl, inr, arith, Contains}
+use Rattle.std.proofs.Common.{◌≡◌, ◌≢◌, ℕ, ◌+◌, ◌<◌, Bool, true, false, eqb, cond, List, ◌∷◌, get_or, Option, Some, None, refl, sym, ap, ◌∙◌, inl, inr, arith, Contains}
 use Rattle.std.specs.Option.{option_map}
 use Rattle.std.proofs.lemmas.Bool.{cases_eq, cases_Bool, cond-true, cond-false, eq-eqb, ne_eqb, false_from_ne_true}
 use Rattle.slab.proofs.SlabLemmas.{Contains-cons}
-use Rattle.slab.specs.Slab.{entries_from}
-use Rattle.mls_tilepool.specs.Pools.{Held, owned}
-use Rattle.mls_tilepool.specs.Chains.{IsChain, IsRow, held_of, leads_to, owned_slots}
+use Rattle.mls_tilepool.specs.Pools.{owned}
+use Rattle.mls_tilepool.specs.Chains.{IsRow, held_of, leads_to}
 use Rattle.mls_tilepool.specs.declared.chain.Place.{Place}
 use Rattle.mls_tilepool.specs.declared.chain.Row.{Row}
 use Rattle.mls_tilepool.specs.declared.tile.Tile.{Tile}
-use Rattle.mls_tilepool.proofs.Chains.{Contains-head, IsChain-head, IsChain-owner, leads_to-true, option_map-some}
-use Rattle.mls_tilepool.proofs.Relinking.{IsChain-relinked, linked, linked-false, with_next, with_previous}
+use Rattle.mls_tilepool.proofs.Chains.{IsChain-head, IsChain-owner, leads_to-true, option_map-some}
+use Rattle.mls_tilepool.proofs.Relinking.{IsChain-relinked, linked, linked-false, with_previous}
 use Rattle.mls_tilepool.proofs.PoolChanges.{owned_count-change, owned-own, tile_count}
 use Rattle.mls_tilepool.proofs.Rows.{IsOwn, IsOwn-held, OthersStay}
 
@@ -40,8 +39,8 @@ vacant_apart places owner row is key vacant inside =
 vacant_unlinked : (places : List (Option Place)) (owner : ℕ) (row : Row) → IsRow places owner row → (key : ℕ) → get_or places key None ≡ None → leads_to row.first key ≡ false
 vacant_unlinked places owner row is key vacant =
     false_from_ne_true (leads_to row.first key) (λ leads.
-      vacant_apart places owner row is key vacant
-        (IsChain-head places owner None row.first is.keys key is.chain (leads_to-true row.first key leads)))
+    vacant_apart places owner row is key vacant
+    (IsChain-head places owner None row.first is.keys key is.chain (leads_to-true row.first key leads)))
 
 module _ (old new : List (Option Place)) (owner : ℕ) (row : Row) (key : ℕ) (tile : Tile) where
   -- what stands under the new key
@@ -70,21 +69,24 @@ module _ (old new : List (Option Place)) (owner : ℕ) (row : Row) (key : ℕ) (
         | inl same ↦
             let before : get_or old k None ≡ None = ap (λ x. get_or old x None) same ∙ vacant in
             let after : get_or new k None ≡ Some (fresh_place owner tile row.first) = ap (λ x. get_or new x None) same ∙ added_here is vacant adds in
-            inr (λ place found. absurd (cc), λ place found.
-              let both : Some (fresh_place owner tile row.first) ≡ Some place = sym after ∙ found in
-              let there : fresh_place owner tile row.first ≡ place = cc in
-              ap (λ p. p.owner) (sym there))
+            inr (
+              λ place found. absurd (cc),
+              λ place found.
+                  let both : Some (fresh_place owner tile row.first) ≡ Some place = sym after ∙ found in
+                  let there : fresh_place owner tile row.first ≡ place = cc in
+                  ap (λ p. p.owner) (sym there),
+            )
         | inr differs ↦
             let slot = get_or old k None in
             let kept = cond-false (eqb k key) (Some (fresh_place owner tile row.first)) slot (ne_eqb k key differs) in
             elim (cases_Bool (leads_to row.first k)) [
               | inl leads ↦
                   let there = IsChain-owner old owner None row.first is.keys k is.chain
-                      (IsChain-head old owner None row.first is.keys k is.chain (leads_to-true row.first k leads)) in
+                  (IsChain-head old owner None row.first is.keys k is.chain (leads_to-true row.first k leads)) in
                   let own : IsOwn owner slot = λ place found.
-                      let both : Some there.0 ≡ Some place = sym there.1 ∙ found in
-                      let same : there.0 ≡ place = cc in
-                      ap (λ p. p.owner) (sym same) ∙ there.2 in
+                  let both : Some there.0 ≡ Some place = sym there.1 ∙ found in
+                  let same : there.0 ≡ place = cc in
+                  ap (λ p. p.owner) (sym same) ∙ there.2 in
                   inr (own, IsOwn-held owner slot (get_or new k None) (added_held adds k differs) own)
               | inr away ↦ inl (adds k ∙ linked-false (with_previous (Some key)) row.first k _ away ∙ kept)
             ]
@@ -101,14 +103,27 @@ module _ (old new : List (Option Place)) (owner : ℕ) (row : Row) (key : ℕ) (
       record {
         some = is.some;
         within = omega (arith, fits);
-        count = omega (arith, is.count, change, ap (λ slot. tile_count (owned owner (held_of slot))) vacant,
-            ap (λ slot. tile_count (owned owner (held_of slot))) here, ap tile_count (owned-own owner tile));
+        count = omega (
+          arith,
+          is.count,
+          change,
+          ap (λ slot. tile_count (owned owner (held_of slot))) vacant,
+          ap (λ slot. tile_count (owned owner (held_of slot))) here,
+          ap tile_count (owned-own owner tile),
+        );
         keys = key ∷ is.keys;
-        chain = (refl, apart, fresh_place owner tile row.first, here, refl, refl,
+        chain = (
+          refl,
+          apart,
+          fresh_place owner tile row.first,
+          here,
+          refl,
+          refl,
           IsChain-relinked old new owner None (Some key) row.first is.keys (λ k inside.
-            adds k
-            ∙ ap (linked (with_previous (Some key)) row.first k)
-                (cond-false (eqb k key) (Some (fresh_place owner tile row.first)) (get_or old k None) (ne_eqb k key (λ same. apart (rw same at inside))))) is.chain);
+              adds k
+              ∙ ap (linked (with_previous (Some key)) row.first k)
+              (cond-false (eqb k key) (Some (fresh_place owner tile row.first)) (get_or old k None) (ne_eqb k key (λ same. apart (rw same at inside))))) is.chain,
+        );
         each = omega (arith, is.each);
         all = λ k place found owns.
             elim (cases_eq k key) [

@@ -1,12 +1,10 @@
 -- Chains of places: what a change of links, tiles or owners leaves of them.
-use Rattle.std.proofs.Common.{◌≡◌, ◌≢◌, ℕ, zero, suc, ◌+◌, ◌<◌, ◌≤◌, Bool, true, false, eqb, cond, List, [], ◌∷◌, map, length, get_or, Option, Some, None, refl, sym, ap, ◌∙◌, ◌⊎◌, inl, inr, arith, Contains}
+use Rattle.std.proofs.Common.{◌≡◌, ◌≢◌, ℕ, true, false, List, [], ◌∷◌, get_or, Option, Some, None, refl, sym, ap, ◌∙◌, ◌⊎◌, inl, inr, arith, Contains}
 use Rattle.std.specs.Option.{option_map}
-use Rattle.std.proofs.lemmas.Bool.{cases_eq, cond-true, cond-false, eq-eqb, eqb-true, ne_eqb, false≢true}
+use Rattle.std.proofs.lemmas.Bool.{eq-eqb, eqb-true, ne_eqb, false≢true}
 use Rattle.slab.proofs.SlabLemmas.{Contains-cons, Contains-cons_cases}
-use Rattle.mls_tilepool.specs.Pools.{Held, owned, tile_in}
-use Rattle.mls_tilepool.specs.Chains.{IsChain, held_of, leads_to, tiles_from}
+use Rattle.mls_tilepool.specs.Chains.{IsChain, leads_to}
 use Rattle.mls_tilepool.specs.declared.chain.Place.{Place}
-use Rattle.mls_tilepool.specs.declared.tile.Tile.{Tile}
 
 -- a place without its tile
 abbrev pub links_of : Place → ℕ × Option ℕ × Option ℕ

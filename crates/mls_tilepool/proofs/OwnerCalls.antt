@@ -1,21 +1,21 @@
 -- What reserving for a new owner, and releasing an owner, leave of a pool.
-use Rattle.std.proofs.Common.{◌≡◌, ◌≢◌, ℕ, zero, suc, ◌+◌, ◌-◌, ◌<◌, ◌≤◌, Bool, true, false, eqb, cond, List, [], ◌∷◌, map, length, get_or, set, Option, Some, None, IsSome, IfSome, is_some, refl, sym, ap, ◌∙◌, ◌⊎◌, inl, inr, arith, Contains}
+use Rattle.std.proofs.Common.{◌≡◌, ◌≢◌, ℕ, ◌+◌, ◌-◌, ◌≤◌, [], get_or, Option, Some, None, is_some, refl, sym, ap, ◌∙◌, arith}
 use Rattle.slab.specs.Slab.{Slab, Updates, get}
-use Rattle.mls_tilepool.specs.Pools.{Held, Pool, Reserves, owned, reserved, room_of, tile_at, tiles_of, unreserved}
+use Rattle.mls_tilepool.specs.Pools.{Pool, Reserves, owned, reserved, tiles_of, unreserved}
 use Rattle.mls_tilepool.specs.Chains.{IsPool, held_of, pool_of, room_in}
 use Rattle.mls_tilepool.specs.declared.chain.Place.{Place}
 use Rattle.mls_tilepool.specs.declared.chain.Row.{Row}
 use Rattle.mls_tilepool.proofs.PoolChanges.{held_at, owned-none, room_at, tiles_of-none, tiles_of-same}
 use Rattle.mls_tilepool.proofs.PoolSteps.{IsPool-released, IsPool-reserved, none_owned, room_reserved}
-use Rattle.mls_tilepool.proofs.PoolViews.{IfSome-at, room_of-row, unreserved-pool}
+use Rattle.mls_tilepool.proofs.PoolViews.{unreserved-pool}
 
 -- an owner with no row has no place
 pub unowned : (capacity reserved : ℕ) (places : Slab Place) (rows : Slab Row) (owner : ℕ) → IsPool capacity reserved places rows → get rows owner ≡ None → (key : ℕ) → owned owner (held_of (get places key)) ≡ None
 unowned capacity reserved places rows owner is vacant key =
     none_owned owner (get places key) (λ place found same.
-      let live = ap (λ k. is_some (get rows k)) (sym same) ∙ is.each key place found in
-      let none = ap is_some vacant in
-      cc)
+    let live = ap (λ k. is_some (get rows k)) (sym same) ∙ is.each key place found in
+    let none = ap is_some vacant in
+    cc)
 
 -- an owner whose row changes, and that has no place
 Reserves-updated :
@@ -58,8 +58,13 @@ module _ (capacity reserved : ℕ) (places : Slab Place) (rows new : Slab Row) (
 
     pub unreserved-released : unreserved (pool_of capacity places.slots new.slots) ≡ unreserved (pool_of capacity places.slots rows.slots) + row.room
     unreserved-released =
-        omega (arith, unreserved-pool capacity (reserved - row.room) places new IsPool-let_go, unreserved-pool capacity reserved places rows is,
-            room_reserved capacity reserved places rows owner row is found, is.within)
+        omega (
+          arith,
+          unreserved-pool capacity (reserved - row.room) places new IsPool-let_go,
+          unreserved-pool capacity reserved places rows is,
+          room_reserved capacity reserved places rows owner row is found,
+          is.within,
+        )
 
 -- two pools with the same capacity and reserves have as much unreserved
 pub unreserved-same : (old new : Pool) → new.rooms ≡ old.rooms → new.capacity ≡ old.capacity → unreserved new ≡ unreserved old

@@ -1,5 +1,5 @@
 -- What callers see of a pool, as its slots change.
-use Rattle.std.proofs.Common.{◌≡◌, ◌≢◌, ℕ, zero, suc, ◌+◌, ◌<◌, ◌≤◌, Bool, true, false, eqb, cond, List, [], ◌∷◌, map, length, get_or, Option, Some, None, is_some, count_by, refl, sym, ap, ◌∙◌, ◌⊎◌, inl, inr, arith, IsSome}
+use Rattle.std.proofs.Common.{◌≡◌, ◌≢◌, ℕ, ◌+◌, eqb, cond, List, [], ◌∷◌, map, length, get_or, Option, Some, None, is_some, refl, sym, ap, ◌∙◌, inl, inr, arith, IsSome}
 use Rattle.std.specs.List.{sum_by}
 use Rattle.std.specs.Option.{option_map_or}
 use Rattle.std.proofs.lemmas.Bool.{cases_eq, cond-true, cond-false, eq-eqb, ne_eqb}
@@ -7,7 +7,7 @@ use Rattle.std.proofs.lemmas.List.Sums.{sum_by-cons}
 use Rattle.std.proofs.Math.ListN.{get_or-map}
 use Rattle.slab.specs.Slab.{entries_from}
 use Rattle.slab.proofs.SlabLemmas.{length-entries_from}
-use Rattle.mls_tilepool.specs.Pools.{Changes, Held, IsOwner, Pool, count_of, owned, reserved, room_of, tile_at, tile_in, tiles_of}
+use Rattle.mls_tilepool.specs.Pools.{Changes, Pool, count_of, owned, reserved, tile_at, tile_in, tiles_of}
 use Rattle.mls_tilepool.specs.Chains.{held_of, owned_slots, room_in, rooms_sum}
 use Rattle.mls_tilepool.specs.declared.chain.Place.{Place}
 use Rattle.mls_tilepool.specs.declared.chain.Row.{Row}
@@ -38,11 +38,19 @@ tile_at-held pool places owner key are =
 reserves_sum : (rows : List (Option Row)) → sum_by (λ room. option_map_or (λ tiles. tiles) room 0) (map room_in rows) ≡ rooms_sum rows
 reserves_sum [] = refl
 reserves_sum (None ∷ rest) =
-    omega (arith, sum_by-cons (λ room. option_map_or (λ tiles. tiles) room 0) None (map room_in rest),
-        sum_by-cons (λ row. option_map_or (λ (r : Row). r.room) row 0) None rest, reserves_sum rest)
+    omega (
+      arith,
+      sum_by-cons (λ room. option_map_or (λ tiles. tiles) room 0) None (map room_in rest),
+      sum_by-cons (λ row. option_map_or (λ (r : Row). r.room) row 0) None rest,
+      reserves_sum rest,
+    )
 reserves_sum (Some row ∷ rest) =
-    omega (arith, sum_by-cons (λ room. option_map_or (λ tiles. tiles) room 0) (Some row.room) (map room_in rest),
-        sum_by-cons (λ row. option_map_or (λ (r : Row). r.room) row 0) (Some row) rest, reserves_sum rest)
+    omega (
+      arith,
+      sum_by-cons (λ room. option_map_or (λ tiles. tiles) room 0) (Some row.room) (map room_in rest),
+      sum_by-cons (λ row. option_map_or (λ (r : Row). r.room) row 0) (Some row) rest,
+      reserves_sum rest,
+    )
 
 pub reserved-rows : (pool : Pool) (rows : List (Option Row)) → pool.rooms ≡ map room_in rows → reserved pool ≡ rooms_sum rows
 unfolding reserved
@@ -64,7 +72,7 @@ pub tiles_of-same :
 unfolding tiles_of
 tiles_of-same old new owner same =
     entries_from-same 0 (map (owned owner) old.places) (map (owned owner) new.places)
-      (λ key. get_or-map (owned owner) new.places key None ∙ same key ∙ sym (get_or-map (owned owner) old.places key None))
+    (λ key. get_or-map (owned owner) new.places key None ∙ same key ∙ sym (get_or-map (owned owner) old.places key None))
 
 -- an owner with no tile under any key has none
 pub tiles_of-none : (pool : Pool) (owner : ℕ) → ((key : ℕ) → owned owner (get_or pool.places key None) ≡ None) → tiles_of pool owner ≡ []
@@ -101,12 +109,18 @@ pub owned_count-change :
     (old new : List (Option Place)) (owner key : ℕ)
     → ((other : ℕ) → other ≢ key → held_of (get_or new other None) ≡ held_of (get_or old other None))
     → length (entries_from 0 (owned_slots owner new)) + tile_count (owned owner (held_of (get_or old key None)))
-      ≡ length (entries_from 0 (owned_slots owner old)) + tile_count (owned owner (held_of (get_or new key None)))
+    ≡ length (entries_from 0 (owned_slots owner old)) + tile_count (owned owner (held_of (get_or new key None)))
 owned_count-change old new owner key others =
     let change = sum_by-change tile_count (owned_slots owner old) (owned_slots owner new) key refl
-        (λ other differs. ap tile_count (owned_at new owner other ∙ ap (owned owner) (others other differs) ∙ sym (owned_at old owner other))) in
-    omega (arith, change, length-entries_from 0 (owned_slots owner new), length-entries_from 0 (owned_slots owner old),
-        ap tile_count (owned_at new owner key), ap tile_count (owned_at old owner key))
+    (λ other differs. ap tile_count (owned_at new owner other ∙ ap (owned owner) (others other differs) ∙ sym (owned_at old owner other))) in
+    omega (
+      arith,
+      change,
+      length-entries_from 0 (owned_slots owner new),
+      length-entries_from 0 (owned_slots owner old),
+      ap tile_count (owned_at new owner key),
+      ap tile_count (owned_at old owner key),
+    )
 
 -- a slot is the owner's, or another's
 pub owned-own : (owner : ℕ) (tile : Tile) → owned owner (Some (record { owner = owner; tile = tile })) ≡ Some tile

@@ -1,20 +1,19 @@
 -- What keeps a pool sound: one owner's row and places change, an owner comes, an owner goes.
-use Rattle.std.proofs.Common.{◌≡◌, ◌≢◌, ℕ, zero, suc, ◌+◌, ◌-◌, ◌<◌, ◌≤◌, Bool, true, false, eqb, cond, List, [], ◌∷◌, length, get_or, set, Option, Some, None, is_some, count_by, refl, sym, ap, ◌∙◌, ◌⊎◌, inl, inr, arith, Contains}
+use Rattle.std.proofs.Common.{◌≡◌, ◌≢◌, ℕ, ◌+◌, ◌-◌, ◌<◌, ◌≤◌, eqb, cond, [], length, Option, Some, None, is_some, refl, sym, ap, ◌∙◌, inl, inr, arith}
 use Rattle.std.specs.List.{sum_by}
 use Rattle.std.specs.Option.{option_map, option_map_or}
 use Rattle.std.proofs.lemmas.Bool.{cases_eq, cond-true, cond-false, eq-eqb, ne_eqb}
-use Rattle.std.proofs.lemmas.List.{get_or-set_same, get_or-set_other, set-get_or}
 use Rattle.slab.specs.Slab.{Slab, ContainsKey, HasRoomFor, Updates, entries_from, get, slab_len, with_value}
-use Rattle.slab.proofs.SlabLemmas.{ContainsKey-within, Updates-with_value}
-use Rattle.mls_tilepool.specs.Pools.{Held, owned}
-use Rattle.mls_tilepool.specs.Chains.{IsChain, IsPool, IsRow, counts_sum, held_of, owned_slots, rooms_sum}
+use Rattle.slab.proofs.SlabLemmas.{Updates-with_value}
+use Rattle.mls_tilepool.specs.Pools.{owned}
+use Rattle.mls_tilepool.specs.Chains.{IsPool, IsRow, held_of, owned_slots}
 use Rattle.mls_tilepool.specs.declared.chain.Place.{Place}
 use Rattle.mls_tilepool.specs.declared.chain.Row.{Row}
 use Rattle.mls_tilepool.specs.declared.tile.Tile.{Tile}
 use Rattle.mls_tilepool.proofs.Chains.{IsChain-same, links_of}
 use Rattle.mls_tilepool.proofs.Slots.{entries_from-same, sum_by-change, sum_by-gap, sum_by-le}
 use Rattle.mls_tilepool.proofs.PoolChanges.{owned_at, owned_count-change, owned-own, tile_count}
-use Rattle.mls_tilepool.proofs.Rows.{IsOwn, IsOwn-other, IsRow-others, OthersStay}
+use Rattle.mls_tilepool.proofs.Rows.{IsRow-others, OthersStay}
 
 -- the reserve of a row, and how many tiles it has
 abbrev pub room_or : Option Row → ℕ
@@ -37,7 +36,7 @@ pub room_for_tile :
     → IsPool capacity reserved places rows → get rows owner ≡ Some row → row.count < row.room → HasRoomFor places 1
 room_for_tile capacity reserved places rows owner row is found fits =
     let gap = sum_by-gap count_or room_or rows.slots owner refl refl
-        (λ other. count_within (get rows other) (λ r there. (is.owners other r there).within)) in
+    (λ other. count_within (get rows other) (λ r there. (is.owners other r there).within)) in
     omega (arith, gap, ap count_or found, ap room_or found, is.sum, is.within, is.place_room, is.tiles, fits)
 
 -- a pool with something unreserved has a row left
@@ -48,7 +47,7 @@ one_within (Some row) within = within row refl
 pub room_for_row : (capacity reserved : ℕ) (places : Slab Place) (rows : Slab Row) → IsPool capacity reserved places rows → reserved < capacity → HasRoomFor rows 1
 room_for_row capacity reserved places rows is some =
     let fits : sum_by one_if rows.slots ≤ sum_by room_or rows.slots =
-        sum_by-le one_if room_or rows.slots (λ other. one_within (get rows other) (λ r there. (is.owners other r there).some)) in
+    sum_by-le one_if room_or rows.slots (λ other. one_within (get rows other) (λ r there. (is.owners other r there).some)) in
     let len : slab_len rows ≡ sum_by one_if rows.slots = refl in
     omega (arith, fits, len, is.sum, is.row_room, some)
 
@@ -77,12 +76,12 @@ pub IsPool-written :
 IsPool-written capacity reserved old new rows owner row row' is found room space len stay is_row =
     let here = get-with_value rows owner row row' found in
     let there : (other : ℕ) → other ≢ owner → get (with_value rows owner row') other ≡ get rows other =
-        λ other differs. get-with_value_other rows owner other row row' found differs in
+    λ other differs. get-with_value_other rows owner other row row' found differs in
     let keeps : (other : ℕ) → ContainsKey rows other → ContainsKey (with_value rows owner row') other = λ other live.
-        elim (cases_eq other owner) [
-          | inl same ↦ ap (λ k. is_some (get (with_value rows owner row') k)) same ∙ ap is_some here
-          | inr differs ↦ ap is_some (there other differs) ∙ live
-        ] in
+    elim (cases_eq other owner) [
+      | inl same ↦ ap (λ k. is_some (get (with_value rows owner row') k)) same ∙ ap is_some here
+      | inr differs ↦ ap is_some (there other differs) ∙ live
+    ] in
     let rooms = sum_by-change room_or rows.slots (with_value rows owner row').slots owner refl (λ other differs. ap room_or (there other differs)) in
     let counts = sum_by-change count_or rows.slots (with_value rows owner row').slots owner refl (λ other differs. ap count_or (there other differs)) in
     record {
@@ -110,7 +109,7 @@ IsPool-written capacity reserved old new rows owner row row' is found room space
 pub slab_len-with_value : {X : Type 0} (slab : Slab X) (key : ℕ) (old value : X) → get slab key ≡ Some old → slab_len (with_value slab key value) ≡ slab_len slab
 slab_len-with_value slab key old value found =
     let change = sum_by-change one_if slab.slots (with_value slab key value).slots key refl
-        (λ other differs. ap one_if (get-with_value_other slab key other old value found differs)) in
+    (λ other differs. ap one_if (get-with_value_other slab key other old value found differs)) in
     let len : slab_len slab ≡ sum_by one_if slab.slots = refl in
     let len' : slab_len (with_value slab key value) ≡ sum_by one_if (with_value slab key value).slots = refl in
     omega (arith, len, len', change, ap one_if found, ap one_if (get-with_value slab key old value found))
@@ -130,8 +129,15 @@ module _ (places : Slab Place) (owner : ℕ) (row : Row) (key : ℕ) (place : Pl
       record {
         some = is.some;
         within = is.within;
-        count = omega (arith, is.count, change, ap (λ slot. tile_count (owned owner slot)) was, ap (λ slot. tile_count (owned owner slot)) now,
-            ap tile_count (owned-own owner place.tile), ap tile_count (owned-own owner tile));
+        count = omega (
+          arith,
+          is.count,
+          change,
+          ap (λ slot. tile_count (owned owner slot)) was,
+          ap (λ slot. tile_count (owned owner slot)) now,
+          ap tile_count (owned-own owner place.tile),
+          ap tile_count (owned-own owner tile),
+        );
         keys = is.keys;
         chain = IsChain-same places.slots retiled.slots owner None row.first is.keys (λ k inside.
             elim (cases_eq k key) [
@@ -156,9 +162,9 @@ module _ (places : Slab Place) (owner : ℕ) (row : Row) (key : ℕ) (place : Pl
             inr (
               λ p at. let both : Some place ≡ Some p = sym before ∙ at in let same_place : place ≡ p = cc in ap (λ q. q.owner) (sym same_place) ∙ owns,
               λ p at.
-                let both : Some (record place { tile = tile }) ≡ Some p = sym after ∙ at in
-                let same_place : record place { tile = tile } ≡ p = cc in
-                ap (λ q. q.owner) (sym same_place) ∙ owns,
+                  let both : Some (record place { tile = tile }) ≡ Some p = sym after ∙ at in
+                  let same_place : record place { tile = tile } ≡ p = cc in
+                  ap (λ q. q.owner) (sym same_place) ∙ owns,
             )
         | inr differs ↦ inl (get-with_value_other places key k place (record place { tile = tile }) found differs)
       ]
@@ -171,7 +177,7 @@ none_owned owner (Some place) apart = cond-false (eqb place.owner owner) (Some p
 owned_apart : (owner : ℕ) (slot : Option Place) (place : Place) → slot ≡ Some place → place.owner ≡ owner → owned owner (held_of slot) ≡ None → ⊥
 owned_apart owner slot place found owns none =
     let here : owned owner (held_of slot) ≡ Some place.tile =
-        ap (λ s. owned owner (held_of s)) found ∙ cond-true (eqb place.owner owner) (Some place.tile) None (eq-eqb place.owner owner owns) in
+    ap (λ s. owned owner (held_of s)) found ∙ cond-true (eqb place.owner owner) (Some place.tile) None (eq-eqb place.owner owner owns) in
     cc
 
 -- a new owner, with no tile
@@ -185,9 +191,9 @@ IsPool-reserved capacity reserved tiles places rows new owner is vacant updates 
     let rooms = sum_by-change room_or rows.slots new.slots owner refl (λ other differs. ap room_or (updates.others other differs)) in
     let counts = sum_by-change count_or rows.slots new.slots owner refl (λ other differs. ap count_or (updates.others other differs)) in
     let apart : (key : ℕ) (place : Place) → get places key ≡ Some place → place.owner ≢ owner = λ key place found same.
-        let live = ap (λ k. is_some (get rows k)) (sym same) ∙ is.each key place found in
-        let none = ap is_some vacant in
-        cc in
+    let live = ap (λ k. is_some (get rows k)) (sym same) ∙ is.each key place found in
+    let none = ap is_some vacant in
+    cc in
     let none : (key : ℕ) → owned owner (held_of (get places key)) ≡ None = λ key. none_owned owner (get places key) (apart key) in
     record {
       sum = omega (arith, is.sum, rooms, ap room_or vacant, ap room_or updates.changed);
@@ -224,7 +230,7 @@ IsPool-released capacity reserved places rows new owner row is found updates spa
     let rooms = sum_by-change room_or rows.slots new.slots owner refl (λ other differs. ap room_or (updates.others other differs)) in
     let counts = sum_by-change count_or rows.slots new.slots owner refl (λ other differs. ap count_or (updates.others other differs)) in
     let empty : length (entries_from 0 (owned_slots owner places.slots)) ≡ 0 =
-        ap length (entries_from-same 0 [] (owned_slots owner places.slots) (λ key. owned_at places.slots owner key ∙ none key)) in
+    ap length (entries_from-same 0 [] (owned_slots owner places.slots) (λ key. owned_at places.slots owner key ∙ none key)) in
     record {
       sum = omega (arith, is.sum, rooms, ap room_or found, ap room_or updates.changed);
       within = omega (arith, is.within);

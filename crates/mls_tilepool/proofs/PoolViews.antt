@@ -1,16 +1,15 @@
 -- What callers see of a sound pool.
-use Rattle.std.proofs.Common.{◌≡◌, ◌≢◌, ℕ, zero, suc, ◌+◌, ◌-◌, ◌<◌, ◌≤◌, Bool, true, false, eqb, cond, List, [], ◌∷◌, map, length, get_or, set, Option, Some, None, IsSome, IfSome, is_some, refl, sym, ap, ◌∙◌, ◌⊎◌, inl, inr, arith, Contains}
+use Rattle.std.proofs.Common.{◌≡◌, ◌≢◌, ℕ, ◌-◌, eqb, List, [], ◌∷◌, map, length, set, Option, Some, None, IsSome, IfSome, is_some, refl, sym, ap, ◌∙◌, inl, inr, arith, Contains}
 use Rattle.std.proofs.lemmas.Bool.{cases_eq, cond-true, cond-false, eq-eqb, ne_eqb}
 use Rattle.std.proofs.lemmas.List.{map-set, set-get_or}
-use Rattle.slab.specs.Slab.{Slab, ContainsKey, Updates, get, slab_len, with_value}
-use Rattle.mls_tilepool.specs.Pools.{Changes, Held, IsOwner, ListsTiles, Pool, count_of, owned, reserved, room_of, tile_at, tile_in, tiles_of, unreserved}
-use Rattle.mls_tilepool.specs.Chains.{IsChain, IsPool, IsRow, held_of, pool_of, room_in, tiles_from}
+use Rattle.slab.specs.Slab.{Slab, ContainsKey, get, with_value}
+use Rattle.mls_tilepool.specs.Pools.{IsOwner, ListsTiles, Pool, count_of, owned, room_of, tile_at, tile_in, tiles_of, unreserved}
+use Rattle.mls_tilepool.specs.Chains.{IsChain, IsPool, held_of, pool_of, room_in, tiles_from}
 use Rattle.mls_tilepool.specs.declared.chain.Place.{Place}
 use Rattle.mls_tilepool.specs.declared.chain.Row.{Row}
-use Rattle.mls_tilepool.specs.declared.tile.Tile.{Tile}
 use Rattle.mls_tilepool.proofs.Chains.{IsChain-head, IsChain-owner}
 use Rattle.mls_tilepool.proofs.ChainTiles.{length-tiles_from, tile_in-tiles_from, tile_in-tiles_from_none}
-use Rattle.mls_tilepool.proofs.PoolChanges.{count_of-owned, held_at, owned-some, reserved-rows, room_at, tile_at-held}
+use Rattle.mls_tilepool.proofs.PoolChanges.{count_of-owned, owned-some, reserved-rows, room_at, tile_at-held}
 
 -- a fact of the value that is there
 pub IfSome-at : {X : Type 0} (P : X → Type 0) (o : Option X) (x : X) → o ≡ Some x → P x → IfSome o P
@@ -28,7 +27,11 @@ owned-held owner place owns = cond-true (eqb place.owner owner) (Some place.tile
 pub owned-not : (owner : ℕ) (place : Place) → place.owner ≢ owner → owned owner (held_of (Some place)) ≡ None
 owned-not owner place differs = cond-false (eqb place.owner owner) (Some place.tile) None (ne_eqb place.owner owner differs)
 
--- two lists of nothing
+row_live : (row : Option Row) → IsSome (room_in row) → IsSome row
+row_live None live = live
+row_live (Some row) live = refl
+
+-- a list of no elements
 empty_list : {X : Type 0} (xs : List X) → length xs ≡ 0 → xs ≡ []
 empty_list [] none = refl
 empty_list (x ∷ xs) none = absurd (omega (arith, none))
@@ -65,6 +68,10 @@ module _ (capacity reserved : ℕ) (places : Slab Place) (rows : Slab Row) where
       let both : Some own.0 ≡ Some place = sym own.1 ∙ found in
       let same : own.0 ≡ place = cc in
       ap (λ p. p.owner) (sym same) ∙ own.2
+
+  -- an owner has a row
+  pub owner_row : (owner : ℕ) → IsOwner viewed owner → ContainsKey rows owner
+  owner_row owner live = row_live (get rows owner) (ap is_some (sym (room_at rows.slots owner)) ∙ live)
 
   -- an owner's reserve, by its row
   pub room_of-row : (owner : ℕ) (row : Row) → get rows owner ≡ Some row → room_of viewed owner ≡ Some row.room
@@ -106,9 +113,9 @@ module _ (capacity reserved : ℕ) (places : Slab Place) (rows : Slab Row) where
       chain_lists key None at =
           let own = is.owners owner row found in
           let outside : ¬ Contains own.keys key = λ inside.
-              let place = IsChain-owner places.slots owner None row.first own.keys key own.chain inside in
-              let there = place.1 in
-              cc in
+          let place = IsChain-owner places.slots owner None row.first own.keys key own.chain inside in
+          let there = place.1 in
+          cc in
           ap (λ n. tile_in (tiles_from places.slots n row.first) key) (sym own.each)
           ∙ tile_in-tiles_from_none places.slots owner None row.first own.keys key own.chain outside
           ∙ sym (ap (λ s. owned owner (held_of s)) at)
@@ -119,10 +126,10 @@ module _ (capacity reserved : ℕ) (places : Slab Place) (rows : Slab Row) where
             | inl same ↦ tile_in-tiles_from places.slots owner None row.first own.keys key own.chain (own.all key place at same)
             | inr differs ↦
                 let outside : ¬ Contains own.keys key = λ inside.
-                    let there = IsChain-owner places.slots owner None row.first own.keys key own.chain inside in
-                    let both : Some there.0 ≡ Some place = sym there.1 ∙ at in
-                    let same : there.0 ≡ place = cc in
-                    differs (ap (λ p. p.owner) (sym same) ∙ there.2) in
+                let there = IsChain-owner places.slots owner None row.first own.keys key own.chain inside in
+                let both : Some there.0 ≡ Some place = sym there.1 ∙ at in
+                let same : there.0 ≡ place = cc in
+                differs (ap (λ p. p.owner) (sym same) ∙ there.2) in
                 tile_in-tiles_from_none places.slots owner None row.first own.keys key own.chain outside
                 ∙ sym (ap (λ s. owned owner (held_of s)) at ∙ owned-not owner place differs)
           ]

@@ -1,11 +1,11 @@
 -- Chains of places while a tile comes in at the head or goes out anywhere.
-use Rattle.std.proofs.Common.{◌≡◌, ◌≢◌, ℕ, zero, suc, ◌+◌, ◌<◌, ◌≤◌, Bool, true, false, eqb, cond, List, [], ◌∷◌, length, get_or, Option, Some, None, refl, sym, ap, ◌∙◌, ◌⊎◌, inl, inr, arith, Contains}
+use Rattle.std.proofs.Common.{◌≡◌, ◌≢◌, ℕ, ◌+◌, Bool, true, false, eqb, cond, List, [], ◌∷◌, length, get_or, Option, Some, None, refl, sym, ap, ◌∙◌, inl, inr, arith, Contains}
 use Rattle.std.specs.Option.{option_map}
 use Rattle.std.proofs.lemmas.Bool.{cases_eq, cond-true, cond-false, eq-eqb, ne_eqb, false_from_ne_true}
 use Rattle.slab.proofs.SlabLemmas.{Contains-cons, Contains-cons_cases}
 use Rattle.mls_tilepool.specs.Chains.{IsChain, leads_to}
 use Rattle.mls_tilepool.specs.declared.chain.Place.{Place}
-use Rattle.mls_tilepool.proofs.Chains.{Contains-head, links_of, leads_to-same, leads_to-other, leads_to-true, IsChain-same, IsChain-head, IsChain-next, IsChain-previous}
+use Rattle.mls_tilepool.proofs.Chains.{Contains-head, links_of, leads_to-same, leads_to-other, leads_to-true, IsChain-same, IsChain-next, IsChain-previous}
 
 -- a place with another link back, or another link onward
 abbrev pub with_previous : Option ℕ → Place → Place
@@ -43,13 +43,19 @@ IsChain-relinked old new owner previous other link [] relinks chain = chain
 IsChain-relinked old new owner previous other link (key ∷ rest) relinks chain =
     let place = chain.2 in
     let here : get_or new key None ≡ Some (with_previous other place) =
-        relinks key (Contains-head key rest) ∙ linked-true (with_previous other) link key (get_or old key None) (leads_to-same link key chain.0)
-        ∙ ap (option_map (with_previous other)) chain.3 in
+    relinks key (Contains-head key rest) ∙ linked-true (with_previous other) link key (get_or old key None) (leads_to-same link key chain.0)
+    ∙ ap (option_map (with_previous other)) chain.3 in
     let kept : (k : ℕ) → Contains rest k → get_or new k None ≡ get_or old k None = λ k inside.
-        relinks k (Contains-cons key k rest inside)
-        ∙ linked-false (with_previous other) link k (get_or old k None) (leads_to-other link key k chain.0 (λ same. chain.1 (rw same inside))) in
-    (chain.0, chain.1, with_previous other place, here, chain.4, refl,
-      IsChain-same old new owner (Some key) place.next rest (λ k inside. ap (option_map links_of) (kept k inside)) chain.6)
+    relinks k (Contains-cons key k rest inside)
+    ∙ linked-false (with_previous other) link k (get_or old k None) (leads_to-other link key k chain.0 (λ same. chain.1 (rw same inside))) in (
+      chain.0,
+      chain.1,
+      with_previous other place,
+      here,
+      chain.4,
+      refl,
+      IsChain-same old new owner (Some key) place.next rest (λ k inside. ap (option_map links_of) (kept k inside)) chain.6,
+    )
 
 -- the keys that are left
 pub without-first : (gone : ℕ) (rest : List ℕ) → without gone (gone ∷ rest) ≡ rest
@@ -135,14 +141,14 @@ unlinked_first :
     → IsChain old owner (Some own) place.next rest → IsChain new owner previous place.next rest
 unlinked_first old new owner own previous rest place unlinks outside apart back chain =
     IsChain-relinked old new owner (Some own) previous place.next rest (λ k inside.
-      let slot = get_or old k None in
-      let kept : cond (eqb k own) None slot ≡ slot = cond-false _ None slot (ne_eqb k own (λ same. apart (rw same at inside))) in
-      let front : linked (with_next place.next) place.previous k slot ≡ slot =
-          linked-false (with_next place.next) place.previous k slot (ap (λ l. leads_to l k) back ∙ outside k inside) in
-      unlinks k
-      ∙ ap (λ s. linked (with_previous place.previous) place.next k (linked (with_next place.next) place.previous k s)) kept
-      ∙ ap (λ s. linked (with_previous place.previous) place.next k s) front
-      ∙ ap (λ l. linked (with_previous l) place.next k slot) back) chain
+    let slot = get_or old k None in
+    let kept : cond (eqb k own) None slot ≡ slot = cond-false _ None slot (ne_eqb k own (λ same. apart (rw same at inside))) in
+    let front : linked (with_next place.next) place.previous k slot ≡ slot =
+    linked-false (with_next place.next) place.previous k slot (ap (λ l. leads_to l k) back ∙ outside k inside) in
+    unlinks k
+    ∙ ap (λ s. linked (with_previous place.previous) place.next k (linked (with_next place.next) place.previous k s)) kept
+    ∙ ap (λ s. linked (with_previous place.previous) place.next k s) front
+    ∙ ap (λ l. linked (with_previous l) place.next k slot) back) chain
 
 -- a first place whose link onward may have changed, before a chain
 chain_from :
@@ -166,9 +172,9 @@ unlinked_later old new owner own gone link rest place kept unlinks other apart i
     let slot = get_or old own None in
     let stays : cond (eqb own gone) None slot ≡ Some kept = cond-false _ None slot (ne_eqb own gone other) ∙ here in
     let front : linked (with_next place.next) place.previous own (Some kept) ≡ cond (leads_to link gone) (Some (with_next place.next kept)) (Some kept) =
-        ap (λ b. cond b (Some (with_next place.next kept)) (Some kept)) (previous_leads old owner own link rest gone place chain apart inside found) in
+    ap (λ b. cond b (Some (with_next place.next kept)) (Some kept)) (previous_leads old owner own link rest gone place chain apart inside found) in
     let not_next : leads_to place.next own ≡ false =
-        false_from_ne_true (leads_to place.next own) (λ leads. apart (IsChain-next old owner (Some own) link rest gone own place chain inside found (leads_to-true place.next own leads))) in
+    false_from_ne_true (leads_to place.next own) (λ leads. apart (IsChain-next old owner (Some own) link rest gone own place chain inside found (leads_to-true place.next own leads))) in
     unlinks own
     ∙ linked-false (with_previous place.previous) place.next own _ not_next
     ∙ ap (λ s. linked (with_next place.next) place.previous own s) stays
@@ -191,21 +197,21 @@ IsChain-unlinked old new owner previous link (own ∷ rest) gone place unlinks o
           let both : chain.2 ≡ place = cc in
           let leads : leads_to link gone ≡ true = leads_to-same link gone (chain.0 ∙ ap Some same) in
           rw (cond-true (leads_to link gone) place.next link leads, cond-true (eqb own gone) rest (own ∷ without gone rest) (eq-eqb own gone same))
-            (unlinked_first old new owner own previous rest place
-              (λ k. rw same (unlinks k))
-              (λ k inner. outside k (Contains-cons own k rest inner))
-              chain.1 (ap (λ p. p.previous) (sym both) ∙ chain.5)
-              (rw both at chain.6))
+          (unlinked_first old new owner own previous rest place
+          (λ k. rw same (unlinks k))
+          (λ k inner. outside k (Contains-cons own k rest inner))
+          chain.1 (ap (λ p. p.previous) (sym both) ∙ chain.5)
+          (rw both at chain.6))
       | inr other ↦
           elim (Contains-cons_cases own gone rest inside) [
             | inl here ↦ absurd (other here)
             | inr later ↦
                 let kept = chain.2 in
                 let inner = IsChain-unlinked old new owner (Some own) kept.next rest gone place unlinks
-                    (λ k within. ne_eqb own k (λ same. chain.1 (rw same within))) later found chain.6 in
+                (λ k within. ne_eqb own k (λ same. chain.1 (rw same within))) later found chain.6 in
                 let here = unlinked_later old new owner own gone kept.next rest place kept unlinks other chain.1 later found chain.3 chain.6 in
                 rw (cond-false (leads_to link gone) place.next link (leads_to-other link own gone chain.0 other), without-later gone own rest other)
-                  (chain_from new owner own previous link place.next (without gone rest) kept (leads_to kept.next gone) here chain.0
-                    (λ within. chain.1 (Contains-from_without gone own rest within)) chain.4 chain.5 inner)
+                (chain_from new owner own previous link place.next (without gone rest) kept (leads_to kept.next gone) here chain.0
+                (λ within. chain.1 (Contains-from_without gone own rest within)) chain.4 chain.5 inner)
           ]
     ]

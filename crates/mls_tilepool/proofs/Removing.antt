@@ -1,15 +1,13 @@
 -- A tile that goes out of its owner's chain.
-use Rattle.std.proofs.Common.{◌≡◌, ◌≢◌, ℕ, zero, suc, ◌+◌, ◌-◌, ◌<◌, ◌≤◌, Bool, true, false, eqb, cond, List, [], ◌∷◌, length, get_or, Option, Some, None, refl, sym, ap, ◌∙◌, ◌⊎◌, inl, inr, arith, Contains}
+use Rattle.std.proofs.Common.{◌≡◌, ◌≢◌, ℕ, ◌-◌, ◌≤◌, Bool, true, false, eqb, cond, List, [], ◌∷◌, get_or, Option, Some, None, refl, sym, ap, ◌∙◌, ◌⊎◌, inl, inr, arith, Contains}
 use Rattle.std.specs.Option.{option_map}
-use Rattle.std.proofs.lemmas.Bool.{cases_eq, cases_Bool, cond-true, cond-false, eq-eqb, ne_eqb, false_from_ne_true}
-use Rattle.slab.proofs.SlabLemmas.{Contains-cons, Contains-cons_cases}
-use Rattle.slab.specs.Slab.{entries_from}
-use Rattle.mls_tilepool.specs.Pools.{Held, owned}
-use Rattle.mls_tilepool.specs.Chains.{IsChain, IsRow, held_of, leads_to, owned_slots}
+use Rattle.std.proofs.lemmas.Bool.{cases_eq, cases_Bool, cond-true, cond-false, eq-eqb, ne_eqb}
+use Rattle.slab.proofs.SlabLemmas.{Contains-cons_cases}
+use Rattle.mls_tilepool.specs.Pools.{owned}
+use Rattle.mls_tilepool.specs.Chains.{IsChain, IsRow, held_of, leads_to}
 use Rattle.mls_tilepool.specs.declared.chain.Place.{Place}
 use Rattle.mls_tilepool.specs.declared.chain.Row.{Row}
-use Rattle.mls_tilepool.specs.declared.tile.Tile.{Tile}
-use Rattle.mls_tilepool.proofs.Chains.{Contains-head, IsChain-head, IsChain-next, IsChain-owner, IsChain-previous, leads_to-other, leads_to-same, leads_to-true, option_map-some}
+use Rattle.mls_tilepool.proofs.Chains.{IsChain-next, IsChain-owner, IsChain-previous, leads_to-other, leads_to-same, leads_to-true, option_map-some}
 use Rattle.mls_tilepool.proofs.Relinking.{Contains-without, IsChain-unlinked, length-without, linked, linked-false, unlinked, with_next, with_previous, without}
 use Rattle.mls_tilepool.proofs.PoolChanges.{owned_count-change, owned-own, tile_count}
 use Rattle.mls_tilepool.proofs.Rows.{IsOwn, IsOwn-held, OthersStay}
@@ -29,11 +27,11 @@ abbrev pub first_after : Option ℕ → Option ℕ → Option ℕ → Option ℕ
 first_after None next link = next
 first_after (Some before) next link = link
 
-first_after-some : (previous next link : Option ℕ) (before : ℕ) → previous ≡ Some before → first_after previous next link ≡ link
+pub first_after-some : (previous next link : Option ℕ) (before : ℕ) → previous ≡ Some before → first_after previous next link ≡ link
 first_after-some None next link before some = cc
 first_after-some (Some own) next link before some = refl
 
-first_after-none : (previous next link : Option ℕ) → previous ≡ None → first_after previous next link ≡ next
+pub first_after-none : (previous next link : Option ℕ) → previous ≡ None → first_after previous next link ≡ next
 first_after-none None next link none = refl
 first_after-none (Some own) next link none = cc
 
@@ -69,7 +67,7 @@ module _ (old new : List (Option Place)) (owner : ℕ) (row : Row) (gone : ℕ) 
   removed_here removes =
       removes gone
       ∙ ap (λ s. linked (with_previous place.previous) place.next gone (linked (with_next place.next) place.previous gone s))
-          (cond-true (eqb gone gone) None (get_or old gone None) (eq-eqb gone gone refl))
+      (cond-true (eqb gone gone) None (get_or old gone None) (eq-eqb gone gone refl))
       ∙ ap (linked (with_previous place.previous) place.next gone) (linked-none (with_next place.next) (leads_to place.previous gone))
       ∙ linked-none (with_previous place.previous) (leads_to place.next gone)
 
@@ -104,7 +102,7 @@ module _ (old new : List (Option Place)) (owner : ℕ) (row : Row) (gone : ℕ) 
   removed_stay is found owns removes k =
       let inside = is.all gone place found owns in
       let own_there : Contains is.keys k → k ≢ gone → (get_or new k None ≡ get_or old k None) ⊎ (IsOwn owner (get_or old k None) × IsOwn owner (get_or new k None)) =
-          λ within differs. inr (chain_own is k within, IsOwn-held owner (get_or old k None) (get_or new k None) (removed_held removes k differs) (chain_own is k within)) in
+      λ within differs. inr (chain_own is k within, IsOwn-held owner (get_or old k None) (get_or new k None) (removed_held removes k differs) (chain_own is k within)) in
       elim (cases_eq k gone) [
         | inl same ↦
             let after : get_or new k None ≡ None = ap (λ x. get_or new x None) same ∙ removed_here removes in
@@ -117,9 +115,9 @@ module _ (old new : List (Option Place)) (owner : ℕ) (row : Row) (gone : ℕ) 
                     | inl leads ↦ own_there (previous_own is inside found k leads) differs
                     | inr no_previous ↦
                         inl (removes k
-                          ∙ linked-false (with_previous place.previous) place.next k _ no_next
-                          ∙ linked-false (with_next place.next) place.previous k _ no_previous
-                          ∙ cond-false (eqb k gone) None (get_or old k None) (ne_eqb k gone differs))
+                        ∙ linked-false (with_previous place.previous) place.next k _ no_next
+                        ∙ linked-false (with_next place.next) place.previous k _ no_previous
+                        ∙ cond-false (eqb k gone) None (get_or old k None) (ne_eqb k gone differs))
                   ]
             ]
       ]
@@ -136,12 +134,18 @@ module _ (old new : List (Option Place)) (owner : ℕ) (row : Row) (gone : ℕ) 
       let inside = is.all gone place found owns in
       let change = owned_count-change old new owner gone (removed_held removes) in
       let held : held_of (get_or old gone None) ≡ Some (record { owner = owner; tile = place.tile }) =
-          ap held_of found ∙ ap (λ o. Some (record { owner = o; tile = place.tile })) owns in
+      ap held_of found ∙ ap (λ o. Some (record { owner = o; tile = place.tile })) owns in
       record {
         some = is.some;
         within = omega (arith, is.within);
-        count = omega (arith, is.count, change, ap (λ slot. tile_count (owned owner slot)) held, ap tile_count (owned-own owner place.tile),
-            ap (λ slot. tile_count (owned owner (held_of slot))) (removed_here removes));
+        count = omega (
+          arith,
+          is.count,
+          change,
+          ap (λ slot. tile_count (owned owner slot)) held,
+          ap tile_count (owned-own owner place.tile),
+          ap (λ slot. tile_count (owned owner (held_of slot))) (removed_here removes),
+        );
         keys = without gone is.keys;
         chain = rw (first_leads old owner row.first is.keys gone place is.chain inside found)
             at (IsChain-unlinked old new owner None row.first is.keys gone place removes (λ k within. refl) inside found is.chain);

@@ -1,13 +1,11 @@
 -- Rows of owners while places change.
-use Rattle.std.proofs.Common.{◌≡◌, ◌≢◌, ℕ, zero, suc, ◌+◌, ◌<◌, ◌≤◌, Bool, true, false, eqb, cond, List, [], ◌∷◌, map, length, get_or, Option, Some, None, is_some, refl, sym, ap, ◌∙◌, ◌⊎◌, inl, inr, arith, Contains}
-use Rattle.std.proofs.lemmas.Bool.{cases_eq, cases_Bool, cond-true, cond-false, eq-eqb, ne_eqb}
+use Rattle.std.proofs.Common.{◌≡◌, ◌≢◌, ℕ, eqb, List, length, get_or, Option, Some, None, refl, sym, ap, ◌∙◌, ◌⊎◌, inl, inr}
+use Rattle.std.proofs.lemmas.Bool.{cond-false, ne_eqb}
 use Rattle.std.specs.Option.{option_map}
-use Rattle.slab.specs.Slab.{entries_from}
-use Rattle.mls_tilepool.specs.Pools.{Held, owned}
-use Rattle.mls_tilepool.specs.Chains.{IsChain, IsRow, held_of, leads_to, owned_slots}
+use Rattle.mls_tilepool.specs.Pools.{owned}
+use Rattle.mls_tilepool.specs.Chains.{IsRow, held_of, owned_slots}
 use Rattle.mls_tilepool.specs.declared.chain.Place.{Place}
 use Rattle.mls_tilepool.specs.declared.chain.Row.{Row}
-use Rattle.mls_tilepool.specs.declared.tile.Tile.{Tile}
 use Rattle.mls_tilepool.proofs.Slots.{entries_from-same}
 use Rattle.mls_tilepool.proofs.Chains.{IsChain-owner, IsChain-same, links_of, option_map-some}
 use Rattle.mls_tilepool.proofs.PoolChanges.{owned_at}
@@ -38,16 +36,16 @@ pub IsRow-others :
     (old new : List (Option Place)) (owner other : ℕ) (row : Row) → OthersStay owner old new → other ≢ owner → IsRow old other row → IsRow new other row
 IsRow-others old new owner other row stay differs is =
     let there : (key : ℕ) (place : Place) → get_or old key None ≡ Some place → place.owner ≡ other → get_or new key None ≡ get_or old key None =
-        λ key place found owns. elim (stay key) [ inl same ↦ same | inr own ↦ absurd (differs (sym owns ∙ own.0 place found)) ] in
+    λ key place found owns. elim (stay key) [ inl same ↦ same | inr own ↦ absurd (differs (sym owns ∙ own.0 place found)) ] in
     record {
       some = is.some;
       within = is.within;
       count = is.count ∙ ap length (sym (entries_from-same 0 (owned_slots other old) (owned_slots other new) (λ key.
           owned_at new other key
           ∙ elim (stay key) [
-              | inl same ↦ ap (λ slot. owned other (held_of slot)) same
-              | inr own ↦ IsOwn-other owner other (get_or new key None) differs own.1 ∙ sym (IsOwn-other owner other (get_or old key None) differs own.0)
-            ]
+            | inl same ↦ ap (λ slot. owned other (held_of slot)) same
+            | inr own ↦ IsOwn-other owner other (get_or new key None) differs own.1 ∙ sym (IsOwn-other owner other (get_or old key None) differs own.0)
+          ]
           ∙ sym (owned_at old other key))));
       keys = is.keys;
       chain = IsChain-same old new other None row.first is.keys (λ key inside.

@@ -1,16 +1,16 @@
 -- What adding, replacing and removing a tile leave of a pool.
-use Rattle.std.proofs.Common.{◌≡◌, ◌≢◌, ℕ, zero, suc, ◌+◌, ◌-◌, ◌<◌, ◌≤◌, Bool, true, false, eqb, cond, List, [], ◌∷◌, map, length, get_or, set, Option, Some, None, IsSome, IfSome, is_some, refl, sym, ap, ◌∙◌, ◌⊎◌, inl, inr, arith, Contains}
+use Rattle.std.proofs.Common.{◌≡◌, ◌≢◌, ℕ, ◌+◌, ◌-◌, ◌<◌, ◌≤◌, eqb, cond, List, set, Option, Some, None, refl, sym, ap, ◌∙◌, inl, inr, arith}
 use Rattle.std.proofs.lemmas.Bool.{cases_eq, cond-true, cond-false, eq-eqb, ne_eqb}
 use Rattle.std.proofs.lemmas.List.{set-get_or}
-use Rattle.slab.specs.Slab.{Slab, ContainsKey, HasRoomFor, Updates, get, slab_len, with_value}
-use Rattle.mls_tilepool.specs.Pools.{Changes, Held, Pool, count_of, owned, tile_at, tiles_of}
-use Rattle.mls_tilepool.specs.Chains.{IsPool, IsRow, Links, held_of, pool_of}
+use Rattle.slab.specs.Slab.{Slab, Updates, get, slab_len, with_value}
+use Rattle.mls_tilepool.specs.Pools.{Changes, count_of, owned}
+use Rattle.mls_tilepool.specs.Chains.{IsPool, Links, held_of, pool_of}
 use Rattle.mls_tilepool.specs.declared.chain.Place.{Place}
 use Rattle.mls_tilepool.specs.declared.chain.Row.{Row}
 use Rattle.mls_tilepool.specs.declared.tile.Tile.{Tile}
 use Rattle.mls_tilepool.proofs.Adding.{AddsPlace, added_held, added_here, added_row, added_stay, fresh_place}
 use Rattle.mls_tilepool.proofs.PoolChanges.{Changes-from_places, held_at, owned-other, owned-own}
-use Rattle.mls_tilepool.proofs.PoolSteps.{IsPool-written, get-with_value, get-with_value_other, retiled, retiled_row, retiled_stay, slab_len-with_value}
+use Rattle.mls_tilepool.proofs.PoolSteps.{IsPool-written, get-with_value, get-with_value_other, retiled_row, retiled_stay, slab_len-with_value}
 use Rattle.mls_tilepool.proofs.PoolViews.{count_of-row, owned-held, owned-not, rooms_kept}
 use Rattle.mls_tilepool.proofs.Relinking.{linked, with_next, with_previous}
 use Rattle.mls_tilepool.proofs.Removing.{RemovesPlace, first_after, removed_counted, removed_held, removed_here, removed_row, removed_stay}
@@ -33,10 +33,10 @@ Changes-from_held :
     → Changes (pool_of capacity old.slots rows) (pool_of capacity new.slots rows') owner key slot
 Changes-from_held capacity old new rows rows' owner key slot here apart others rooms =
     Changes-from_places (pool_of capacity old.slots rows) (pool_of capacity new.slots rows') owner key slot
-      (ap (owned owner) (held_at new.slots key) ∙ here)
-      (λ other differs. ap (owned other) (held_at new.slots key) ∙ apart other differs ∙ sym (ap (owned other) (held_at old.slots key)))
-      (λ k differs. held_at new.slots k ∙ others k differs ∙ sym (held_at old.slots k))
-      rooms refl
+    (ap (owned owner) (held_at new.slots key) ∙ here)
+    (λ other differs. ap (owned other) (held_at new.slots key) ∙ apart other differs ∙ sym (ap (owned other) (held_at old.slots key)))
+    (λ k differs. held_at new.slots k ∙ others k differs ∙ sym (held_at old.slots k))
+    rooms refl
 
 module _ (capacity reserved : ℕ) (places : Slab Place) (rows : Slab Row) (owner : ℕ) (row : Row) (is : IsPool capacity reserved places rows) (row_is : get rows owner ≡ Some row) where
   -- adding
@@ -56,19 +56,19 @@ module _ (capacity reserved : ℕ) (places : Slab Place) (rows : Slab Row) (owne
     IsPool-added fits len space =
         let own = is.owners owner row row_is in
         IsPool-written capacity reserved places linked_up rows owner row added_to is row_is refl (links.capacity ∙ space)
-          (omega (arith, links.len, len))
-          (added_stay places.slots linked_up.slots owner row key tile own vacant adds)
-          (added_row places.slots linked_up.slots owner row key tile own fits vacant adds)
+        (omega (arith, links.len, len))
+        (added_stay places.slots linked_up.slots owner row key tile own vacant adds)
+        (added_row places.slots linked_up.slots owner row key tile own fits vacant adds)
 
     pub Changes-added : Changes (pool_of capacity places.slots rows.slots) (pool_of capacity linked_up.slots (with_value rows owner added_to).slots) owner key (Some tile)
     Changes-added =
         let own = is.owners owner row row_is in
         let here = ap held_of (added_here places.slots linked_up.slots owner row key tile own vacant adds) in
         Changes-from_held capacity places linked_up rows.slots (with_value rows owner added_to).slots owner key (Some tile)
-          (ap (owned owner) here ∙ owned-own owner tile)
-          (λ other differs. ap (owned other) here ∙ owned-other owner other tile differs ∙ sym (ap (λ s. owned other (held_of s)) vacant))
-          (added_held places.slots linked_up.slots owner row key tile adds)
-          (rooms_kept capacity reserved places rows is owner row row_is added_to refl)
+        (ap (owned owner) here ∙ owned-own owner tile)
+        (λ other differs. ap (owned other) here ∙ owned-other owner other tile differs ∙ sym (ap (λ s. owned other (held_of s)) vacant))
+        (added_held places.slots linked_up.slots owner row key tile adds)
+        (rooms_kept capacity reserved places rows is owner row row_is added_to refl)
 
     pub count_of-added :
         row.count < row.room → slab_len inserted ≡ slab_len places + 1 → inserted.capacity ≡ places.capacity
@@ -90,21 +90,21 @@ module _ (capacity reserved : ℕ) (places : Slab Place) (rows : Slab Row) (owne
       pub IsPool-retiled : IsPool capacity reserved with_tile rows
       IsPool-retiled =
           rw same_rows at (IsPool-written capacity reserved places with_tile rows owner row row is row_is refl refl
-            (omega (arith, slab_len-with_value places key place (record place { tile = tile }) found))
-            (retiled_stay places owner row key place tile found owns)
-            (retiled_row places owner row key place tile (is.owners owner row row_is) found owns))
+          (omega (arith, slab_len-with_value places key place (record place { tile = tile }) found))
+          (retiled_stay places owner row key place tile found owns)
+          (retiled_row places owner row key place tile (is.owners owner row row_is) found owns))
 
       pub Changes-retiled : Changes (pool_of capacity places.slots rows.slots) (pool_of capacity with_tile.slots rows.slots) owner key (Some tile)
       Changes-retiled =
           let here : get with_tile key ≡ Some (record place { tile = tile }) = get-with_value places key place (record place { tile = tile }) found in
           Changes-from_held capacity places with_tile rows.slots rows.slots owner key (Some tile)
-            (ap (λ s. owned owner (held_of s)) here ∙ owned-held owner (record place { tile = tile }) owns)
-            (λ other differs.
-              let not_own : place.owner ≢ other = λ same. differs (sym same ∙ owns) in
-              ap (λ s. owned other (held_of s)) here ∙ owned-not other (record place { tile = tile }) not_own
-              ∙ sym (ap (λ s. owned other (held_of s)) found ∙ owned-not other place not_own))
-            (λ k differs. ap held_of (get-with_value_other places key k place (record place { tile = tile }) found differs))
-            refl
+          (ap (λ s. owned owner (held_of s)) here ∙ owned-held owner (record place { tile = tile }) owns)
+          (λ other differs.
+          let not_own : place.owner ≢ other = λ same. differs (sym same ∙ owns) in
+          ap (λ s. owned other (held_of s)) here ∙ owned-not other (record place { tile = tile }) not_own
+          ∙ sym (ap (λ s. owned other (held_of s)) found ∙ owned-not other place not_own))
+          (λ k differs. ap held_of (get-with_value_other places key k place (record place { tile = tile }) found differs))
+          refl
 
       pub count_of-retiled : count_of (pool_of capacity with_tile.slots rows.slots) owner ≡ count_of (pool_of capacity places.slots rows.slots) owner
       count_of-retiled =
@@ -124,26 +124,26 @@ module _ (capacity reserved : ℕ) (places : Slab Place) (rows : Slab Row) (owne
       removes k =
           back.places k
           ∙ ap (linked (with_previous place.previous) place.next k)
-              (onward.places k ∙ ap (linked (with_next place.next) place.previous k) (updated places removed key None updates k))
+          (onward.places k ∙ ap (linked (with_next place.next) place.previous k) (updated places removed key None updates k))
 
       pub IsPool-removed : slab_len removed + 1 ≡ slab_len places → removed.capacity ≡ places.capacity → IsPool capacity reserved after (with_value rows owner removed_from)
       IsPool-removed len space =
           let own = is.owners owner row row_is in
           IsPool-written capacity reserved places after rows owner row removed_from is row_is refl (back.capacity ∙ onward.capacity ∙ space)
-            (omega (arith, back.len, onward.len, len, counted))
-            (removed_stay places.slots after.slots owner row key place own found owns removes)
-            (removed_row places.slots after.slots owner row key place own found owns removes)
+          (omega (arith, back.len, onward.len, len, counted))
+          (removed_stay places.slots after.slots owner row key place own found owns removes)
+          (removed_row places.slots after.slots owner row key place own found owns removes)
 
       pub Changes-removed : Changes (pool_of capacity places.slots rows.slots) (pool_of capacity after.slots (with_value rows owner removed_from).slots) owner key None
       Changes-removed =
           let here = ap held_of (removed_here places.slots after.slots owner row key place removes) in
           Changes-from_held capacity places after rows.slots (with_value rows owner removed_from).slots owner key None
-            (ap (owned owner) here)
-            (λ other differs.
-              ap (owned other) here
-              ∙ sym (ap (λ s. owned other (held_of s)) found ∙ owned-not other place (λ same. differs (sym same ∙ owns))))
-            (removed_held places.slots after.slots owner row key place removes)
-            (rooms_kept capacity reserved places rows is owner row row_is removed_from refl)
+          (ap (owned owner) here)
+          (λ other differs.
+          ap (owned other) here
+          ∙ sym (ap (λ s. owned other (held_of s)) found ∙ owned-not other place (λ same. differs (sym same ∙ owns))))
+          (removed_held places.slots after.slots owner row key place removes)
+          (rooms_kept capacity reserved places rows is owner row row_is removed_from refl)
 
       pub count_of-removed :
           slab_len removed + 1 ≡ slab_len places → removed.capacity ≡ places.capacity

@@ -1,11 +1,11 @@
 -- Lists of tiles with their keys, and what stands under a key.
-use Rattle.std.proofs.Common.{◌≡◌, ◌≢◌, ℕ, zero, suc, ◌+◌, ◌<◌, ◌≤◌, Bool, true, false, eqb, cond, List, [], ◌∷◌, map, length, get_or, Option, Some, None, is_some, count_by, refl, sym, ap, ◌∙◌, inl, inr, zero-add, add-zero, arith}
-use Rattle.std.specs.List.{All, AllPairs, Contains, sum_by}
+use Rattle.std.proofs.Common.{◌≡◌, ℕ, zero, suc, ◌+◌, ◌<◌, ◌≤◌, eqb, List, [], ◌∷◌, map, length, get_or, Option, Some, None, refl, sym, ap, ◌∙◌, inl, inr, zero-add, arith}
+use Rattle.std.specs.List.{All, AllPairs, Contains}
 use Rattle.std.proofs.lemmas.Bool.{cases_eq, cond-true, cond-false, eq-eqb, ne_eqb}
 use Rattle.std.proofs.Math.ListN.{get_or-map}
 use Rattle.slab.specs.Slab.{entries_from}
-use Rattle.slab.proofs.SlabLemmas.{Contains-cons, length-entries_from}
-use Rattle.mls_tilepool.specs.Pools.{Held, Pool, owned, tiles_of, tile_in, tile_at, count_of}
+use Rattle.slab.proofs.SlabLemmas.{Contains-cons}
+use Rattle.mls_tilepool.specs.Pools.{Held, Pool, owned, tiles_of, tile_in, tile_at}
 use Rattle.mls_tilepool.specs.declared.tile.Tile.{Tile}
 
 -- a tile found under a key stands in the list
@@ -19,7 +19,7 @@ tile_in_contains (entry ∷ rest) key tile found =
           (0, omega arith, (ap (λ k. (k, entry.1)) same ∙ ap (λ t. (key, t)) tiles))
       | inr differs ↦
           Contains-cons entry (key, tile) rest
-            (tile_in_contains rest key tile (sym (cond-false _ (Some entry.1) (tile_in rest key) (ne_eqb entry.0 key differs)) ∙ found))
+          (tile_in_contains rest key tile (sym (cond-false _ (Some entry.1) (tile_in rest key) (ne_eqb entry.0 key differs)) ∙ found))
     ]
 
 -- keys of entries begin at the first
@@ -85,3 +85,23 @@ tiles_of-ascend pool owner = entries_from-ascend 0 (map (owned owner) pool.place
 pub tiles_of-found : (pool : Pool) (owner : ℕ) → All (λ e. tile_at pool owner e.0 ≡ Some e.1) (tiles_of pool owner)
 unfolding tiles_of
 tiles_of-found pool owner = entries_from-found 0 (map (owned owner) pool.places)
+
+-- what is owned is under this owner
+owned-owner : (owner : ℕ) (slot : Option Held) (tile : Tile) → owned owner slot ≡ Some tile → (held : Held) × (slot ≡ Some held) × (held.owner ≡ owner)
+owned-owner owner None tile has = cc
+owned-owner owner (Some held) tile has =
+    elim (cases_eq held.owner owner) [
+      | inl same ↦ (held, refl, same)
+      | inr differs ↦ let none = cond-false (eqb held.owner owner) (Some held.tile) None (ne_eqb held.owner owner differs) in cc
+    ]
+
+-- two owners with a tile under one key are one owner
+pub tile_has_one_owner :
+    (pool : Pool) (first second key : ℕ) (tile other : Tile) → tile_at pool first key ≡ Some tile → tile_at pool second key ≡ Some other → first ≡ second
+tile_has_one_owner pool first second key tile other has has' =
+    let slot = get_or pool.places key None in
+    let a = owned-owner first slot tile (sym (tile_at-place pool first key) ∙ has) in
+    let b = owned-owner second slot other (sym (tile_at-place pool second key) ∙ has') in
+    let both : Some a.0 ≡ Some b.0 = sym a.1 ∙ b.1 in
+    let same : a.0 ≡ b.0 = cc in
+    sym a.2 ∙ ap (λ held. held.owner) same ∙ b.2

@@ -3,7 +3,7 @@ use Rattle.std.proofs.Common.{ℕ}
 use Rattle.mls_tilepool.specs.Pools.{tiles_of}
 use Rattle.mls_stitch.specs.Pending.{IsStitchedAt}
 use Rattle.mls_stitch.specs.declared.stitch.Stitch.{Stitch}
-use Rattle.mls_stitch.specs.declared.stitch.Stitch.TheVariants.{Lb, Bl, Tr, Rt}
+use Rattle.mls_stitch.specs.declared.stitch.Stitch.TheVariants.{Lb, Bl, Tr}
 use Rattle.mls_stitch.proofs.SettingStitches.{AreTiledAs-stitched, each_stitch}
 use Rattle.mls_stitch.proofs.stitching.stitch_listed.Goals as goal
 

@@ -1,7 +1,8 @@
 -- Each iteration sets the stitch of one entry, or finds that it is right.
 use Rattle.std.proofs.Common.{◌≡◌, ◌<◌, Some, length, ◌∙◌, ap, arith}
 use Rattle.mls_tilepool.specs.Pools.{Pool, count_of}
-use Rattle.mls_stitch.proofs.SettingStitches.{ArePartlyStitched-none, ArePartlyStitched-set, AreStitchedBy-end, ChangesOnly-more, set_there}
+use Rattle.mls_stitch.proofs.PoolChanges.{ChangesOnly-trans}
+use Rattle.mls_stitch.proofs.SettingStitches.{ArePartlyStitched-none, ArePartlyStitched-set, AreStitchedBy-end, set_there}
 use Rattle.mls_stitch.proofs.stitching.stitch_sorted.Goals as goal
 use Rattle.mls_stitch.proofs.stitching.stitch_sorted.Goals.{in-Some, in_default}
 
@@ -23,7 +24,7 @@ loop-entry-preserved c =
                 let (blocks, waits) = c.requires.awaiting in
                 let laid : blocks entry.id ≡ Some entry.piece = rw (← c.entry-item.is) at (waits.listed c.loop-entry.entry-index entry within) in
                 let (tile, change, only) = set_there blocks entry (so_far.stitched blocks waits).awaiting.placed laid w.set_stitch.ensures.changes in
-                rw w.pool-is (ChangesOnly-more so_far.only only);
+                rw w.pool-is (ChangesOnly-trans so_far.only only);
           }
       | in_default w ↦
           record {

@@ -12,5 +12,5 @@ returns-clause-within c =
     let s = c.self.inside in
     let row = c.index.result.now in
     rw (← c.self.view_is, ← c.owner.view_is)
-      (IfSome-at (λ room. row.count ≤ room) _ row.room (room_of-row s.capacity s.reserved s.places s.rows c.owner.inside.number row c.index.ensures)
-        (c.self.invariant.owners c.owner.inside.number row c.index.ensures).within)
+    (IfSome-at (λ room. row.count ≤ room) _ row.room (room_of-row s.capacity s.reserved s.places s.rows c.owner.inside.number row c.index.ensures)
+    (c.self.invariant.owners c.owner.inside.number row c.index.ensures).within)

@@ -1,7 +1,7 @@
 use Rattle.std.proofs.Common.{◌≡◌, ◌+◌, get_or, None, is_some, refl, sym, ap, ◌∙◌, arith}
-use Rattle.mls_tilepool.specs.Pools.{unreserved}
-use Rattle.mls_tilepool.proofs.OwnerCalls.{IsPool-let_go, OthersKeep, Reserves-from_released, Reserves-released, unreserved-released, unreserved-same}
-use Rattle.mls_tilepool.proofs.PoolViews.{IfSome-at, room_of-row}
+use Rattle.mls_tilepool.specs.Pools.{room_of, unreserved}
+use Rattle.mls_tilepool.proofs.OwnerCalls.{IsPool-let_go, Reserves-from_released, Reserves-released, unreserved-released, unreserved-same}
+use Rattle.mls_tilepool.proofs.PoolViews.{IfSome-at, owner_row, room_of-row}
 use Rattle.mls_tilepool.proofs.pool.Pool.release.Goals as goal
 
 pub loop-id-init : goal.loop-id-init
@@ -24,13 +24,37 @@ loop-id-preserved c =
     }
 
 pub remove-row-requires : goal.remove-row-requires
-remove-row-requires c = ?
+remove-row-requires c =
+    let s = c.self.inside in
+    owner_row s.capacity s.reserved s.places s.rows c.owner.inside.number
+    (ap is_some (ap (λ pool. room_of pool c.owner.inside.number) c.self.view_is ∙ ap (room_of c.loop-id.self) c.owner.view_is
+    ∙ ap (λ rooms. get_or rooms c.args.owner None) c.loop-id.invariant.rooms) ∙ c.requires)
 
 pub invariant_of-self : goal.invariant_of-self
-invariant_of-self c = ?
+invariant_of-self c =
+    let s = c.self.inside in
+    let gone = c.remove-row in
+    IsPool-let_go s.capacity s.reserved s.places s.rows gone.new.self c.owner.inside.number c.self.invariant gone.result gone.ensures.value gone.ensures.updates
+    gone.ensures.capacity (rw (c.self.view_is, c.owner.view_is) c.in_default.ensures.none)
 
 pub returns-clause-releases : goal.returns-clause-releases
-returns-clause-releases c = ?
+returns-clause-releases c =
+    let s = c.self.inside in
+    let gone = c.remove-row in
+    let released = Reserves-released s.capacity s.reserved s.places s.rows gone.new.self c.owner.inside.number c.self.invariant gone.result gone.ensures.value
+    gone.ensures.updates gone.ensures.capacity (rw (c.self.view_is, c.owner.view_is) c.in_default.ensures.none) in
+    Reserves-from_released c.args.self.now c.loop-id.self _ c.args.owner c.loop-id.invariant (rw (c.self.view_is, c.owner.view_is) at released)
 
 pub returns-clause-given_back : goal.returns-clause-given_back
-returns-clause-given_back c = ?
+returns-clause-given_back c =
+    let s = c.self.inside in
+    let gone = c.remove-row in
+    let owner = c.owner.inside.number in
+    let kept = c.loop-id.invariant in
+    let room = room_of-row s.capacity s.reserved s.places s.rows owner gone.result gone.ensures.value in
+    let left = unreserved-released s.capacity s.reserved s.places s.rows gone.new.self owner c.self.invariant gone.result gone.ensures.value
+    gone.ensures.updates gone.ensures.capacity (rw (c.self.view_is, c.owner.view_is) c.in_default.ensures.none) in
+    IfSome-at (λ room. unreserved _ ≡ unreserved c.args.self.now + room) _ gone.result.room
+    (sym (ap (λ pool. room_of pool owner) c.self.view_is ∙ ap (room_of c.loop-id.self) c.owner.view_is
+    ∙ ap (λ rooms. get_or rooms c.args.owner None) kept.rooms) ∙ room)
+    (left ∙ ap (λ n. n + gone.result.room) (ap unreserved c.self.view_is ∙ unreserved-same c.args.self.now c.loop-id.self kept.rooms kept.capacity))

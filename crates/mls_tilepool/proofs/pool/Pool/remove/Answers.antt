@@ -1,6 +1,6 @@
-use Rattle.std.proofs.Common.{◌≡◌, refl, sym, ap, ◌∙◌, arith}
+use Rattle.std.proofs.Common.{◌≡◌, sym, ◌∙◌}
 use Rattle.mls_tilepool.proofs.PoolViews.{place_owner, place_there, row_there, tile_at-place_own}
-use Rattle.mls_tilepool.proofs.Removing.{first_after}
+use Rattle.mls_tilepool.proofs.Removing.{first_after, first_after-none, first_after-some}
 use Rattle.mls_tilepool.proofs.TileCalls.{Changes-removed, IsPool-removed, count_of-removed, counted}
 use Rattle.mls_tilepool.proofs.pool.Pool.remove.Goals.{in-Some, in-None}
 use Rattle.mls_tilepool.proofs.pool.Pool.remove.Goals as goal
@@ -27,7 +27,13 @@ overflow_sub-row c =
 
 -- the row's first tile, as the code finds it
 first_is : (c : goal.After-self-1) → c.match-place.first ≡ first_after c.remove-place.result.previous c.remove-place.result.next c.index-row.result.now.first
-first_is c = ?
+first_is c =
+    let place = c.remove-place.result in
+    let link = c.index-row.result.now.first in
+    elim c.match-place.branch [
+      | in-Some w ↦ w.first-is ∙ sym (first_after-some place.previous place.next link _ w.in-Some.is)
+      | in-None w ↦ w.first-is ∙ sym (first_after-none place.previous place.next link w.in-None.is)
+    ]
 
 pub invariant_of-self : goal.invariant_of-self
 invariant_of-self c =
@@ -38,9 +44,9 @@ invariant_of-self c =
     let found = c.remove-place.ensures.value in
     let owns = place_owner s.capacity s.reserved s.places s.rows owner key place (rw (c.self.view_is, c.id.view_is, c.owner.view_is) c.requires) found in
     rw (first_is c)
-      (IsPool-removed s.capacity s.reserved s.places s.rows owner c.index-row.result.now c.self.invariant c.index-row.ensures key place found owns
-        c.remove-place.new.self c.link_next.new.places c.link_previous.new.places c.remove-place.ensures.updates c.link_next.ensures.links c.link_previous.ensures.links
-        c.remove-place.ensures.len c.remove-place.ensures.capacity)
+    (IsPool-removed s.capacity s.reserved s.places s.rows owner c.index-row.result.now c.self.invariant c.index-row.ensures key place found owns
+    c.remove-place.new.self c.link_next.new.places c.link_previous.new.places c.remove-place.ensures.updates c.link_next.ensures.links c.link_previous.ensures.links
+    c.remove-place.ensures.len c.remove-place.ensures.capacity)
 
 pub returns-clause-tile : goal.returns-clause-tile
 returns-clause-tile c =
@@ -61,8 +67,8 @@ returns-clause-changes c =
     let found = c.remove-place.ensures.value in
     let owns = place_owner s.capacity s.reserved s.places s.rows owner key place (rw (c.self.view_is, c.id.view_is, c.owner.view_is) c.requires) found in
     rw (← c.self.view_is, ← c.owner.view_is, ← c.id.view_is, first_is c)
-      (Changes-removed s.capacity s.reserved s.places s.rows owner c.index-row.result.now c.self.invariant c.index-row.ensures key place found owns
-        c.remove-place.new.self c.link_next.new.places c.link_previous.new.places c.remove-place.ensures.updates c.link_next.ensures.links c.link_previous.ensures.links)
+    (Changes-removed s.capacity s.reserved s.places s.rows owner c.index-row.result.now c.self.invariant c.index-row.ensures key place found owns
+    c.remove-place.new.self c.link_next.new.places c.link_previous.new.places c.remove-place.ensures.updates c.link_next.ensures.links c.link_previous.ensures.links)
 
 pub returns-clause-count : goal.returns-clause-count
 returns-clause-count c =
@@ -73,6 +79,6 @@ returns-clause-count c =
     let found = c.remove-place.ensures.value in
     let owns = place_owner s.capacity s.reserved s.places s.rows owner key place (rw (c.self.view_is, c.id.view_is, c.owner.view_is) c.requires) found in
     rw (← c.self.view_is, ← c.owner.view_is, first_is c)
-      (count_of-removed s.capacity s.reserved s.places s.rows owner c.index-row.result.now c.self.invariant c.index-row.ensures key place found owns
-        c.remove-place.new.self c.link_next.new.places c.link_previous.new.places c.remove-place.ensures.updates c.link_next.ensures.links c.link_previous.ensures.links
-        c.remove-place.ensures.len c.remove-place.ensures.capacity)
+    (count_of-removed s.capacity s.reserved s.places s.rows owner c.index-row.result.now c.self.invariant c.index-row.ensures key place found owns
+    c.remove-place.new.self c.link_next.new.places c.link_previous.new.places c.remove-place.ensures.updates c.link_next.ensures.links c.link_previous.ensures.links
+    c.remove-place.ensures.len c.remove-place.ensures.capacity)

@@ -1,4 +1,4 @@
-use Rattle.std.proofs.Common.{◌+◌, ◌≤◌, refl, arith}
+use Rattle.std.proofs.Common.{refl, arith}
 use Rattle.std.proofs.lemmas.Bool.{false≢true}
 use Rattle.mls_tilepool.proofs.OwnerCalls.{Reserves-reserved, unreserved-reserved}
 use Rattle.mls_tilepool.proofs.PoolSteps.{IsPool-reserved, room_for_row}
@@ -21,7 +21,7 @@ invariant_of-self c =
     let s = c.self.inside in
     let done = c.insert_reserved-number in
     IsPool-reserved s.capacity s.reserved c.args.tiles s.places s.rows done.new.self done.result c.self.invariant
-      done.ensures.was_vacant done.ensures.updates done.ensures.capacity c.requires (omega (arith, c.if-self-tiles.false, c.self.invariant.within))
+    done.ensures.was_vacant done.ensures.updates done.ensures.capacity c.requires (omega (arith, c.if-self-tiles.false, c.self.invariant.within))
 
 pub returns-clause-full : goal.returns-clause-full
 returns-clause-full c =
@@ -34,12 +34,12 @@ returns-clause-reserves c =
     let s = c.self.inside in
     let done = c.insert_reserved-number in
     rw (← c.self.view_is)
-      (Reserves-reserved s.capacity s.reserved s.places s.rows done.new.self done.result c.self.invariant c.args.tiles done.ensures.was_vacant done.ensures.updates)
+    (Reserves-reserved s.capacity s.reserved s.places s.rows done.new.self done.result c.self.invariant c.args.tiles done.ensures.was_vacant done.ensures.updates)
 
 pub returns-clause-taken : goal.returns-clause-taken
 returns-clause-taken c =
     let s = c.self.inside in
     let done = c.insert_reserved-number in
     rw (← c.self.view_is)
-      (unreserved-reserved s.capacity s.reserved s.places s.rows done.new.self done.result c.self.invariant c.args.tiles done.ensures.was_vacant done.ensures.updates
-        done.ensures.capacity c.requires (omega (arith, c.if-self-tiles.false, c.self.invariant.within)))
+    (unreserved-reserved s.capacity s.reserved s.places s.rows done.new.self done.result c.self.invariant c.args.tiles done.ensures.was_vacant done.ensures.updates
+    done.ensures.capacity c.requires (omega (arith, c.if-self-tiles.false, c.self.invariant.within)))

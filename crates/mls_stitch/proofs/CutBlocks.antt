@@ -1,0 +1,288 @@
+-- Blocks cut in two by a line, and two blocks as one: the parts have exactly the squares of the whole.
+use Rattle.std.proofs.Common.{◌≡◌, ◌≢◌, ◌⊎◌, ℕ, ◌<◌, true, IsTrue, List, [], ◌∷◌, Option, Some, IsSome, All, AllPairs, Any, inl, inr, refl, sym, ap, ◌∙◌, subst, arith}
+use Rattle.std.proofs.lemmas.Bool.{cases_lt}
+use Rattle.std.proofs.lemmas.List.Elements.{All-cons, All-nil}
+use Rattle.std.proofs.lemmas.List.Kept.{AllPairs-cons}
+use Rattle.std.proofs.lemmas.Option.{same_Some}
+use Rattle.mls_geom.specs.Rects.{Point, IsRectangleIn, holds}
+use Rattle.mls_geom.specs.World.{world}
+use Rattle.mls_geom.specs.declared.piece.Piece.{Piece}
+use Rattle.mls_geom.proofs.Ascending.{Contains-first, Contains-rest}
+use Rattle.mls_geom.proofs.Holds.{between_holds, holds_between}
+use Rattle.mls_stitch.specs.Replacements.{AreApart, TakePlace}
+use Rattle.mls_stitch.specs.Splits.{JoinInX, JoinInY, joined_x, joined_y, left_of, lower_of, right_of, upper_of}
+use Rattle.mls_stitch.specs.Stitches.{HoldsAt}
+use Rattle.mls_stitch.specs.Tilings.{AreBlocks}
+use Rattle.mls_stitch.proofs.FreshTiles.{Contains-first_or_rest, nothing_in_nil}
+use Rattle.mls_stitch.proofs.ReplacedStitches.{Any-contained}
+use Rattle.mls_stitch.proofs.Sides.{HoldsAt-block, holds-HoldsAt, legal-AreBlocks}
+
+-- two pieces have the squares of a third, each once, and its kind
+pub record AreParts (whole first second : Piece) : Type 0 where
+  pub in_first : (at : Point) → holds first.rect at.x at.y ≡ true → holds whole.rect at.x at.y ≡ true
+  pub in_second : (at : Point) → holds second.rect at.x at.y ≡ true → holds whole.rect at.x at.y ≡ true
+  pub either : (at : Point) → holds whole.rect at.x at.y ≡ true → (holds first.rect at.x at.y ≡ true) ⊎ (holds second.rect at.x at.y ≡ true)
+  pub apart : AreApart first second
+  pub first_kind : first.kind ≡ whole.kind
+  pub second_kind : second.kind ≡ whole.kind
+
+-- a line through a block cuts it into two parts
+pub parts_x : (block : Piece) (x : ℕ) → block.rect.left < x → x < block.rect.right → AreParts block (left_of x block) (right_of x block)
+parts_x block x after before = record {
+  in_first = λ at inside.
+      let lines = holds_between (left_of x block).rect at.x at.y inside in
+      between_holds block.rect at.x at.y lines.0 (omega (arith, lines.1, before)) lines.2 lines.3;
+  in_second = λ at inside.
+      let lines = holds_between (right_of x block).rect at.x at.y inside in
+      between_holds block.rect at.x at.y (omega (arith, lines.0, after)) lines.1 lines.2 lines.3;
+  either = λ at inside.
+      let lines = holds_between block.rect at.x at.y inside in
+      elim (cases_lt at.x x) [
+        | inl below ↦ inl (between_holds (left_of x block).rect at.x at.y lines.0 below lines.2 lines.3)
+        | inr above ↦ inr (between_holds (right_of x block).rect at.x at.y above lines.1 lines.2 lines.3)
+      ];
+  apart = λ at in_left in_right.
+      let lines = holds_between (left_of x block).rect at.x at.y in_left in
+      let lines' = holds_between (right_of x block).rect at.x at.y in_right in
+      omega (arith, lines.1, lines'.0);
+  first_kind = refl;
+  second_kind = refl;
+}
+
+pub parts_y : (block : Piece) (y : ℕ) → block.rect.bottom < y → y < block.rect.top → AreParts block (lower_of y block) (upper_of y block)
+parts_y block y after before = record {
+  in_first = λ at inside.
+      let lines = holds_between (lower_of y block).rect at.x at.y inside in
+      between_holds block.rect at.x at.y lines.0 lines.1 lines.2 (omega (arith, lines.3, before));
+  in_second = λ at inside.
+      let lines = holds_between (upper_of y block).rect at.x at.y inside in
+      between_holds block.rect at.x at.y lines.0 lines.1 (omega (arith, lines.2, after)) lines.3;
+  either = λ at inside.
+      let lines = holds_between block.rect at.x at.y inside in
+      elim (cases_lt at.y y) [
+        | inl below ↦ inl (between_holds (lower_of y block).rect at.x at.y lines.0 lines.1 lines.2 below)
+        | inr above ↦ inr (between_holds (upper_of y block).rect at.x at.y lines.0 lines.1 above lines.3)
+      ];
+  apart = λ at in_lower in_upper.
+      let lines = holds_between (lower_of y block).rect at.x at.y in_lower in
+      let lines' = holds_between (upper_of y block).rect at.x at.y in_upper in
+      omega (arith, lines.3, lines'.2);
+  first_kind = refl;
+  second_kind = refl;
+}
+
+-- which are rectangles of the world where the block is one
+pub legal-parts_x :
+    (block : Piece) (x : ℕ) → IsRectangleIn world block.rect → block.rect.left < x → x < block.rect.right
+    → IsRectangleIn world (left_of x block).rect × IsRectangleIn world (right_of x block).rect
+legal-parts_x block x legal after before = (
+  record { left_in = legal.left_in; wide = after; right_in = omega (arith, legal.right_in, before); bottom_in = legal.bottom_in; tall = legal.tall; top_in = legal.top_in },
+  record { left_in = omega (arith, legal.left_in, after); wide = before; right_in = legal.right_in; bottom_in = legal.bottom_in; tall = legal.tall; top_in = legal.top_in },
+)
+
+pub legal-parts_y :
+    (block : Piece) (y : ℕ) → IsRectangleIn world block.rect → block.rect.bottom < y → y < block.rect.top
+    → IsRectangleIn world (lower_of y block).rect × IsRectangleIn world (upper_of y block).rect
+legal-parts_y block y legal after before = (
+  record { left_in = legal.left_in; wide = legal.wide; right_in = legal.right_in; bottom_in = legal.bottom_in; tall = after; top_in = omega (arith, legal.top_in, before) },
+  record { left_in = legal.left_in; wide = legal.wide; right_in = legal.right_in; bottom_in = omega (arith, legal.bottom_in, after); tall = before; top_in = legal.top_in },
+)
+
+-- two blocks that share a whole side are the parts of both together
+pub parts-joined_x : (a b : Piece) → IsRectangleIn world a.rect → IsRectangleIn world b.rect → JoinInX a b → AreParts (joined_x a b) a b
+parts-joined_x a b legal_a legal_b join = record {
+  in_first = λ at inside.
+      let lines = holds_between a.rect at.x at.y inside in
+      between_holds (joined_x a b).rect at.x at.y lines.0 (omega (arith, lines.1, join.meet, legal_b.wide)) lines.2 lines.3;
+  in_second = λ at inside.
+      let lines = holds_between b.rect at.x at.y inside in
+      between_holds (joined_x a b).rect at.x at.y (omega (arith, lines.0, join.meet, legal_a.wide)) lines.1 (omega (arith, lines.2, join.bottoms)) (omega (arith, lines.3, join.tops));
+  either = λ at inside.
+      let lines = holds_between (joined_x a b).rect at.x at.y inside in
+      elim (cases_lt at.x a.rect.right) [
+        | inl below ↦ inl (between_holds a.rect at.x at.y lines.0 below lines.2 lines.3)
+        | inr above ↦ inr (between_holds b.rect at.x at.y (omega (arith, above, join.meet)) lines.1 (omega (arith, lines.2, join.bottoms)) (omega (arith, lines.3, join.tops)))
+      ];
+  apart = λ at in_a in_b.
+      let lines = holds_between a.rect at.x at.y in_a in
+      let lines' = holds_between b.rect at.x at.y in_b in
+      omega (arith, lines.1, lines'.0, join.meet);
+  first_kind = refl;
+  second_kind = join.kinds;
+}
+
+pub parts-joined_y : (a b : Piece) → IsRectangleIn world a.rect → IsRectangleIn world b.rect → JoinInY a b → AreParts (joined_y a b) a b
+parts-joined_y a b legal_a legal_b join = record {
+  in_first = λ at inside.
+      let lines = holds_between a.rect at.x at.y inside in
+      between_holds (joined_y a b).rect at.x at.y lines.0 lines.1 lines.2 (omega (arith, lines.3, join.meet, legal_b.tall));
+  in_second = λ at inside.
+      let lines = holds_between b.rect at.x at.y inside in
+      between_holds (joined_y a b).rect at.x at.y (omega (arith, lines.0, join.lefts)) (omega (arith, lines.1, join.rights)) (omega (arith, lines.2, join.meet, legal_a.tall)) lines.3;
+  either = λ at inside.
+      let lines = holds_between (joined_y a b).rect at.x at.y inside in
+      elim (cases_lt at.y a.rect.top) [
+        | inl below ↦ inl (between_holds a.rect at.x at.y lines.0 lines.1 lines.2 below)
+        | inr above ↦ inr (between_holds b.rect at.x at.y (omega (arith, lines.0, join.lefts)) (omega (arith, lines.1, join.rights)) (omega (arith, above, join.meet)) lines.3)
+      ];
+  apart = λ at in_a in_b.
+      let lines = holds_between a.rect at.x at.y in_a in
+      let lines' = holds_between b.rect at.x at.y in_b in
+      omega (arith, lines.3, lines'.2, join.meet);
+  first_kind = refl;
+  second_kind = join.kinds;
+}
+
+-- which is a rectangle of the world where they are
+pub legal-joined_x : (a b : Piece) → IsRectangleIn world a.rect → IsRectangleIn world b.rect → JoinInX a b → IsRectangleIn world (joined_x a b).rect
+legal-joined_x a b legal_a legal_b join = record {
+  left_in = legal_a.left_in;
+  wide = omega (arith, legal_a.wide, legal_b.wide, join.meet);
+  right_in = legal_b.right_in;
+  bottom_in = legal_a.bottom_in;
+  tall = legal_a.tall;
+  top_in = legal_a.top_in;
+}
+
+pub legal-joined_y : (a b : Piece) → IsRectangleIn world a.rect → IsRectangleIn world b.rect → JoinInY a b → IsRectangleIn world (joined_y a b).rect
+legal-joined_y a b legal_a legal_b join = record {
+  left_in = legal_a.left_in;
+  wide = legal_a.wide;
+  right_in = legal_a.right_in;
+  bottom_in = legal_a.bottom_in;
+  tall = omega (arith, legal_a.tall, legal_b.tall, join.meet);
+  top_in = legal_b.top_in;
+}
+
+-- lists of one and of two
+All-one : {X : Type 0} (P : X → Type 0) (x : X) → P x → All P (x ∷ [])
+All-one P x here = All-cons P x [] here (All-nil P)
+
+All-two : {X : Type 0} (P : X → Type 0) (x y : X) → P x → P y → All P (x ∷ y ∷ [])
+All-two P x y here there = All-cons P x (y ∷ []) here (All-one P y there)
+
+AllPairs-one : {X : Type 0} (R : X → X → Type 0) (x : X) → AllPairs R (x ∷ [])
+AllPairs-one R x i j d before within = absurd (omega (arith, before, within))
+
+AllPairs-two : {X : Type 0} (R : X → X → Type 0) (x y : X) → R x y → AllPairs R (x ∷ y ∷ [])
+AllPairs-two R x y related = AllPairs-cons R x (y ∷ []) (All-one (R x) y related) (AllPairs-one R y)
+
+Any-one : {X : Type 0} (P : X → Type 0) (x : X) → Any P (x ∷ []) → P x
+Any-one P x (k, y, within, is, here) = elim (Contains-first_or_rest x y [] (k, within, is)) [
+  | inl same ↦ subst P (sym same) here
+  | inr later ↦ absurd (nothing_in_nil y later)
+]
+
+Any-two : {X : Type 0} (P : X → Type 0) (x y : X) → Any P (x ∷ y ∷ []) → P x ⊎ P y
+Any-two P x y (k, z, within, is, here) = elim (Contains-first_or_rest x z (y ∷ []) (k, within, is)) [
+  | inl same ↦ inl (subst P (sym same) here)
+  | inr (j, within', is') ↦ inr (Any-one P y (j, z, within', is', here))
+]
+
+Any-first : {X : Type 0} (P : X → Type 0) (x : X) (xs : List X) → P x → Any P (x ∷ xs)
+Any-first P x xs here = Any-contained P (x ∷ xs) x (Contains-first x x xs refl) here
+
+Any-second : {X : Type 0} (P : X → Type 0) (x y : X) (xs : List X) → P y → Any P (x ∷ y ∷ xs)
+Any-second P x y xs here = Any-contained P (x ∷ y ∷ xs) y (Contains-rest x y (y ∷ xs) (Contains-first y y xs refl)) here
+
+-- a block that is there
+IsSome-there : {X : Type 0} (o : Option X) (x : X) → o ≡ Some x → IsSome o
+IsSome-there o x is = subst IsSome (sym is) refl
+
+-- the piece has the square
+abbrev Has : Point → Piece → Type 0
+Has at piece = IsTrue (holds piece.rect at.x at.y)
+
+-- the parts of a tile's block take its place
+pub TakePlace-parts :
+    (blocks : ℕ → Option Piece) (tile : ℕ) (whole first second : Piece) → blocks tile ≡ Some whole → AreParts whole first second → IsRectangleIn world first.rect
+    → IsRectangleIn world second.rect → TakePlace blocks (tile ∷ []) (first ∷ second ∷ [])
+TakePlace-parts blocks tile whole first second is parts legal_first legal_second = record {
+  there = All-one (λ key. IsSome (blocks key)) tile (IsSome-there (blocks tile) whole is);
+  once = AllPairs-one (λ a b. a ≢ b) tile;
+  legal = All-two (λ p. IsRectangleIn world p.rect) first second legal_first legal_second;
+  apart = AllPairs-two AreApart first second parts.apart;
+  same = λ at. (
+    λ held.
+        let inside = holds-HoldsAt blocks tile whole at is (Any-one (λ key. HoldsAt blocks key at) tile held) in
+        elim (parts.either at inside) [
+          | inl in_first ↦ Any-first (Has at) first (second ∷ []) in_first
+          | inr in_second ↦ Any-second (Has at) first second [] in_second
+        ],
+    λ shared.
+        let inside : holds whole.rect at.x at.y ≡ true = elim (Any-two (Has at) first second shared) [
+          | inl in_first ↦ parts.in_first at in_first
+          | inr in_second ↦ parts.in_second at in_second
+        ] in
+        Any-first (λ key. HoldsAt blocks key at) tile [] (HoldsAt-block blocks tile whole at is inside),
+  );
+}
+
+-- and a block takes the places of its parts' tiles
+pub TakePlace-whole :
+    (blocks : ℕ → Option Piece) (a b : ℕ) (whole first second : Piece) → blocks a ≡ Some first → blocks b ≡ Some second → a ≢ b → AreParts whole first second
+    → IsRectangleIn world whole.rect → TakePlace blocks (a ∷ b ∷ []) (whole ∷ [])
+TakePlace-whole blocks a b whole first second is_first is_second differ parts legal = record {
+  there = All-two (λ key. IsSome (blocks key)) a b (IsSome-there (blocks a) first is_first) (IsSome-there (blocks b) second is_second);
+  once = AllPairs-two (λ k l. k ≢ l) a b differ;
+  legal = All-one (λ p. IsRectangleIn world p.rect) whole legal;
+  apart = AllPairs-one AreApart whole;
+  same = λ at. (
+    λ held.
+        let inside : holds whole.rect at.x at.y ≡ true = elim (Any-two (λ key. HoldsAt blocks key at) a b held) [
+          | inl held_a ↦ parts.in_first at (holds-HoldsAt blocks a first at is_first held_a)
+          | inr held_b ↦ parts.in_second at (holds-HoldsAt blocks b second at is_second held_b)
+        ] in
+        Any-first (Has at) whole [] inside,
+    λ shared. elim (parts.either at (Any-one (Has at) whole shared)) [
+      | inl in_first ↦ Any-first (λ key. HoldsAt blocks key at) a (b ∷ []) (HoldsAt-block blocks a first at is_first in_first)
+      | inr in_second ↦ Any-second (λ key. HoldsAt blocks key at) a b [] (HoldsAt-block blocks b second at is_second in_second)
+    ],
+  );
+}
+
+-- blocks that join are two
+pub differ_x : (blocks : ℕ → Option Piece) (left right : ℕ) (a b : Piece) → AreBlocks blocks → blocks left ≡ Some a → blocks right ≡ Some b → JoinInX a b → left ≢ right
+differ_x blocks left right a b tiling is_a is_b join same =
+    let legal = legal-AreBlocks blocks left a tiling is_a in
+    let one : a ≡ b = same_Some a b (sym is_a ∙ ap blocks same ∙ is_b) in
+    omega (arith, legal.wide, join.meet, ap (λ p. p.rect.left) one)
+
+pub differ_y : (blocks : ℕ → Option Piece) (lower upper : ℕ) (a b : Piece) → AreBlocks blocks → blocks lower ≡ Some a → blocks upper ≡ Some b → JoinInY a b → lower ≢ upper
+differ_y blocks lower upper a b tiling is_a is_b join same =
+    let legal = legal-AreBlocks blocks lower a tiling is_a in
+    let one : a ≡ b = same_Some a b (sym is_a ∙ ap blocks same ∙ is_b) in
+    omega (arith, legal.tall, join.meet, ap (λ p. p.rect.bottom) one)
+
+-- so it is with each cut and each join
+pub TakePlace-cut_x :
+    (blocks : ℕ → Option Piece) (tile : ℕ) (block : Piece) (x : ℕ) → AreBlocks blocks → blocks tile ≡ Some block → block.rect.left < x → x < block.rect.right
+    → TakePlace blocks (tile ∷ []) (left_of x block ∷ right_of x block ∷ [])
+TakePlace-cut_x blocks tile block x tiling is after before =
+    let legal = legal-parts_x block x (legal-AreBlocks blocks tile block tiling is) after before in
+    TakePlace-parts blocks tile block (left_of x block) (right_of x block) is (parts_x block x after before) legal.0 legal.1
+
+pub TakePlace-cut_y :
+    (blocks : ℕ → Option Piece) (tile : ℕ) (block : Piece) (y : ℕ) → AreBlocks blocks → blocks tile ≡ Some block → block.rect.bottom < y → y < block.rect.top
+    → TakePlace blocks (tile ∷ []) (lower_of y block ∷ upper_of y block ∷ [])
+TakePlace-cut_y blocks tile block y tiling is after before =
+    let legal = legal-parts_y block y (legal-AreBlocks blocks tile block tiling is) after before in
+    TakePlace-parts blocks tile block (lower_of y block) (upper_of y block) is (parts_y block y after before) legal.0 legal.1
+
+pub TakePlace-join_x :
+    (blocks : ℕ → Option Piece) (left right : ℕ) (a b : Piece) → AreBlocks blocks → blocks left ≡ Some a → blocks right ≡ Some b → JoinInX a b
+    → TakePlace blocks (left ∷ right ∷ []) (joined_x a b ∷ [])
+TakePlace-join_x blocks left right a b tiling is_a is_b join =
+    let legal_a = legal-AreBlocks blocks left a tiling is_a in
+    let legal_b = legal-AreBlocks blocks right b tiling is_b in
+    TakePlace-whole blocks left right (joined_x a b) a b is_a is_b (differ_x blocks left right a b tiling is_a is_b join) (parts-joined_x a b legal_a legal_b join)
+    (legal-joined_x a b legal_a legal_b join)
+
+pub TakePlace-join_y :
+    (blocks : ℕ → Option Piece) (lower upper : ℕ) (a b : Piece) → AreBlocks blocks → blocks lower ≡ Some a → blocks upper ≡ Some b → JoinInY a b
+    → TakePlace blocks (lower ∷ upper ∷ []) (joined_y a b ∷ [])
+TakePlace-join_y blocks lower upper a b tiling is_a is_b join =
+    let legal_a = legal-AreBlocks blocks lower a tiling is_a in
+    let legal_b = legal-AreBlocks blocks upper b tiling is_b in
+    TakePlace-whole blocks lower upper (joined_y a b) a b is_a is_b (differ_y blocks lower upper a b tiling is_a is_b join) (parts-joined_y a b legal_a legal_b join)
+    (legal-joined_y a b legal_a legal_b join)
