@@ -1,6 +1,7 @@
 -- The tiles on the left side of an area, from the bottom up.
 use Rattle.std.proofs.Common.{◌≡◌, ◌≢◌, ℕ, ◌<◌, ◌≤◌, true, List, [], ◌∷◌, ◌++◌, length, get_or, Option, All, Any, AllPairs, Contains, inl, inr, refl, ap, ◌∙◌, arith}
 use Rattle.std.proofs.lemmas.Bool.{cases_lt}
+use Rattle.std.proofs.lemmas.List.{length_push}
 use Rattle.std.proofs.lemmas.List.Elements.{All-push, All-nil}
 use Rattle.std.proofs.lemmas.List.Quantifiers.{Any-push, all_pairs_push}
 use Rattle.mls_geom.specs.Rects.{Rect, IsRectangleIn, holds}
@@ -9,9 +10,11 @@ use Rattle.mls_geom.specs.declared.piece.Piece.{Piece}
 use Rattle.mls_geom.proofs.Holds.{holds_between, between_holds}
 use Rattle.mls_stitch.specs.Areas.{IsFound}
 use Rattle.mls_stitch.specs.Enumerations.{IsListedTo, IsReached, IsSideListedTo, first_row}
-use Rattle.mls_stitch.specs.Tilings.{AreBlocks}
+use Rattle.mls_stitch.specs.Tilings.{AreBlocks, IsPlane, block_at}
 use Rattle.mls_stitch.specs.Walks.{IsLaidAt}
 use Rattle.mls_stitch.specs.declared.laid_tile.LaidTile.{LaidTile}
+use Rattle.mls_tilepool.specs.declared.tile.Tile.{Tile}
+use Rattle.mls_stitch.proofs.ListedTiles.{length-le-AreLaid}
 use Rattle.mls_stitch.proofs.Listings.{any_push, found_with, first_row_found, same_tile}
 use Rattle.mls_stitch.proofs.Sides.{legal-AreBlocks}
 
@@ -71,3 +74,11 @@ side_whole blocks area list line tiling inside listed reaches = record {
         absurd (omega (arith, above, rows.3, inside.top_in))
   ];
 }
+
+-- there is room for the next tile
+pub side_fits :
+    (tiles : List (ℕ × Tile)) (area : Rect) (list : List LaidTile) (line : ℕ) (tile : LaidTile) → IsPlane tiles → IsRectangleIn world area → IsSideListedTo (block_at tiles) area list line
+    → area.bottom ≤ line → line < area.top → IsLaidAt (block_at tiles) (record { x = area.left; y = line }) tile → length list < length tiles
+side_fits tiles area list line tile plane inside listed low high is =
+    let longer = side_push (block_at tiles) area list line tile plane.tiling inside listed low high is in
+    omega (arith, length_push list tile, length-le-AreLaid tiles (list ++ tile ∷ []) (λ k d within. (longer.each k d within).laid) longer.once)
