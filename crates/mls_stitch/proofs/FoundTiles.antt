@@ -92,8 +92,8 @@ area_found blocks area list sorted tiling inside listed moved none =
       each = each;
       whole = λ x y held. any_moved (λ tile. holds tile.piece.rect x y ≡ true) list sorted moved (listed_whole blocks area list tiling inside listed x y held);
       ordered = λ i j d before within.
-        let p = get_or sorted i d in
-        let q = get_or sorted j d in
-        first_of (first_row area p) (first_row area q) p.piece.rect.left q.piece.rect.left (none i j d before within)
-        (λ same. once i j d before within (ap (λ (t : LaidTile). t.id) (apart_found blocks area p q tiling inside (each i d (omega (arith, before, within))) (each j d within) same)));
+          let p = get_or sorted i d in
+          let q = get_or sorted j d in
+          first_of (first_row area p) (first_row area q) p.piece.rect.left q.piece.rect.left (none i j d before within)
+          (λ same. once i j d before within (ap (λ (t : LaidTile). t.id) (apart_found blocks area p q tiling inside (each i d (omega (arith, before, within))) (each j d within) same)));
     }

@@ -193,22 +193,22 @@ listed_push blocks area list index parent tile tiling inside beside found is_par
       once = all_pairs_push (λ p q. p.id ≢ q.id) list tile listed.once new;
       on_side = λ y above below. any_push (λ t. holds t.piece.rect area.left y ≡ true) list tile (listed.on_side y above below);
       listed =
-        All-push (λ t. (t.piece.rect.left ≤ area.left) ⊎ IsReached area (list ++ tile ∷ []) index low t) list tile
-        (λ k d within. ⊎_map (λ e. e) (λ reached. reached_push area list tile index low _ (reached_lower area list index beside.line low _ lower reached)) (listed.listed k d within))
-        (inr (record {
-          place = index;
-          parent = parent;
-          within = omega (arith, length_push list tile, beside.within);
-          there = get_or_append_left list (tile ∷ []) parent index beside.within ∙ beside.here parent;
-          is_parent = is_parent;
-          passed = inr (refl, omega arith);
-        }));
+          All-push (λ t. (t.piece.rect.left ≤ area.left) ⊎ IsReached area (list ++ tile ∷ []) index low t) list tile
+          (λ k d within. ⊎_map (λ e. e) (λ reached. reached_push area list tile index low _ (reached_lower area list index beside.line low _ lower reached)) (listed.listed k d within))
+          (inr (record {
+            place = index;
+            parent = parent;
+            within = omega (arith, length_push list tile, beside.within);
+            there = get_or_append_left list (tile ∷ []) parent index beside.within ∙ beside.here parent;
+            is_parent = is_parent;
+            passed = inr (refl, omega arith);
+          }));
       reached = λ child child_found beyond reached.
-        elim (reached_down blocks area list index beside.line parent tile child tiling inside beside.here laid.laid beside.beside child_found
-        (reached_unpush area list tile index low child beside.within reached)) [
-          | inl (is, _) ↦ subst (Contains (list ++ tile ∷ [])) (sym is) (Contains-push list tile)
-          | inr before ↦ Contains-append_left list (tile ∷ []) child (listed.reached child child_found beyond before)
-        ];
+          elim (reached_down blocks area list index beside.line parent tile child tiling inside beside.here laid.laid beside.beside child_found
+          (reached_unpush area list tile index low child beside.within reached)) [
+            | inl (is, _) ↦ subst (Contains (list ++ tile ∷ [])) (sym is) (Contains-push list tile)
+            | inr before ↦ Contains-append_left list (tile ∷ []) child (listed.reached child child_found beyond before)
+          ];
     }
 
 -- and where it is not, it need not be listed
@@ -227,10 +227,10 @@ listed_skip blocks area list index parent tile tiling inside beside other =
       on_side = listed.on_side;
       listed = λ k d within. ⊎_map (λ e. e) (λ reached. reached_lower area list index beside.line low _ lower reached) (listed.listed k d within);
       reached = λ child child_found beyond reached.
-        elim (reached_down blocks area list index beside.line parent tile child tiling inside beside.here laid.laid beside.beside child_found reached) [
-          | inl (is, is_parent) ↦ absurd (other (subst (IsFound blocks area) is child_found) (subst (IsParent area parent) is is_parent))
-          | inr before ↦ listed.reached child child_found beyond before
-        ];
+          elim (reached_down blocks area list index beside.line parent tile child tiling inside beside.here laid.laid beside.beside child_found reached) [
+            | inl (is, is_parent) ↦ absurd (other (subst (IsFound blocks area) is child_found) (subst (IsParent area parent) is is_parent))
+            | inr before ↦ listed.reached child child_found beyond before
+          ];
     }
 
 reached_past : (area : Rect) (list : List LaidTile) (index line : ℕ) (tile : LaidTile) → IsReached area list index line tile → IsReached area list (index + 1) world.top tile
@@ -385,8 +385,8 @@ found_with blocks area tile x y tiling inside held is =
     record {
       laid = is.laid;
       met =
-        lines_meet tile.piece.rect area legal.wide inside.wide legal.tall inside.tall (omega (arith, lines.0, square.1)) (omega (arith, square.0, lines.1)) (omega (arith, lines.2, square.3))
-        (omega (arith, square.2, lines.3));
+          lines_meet tile.piece.rect area legal.wide inside.wide legal.tall inside.tall (omega (arith, lines.0, square.1)) (omega (arith, square.0, lines.1)) (omega (arith, lines.2, square.3))
+          (omega (arith, square.2, lines.3));
     }
 
 pub inside_world : (area : Rect) (x y : ℕ) → IsRectangleIn world area → holds area x y ≡ true → holds world x y ≡ true

@@ -49,11 +49,11 @@ side_push blocks area list line tile tiling inside listed low high is =
       each = All-push (IsFound blocks area) list tile listed.each found;
       once = all_pairs_push (λ p q. p.id ≢ q.id) list tile listed.once (not_below blocks area list line tile listed is);
       on_side = λ y above below.
-        elim (cases_lt y line) [
-          | inl before ↦ any_push (λ t. holds t.piece.rect area.left y ≡ true) list tile (listed.on_side y above before)
-          | inr after ↦
-              Any-push (λ t. holds t.piece.rect area.left y ≡ true) list tile (between_holds tile.piece.rect area.left y lines.0 lines.1 (omega (arith, lines.2, after)) below)
-        ];
+          elim (cases_lt y line) [
+            | inl before ↦ any_push (λ t. holds t.piece.rect area.left y ≡ true) list tile (listed.on_side y above before)
+            | inr after ↦
+                Any-push (λ t. holds t.piece.rect area.left y ≡ true) list tile (between_holds tile.piece.rect area.left y lines.0 lines.1 (omega (arith, lines.2, after)) below)
+          ];
       at_side = All-push (λ t. t.piece.rect.left ≤ area.left) list tile listed.at_side lines.0;
       below = All-push (λ t. t.piece.rect.top ≤ tile.piece.rect.top) list tile (λ k d within. omega (arith, listed.below k d within, lines.3)) (omega arith);
     }

@@ -56,7 +56,13 @@ fn sort_rows(area: Rect, list: &mut Vec<LaidTile>)
 
 /// Lists the tiles that have a square of the area, by their bottom, clipped to the area, and then their left. The search
 /// starts at the tile `from`, if the owner has it.
-pub(crate) fn area_into(pool: &Pool, owner: &Owner, from: TileId, area: Rect, list: &mut Vec<LaidTile>)
+pub(crate) fn area_into(
+    pool: &Pool,
+    owner: &Owner,
+    from: TileId,
+    area: Rect,
+    list: &mut Vec<LaidTile>,
+)
     requires plane { HasPlane pool.now owner.now }
     requires room { count_of pool.now owner.now ≤ vec_capacity list.old }
     ensures found { AreInArea (block_at (tiles_of pool.now owner.now)) area list.new.items }

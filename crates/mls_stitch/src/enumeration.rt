@@ -26,11 +26,23 @@ fn is_child(area: Rect, parent: &LaidTile, tile: &LaidTile) -> bool
     let row = first_row(area, tile);
     let sides = parent.sides();
     let left = tile.sides().left - 1;
-    sides.left <= left && left < sides.right && sides.bottom <= row && row < sides.top && tile.piece.rect.meets(area)
+    sides.left <= left
+        && left < sides.right
+        && sides.bottom <= row
+        && row < sides.top
+        && tile.piece.rect.meets(area)
 }
 
 /// Lists the right neighbour of the tile at the index, where it is the tile's child.
-fn push_child(pool: &Pool, owner: &Owner, area: Rect, parent: &LaidTile, tile: &LaidTile, index: usize, list: &mut Vec<LaidTile>)
+fn push_child(
+    pool: &Pool,
+    owner: &Owner,
+    area: Rect,
+    parent: &LaidTile,
+    tile: &LaidTile,
+    index: usize,
+    list: &mut Vec<LaidTile>,
+)
     requires plane { HasPlane pool.now owner.now }
     requires legal { IsRectangleIn world area }
     requires room { count_of pool.now owner.now ≤ vec_capacity list.old }
@@ -92,7 +104,13 @@ fn list_left_side(pool: &Pool, owner: &Owner, from: TileId, area: Rect, list: &m
 }
 
 /// Makes `list` the tiles that have a square of the area, each once, in any order.
-pub(crate) fn list_tiles(pool: &Pool, owner: &Owner, from: TileId, area: Rect, list: &mut Vec<LaidTile>)
+pub(crate) fn list_tiles(
+    pool: &Pool,
+    owner: &Owner,
+    from: TileId,
+    area: Rect,
+    list: &mut Vec<LaidTile>,
+)
     requires plane { HasPlane pool.now owner.now }
     requires room { count_of pool.now owner.now ≤ vec_capacity list.old }
     ensures legal { IsRectangleIn world area }

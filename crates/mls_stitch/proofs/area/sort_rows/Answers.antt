@@ -7,4 +7,4 @@ use Rattle.mls_stitch.proofs.area.sort_rows.Goals as goal
 pub returns-clause-sorted : goal.returns-clause-sorted
 returns-clause-sorted c =
     let list = c.sort_unstable_by_key.new.self.items in
-    none_first c.args.area list (c.sort_unstable_by_key.ensures.sorted (place_of c.args.area) (always_returns_same _ _ _ (λ a r f k. ?)))
+    none_first c.args.area list (c.sort_unstable_by_key.ensures.sorted (place_of c.args.area) (always_returns_same _ _ _ (λ a r f k. search rules)))

@@ -34,9 +34,9 @@ side-preserved c =
     let lines = holds_between tile.piece.rect c.args.area.left c.side.line is.held in
     record {
       listed =
-        rw (top, c.push_reserved.ensures.items)
-        (side_push (block_at tiles) c.args.area c.side.list.items c.side.line tile c.requires.plane.plane.tiling c.area-bounds.ensures.legal was.listed was.low
-        (omega (arith, sides, c.side-test.true)) is);
+          rw (top, c.push_reserved.ensures.items)
+          (side_push (block_at tiles) c.args.area c.side.list.items c.side.line tile c.requires.plane.plane.tiling c.area-bounds.ensures.legal was.listed was.low
+          (omega (arith, sides, c.side-test.true)) is);
       low = omega (arith, top, lines.3, was.low);
       room = c.push_reserved.ensures.capacity ∙ was.room;
     }

@@ -16,7 +16,7 @@ push_reserved-requires c =
     omega (arith, fits, c.requires.room, c.args.list.now.ok.0)
 
 pub returns-then-is_child-clause-listed : goal.returns-then-is_child-clause-listed
-returns-then-is_child-clause-listed c = 
+returns-then-is_child-clause-listed c =
     let blocks = block_at (tiles_of c.args.pool.now c.args.owner.now) in
     let child = child_true c.args.area c.args.parent.now c.args.tile.now c.is_child.result c.is_child.ensures c.if-is_child.true in
     rw c.push_reserved.ensures.items

@@ -30,8 +30,8 @@ neighbours-init c =
     let right' : c.sides-2.inside.right ≡ parent.piece.rect.right = ap (λ (e : Rect). e.right) (c.sides-2.view_is ∙ c.sides.ensures.value) in
     record {
       beside =
-        beside_first (block_at (tiles_of c.args.pool.now c.args.owner.now)) c.args.area list c.args.index parent c.neighbour-tile.result c.requires.plane.plane.tiling c.requires.legal
-        c.requires.listed within here (omega (arith, right, right', c.if-area-sides.false)) c.neighbour-tile.ensures;
+          beside_first (block_at (tiles_of c.args.pool.now c.args.owner.now)) c.args.area list c.args.index parent c.neighbour-tile.result c.requires.plane.plane.tiling c.requires.legal
+          c.requires.listed within here (omega (arith, right, right', c.if-area-sides.false)) c.neighbour-tile.ensures;
       longer = omega arith;
       room = refl;
     }
@@ -55,9 +55,9 @@ neighbours-preserved c =
     let within : c.args.index < length list.items = omega (arith, was.within, c.push_child.ensures.longer, c.neighbours.list.ok.0, list.ok.0) in
     record {
       beside =
-        beside_next (block_at (tiles_of c.args.pool.now c.args.owner.now)) c.args.area list.items c.args.index parent c.neighbours.tile c.neighbour-tile-in-neighbours.result
-        c.requires.plane.plane.tiling c.requires.legal c.neighbours.list.items was within c.push_child.ensures.kept c.push_child.ensures.listed
-        (omega (arith, bottom, c.first_row-last_row.ensures, c.if-sides-last_row.false)) c.neighbour-tile-in-neighbours.ensures;
+          beside_next (block_at (tiles_of c.args.pool.now c.args.owner.now)) c.args.area list.items c.args.index parent c.neighbours.tile c.neighbour-tile-in-neighbours.result
+          c.requires.plane.plane.tiling c.requires.legal c.neighbours.list.items was within c.push_child.ensures.kept c.push_child.ensures.listed
+          (omega (arith, bottom, c.first_row-last_row.ensures, c.if-sides-last_row.false)) c.neighbour-tile-in-neighbours.ensures;
       longer = omega (arith, c.neighbours.invariant.longer, c.push_child.ensures.longer);
       room = c.push_child.ensures.room ∙ c.neighbours.invariant.room;
     }
