@@ -1,8 +1,9 @@
 -- Tiles that give way in turn, one or more at a time.
-use Rattle.std.proofs.Common.{◌≡◌, ◌≢◌, ◌⊎◌, ℕ, ◌+◌, ◌<◌, ◌≤◌, List, [], ◌∷◌, ◌++◌, length, map, Option, Some, None, IsSome, IfSome, get_or, take, All, AllPairs, Contains, inl, inr, refl, sym, ap, ◌∙◌, subst, append_assoc, append-nil, arith, zero, suc, length-append}
+use Rattle.std.proofs.Common.{◌≡◌, ◌≢◌, ◌⊎◌, ℕ, ◌+◌, ◌<◌, ◌≤◌, List, [], ◌∷◌, ◌++◌, length, map, Option, Some, None, IsSome, IfSome, get_or, take, drop, min, length-drop, All, AllPairs, Contains, inl, inr, refl, sym, ap, ◌∙◌, subst, append_assoc, append-nil, arith, zero, suc, length-append}
 use Rattle.std.specs.List.{slice_get, slice_index_or}
-use Rattle.std.proofs.lemmas.List.{get_or-take, length-map, length-take, map-append, take_more}
-use Rattle.std.proofs.lemmas.List.Elements.{All-append, All-cons, All-contains, All-map, All-nil, All-weaker, Contains-append_cases, Contains-append_left, Contains-append_right}
+use Rattle.std.proofs.lemmas.Bool.{cases_lt}
+use Rattle.std.proofs.lemmas.List.{get_or-drop, get_or-take, length-map, length-take, map-append, take-append-drop, take_more}
+use Rattle.std.proofs.lemmas.List.Elements.{All-append, All-cons, All-contains, All-drop, All-map, All-nil, Contains-append_cases, Contains-append_left, Contains-append_right, Contains-get_or}
 use Rattle.mls_geom.specs.declared.piece.Piece.{Piece}
 use Rattle.mls_geom.proofs.Ascending.{AllPairs-append, Contains-first}
 use Rattle.mls_tilepool.specs.Pools.{Changes, IsOwner, Pool, count_of, room_of, tile_at, tile_in, tiles_of}
@@ -11,7 +12,8 @@ use Rattle.mls_stitch.specs.Pending.{keys_of}
 use Rattle.mls_stitch.specs.Placing.{GiveWay, Lays, unstitched}
 use Rattle.mls_stitch.specs.Tilings.{ChangesOnly}
 use Rattle.mls_stitch.specs.declared.laid_tile.LaidTile.{LaidTile}
-use Rattle.mls_stitch.proofs.FreshTiles.{Contains-first_or_rest, listed_cases, nothing_in_nil}
+use Rattle.mls_stitch.proofs.DistinctNumbers.{cases_Contains}
+use Rattle.mls_stitch.proofs.FreshTiles.{Contains-first_or_rest, nothing_in_nil}
 
 -- nothing is there
 nothing_there : (o : Option Tile) → o ≡ None → IsSome o → ⊥
@@ -55,7 +57,7 @@ laid_stays {old} {mid} {new} {t1} {t2} a b there apart key here before =
 
 -- a key that names no tile now was touched, or named none
 before : {old mid : List (ℕ × Tile)} {t1 : List ℕ} {l1 : List LaidTile} (a : GiveWay old mid t1 l1) (t2 : List ℕ) (key : ℕ) → tile_in mid key ≡ None → Contains (t1 ++ t2) key ⊎ (tile_in old key ≡ None)
-before {old} {mid} {t1} {l1} a t2 key none = elim (listed_cases t1 key) [
+before {old} {mid} {t1} {l1} a t2 key none = elim (cases_Contains t1 key) [
   | inl touched ↦ inl (Contains-append_left t1 t2 key touched)
   | inr untouched ↦ inr (sym (a.kept key untouched (λ listed. nothing_there _ none (key_after a key listed))) ∙ none)
 ]
@@ -315,3 +317,51 @@ pub not_full :
 not_full old mid owner n only fit few full =
     let fit' : count_of old owner + n ≤ count_of mid owner = subst (λ o. IfSome o (λ room. count_of old owner + n ≤ room)) (sym (room_of-ChangesOnly owner only) ∙ full) fit in
     omega (arith, fit', few)
+
+-- touched tiles of which nothing takes the place, and then pieces with new keys; there are none of the one or of the other
+Lays-surplus :
+    {old mid new : List (ℕ × Tile)} {touched : List ℕ} {fresh : List Piece} {before after : List LaidTile} → GiveWay old mid touched [] → Lays mid new [] fresh before after
+    → length touched ≡ 0 ⊎ (length fresh ≡ 0) → Lays old new touched fresh before after
+Lays-surplus {touched = touched} {fresh = fresh} ways a either = record {
+  laid = a.laid;
+  listed = a.listed;
+  pieces = a.pieces;
+  ways = let joined = GiveWay-trans ways a.ways (All-nil _) (λ key found. absurd (nothing_in_nil key found)) in rw append-nil at joined;
+  again = λ i within within'. elim either [
+    | inl none ↦ absurd (omega (arith, within, none))
+    | inr none ↦ absurd (omega (arith, within', none))
+  ];
+}
+
+-- a key is in one part of a list only
+one_part : (keys : List ℕ) (n key : ℕ) → AllPairs (λ a b. a ≢ b) keys → Contains (drop n keys) key → ¬ (Contains (take n keys) key)
+one_part keys n key once (k, within, is) (j, less, same) =
+    let less' : j < n = omega (arith, less, length-take n keys) in
+    once j (n + k) key (omega (arith, less')) (omega (arith, within, length-drop n keys)) (sym (get_or-take n keys j key less') ∙ same ∙ sym is ∙ get_or-drop n keys k key)
+
+-- the later touched tiles are still there when the first ones have given way
+pub drop-there :
+    {old mid : List (ℕ × Tile)} {laid : List LaidTile} (touched : List ℕ) (n : ℕ) → AllPairs (λ a b. a ≢ b) touched → All (λ k. IsSome (tile_in old k)) touched → GiveWay old mid (take n touched) laid
+    → All (λ k. IsSome (tile_in mid k)) (drop n touched)
+drop-there {old} {mid} touched n once there ways k d within =
+    let here = All-drop (λ key. IsSome (tile_in old key)) n touched there k d within in
+    subst IsSome (sym (GiveWay-stays ways (get_or (drop n touched) k d) (one_part touched n (get_or (drop n touched) k d) once (Contains-get_or (drop n touched) k d within)) here)) here
+
+-- the first pieces under the first touched keys, and then the rest
+pub Lays-instead :
+    {old mid low new : List (ℕ × Tile)} {before between after : List LaidTile} (touched : List ℕ) (fresh : List Piece) (n : ℕ) → n ≡ min (length touched) (length fresh)
+    → AllPairs (λ a b. a ≢ b) touched → All (λ k. IsSome (tile_in old k)) touched → Lays old mid (take n touched) (take n fresh) before between → GiveWay mid low (drop n touched) []
+    → Lays low new [] (drop n fresh) between after → Lays old new touched fresh before after
+Lays-instead {old} {mid} {low} {new} {before} {between} {after} touched fresh n shared once there first gone rest =
+    let either : length (drop n touched) ≡ 0 ⊎ (length (drop n fresh) ≡ 0) = elim (cases_lt (length touched) (length fresh)) [
+      | inl less ↦ inl (omega (arith, less, shared, length-drop n touched))
+      | inr more ↦ inr (omega (arith, more, shared, length-drop n fresh))
+    ] in
+    let joined =
+        Lays-even first (Lays-surplus gone rest either) (All-drop (λ k. IsSome (tile_in old k)) n touched there) (λ key later. one_part touched n key once later)
+        (length_takes touched fresh n (omega (arith, shared)) (omega (arith, shared))) in
+    rw (take-append-drop n touched, take-append-drop n fresh) at joined
+
+-- the list is longer by the pieces
+pub Lays-long : {old new : List (ℕ × Tile)} {touched : List ℕ} {fresh : List Piece} {before after : List LaidTile} → Lays old new touched fresh before after → length after ≡ length before + length fresh
+Lays-long {before = before} a = ap length a.listed ∙ length-append before a.laid ∙ omega (arith, length_keys a.laid _ a.pieces, length-map a.laid (λ (e : LaidTile). e.id))

@@ -1,3 +1,4 @@
+pub mod BuiltPlanes
 pub mod BuiltTiles
 pub mod CloseSquares
 pub mod CutBlocks
