@@ -1,18 +1,16 @@
 //! Area search.
-ghost use Rattle.std.specs.Prelude.{◌≡◌, ◌≤◌, false, length, map, vec_capacity};
-ghost use Rattle.std.specs.List.{AllPairs};
-ghost use Rattle.std.specs.List.Sorted.{IsPermutation};
+ghost use Rattle.std.specs.Prelude.{◌≡◌, ◌≤◌, length, map};
 ghost use Rattle.mls_tilepool.specs.Pools.{count_of, tiles_of};
 ghost use Rattle.mls_stitch.specs.Tilings.{HasPlane, IsMaximal, block_at, shown};
 ghost use Rattle.mls_geom.specs.Pictures.{picture_of};
 ghost use Rattle.mls_geom.specs.Strips.{AreStrips};
 ghost use Rattle.mls_geom.specs.World.{world};
-ghost use Rattle.mls_stitch.specs.Areas.{AreInArea, comes_first};
+ghost use Rattle.mls_stitch.specs.Areas.{AreInArea};
 
-use crate::enumeration::{first_row, list_tiles};
-use crate::{LaidTile, Plane, Scratch};
+use crate::enumeration::area_into;
+use crate::{Plane, Scratch};
 use mls_geom::Rect;
-use mls_tilepool::{Owner, Pool, TileId};
+use mls_tilepool::Pool;
 
 impl Plane {
     /// Finds the tiles that have a square of the area, by their bottom, clipped to the area, and then their left, and
@@ -43,31 +41,4 @@ impl Plane {
     {
         self.area(pool, Rect::world(), scratch);
     }
-}
-
-/// Sorts tiles by their first row in the area, and then by their left.
-fn sort_rows(area: Rect, list: &mut Vec<LaidTile>)
-    ensures sorted { AllPairs (λ p q. comes_first area q p ≡ false) list.new.items }
-    ensures same { IsPermutation list.old.items list.new.items }
-    ensures room { vec_capacity list.new ≡ vec_capacity list.old }
-{
-    list.sort_unstable_by_key(|tile| (first_row(area, tile), tile.sides().left));
-}
-
-/// Lists the tiles that have a square of the area, by their bottom, clipped to the area, and then their left. The search
-/// starts at the tile `from`, if the owner has it.
-pub(crate) fn area_into(
-    pool: &Pool,
-    owner: &Owner,
-    from: TileId,
-    area: Rect,
-    list: &mut Vec<LaidTile>,
-)
-    requires plane { HasPlane pool.now owner.now }
-    requires room { count_of pool.now owner.now ≤ vec_capacity list.old }
-    ensures found { AreInArea (block_at (tiles_of pool.now owner.now)) area list.new.items }
-    ensures room { vec_capacity list.new ≡ vec_capacity list.old }
-{
-    list_tiles(pool, owner, from, area, list);
-    sort_rows(area, list);
 }

@@ -1,8 +1,11 @@
 //! The enumeration of an area's tiles (Ousterhout 1984), each of which has one parent.
-ghost use Rattle.std.specs.Prelude.{◌≡◌, ◌+◌, ◌-◌, ◌<◌, ◌≤◌, ◌&&◌, slice_index_or, vec_len, vec_capacity};
+ghost use Rattle.std.specs.Prelude.{◌≡◌, ◌+◌, ◌-◌, ◌<◌, ◌≤◌, ◌&&◌, false, slice_index_or, vec_len, vec_capacity};
 ghost use Rattle.mls_geom.specs.Rects.{IsRectangleIn, holds, meets};
 ghost use Rattle.mls_geom.specs.World.{world};
 ghost use Rattle.mls_tilepool.specs.Pools.{count_of, tiles_of};
+ghost use Rattle.std.specs.List.{AllPairs};
+ghost use Rattle.std.specs.List.Sorted.{IsPermutation};
+ghost use Rattle.mls_stitch.specs.Areas.{AreInArea, comes_first};
 ghost use Rattle.mls_stitch.specs.Enumerations.{IsBeside, IsListedTo, first_row};
 ghost use Rattle.mls_stitch.specs.Tilings.{HasPlane, block_at};
 ghost use Rattle.mls_stitch.specs.declared.laid_tile.LaidTile.{LaidTile};
@@ -13,7 +16,7 @@ use mls_geom::{Point, Rect};
 use mls_tilepool::{Owner, Pool, TileId};
 
 /// Returns the lowest row of the tile that is not below the area.
-pub(crate) fn first_row(area: Rect, tile: &LaidTile) -> u32
+fn first_row(area: Rect, tile: &LaidTile) -> u32
     ensures { result ≡ first_row area tile.now }
 {
     tile.sides().bottom.max(area.area().bottom)
@@ -104,7 +107,7 @@ fn list_left_side(pool: &Pool, owner: &Owner, from: TileId, area: Rect, list: &m
 }
 
 /// Makes `list` the tiles that have a square of the area, each once, in any order.
-pub(crate) fn list_tiles(
+fn list_tiles(
     pool: &Pool,
     owner: &Owner,
     from: TileId,
@@ -123,4 +126,31 @@ pub(crate) fn list_tiles(
         push_children(pool, owner, area, index, list);
         index += 1;
     }
+}
+
+/// Sorts tiles by their first row in the area, and then by their left.
+fn sort_rows(area: Rect, list: &mut Vec<LaidTile>)
+    ensures sorted { AllPairs (λ p q. comes_first area q p ≡ false) list.new.items }
+    ensures same { IsPermutation list.old.items list.new.items }
+    ensures room { vec_capacity list.new ≡ vec_capacity list.old }
+{
+    list.sort_unstable_by_key(|tile| (first_row(area, tile), tile.sides().left));
+}
+
+/// Lists the tiles that have a square of the area, by their bottom, clipped to the area, and then their left. The search
+/// starts at the tile `from`, if the owner has it.
+pub(crate) fn area_into(
+    pool: &Pool,
+    owner: &Owner,
+    from: TileId,
+    area: Rect,
+    list: &mut Vec<LaidTile>,
+)
+    requires plane { HasPlane pool.now owner.now }
+    requires room { count_of pool.now owner.now ≤ vec_capacity list.old }
+    ensures found { AreInArea (block_at (tiles_of pool.now owner.now)) area list.new.items }
+    ensures room { vec_capacity list.new ≡ vec_capacity list.old }
+{
+    list_tiles(pool, owner, from, area, list);
+    sort_rows(area, list);
 }

@@ -2,7 +2,7 @@
 use Rattle.std.proofs.Common.{rules}
 use Rattle.std.proofs.lemmas.Fn.{always_returns_same}
 use Rattle.mls_stitch.proofs.FoundTiles.{none_first, place_of}
-use Rattle.mls_stitch.proofs.area.sort_rows.Goals as goal
+use Rattle.mls_stitch.proofs.enumeration.sort_rows.Goals as goal
 
 pub returns-clause-sorted : goal.returns-clause-sorted
 returns-clause-sorted c =

@@ -5,7 +5,7 @@ use Rattle.mls_tilepool.specs.Pools.{tiles_of}
 use Rattle.mls_stitch.specs.Enumerations.{IsListedTo}
 use Rattle.mls_stitch.specs.Tilings.{block_at}
 use Rattle.mls_stitch.proofs.FoundTiles.{area_found}
-use Rattle.mls_stitch.proofs.area.area_into.Goals as goal
+use Rattle.mls_stitch.proofs.enumeration.area_into.Goals as goal
 
 pub returns-clause-found : goal.returns-clause-found
 returns-clause-found c =
