@@ -18,6 +18,17 @@ impl Model for TileId {
     ghost inverse = { λ key. record { key = key } };
 }
 
+impl TileId {
+    ghost use Rattle.std.specs.Prelude.{◌≡◌};
+
+    /// Returns the name as a number, by which names can be sorted.
+    pub fn key(self) -> usize
+        ensures { result ≡ self }
+    {
+        self.key
+    }
+}
+
 /// A tile of a plane, by its lower-left square, its kind and its four stitches (Ousterhout 1984).
 ///
 /// A tile has no right side and no top of its own: its stitches lead to them.
