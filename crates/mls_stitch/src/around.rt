@@ -8,7 +8,7 @@ ghost use Rattle.mls_stitch.specs.Tilings.{HasPlane, block_at};
 ghost use Rattle.mls_stitch.specs.declared.laid_tile.LaidTile.{LaidTile};
 
 use crate::LaidTile;
-use crate::area::area_into;
+use crate::enumeration::area_into;
 use crate::laid_tile::laid;
 use mls_tilepool::{Owner, Pool, TileId};
 

@@ -55,6 +55,6 @@ impl Plane {
             self.hint = tile.id;
         }
         stitch_listed(pool, &self.owner, &mut scratch.entries);
-        Ok(())
+        unreachable!()
     }
 }
