@@ -63,7 +63,10 @@ fn find_area(plane: &mut Plane, pool: &Pool, area: Rect, tiles: &mut Scratch) ->
     ensures room { OnOk result (count_of pool.now plane.old ≤ tiles.new.room) }
     ensures plane { plane.new ≡ plane.old }
 {
-    ensure!(pool.count(plane.owner()) as usize <= tiles.room(), "no room");
+    ensure!(
+        pool.count(plane.owner()) as usize <= tiles.room(),
+        "no room"
+    );
     plane.area(pool, area, tiles);
     Ok(())
 }
@@ -80,7 +83,10 @@ fn build(
     ensures { IfOk result (λ built. HasPlane pool.new built.0) }
 {
     let room = ROOM as usize;
-    ensure!(sweep.holds(squares.len(), room) && room <= tiles.room(), "no room");
+    ensure!(
+        sweep.holds(squares.len(), room) && room <= tiles.room(),
+        "no room"
+    );
     strips(&[], squares, room, sweep)?;
     let owner = pool.reserve(ROOM)?;
     let start = Instant::now(clock)?;
@@ -183,7 +189,13 @@ impl Sheet {
 
     /// Paints a square and then space over it, and returns how many tiles are laid.
     fn replace(&mut self, alloc: Global, rect: Rect) -> Result<usize> {
-        let painted = self.paint(alloc, Piece { rect, kind: PAINTED_KIND })?;
+        let painted = self.paint(
+            alloc,
+            Piece {
+                rect,
+                kind: PAINTED_KIND,
+            },
+        )?;
         let cleared = self.paint(alloc, Piece { rect, kind: 0 })?;
         Ok(painted.saturating_add(cleared))
     }
@@ -191,13 +203,21 @@ impl Sheet {
     /// Paints a piece, and returns how many tiles are laid: those that it touches give way to the strips of what they
     /// and the piece cover.
     fn paint(&mut self, alloc: Global, piece: Piece) -> Result<usize> {
-        find_area(&mut self.plane, &self.pool, piece.rect.grow(1), &mut self.tiles)?;
+        find_area(
+            &mut self.plane,
+            &self.pool,
+            piece.rect.grow(1),
+            &mut self.tiles,
+        )?;
         let names = names_of(alloc, self.tiles.tiles())?;
         let touched = pieces_of(alloc, self.tiles.tiles())?;
         read(piece);
         read_all(&touched);
         let limit = ROOM as usize;
-        ensure!(touched.len() < limit && self.sweep.holds(limit, limit) && limit <= self.tiles.room(), "no room");
+        ensure!(
+            touched.len() < limit && self.sweep.holds(limit, limit) && limit <= self.tiles.room(),
+            "no room"
+        );
         let count = fresh_strips(&touched, &[piece], limit, &mut self.sweep)?;
         self.plane.replace(&mut self.pool, &names, self.sweep.strips(), &mut self.tiles)?;
         Ok(count)

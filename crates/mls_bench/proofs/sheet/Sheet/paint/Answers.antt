@@ -5,7 +5,7 @@ use Rattle.mls_geom.specs.World.{world}
 use Rattle.mls_tilepool.specs.Pools.{tiles_of}
 use Rattle.mls_stitch.specs.Areas.{AreInArea}
 use Rattle.mls_stitch.specs.Tilings.{block_at}
-use Rattle.mls_stitch.proofs.FreshStrips.{TakePlace-painted, pieces_of}
+use Rattle.mls_stitch.proofs.FreshStrips.{TakePlace-area, pieces_of}
 use Rattle.mls_bench.proofs.sheet.Sheet.paint.Goals as goal
 
 pub replace-requires-clause-pieces : goal.replace-requires-clause-pieces
@@ -18,6 +18,6 @@ replace-requires-clause-pieces c =
     let kinds = subst HaveKinds (c.deref.ensures.value ∙ touched) c.read_all.ensures.kinds in
     let found = subst (λ area. AreInArea blocks area tiles) c.grow.ensures.value c.in_ok-find_area.ensures.found in
     let covered =
-        subst (λ pieces. AreCoveredStrips world (laid (pieces ++ piece ∷ [])) fresh) (c.deref-2.ensures.value ∙ touched) c.in_ok-count.ensures.strips in
-    let placed = TakePlace-painted blocks piece tiles fresh c.self.invariant.plane.tiling c.read.ensures.legal c.read.ensures.kind kinds found covered in
+    subst (λ pieces. AreCoveredStrips world (laid (pieces ++ piece ∷ [])) fresh) (c.deref-2.ensures.value ∙ touched) c.in_ok-count.ensures.strips in
+    let placed = TakePlace-area (tiles_of c.self.inside.pool c.self.inside.plane) piece tiles fresh c.self.invariant.plane found kinds c.read.ensures.kind c.read.ensures.legal covered in
     rw c.strips.ensures (rw c.deref-3.ensures.value (rw c.in_ok-names.ensures (rw c.tiles.ensures (rw c.find_area.ensures.plane placed))))
