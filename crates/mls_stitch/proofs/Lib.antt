@@ -19,5 +19,6 @@ pub mod SettingStitches
 pub mod ShownTiles
 pub mod SideListings
 pub mod Sides
+pub mod SplitCalls
 pub mod SplitTiles
 pub mod TilesBeyond
