@@ -97,6 +97,7 @@ impl Plane {
         ensures only { ChangesOnly pool.old pool.new self.old }
         ensures scratch_room { scratch.new.room ≡ scratch.old.room }
     {
+        // So the call below fails only where there is no room at all.
         prove!(pool.count(&self.owner) <= pool.room(&self.owner));
         let corner = second.rect.corner();
         self.replace(pool, &[tile], &[first, second], scratch)?;
@@ -121,6 +122,7 @@ impl Plane {
         ensures only { ChangesOnly pool.old pool.new self.old }
         ensures scratch_room { scratch.new.room ≡ scratch.old.room }
     {
+        // So there is room for one tile in place of two.
         prove!(pool.count(&self.owner) <= pool.room(&self.owner));
         self.replace(pool, &[first, second], &[whole], scratch)
             .unwrap();
@@ -185,13 +187,7 @@ impl Plane {
     }
 
     /// Joins a tile and the tile to its right, which share a whole side and have one kind. The tile keeps its name for both.
-    pub fn join_x(
-        &mut self,
-        pool: &mut Pool,
-        left: TileId,
-        right: TileId,
-        scratch: &mut Scratch,
-    )
+    pub fn join_x(&mut self, pool: &mut Pool, left: TileId, right: TileId, scratch: &mut Scratch)
         requires plane { HasPlane pool.old self.old }
         requires whole_side { IsSomeAnd (block_at (tiles_of pool.old self.old) left) (λ a.
             IsSomeAnd (block_at (tiles_of pool.old self.old) right) (λ b. JoinInX a b)) }
@@ -209,13 +205,7 @@ impl Plane {
     }
 
     /// Joins a tile and the tile above it, which share a whole side and have one kind. The tile keeps its name for both.
-    pub fn join_y(
-        &mut self,
-        pool: &mut Pool,
-        lower: TileId,
-        upper: TileId,
-        scratch: &mut Scratch,
-    )
+    pub fn join_y(&mut self, pool: &mut Pool, lower: TileId, upper: TileId, scratch: &mut Scratch)
         requires plane { HasPlane pool.old self.old }
         requires whole_side { IsSomeAnd (block_at (tiles_of pool.old self.old) lower) (λ a.
             IsSomeAnd (block_at (tiles_of pool.old self.old) upper) (λ b. JoinInY a b)) }
