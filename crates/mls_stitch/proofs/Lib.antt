@@ -18,5 +18,6 @@ pub mod SettingStitches
 pub mod ShownTiles
 pub mod SideListings
 pub mod Sides
+pub mod SortedTiles
 pub mod SplitTiles
 pub mod TilesBeyond
