@@ -7,23 +7,16 @@ use Rattle.mls_geom.proofs.KindsShown.{meets_by_square}
 use Rattle.mls_geom.proofs.PiecePictures.{holds_outer}
 use Rattle.mls_geom.specs.Covers.{meeting}
 use Rattle.mls_geom.specs.Rects.{Rect, IsRectangleIn, holds, meets}
-use Rattle.mls_geom.specs.Strips.{AreStrips, IsStrip}
+use Rattle.mls_geom.specs.Locality.{AreUnorderedStrips}
+use Rattle.mls_geom.specs.Strips.{IsStrip}
 use Rattle.mls_geom.specs.Pictures.{Picture, overlaid, painted, picture_of}
 use Rattle.mls_geom.specs.declared.piece.Piece.{Piece}
 use Rattle.mls_geom.proofs.Ascending.{Contains-filter}
-use Rattle.mls_geom.proofs.Overlays.{painted_outside}
-use Rattle.mls_geom.proofs.StripCovers.{kind-AreStrips}
+use Rattle.mls_geom.proofs.Overlays.{overlaid-at, painted_outside}
+use Rattle.mls_geom.proofs.StripCovers.{kind-AreUnorderedStrips}
 use Rattle.mls_geom.proofs.StripPictures.{kind-IsStrip}
 use Rattle.mls_checker.specs.Copies.{Grid, IsShownBy, grid_picture}
 use Rattle.mls_checker.proofs.GridIndexes.{grid_picture-outside}
-
--- what a square shows after painting depends only on what it showed before
-painted-at : (below other : Picture) (piece : Piece) (x y : ℕ) → below x y ≡ other x y → painted below piece x y ≡ painted other piece x y
-painted-at below other piece x y same = ap (λ kind. if holds piece.rect x y then piece.kind else kind) same
-
-pub overlaid-at : (below other : Picture) (pieces : List Piece) (x y : ℕ) → below x y ≡ other x y → overlaid below pieces x y ≡ overlaid other pieces x y
-overlaid-at below other [] x y same = same
-overlaid-at below other (piece ∷ pieces) x y same = overlaid-at (painted below piece) (painted other piece) pieces x y (painted-at below other piece x y same)
 
 -- a piece that doesn't meet the zone has none of its squares
 apart : (piece zone : Rect) (x y : ℕ) → holds zone x y ≡ true → meets piece zone ≡ false → holds piece x y ≡ false
@@ -53,16 +46,16 @@ IsCopy grid pieces = grid_picture grid ≡ (λ x y. if holds grid.rect x y then 
 
 -- where the grid shows the strips that meet its rectangle, it shows all strips there
 shown_here :
-    (extent : Rect) (grid : Grid) (strips : List Piece) (x y : ℕ) → AreStrips extent (picture_of strips) strips → IsRectangleIn extent grid.rect
+    (extent : Rect) (grid : Grid) (strips : List Piece) (x y : ℕ) → AreUnorderedStrips extent (picture_of strips) strips → IsRectangleIn extent grid.rect
     → All (IsShownBy grid) (meeting strips grid.rect) → holds grid.rect x y ≡ true → grid_picture grid x y ≡ picture_of strips x y
 shown_here extent grid strips x y are legal each inside =
     let (k, strip, within, is, in_strip) = are.whole x y (holds_outer extent grid.rect x y legal inside) in
     let found = Contains-filter (λ piece. meets piece.rect grid.rect) strips strip (k, within, is) (meets_by_square strip.rect grid.rect x y in_strip inside) in
     All-contains (IsShownBy grid) (meeting strips grid.rect) strip each found x y inside in_strip
-    ∙ kind-AreStrips extent (picture_of strips) strips strip x y are (k, within, is) in_strip
+    ∙ kind-AreUnorderedStrips extent (picture_of strips) strips strip x y are (k, within, is) in_strip
 
 pub copy_by_strips :
-    (extent : Rect) (grid : Grid) (strips : List Piece) → AreStrips extent (picture_of strips) strips → IsRectangleIn extent grid.rect
+    (extent : Rect) (grid : Grid) (strips : List Piece) → AreUnorderedStrips extent (picture_of strips) strips → IsRectangleIn extent grid.rect
     → All (IsShownBy grid) (meeting strips grid.rect) → IsCopy grid strips
 copy_by_strips extent grid strips are legal each = fun_ext (λ x. fun_ext (λ y. ⊎_elim
     (λ inside. shown_here extent grid strips x y are legal each inside ∙ sym (cond-true (holds grid.rect x y) (picture_of strips x y) 0 inside))
@@ -71,7 +64,7 @@ copy_by_strips extent grid strips are legal each = fun_ext (λ x. fun_ext (λ y.
 
 -- a copy of the strips shows each strip that meets its rectangle
 pub strips_by_copy :
-    (extent : Rect) (grid : Grid) (strips : List Piece) → AreStrips extent (picture_of strips) strips → IsCopy grid strips → All (IsShownBy grid) (meeting strips grid.rect)
+    (extent : Rect) (grid : Grid) (strips : List Piece) → AreUnorderedStrips extent (picture_of strips) strips → IsCopy grid strips → All (IsShownBy grid) (meeting strips grid.rect)
 strips_by_copy extent grid strips are copy k d within x y inside in_strip =
     let strip = All-filter (λ piece. meets piece.rect grid.rect) (IsStrip extent (picture_of strips)) strips are.each k d within in
     ap (λ picture. picture x y) copy ∙ cond-true (holds grid.rect x y) (picture_of strips x y) 0 inside

@@ -3,7 +3,8 @@ use Rattle.std.proofs.Common.{◌≡◌, ℕ, ◌<◌, ◌≤◌, nat_le, nat_lt
 use Rattle.std.proofs.lemmas.Bool.Decides.{nat_tests}
 use Rattle.std.proofs.lemmas.List.Elements.{All-head, All-tail}
 use Rattle.mls_geom.specs.Rects.{Rect, holds}
-use Rattle.mls_geom.specs.Pictures.{Picture, empty_picture, overlaid, painted, picture_of}
+use Rattle.mls_geom.specs.Locality.{laid, uncovered}
+use Rattle.mls_geom.specs.Pictures.{Picture, overlaid, painted}
 use Rattle.mls_geom.specs.Sweep.Stacks.{AreAlike}
 use Rattle.mls_geom.specs.declared.piece.Piece.{Piece}
 
@@ -32,5 +33,5 @@ module _ (x y bottom top : ℕ) (from : bottom ≤ y) (to : y < top) where
       let same_holds = holds_alike piece (All-head (EndsOutside bottom top) piece pieces outside) in
       overlaid_alike (painted below piece) pieces (All-tail (EndsOutside bottom top) piece pieces outside) (rw (same_holds, same) refl)
 
-pub AreAlike-band : (extent : Rect) (pieces : List Piece) (bottom top : ℕ) → IsBand pieces bottom top → AreAlike extent (picture_of pieces) bottom top
-AreAlike-band extent pieces bottom top band x y _ _ from to = overlaid_alike x y bottom top from to empty_picture pieces band.outside refl
+pub AreAlike-band : (extent : Rect) (pieces : List Piece) (bottom top : ℕ) → IsBand pieces bottom top → AreAlike extent (laid pieces) bottom top
+AreAlike-band extent pieces bottom top band x y _ _ from to = overlaid_alike x y bottom top from to (λ _ _. uncovered) pieces band.outside refl

@@ -1,4 +1,4 @@
--- The tile count of the rows below a line, by rows and by columns.
+-- The number of covered strips of the rows below a line, by rows and by columns.
 use Rattle.std.proofs.Common.{◌≡◌, ℕ, zero, suc, ◌+◌, ◌-◌, ◌<◌, ◌≤◌, [], ◌∷◌, ◌++◌, if◌then◌else◌, refl, ap, add-zero, arith, All}
 use Rattle.std.proofs.lemmas.Bool.Decides.{nat_tests}
 use Rattle.std.specs.List.{range_with_len, sum_by}
@@ -7,13 +7,13 @@ use Rattle.std.proofs.lemmas.List.Sums.{sum_by-append, sum_by-cons, sum_by-le}
 use Rattle.mls_geom.specs.Rects.{Rect}
 use Rattle.mls_geom.specs.Pictures.{Picture}
 use Rattle.mls_geom.specs.Sweep.Stacks.{AreStacked, up_to}
-use Rattle.mls_geom.specs.TileCounts.{is_corner, tile_count}
+use Rattle.mls_geom.specs.Locality.{covered_count, is_covered_corner}
 
--- 1 at a corner, and 0 elsewhere
+-- 1 at a covered corner, and 0 elsewhere
 abbrev pub corner_at : Rect → Picture → ℕ → ℕ → ℕ
-corner_at extent picture y x = if is_corner extent picture x y then 1 else 0
+corner_at extent picture y x = if is_covered_corner extent picture x y then 1 else 0
 
--- the corners of a row in the columns from one line up to another
+-- the covered corners of a row in the columns from one line up to another
 abbrev pub corners_between : Rect → Picture → ℕ → ℕ → ℕ → ℕ
 corners_between extent picture y low high = sum_by (corner_at extent picture y) (range_with_len low (high - low))
 
@@ -51,27 +51,27 @@ sum_by-first f low high up =
     let more : high - low ≡ suc (high - (low + 1)) = omega arith in
     rw more (sum_by-cons f low (range_with_len (low + 1) (high - (low + 1))))
 
--- the tile count by rows
-pub tile_count-up_to :
+-- their number by rows
+pub covered_count-up_to :
     (extent : Rect) (picture : Picture) (y : ℕ)
-    → tile_count (up_to y extent) picture ≡ sum_by (λ z. corners_between extent picture z extent.left extent.right) (range_with_len extent.bottom (y - extent.bottom))
-unfolding tile_count
-tile_count-up_to extent picture y = refl
+    → covered_count (up_to y extent) picture ≡ sum_by (λ z. corners_between extent picture z extent.left extent.right) (range_with_len extent.bottom (y - extent.bottom))
+unfolding covered_count
+covered_count-up_to extent picture y = refl
 
 -- more rows have no fewer strips
-pub tile_count_up_to_grows : (extent : Rect) (picture : Picture) (y z : ℕ) → y ≤ z → tile_count (up_to y extent) picture ≤ tile_count (up_to z extent) picture
-tile_count_up_to_grows extent picture y z up =
+pub covered_count_up_to_grows : (extent : Rect) (picture : Picture) (y z : ℕ) → y ≤ z → covered_count (up_to y extent) picture ≤ covered_count (up_to z extent) picture
+covered_count_up_to_grows extent picture y z up =
     let row_corners = λ (row : ℕ). corners_between extent picture row extent.left extent.right in
     let cut = sum_by-cut row_corners extent.bottom (y - extent.bottom) ((z - extent.bottom) - (y - extent.bottom)) (z - extent.bottom) (omega arith) in
-    rw (tile_count-up_to extent picture y, tile_count-up_to extent picture z) (omega (arith, cut))
+    rw (covered_count-up_to extent picture y, covered_count-up_to extent picture z) (omega (arith, cut))
 
 -- below the extent's bottom line there is nothing to stack
 pub nothing_stacked : (extent : Rect) (picture : Picture) → AreStacked extent picture extent.bottom [] []
 nothing_stacked extent picture =
     let none : extent.bottom - extent.bottom ≡ 0 = omega arith in
     record {
-      laid = record { each = λ k d l. absurd (omega arith); whole = λ x y inside. grind (arith, nat_tests); ordered = λ i j d l m. absurd (omega arith) };
-      count = rw (tile_count-up_to extent picture extent.bottom, none) refl;
+      laid = record { each = λ k d l. absurd (omega arith); whole = λ x y inside _. grind (arith, nat_tests); ordered = λ i j d l m. absurd (omega arith) };
+      count = rw (covered_count-up_to extent picture extent.bottom, none) refl;
       first = λ _. refl;
       runs = λ above. absurd (omega arith);
       named = λ k d l. absurd (omega arith);

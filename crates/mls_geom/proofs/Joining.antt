@@ -1,26 +1,29 @@
--- Runs that cover a row up to a line, and one more.
-use Rattle.std.proofs.Common.{ℕ, ◌<◌, ◌≤◌, List, [], ◌∷◌, ◌++◌, ◌∙◌, inl, inr, arith, rules, length-append}
+-- Runs of the covered squares of a row up to a line, and one more.
+use Rattle.std.proofs.Common.{◌≡◌, ◌≢◌, ℕ, ◌<◌, ◌≤◌, List, [], ◌∷◌, ◌++◌, ◌∙◌, inl, inr, arith, rules, length-append}
 use Rattle.std.specs.List.{All, Any, AllPairs}
 use Rattle.std.proofs.lemmas.Bool.{cases_lt}
 use Rattle.std.proofs.lemmas.List.{get_or_append_left}
 use Rattle.std.proofs.lemmas.List.Elements.{All-push, All-weaker}
 use Rattle.std.proofs.lemmas.List.Quantifiers.{Any-push, all_pairs_push}
+use Rattle.mls_geom.specs.Locality.{uncovered}
 use Rattle.mls_geom.specs.Rects.{Rect}
 use Rattle.mls_geom.specs.Pictures.{Picture}
 use Rattle.mls_geom.specs.Strips.{IsRun}
 use Rattle.mls_geom.specs.declared.run.Run.{Run}
 
--- the runs are those of row y left of the line, at which a run ends
+-- the runs are those of the covered squares of row y left of the line, and none goes on there
 pub record AreRunsBefore (extent : Rect) (picture : Picture) (y line : ℕ) (runs : List Run) : Type 0 where
   pub each : All (λ run. IsRun extent picture run.left run.right y run.kind) runs
-  pub whole : (x : ℕ) → extent.left ≤ x → x < line → Any (λ run. (run.left ≤ x) × (x < run.right)) runs
+  pub covered : All (λ run. run.kind ≢ uncovered) runs
+  pub whole : (x : ℕ) → extent.left ≤ x → x < line → picture x y ≢ uncovered → Any (λ run. (run.left ≤ x) × (x < run.right)) runs
   pub ordered : AllPairs (λ p q. p.right ≤ q.left) runs
   pub before : All (λ run. run.right ≤ line) runs
 
 pub AreRunsBefore-none : (extent : Rect) (picture : Picture) (y line : ℕ) → line ≤ extent.left → AreRunsBefore extent picture y line []
 AreRunsBefore-none extent picture y line start = record {
   each = search rules;
-  whole = λ x from below. absurd (omega arith);
+  covered = search rules;
+  whole = λ x from below some. absurd (omega arith);
   ordered = search rules;
   before = search rules;
 }
@@ -31,14 +34,30 @@ Any-append_left P xs ys (k, x, within, is, holds) =
 
 pub AreRunsBefore-push :
     (extent : Rect) (picture : Picture) (y : ℕ) (runs : List Run) (run : Run) → AreRunsBefore extent picture y run.left runs
-    → IsRun extent picture run.left run.right y run.kind → AreRunsBefore extent picture y run.right (runs ++ run ∷ [])
-AreRunsBefore-push extent picture y runs run so_far next = record {
+    → IsRun extent picture run.left run.right y run.kind → run.kind ≢ uncovered → AreRunsBefore extent picture y run.right (runs ++ run ∷ [])
+AreRunsBefore-push extent picture y runs run so_far next some = record {
   each = All-push (λ p. IsRun extent picture p.left p.right y p.kind) runs run so_far.each next;
-  whole = λ x from below. elim (cases_lt x run.left) [
-    | inl earlier ↦ Any-append_left (λ p. (p.left ≤ x) × (x < p.right)) runs (run ∷ []) (so_far.whole x from earlier)
+  covered = All-push (λ p. p.kind ≢ uncovered) runs run so_far.covered some;
+  whole = λ x from below shown. elim (cases_lt x run.left) [
+    | inl earlier ↦ Any-append_left (λ p. (p.left ≤ x) × (x < p.right)) runs (run ∷ []) (so_far.whole x from earlier shown)
     | inr here ↦ Any-push (λ p. (p.left ≤ x) × (x < p.right)) runs run (here, below)
   ];
   ordered = all_pairs_push (λ p q. p.right ≤ q.left) runs run so_far.ordered so_far.before;
   before = All-push (λ p. p.right ≤ run.right) runs run
       (All-weaker (λ p. p.right ≤ run.left) (λ p. p.right ≤ run.right) (λ p left_of. omega (arith, left_of, next.wide)) runs so_far.before) (omega arith);
+}
+
+-- squares that nothing covers are in no run
+pub AreRunsBefore-uncovered :
+    (extent : Rect) (picture : Picture) (y line next : ℕ) (runs : List Run) → AreRunsBefore extent picture y line runs → line ≤ next
+    → ((x : ℕ) → line ≤ x → x < next → picture x y ≡ uncovered) → AreRunsBefore extent picture y next runs
+AreRunsBefore-uncovered extent picture y line next runs so_far on none = record {
+  each = so_far.each;
+  covered = so_far.covered;
+  whole = λ x from below shown. elim (cases_lt x line) [
+    | inl earlier ↦ so_far.whole x from earlier shown
+    | inr here ↦ absurd (shown (none x here below))
+  ];
+  ordered = so_far.ordered;
+  before = All-weaker (λ p. p.right ≤ line) (λ p. p.right ≤ next) (λ p left_of. omega arith) runs so_far.before;
 }

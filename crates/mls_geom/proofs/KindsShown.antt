@@ -12,12 +12,13 @@ use Rattle.mls_geom.proofs.PiecePictures.{holds_outer}
 use Rattle.mls_geom.specs.Covers.{meeting}
 use Rattle.mls_geom.specs.Rects.{Rect, IsRectangleIn, holds, meets}
 use Rattle.mls_geom.specs.Pictures.{Picture, columns, kinds_in, rows, shows}
-use Rattle.mls_geom.specs.Strips.{AreStrips, IsStrip}
+use Rattle.mls_geom.specs.Locality.{AreUnorderedStrips}
+use Rattle.mls_geom.specs.Strips.{IsStrip}
 use Rattle.mls_geom.specs.declared.piece.Piece.{Piece}
 use Rattle.mls_geom.proofs.Ascending.{Contains-filter}
 use Rattle.mls_geom.proofs.Holds.{between_holds, holds_between}
 use Rattle.mls_geom.proofs.Squares.{Contains-range_with_len, range_with_len-Contains}
-use Rattle.mls_geom.proofs.StripCovers.{kind-AreStrips}
+use Rattle.mls_geom.proofs.StripCovers.{kind-AreUnorderedStrips}
 use Rattle.mls_geom.proofs.StripPictures.{kind-IsStrip}
 
 -- some square of the rectangle has the kind
@@ -42,7 +43,7 @@ shows-from_ShowsAt picture e kind (x, y, inside, same) =
     (i, y, row_within, row_is, list_any-from_Any (λ x. picture x y == kind) (columns e) (j, x, column_within, column_is, eq-eqb (picture x y) kind same))
 
 -- two rectangles that meet have a square in common
-common_square : (a b : Rect) → meets a b ≡ true → (x y : ℕ) × (holds a x y ≡ true) × (holds b x y ≡ true)
+pub common_square : (a b : Rect) → meets a b ≡ true → (x y : ℕ) × (holds a x y ≡ true) × (holds b x y ≡ true)
 common_square a b met = (max a.left b.left, max a.bottom b.bottom, grind (arith, nat_tests), grind (arith, nat_tests))
 
 -- and two that have one meet
@@ -50,7 +51,7 @@ pub meets_by_square : (a b : Rect) (x y : ℕ) → holds a x y ≡ true → hold
 meets_by_square a b x y in_a in_b = grind (arith, nat_tests)
 
 -- a square of each strip that meets the rectangle is in it
-met : (extent e : Rect) (picture : Picture) (list : List Piece) (kind : ℕ) → AreStrips extent picture list → list_any (λ piece. piece.kind == kind) (meeting list e) ≡ true → ShowsAt picture e kind
+met : (extent e : Rect) (picture : Picture) (list : List Piece) (kind : ℕ) → AreUnorderedStrips extent picture list → list_any (λ piece. piece.kind == kind) (meeting list e) ≡ true → ShowsAt picture e kind
 met extent e picture list kind strips h =
     let (k, piece, within, is, same) = Any-from_list_any (λ piece. piece.kind == kind) (meeting list e) h in
     let test = λ (piece : Piece). meets piece.rect e in
@@ -59,16 +60,16 @@ met extent e picture list kind strips h =
     (x, y, inside, sym (kind-IsStrip extent picture piece x y strip in_strip) ∙ eqb-true piece.kind kind same)
 
 -- and the strip of each of its squares meets it
-met_by : (extent e : Rect) (picture : Picture) (list : List Piece) (kind : ℕ) → AreStrips extent picture list → IsRectangleIn extent e → ShowsAt picture e kind → list_any (λ piece. piece.kind == kind) (meeting list e) ≡ true
+met_by : (extent e : Rect) (picture : Picture) (list : List Piece) (kind : ℕ) → AreUnorderedStrips extent picture list → IsRectangleIn extent e → ShowsAt picture e kind → list_any (λ piece. piece.kind == kind) (meeting list e) ≡ true
 met_by extent e picture list kind strips legal (x, y, inside, same) =
     let (k, piece, within, is, in_strip) = strips.whole x y (holds_outer extent e x y legal inside) in
     let (j, there, found) = Contains-filter (λ piece. meets piece.rect e) list piece (k, within, is) (meets_by_square piece.rect e x y in_strip inside) in
     list_any-from_Any (λ piece. piece.kind == kind) (meeting list e)
-    (j, piece, there, found, eq-eqb piece.kind kind (kind-AreStrips extent picture list piece x y strips (k, within, is) in_strip ∙ same))
+    (j, piece, there, found, eq-eqb piece.kind kind (kind-AreUnorderedStrips extent picture list piece x y strips (k, within, is) in_strip ∙ same))
 
 -- the strips that meet a rectangle have the kinds of its squares
 list_any-meeting :
-    (extent e : Rect) (picture : Picture) (list : List Piece) (kind : ℕ) → AreStrips extent picture list → IsRectangleIn extent e
+    (extent e : Rect) (picture : Picture) (list : List Piece) (kind : ℕ) → AreUnorderedStrips extent picture list → IsRectangleIn extent e
     → list_any (λ piece. piece.kind == kind) (meeting list e) ≡ shows picture e kind
 list_any-meeting extent e picture list kind strips legal =
     same_from_decides {P = ShowsAt picture e kind} _ _ (met extent e picture list kind strips, met_by extent e picture list kind strips legal) (ShowsAt-from_shows picture e kind, shows-from_ShowsAt picture e kind)
@@ -96,7 +97,7 @@ fold-with_kind_of-above kinds whole piece left rest fits above so_far next =
 
 -- so their kinds, gathered one by one, are the kinds in it
 pub fold-meeting :
-    (extent e : Rect) (picture : Picture) (list : List Piece) → AreStrips extent picture list → IsRectangleIn extent e
+    (extent e : Rect) (picture : Picture) (list : List Piece) → AreUnorderedStrips extent picture list → IsRectangleIn extent e
     → fold with_kind_of 0 (meeting list e) ≡ kinds_in picture e
 unfolding kinds_in
 fold-meeting extent e picture list strips legal =

@@ -10,12 +10,13 @@ pub mod CoveredCounts
 pub mod CoveredStrips
 pub mod CutLines
 pub mod Holds
-pub mod Joining
 pub mod JoinedLists
+pub mod Joining
 pub mod KindsShown
 pub mod Links
 pub mod ListChanges
 pub mod ListLemmas
+pub mod LocalOverlays
 pub mod Overlays
 pub mod Painted
 pub mod PiecePictures
@@ -35,3 +36,4 @@ pub mod SweepRoomLemmas
 pub mod TouchedStrips
 pub mod UnorderedStrips
 pub mod UntouchedStrips
+pub mod WholePlanes

@@ -71,7 +71,6 @@ HasPainted-more old_kinds old_free kinds free next_free from to kind slot next p
       slots = record {
         count = omega arith;
         links = walk.links;
-        space = λ other in_row free_here. grind (arith, nat_tests, common_steps, walk.painted other, painted.slots.space other, painted.slots.links.forward other);
       };
       within = omega (arith, walk.within);
       here = here;

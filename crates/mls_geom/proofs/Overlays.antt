@@ -1,5 +1,5 @@
 -- Pieces painted over a picture, in turn.
-use Rattle.std.proofs.Common.{◌≡◌, ℕ, zero, suc, ◌<◌, true, false, List, [], ◌∷◌, ◌++◌, length, get_or, All, Any, refl, ap, suc-le-suc, le_of_suc-le-suc, ◌∙◌, arith}
+use Rattle.std.proofs.Common.{◌≡◌, ℕ, zero, suc, ◌<◌, true, false, if◌then◌else◌, List, [], ◌∷◌, ◌++◌, length, get_or, All, Any, refl, ap, suc-le-suc, le_of_suc-le-suc, ◌∙◌, arith}
 use Rattle.std.proofs.lemmas.Bool.{cond-true, cond-false, cond_both}
 use Rattle.std.proofs.lemmas.List.Elements.{All-from_get_or, All-head, All-tail}
 use Rattle.mls_geom.specs.Rects.{holds}
@@ -18,6 +18,14 @@ painted_outside below piece x y outside = cond-false (holds piece.rect x y) piec
 -- where it has one, its kind shows
 pub painted_inside : (below : Picture) (piece : Piece) (x y : ℕ) → holds piece.rect x y ≡ true → painted below piece x y ≡ piece.kind
 painted_inside below piece x y inside = cond-true (holds piece.rect x y) piece.kind (below x y) inside
+
+-- what a square shows after painting depends only on what it showed before
+painted-at : (below other : Picture) (piece : Piece) (x y : ℕ) → below x y ≡ other x y → painted below piece x y ≡ painted other piece x y
+painted-at below other piece x y same = ap (λ kind. if holds piece.rect x y then piece.kind else kind) same
+
+pub overlaid-at : (below other : Picture) (pieces : List Piece) (x y : ℕ) → below x y ≡ other x y → overlaid below pieces x y ≡ overlaid other pieces x y
+overlaid-at below other [] x y same = same
+overlaid-at below other (piece ∷ pieces) x y same = overlaid-at (painted below piece) (painted other piece) pieces x y (painted-at below other piece x y same)
 
 -- where no piece has a square, the picture below shows
 pub overlaid_outside : (below : Picture) (pieces : List Piece) (x y : ℕ) → All (λ piece. holds piece.rect x y ≡ false) pieces → overlaid below pieces x y ≡ below x y

@@ -1,11 +1,12 @@
--- The runs of a row: a square lies in one only, and in a list of them each begins where the last one ends.
-use Rattle.std.proofs.Common.{◌≡◌, ℕ, ◌+◌, ◌-◌, ◌<◌, ◌≤◌, List, length, get_or, set, map, le_refl, sym, ap, ◌∙◌, arith, inl, inr}
+-- The runs of a row: a square lies in one only, and between the runs of a list of them no square is covered.
+use Rattle.std.proofs.Common.{◌≡◌, ◌≢◌, ℕ, ◌+◌, ◌-◌, ◌<◌, ◌≤◌, List, length, get_or, set, map, le_refl, sym, ap, ◌∙◌, arith, inl, inr}
 use Rattle.std.specs.List.{Any}
-use Rattle.std.proofs.lemmas.Bool.{cases_lt}
-use Rattle.std.proofs.lemmas.List.{get_or-map, get_or_past, get_or_default, length-map, map-set, set-get_or}
-use Rattle.std.proofs.lemmas.List.Elements.{All-set}
+use Rattle.std.proofs.lemmas.Bool.{cases_eq, cases_lt}
+use Rattle.std.proofs.lemmas.List.{get_or-map, get_or_past, length-map, map-set, set-get_or}
+use Rattle.std.proofs.lemmas.List.Elements.{All-map, All-set}
 use Rattle.mls_geom.specs.Rects.{Rect}
 use Rattle.mls_geom.specs.Pictures.{Picture}
+use Rattle.mls_geom.specs.Locality.{uncovered}
 use Rattle.mls_geom.specs.Sweep.Rows.{AreRuns}
 use Rattle.mls_geom.specs.Sweep.Stacks.{up_to}
 use Rattle.mls_geom.specs.Strips.{IsRun}
@@ -74,12 +75,13 @@ one_run x p q from to from' to' = record {
   kind = one_kind_shared x p q from to from' to';
 }
 
--- a run of a row is in the list of its runs
+-- a run of covered squares is in the list of its row's runs
 pub run_listed :
-    {extent : Rect} {picture : Picture} {l r y k : ℕ} (runs : List Run) → AreRuns extent picture y runs → IsRun extent picture l r y k
+    {extent : Rect} {picture : Picture} {l r y k : ℕ} (runs : List Run) → AreRuns extent picture y runs → IsRun extent picture l r y k → k ≢ uncovered
     → Any (λ run. AreOneRun run.left run.right run.kind l r k) runs
-run_listed {l} runs list run =
-    let (n, here, within, is, at) = list.whole l run.from (omega (arith, run.wide, run.to)) in
+run_listed {l} runs list run covered =
+    let here = run.one_kind l (le_refl l) run.wide in
+    let (n, here, within, is, at) = list.whole l run.from (omega (arith, run.wide, run.to)) (λ none. covered (sym here ∙ none)) in
     (n, here, within, is, one_run l (rw is at (list.each n here within)) run at.0 at.1 (omega arith) run.wide)
 
 -- the left line of a run of the list, or, past the list's end, another line
@@ -92,17 +94,8 @@ left_line-within runs n end d within = get_or-map (λ run. run.left) runs n d en
 pub left_line-past : (runs : List Run) (n end : ℕ) → length runs ≤ n → left_line runs n end ≡ end
 left_line-past runs n end past = get_or_past (map (λ run. run.left) runs) n end (simp length-map past)
 
--- the run that has a square of the row
-run_at :
-    {extent : Rect} {picture : Picture} {y : ℕ} (runs : List Run) (x : ℕ) (d : Run) → AreRuns extent picture y runs → extent.left ≤ x → x < extent.right
-    → (n : ℕ) × (n < length runs) × ((get_or runs n d).left ≤ x) × (x < (get_or runs n d).right)
-run_at runs x d list from to =
-    let (n, here, within, is, at) = list.whole x from to in
-    let same = sym (get_or_default runs n here d within) ∙ is in
-    (n, within, rw same at.0, rw same at.1)
-
 -- the lines of the runs ascend
-lines_ascend :
+pub lines_ascend :
     {extent : Rect} {picture : Picture} {y : ℕ} (runs : List Run) (m n : ℕ) (d : Run) → AreRuns extent picture y runs → m ≤ n → n < length runs
     → ((get_or runs m d).left ≤ (get_or runs n d).left) × ((get_or runs m d).right ≤ (get_or runs n d).right)
 lines_ascend runs m n d list up within = elim (cases_lt m n) [
@@ -115,39 +108,49 @@ lines_ascend runs m n d list up within = elim (cases_lt m n) [
       rw same (le_refl (get_or runs n d).left, le_refl (get_or runs n d).right)
 ]
 
--- the first run begins where the extent does
-pub left_line-first : {extent : Rect} {picture : Picture} {y : ℕ} (runs : List Run) → AreRuns extent picture y runs → extent.left < extent.right → left_line runs 0 extent.right ≡ extent.left
-left_line-first {extent} runs list wide =
-    let (n, run, within, is, at) = list.whole extent.left (le_refl extent.left) wide in
-    let first = list.each 0 run (omega arith) in
-    left_line-within runs 0 extent.right run (omega arith) ∙ omega (arith, first.from, rw is at (lines_ascend runs 0 n run list (omega arith) within), at.0)
-
--- each run begins where the last one ends, and the last ends where the extent does
-next_begins :
-    {extent : Rect} {picture : Picture} {y : ℕ} (runs : List Run) (n : ℕ) (d : Run) → AreRuns extent picture y runs → n < length runs
-    → (get_or runs n d).right < extent.right → (n + 1 < length runs) × ((get_or runs (n + 1) d).left ≤ (get_or runs n d).right)
-next_begins runs n d list within inside =
-    let run = list.each n d within in
-    let (m, within', from, to) = run_at runs (get_or runs n d).right d list (omega (arith, run.from, run.wide)) inside in
-    elim (cases_lt n m) [
-      | inl later ↦ (omega arith, omega (arith, lines_ascend runs (n + 1) m d list (omega arith) within'))
-      | inr sooner ↦ absurd (omega (arith, lines_ascend runs m n d list sooner within))
+-- the left line of a run lies in the extent
+left_lines_inside :
+    {extent : Rect} {picture : Picture} {y : ℕ} (runs : List Run) (n : ℕ) → AreRuns extent picture y runs → extent.left ≤ extent.right
+    → (extent.left ≤ left_line runs n extent.right) × (left_line runs n extent.right ≤ extent.right)
+left_lines_inside {extent} runs n list wide =
+    let lefts = map (λ (run : Run). run.left) runs in
+    let inside = All-map (λ line. (extent.left ≤ line) × (line ≤ extent.right)) (λ (run : Run). run.left) runs
+    (λ k d within. ((list.each k d within).from, omega (arith, (list.each k d within).wide, (list.each k d within).to))) in
+    elim (cases_lt n (length lefts)) [
+      | inl within ↦ inside n extent.right within
+      | inr past ↦ rw (get_or_past lefts n extent.right past) (wide, le_refl extent.right)
     ]
 
+pub left_line-from :
+    {extent : Rect} {picture : Picture} {y : ℕ} (runs : List Run) (n : ℕ) → AreRuns extent picture y runs → extent.left ≤ extent.right → extent.left ≤ left_line runs n extent.right
+left_line-from runs n list wide = (left_lines_inside runs n list wide).0
+
+pub left_line-to :
+    {extent : Rect} {picture : Picture} {y : ℕ} (runs : List Run) (n : ℕ) → AreRuns extent picture y runs → extent.left ≤ extent.right → left_line runs n extent.right ≤ extent.right
+left_line-to runs n list wide = (left_lines_inside runs n list wide).1
+
+-- the next run begins where a run ends, or further right
 pub left_line-next :
     {extent : Rect} {picture : Picture} {y : ℕ} (runs : List Run) (n : ℕ) (d : Run) → AreRuns extent picture y runs → n < length runs
-    → left_line runs (n + 1) extent.right ≡ (get_or runs n d).right
+    → (get_or runs n d).right ≤ left_line runs (n + 1) extent.right
 left_line-next {extent} runs n d list within = elim (cases_lt (n + 1) (length runs)) [
-  | inl more ↦
-      let next = list.each (n + 1) d more in
-      let touches = list.ordered n (n + 1) d (omega arith) more in
-      left_line-within runs (n + 1) extent.right d more ∙ omega (arith, touches, next_begins runs n d list within (omega (arith, touches, next.wide, next.to)))
-  | inr last ↦
-      let ends = elim (cases_lt (get_or runs n d).right extent.right) as (λ _. extent.right ≤ (get_or runs n d).right) [
-        | inl inside ↦ absurd (omega (arith, next_begins runs n d list within inside))
-        | inr ends ↦ ends
-      ] in
-      left_line-past runs (n + 1) extent.right last ∙ omega (arith, (list.each n d within).to, ends)
+  | inl more ↦ rw (left_line-within runs (n + 1) extent.right d more) (list.ordered n (n + 1) d (omega arith) more)
+  | inr last ↦ rw (left_line-past runs (n + 1) extent.right last) (list.each n d within).to
+]
+
+-- left of a run, and right of those before it, no square is covered
+pub uncovered-between :
+    {extent : Rect} {picture : Picture} {y : ℕ} (runs : List Run) (n x : ℕ) → AreRuns extent picture y runs → extent.left ≤ extent.right → extent.left ≤ x → x < left_line runs n extent.right
+    → ((m : ℕ) (d : Run) → m < n → m < length runs → (get_or runs m d).right ≤ x) → picture x y ≡ uncovered
+uncovered-between {extent} {picture} {y} runs n x list wide left before passed = elim (cases_eq (picture x y) uncovered) [
+  | inl none ↦ none
+  | inr some ↦
+      let inside : x < extent.right = omega (arith, left_line-to runs n list wide) in
+      let (m, run, within, is, at) = list.whole x left inside some in
+      elim (cases_lt m n) [
+        | inl sooner ↦ absurd (omega (arith, rw is at (passed m run sooner within), at.1))
+        | inr later ↦ absurd (omega (arith, left_line-within runs n extent.right run (omega arith), rw is at (lines_ascend runs n m run list later within), at.0))
+      ]
 ]
 
 -- a run with another strip
@@ -168,7 +171,8 @@ AreRuns-set {extent} {picture} {y} runs n strip d within list =
     let run = named strip (get_or runs n d) in
     record {
       each = All-set (λ run. IsRun extent picture run.left run.right y run.kind) runs n run (list.each n d within) list.each;
-      whole = λ x from to. Any-set_kept (λ run. (run.left ≤ x) × (x < run.right)) runs n run d (λ held. held) (list.whole x from to);
+      covered = All-set (λ run. run.kind ≢ uncovered) runs n run (list.covered n d within) list.covered;
+      whole = λ x from to some. Any-set_kept (λ run. (run.left ≤ x) × (x < run.right)) runs n run d (λ held. held) (list.whole x from to some);
       ordered = AllPairs-set (λ p q. p.right ≤ q.left) runs n run d (λ _ before. before) (λ _ before. before) list.ordered;
     }
 
@@ -176,4 +180,9 @@ AreRuns-set {extent} {picture} {y} runs n strip d within list =
 pub AreRuns-alike :
     {extent : Rect} {picture : Picture} {y : ℕ} {runs : List Run} (z : ℕ) → ((x : ℕ) → extent.left ≤ x → x < extent.right → picture x z ≡ picture x y)
     → AreRuns extent picture y runs → AreRuns extent picture z runs
-AreRuns-alike z alike list = record { each = λ k d within. IsRun-alike z alike (list.each k d within); whole = list.whole; ordered = list.ordered }
+AreRuns-alike z alike list = record {
+  each = λ k d within. IsRun-alike z alike (list.each k d within);
+  covered = list.covered;
+  whole = λ x from to some. list.whole x from to (λ none. some (alike x from to ∙ none));
+  ordered = list.ordered;
+}

@@ -3,21 +3,22 @@ use Rattle.std.proofs.Common.{◌≡◌, ℕ, ◌+◌, ◌-◌, ◌<◌, ◌≤�
 use Rattle.std.specs.List.{AllWithin, HoldsAt}
 use Rattle.std.proofs.lemmas.Bool.{cases_lt, cases_order}
 use Rattle.std.proofs.lemmas.Option.{slice_get-get_or}
-use Rattle.std.proofs.lemmas.List.{take_all, take_more_set}
+use Rattle.std.proofs.lemmas.List.{get_or_default, take_all, take_more_set}
 use Rattle.std.proofs.lemmas.List.Elements.{All-push, All-weaker}
 use Rattle.mls_geom.specs.Rects.{Rect}
 use Rattle.mls_geom.specs.Pictures.{Picture}
 use Rattle.mls_geom.specs.Sweep.Rows.{AreRuns}
 use Rattle.mls_geom.specs.Sweep.Stacks.{AreStacked, AreAlike, NameStrips, ReachesUp, StandsOn, new_strip, extended, up_to}
-use Rattle.mls_geom.specs.TileCounts.{tile_count}
+use Rattle.mls_geom.specs.Locality.{covered_count}
 use Rattle.mls_geom.specs.declared.piece.Piece.{Piece}
 use Rattle.mls_geom.specs.declared.run.Run.{Run}
 use Rattle.mls_geom.proofs.ListChanges.{IsSomeAnd-append, IsSomeAnd-push, IsSomeAnd-set, IsSomeAnd-set_same, at_IsSomeAnd}
-use Rattle.mls_geom.proofs.RowRuns.{AreOneRun, AreRuns-alike, AreRuns-set, left_line, left_line-first, left_line-next, left_line-past, left_line-set, left_line-within, named, run_listed}
-use Rattle.mls_geom.proofs.Stacking.{BeginsAt, IsBand, IsPartlyStacked, IsPartlyStacked-new_strip, IsPartlyStacked-end, IsPartlyStacked-extended, IsPartlyStacked-start, length-lt-tile_count}
+use Rattle.mls_geom.proofs.RowRuns.{AreOneRun, AreRuns-alike, AreRuns-set, left_line, left_line-from, left_line-next, left_line-past, left_line-set, left_line-within, lines_ascend, named, run_listed, uncovered-between}
+use Rattle.mls_geom.proofs.Stacking.{BeginsAt, IsBand, IsPartlyStacked, IsPartlyStacked-new_strip, IsPartlyStacked-end, IsPartlyStacked-extended, IsPartlyStacked-start, IsPartlyStacked-uncovered, length-lt-covered_count}
 
 -- of the band's row the first n runs are stacked, and of the runs below it those before the index are passed
 pub record IsRowStacked (extent : Rect) (picture : Picture) (bottom top : ℕ) (below row : List Run) (index n : ℕ) (strips : List Piece) : Type 0 where
+  pub wide : extent.left < extent.right
   pub band : IsBand extent picture bottom top
   pub runs : AreRuns extent picture bottom row
   pub runs_below : extent.bottom < bottom → AreRuns extent picture (bottom - 1) below
@@ -31,11 +32,14 @@ pub IsRowStacked-start :
     {extent : Rect} {picture : Picture} {bottom top : ℕ} {below row : List Run} {strips : List Piece} → extent.left < extent.right → extent.bottom ≤ bottom → bottom < top
     → AreStacked extent picture bottom strips below → AreRuns extent picture bottom row → AreAlike extent picture bottom top
     → IsRowStacked extent picture bottom top below row 0 0 strips
-IsRowStacked-start {bottom} {top} {row} wide from tall stacked runs alike = record {
+IsRowStacked-start {extent} {bottom} {top} {row} wide from tall stacked runs alike = record {
+  wide = wide;
   band = record { from = from; tall = tall; alike = alike };
   runs = runs;
   runs_below = stacked.runs;
-  partly = rw (left_line-first row runs wide) (IsPartlyStacked-start bottom top stacked.laid stacked.count);
+  partly = IsPartlyStacked-uncovered (left_line row 0 extent.right) (omega arith) (omega arith) (left_line-from row 0 runs (omega arith))
+      (λ x left before. uncovered-between row 0 x runs (omega arith) left before (λ m d sooner within. absurd (omega arith)))
+      (IsPartlyStacked-start bottom top stacked.laid stacked.count);
   passed = λ k d above within. absurd (omega arith);
   named = λ k d within. absurd (omega arith);
   named_below = λ k d within _. stacked.named k d within;
@@ -99,7 +103,7 @@ pub BeginsAt-found :
     → ¬ (IsSomeAnd (slice_get below at) (StandsOn (get_or row n d))) → BeginsAt extent picture bottom (get_or row n d)
 BeginsAt-found {below} d at state within passed stopped stands_on_none above run_below =
     let list = state.runs_below above in
-    let (m, under, below_within, is, same) = run_listed below list run_below in
+    let (m, under, below_within, is, same) = run_listed below list run_below (state.runs.covered _ d within) in
     elim (cases_order m at) [
       | inl here ↦ stands_on_none (rw (← here, slice_get-get_or below m under below_within, is) (record { left = same.left; right = same.right; kind = same.kind }))
       | inr (inl before) ↦ omega (arith, rw is at (passed_here d at state within passed m under (omega arith) before), same.left)
@@ -111,8 +115,21 @@ BeginsAt-found {below} d at state within passed stopped stands_on_none above run
 -- the line at which the next run begins
 next_line :
     {extent : Rect} {picture : Picture} {bottom : ℕ} (row : List Run) (n strip : ℕ) (d : Run) → AreRuns extent picture bottom row → n < length row
-    → left_line (set row n (named strip (get_or row n d))) (n + 1) extent.right ≡ (get_or row n d).right
-next_line {extent} row n strip d runs within = left_line-set row n strip (n + 1) extent.right d within ∙ left_line-next row n d runs within
+    → (get_or row n d).right ≤ left_line (set row n (named strip (get_or row n d))) (n + 1) extent.right
+next_line {extent} row n strip d runs within = rw (left_line-set row n strip (n + 1) extent.right d within) (left_line-next row n d runs within)
+
+-- up to it no square is covered
+up_to_next :
+    {extent : Rect} {picture : Picture} {bottom top : ℕ} {strips : List Piece} (row : List Run) (n strip : ℕ) (d : Run) → extent.left < extent.right → bottom < top
+    → AreRuns extent picture bottom row → n < length row → IsPartlyStacked extent picture bottom top (get_or row n d).right strips
+    → IsPartlyStacked extent picture bottom top (left_line (set row n (named strip (get_or row n d))) (n + 1) extent.right) strips
+up_to_next {extent} {bottom} {top} row n strip d wide tall runs within part =
+    let here = runs.each n d within in
+    rw (left_line-set row n strip (n + 1) extent.right d within)
+    (IsPartlyStacked-uncovered (left_line row (n + 1) extent.right) (omega arith) (omega (arith, here.from, here.wide)) (left_line-next row n d runs within)
+    (λ x after before. uncovered-between row (n + 1) x runs (omega arith) (omega (arith, here.from, here.wide)) before
+    (λ m e sooner m_within. omega (arith, rw (get_or_default row n e d within) at (lines_ascend row m n e runs (omega arith) within).1)))
+    part)
 
 -- the runs stacked name their strips, one run of the row later
 named_more :
@@ -136,11 +153,13 @@ IsRowStacked-extended {extent} {bottom} {top} {n} {below} {row} {strips} d e at 
     let next = next_line row n strip d state.runs within in
     let new = extended top (get_or strips strip e) in
     record {
+      wide = state.wide;
       band = state.band;
       runs = AreRuns-set row n strip d within state.runs;
       runs_below = state.runs_below;
-      partly = rw next (IsPartlyStacked-extended run strip e state.band here (rw line at state.partly) strip_within under.reaches under.same);
-      passed = rw next (λ k f above before. omega (arith, passed_here d at state within passed k f above before, here.wide));
+      partly = up_to_next row n strip d state.wide state.band.tall state.runs within
+          (IsPartlyStacked-extended run strip e state.band here (state.runs.covered n d within) (rw line at state.partly) strip_within under.reaches under.same);
+      passed = λ k f above before. omega (arith, next, passed_here d at state within passed k f above before, here.wide);
       named = named_more top row n (named strip run) strips (set strips strip new) within state.named
           (λ p. IsSomeAnd-set (ReachesUp top p) strips strip p.strip new e (λ reaches. record { left = reaches.left; right = reaches.right; top = refl; kind = reaches.kind }))
           (IsSomeAnd-set_same (ReachesUp top (named strip run)) strips strip new strip_within
@@ -163,11 +182,13 @@ IsRowStacked-new_strip {extent} {bottom} {top} {n} {below} {row} {strips} d at s
     let next = next_line row n (length strips) d state.runs within in
     let new = new_strip bottom top run in
     record {
+      wide = state.wide;
       band = state.band;
       runs = AreRuns-set row n (length strips) d within state.runs;
       runs_below = state.runs_below;
-      partly = rw next (IsPartlyStacked-new_strip run state.band here (rw line at state.partly) begins);
-      passed = rw next (λ k f above before. omega (arith, passed_here d at state within passed k f above before, here.wide));
+      partly = up_to_next row n (length strips) d state.wide state.band.tall state.runs within
+          (IsPartlyStacked-new_strip run state.band here (state.runs.covered n d within) (rw line at state.partly) begins);
+      passed = λ k f above before. omega (arith, next, passed_here d at state within passed k f above before, here.wide);
       named = named_more top row n (named (length strips) run) strips (strips ++ new ∷ []) within state.named
           (λ p. IsSomeAnd-append (ReachesUp top p) strips (new ∷ []) p.strip)
           (IsSomeAnd-push (ReachesUp top (named (length strips) run)) strips new (record { left = refl; right = refl; top = refl; kind = refl }));
@@ -176,9 +197,9 @@ IsRowStacked-new_strip {extent} {bottom} {top} {n} {below} {row} {strips} d at s
     }
 
 -- where one more run begins a strip, there are more strips than are stacked so far
-pub length-lt-tile_count_of_row :
+pub length-lt-covered_count_of_row :
     {extent : Rect} {picture : Picture} {bottom top index n : ℕ} {below row : List Run} {strips : List Piece} (d : Run)
     → IsRowStacked extent picture bottom top below row index n strips → n < length row
-    → BeginsAt extent picture bottom (get_or row n d) → length strips < tile_count (up_to top extent) picture
-length-lt-tile_count_of_row {extent} {n} {row} d state within begins =
-    length-lt-tile_count (get_or row n d) state.band (state.runs.each n d within) (rw (left_line-within row n extent.right d within) at state.partly) begins
+    → BeginsAt extent picture bottom (get_or row n d) → length strips < covered_count (up_to top extent) picture
+length-lt-covered_count_of_row {extent} {n} {row} d state within begins =
+    length-lt-covered_count (get_or row n d) state.band (state.runs.each n d within) (state.runs.covered n d within) (rw (left_line-within row n extent.right d within) at state.partly) begins

@@ -1,5 +1,5 @@
--- The strips while a band is stacked on them from left to right: in the columns left of a line up to the band's top, in the others up to its bottom.
-use Rattle.std.proofs.Common.{◌≡◌, ℕ, ◌+◌, ◌-◌, ◌<◌, ◌≤◌, List, [], ◌∷◌, ◌++◌, length, get_or, set, All, IsTrue, true, inl, inr, le_refl, sym, ◌∙◌, arith, length-set}
+-- The strips of covered squares while a band is stacked on them from left to right: in the columns left of a line up to the band's top, in the others up to its bottom.
+use Rattle.std.proofs.Common.{◌≡◌, ◌≢◌, ℕ, ◌+◌, ◌-◌, ◌<◌, ◌≤◌, List, [], ◌∷◌, ◌++◌, length, get_or, set, All, IsTrue, true, inl, inr, le_refl, sym, ◌∙◌, arith, length-set}
 use Rattle.std.specs.List.{Any, AllPairs}
 use Rattle.std.proofs.lemmas.Bool.{cases_lt, cases_order, false_from_ne_true}
 use Rattle.std.proofs.lemmas.Bool.Decides.{nat_tests}
@@ -9,11 +9,12 @@ use Rattle.std.proofs.lemmas.List.Quantifiers.{any-set, Any-push, all_pairs_push
 use Rattle.mls_geom.specs.Rects.{Rect, holds}
 use Rattle.mls_geom.specs.Pictures.{Picture}
 use Rattle.mls_geom.specs.Sweep.Stacks.{AreAlike, up_to, extended, new_strip}
-use Rattle.mls_geom.specs.Strips.{AreStrips, IsRun, IsStrip, comes_before}
-use Rattle.mls_geom.specs.TileCounts.{goes_on_below, tile_count}
+use Rattle.mls_geom.specs.Locality.{AreCoveredStrips, covered_count, uncovered}
+use Rattle.mls_geom.specs.Strips.{IsRun, IsStrip, comes_before}
+use Rattle.mls_geom.specs.TileCounts.{goes_on_below}
 use Rattle.mls_geom.specs.declared.piece.Piece.{Piece}
 use Rattle.mls_geom.specs.declared.run.Run.{Run}
-use Rattle.mls_geom.proofs.BandCorners.{IsRun-from_goes_on_below, corners_between-grows, corners_between-run, goes_on_below-IsRun, tile_count-band}
+use Rattle.mls_geom.proofs.BandCorners.{IsRun-from_goes_on_below, corners_between-grows, corners_between-run, corners_between-uncovered, covered_count-band, goes_on_below-IsRun}
 use Rattle.mls_geom.proofs.CornerCounts.{corners_between}
 use Rattle.mls_geom.proofs.Holds.{holds_between, between_holds}
 use Rattle.mls_geom.proofs.ListChanges.{All-set_others, AllPairs-set, Any-append, Any-set_kept}
@@ -29,10 +30,11 @@ pub record IsPartlyStacked (extent : Rect) (picture : Picture) (bottom top colum
   pub done : All (λ strip. strip.rect.left < column → IsStrip (up_to top extent) picture strip) strips
   pub to_do : All (λ strip. column ≤ strip.rect.left → IsStrip (up_to bottom extent) picture strip) strips
   pub low : All (λ strip. strip.rect.bottom ≤ bottom) strips
-  pub below : (x y : ℕ) → IsTrue (holds (up_to bottom extent) x y) → Any (HasSquare x y) strips
-  pub beside : (x y : ℕ) → extent.left ≤ x → x < column → bottom ≤ y → y < top → Any (HasSquare x y) strips
+  pub covered : All (λ strip. strip.kind ≢ uncovered) strips
+  pub below : (x y : ℕ) → IsTrue (holds (up_to bottom extent) x y) → picture x y ≢ uncovered → Any (HasSquare x y) strips
+  pub beside : (x y : ℕ) → extent.left ≤ x → x < column → bottom ≤ y → y < top → picture x bottom ≢ uncovered → Any (HasSquare x y) strips
   pub ordered : AllPairs (λ p q. IsTrue (comes_before p q)) strips
-  pub count : length strips ≡ tile_count (up_to bottom extent) picture + corners_between extent picture bottom extent.left column
+  pub count : length strips ≡ covered_count (up_to bottom extent) picture + corners_between extent picture bottom extent.left column
 
 -- a band of rows that are alike
 pub record IsBand (extent : Rect) (picture : Picture) (bottom top : ℕ) : Type 0 where
@@ -101,11 +103,11 @@ holds_extended piece top x y up held =
 -- the run goes on with a strip
 pub IsPartlyStacked-extended :
     {extent : Rect} {picture : Picture} {bottom top : ℕ} {strips : List Piece} (run : Run) (n : ℕ) (d : Piece)
-    → IsBand extent picture bottom top → IsRun extent picture run.left run.right bottom run.kind → IsPartlyStacked extent picture bottom top run.left strips
+    → IsBand extent picture bottom top → IsRun extent picture run.left run.right bottom run.kind → run.kind ≢ uncovered → IsPartlyStacked extent picture bottom top run.left strips
     → n < length strips → (get_or strips n d).rect.top ≡ bottom
     → AreOneRun (get_or strips n d).rect.left (get_or strips n d).rect.right (get_or strips n d).kind run.left run.right run.kind
     → IsPartlyStacked extent picture bottom top run.right (set strips n (extended top (get_or strips n d)))
-IsPartlyStacked-extended {extent} {picture} {bottom} {top} {strips} run n d band here part within reaches same =
+IsPartlyStacked-extended {extent} {picture} {bottom} {top} {strips} run n d band here some part within reaches same =
     let strip = get_or strips n d in
     let stood = part.to_do n d within (omega (arith, same.left)) in
     let (above, under) = row_below run stood reaches same in
@@ -120,24 +122,25 @@ IsPartlyStacked-extended {extent} {picture} {bottom} {top} {strips} run n d band
           (λ right. absurd (omega (arith, here.wide, same.left)))
           (λ k inside _ right. part.to_do k d inside (omega (arith, here.wide)));
       low = All-set (λ strip. strip.rect.bottom ≤ bottom) strips n (extended top strip) (part.low n d within) part.low;
-      below = λ x y inside. Any-set_kept (HasSquare x y) strips n (extended top strip) d (held_more x y) (part.below x y inside);
-      beside = λ x y left right above under. elim (cases_lt x run.left) [
-        | inl before ↦ Any-set_kept (HasSquare x y) strips n (extended top strip) d (held_more x y) (part.beside x y left before above under)
+      covered = All-set (λ strip. strip.kind ≢ uncovered) strips n (extended top strip) (part.covered n d within) part.covered;
+      below = λ x y inside shown. Any-set_kept (HasSquare x y) strips n (extended top strip) d (held_more x y) (part.below x y inside shown);
+      beside = λ x y left right above under shown. elim (cases_lt x run.left) [
+        | inl before ↦ Any-set_kept (HasSquare x y) strips n (extended top strip) d (held_more x y) (part.beside x y left before above under shown)
         | inr from ↦ any-set (HasSquare x y) strips n (extended top strip) within
             (between_holds (extended top strip).rect x y (omega (arith, same.left)) (omega (arith, same.right)) (omega (arith, part.low n d within)) under)
       ];
       ordered = AllPairs-set (λ p q. IsTrue (comes_before p q)) strips n (extended top strip) d (λ _ before. before) (λ _ before. before) part.ordered;
-      count = rw length-set (omega (arith, part.count, rw goes_on at (corners_between-run here)));
+      count = rw length-set (omega (arith, part.count, rw goes_on at (corners_between-run here some)));
     }
 
 -- a run that begins a strip is one corner more
 corner_begins :
-    {extent : Rect} {picture : Picture} {bottom : ℕ} (run : Run) → IsRun extent picture run.left run.right bottom run.kind → BeginsAt extent picture bottom run
+    {extent : Rect} {picture : Picture} {bottom : ℕ} (run : Run) → IsRun extent picture run.left run.right bottom run.kind → run.kind ≢ uncovered → BeginsAt extent picture bottom run
     → corners_between extent picture bottom extent.left run.right ≡ corners_between extent picture bottom extent.left run.left + 1
-corner_begins {extent} {picture} {bottom} run here begins =
+corner_begins {extent} {picture} {bottom} run here some begins =
     let under = λ (goes_on : goes_on_below extent picture run.left bottom ≡ true). IsRun-from_goes_on_below here goes_on in
     let ends_below = false_from_ne_true _ (λ goes_on. begins (under goes_on).0 (under goes_on).1) in
-    rw ends_below at (corners_between-run here)
+    rw ends_below at (corners_between-run here some)
 
 -- a strip that begins with a run of the band comes after those before it
 new_strip_last :
@@ -153,9 +156,9 @@ new_strip_last bottom top run piece low lower = elim (cases_lt piece.rect.left r
 -- the run begins a strip
 pub IsPartlyStacked-new_strip :
     {extent : Rect} {picture : Picture} {bottom top : ℕ} {strips : List Piece} (run : Run)
-    → IsBand extent picture bottom top → IsRun extent picture run.left run.right bottom run.kind → IsPartlyStacked extent picture bottom top run.left strips
+    → IsBand extent picture bottom top → IsRun extent picture run.left run.right bottom run.kind → run.kind ≢ uncovered → IsPartlyStacked extent picture bottom top run.left strips
     → BeginsAt extent picture bottom run → IsPartlyStacked extent picture bottom top run.right (strips ++ new_strip bottom top run ∷ [])
-IsPartlyStacked-new_strip {extent} {picture} {bottom} {top} {strips} run band here part begins =
+IsPartlyStacked-new_strip {extent} {picture} {bottom} {top} {strips} run band here some part begins =
     let strip = new_strip bottom top run in
     record {
       done = All-push (λ strip. strip.rect.left < run.right → IsStrip (up_to top extent) picture strip) strips strip
@@ -166,13 +169,14 @@ IsPartlyStacked-new_strip {extent} {picture} {bottom} {top} {strips} run band he
           (λ k d inside right. part.to_do k d inside (omega (arith, here.wide)))
           (λ right. absurd (omega (arith, here.wide)));
       low = All-push (λ strip. strip.rect.bottom ≤ bottom) strips strip part.low (le_refl bottom);
-      below = λ x y inside. Any-append (HasSquare x y) strips (strip ∷ []) (part.below x y inside);
-      beside = λ x y left right above under. elim (cases_lt x run.left) [
-        | inl before ↦ Any-append (HasSquare x y) strips (strip ∷ []) (part.beside x y left before above under)
+      covered = All-push (λ strip. strip.kind ≢ uncovered) strips strip part.covered some;
+      below = λ x y inside shown. Any-append (HasSquare x y) strips (strip ∷ []) (part.below x y inside shown);
+      beside = λ x y left right above under shown. elim (cases_lt x run.left) [
+        | inl before ↦ Any-append (HasSquare x y) strips (strip ∷ []) (part.beside x y left before above under shown)
         | inr from ↦ Any-push (HasSquare x y) strips strip (between_holds strip.rect x y from right above under)
       ];
       ordered = all_pairs_push (λ p q. IsTrue (comes_before p q)) strips strip part.ordered (λ k d inside. new_strip_last bottom top run (get_or strips k d) (part.low k d inside) (λ from. omega (arith, (part.to_do k d inside from).tall, (part.to_do k d inside from).to)));
-      count = rw length_push (omega (arith, part.count, corner_begins run here begins));
+      count = rw length_push (omega (arith, part.count, corner_begins run here some begins));
     }
 
 -- a strip lies between the extent's left line and its right one
@@ -185,45 +189,74 @@ sides {piece} strip =
 -- before the first run
 pub IsPartlyStacked-start :
     {extent : Rect} {picture : Picture} (bottom top : ℕ) {strips : List Piece}
-    → AreStrips (up_to bottom extent) picture strips → length strips ≡ tile_count (up_to bottom extent) picture → IsPartlyStacked extent picture bottom top extent.left strips
+    → AreCoveredStrips (up_to bottom extent) picture strips → length strips ≡ covered_count (up_to bottom extent) picture → IsPartlyStacked extent picture bottom top extent.left strips
 IsPartlyStacked-start {extent} {picture} bottom top laid count =
     let none : extent.left - extent.left ≡ 0 = omega arith in
     record {
-      done = λ k d inside left. absurd (omega (arith, sides (laid.each k d inside)));
-      to_do = λ k d inside _. laid.each k d inside;
-      low = λ k d inside. omega (arith, (laid.each k d inside).tall, (laid.each k d inside).to);
+      done = λ k d inside left. absurd (omega (arith, sides (laid.each k d inside).0));
+      to_do = λ k d inside _. (laid.each k d inside).0;
+      low = λ k d inside. omega (arith, (laid.each k d inside).0.tall, (laid.each k d inside).0.to);
+      covered = λ k d inside. (laid.each k d inside).1;
       below = laid.whole;
-      beside = λ x y left right above under. absurd (omega arith);
+      beside = λ x y left right above under shown. absurd (omega arith);
       ordered = laid.ordered;
       count = rw none (omega arith);
     }
 
+-- past columns in which no square is covered
+pub IsPartlyStacked-uncovered :
+    {extent : Rect} {picture : Picture} {bottom top column : ℕ} {strips : List Piece} (next : ℕ) → bottom ≤ top → extent.left ≤ column → column ≤ next
+    → ((x : ℕ) → column ≤ x → x < next → picture x bottom ≡ uncovered) → IsPartlyStacked extent picture bottom top column strips
+    → IsPartlyStacked extent picture bottom top next strips
+IsPartlyStacked-uncovered {extent} {picture} {bottom} {top} {column} {strips} next up from on none part = record {
+  done = λ k d inside before. elim (cases_lt (get_or strips k d).rect.left column) [
+    | inl left ↦ part.done k d inside left
+    | inr past ↦
+        let strip = part.to_do k d inside past in
+        IsStrip-higher extent bottom top up strip
+        (λ reaches run. part.covered k d inside (sym (run.one_kind (get_or strips k d).rect.left (le_refl (get_or strips k d).rect.left) run.wide) ∙ none (get_or strips k d).rect.left past before))
+  ];
+  to_do = λ k d inside right. part.to_do k d inside (omega arith);
+  low = part.low;
+  covered = part.covered;
+  below = part.below;
+  beside = λ x y left right above under shown. elim (cases_lt x column) [
+    | inl before ↦ part.beside x y left before above under shown
+    | inr past ↦ absurd (shown (none x past right))
+  ];
+  ordered = part.ordered;
+  count = omega (arith, part.count, corners_between-uncovered extent picture bottom column next from on none);
+}
+
 -- after the last run
 pub IsPartlyStacked-end :
     {extent : Rect} {picture : Picture} {bottom top : ℕ} {strips : List Piece} → IsBand extent picture bottom top
-    → IsPartlyStacked extent picture bottom top extent.right strips → AreStrips (up_to top extent) picture strips × (length strips ≡ tile_count (up_to top extent) picture)
+    → IsPartlyStacked extent picture bottom top extent.right strips → AreCoveredStrips (up_to top extent) picture strips × (length strips ≡ covered_count (up_to top extent) picture)
 IsPartlyStacked-end {extent} {picture} {bottom} {top} {strips} band part = (
   record {
-    each = λ k d inside. elim (cases_lt (get_or strips k d).rect.left extent.right) [
-      | inl before ↦ part.done k d inside before
-      | inr past ↦ absurd (omega (arith, sides (part.to_do k d inside past)))
-    ];
-    whole = λ x y inside.
+    each = λ k d inside. (
+      elim (cases_lt (get_or strips k d).rect.left extent.right) as (λ _. IsStrip (up_to top extent) picture (get_or strips k d)) [
+        | inl before ↦ part.done k d inside before
+        | inr past ↦ absurd (omega (arith, sides (part.to_do k d inside past)))
+      ],
+      part.covered k d inside,
+    );
+    whole = λ x y inside shown.
         (let (left, right, from, below) = holds_between (up_to top extent) x y inside in
         elim (cases_lt y bottom) [
-          | inl under ↦ part.below x y (between_holds (up_to bottom extent) x y left right from under)
-          | inr over ↦ part.beside x y left right over below
+          | inl under ↦ part.below x y (between_holds (up_to bottom extent) x y left right from under) shown
+          | inr over ↦ part.beside x y left right over below (λ none. shown (band.alike x y left right over below ∙ none))
         ]);
     ordered = part.ordered;
   },
-  part.count ∙ sym (tile_count-band extent picture bottom top band.from band.tall band.alike),
+  part.count ∙ sym (covered_count-band extent picture bottom top band.from band.tall band.alike),
 )
 
 -- one more strip than there may be
-pub length-lt-tile_count :
+pub length-lt-covered_count :
     {extent : Rect} {picture : Picture} {bottom top : ℕ} {strips : List Piece} (run : Run)
-    → IsBand extent picture bottom top → IsRun extent picture run.left run.right bottom run.kind → IsPartlyStacked extent picture bottom top run.left strips
-    → BeginsAt extent picture bottom run → length strips < tile_count (up_to top extent) picture
-length-lt-tile_count {extent} {picture} {bottom} {top} run band here part begins =
-    let whole = tile_count-band extent picture bottom top band.from band.tall band.alike in
-    omega (arith, part.count, whole, corner_begins run here begins, corners_between-grows extent picture bottom run.right (omega (arith, here.from, here.wide)) here.to)
+    → IsBand extent picture bottom top → IsRun extent picture run.left run.right bottom run.kind → run.kind ≢ uncovered → IsPartlyStacked extent picture bottom top run.left strips
+    → BeginsAt extent picture bottom run → length strips < covered_count (up_to top extent) picture
+length-lt-covered_count {extent} {picture} {bottom} {top} run band here some part begins =
+    let whole = covered_count-band extent picture bottom top band.from band.tall band.alike in
+    omega (arith, part.count, whole, corner_begins run here some begins, corners_between-grows extent picture bottom run.right (omega (arith, here.from, here.wide)) here.to)

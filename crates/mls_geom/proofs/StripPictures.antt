@@ -1,10 +1,12 @@
 -- A picture by its strips.
-use Rattle.std.proofs.Common.{◌≡◌, ℕ, true, false, List, get_or, ⊎_elim, sym, ◌∙◌, arith}
+use Rattle.std.proofs.Common.{◌≡◌, ◌≢◌, ℕ, IsTrue, true, false, List, get_or, subst, ⊎_elim, sym, ◌∙◌, arith}
 use Rattle.std.proofs.Math.Path.{fun_ext}
+use Rattle.std.proofs.lemmas.Bool.Decides.{nat_tests}
 use Rattle.std.proofs.lemmas.Bool.{cases_Bool, both_ways, false_from_ne_true}
 use Rattle.mls_geom.specs.Rects.{Rect, holds}
 use Rattle.mls_geom.specs.Pictures.{Picture, empty_picture, picture_of}
-use Rattle.mls_geom.specs.Strips.{IsStrip, AreStrips}
+use Rattle.mls_geom.specs.Locality.{AreUnorderedStrips}
+use Rattle.mls_geom.specs.Strips.{IsStrip, AreStrips, comes_before}
 use Rattle.mls_geom.specs.declared.piece.Piece.{Piece}
 use Rattle.mls_geom.proofs.Holds.{holds_between, between_holds}
 use Rattle.mls_geom.proofs.Overlays.{overlaid_outside, overlaid_agreed}
@@ -22,22 +24,35 @@ holds-IsStrip extent picture piece x y strip inside =
     let run = strip.rows y lines.2 lines.3 in
     between_holds extent x y (omega (arith, run.from, lines.0)) (omega (arith, run.to, lines.1)) (omega (arith, strip.from, lines.2)) (omega (arith, strip.to, lines.3))
 
+-- strips in order are strips in any order
+comes_after : (p q : Piece) → IsTrue (comes_before p q) → p ≢ q
+comes_after p q before same =
+    let itself : IsTrue (comes_before q q) = subst (λ r. IsTrue (comes_before r q)) same before in
+    grind (arith, nat_tests)
+
+pub AreUnorderedStrips-ordered : (extent : Rect) (picture : Picture) (list : List Piece) → AreStrips extent picture list → AreUnorderedStrips extent picture list
+AreUnorderedStrips-ordered extent picture list strips = record {
+  each = strips.each;
+  whole = strips.whole;
+  once = λ i j d before within. comes_after (get_or list i d) (get_or list j d) (strips.ordered i j d before within);
+}
+
 -- the strips of a picture show it in the extent
 pub picture_of_strips_inside :
-    (extent : Rect) (picture : Picture) (list : List Piece) (x y : ℕ) → AreStrips extent picture list → holds extent x y ≡ true → picture_of list x y ≡ picture x y
+    (extent : Rect) (picture : Picture) (list : List Piece) (x y : ℕ) → AreUnorderedStrips extent picture list → holds extent x y ≡ true → picture_of list x y ≡ picture x y
 picture_of_strips_inside extent picture list x y strips inside =
     overlaid_agreed empty_picture list x y (picture x y) (λ k d within. kind-IsStrip extent picture (get_or list k d) x y (strips.each k d within)) (strips.whole x y inside)
 
 -- and nothing outside it
 pub picture_of_strips_outside :
-    (extent : Rect) (picture : Picture) (list : List Piece) (x y : ℕ) → AreStrips extent picture list → holds extent x y ≡ false → picture_of list x y ≡ 0
+    (extent : Rect) (picture : Picture) (list : List Piece) (x y : ℕ) → AreUnorderedStrips extent picture list → holds extent x y ≡ false → picture_of list x y ≡ 0
 picture_of_strips_outside extent picture list x y strips outside =
     overlaid_outside empty_picture list x y
     (λ k d within. false_from_ne_true _ (λ inside. both_ways (holds extent x y) outside (holds-IsStrip extent picture (get_or list k d) x y (strips.each k d within) inside)))
 
 -- so they show the whole of a picture that has nothing outside
 pub picture_of_strips :
-    (extent : Rect) (picture : Picture) (list : List Piece) → AreStrips extent picture list → ((x y : ℕ) → holds extent x y ≡ false → picture x y ≡ 0) → picture_of list ≡ picture
+    (extent : Rect) (picture : Picture) (list : List Piece) → AreUnorderedStrips extent picture list → ((x y : ℕ) → holds extent x y ≡ false → picture x y ≡ 0) → picture_of list ≡ picture
 picture_of_strips extent picture list strips empty = fun_ext (λ x. fun_ext (λ y. ⊎_elim
     (picture_of_strips_inside extent picture list x y strips)
     (λ outside. picture_of_strips_outside extent picture list x y strips outside ∙ sym (empty x y outside)) (cases_Bool (holds extent x y))))

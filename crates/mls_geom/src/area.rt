@@ -1,5 +1,6 @@
 //! Squares between four coordinates, in the world or outside it.
-ghost use Rattle.std.specs.Prelude.{◌≡◌, ◌≤◌};
+ghost use Rattle.std.specs.Prelude.{◌≡◌, ◌≤◌, max, min};
+ghost use Rattle.mls_geom.specs.Locality.{touches};
 ghost use Rattle.mls_geom.specs.Rects.{common, grown};
 ghost use Rattle.mls_geom.specs.World.{IsNearWorld};
 
@@ -55,5 +56,35 @@ impl Area {
             right: self.right.min(area.right),
             top: self.top.min(area.top),
         }
+    }
+    /// Returns the least area that has the squares of both.
+    pub(crate) fn joined(self, other: Area) -> Area
+        ensures { result ≡ record {
+          left = min self.left other.left;
+          bottom = min self.bottom other.bottom;
+          right = max self.right other.right;
+          top = max self.top other.top;
+        } }
+    {
+        Area {
+            left: self.left.min(other.left),
+            bottom: self.bottom.min(other.bottom),
+            right: self.right.max(other.right),
+            top: self.top.max(other.top),
+        }
+    }
+
+    /// Returns whether the area and the rectangle share a square, a side or a corner.
+    pub(crate) fn touches(self, rect: Rect) -> bool
+        ensures { result ≡ touches self rect }
+    {
+        let near = Area {
+            left: self.left.saturating_sub(1),
+            bottom: self.bottom.saturating_sub(1),
+            right: self.right.saturating_add(1),
+            top: self.top.saturating_add(1),
+        };
+        let shared = near.within(rect);
+        shared.left < shared.right && shared.bottom < shared.top
     }
 }

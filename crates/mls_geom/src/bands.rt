@@ -1,6 +1,7 @@
 //! The lines between which all rows are alike.
 ghost use Rattle.std.specs.Prelude.{◌≡◌, ◌+◌, ◌*◌, ◌≤◌, length, vec_capacity};
 ghost use Rattle.mls_geom.specs.Sweep.BandLines.{AreBandLines};
+ghost use Rattle.mls_geom.specs.Locality.{HaveKinds};
 ghost use Rattle.mls_geom.specs.World.{AreLegal, world};
 
 use crate::Piece;
@@ -11,6 +12,7 @@ use crate::world::{HIGH, LOW};
 pub(crate) fn list_band_lines(pieces: &[Piece], lines: &mut Vec<u32>)
     requires { 2 * length pieces.now + 2 ≤ vec_capacity lines.old }
     ensures legal { AreLegal pieces.now }
+    ensures kinds { HaveKinds pieces.now }
     ensures lines { AreBandLines world pieces.now lines.new.items }
     ensures room { vec_capacity lines.new ≡ vec_capacity lines.old }
 {
@@ -18,7 +20,7 @@ pub(crate) fn list_band_lines(pieces: &[Piece], lines: &mut Vec<u32>)
     lines.push_reserved(LOW);
     lines.push_reserved(HIGH);
     for piece in pieces {
-        let edges = piece.rect.area();
+        let edges = piece.area();
         lines.push_reserved(edges.bottom);
         lines.push_reserved(edges.top);
     }

@@ -5,14 +5,13 @@ ghost use Rattle.mls_geom.specs.Pictures.{empty_picture, kinds_in, overlaid, pic
 ghost use Rattle.mls_geom.specs.World.{AreLegal, world};
 ghost use Rattle.mls_geom.specs.TileCounts.{tile_count};
 
-use crate::sweep::strips;
-use crate::world::{HIGH, LOW};
+use crate::touched::{bounds, gather_touched, replace_touched};
 use crate::{Meeting, Piece, Point, Rect, Scratch, TooMany};
 use mls_kinds::KindSet;
 use std::alloc::{AllocError, Global};
 use std::marker::Model;
 
-/// A plane of kinds, covered completely by its maximal strips.
+/// A plane of kinds, covered completely by its maximal strips, in any order.
 ///
 /// All memory is reserved when the cover is made.
 #[derive(Drop)]
@@ -42,14 +41,11 @@ impl Cover {
         ensures len { IfOk result (λ c. length c.strips ≡ 1) }
     {
         let mut strips = Vec::with_capacity(alloc, room)?;
-        strips.push_reserved(Piece {
-            rect: Rect::between(LOW, LOW, HIGH, HIGH),
-            kind: 0,
-        });
+        strips.push_reserved(Piece::space());
         Ok(Cover { room, strips })
     }
 
-    /// Returns the strips, by bottom and then left.
+    /// Returns the strips, in any order.
     pub fn strips(&self) -> &[Piece]
         ensures value { result.now ≡ self.now.strips }
         ensures room { length self.now.strips ≤ self.now.room }
@@ -72,14 +68,15 @@ impl Cover {
     }
 
     /// Returns the number of maximal strips.
-    #[tactic(auto, using(crate::proofs::StripLaws::strips_number))]
+    #[tactic(auto, using(crate::proofs::UnorderedStrips::unordered_strips_number))]
     pub fn tile_count(&self) -> usize
         ensures { result ≡ tile_count world (picture_of self.now.strips) }
     {
         self.strips.len()
     }
 
-    /// Returns an iterator over the strips that have a square in the rectangle, in order.
+    /// Returns an iterator over the strips that have a square in the rectangle, in the order of
+    /// [`strips`](Cover::strips).
     pub fn meeting(&self, rect: Rect) -> Meeting<'_>
         ensures value { result ≡ meeting self.now.strips rect }
         ensures covers { CoversWorld self.now }
@@ -100,7 +97,7 @@ impl Cover {
         kinds
     }
 
-    /// Paints pieces over the plane in turn.
+    /// Paints pieces over the plane in turn. The strips that their bounds touch give way to others.
     ///
     /// Fails if the plane would then have more than `limit` strips, and leaves it as it was.
     pub fn overlay(
@@ -121,20 +118,14 @@ impl Cover {
         ensures len { length self.new.strips ≤ self.new.room }
         ensures scratch_room { scratch.new.room ≡ scratch.old.room }
     {
-        strips(&self.strips, over, limit, scratch)?;
-        replace_all(&mut self.strips, scratch.strips());
+        let bounds = bounds(over);
+        gather_touched(&self.strips, bounds, &mut scratch.touched);
+        let kept = self.strips.len() - scratch.touched.len();
+        let Some(left) = limit.checked_sub(kept) else {
+            return Err(TooMany);
+        };
+        scratch.sweep.find_fresh(&scratch.touched, over, left)?;
+        replace_touched(&mut self.strips, bounds, &scratch.sweep.strips);
         Ok(())
-    }
-}
-
-/// Replaces all elements of a list, within its capacity.
-fn replace_all(list: &mut Vec<Piece>, pieces: &[Piece])
-    requires { length pieces.now ≤ vec_capacity list.old }
-    ensures items { list.new.items ≡ pieces.now }
-    ensures room { vec_capacity list.new ≡ vec_capacity list.old }
-{
-    list.clear();
-    for piece in pieces {
-        list.push_reserved(*piece);
     }
 }

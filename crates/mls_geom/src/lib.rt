@@ -17,6 +17,7 @@ mod scratch;
 mod slots;
 mod stack;
 mod sweep;
+mod touched;
 mod world;
 
 pub use area::Area;
@@ -26,4 +27,4 @@ pub use piece::Piece;
 pub use point::Point;
 pub use rect::{Rect, RectFault};
 pub use scratch::Scratch;
-pub use sweep::{TooMany, strips};
+pub use sweep::{TooMany, fresh_strips, strips};

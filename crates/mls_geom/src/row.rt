@@ -1,7 +1,7 @@
 //! The runs of one row of painted pieces.
 ghost use Rattle.std.specs.Prelude.{◌≡◌, ℕ, ◌+◌, ◌*◌, ◌<◌, ◌≤◌, length, vec_len, vec_capacity};
 ghost use Rattle.std.specs.List.{All};
-ghost use Rattle.mls_geom.specs.Pictures.{picture_of};
+ghost use Rattle.mls_geom.specs.Locality.{laid};
 ghost use Rattle.mls_geom.specs.Sweep.Rows.{AreActive, AreRuns};
 ghost use Rattle.mls_geom.specs.World.{AreLegal, world};
 ghost use Rattle.mls_geom.specs.Sweep.Slots.{AreBetweenLines, AreCuts};
@@ -29,12 +29,12 @@ impl Row {
         requires legal { AreLegal pieces.now }
         requires active { AreActive pieces.now y active.now }
         requires room { HasRowRoom self.old (length pieces.now) }
-        ensures runs { AreRuns world (picture_of pieces.now) y self.new.runs.items }
+        ensures runs { AreRuns world (laid pieces.now) y self.new.runs.items }
         ensures room { (n : ℕ) → HasRowRoom self.old n → HasRowRoom self.new n }
     {
         list_lines(pieces, active, &mut self.lines);
         paint_row(pieces, active, &self.lines, &mut self.kinds, &mut self.free);
-        join_slots(&self.lines, &self.kinds, &mut self.runs);
+        join_slots(&self.lines, &self.kinds, &self.free, &mut self.runs);
     }
 }
 

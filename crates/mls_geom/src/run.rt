@@ -1,9 +1,11 @@
 //! Runs of a row.
-ghost use Rattle.std.specs.Prelude.{◌≡◌, ◌≢◌, ℕ, ◌+◌, ◌-◌, ◌<◌, ◌≤◌, length, slice_index, vec_capacity};
+ghost use Rattle.std.specs.Prelude.{◌≡◌, ◌≢◌, ℕ, ◌+◌, ◌-◌, ◌<◌, ◌≤◌, length, vec_capacity};
 ghost use Rattle.mls_geom.specs.Rects.{Rect};
 ghost use Rattle.mls_geom.specs.Pictures.{Picture};
 ghost use Rattle.mls_geom.specs.Sweep.Rows.{AreRuns};
-ghost use Rattle.mls_geom.specs.Sweep.Slots.{AreCuts, AreSlotKinds};
+ghost use Rattle.mls_geom.specs.Sweep.Slots.{AreCuts, AreSlotKinds, kind_if_painted};
+
+use crate::slots::kind_of;
 
 /// The squares of a row between two lines, all of one kind, and the index of their strip.
 #[derive(Clone, Copy)]
@@ -14,40 +16,47 @@ pub(crate) struct Run {
     pub(crate) strip: usize,
 }
 
-/// Fills `runs` with the runs of a row, from the kinds of its slots.
-pub(crate) fn join_slots(lines: &[u32], kinds: &[u8], runs: &mut Vec<Run>)
+/// Fills `runs` with the runs of a row, from the kinds of its slots. A free slot is in no run.
+pub(crate) fn join_slots(lines: &[u32], kinds: &[u8], free: &[usize], runs: &mut Vec<Run>)
     requires count { length lines.now ≡ length kinds.now + 1 }
+    requires free_count { length free.now ≡ length kinds.now + 1 }
     requires room { length kinds.now ≤ vec_capacity runs.old }
     ensures runs { (extent : Rect) (picture : Picture) (y : ℕ)
         → AreCuts extent lines.now
-        → AreSlotKinds picture y lines.now kinds.now
+        → AreSlotKinds picture y lines.now kinds.now free.now
         → AreRuns extent picture y runs.new.items }
     ensures room { vec_capacity runs.new ≡ vec_capacity runs.old }
 {
     runs.clear();
     let mut first = 0;
     while first < kinds.len() {
-        let end = end_of_kind(kinds, first);
-        runs.push_reserved(Run {
-            left: lines[first],
-            right: lines[end],
-            kind: kinds[first],
-            strip: 0,
-        });
+        let end = end_of_kind(kinds, free, first);
+        if let Some(kind) = kind_of(kinds, free, first) {
+            runs.push_reserved(Run {
+                left: lines[first],
+                right: lines[end],
+                kind,
+                strip: 0,
+            });
+        }
         first = end;
     }
 }
 
-/// Returns the end of the slots from `first` on that have the kind of `first`.
-fn end_of_kind(kinds: &[u8], first: usize) -> usize
-    requires { first < length kinds.now }
+/// Returns the end of the slots from `first` on that have the kind of `first`, or are free as it is.
+fn end_of_kind(kinds: &[u8], free: &[usize], first: usize) -> usize
+    requires free_count { length free.now ≡ length kinds.now + 1 }
+    requires within { first < length kinds.now }
     ensures wide { first < result }
     ensures within { result ≤ length kinds.now }
-    ensures alike { (slot : ℕ) → first ≤ slot → slot < result → slice_index kinds.now slot ≡ slice_index kinds.now first }
-    ensures changes { result < length kinds.now → slice_index kinds.now result ≢ slice_index kinds.now (result - 1) }
+    ensures alike { (slot : ℕ) → first ≤ slot → slot < result
+        → kind_if_painted kinds.now free.now slot ≡ kind_if_painted kinds.now free.now first }
+    ensures changes { result < length kinds.now
+        → kind_if_painted kinds.now free.now result ≢ kind_if_painted kinds.now free.now (result - 1) }
 {
+    let kind = kind_of(kinds, free, first);
     let mut end = first + 1;
-    while end < kinds.len() && kinds[end] == kinds[first] {
+    while end < kinds.len() && kind_of(kinds, free, end) == kind {
         end += 1;
     }
     end

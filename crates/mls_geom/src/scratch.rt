@@ -6,7 +6,8 @@ use crate::sweep::Sweep;
 use std::alloc::{AllocError, Global};
 use std::marker::Model;
 
-/// Buffers in which [`strips`](crate::strips) and [`Cover::overlay`](crate::Cover::overlay) work.
+/// Buffers in which [`strips`](crate::strips), [`fresh_strips`](crate::fresh_strips) and
+/// [`Cover::overlay`](crate::Cover::overlay) work.
 ///
 /// All memory is reserved when the scratch is made.
 #[derive(Drop)]
@@ -14,10 +15,11 @@ pub struct Scratch {
     room: usize,
     pub(crate) sweep: Sweep,
     pub(crate) strips: Vec<Piece>,
+    pub(crate) touched: Vec<Piece>,
 }
 
 impl Model for Scratch {
-    ghost use Rattle.std.specs.Prelude.{◌≤◌, vec_capacity};
+    ghost use Rattle.std.specs.Prelude.{◌+◌, ◌<◌, ◌≤◌, vec_capacity};
     ghost use Rattle.mls_geom.specs.Scratches.{Scratch};
     ghost use Rattle.mls_geom.specs.Sweep.SweepRooms.{HasSweepRoom};
 
@@ -25,7 +27,9 @@ impl Model for Scratch {
 
     ghost view = { λ s. record { strips = s.strips.items; room = s.room } };
 
-    ghost invariant = { λ s. HasSweepRoom s.sweep s.room × (s.room ≤ vec_capacity s.strips) };
+    ghost invariant = { λ s. HasSweepRoom s.sweep (s.room + 1)
+        × (s.room < vec_capacity s.strips)
+        × (s.room ≤ vec_capacity s.touched) };
 }
 
 impl Scratch {
@@ -36,7 +40,8 @@ impl Scratch {
         Ok(Scratch {
             room: room as usize,
             sweep: Sweep::new(alloc, room)?,
-            strips: Vec::with_capacity(alloc, room as usize)?,
+            strips: Vec::with_capacity(alloc, room as usize + 1)?,
+            touched: Vec::with_capacity(alloc, room as usize)?,
         })
     }
 

@@ -1,16 +1,17 @@
 //! Painting the slots of a row, the uppermost piece first: a painted slot keeps its kind, and links
 //! over painted slots lead to the free ones.
-ghost use Rattle.std.specs.Prelude.{◌≡◌, ℕ, ◌+◌, ◌<◌, ◌≤◌, ◌&&◌, false, nat_lt, nat_le, if◌then◌else◌, length, slice_index, vec_len, vec_capacity};
+ghost use Rattle.std.specs.Prelude.{◌≡◌, ℕ, ◌+◌, ◌<◌, ◌≤◌, ◌&&◌, Option, Some, None, false, nat_lt, nat_le, if◌then◌else◌, length, slice_index, vec_len, vec_capacity};
 ghost use Rattle.std.specs.List.{Contains};
 ghost use Rattle.std.specs.List.Sorted.{IsStrictlyIncreasing};
-ghost use Rattle.mls_geom.specs.Pictures.{Picture, overlaid, painted, picture_of};
+ghost use Rattle.mls_geom.specs.Locality.{laid};
+ghost use Rattle.mls_geom.specs.Pictures.{Picture, overlaid, painted};
 ghost use Rattle.mls_geom.specs.Sweep.Rows.{AreActive};
-ghost use Rattle.mls_geom.specs.Sweep.Slots.{AreBetweenLines, AreLinks, AreSlotKinds, AreSlots, IsBetweenLines, is_painted, slot_kind};
+ghost use Rattle.mls_geom.specs.Sweep.Slots.{AreBetweenLines, AreLinks, AreSlotKinds, AreSlots, IsBetweenLines, is_painted, kind_if_painted, slot_kind};
 
 use crate::Piece;
 
 /// Fills `kinds` with the kind of each slot between the lines, in the row whose pieces are the active
-/// ones. A later piece wins, and a slot of no piece is space.
+/// ones. A later piece wins, and a slot of no piece stays free.
 pub(crate) fn paint_row(
     pieces: &[Piece],
     active: &[usize],
@@ -24,8 +25,9 @@ pub(crate) fn paint_row(
     requires kinds_fit { length lines.now ≤ vec_capacity kinds.old }
     requires free_fit { length lines.now ≤ vec_capacity free.old }
     ensures kinds { (y : ℕ) → AreActive pieces.now y active.now
-        → AreSlotKinds (picture_of pieces.now) y lines.now kinds.new.items }
+        → AreSlotKinds (laid pieces.now) y lines.now kinds.new.items free.new.items }
     ensures count { length lines.now ≡ vec_len kinds.new + 1 }
+    ensures free_count { length lines.now ≡ vec_len free.new }
     ensures kinds_room { vec_capacity kinds.new ≡ vec_capacity kinds.old }
     ensures free_room { vec_capacity free.new ≡ vec_capacity free.old }
 {
@@ -126,6 +128,15 @@ fn paint_below(kinds: &mut [u8], free: &mut [usize], from: usize, to: usize, kin
         free[slot] = slot + 1;
         slot = first_free(free, slot + 1);
     }
+}
+
+/// Returns the kind of a slot, or `None` if it is free.
+pub(crate) fn kind_of(kinds: &[u8], free: &[usize], slot: usize) -> Option<u8>
+    requires count { length free.now ≡ length kinds.now + 1 }
+    requires within { slot < length kinds.now }
+    ensures { result ≡ kind_if_painted kinds.now free.now slot }
+{
+    (slot < free[slot]).then_some(kinds[slot])
 }
 
 /// Returns the first free slot from index `from` on. Halves the path of links on its way.

@@ -4,7 +4,7 @@ ghost use Rattle.std.specs.List.{AllWithin};
 ghost use Rattle.mls_geom.specs.Rects.{IsRectangleIn};
 ghost use Rattle.mls_geom.specs.Sweep.Rows.{AreRuns};
 ghost use Rattle.mls_geom.specs.Sweep.Stacks.{AreStacked, AreAlike, StandsOn, new_strip, extended, up_to};
-ghost use Rattle.mls_geom.specs.TileCounts.{tile_count};
+ghost use Rattle.mls_geom.specs.Locality.{covered_count};
 ghost use Rattle.mls_geom.specs.World.{world};
 
 use crate::run::Run;
@@ -109,7 +109,7 @@ pub(crate) fn stack(
         → AreStacked world picture bottom strips.old.items below.now
         → AreRuns world picture bottom row.old
         → AreAlike world picture bottom top
-        → limit < tile_count (up_to top world) picture) }
+        → limit < covered_count (up_to top world) picture) }
     ensures within { OnOk result (vec_len strips.new ≤ limit) }
     ensures room { vec_capacity strips.new ≡ vec_capacity strips.old }
 {

@@ -1,9 +1,8 @@
 -- Building: the strips of a picture, laid under keys of their own, are the blocks of a plane.
-use Rattle.std.proofs.Common.{◌≡◌, ◌≢◌, ◌⊎◌, ℕ, true, false, List, [], length, map, get_or, Option, Some, None, IsTrue, All, AllPairs, Any, Contains, inl, inr, refl, sym, ap, ◌∙◌, subst, subst₂, le_refl, arith}
+use Rattle.std.proofs.Common.{◌≡◌, ◌≢◌, ℕ, true, List, [], map, get_or, Some, IsTrue, All, AllPairs, Contains, inl, inr, refl, sym, ap, ◌∙◌, subst, subst₂, le_refl}
 use Rattle.std.specs.Option.{IfSome}
 use Rattle.std.proofs.lemmas.Bool.{cases_Bool}
 use Rattle.std.proofs.lemmas.List.Elements.{All-contains, All-map, Contains-get_or}
-use Rattle.std.proofs.lemmas.Option.{same_Some}
 use Rattle.mls_geom.specs.Rects.{Rect, IsRectangleIn, Point, holds}
 use Rattle.mls_geom.specs.Locality.{AreUnorderedStrips}
 use Rattle.mls_geom.specs.Pictures.{Picture, picture_of}
@@ -17,15 +16,15 @@ use Rattle.mls_tilepool.specs.declared.tile.Tile.{Tile}
 use Rattle.mls_stitch.specs.Fresh.{fresh_at}
 use Rattle.mls_stitch.specs.Pending.{AwaitStitches, IsRightOrListed, keys_of}
 use Rattle.mls_stitch.specs.Placing.{GiveWay, unstitched}
-use Rattle.mls_stitch.specs.Stitches.{HoldsAt, LeadsTo, beyond, stitch_of}
-use Rattle.mls_stitch.specs.Tilings.{AreBlocks, AreTiledAs, ArePlaced, IsMaximal, IsPlane, block_at, shown}
+use Rattle.mls_stitch.specs.Stitches.{HoldsAt, LeadsTo, beyond}
+use Rattle.mls_stitch.specs.Tilings.{AreBlocks, AreTiledAs, ArePlaced, IsMaximal, block_at, shown}
 use Rattle.mls_stitch.specs.declared.laid_tile.LaidTile.{LaidTile}
 use Rattle.mls_stitch.specs.declared.stitch.Stitch.{Stitch}
 use Rattle.mls_stitch.proofs.DistinctNumbers.{cases_Contains}
-use Rattle.mls_stitch.proofs.FreshTiles.{AllPairs-either, AllPairs-from_map, Contains-from_map, cases_Option, entry-keys_of, fresh_at-absent, fresh_at-entry, fresh_at-listed, keys_of-listed, nothing_in_nil}
+use Rattle.mls_stitch.proofs.FreshTiles.{AllPairs-either, AllPairs-from_map, Contains-from_map, IfSome-each, entry-keys_of, fresh_at-absent, fresh_at-entry, fresh_at-listed, keys_of-listed, nothing_in_nil}
 use Rattle.mls_stitch.proofs.MaximalTiles.{IsMaximal-strips, shown-strips}
 use Rattle.mls_stitch.proofs.ReplacedBlocks.{piece_of}
-use Rattle.mls_stitch.proofs.ReplacedStitches.{Any-contained, ArePlaced-unstitched, stitch_of-unstitched}
+use Rattle.mls_stitch.proofs.ReplacedStitches.{Any-contained, ArePlaced-unstitched, no_stitch}
 use Rattle.mls_stitch.proofs.ShownTiles.{KeysDiffer}
 use Rattle.mls_stitch.proofs.Sides.{HoldsAt-block, IsPlane-AreTiledAs, block_at-AreTiledAs, there-IsSomeAnd}
 
@@ -48,12 +47,9 @@ module _ (picture : Picture) (laid : List LaidTile) (strips : AreUnorderedStrips
       (entry, found, ap (λ p. holds p.rect x y) is_piece ∙ in_piece)
 
   legal : (key : ℕ) → IfSome (fresh_at laid key) (λ block. IsRectangleIn world block.rect)
-  legal key = elim (cases_Option (fresh_at laid key)) [
-    | inl none ↦ subst (λ o. IfSome o (λ block. IsRectangleIn world block.rect)) (sym none) tt
-    | inr (piece, is) ↦
-        subst (λ o. IfSome o (λ block. IsRectangleIn world block.rect)) (sym is)
-        (legal-IsStrip world picture piece (strip_entry (record { id = key; piece = piece }) (fresh_at-listed laid key piece is)))
-  ]
+  legal key =
+      IfSome-each (fresh_at laid key) (λ block. IsRectangleIn world block.rect)
+      (λ piece is. legal-IsStrip world picture piece (strip_entry (record { id = key; piece = piece }) (fresh_at-listed laid key piece is)))
 
   whole : (at : Point) → IsTrue (holds world at.x at.y) → (key : ℕ) × HoldsAt (fresh_at laid) key at
   whole at inside =
@@ -95,8 +91,7 @@ module _ (picture : Picture) (laid : List LaidTile) (strips : AreUnorderedStrips
         → IsRightOrListed (fresh_at laid) laid entry.id tile entry.piece stitch
     pending-entry entry tile stitch found is =
         let at = beyond stitch entry.piece.rect in
-        let fresh = All-contains (λ e. tile_in tiles e.id ≡ Some (unstitched e.piece)) laid entry ways.placed found in
-        let none : stitch_of stitch tile ≡ None = ap (stitch_of stitch) (same_Some tile (unstitched entry.piece) (sym is ∙ fresh)) ∙ stitch_of-unstitched stitch entry.piece in
+        let none = no_stitch tiles laid entry tile stitch ways.placed found is in
         elim (cases_Bool (holds world at.x at.y)) [
           | inl inside ↦
               let (other, there, in_other) = entry_with at.x at.y inside in

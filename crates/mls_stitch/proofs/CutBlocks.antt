@@ -1,5 +1,5 @@
 -- Blocks cut in two by a line, and two blocks as one: the parts have exactly the squares of the whole.
-use Rattle.std.proofs.Common.{◌≡◌, ◌≢◌, ◌⊎◌, ℕ, ◌<◌, ◌≤◌, true, IsTrue, List, [], ◌∷◌, Option, Some, IsSome, All, AllPairs, Any, Contains, inl, inr, refl, sym, ap, ◌∙◌, subst, arith}
+use Rattle.std.proofs.Common.{◌≡◌, ◌≢◌, ◌⊎◌, ℕ, ◌<◌, true, IsTrue, List, [], ◌∷◌, Option, Some, IsSome, All, AllPairs, Any, inl, inr, refl, sym, ap, ◌∙◌, subst, arith}
 use Rattle.std.proofs.lemmas.Bool.{cases_lt}
 use Rattle.std.proofs.lemmas.List.Elements.{All-cons, All-nil}
 use Rattle.std.proofs.lemmas.List.Kept.{AllPairs-cons}
@@ -9,7 +9,7 @@ use Rattle.mls_geom.specs.World.{world}
 use Rattle.mls_geom.specs.declared.piece.Piece.{Piece}
 use Rattle.mls_geom.proofs.Ascending.{Contains-first, Contains-rest}
 use Rattle.mls_geom.proofs.Holds.{between_holds, holds_between}
-use Rattle.mls_stitch.specs.Replacements.{AreApart, IsHeld, TakePlace}
+use Rattle.mls_stitch.specs.Replacements.{AreApart, TakePlace}
 use Rattle.mls_stitch.specs.Splits.{JoinInX, JoinInY, joined_x, joined_y, left_of, lower_of, right_of, upper_of}
 use Rattle.mls_stitch.specs.Stitches.{HoldsAt}
 use Rattle.mls_stitch.specs.Tilings.{AreBlocks}

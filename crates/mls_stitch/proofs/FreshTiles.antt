@@ -1,6 +1,7 @@
 -- Tiles listed with their pieces, by their keys.
-use Rattle.std.proofs.Common.{◌≡◌, ◌≢◌, ◌⊎◌, ℕ, zero, suc, true, false, ◌==◌, List, [], ◌∷◌, map, Option, Some, None, inl, inr, ⊎_elim, refl, sym, ap, ◌∙◌, subst, subst₂, le_of_suc-le-suc, eq-eqb, eqb-true, arith}
+use Rattle.std.proofs.Common.{◌≡◌, ◌≢◌, ◌⊎◌, ℕ, zero, suc, true, false, ◌==◌, List, [], ◌∷◌, map, Option, Some, None, inl, inr, refl, sym, ap, ◌∙◌, subst, subst₂, le_of_suc-le-suc, eq-eqb, eqb-true, arith}
 use Rattle.std.specs.List.{AllPairs, Contains, list_any}
+use Rattle.std.specs.Option.{IfSome}
 use Rattle.std.proofs.lemmas.Bool.{cases_Bool, cond-false, cond-true, eqb-false, false_from_ne_true}
 use Rattle.std.proofs.lemmas.List.{get_or_default, get_or-map, length-map}
 use Rattle.std.proofs.lemmas.List.Elements.{All-contains}
@@ -16,6 +17,11 @@ use Rattle.mls_stitch.specs.declared.laid_tile.LaidTile.{LaidTile}
 pub cases_Option : {X : Type 0} (o : Option X) → (o ≡ None) ⊎ ((x : X) × (o ≡ Some x))
 cases_Option None = inl refl
 cases_Option (Some x) = inr (x, refl)
+
+-- what holds of the value, whatever it is
+pub IfSome-each : {X : Type 0} (o : Option X) (P : X → Type 0) → ((x : X) → o ≡ Some x → P x) → IfSome o P
+IfSome-each None P each = tt
+IfSome-each (Some x) P each = each x refl
 
 -- nothing is an element of the empty list
 pub nothing_in_nil : {X : Type 0} (x : X) → ¬ (Contains [] x)

@@ -3,6 +3,7 @@ pub mod BuiltTiles
 pub mod CloseSquares
 pub mod CutBlocks
 pub mod DistinctNumbers
+pub mod FoundTiles
 pub mod FreshTiles
 pub mod KeptStitches
 pub mod Laying

@@ -1,6 +1,6 @@
 -- What area search has listed so far, from step to step.
-use Rattle.std.proofs.Common.{◌≡◌, ◌≢◌, ◌⊎◌, ℕ, zero, suc, ◌+◌, ◌-◌, ◌<◌, ◌≤◌, true, max, List, [], ◌∷◌, ◌++◌, length, get_or, Option, Some, All, Any, AllPairs, Contains, inl, inr, refl, sym, ap, ◌∙◌, subst, arith}
-use Rattle.std.proofs.lemmas.Bool.{cases_lt}
+use Rattle.std.proofs.Common.{◌≡◌, ◌≢◌, ◌⊎◌, ℕ, zero, suc, ◌+◌, ◌-◌, ◌<◌, ◌≤◌, Bool, true, false, ◌&&◌, max, List, [], ◌∷◌, ◌++◌, length, get_or, Option, Some, All, Any, AllPairs, Contains, inl, inr, refl, sym, ap, ◌∙◌, subst, arith}
+use Rattle.std.proofs.lemmas.Bool.{both_ways, cases_lt}
 use Rattle.std.proofs.lemmas.Bool.Decides.{nat_tests}
 use Rattle.std.proofs.lemmas.List.{get_or_append_left, get_or_push, length_push}
 use Rattle.std.proofs.lemmas.List.Elements.{All-push, All-weaker, Contains-append_left, Contains-push}
@@ -13,10 +13,12 @@ use Rattle.mls_geom.proofs.Holds.{holds_between, between_holds}
 use Rattle.mls_stitch.specs.Areas.{IsFound}
 use Rattle.mls_stitch.specs.Enumerations.{IsBeside, IsListedTo, IsParent, IsReached, first_row}
 use Rattle.mls_stitch.specs.Stitches.{beyond}
-use Rattle.mls_stitch.specs.Tilings.{AreBlocks}
+use Rattle.mls_stitch.specs.Tilings.{AreBlocks, IsPlane, block_at}
 use Rattle.mls_stitch.specs.Walks.{IsLaid, IsLaidAt}
 use Rattle.mls_stitch.specs.declared.laid_tile.LaidTile.{LaidTile}
 use Rattle.mls_stitch.specs.declared.stitch.Stitch.TheVariants.{Lb, Tr}
+use Rattle.mls_tilepool.specs.declared.tile.Tile.{Tile}
+use Rattle.mls_stitch.proofs.ListedTiles.{length-le-AreLaid}
 use Rattle.mls_stitch.proofs.Sides.{left_neighbour, legal-AreBlocks, right_neighbour, there-IsSomeAnd}
 
 -- the lines of rectangles that share a square
@@ -435,3 +437,27 @@ pub listed_whole :
     (blocks : ℕ → Option Piece) (area : Rect) (list : List LaidTile) → AreBlocks blocks → IsRectangleIn world area → IsListedTo blocks area list (length list) world.top
     → (x y : ℕ) → holds area x y ≡ true → Any (λ tile. holds tile.piece.rect x y ≡ true) list
 listed_whole blocks area list tiling inside listed x y = whole_below blocks area list tiling inside listed (suc x) x y (omega arith)
+
+both_true : (s t : Bool) → (s && t) ≡ true → (s ≡ true) × (t ≡ true)
+both_true true true both = (refl, refl)
+both_true true false both = absurd (cc)
+both_true false t both = absurd (cc)
+
+-- the test for a child
+pub child_true :
+    (area : Rect) (parent tile : LaidTile) (test : Bool) → test ≡ (holds parent.piece.rect (tile.piece.rect.left - 1) (first_row area tile) && meets tile.piece.rect area) → test ≡ true
+    → IsParent area parent tile × (meets tile.piece.rect area ≡ true)
+child_true area parent tile test is passes = both_true (holds parent.piece.rect (tile.piece.rect.left - 1) (first_row area tile)) (meets tile.piece.rect area) (sym is ∙ passes)
+
+pub child_false :
+    (area : Rect) (parent tile : LaidTile) (test : Bool) → test ≡ (holds parent.piece.rect (tile.piece.rect.left - 1) (first_row area tile) && meets tile.piece.rect area) → test ≡ false
+    → IsParent area parent tile → meets tile.piece.rect area ≡ true → ⊥
+child_false area parent tile test is fails is_parent met = both_ways test fails (is ∙ rw (is_parent, met) refl)
+
+-- there is room for the next child
+pub child_fits :
+    (tiles : List (ℕ × Tile)) (area : Rect) (list : List LaidTile) (index : ℕ) (parent tile : LaidTile) → IsPlane tiles → IsRectangleIn world area
+    → IsBeside (block_at tiles) area list index parent tile → IsFound (block_at tiles) area tile → IsParent area parent tile → length list < length tiles
+child_fits tiles area list index parent tile plane inside beside found is_parent =
+    let longer = listed_push (block_at tiles) area list index parent tile plane.tiling inside beside found is_parent in
+    omega (arith, length_push list tile, length-le-AreLaid tiles (list ++ tile ∷ []) (λ k d within. (longer.each k d within).laid) longer.once)

@@ -16,7 +16,7 @@ use Rattle.mls_stitch.specs.Stitches.{HoldsAt}
 use Rattle.mls_stitch.specs.Tilings.{AreBlocks}
 use Rattle.mls_stitch.specs.declared.laid_tile.LaidTile.{LaidTile}
 use Rattle.mls_stitch.proofs.DistinctNumbers.{cases_Contains}
-use Rattle.mls_stitch.proofs.FreshTiles.{AllPairs-either, AllPairs-from_map, Contains-from_map, cases_Option, entry-keys_of, fresh_at-absent, fresh_at-entry, fresh_at-listed, list_any-Contains, list_any-absent}
+use Rattle.mls_stitch.proofs.FreshTiles.{AllPairs-either, AllPairs-from_map, Contains-from_map, IfSome-each, cases_Option, entry-keys_of, fresh_at-absent, fresh_at-entry, fresh_at-listed, list_any-Contains, list_any-absent}
 use Rattle.mls_stitch.proofs.Sides.{HoldsAt-block, legal-AreBlocks, there-IsSomeAnd}
 
 -- a listed tile's piece
@@ -137,10 +137,7 @@ module _ (blocks : ℕ → Option Piece) (touched : List ℕ) (laid : List LaidT
     ]
 
     legal : (key : ℕ) → IfSome (replaced blocks touched laid key) (λ block. IsRectangleIn world block.rect)
-    legal key = elim (cases_Option (replaced blocks touched laid key)) [
-      | inl none ↦ subst (λ o. IfSome o (λ block. IsRectangleIn world block.rect)) (sym none) tt
-      | inr (piece, is) ↦ subst (λ o. IfSome o (λ block. IsRectangleIn world block.rect)) (sym is) (legal_at key piece is)
-    ]
+    legal key = IfSome-each (replaced blocks touched laid key) (λ block. IsRectangleIn world block.rect) (legal_at key)
 
     whole : (at : Point) → IsTrue (holds world at.x at.y) → (key : ℕ) × HoldsAt (replaced blocks touched laid) key at
     whole at inside =

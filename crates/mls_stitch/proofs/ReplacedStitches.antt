@@ -34,6 +34,13 @@ stitch_of-unstitched Bl piece = refl
 stitch_of-unstitched Tr piece = refl
 stitch_of-unstitched Rt piece = refl
 
+pub no_stitch :
+    (tiles : List (ℕ × Tile)) (laid : List LaidTile) (entry : LaidTile) (tile : Tile) (stitch : Stitch) → All (λ e. tile_in tiles e.id ≡ Some (unstitched e.piece)) laid
+    → Contains laid entry → tile_in tiles entry.id ≡ Some tile → stitch_of stitch tile ≡ None
+no_stitch tiles laid entry tile stitch placed found is =
+    let fresh = All-contains (λ e. tile_in tiles e.id ≡ Some (unstitched e.piece)) laid entry placed found in
+    ap (stitch_of stitch) (same_Some tile (unstitched entry.piece) (sym is ∙ fresh)) ∙ stitch_of-unstitched stitch entry.piece
+
 -- it lies where its piece does
 pub ArePlaced-unstitched : (slot : Option Tile) (block : Option Piece) (piece : Piece) → slot ≡ Some (unstitched piece) → block ≡ Some piece → ArePlaced slot block
 ArePlaced-unstitched slot block piece slot_is block_is =
@@ -109,8 +116,7 @@ module _ (old new : List (ℕ × Tile)) (blocks : ℕ → Option Piece) (touched
       → IsRightOrListed (replaced blocks touched laid) (around ++ laid) entry.id tile entry.piece stitch
   pending-entry entry tile stitch found is =
       let at = beyond stitch entry.piece.rect in
-      let fresh = All-contains (λ e. tile_in new e.id ≡ Some (unstitched e.piece)) laid entry ways.placed found in
-      let none : stitch_of stitch tile ≡ None = ap (stitch_of stitch) (same_Some tile (unstitched entry.piece) (sym is ∙ fresh)) ∙ stitch_of-unstitched stitch entry.piece in
+      let none = no_stitch new laid entry tile stitch ways.placed found is in
       elim (cases_Bool (holds world at.x at.y)) [
         | inl inside ↦
             let (p, in_piece, close) = inner_square stitch world entry.piece.rect (legal-entry blocks touched laid may entry found) in

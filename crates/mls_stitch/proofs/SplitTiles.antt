@@ -1,12 +1,12 @@
 -- Splits and joins are replacements that leave the picture as it was.
-use Rattle.std.proofs.Common.{◌≡◌, ◌≢◌, ◌⊎◌, ℕ, ◌<◌, true, IsTrue, List, [], ◌∷◌, length, slice_get, Option, Some, None, All, AllPairs, Contains, inl, inr, refl, sym, ap, ◌∙◌, subst, arith}
+use Rattle.std.proofs.Common.{◌≡◌, ◌≢◌, ◌⊎◌, ℕ, ◌<◌, true, List, [], ◌∷◌, slice_get, Some, None, All, AllPairs, Contains, inl, inr, refl, sym, ap, ◌∙◌, subst, arith}
 use Rattle.std.specs.List.{AllZip}
 use Rattle.std.proofs.Math.Path.{fun_ext}
-use Rattle.std.proofs.lemmas.List.Elements.{All-cons, All-head, All-nil, All-tail}
+use Rattle.std.proofs.lemmas.List.Elements.{All-cons, All-nil}
 use Rattle.std.proofs.lemmas.Option.{same_Some}
 use Rattle.mls_geom.specs.Rects.{Point, holds}
 use Rattle.mls_geom.specs.declared.piece.Piece.{Piece}
-use Rattle.mls_geom.proofs.Ascending.{AllPairs-first, Contains-first, Contains-rest}
+use Rattle.mls_geom.proofs.Ascending.{Contains-first, Contains-rest}
 use Rattle.mls_geom.proofs.Holds.{between_holds}
 use Rattle.mls_geom.proofs.Overlays.{Agrees, overlaid_stays}
 use Rattle.mls_tilepool.specs.Pools.{tile_in}

@@ -1,15 +1,16 @@
 //! Area search.
-ghost use Rattle.std.specs.Prelude.{◌≡◌, ℕ, ◌+◌, ◌<◌, ◌≤◌, ◌↔◌, [], ◌∷◌, List, Some, None, IfOk, IfSome, OnOk, OnErr, IsErr, IsSomeAnd, length, map, vec_capacity};
-ghost use Rattle.mls_tilepool.specs.Pools.{IsOwner, count_of, room_of, tile_in, tiles_of};
-ghost use Rattle.mls_stitch.specs.Tilings.{ChangesOnly, HasPlane, IsMaximal, block_at, shown};
+ghost use Rattle.std.specs.Prelude.{◌≡◌, ◌≤◌, length, map};
+ghost use Rattle.mls_tilepool.specs.Pools.{count_of, tiles_of};
+ghost use Rattle.mls_stitch.specs.Tilings.{HasPlane, IsMaximal, block_at, shown};
 ghost use Rattle.mls_geom.specs.Pictures.{picture_of};
 ghost use Rattle.mls_geom.specs.Strips.{AreStrips};
 ghost use Rattle.mls_geom.specs.World.{world};
 ghost use Rattle.mls_stitch.specs.Areas.{AreInArea};
 
-use crate::{LaidTile, Plane, Scratch};
+use crate::enumeration::area_into;
+use crate::{Plane, Scratch};
 use mls_geom::Rect;
-use mls_tilepool::{Owner, Pool, TileId};
+use mls_tilepool::Pool;
 
 impl Plane {
     /// Finds the tiles that have a square of the area, by their bottom, clipped to the area, and then their left, and
@@ -40,21 +41,4 @@ impl Plane {
     {
         self.area(pool, Rect::world(), scratch);
     }
-}
-
-/// Lists the tiles that have a square of the area, by their bottom, clipped to the area, and then their left. The search starts
-/// at the tile `from`, if the owner has it.
-pub(crate) fn area_into(
-    pool: &Pool,
-    owner: &Owner,
-    from: TileId,
-    area: Rect,
-    list: &mut Vec<LaidTile>,
-)
-    requires plane { HasPlane pool.now owner.now }
-    requires room { count_of pool.now owner.now ≤ vec_capacity list.old }
-    ensures found { AreInArea (block_at (tiles_of pool.now owner.now)) area list.new.items }
-    ensures room { vec_capacity list.new ≡ vec_capacity list.old }
-{
-    unreachable!()
 }

@@ -1,8 +1,11 @@
 //! The enumeration of an area's tiles (Ousterhout 1984), each of which has one parent.
-ghost use Rattle.std.specs.Prelude.{◌≡◌, ◌+◌, ◌-◌, ◌<◌, ◌≤◌, ◌&&◌, slice_index_or, vec_len, vec_capacity};
-ghost use Rattle.mls_geom.specs.Rects.{holds, meets};
+ghost use Rattle.std.specs.Prelude.{◌≡◌, ◌+◌, ◌-◌, ◌<◌, ◌≤◌, ◌&&◌, false, slice_index_or, vec_len, vec_capacity};
+ghost use Rattle.mls_geom.specs.Rects.{IsRectangleIn, holds, meets};
 ghost use Rattle.mls_geom.specs.World.{world};
 ghost use Rattle.mls_tilepool.specs.Pools.{count_of, tiles_of};
+ghost use Rattle.std.specs.List.{AllPairs};
+ghost use Rattle.std.specs.List.Sorted.{IsPermutation};
+ghost use Rattle.mls_stitch.specs.Areas.{AreInArea, comes_first};
 ghost use Rattle.mls_stitch.specs.Enumerations.{IsBeside, IsListedTo, first_row};
 ghost use Rattle.mls_stitch.specs.Tilings.{HasPlane, block_at};
 ghost use Rattle.mls_stitch.specs.declared.laid_tile.LaidTile.{LaidTile};
@@ -32,6 +35,7 @@ fn is_child(area: Rect, parent: &LaidTile, tile: &LaidTile) -> bool
 /// Lists the right neighbour of the tile at the index, where it is the tile's child.
 fn push_child(pool: &Pool, owner: &Owner, area: Rect, parent: &LaidTile, tile: &LaidTile, index: usize, list: &mut Vec<LaidTile>)
     requires plane { HasPlane pool.now owner.now }
+    requires legal { IsRectangleIn world area }
     requires room { count_of pool.now owner.now ≤ vec_capacity list.old }
     requires beside { IsBeside (block_at (tiles_of pool.now owner.now)) area list.old.items index parent.now tile.now }
     ensures listed { IsListedTo (block_at (tiles_of pool.now owner.now)) area list.new.items index tile.now.piece.rect.bottom }
@@ -47,6 +51,7 @@ fn push_child(pool: &Pool, owner: &Owner, area: Rect, parent: &LaidTile, tile: &
 /// Lists the right neighbours of the tile at the index of which it is the parent.
 fn push_children(pool: &Pool, owner: &Owner, area: Rect, index: usize, list: &mut Vec<LaidTile>)
     requires plane { HasPlane pool.now owner.now }
+    requires legal { IsRectangleIn world area }
     requires room { count_of pool.now owner.now ≤ vec_capacity list.old }
     requires within { index < vec_len list.old }
     requires listed { IsListedTo (block_at (tiles_of pool.now owner.now)) area list.old.items index world.top }
@@ -60,11 +65,68 @@ fn push_children(pool: &Pool, owner: &Owner, area: Rect, index: usize, list: &mu
     }
     let last_row = first_row(area, &parent);
     let mut tile = neighbour(pool, owner, &parent, Stitch::Tr);
-    loop {
+    'neighbours: loop {
         push_child(pool, owner, area, &parent, &tile, index, list);
         if tile.sides().bottom <= last_row {
             return;
         }
         tile = neighbour(pool, owner, &tile, Stitch::Lb);
     }
+}
+
+/// Makes `list` the tiles on the area's left side, from the bottom up.
+fn list_left_side(pool: &Pool, owner: &Owner, from: TileId, area: Rect, list: &mut Vec<LaidTile>)
+    requires plane { HasPlane pool.now owner.now }
+    requires room { count_of pool.now owner.now ≤ vec_capacity list.old }
+    ensures legal { IsRectangleIn world area }
+    ensures listed { IsListedTo (block_at (tiles_of pool.now owner.now)) area list.new.items 0 world.top }
+    ensures room { vec_capacity list.new ≡ vec_capacity list.old }
+{
+    list.clear();
+    let bounds = area.area();
+    let mut line = bounds.bottom;
+    let mut from = from;
+    'side: while line < bounds.top {
+        let tile = find_tile(pool, owner, from, Point::at(bounds.left, line));
+        list.push_reserved(tile);
+        line = tile.sides().top;
+        from = tile.id;
+    }
+}
+
+/// Makes `list` the tiles that have a square of the area, each once, in any order.
+fn list_tiles(pool: &Pool, owner: &Owner, from: TileId, area: Rect, list: &mut Vec<LaidTile>)
+    requires plane { HasPlane pool.now owner.now }
+    requires room { count_of pool.now owner.now ≤ vec_capacity list.old }
+    ensures legal { IsRectangleIn world area }
+    ensures listed { IsListedTo (block_at (tiles_of pool.now owner.now)) area list.new.items (vec_len list.new) world.top }
+    ensures room { vec_capacity list.new ≡ vec_capacity list.old }
+{
+    list_left_side(pool, owner, from, area, list);
+    let mut index = 0;
+    'tiles: while index < list.len() {
+        push_children(pool, owner, area, index, list);
+        index += 1;
+    }
+}
+
+/// Sorts tiles by their first row in the area, and then by their left.
+fn sort_rows(area: Rect, list: &mut Vec<LaidTile>)
+    ensures sorted { AllPairs (λ p q. comes_first area q p ≡ false) list.new.items }
+    ensures same { IsPermutation list.old.items list.new.items }
+    ensures room { vec_capacity list.new ≡ vec_capacity list.old }
+{
+    list.sort_unstable_by_key(|tile| (first_row(area, tile), tile.sides().left));
+}
+
+/// Lists the tiles that have a square of the area, by their bottom, clipped to the area, and then their left. The search
+/// starts at the tile `from`, if the owner has it.
+pub(crate) fn area_into(pool: &Pool, owner: &Owner, from: TileId, area: Rect, list: &mut Vec<LaidTile>)
+    requires plane { HasPlane pool.now owner.now }
+    requires room { count_of pool.now owner.now ≤ vec_capacity list.old }
+    ensures found { AreInArea (block_at (tiles_of pool.now owner.now)) area list.new.items }
+    ensures room { vec_capacity list.new ≡ vec_capacity list.old }
+{
+    list_tiles(pool, owner, from, area, list);
+    sort_rows(area, list);
 }

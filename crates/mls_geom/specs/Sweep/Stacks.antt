@@ -4,8 +4,7 @@ use Rattle.std.specs.List.{All}
 use Rattle.mls_geom.specs.Rects.{Rect}
 use Rattle.mls_geom.specs.Pictures.{Picture}
 use Rattle.mls_geom.specs.Sweep.Rows.{AreRuns}
-use Rattle.mls_geom.specs.Strips.{AreStrips}
-use Rattle.mls_geom.specs.TileCounts.{tile_count}
+use Rattle.mls_geom.specs.Locality.{AreCoveredStrips, covered_count}
 use Rattle.mls_geom.specs.declared.piece.Piece.{Piece}
 use Rattle.mls_geom.specs.declared.run.Run.{Run}
 
@@ -24,10 +23,10 @@ pub record ReachesUp (y : ℕ) (run : Run) (strip : Piece) : Type 0 where
 abbrev pub NameStrips : ℕ → List Piece → List Run → Type 0
 NameStrips y strips runs = All (λ run. IsSomeAnd (slice_get strips run.strip) (ReachesUp y run)) runs
 
--- the strips are those of the picture below the line y, and the runs are those of the row just below it, each with the strip that it belongs to
+-- the strips are those of the covered squares below the line y, and the runs are those of the row just below it, each with the strip that it belongs to
 pub record AreStacked (extent : Rect) (picture : Picture) (y : ℕ) (strips : List Piece) (below : List Run) : Type 0 where
-  pub laid : AreStrips (up_to y extent) picture strips
-  pub count : length strips ≡ tile_count (up_to y extent) picture
+  pub laid : AreCoveredStrips (up_to y extent) picture strips
+  pub count : length strips ≡ covered_count (up_to y extent) picture
   pub first : y ≤ extent.bottom → below ≡ []
   pub runs : extent.bottom < y → AreRuns extent picture (y - 1) below
   pub named : NameStrips y strips below

@@ -1,7 +1,8 @@
 -- The ends of each piece are put in, and all are sorted at the end.
-use Rattle.std.proofs.Common.{◌≡◌, take, subst, ap, ◌∙◌, arith}
+use Rattle.std.proofs.Common.{◌≡◌, ◌<◌, take, subst, ap, ◌∙◌, arith}
 use Rattle.std.proofs.lemmas.List.{take_all}
 use Rattle.std.proofs.lemmas.List.Elements.{All-more}
+use Rattle.mls_geom.specs.Locality.{uncovered}
 use Rattle.mls_geom.proofs.BandLines.{AreBandLines-ascended, HaveEnds-more}
 use Rattle.mls_geom.specs.Rects.{Rect, IsRectangleIn}
 use Rattle.mls_geom.specs.World.{world}
@@ -13,11 +14,13 @@ loop-piece-preserved c =
     let pieces = c.args.pieces.now in
     let i = c.loop-piece.piece-index in
     let IsLegal : Piece → Type 0 = λ piece. IsRectangleIn world piece.rect in
+    let HasByte : Piece → Type 0 = λ piece. piece.kind < uncovered in
     let piece = c.piece-item in
     let within = c.loop-piece-test.true in
     let legal = c.area-edges.ensures.legal in
     record {
       legal = All-more IsLegal pieces i piece.result within c.loop-piece.invariant.legal (subst IsLegal piece.is legal);
+      kinds = All-more HasByte pieces i piece.result within c.loop-piece.invariant.kinds (subst HasByte piece.is c.area-edges.ensures.kind);
       members =
           rw (c.push_reserved-in-loop-piece-2.ensures.items, c.push_reserved-in-loop-piece.ensures.items)
           (HaveEnds-more world pieces i _ _ _ piece.result within piece.is legal (ap (λ (e : Rect). e.bottom) (c.edges.view_is ∙ c.area-edges.ensures.value)) (ap (λ (e : Rect). e.top) (c.edges.view_is ∙ c.area-edges.ensures.value)) c.loop-piece.invariant.members);

@@ -1,12 +1,13 @@
 -- The slots that the loop has passed have the first one's kind.
-use Rattle.std.proofs.Common.{◌≡◌, ℕ, ◌-◌, ◌<◌, ◌≤◌, length, slice_index}
+use Rattle.std.proofs.Common.{◌≡◌, ℕ, ◌-◌, ◌<◌, ◌≤◌, length}
+use Rattle.mls_geom.specs.Sweep.Slots.{kind_if_painted}
 use Rattle.mls_geom.proofs.run.end_of_kind.Given as goal
 
 abbrev pub invariant-loop-end : goal.invariant-loop-end
 invariant-loop-end l = record {
   wide : l.first < l.end;
   within : l.end ≤ length l.kinds;
-  alike : (slot : ℕ) → l.first ≤ slot → slot < l.end → slice_index l.kinds slot ≡ slice_index l.kinds l.first;
+  alike : (slot : ℕ) → l.first ≤ slot → slot < l.end → kind_if_painted l.kinds l.free slot ≡ kind_if_painted l.kinds l.free l.first;
 }
 
 abbrev pub decreases-loop-end : goal.decreases-loop-end

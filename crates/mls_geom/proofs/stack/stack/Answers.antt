@@ -2,7 +2,7 @@
 use Rattle.std.proofs.Common.{◌<◌, ◌∙◌, Result, Ok, Err, OnErr, ap, length, set, vec_capacity, vec_len, arith, refl}
 use Rattle.std.proofs.lemmas.Bool.{false≢true}
 use Rattle.mls_geom.specs.Sweep.Stacks.{extended}
-use Rattle.mls_geom.proofs.RowStacking.{BeginsAt-found, IsRowStacked-new_strip, IsRowStacked-end, IsRowStacked-extended, IsRowStacked-start, IsStripUnder-named, length-lt-tile_count_of_row}
+use Rattle.mls_geom.proofs.RowStacking.{BeginsAt-found, IsRowStacked-new_strip, IsRowStacked-end, IsRowStacked-extended, IsRowStacked-start, IsStripUnder-named, length-lt-covered_count_of_row}
 use Rattle.mls_geom.proofs.stack.stack.Goals as goal
 use Rattle.mls_geom.proofs.stack.stack.Goals.{in-Some, in-None+in_ok-run-in-None}
 
@@ -39,7 +39,7 @@ returns-in_err-run-in-None-clause-too_many c = on_err c.from_residual.result (λ
     let within : c.loop-run.run-index < length c.loop-run.row = omega arith in
     let passed = c.first_at_or_after-index.ensures in
     let begins = BeginsAt-found _ _ state within passed.passed passed.stopped (λ stands. false≢true (c.in-None.ensures.found.1 stands)) in
-    omega (arith, length-lt-tile_count_of_row _ state within begins, c.in_err-run-in-None.ensures.too_many.0 refl, c.loop-run.strips.ok.0))
+    omega (arith, length-lt-covered_count_of_row _ state within begins, c.in_err-run-in-None.ensures.too_many.0 refl, c.loop-run.strips.ok.0))
 
 pub loop-run-preserved : goal.loop-run-preserved
 loop-run-preserved c =

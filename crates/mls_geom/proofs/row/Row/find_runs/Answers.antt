@@ -1,5 +1,5 @@
 -- The lines cut the row into slots, which are painted and joined. No more pieces are active than there are, so all of it fits.
-use Rattle.mls_geom.specs.Pictures.{picture_of}
+use Rattle.mls_geom.specs.Locality.{laid}
 use Rattle.mls_geom.specs.World.{world}
 use Rattle.mls_geom.proofs.ActivePieces.{active_fit, active_within}
 use Rattle.mls_geom.proofs.row.Row.find_runs.Goals as goal
@@ -12,5 +12,5 @@ list_lines-requires-clause-no_more c = active_fit c.args.pieces.now c.args.y c.a
 
 pub returns-clause-runs : goal.returns-clause-runs
 returns-clause-runs c =
-    c.join_slots.ensures.runs world (picture_of c.args.pieces.now) c.args.y (rw c.deref-2.ensures.value c.list_lines.ensures.cuts)
-    (rw (c.deref-2.ensures.value, c.deref-3.ensures.value, ← c.deref.ensures.value) (c.paint_row.ensures.kinds c.args.y c.requires.active))
+    c.join_slots.ensures.runs world (laid c.args.pieces.now) c.args.y (rw c.deref-2.ensures.value c.list_lines.ensures.cuts)
+    (rw (c.deref-2.ensures.value, c.deref-3.ensures.value, c.deref-4.ensures.value, ← c.deref.ensures.value) (c.paint_row.ensures.kinds c.args.y c.requires.active))

@@ -2,14 +2,14 @@
 use Rattle.std.proofs.Common.{◌≡◌, ◌+◌, ◌-◌, ◌≤◌, length, get_or, arith}
 use Rattle.std.proofs.lemmas.List.{get_or_read, with_items_is}
 use Rattle.std.proofs.lemmas.Result.{err_from_is_err_and}
-use Rattle.mls_geom.specs.Pictures.{picture_of}
+use Rattle.mls_geom.specs.Locality.{laid}
 use Rattle.mls_geom.specs.Sweep.Rows.{AreRuns}
 use Rattle.mls_geom.specs.Sweep.Stacks.{AreStacked}
 use Rattle.mls_geom.specs.World.{world}
 use Rattle.mls_geom.proofs.Activation.{ArePartedAt-starts, ArePartedAt-up}
 use Rattle.mls_geom.proofs.BandLines.{IsBand-lines, IsLineOf-lines, first_line, last_line}
 use Rattle.mls_geom.proofs.BandRows.{AreAlike-band, IsBand}
-use Rattle.mls_geom.proofs.CornerCounts.{nothing_stacked, tile_count_up_to_grows}
+use Rattle.mls_geom.proofs.CornerCounts.{nothing_stacked, covered_count_up_to_grows}
 use Rattle.mls_geom.proofs.SweepRoomLemmas.{HasRowRoom-less}
 use Rattle.mls_geom.proofs.sweep.Sweep.stack_bands.Goals as goal
 use Rattle.mls_geom.proofs.sweep.Sweep.stack_bands.Goals.{After-deref_mut}
@@ -23,7 +23,7 @@ loop-i-init c =
           rw (first, c.clear.ensures.items, c.as_slice-waiting.ensures.value)
           (ArePartedAt-starts world.bottom pieces c.args.self.now.starts.items c.requires.starts (λ k d within. (c.requires.legal k d within).bottom_in));
       fit = omega (arith, c.requires.starts.len, c.requires.room.active);
-      stacked = rw (first, c.clear-2.ensures.items, c.clear-3.ensures.items) (nothing_stacked world (picture_of pieces));
+      stacked = rw (first, c.clear-2.ensures.items, c.clear-3.ensures.items) (nothing_stacked world (laid pieces));
       within = omega arith;
       active_room = cc;
       strips_room = cc;
@@ -47,24 +47,24 @@ band : (c : After-deref_mut) → IsBand c.args.self.now.pieces.items c.index-bot
 band c = IsBand-lines world c.args.self.now.pieces.items c.args.self.now.lines.items c.requires.lines c.loop-i.i _ _ (omega arith) (omega arith) (bottom_is c) (top_is c)
 
 -- what it is stacked on, and its runs
-below : (c : After-deref_mut) → AreStacked world (picture_of c.args.self.now.pieces.items) c.index-bottom.result.now c.loop-i.strips.items c.deref-in-loop-i-3.result.now
+below : (c : After-deref_mut) → AreStacked world (laid c.args.self.now.pieces.items) c.index-bottom.result.now c.loop-i.strips.items c.deref-in-loop-i-3.result.now
 below c = rw (bottom_is c, c.deref-in-loop-i-3.ensures.value) c.loop-i.invariant.stacked
 
-runs : (c : After-deref_mut) → AreRuns world (picture_of c.args.self.now.pieces.items) c.index-bottom.result.now c.deref_mut.result.now
+runs : (c : After-deref_mut) → AreRuns world (laid c.args.self.now.pieces.items) c.index-bottom.result.now c.deref_mut.result.now
 runs c = rw c.deref_mut.ensures.value (rw c.deref-in-loop-i.ensures.value at c.find_runs.ensures.runs)
 
 pub stack-requires-clause-drawn : goal.stack-requires-clause-drawn
 stack-requires-clause-drawn c =
     let d = (goal.at.stack-requires-clause-drawn c).After-deref_mut in
-    (picture_of c.args.self.now.pieces.items, below d, runs d, AreAlike-band world c.args.self.now.pieces.items _ _ (band d))
+    (laid c.args.self.now.pieces.items, below d, runs d, AreAlike-band world c.args.self.now.pieces.items _ _ (band d))
 
 pub returns-in_err-stack-clause-too_many : goal.returns-in_err-stack-clause-too_many
 returns-in_err-stack-clause-too_many c =
     let d = (goal.at.returns-in_err-stack-clause-too_many c).After-deref_mut in
     let pieces = c.args.self.now.pieces.items in
-    let more = c.in_err-stack.ensures.too_many (picture_of pieces) (below d) (runs d) (AreAlike-band world pieces _ _ (band d)) in
+    let more = c.in_err-stack.ensures.too_many (laid pieces) (below d) (runs d) (AreAlike-band world pieces _ _ (band d)) in
     rw (err_from_is_err_and c.from_residual.result c.from_residual.ensures.1).1
-    (omega (arith, more, tile_count_up_to_grows world (picture_of pieces) _ world.top (top_within d)))
+    (omega (arith, more, covered_count_up_to_grows world (laid pieces) _ world.top (top_within d)))
 
 pub returns-in_err-stack-clause-room : goal.returns-in_err-stack-clause-room
 returns-in_err-stack-clause-room c = λ n room.
@@ -83,7 +83,7 @@ pub loop-i-preserved : goal.loop-i-preserved
 loop-i-preserved c =
     let d = (goal.at.loop-i-preserved c).After-deref_mut in
     let pieces = c.args.self.now.pieces.items in
-    let stacked = c.in_ok-stack.ensures.stacked (picture_of pieces) (below d) (runs d) (AreAlike-band world pieces _ _ (band d)) in
+    let stacked = c.in_ok-stack.ensures.stacked (laid pieces) (below d) (runs d) (AreAlike-band world pieces _ _ (band d)) in
     let next : c.loop-i.i + 1 - 1 ≡ c.loop-i.i = omega arith in
     record {
       parted =

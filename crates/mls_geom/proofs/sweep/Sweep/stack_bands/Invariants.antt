@@ -1,6 +1,6 @@
 use Rattle.std.proofs.Common.{◌≡◌, ℕ, ◌+◌, ◌-◌, ◌*◌, ◌≤◌, length, slice_index, vec_len, vec_capacity}
 use Rattle.mls_geom.specs.Sweep.ActivePieces.{ArePartedAt}
-use Rattle.mls_geom.specs.Pictures.{picture_of}
+use Rattle.mls_geom.specs.Locality.{laid}
 use Rattle.mls_geom.specs.Sweep.RowRooms.{HasRowRoom}
 use Rattle.mls_geom.specs.Sweep.Stacks.{AreStacked}
 use Rattle.mls_geom.specs.Sweep.SweepRooms.{HasSweepRoom}
@@ -13,7 +13,7 @@ invariant-loop-i l =
     record {
       parted : ArePartedAt line l.pieces.items l.active.items l.waiting;
       fit : vec_len l.active + length l.waiting ≤ vec_capacity l.active;
-      stacked : AreStacked world (picture_of l.pieces.items) line l.strips.items l.below.items;
+      stacked : AreStacked world (laid l.pieces.items) line l.strips.items l.below.items;
       within : vec_len l.strips ≤ l.limit;
       active_room : vec_capacity l.active ≡ vec_capacity l.initial.active;
       strips_room : vec_capacity l.strips ≡ vec_capacity l.initial.strips;

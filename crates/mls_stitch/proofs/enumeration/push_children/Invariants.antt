@@ -1,0 +1,16 @@
+-- The tile is the next right neighbour of the parent.
+use Rattle.std.proofs.Common.{◌≡◌, ◌≤◌, vec_len, vec_capacity}
+use Rattle.mls_tilepool.specs.Pools.{tiles_of}
+use Rattle.mls_stitch.specs.Enumerations.{IsBeside, first_row}
+use Rattle.mls_stitch.specs.Tilings.{block_at}
+use Rattle.mls_stitch.proofs.enumeration.push_children.Given as goal
+
+abbrev pub invariant-neighbours : goal.invariant-neighbours
+invariant-neighbours l = record {
+  beside : IsBeside (block_at (tiles_of l.pool l.owner)) l.area l.list.items l.index l.parent l.tile;
+  longer : vec_len l.initial.list ≤ vec_len l.list;
+  room : vec_capacity l.list ≡ vec_capacity l.initial.list;
+}
+
+abbrev pub decreases-neighbours : goal.decreases-neighbours
+decreases-neighbours l = l.tile.piece.rect.bottom
