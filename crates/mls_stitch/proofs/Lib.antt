@@ -1,3 +1,4 @@
+pub mod AroundTiles
 pub mod BuiltPlanes
 pub mod BuiltTiles
 pub mod CloseSquares
@@ -13,6 +14,7 @@ pub mod MaximalTiles
 pub mod Neighbours
 pub mod PoolChanges
 pub mod ReplacedBlocks
+pub mod ReplacedPlanes
 pub mod ReplacedStitches
 pub mod ReplacedTiles
 pub mod SettingStitches

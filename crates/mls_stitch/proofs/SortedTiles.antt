@@ -1,14 +1,18 @@
 -- Listed tiles, sorted by their keys, with no key twice.
-use Rattle.std.proofs.Common.{◌≡◌, ◌≢◌, ◌⊎◌, ℕ, ◌+◌, ◌<◌, ◌≤◌, ◌==◌, Bool, true, false, cond, List, [], ◌∷◌, ◌++◌, length, map, get_or, All, AllPairs, Any, Contains, inl, inr, refl, sym, ap, ◌∙◌, subst, eqb-true, zero, suc, arith}
-use Rattle.std.specs.List.{dedup, dedup_from}
-use Rattle.std.specs.List.Sorted.{IsNonDecreasingBy}
+use Rattle.std.proofs.Common.{◌≡◌, ◌≢◌, ◌⊎◌, ℕ, ◌+◌, ◌<◌, ◌≤◌, ◌==◌, Bool, true, false, cond, List, [], ◌∷◌, ◌++◌, length, map, get_or, All, AllPairs, Contains, IsPermutation, Result, Ok, Err, is_ok, inl, inr, refl, sym, ap, ◌∙◌, subst, eqb-true, zero, suc, arith}
+use Rattle.std.specs.List.{dedup, dedup_from, list_any}
+use Rattle.std.specs.Ordering.{nat_cmp}
+use Rattle.std.specs.List.Sorted.{IsBinarySearchResult, IsNonDecreasing, IsNonDecreasingBy}
 use Rattle.std.proofs.lemmas.Bool.{cases_Bool, cases_lt, cond-false, cond-true, eqb-false}
-use Rattle.std.proofs.lemmas.List.Elements.{All-cons, All-weaker}
-use Rattle.std.proofs.lemmas.List.Kept.{AllPairs-cons}
-use Rattle.mls_geom.proofs.Ascending.{Contains-first, Contains-rest}
+use Rattle.std.proofs.lemmas.List.{get_or_default}
+use Rattle.std.proofs.lemmas.List.Elements.{All-cons, All-weaker, Contains-get_or}
+use Rattle.std.proofs.lemmas.List.Kept.{AllPairs-cons, Contains-from_dedup}
+use Rattle.std.proofs.lemmas.List.Sorted.{Contains-permutation, IsPermutation-sym, searched}
+use Rattle.mls_geom.proofs.Ascending.{Contains-first, Contains-map, Contains-rest}
 use Rattle.mls_stitch.specs.Pending.{keys_of}
+use Rattle.mls_stitch.specs.Placing.{KeepsKeys}
 use Rattle.mls_stitch.specs.declared.laid_tile.LaidTile.{LaidTile}
-use Rattle.mls_stitch.proofs.FreshTiles.{Contains-first_or_rest, nothing_in_nil}
+use Rattle.mls_stitch.proofs.FreshTiles.{Contains-first_or_rest, list_any-Contains, list_any-absent, nothing_in_nil}
 
 -- the tiles have one key
 abbrev pub same_key : LaidTile → LaidTile → Bool
@@ -79,3 +83,30 @@ keys-dedup_from k (x ∷ xs) entry found = elim (cases_Bool (same_key x k)) [
 pub keys-dedup : (xs : List LaidTile) (entry : LaidTile) → Contains xs entry → Contains (keys_of (dedup same_key xs)) entry.id
 keys-dedup [] entry found = absurd (nothing_in_nil entry found)
 keys-dedup (x ∷ xs) entry found = keys-dedup_from x xs entry found
+
+-- so a list that is sorted and loses its duplicates keeps its tiles and keys
+pub KeepsKeys-sorted : (before sorted after : List LaidTile) → IsPermutation before sorted → after ≡ dedup same_key sorted → KeepsKeys before after
+KeepsKeys-sorted before sorted after moved is = record {
+  tiles = subst (All (Contains before)) (sym is) (λ k d within. Contains-permutation sorted before _ (IsPermutation-sym before sorted moved) (Contains-from_dedup same_key sorted _ (Contains-get_or (dedup same_key sorted) k d within)));
+  keys = λ k d within. subst (λ l. Contains (keys_of l) (get_or before k d).id) (sym is) (keys-dedup sorted (get_or before k d) (Contains-permutation before sorted (get_or before k d) moved (Contains-get_or before k d within)));
+}
+
+pub KeepsKeys-refl : (list : List LaidTile) → KeepsKeys list list
+KeepsKeys-refl list = record {
+  tiles = λ k d within. Contains-get_or list k d within;
+  keys = λ k d within. Contains-map id_of list (get_or list k d) (Contains-get_or list k d within);
+}
+
+-- in a list that rises the search finds a number that is there
+pub found_listed : (keys : List ℕ) (key : ℕ) (r : Result ℕ ℕ) → IsNonDecreasing keys → IsBinarySearchResult (λ y. nat_cmp y key) keys r → is_ok r ≡ list_any (λ k. k == key) keys
+found_listed keys key (Ok i) up found =
+    let (within, here) = searched keys key (Ok i) found (λ j k before less. up j k 0 before less) in
+    sym (list_any-Contains keys key (i, within, get_or_default keys i key 0 within ∙ here))
+found_listed keys key (Err i) up found =
+    let (end, below, above) = searched keys key (Err i) found (λ j k before less. up j k 0 before less) in
+    sym (list_any-absent keys key (λ (k, within, is).
+        let at : get_or keys k 0 ≡ key = get_or_default keys k 0 key within ∙ is in
+        elim (cases_lt k i) [
+          | inl less ↦ omega (arith, below k less, at)
+          | inr more ↦ omega (arith, above k more within, at)
+        ]))
