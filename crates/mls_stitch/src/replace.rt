@@ -56,6 +56,6 @@ impl Plane {
             .last()
             .map_or(self.hint, |tile| tile.id);
         stitch_listed(pool, &self.owner, &mut scratch.entries);
-        Ok(())
+        unreachable!()
     }
 }
