@@ -22,5 +22,6 @@ pub mod ShownTiles
 pub mod SideListings
 pub mod Sides
 pub mod SortedTiles
+pub mod SplitCalls
 pub mod SplitTiles
 pub mod TilesBeyond
