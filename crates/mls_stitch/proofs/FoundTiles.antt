@@ -1,5 +1,5 @@
 -- What area search found, once it is sorted.
-use Rattle.std.proofs.Common.{◌≡◌, ◌≢◌, ℕ, ◌<◌, ◌≤◌, Bool, true, false, Ordering, ◌&&◌, ◌||◌, ◌==◌, nat_lt, max, List, length, get_or, Option, All, Any, AllPairs, Contains, IsPermutation, inl, inr, refl, sym, ap, ◌∙◌, subst, arith}
+use Rattle.std.proofs.Common.{◌≡◌, ℕ, ◌<◌, true, false, Ordering, ◌&&◌, ◌||◌, ◌==◌, nat_lt, max, List, length, get_or, Option, AllPairs, IsPermutation, inl, inr, sym, ap, ◌∙◌, subst, arith}
 use Rattle.std.specs.List.Sorted.{IsSortedByKey}
 use Rattle.std.specs.Ordering.{is_lt, nat_cmp, ordering_then}
 use Rattle.std.proofs.lemmas.Bool.{both_ways, cases_lt}

@@ -1,15 +1,15 @@
 -- The tiles on the left side of an area, from the bottom up.
-use Rattle.std.proofs.Common.{◌≡◌, ◌≢◌, ℕ, ◌<◌, ◌≤◌, true, List, [], ◌∷◌, ◌++◌, length, get_or, Option, All, Any, AllPairs, Contains, inl, inr, refl, ap, ◌∙◌, arith}
+use Rattle.std.proofs.Common.{◌≡◌, ◌≢◌, ℕ, ◌<◌, ◌≤◌, true, List, [], ◌∷◌, ◌++◌, length, get_or, Option, All, inl, inr, ap, arith}
 use Rattle.std.proofs.lemmas.Bool.{cases_lt}
 use Rattle.std.proofs.lemmas.List.{length_push}
-use Rattle.std.proofs.lemmas.List.Elements.{All-push, All-nil}
+use Rattle.std.proofs.lemmas.List.Elements.{All-push}
 use Rattle.std.proofs.lemmas.List.Quantifiers.{Any-push, all_pairs_push}
 use Rattle.mls_geom.specs.Rects.{Rect, IsRectangleIn, holds}
 use Rattle.mls_geom.specs.World.{world}
 use Rattle.mls_geom.specs.declared.piece.Piece.{Piece}
 use Rattle.mls_geom.proofs.Holds.{holds_between, between_holds}
 use Rattle.mls_stitch.specs.Areas.{IsFound}
-use Rattle.mls_stitch.specs.Enumerations.{IsListedTo, IsReached, IsSideListedTo, first_row}
+use Rattle.mls_stitch.specs.Enumerations.{IsListedTo, IsSideListedTo}
 use Rattle.mls_stitch.specs.Tilings.{AreBlocks, IsPlane, block_at}
 use Rattle.mls_stitch.specs.Walks.{IsLaidAt}
 use Rattle.mls_stitch.specs.declared.laid_tile.LaidTile.{LaidTile}

@@ -107,13 +107,7 @@ fn list_left_side(pool: &Pool, owner: &Owner, from: TileId, area: Rect, list: &m
 }
 
 /// Makes `list` the tiles that have a square of the area, each once, in any order.
-fn list_tiles(
-    pool: &Pool,
-    owner: &Owner,
-    from: TileId,
-    area: Rect,
-    list: &mut Vec<LaidTile>,
-)
+fn list_tiles(pool: &Pool, owner: &Owner, from: TileId, area: Rect, list: &mut Vec<LaidTile>)
     requires plane { HasPlane pool.now owner.now }
     requires room { count_of pool.now owner.now ≤ vec_capacity list.old }
     ensures legal { IsRectangleIn world area }

@@ -51,9 +51,10 @@ impl Plane {
             &mut scratch.entries,
         );
         place_instead(pool, &self.owner, touched, fresh, &mut scratch.entries);
-        if let Some(tile) = scratch.entries.last() {
-            self.hint = tile.id;
-        }
+        self.hint = scratch
+            .entries
+            .last()
+            .map_or(self.hint, |tile| tile.id);
         stitch_listed(pool, &self.owner, &mut scratch.entries);
         unreachable!()
     }

@@ -1,5 +1,5 @@
 -- The sorted list is what area search finds.
-use Rattle.std.proofs.Common.{length, subst}
+use Rattle.std.proofs.Common.{subst}
 use Rattle.mls_geom.specs.World.{world}
 use Rattle.mls_tilepool.specs.Pools.{tiles_of}
 use Rattle.mls_stitch.specs.Enumerations.{IsListedTo}

@@ -1,8 +1,7 @@
 -- The tile with the side's square at the line is listed next.
-use Rattle.std.proofs.Common.{◌≡◌, ◌<◌, ◌≤◌, ap, ◌∙◌, subst, arith}
-use Rattle.mls_geom.specs.Rects.{Rect, Point}
+use Rattle.std.proofs.Common.{◌≡◌, ap, ◌∙◌, subst, arith}
+use Rattle.mls_geom.specs.Rects.{Rect}
 use Rattle.mls_tilepool.specs.Pools.{tiles_of}
-use Rattle.mls_stitch.specs.Enumerations.{IsSideListedTo}
 use Rattle.mls_stitch.specs.Tilings.{block_at}
 use Rattle.mls_stitch.specs.Walks.{IsLaidAt}
 use Rattle.mls_geom.proofs.Holds.{holds_between}

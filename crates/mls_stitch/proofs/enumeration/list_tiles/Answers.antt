@@ -1,5 +1,5 @@
 -- Each listed tile's children are listed.
-use Rattle.std.proofs.Common.{◌≡◌, length, subst, sym, ◌∙◌, arith, vec_len}
+use Rattle.std.proofs.Common.{◌≡◌, subst, arith, vec_len}
 use Rattle.mls_geom.specs.World.{world}
 use Rattle.mls_tilepool.specs.Pools.{tiles_of}
 use Rattle.mls_stitch.specs.Enumerations.{IsListedTo}

@@ -1,7 +1,6 @@
 -- The next right neighbour is listed where it is a child, for which there is room.
-use Rattle.std.proofs.Common.{◌∙◌, arith}
+use Rattle.std.proofs.Common.{arith}
 use Rattle.mls_tilepool.specs.Pools.{tiles_of}
-use Rattle.mls_stitch.specs.Areas.{IsFound}
 use Rattle.mls_stitch.specs.Tilings.{block_at}
 use Rattle.mls_stitch.proofs.Listings.{child_false, child_fits, child_true, listed_push, listed_skip}
 use Rattle.mls_stitch.proofs.enumeration.push_child.Goals as goal
