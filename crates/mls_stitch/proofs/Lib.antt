@@ -5,6 +5,7 @@ pub mod CloseSquares
 pub mod CutBlocks
 pub mod DistinctNumbers
 pub mod FoundTiles
+pub mod FreshStrips
 pub mod FreshTiles
 pub mod KeptStitches
 pub mod Laying
@@ -12,6 +13,7 @@ pub mod ListedTiles
 pub mod Listings
 pub mod MaximalTiles
 pub mod Neighbours
+pub mod OtherPlanes
 pub mod PoolChanges
 pub mod ReplacedBlocks
 pub mod ReplacedPlanes
