@@ -3,6 +3,7 @@ pub mod BuiltPlanes
 pub mod BuiltTiles
 pub mod CloseSquares
 pub mod CutBlocks
+pub mod CutTiles
 pub mod DistinctNumbers
 pub mod FoundTiles
 pub mod FreshTiles

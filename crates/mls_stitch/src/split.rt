@@ -1,12 +1,14 @@
 //! Splitting tiles and joining them.
-ghost use Rattle.std.specs.Prelude.{◌≡◌, ℕ, ◌+◌, ◌<◌, ◌≤◌, ◌↔◌, Some, IfOk, IfSome, IsErr, IsSomeAnd, OnErr};
+ghost use Rattle.std.specs.Prelude.{◌≡◌, ◌<◌, ◌≤◌, ◌↔◌, [], ◌∷◌, Some, IfOk, IfSome, IsErr, IsSomeAnd, OnErr, OnOk};
 ghost use Rattle.mls_tilepool.specs.Pools.{count_of, room_of, tiles_of};
+ghost use Rattle.mls_stitch.specs.Replacements.{Replaces, TakePlace};
+ghost use Rattle.mls_stitch.specs.Stitches.{HoldsAt};
 ghost use Rattle.mls_stitch.specs.Splits.{JoinInX, JoinInY, Joins, Splits, joined_x, joined_y, left_of, lower_of, right_of, upper_of};
 ghost use Rattle.mls_stitch.specs.Tilings.{ChangesOnly, HasPlane, block_at};
 
 use crate::laid_tile::laid;
 use crate::{Plane, Scratch};
-use mls_geom::{Piece, Point, Rect};
+use mls_geom::{Piece, Rect};
 use mls_tilepool::{NoRoom, Pool, TileId};
 
 impl Plane {
@@ -44,8 +46,7 @@ impl Plane {
             rect: Rect::between(x, area.bottom, area.right, area.top),
             kind: whole.kind,
         };
-        self.replace(pool, &[tile], &[left, right], scratch)?;
-        Ok(self.find(pool, Point::at(x, area.bottom)))
+        self.split(pool, tile, left, right, scratch)
     }
 
     /// Splits a tile at a row's bottom line, counted as the coordinates of [`Area`](mls_geom::Area) are.
@@ -82,8 +83,7 @@ impl Plane {
             rect: Rect::between(area.left, y, area.right, area.top),
             kind: whole.kind,
         };
-        self.replace(pool, &[tile], &[lower, upper], scratch)?;
-        Ok(self.find(pool, Point::at(area.left, y)))
+        self.split(pool, tile, lower, upper, scratch)
     }
 
     /// Joins a tile and the tile to its right, which share a whole side and have one kind. The tile keeps its name for both.
@@ -112,10 +112,7 @@ impl Plane {
             rect: Rect::between(area.left, area.bottom, beside.right, area.top),
             kind: tile.kind,
         };
-        match self.replace(pool, &[left, right], &[whole], scratch) {
-            Ok(()) => {}
-            Err(_) => unreachable!(),
-        }
+        self.join(pool, left, right, whole, scratch);
     }
 
     /// Joins a tile and the tile above it, which share a whole side and have one kind. The tile keeps its name for both.
@@ -144,9 +141,56 @@ impl Plane {
             rect: Rect::between(area.left, area.bottom, area.right, beside.top),
             kind: tile.kind,
         };
-        match self.replace(pool, &[lower, upper], &[whole], scratch) {
-            Ok(()) => {}
-            Err(_) => unreachable!(),
-        }
+        self.join(pool, lower, upper, whole, scratch);
+    }
+
+    // Replaces a tile by two pieces, and returns the name of the second one's tile.
+    fn split(
+        &mut self,
+        pool: &mut Pool,
+        tile: TileId,
+        first: Piece,
+        second: Piece,
+        scratch: &mut Scratch,
+    ) -> Result<TileId, NoRoom>
+        requires plane { HasPlane pool.old self.old }
+        requires pieces { TakePlace (block_at (tiles_of pool.old self.old)) (tile ∷ []) (first ∷ second ∷ []) }
+        requires tiles_fit { count_of pool.old self.old ≤ scratch.old.room }
+        requires pieces_fit { 2 ≤ scratch.old.room }
+        ensures no_room { IsErr result ↔ (room_of pool.old self.old ≡ Some (count_of pool.old self.old)) }
+        ensures replaced { OnOk result (Replaces (tiles_of pool.old self.old) (tiles_of pool.new self.old) (tile ∷ []) (first ∷ second ∷ [])) }
+        ensures held { IfOk result (λ id. HoldsAt (block_at (tiles_of pool.new self.old)) id (record { x = second.rect.left; y = second.rect.bottom })) }
+        ensures refused { OnErr result (pool.new ≡ pool.old) }
+        ensures plane { self.new ≡ self.old }
+        ensures home { HasPlane pool.new self.old }
+        ensures only { ChangesOnly pool.old pool.new self.old }
+        ensures scratch_room { scratch.new.room ≡ scratch.old.room }
+    {
+        let corner = second.rect.corner();
+        self.replace(pool, &[tile], &[first, second], scratch)?;
+        Ok(self.find(pool, corner))
+    }
+
+    // Replaces two tiles by one piece.
+    fn join(
+        &mut self,
+        pool: &mut Pool,
+        first: TileId,
+        second: TileId,
+        whole: Piece,
+        scratch: &mut Scratch,
+    )
+        requires plane { HasPlane pool.old self.old }
+        requires pieces { TakePlace (block_at (tiles_of pool.old self.old)) (first ∷ second ∷ []) (whole ∷ []) }
+        requires tiles_fit { count_of pool.old self.old ≤ scratch.old.room }
+        ensures replaced { Replaces (tiles_of pool.old self.old) (tiles_of pool.new self.old) (first ∷ second ∷ []) (whole ∷ []) }
+        ensures plane { self.new ≡ self.old }
+        ensures home { HasPlane pool.new self.old }
+        ensures only { ChangesOnly pool.old pool.new self.old }
+        ensures scratch_room { scratch.new.room ≡ scratch.old.room }
+    {
+        let Ok(()) = self.replace(pool, &[first, second], &[whole], scratch) else {
+            unreachable!();
+        };
     }
 }
