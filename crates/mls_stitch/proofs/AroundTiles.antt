@@ -35,9 +35,9 @@ pub unlisted_more :
     → entries ≡ before ++ unlisted_of keys (take i found) → after ≡ entries ++ tile ∷ [] → after ≡ before ++ unlisted_of keys (take (i + 1) found)
 unlisted_more keys found i tile before entries after within is absent so_far pushed =
     let more : unlisted_of keys (take (i + 1) found) ≡ unlisted_of keys (take i found) ++ tile ∷ [] =
-        filter_more (is_unlisted keys) found i tile within
-        ∙ ap (λ t. unlisted_of keys (take i found) ++ cond (is_unlisted keys t) (t ∷ []) []) (sym is)
-        ∙ ap (λ b. unlisted_of keys (take i found) ++ cond (not b) (tile ∷ []) []) absent in
+    filter_more (is_unlisted keys) found i tile within
+    ∙ ap (λ t. unlisted_of keys (take i found) ++ cond (is_unlisted keys t) (t ∷ []) []) (sym is)
+    ∙ ap (λ b. unlisted_of keys (take i found) ++ cond (not b) (tile ∷ []) []) absent in
     pushed ∙ ap (λ l. l ++ tile ∷ []) so_far ∙ append_assoc before (unlisted_of keys (take i found)) (tile ∷ []) ∙ ap (λ l. before ++ l) (sym more)
 
 pub unlisted_skip :
@@ -45,10 +45,10 @@ pub unlisted_skip :
     → entries ≡ before ++ unlisted_of keys (take i found) → entries ≡ before ++ unlisted_of keys (take (i + 1) found)
 unlisted_skip keys found i tile before entries within is there so_far =
     let more : unlisted_of keys (take (i + 1) found) ≡ unlisted_of keys (take i found) =
-        filter_more (is_unlisted keys) found i tile within
-        ∙ ap (λ t. unlisted_of keys (take i found) ++ cond (is_unlisted keys t) (t ∷ []) []) (sym is)
-        ∙ ap (λ b. unlisted_of keys (take i found) ++ cond (not b) (tile ∷ []) []) there
-        ∙ append-nil (unlisted_of keys (take i found)) in
+    filter_more (is_unlisted keys) found i tile within
+    ∙ ap (λ t. unlisted_of keys (take i found) ++ cond (is_unlisted keys t) (t ∷ []) []) (sym is)
+    ∙ ap (λ b. unlisted_of keys (take i found) ++ cond (not b) (tile ∷ []) []) there
+    ∙ append-nil (unlisted_of keys (take i found)) in
     so_far ∙ ap (λ l. before ++ l) (sym more)
 
 -- the list has tiles other than the touched ones, among them all around those of the keys that were passed

@@ -4,6 +4,7 @@ use Rattle.std.specs.Option.{IsSomeAnd}
 use Rattle.mls_geom.specs.Rects.{Rect}
 use Rattle.mls_geom.specs.declared.piece.Piece.{Piece}
 use Rattle.mls_tilepool.specs.declared.pool.NoRoom.{NoRoom}
+use Rattle.mls_stitch.specs.Stitches.{HoldsAt}
 use Rattle.mls_stitch.specs.Splits.{JoinInX, JoinInY, joined_x, joined_y, left_of, lower_of, right_of, upper_of}
 
 abbrev kinded : ℕ → Rect → Piece
@@ -53,3 +54,8 @@ full_less room count is = rw is (omega arith)
 pub room_for_fewer : (room : Option ℕ) (count : ℕ) → IfSome room (λ n. count ≤ n) → ¬ (IsSomeAnd room (λ n. n + 2 < count + 1))
 room_for_fewer None count within less = less
 room_for_fewer (Some n) count within less = omega (arith, within, less)
+
+-- the tile that has a piece's lower-left square
+pub held_as :
+    (blocks : ℕ → Option Piece) (id : ℕ) (p q : Piece) → p ≡ q → HoldsAt blocks id (record { x = p.rect.left; y = p.rect.bottom }) → HoldsAt blocks id (record { x = q.rect.left; y = q.rect.bottom })
+held_as blocks id p q same held = subst (λ (r : Piece). HoldsAt blocks id (record { x = r.rect.left; y = r.rect.bottom })) same held

@@ -105,8 +105,8 @@ found_listed keys key (Ok i) up found =
 found_listed keys key (Err i) up found =
     let (end, below, above) = searched keys key (Err i) found (λ j k before less. up j k 0 before less) in
     sym (list_any-absent keys key (λ (k, within, is).
-        let at : get_or keys k 0 ≡ key = get_or_default keys k 0 key within ∙ is in
-        elim (cases_lt k i) [
-          | inl less ↦ omega (arith, below k less, at)
-          | inr more ↦ omega (arith, above k more within, at)
-        ]))
+    let at : get_or keys k 0 ≡ key = get_or_default keys k 0 key within ∙ is in
+    elim (cases_lt k i) [
+      | inl less ↦ omega (arith, below k less, at)
+      | inr more ↦ omega (arith, above k more within, at)
+    ]))

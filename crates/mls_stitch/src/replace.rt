@@ -27,7 +27,13 @@ impl Plane {
     ///
     /// All other tiles keep their names, rectangles and kinds, and each stitch that did not lead to a touched tile. The names of
     /// touched tiles serve again as far as they go. Fails if the owner has no room for more tiles, and then leaves all as it was.
-    pub fn replace(&mut self, pool: &mut Pool, touched: &[TileId], fresh: &[Piece], scratch: &mut Scratch) -> Result<(), NoRoom>
+    pub fn replace(
+        &mut self,
+        pool: &mut Pool,
+        touched: &[TileId],
+        fresh: &[Piece],
+        scratch: &mut Scratch,
+    ) -> Result<(), NoRoom>
         requires plane { HasPlane pool.old self.old }
         requires pieces { TakePlace (block_at (tiles_of pool.old self.old)) touched.now fresh.now }
         requires tiles_fit { count_of pool.old self.old ≤ scratch.old.room }
@@ -53,10 +59,7 @@ impl Plane {
             &mut scratch.entries,
         );
         place_instead(pool, &self.owner, touched, fresh, &mut scratch.entries);
-        self.hint = scratch
-            .entries
-            .last()
-            .map_or(self.hint, |tile| tile.id);
+        self.hint = scratch.entries.last().map_or(self.hint, |tile| tile.id);
         stitch_listed(pool, &self.owner, &mut scratch.entries);
         Ok(())
     }

@@ -87,13 +87,7 @@ impl Plane {
     }
 
     /// Joins a tile and the tile to its right, which share a whole side and have one kind. The tile keeps its name for both.
-    pub fn join_x(
-        &mut self,
-        pool: &mut Pool,
-        left: TileId,
-        right: TileId,
-        scratch: &mut Scratch,
-    )
+    pub fn join_x(&mut self, pool: &mut Pool, left: TileId, right: TileId, scratch: &mut Scratch)
         requires plane { HasPlane pool.old self.old }
         requires whole_side { IsSomeAnd (block_at (tiles_of pool.old self.old) left) (λ a.
             IsSomeAnd (block_at (tiles_of pool.old self.old) right) (λ b. JoinInX a b)) }
@@ -116,13 +110,7 @@ impl Plane {
     }
 
     /// Joins a tile and the tile above it, which share a whole side and have one kind. The tile keeps its name for both.
-    pub fn join_y(
-        &mut self,
-        pool: &mut Pool,
-        lower: TileId,
-        upper: TileId,
-        scratch: &mut Scratch,
-    )
+    pub fn join_y(&mut self, pool: &mut Pool, lower: TileId, upper: TileId, scratch: &mut Scratch)
         requires plane { HasPlane pool.old self.old }
         requires whole_side { IsSomeAnd (block_at (tiles_of pool.old self.old) lower) (λ a.
             IsSomeAnd (block_at (tiles_of pool.old self.old) upper) (λ b. JoinInY a b)) }

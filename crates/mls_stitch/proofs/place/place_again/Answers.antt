@@ -23,7 +23,7 @@ loop-id-preserved c =
     let ways = GiveWay-set c.loop-id.pool c.set.new.self c.args.owner.now c.in-Some.id.now c.in-Some.piece.now changes c.set.ensures.count in
     record {
       laid = rw long (Lays-next c.args.ids.now c.args.pieces.now (length c.loop-id.yielded) (record { id = c.in-Some.id.now; piece = c.in-Some.piece.now }) turn.0 turn.1 (turn.2 _) (turn.3 _) c.requires.once c.requires.there
-      c.loop-id.invariant.laid ways c.push_reserved.ensures.items);
+          c.loop-id.invariant.laid ways c.push_reserved.ensures.items);
       only = ChangesOnly-trans c.loop-id.invariant.only (ChangesOnly-one changes);
       len = omega (arith, long, c.loop-id.invariant.len, c.push_reserved.ensures.len);
       room = cc;

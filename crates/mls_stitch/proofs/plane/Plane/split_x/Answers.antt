@@ -5,7 +5,7 @@ use Rattle.mls_stitch.specs.Replacements.{Replaces, TakePlace}
 use Rattle.mls_stitch.specs.Splits.{Splits, left_of, right_of}
 use Rattle.mls_stitch.specs.Tilings.{block_at}
 use Rattle.mls_stitch.proofs.CutBlocks.{TakePlace-cut_x}
-use Rattle.mls_stitch.proofs.CutTiles.{both_at_ok, left_of_is, right_of_is}
+use Rattle.mls_stitch.proofs.CutTiles.{both_at_ok, held_as, left_of_is, right_of_is}
 use Rattle.mls_stitch.proofs.ReplacedPlanes.{laid_as}
 use Rattle.mls_stitch.proofs.ShownTiles.{KeysDiffer-tiles_of}
 use Rattle.mls_stitch.proofs.SplitTiles.{Splits-Replaces_x}
@@ -31,7 +31,7 @@ returns-clause-split c =
     let inside = rw read.1 at c.requires.inside in
     let seen = c.area.view_is ∙ c.area-area.ensures.value in
     let parts = rw (left_of_is block _ c.between.result c.args.x seen c.between.ensures, right_of_is block _ c.between-2.result c.args.x seen c.between-2.ensures) at c.split.ensures.replaced in
-    let held = rw right_of_is block _ c.between-2.result c.args.x seen c.between-2.ensures at c.split.ensures.held in
+    let second = right_of_is block _ c.between-2.result c.args.x seen c.between-2.ensures in
     rw read.1
-    (both_at_ok c.split.result parts held
-    (λ id done has. Splits-Replaces_x old new c.args.tile id block c.args.x c.requires.plane.plane (KeysDiffer-tiles_of c.args.pool.now owner) read.1 inside.0 inside.1 done has))
+    (both_at_ok c.split.result parts c.split.ensures.held
+    (λ id done has. Splits-Replaces_x old new c.args.tile id block c.args.x c.requires.plane.plane (KeysDiffer-tiles_of c.args.pool.now owner) read.1 inside.0 inside.1 done (held_as (block_at new) id _ _ second has)))

@@ -5,7 +5,7 @@ use Rattle.mls_stitch.specs.Replacements.{Replaces, TakePlace}
 use Rattle.mls_stitch.specs.Splits.{Splits, lower_of, upper_of}
 use Rattle.mls_stitch.specs.Tilings.{block_at}
 use Rattle.mls_stitch.proofs.CutBlocks.{TakePlace-cut_y}
-use Rattle.mls_stitch.proofs.CutTiles.{both_at_ok, lower_of_is, upper_of_is}
+use Rattle.mls_stitch.proofs.CutTiles.{both_at_ok, held_as, lower_of_is, upper_of_is}
 use Rattle.mls_stitch.proofs.ReplacedPlanes.{laid_as}
 use Rattle.mls_stitch.proofs.ShownTiles.{KeysDiffer-tiles_of}
 use Rattle.mls_stitch.proofs.SplitTiles.{Splits-Replaces_y}
@@ -31,7 +31,7 @@ returns-clause-split c =
     let inside = rw read.1 at c.requires.inside in
     let seen = c.area.view_is ∙ c.area-area.ensures.value in
     let parts = rw (lower_of_is block _ c.between.result c.args.y seen c.between.ensures, upper_of_is block _ c.between-2.result c.args.y seen c.between-2.ensures) at c.split.ensures.replaced in
-    let held = rw upper_of_is block _ c.between-2.result c.args.y seen c.between-2.ensures at c.split.ensures.held in
+    let second = upper_of_is block _ c.between-2.result c.args.y seen c.between-2.ensures in
     rw read.1
-    (both_at_ok c.split.result parts held
-    (λ id done has. Splits-Replaces_y old new c.args.tile id block c.args.y c.requires.plane.plane (KeysDiffer-tiles_of c.args.pool.now owner) read.1 inside.0 inside.1 done has))
+    (both_at_ok c.split.result parts c.split.ensures.held
+    (λ id done has. Splits-Replaces_y old new c.args.tile id block c.args.y c.requires.plane.plane (KeysDiffer-tiles_of c.args.pool.now owner) read.1 inside.0 inside.1 done (held_as (block_at new) id _ _ second has)))
