@@ -56,7 +56,7 @@ overlaid_known below (piece ∷ pieces) x y kinds known =
     (cond_both (holds piece.rect x y) piece.kind (below x y) (λ k. k < uncovered) (λ _. All-head (λ p. p.kind < uncovered) piece pieces kinds) (λ _. known))
 
 -- and where one of them has the square
-overlaid_covered :
+pub overlaid_covered :
     (below : Picture) (pieces : List Piece) (x y : ℕ) → HaveKinds pieces → Any (λ piece. holds piece.rect x y ≡ true) pieces → overlaid below pieces x y < uncovered
 overlaid_covered below [] x y kinds (k, p, within, is, inside) = absurd (omega arith)
 overlaid_covered below (piece ∷ pieces) x y kinds (zero, p, within, is, inside) =
@@ -83,7 +83,7 @@ overlaid_alike p q (piece ∷ pieces) x y (suc k, r, within, is, inside) =
     overlaid_alike (painted p piece) (painted q piece) pieces x y (k, r, le_of_suc-le-suc within, is, inside)
 
 -- a square lies in some piece, or in none
-holder :
+pub holder :
     (pieces : List Piece) (x y : ℕ) → Any (λ piece. holds piece.rect x y ≡ true) pieces ⊎ All (λ piece. holds piece.rect x y ≡ false) pieces
 holder pieces x y = elim (cases_Bool (list_any (λ piece. holds piece.rect x y) pieces)) [
   | inl some ↦ inl (Any-from_list_any (λ piece. holds piece.rect x y) pieces some)

@@ -3,9 +3,9 @@ pub mod BuiltPlanes
 pub mod BuiltTiles
 pub mod CloseSquares
 pub mod CutBlocks
-pub mod CutTiles
 pub mod DistinctNumbers
 pub mod FoundTiles
+pub mod FreshStrips
 pub mod FreshTiles
 pub mod KeptStitches
 pub mod Laying
@@ -13,6 +13,7 @@ pub mod ListedTiles
 pub mod Listings
 pub mod MaximalTiles
 pub mod Neighbours
+pub mod OtherPlanes
 pub mod PoolChanges
 pub mod ReplacedBlocks
 pub mod ReplacedPlanes
@@ -23,5 +24,6 @@ pub mod ShownTiles
 pub mod SideListings
 pub mod Sides
 pub mod SortedTiles
+pub mod SplitCalls
 pub mod SplitTiles
 pub mod TilesBeyond

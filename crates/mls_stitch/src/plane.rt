@@ -22,6 +22,13 @@ impl Model for Plane {
 }
 
 impl Plane {
+    /// Returns the owner of the plane's tiles.
+    pub fn owner(&self) -> &Owner
+        ensures { result.now ≡ self.now }
+    {
+        &self.owner
+    }
+
     /// Gives the owner back, with the tiles of the plane.
     pub fn into_owner(self) -> Owner
         ensures { result ≡ self }

@@ -1,39 +1,34 @@
--- Two tiles with a whole side in common have one rectangle.
-use Rattle.std.proofs.Common.{◌≡◌, [], ◌∷◌, Some, sym, ◌∙◌}
+-- Both blocks as one take their place.
 use Rattle.mls_tilepool.specs.Pools.{tiles_of}
-use Rattle.mls_stitch.specs.Replacements.{Replaces, TakePlace}
-use Rattle.mls_stitch.specs.Splits.{Joins, joined_y}
+use Rattle.mls_stitch.specs.Splits.{JoinInY}
 use Rattle.mls_stitch.specs.Tilings.{block_at}
 use Rattle.mls_stitch.proofs.CutBlocks.{TakePlace-join_y}
-use Rattle.mls_stitch.proofs.CutTiles.{joined_y_is}
-use Rattle.mls_stitch.proofs.ReplacedPlanes.{laid_as}
 use Rattle.mls_stitch.proofs.ShownTiles.{KeysDiffer-tiles_of}
-use Rattle.mls_stitch.proofs.SplitTiles.{Joins-Replaces_y}
+use Rattle.mls_stitch.proofs.SplitCalls.{Joins-join_y, read-blocks}
 use Rattle.mls_stitch.proofs.plane.Plane.join_y.Goals as goal
 
-pub join-requires-clause-pieces : goal.join-requires-clause-pieces
-join-requires-clause-pieces c =
+pub joined_y-requires : goal.joined_y-requires
+joined_y-requires c =
     let tiles = tiles_of c.args.pool.now c.args.self.now in
-    let a = c.unwrap-tile.result.piece in
-    let b = c.unwrap.result.piece in
-    let read = rw c.self.view_is at (laid_as (tiles_of c.args.pool.now c.self.inside.owner) c.args.lower c.unwrap-tile.result (sym c.laid.ensures ∙ c.unwrap-tile.ensures)) in
-    let read' = rw c.self.view_is at (laid_as (tiles_of c.args.pool.now c.self.inside.owner) c.args.upper c.unwrap.result (sym c.laid-2.ensures ∙ c.unwrap.ensures)) in
-    let side = rw (read.1, read'.1) at c.requires.whole_side in
-    let seen = c.area.view_is ∙ c.area-area.ensures.value in
-    let seen' = c.beside.view_is ∙ c.area-beside.ensures.value in
-    rw (joined_y_is a b _ _ c.between.result seen seen' c.between.ensures) (TakePlace-join_y (block_at tiles) c.args.lower c.args.upper a b c.requires.plane.plane.tiling read.1 read'.1 side)
+    let (is_a, is_b, join) =
+    read-blocks JoinInY tiles c.args.lower c.args.upper c.laid.result c.laid-2.result c.unwrap-first.result c.unwrap-second.result
+    (rw c.self.view_is at c.laid.ensures) c.unwrap-first.ensures (rw c.self.view_is at c.laid-2.ensures) c.unwrap-second.ensures c.requires.whole_side in
+    join
+
+pub join-requires-clause-whole : goal.join-requires-clause-whole
+join-requires-clause-whole c =
+    let tiles = tiles_of c.args.pool.now c.args.self.now in
+    let (is_a, is_b, join) =
+    read-blocks JoinInY tiles c.args.lower c.args.upper c.laid.result c.laid-2.result c.unwrap-first.result c.unwrap-second.result
+    (rw c.self.view_is at c.laid.ensures) c.unwrap-first.ensures (rw c.self.view_is at c.laid-2.ensures) c.unwrap-second.ensures c.requires.whole_side in
+    rw c.joined_y.ensures (TakePlace-join_y (block_at tiles) c.args.lower c.args.upper c.unwrap-first.result.piece c.unwrap-second.result.piece
+    c.requires.plane.plane.tiling is_a is_b join)
 
 pub returns-clause-joined : goal.returns-clause-joined
 returns-clause-joined c =
-    let owner = c.args.self.now in
-    let old = tiles_of c.args.pool.now owner in
-    let new = tiles_of c.join.new.pool owner in
-    let a = c.unwrap-tile.result.piece in
-    let b = c.unwrap.result.piece in
-    let read = rw c.self.view_is at (laid_as (tiles_of c.args.pool.now c.self.inside.owner) c.args.lower c.unwrap-tile.result (sym c.laid.ensures ∙ c.unwrap-tile.ensures)) in
-    let read' = rw c.self.view_is at (laid_as (tiles_of c.args.pool.now c.self.inside.owner) c.args.upper c.unwrap.result (sym c.laid-2.ensures ∙ c.unwrap.ensures)) in
-    let side = rw (read.1, read'.1) at c.requires.whole_side in
-    let seen = c.area.view_is ∙ c.area-area.ensures.value in
-    let seen' = c.beside.view_is ∙ c.area-beside.ensures.value in
-    let done = rw (joined_y_is a b _ _ c.between.result seen seen' c.between.ensures) at c.join.ensures.replaced in
-    rw (read.1, read'.1) (Joins-Replaces_y old new c.args.lower c.args.upper a b c.requires.plane.plane (KeysDiffer-tiles_of c.args.pool.now owner) read.1 read'.1 side done)
+    let tiles = tiles_of c.args.pool.now c.args.self.now in
+    let (is_a, is_b, join) =
+    read-blocks JoinInY tiles c.args.lower c.args.upper c.laid.result c.laid-2.result c.unwrap-first.result c.unwrap-second.result
+    (rw c.self.view_is at c.laid.ensures) c.unwrap-first.ensures (rw c.self.view_is at c.laid-2.ensures) c.unwrap-second.ensures c.requires.whole_side in
+    Joins-join_y tiles (tiles_of c.join.new.pool c.args.self.now) c.args.lower c.args.upper c.unwrap-first.result.piece c.unwrap-second.result.piece c.joined_y.result c.joined_y.ensures
+    c.requires.plane.plane (KeysDiffer-tiles_of c.args.pool.now c.args.self.now) is_a is_b join c.join.ensures.replaced
