@@ -1,11 +1,9 @@
 -- The tiles round the touched ones, gathered from one search after another.
-use Rattle.std.proofs.Common.{◌≡◌, ◌≢◌, ◌⊎◌, ℕ, ◌+◌, ◌<◌, ◌≤◌, ◌==◌, ◌&&◌, Bool, true, false, not, cond, IsTrue, List, [], ◌∷◌, ◌++◌, length, map, filter, take, get_or, Option, Some, None, IsSome, All, AllPairs, Any, Contains, inl, inr, refl, sym, ap, ◌∙◌, subst, append-nil, append_assoc, arith}
+use Rattle.std.proofs.Common.{◌≡◌, ◌≢◌, ◌⊎◌, ℕ, ◌+◌, ◌<◌, ◌≤◌, ◌==◌, ◌&&◌, Bool, true, false, not, cond, IsTrue, List, [], ◌∷◌, ◌++◌, length, take, get_or, Option, Some, All, AllPairs, Any, Contains, inl, inr, refl, sym, ap, ◌∙◌, subst, append-nil, append_assoc}
 use Rattle.std.specs.List.{list_any}
 use Rattle.std.specs.Option.{IsSomeAnd}
-use Rattle.std.proofs.lemmas.Bool.{both_ways, cases_Bool, cond-false, cond-true}
 use Rattle.std.proofs.lemmas.List.Elements.{All-append, All-contains, All-filter, All-nil, Contains-push_cases, filter_more, filter_passes}
-use Rattle.std.proofs.lemmas.List.{take_more}
-use Rattle.mls_geom.specs.Rects.{Rect, Point, grown, holds, common}
+use Rattle.mls_geom.specs.Rects.{Rect, Point, grown, holds}
 use Rattle.mls_geom.specs.World.{world}
 use Rattle.mls_geom.specs.declared.piece.Piece.{Piece}
 use Rattle.mls_geom.proofs.Ascending.{Contains-filter}
@@ -19,7 +17,7 @@ use Rattle.mls_stitch.specs.Stitches.{HoldsAt}
 use Rattle.mls_stitch.specs.Tilings.{block_at}
 use Rattle.mls_stitch.specs.declared.laid_tile.LaidTile.{LaidTile}
 use Rattle.mls_stitch.proofs.DistinctNumbers.{cases_Contains}
-use Rattle.mls_stitch.proofs.FreshTiles.{Contains-first_or_rest, entry-keys_of, list_any-Contains, list_any-absent, nothing_in_nil}
+use Rattle.mls_stitch.proofs.FreshTiles.{entry-keys_of, list_any-Contains, list_any-absent, nothing_in_nil}
 use Rattle.mls_stitch.proofs.ListedTiles.{keys-AreInArea, length-le-AreLaid}
 use Rattle.mls_stitch.proofs.Listings.{same_tile}
 use Rattle.mls_stitch.proofs.ReplacedStitches.{Any-contained}

@@ -1,5 +1,5 @@
 -- Listed tiles, sorted by their keys, with no key twice.
-use Rattle.std.proofs.Common.{◌≡◌, ◌≢◌, ◌⊎◌, ℕ, ◌+◌, ◌<◌, ◌≤◌, ◌==◌, Bool, true, false, cond, List, [], ◌∷◌, ◌++◌, length, map, get_or, All, AllPairs, Contains, IsPermutation, Result, Ok, Err, is_ok, inl, inr, refl, sym, ap, ◌∙◌, subst, eqb-true, zero, suc, arith}
+use Rattle.std.proofs.Common.{◌≡◌, ◌≢◌, ℕ, ◌<◌, ◌≤◌, ◌==◌, Bool, List, [], ◌∷◌, get_or, All, AllPairs, Contains, IsPermutation, Result, Ok, Err, is_ok, inl, inr, refl, sym, ap, ◌∙◌, subst, eqb-true, zero, suc, arith}
 use Rattle.std.specs.List.{dedup, dedup_from, list_any}
 use Rattle.std.specs.Ordering.{nat_cmp}
 use Rattle.std.specs.List.Sorted.{IsBinarySearchResult, IsNonDecreasing, IsNonDecreasingBy}

@@ -1,7 +1,7 @@
 //! Replacing tiles.
-ghost use Rattle.std.specs.Prelude.{◌≡◌, ℕ, ◌+◌, ◌<◌, ◌≤◌, ◌↔◌, [], ◌∷◌, List, Some, None, IfOk, IfSome, OnOk, OnErr, IsErr, IsSomeAnd, IsTrue, length, map};
-ghost use Rattle.mls_tilepool.specs.Pools.{IsOwner, count_of, room_of, tile_in, tiles_of};
-ghost use Rattle.mls_stitch.specs.Tilings.{ChangesOnly, HasPlane, IsMaximal, block_at, shown};
+ghost use Rattle.std.specs.Prelude.{◌≡◌, ◌+◌, ◌<◌, ◌≤◌, ◌↔◌, IfSome, OnOk, OnErr, IsErr, IsSomeAnd, IsTrue, length};
+ghost use Rattle.mls_tilepool.specs.Pools.{IsOwner, count_of, room_of, tiles_of};
+ghost use Rattle.mls_stitch.specs.Tilings.{ChangesOnly, HasPlane, block_at};
 ghost use Rattle.mls_stitch.specs.Replacements.{Replaces, TakePlace};
 
 use crate::around::list_around;

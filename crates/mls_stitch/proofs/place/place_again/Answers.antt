@@ -1,8 +1,7 @@
 -- Each piece is laid under the key beside it.
-use Rattle.std.proofs.Common.{◌≡◌, ◌+◌, ◌<◌, length, take, ap, sym, refl, subst, ◌∙◌, arith, rules}
+use Rattle.std.proofs.Common.{◌≡◌, ◌+◌, length, take, refl, arith}
 use Rattle.std.proofs.lemmas.List.{length_push, take_all}
 use Rattle.std.proofs.lemmas.Slice.Zip.{zip_end, zip_turn}
-use Rattle.mls_stitch.specs.Placing.{Lays}
 use Rattle.mls_stitch.proofs.Laying.{GiveWay-next, GiveWay-set, Lays-next, Lays-refl}
 use Rattle.mls_stitch.proofs.PoolChanges.{ChangesOnly-one, ChangesOnly-refl, ChangesOnly-trans}
 use Rattle.mls_stitch.proofs.place.place_again.Goals as goal

@@ -1,7 +1,7 @@
 -- The fresh tiles lie in place of the touched ones, and with those around them wait for their stitches.
-use Rattle.std.proofs.Common.{◌≡◌, ◌+◌, length, IsSome, All, refl, sym, ap, ◌∙◌, subst, arith}
+use Rattle.std.proofs.Common.{◌+◌, length, refl, ap, subst, arith}
 use Rattle.std.proofs.lemmas.Bool.{both_ways}
-use Rattle.mls_tilepool.specs.Pools.{count_of, room_of, tile_in, tiles_of}
+use Rattle.mls_tilepool.specs.Pools.{count_of, room_of, tiles_of}
 use Rattle.mls_stitch.specs.Fresh.{replaced}
 use Rattle.mls_stitch.specs.Replacements.{Replaces, TakePlace}
 use Rattle.mls_stitch.specs.Tilings.{HasPlane, block_at}
