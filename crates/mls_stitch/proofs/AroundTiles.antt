@@ -1,11 +1,9 @@
 -- The tiles round the touched ones, gathered from one search after another.
-use Rattle.std.proofs.Common.{◌≡◌, ◌≢◌, ◌⊎◌, ℕ, ◌+◌, ◌<◌, ◌≤◌, ◌==◌, ◌&&◌, Bool, true, false, not, cond, IsTrue, List, [], ◌∷◌, ◌++◌, length, map, filter, take, get_or, Option, Some, None, IsSome, All, AllPairs, Any, Contains, inl, inr, refl, sym, ap, ◌∙◌, subst, append-nil, append_assoc, arith}
+use Rattle.std.proofs.Common.{◌≡◌, ◌≢◌, ◌⊎◌, ℕ, ◌+◌, ◌<◌, ◌≤◌, ◌==◌, ◌&&◌, Bool, true, false, not, cond, IsTrue, List, [], ◌∷◌, ◌++◌, length, take, get_or, Option, Some, All, AllPairs, Any, Contains, inl, inr, refl, sym, ap, ◌∙◌, subst, append-nil, append_assoc}
 use Rattle.std.specs.List.{list_any}
 use Rattle.std.specs.Option.{IsSomeAnd}
-use Rattle.std.proofs.lemmas.Bool.{both_ways, cases_Bool, cond-false, cond-true}
 use Rattle.std.proofs.lemmas.List.Elements.{All-append, All-contains, All-filter, All-nil, Contains-push_cases, filter_more, filter_passes}
-use Rattle.std.proofs.lemmas.List.{take_more}
-use Rattle.mls_geom.specs.Rects.{Rect, Point, grown, holds, common}
+use Rattle.mls_geom.specs.Rects.{Rect, Point, grown, holds}
 use Rattle.mls_geom.specs.World.{world}
 use Rattle.mls_geom.specs.declared.piece.Piece.{Piece}
 use Rattle.mls_geom.proofs.Ascending.{Contains-filter}
@@ -19,7 +17,7 @@ use Rattle.mls_stitch.specs.Stitches.{HoldsAt}
 use Rattle.mls_stitch.specs.Tilings.{block_at}
 use Rattle.mls_stitch.specs.declared.laid_tile.LaidTile.{LaidTile}
 use Rattle.mls_stitch.proofs.DistinctNumbers.{cases_Contains}
-use Rattle.mls_stitch.proofs.FreshTiles.{Contains-first_or_rest, entry-keys_of, list_any-Contains, list_any-absent, nothing_in_nil}
+use Rattle.mls_stitch.proofs.FreshTiles.{entry-keys_of, list_any-Contains, list_any-absent, nothing_in_nil}
 use Rattle.mls_stitch.proofs.ListedTiles.{keys-AreInArea, length-le-AreLaid}
 use Rattle.mls_stitch.proofs.Listings.{same_tile}
 use Rattle.mls_stitch.proofs.ReplacedStitches.{Any-contained}
@@ -35,9 +33,9 @@ pub unlisted_more :
     → entries ≡ before ++ unlisted_of keys (take i found) → after ≡ entries ++ tile ∷ [] → after ≡ before ++ unlisted_of keys (take (i + 1) found)
 unlisted_more keys found i tile before entries after within is absent so_far pushed =
     let more : unlisted_of keys (take (i + 1) found) ≡ unlisted_of keys (take i found) ++ tile ∷ [] =
-        filter_more (is_unlisted keys) found i tile within
-        ∙ ap (λ t. unlisted_of keys (take i found) ++ cond (is_unlisted keys t) (t ∷ []) []) (sym is)
-        ∙ ap (λ b. unlisted_of keys (take i found) ++ cond (not b) (tile ∷ []) []) absent in
+    filter_more (is_unlisted keys) found i tile within
+    ∙ ap (λ t. unlisted_of keys (take i found) ++ cond (is_unlisted keys t) (t ∷ []) []) (sym is)
+    ∙ ap (λ b. unlisted_of keys (take i found) ++ cond (not b) (tile ∷ []) []) absent in
     pushed ∙ ap (λ l. l ++ tile ∷ []) so_far ∙ append_assoc before (unlisted_of keys (take i found)) (tile ∷ []) ∙ ap (λ l. before ++ l) (sym more)
 
 pub unlisted_skip :
@@ -45,10 +43,10 @@ pub unlisted_skip :
     → entries ≡ before ++ unlisted_of keys (take i found) → entries ≡ before ++ unlisted_of keys (take (i + 1) found)
 unlisted_skip keys found i tile before entries within is there so_far =
     let more : unlisted_of keys (take (i + 1) found) ≡ unlisted_of keys (take i found) =
-        filter_more (is_unlisted keys) found i tile within
-        ∙ ap (λ t. unlisted_of keys (take i found) ++ cond (is_unlisted keys t) (t ∷ []) []) (sym is)
-        ∙ ap (λ b. unlisted_of keys (take i found) ++ cond (not b) (tile ∷ []) []) there
-        ∙ append-nil (unlisted_of keys (take i found)) in
+    filter_more (is_unlisted keys) found i tile within
+    ∙ ap (λ t. unlisted_of keys (take i found) ++ cond (is_unlisted keys t) (t ∷ []) []) (sym is)
+    ∙ ap (λ b. unlisted_of keys (take i found) ++ cond (not b) (tile ∷ []) []) there
+    ∙ append-nil (unlisted_of keys (take i found)) in
     so_far ∙ ap (λ l. before ++ l) (sym more)
 
 -- the list has tiles other than the touched ones, among them all around those of the keys that were passed

@@ -49,11 +49,13 @@ laid_stays {old} {mid} {new} {t1} {t2} a b there apart key here before =
     let untouched : ¬ (Contains t2 key) = λ later. elim before [
       | inl first ↦ apart key later first
       | inr none ↦ nothing_there _ none (All-contains (λ k. IsSome (tile_in old k)) t2 key there later)
-    ] in
-    (untouched, λ listed. elim (key_before b key listed) [
-      | inl later ↦ untouched later
-      | inr none ↦ nothing_there _ none here
-    ])
+    ] in (
+      untouched,
+      λ listed. elim (key_before b key listed) [
+        | inl later ↦ untouched later
+        | inr none ↦ nothing_there _ none here
+      ],
+    )
 
 -- a key that names no tile now was touched, or named none
 before : {old mid : List (ℕ × Tile)} {t1 : List ℕ} {l1 : List LaidTile} (a : GiveWay old mid t1 l1) (t2 : List ℕ) (key : ℕ) → tile_in mid key ≡ None → Contains (t1 ++ t2) key ⊎ (tile_in old key ≡ None)
@@ -76,17 +78,17 @@ GiveWay-trans {old} {mid} {new} {t1} {t2} {l1} {l2} a b there apart = record {
   placed =
       All-append (λ (e : LaidTile). tile_in new e.id ≡ Some (unstitched e.piece)) l1 l2
       (λ k d within.
-          let stays = laid_stays a b there apart _ (some_there _ _ (a.placed k d within)) (a.unused k d within) in
-          b.kept _ stays.0 stays.1 ∙ a.placed k d within)
+      let stays = laid_stays a b there apart _ (some_there _ _ (a.placed k d within)) (a.unused k d within) in
+      b.kept _ stays.0 stays.1 ∙ a.placed k d within)
       b.placed;
   once =
       AllPairs-append (λ (p q : LaidTile). p.id ≢ q.id) l1 l2 a.once b.once
       (λ k d within. λ j e within'. λ same.
-          let stays = laid_stays a b there apart _ (some_there _ _ (a.placed k d within)) (a.unused k d within) in
-          elim (b.unused j e within') [
-            | inl later ↦ stays.0 (subst (Contains t2) (sym same) later)
-            | inr none ↦ nothing_there _ (ap (tile_in mid) same ∙ none) (some_there _ _ (a.placed k d within))
-          ]);
+      let stays = laid_stays a b there apart _ (some_there _ _ (a.placed k d within)) (a.unused k d within) in
+      elim (b.unused j e within') [
+        | inl later ↦ stays.0 (subst (Contains t2) (sym same) later)
+        | inr none ↦ nothing_there _ (ap (tile_in mid) same ∙ none) (some_there _ _ (a.placed k d within))
+      ]);
   unused =
       All-append (λ (e : LaidTile). Contains (t1 ++ t2) e.id ⊎ (tile_in old e.id ≡ None)) l1 l2
       (λ k d within. elim (a.unused k d within) [
@@ -212,8 +214,8 @@ pub Lays-even :
     → All (λ key. IsSome (tile_in old key)) t2 → ((key : ℕ) → Contains t2 key → ¬ (Contains t1 key)) → length t1 ≡ length f1 → Lays old new (t1 ++ t2) (f1 ++ f2) before after
 Lays-even {t1 = t1} {t2 = t2} {f1 = f1} {f2 = f2} a b there apart even =
     Lays-trans a b there apart (λ i within within'.
-        rw map-append (again_in_turn (keys_of a.laid) (keys_of b.laid) t1 t2 (length f2) (length_keys a.laid f1 a.pieces ∙ sym even) (λ j less. a.again j less (omega (arith, less, even))) b.again i within
-        (omega (arith, within', even, length-append f1 f2))))
+    rw map-append (again_in_turn (keys_of a.laid) (keys_of b.laid) t1 t2 (length f2) (length_keys a.laid f1 a.pieces ∙ sym even) (λ j less. a.again j less (omega (arith, less, even))) b.again i within
+    (omega (arith, within', even, length-append f1 f2))))
 
 -- nothing is touched
 pub Lays-untouched :
@@ -245,7 +247,7 @@ Lays-more {old} {mid} {new} {before} {between} {after} pieces i entry within is 
 
 -- an element stands at one place only
 not_before : (ids : List ℕ) (i key : ℕ) → i < length ids → key ≡ get_or ids i key → AllPairs (λ a b. a ≢ b) ids → ¬ (Contains (take i ids) key)
-not_before ids i key within is once (k, less, same) = 
+not_before ids i key within is once (k, less, same) =
     let less' : k < i = omega (arith, less, length-take i ids) in
     once k i key less' within (sym (get_or-take i ids k key less') ∙ same ∙ is)
 
@@ -344,8 +346,8 @@ Lays-instead {old} {mid} {low} {new} {before} {between} {after} touched fresh n 
       | inr more ↦ inr (omega (arith, more, shared, length-drop n fresh))
     ] in
     let joined =
-        Lays-even first (Lays-surplus gone rest either) (All-drop (λ k. IsSome (tile_in old k)) n touched there) (λ key later. one_part touched n key once later)
-        (length_takes touched fresh n (omega (arith, shared)) (omega (arith, shared))) in
+    Lays-even first (Lays-surplus gone rest either) (All-drop (λ k. IsSome (tile_in old k)) n touched there) (λ key later. one_part touched n key once later)
+    (length_takes touched fresh n (omega (arith, shared)) (omega (arith, shared))) in
     rw (take-append-drop n touched, take-append-drop n fresh) at joined
 
 -- the list is longer by the pieces

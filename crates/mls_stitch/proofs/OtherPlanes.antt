@@ -1,6 +1,6 @@
 -- What a change of one owner's tiles leaves of the planes of all others.
-use Rattle.std.proofs.Common.{◌≡◌, ◌≢◌, ℕ, Option, None, IsSome, ap, sym, subst, ◌∙◌, is_some}
-use Rattle.mls_tilepool.specs.Pools.{Pool, IsOwner, Reserves, room_of, tiles_of}
+use Rattle.std.proofs.Common.{◌≡◌, ◌≢◌, ℕ, Option, None, ap, sym, subst, ◌∙◌, is_some}
+use Rattle.mls_tilepool.specs.Pools.{Pool, IsOwner, Reserves, room_of}
 use Rattle.mls_stitch.specs.Tilings.{ChangesOnly, HasPlane, IsPlane}
 
 -- an owner differs from one who was not there

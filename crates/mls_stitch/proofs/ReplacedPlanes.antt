@@ -1,5 +1,5 @@
 -- Fresh tiles laid in place of touched ones, and stitched with those around them.
-use Rattle.std.proofs.Common.{◌≡◌, ◌≢◌, ℕ, ◌+◌, ◌<◌, ◌≤◌, ◌++◌, true, false, List, length, map, get_or, Option, Some, None, IsSome, IfSome, All, AllPairs, Contains, inl, inr, refl, sym, ap, ◌∙◌, subst, arith}
+use Rattle.std.proofs.Common.{◌≡◌, ◌≢◌, ℕ, ◌+◌, ◌<◌, ◌≤◌, true, false, List, length, map, get_or, Option, Some, None, IsSome, IfSome, All, AllPairs, Contains, inl, inr, refl, sym, ap, subst, arith}
 use Rattle.std.specs.Option.{IsSomeAnd, option_map}
 use Rattle.std.proofs.lemmas.Bool.{cases_lt}
 use Rattle.std.proofs.lemmas.List.{length-map}
@@ -64,27 +64,27 @@ pub touched_few : (tiles : List (ℕ × Tile)) (keys : List ℕ) → All (λ key
 touched_few tiles keys there once =
     let firsts = map (λ (entry : ℕ × Tile). entry.0) tiles in
     let found : All (Contains firsts) keys = λ k d within.
-        let (tile, is) = there-block tiles (tile_in tiles (get_or keys k d)) (there k d within) in
-        Contains-map (λ (entry : ℕ × Tile). entry.0) tiles (get_or keys k d, tile) (tile_in_contains tiles (get_or keys k d) tile is) in
+    let (tile, is) = there-block tiles (tile_in tiles (get_or keys k d)) (there k d within) in
+    Contains-map (λ (entry : ℕ × Tile). entry.0) tiles (get_or keys k d, tile) (tile_in_contains tiles (get_or keys k d) tile is) in
     omega (arith, length-le-AllPairs keys firsts once found, length-map tiles (λ (entry : ℕ × Tile). entry.0))
 
 module _
     (old mid : List (ℕ × Tile)) (touched : List ℕ) (fresh : List Piece) (around after : List LaidTile) (plane : IsPlane old) (takes : TakePlace (block_at old) touched fresh)
     (lays : Lays old mid touched fresh around after)
-    where
-  may : MayReplace (block_at old) touched lays.laid
-  may = MayReplace-GiveWay old mid (block_at old) touched lays.laid plane.placed (subst (TakePlace (block_at old) touched) (sym lays.pieces) takes) lays.ways
+  where
+    may : MayReplace (block_at old) touched lays.laid
+    may = MayReplace-GiveWay old mid (block_at old) touched lays.laid plane.placed (subst (TakePlace (block_at old) touched) (sym lays.pieces) takes) lays.ways
 
-  -- the fresh tiles and those around them wait for their stitches
-  pub AwaitStitches-instead : Surround (block_at old) touched around → AwaitStitches mid (replaced (block_at old) touched lays.laid) after
-  AwaitStitches-instead round =
-      subst (AwaitStitches mid (replaced (block_at old) touched lays.laid)) (sym lays.listed) (AwaitStitches-replaced old mid (block_at old) touched lays.laid around plane may lays.ways round)
+    -- the fresh tiles and those around them wait for their stitches
+    pub AwaitStitches-instead : Surround (block_at old) touched around → AwaitStitches mid (replaced (block_at old) touched lays.laid) after
+    AwaitStitches-instead round =
+        subst (AwaitStitches mid (replaced (block_at old) touched lays.laid)) (sym lays.listed) (AwaitStitches-replaced old mid (block_at old) touched lays.laid around plane may lays.ways round)
 
-  -- and once they are stitched, the touched tiles are replaced
-  pub Replaces-instead :
-      (new : List (ℕ × Tile)) → AreTiledAs new (replaced (block_at old) touched lays.laid) → KeysDiffer old → KeysDiffer new → length new ≡ length mid → Replaces old new touched fresh
-  Replaces-instead new tiled differ differ_after same =
-      Replaces-replaced old new touched lays.laid plane may tiled differ differ_after fresh lays.pieces lays.again (omega (arith, same, Lays-count lays))
+    -- and once they are stitched, the touched tiles are replaced
+    pub Replaces-instead :
+        (new : List (ℕ × Tile)) → AreTiledAs new (replaced (block_at old) touched lays.laid) → KeysDiffer old → KeysDiffer new → length new ≡ length mid → Replaces old new touched fresh
+    Replaces-instead new tiled differ differ_after same =
+        Replaces-replaced old new touched lays.laid plane may tiled differ differ_after fresh lays.pieces lays.again (omega (arith, same, Lays-count lays))
 
 -- room that isn't enough, and room that is
 pub has_no_room : (room : Option ℕ) (wanted free : ℕ) → IsSome room → ¬ (IfSome room (λ n. wanted ≤ n + free)) → IsSomeAnd room (λ n. n + free < wanted)

@@ -1,5 +1,5 @@
 -- Listed tiles, sorted by their keys, with no key twice.
-use Rattle.std.proofs.Common.{◌≡◌, ◌≢◌, ◌⊎◌, ℕ, ◌+◌, ◌<◌, ◌≤◌, ◌==◌, Bool, true, false, cond, List, [], ◌∷◌, ◌++◌, length, map, get_or, All, AllPairs, Contains, IsPermutation, Result, Ok, Err, is_ok, inl, inr, refl, sym, ap, ◌∙◌, subst, eqb-true, zero, suc, arith}
+use Rattle.std.proofs.Common.{◌≡◌, ◌≢◌, ℕ, ◌<◌, ◌≤◌, ◌==◌, Bool, List, [], ◌∷◌, get_or, All, AllPairs, Contains, IsPermutation, Result, Ok, Err, is_ok, inl, inr, refl, sym, ap, ◌∙◌, subst, eqb-true, zero, suc, arith}
 use Rattle.std.specs.List.{dedup, dedup_from, list_any}
 use Rattle.std.specs.Ordering.{nat_cmp}
 use Rattle.std.specs.List.Sorted.{IsBinarySearchResult, IsNonDecreasing, IsNonDecreasingBy}
@@ -105,8 +105,8 @@ found_listed keys key (Ok i) up found =
 found_listed keys key (Err i) up found =
     let (end, below, above) = searched keys key (Err i) found (λ j k before less. up j k 0 before less) in
     sym (list_any-absent keys key (λ (k, within, is).
-        let at : get_or keys k 0 ≡ key = get_or_default keys k 0 key within ∙ is in
-        elim (cases_lt k i) [
-          | inl less ↦ omega (arith, below k less, at)
-          | inr more ↦ omega (arith, above k more within, at)
-        ]))
+    let at : get_or keys k 0 ≡ key = get_or_default keys k 0 key within ∙ is in
+    elim (cases_lt k i) [
+      | inl less ↦ omega (arith, below k less, at)
+      | inr more ↦ omega (arith, above k more within, at)
+    ]))

@@ -1,8 +1,8 @@
 -- Replacement: some tiles of a plane give way to pieces over exactly the same squares. This project's own; split and join (Ousterhout 1984) are
 -- two cases of it.
-use Rattle.std.specs.Prelude.{◌≡◌, ◌≢◌, ◌⊎◌, ◌↔◌, ℕ, ◌+◌, ◌<◌, ◌≤◌, IsTrue, IsSome, List, length, Option, Some, None, slice_get}
+use Rattle.std.specs.Prelude.{◌≡◌, ◌≢◌, ◌⊎◌, ◌↔◌, ℕ, ◌+◌, ◌<◌, IsTrue, IsSome, List, length, Option, Some, None, slice_get}
 use Rattle.std.specs.List.{All, Any, AllPairs, AllZip, Contains}
-use Rattle.mls_geom.specs.Rects.{Rect, Point, IsRectangleIn, holds}
+use Rattle.mls_geom.specs.Rects.{Point, IsRectangleIn, holds}
 use Rattle.mls_geom.specs.World.{world}
 use Rattle.mls_geom.specs.Pictures.{overlaid}
 use Rattle.mls_geom.specs.declared.piece.Piece.{Piece}

@@ -1,13 +1,13 @@
 -- Planes of stitched tiles (Ousterhout 1984). A tile has a lower-left corner and four stitches; its right side and its top are the left side and
 -- the bottom of the tiles to which two of them lead.
-use Rattle.std.specs.Prelude.{◌≡◌, ◌≢◌, ℕ, List, map, Option, Some, None, IsTrue, IsSome, IfSome}
+use Rattle.std.specs.Prelude.{◌≡◌, ◌≢◌, ℕ, List, map, Option, Some, None, IsTrue, IfSome}
 use Rattle.std.specs.Option.{option_map, option_map_or}
-use Rattle.mls_geom.specs.Rects.{Rect, Point, IsRectangleIn, holds}
+use Rattle.mls_geom.specs.Rects.{Point, IsRectangleIn, holds}
 use Rattle.mls_geom.specs.World.{world}
 use Rattle.mls_geom.specs.Pictures.{Picture, picture_of}
 use Rattle.mls_geom.specs.Locality.{AreUnorderedStrips}
 use Rattle.mls_geom.specs.declared.piece.Piece.{Piece}
-use Rattle.mls_tilepool.specs.Pools.{Pool, IsOwner, room_of, tile_in, tiles_of}
+use Rattle.mls_tilepool.specs.Pools.{Pool, IsOwner, tile_in, tiles_of}
 use Rattle.mls_tilepool.specs.declared.tile.Tile.{Tile}
 use Rattle.mls_stitch.specs.Stitches.{HoldsAt, LeadsTo, beyond, stitch_of}
 use Rattle.mls_stitch.specs.declared.stitch.Stitch.{Stitch}

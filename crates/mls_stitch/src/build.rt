@@ -1,7 +1,7 @@
 //! Building a plane.
-ghost use Rattle.std.specs.Prelude.{◌≡◌, ℕ, ◌+◌, ◌<◌, ◌≤◌, ◌↔◌, [], ◌∷◌, List, Some, None, IfOk, IfSome, OnOk, OnErr, IsErr, IsSomeAnd, length, map};
-ghost use Rattle.mls_tilepool.specs.Pools.{IsOwner, count_of, room_of, tile_in, tiles_of};
-ghost use Rattle.mls_stitch.specs.Tilings.{ChangesOnly, HasPlane, IsMaximal, block_at, shown};
+ghost use Rattle.std.specs.Prelude.{◌≡◌, ◌≤◌, [], IfSome, length};
+ghost use Rattle.mls_tilepool.specs.Pools.{IsOwner, count_of, room_of, tiles_of};
+ghost use Rattle.mls_stitch.specs.Tilings.{ChangesOnly, HasPlane, IsMaximal, shown};
 ghost use Rattle.mls_geom.specs.Locality.{AreUnorderedStrips};
 ghost use Rattle.mls_geom.specs.Pictures.{picture_of};
 ghost use Rattle.mls_geom.specs.World.{world};

@@ -1,5 +1,5 @@
 //! Laying tiles that have no stitches yet.
-ghost use Rattle.std.specs.Prelude.{◌≡◌, ◌≢◌, ℕ, ◌+◌, ◌≤◌, [], IfSome, IsSome, length, vec_len, vec_capacity};
+ghost use Rattle.std.specs.Prelude.{◌≡◌, ◌≢◌, ◌+◌, ◌≤◌, [], IfSome, IsSome, length, vec_len, vec_capacity};
 ghost use Rattle.std.specs.List.{All, AllPairs};
 ghost use Rattle.mls_tilepool.specs.Pools.{IsOwner, count_of, room_of, tile_at, tiles_of};
 ghost use Rattle.mls_stitch.specs.Placing.{GiveWay, Lays, unstitched};

@@ -1,7 +1,7 @@
 //! Replacing tiles.
-ghost use Rattle.std.specs.Prelude.{◌≡◌, ℕ, ◌+◌, ◌<◌, ◌≤◌, ◌↔◌, [], ◌∷◌, List, Some, None, IfOk, IfSome, OnOk, OnErr, IsErr, IsSomeAnd, IsTrue, length, map};
-ghost use Rattle.mls_tilepool.specs.Pools.{IsOwner, count_of, room_of, tile_in, tiles_of};
-ghost use Rattle.mls_stitch.specs.Tilings.{ChangesOnly, HasPlane, IsMaximal, block_at, shown};
+ghost use Rattle.std.specs.Prelude.{◌≡◌, ◌+◌, ◌<◌, ◌≤◌, ◌↔◌, IfSome, OnOk, OnErr, IsErr, IsSomeAnd, IsTrue, length};
+ghost use Rattle.mls_tilepool.specs.Pools.{IsOwner, count_of, room_of, tiles_of};
+ghost use Rattle.mls_stitch.specs.Tilings.{ChangesOnly, HasPlane, block_at};
 ghost use Rattle.mls_stitch.specs.Replacements.{Replaces, TakePlace};
 
 use crate::around::list_around;
@@ -27,7 +27,13 @@ impl Plane {
     ///
     /// All other tiles keep their names, rectangles and kinds, and each stitch that did not lead to a touched tile. The names of
     /// touched tiles serve again as far as they go. Fails if the owner has no room for more tiles, and then leaves all as it was.
-    pub fn replace(&mut self, pool: &mut Pool, touched: &[TileId], fresh: &[Piece], scratch: &mut Scratch) -> Result<(), NoRoom>
+    pub fn replace(
+        &mut self,
+        pool: &mut Pool,
+        touched: &[TileId],
+        fresh: &[Piece],
+        scratch: &mut Scratch,
+    ) -> Result<(), NoRoom>
         requires plane { HasPlane pool.old self.old }
         requires pieces { TakePlace (block_at (tiles_of pool.old self.old)) touched.now fresh.now }
         requires tiles_fit { count_of pool.old self.old ≤ scratch.old.room }
@@ -53,10 +59,7 @@ impl Plane {
             &mut scratch.entries,
         );
         place_instead(pool, &self.owner, touched, fresh, &mut scratch.entries);
-        self.hint = scratch
-            .entries
-            .last()
-            .map_or(self.hint, |tile| tile.id);
+        self.hint = scratch.entries.last().map_or(self.hint, |tile| tile.id);
         stitch_listed(pool, &self.owner, &mut scratch.entries);
         Ok(())
     }

@@ -1,5 +1,5 @@
 -- Round each touched tile in turn.
-use Rattle.std.proofs.Common.{◌≡◌, ◌+◌, ◌≤◌, ◌++◌, ◌∷◌, [], length, take, IsSome, inl, inr, ap, refl, sym, ◌∙◌, arith}
+use Rattle.std.proofs.Common.{◌≡◌, ◌+◌, ◌++◌, ◌∷◌, [], length, take, IsSome, inl, inr, ap, refl, sym, ◌∙◌, arith}
 use Rattle.std.proofs.lemmas.List.{take_all, take_more}
 use Rattle.mls_tilepool.specs.Pools.{tile_in, tiles_of}
 use Rattle.mls_stitch.specs.Tilings.{block_at}

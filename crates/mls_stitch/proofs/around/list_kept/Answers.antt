@@ -1,7 +1,6 @@
 -- A tile is added where its key isn't listed.
-use Rattle.std.proofs.Common.{◌≡◌, take, ap, refl, sym, ◌∙◌, Vec, Global, vec_len, vec_capacity, arith}
+use Rattle.std.proofs.Common.{◌≡◌, take, ap, sym, ◌∙◌, Vec, Global, vec_len, vec_capacity, arith}
 use Rattle.std.proofs.lemmas.List.{take_all}
-use Rattle.mls_stitch.specs.Placing.{unlisted_of}
 use Rattle.mls_stitch.specs.declared.laid_tile.LaidTile.{LaidTile}
 use Rattle.mls_stitch.proofs.AroundTiles.{unlisted_more, unlisted_skip}
 use Rattle.mls_stitch.proofs.around.list_kept.Goals as goal

@@ -1,8 +1,7 @@
 -- Each piece is laid under the key beside it.
-use Rattle.std.proofs.Common.{◌≡◌, ◌+◌, ◌<◌, length, take, ap, sym, refl, subst, ◌∙◌, arith, rules}
+use Rattle.std.proofs.Common.{◌≡◌, ◌+◌, length, take, refl, arith}
 use Rattle.std.proofs.lemmas.List.{length_push, take_all}
 use Rattle.std.proofs.lemmas.Slice.Zip.{zip_end, zip_turn}
-use Rattle.mls_stitch.specs.Placing.{Lays}
 use Rattle.mls_stitch.proofs.Laying.{GiveWay-next, GiveWay-set, Lays-next, Lays-refl}
 use Rattle.mls_stitch.proofs.PoolChanges.{ChangesOnly-one, ChangesOnly-refl, ChangesOnly-trans}
 use Rattle.mls_stitch.proofs.place.place_again.Goals as goal
@@ -23,7 +22,7 @@ loop-id-preserved c =
     let ways = GiveWay-set c.loop-id.pool c.set.new.self c.args.owner.now c.in-Some.id.now c.in-Some.piece.now changes c.set.ensures.count in
     record {
       laid = rw long (Lays-next c.args.ids.now c.args.pieces.now (length c.loop-id.yielded) (record { id = c.in-Some.id.now; piece = c.in-Some.piece.now }) turn.0 turn.1 (turn.2 _) (turn.3 _) c.requires.once c.requires.there
-      c.loop-id.invariant.laid ways c.push_reserved.ensures.items);
+          c.loop-id.invariant.laid ways c.push_reserved.ensures.items);
       only = ChangesOnly-trans c.loop-id.invariant.only (ChangesOnly-one changes);
       len = omega (arith, long, c.loop-id.invariant.len, c.push_reserved.ensures.len);
       room = cc;

@@ -1,6 +1,4 @@
 -- The first touched keys serve again, the others go, and the other pieces get new keys.
-use Rattle.std.proofs.Common.{All, IsSome}
-use Rattle.mls_tilepool.specs.Pools.{tile_at}
 use Rattle.mls_stitch.proofs.Laying.{Lays-instead, drop-there}
 use Rattle.mls_stitch.proofs.place.place_instead.Goals as goal
 

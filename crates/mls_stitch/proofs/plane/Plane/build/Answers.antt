@@ -1,6 +1,5 @@
 -- The tiles are laid with no stitch and then stitched as the strips' blocks.
-use Rattle.std.proofs.Common.{[], length, ap, sym, ◌∙◌, arith, rules}
-use Rattle.mls_tilepool.specs.Pools.{tiles_of}
+use Rattle.std.proofs.Common.{length, ap, arith}
 use Rattle.mls_stitch.specs.Fresh.{fresh_at}
 use Rattle.mls_stitch.proofs.BuiltPlanes.{AwaitStitches-built, IsMaximal-strips_laid, shown-strips_laid, some_strip}
 use Rattle.mls_stitch.proofs.Laying.{IsOwner-ChangesOnly, Lays-long}

@@ -1,7 +1,7 @@
 -- The fresh tiles lie in place of the touched ones, and with those around them wait for their stitches.
-use Rattle.std.proofs.Common.{◌≡◌, ◌+◌, length, IsSome, All, refl, sym, ap, ◌∙◌, subst, arith}
+use Rattle.std.proofs.Common.{◌+◌, length, refl, ap, subst, arith}
 use Rattle.std.proofs.lemmas.Bool.{both_ways}
-use Rattle.mls_tilepool.specs.Pools.{count_of, room_of, tile_in, tiles_of}
+use Rattle.mls_tilepool.specs.Pools.{count_of, room_of, tiles_of}
 use Rattle.mls_stitch.specs.Fresh.{replaced}
 use Rattle.mls_stitch.specs.Replacements.{Replaces, TakePlace}
 use Rattle.mls_stitch.specs.Tilings.{HasPlane, block_at}
@@ -19,8 +19,7 @@ pub returns-then-not-has_room-clause-no_room : goal.returns-then-not-has_room-cl
 returns-then-not-has_room-clause-no_room c =
     let owner = c.args.self.now in
     let pool = c.args.pool.now in
-    let ensures' = rw c.self.view_is at c.has_room.ensures.room in
-    (
+    let ensures' = rw c.self.view_is at c.has_room.ensures.room in (
       λ _. has_no_room (room_of pool owner) (count_of pool owner + length c.args.fresh.now) (length c.args.touched.now) c.requires.plane.live (λ fits. both_ways c.has_room.result c.if-not-has_room.true (ensures'.1 fits)),
       λ _. refl,
     )
@@ -41,19 +40,17 @@ stitch_listed-requires c =
     let tiles = tiles_of c.args.pool.now owner in
     let home : HasPlane c.args.pool.now owner = rw c.self.view_is c.requires.plane in
     let takes : TakePlace (block_at tiles) c.args.touched.now c.args.fresh.now = rw c.self.view_is c.requires.pieces in
-    let lays = c.place_instead.ensures.laid in
-    (
+    let lays = c.place_instead.ensures.laid in (
       replaced (block_at tiles) c.args.touched.now lays.laid,
       rw c.deref_mut.ensures.value
-      (AwaitStitches-instead tiles (tiles_of c.place_instead.new.pool owner) c.args.touched.now c.args.fresh.now c.list_around.new.entries.items c.place_instead.new.entries.items home.plane takes lays c.list_around.ensures.around),
+          (AwaitStitches-instead tiles (tiles_of c.place_instead.new.pool owner) c.args.touched.now c.args.fresh.now c.list_around.new.entries.items c.place_instead.new.entries.items home.plane takes lays c.list_around.ensures.around),
     )
 
 pub returns-clause-no_room : goal.returns-clause-no_room
 returns-clause-no_room c =
     let owner = c.args.self.now in
     let pool = c.args.pool.now in
-    let ensures' = rw c.self.view_is at c.has_room.ensures.room in
-    (
+    let ensures' = rw c.self.view_is at c.has_room.ensures.room in (
       λ e. absurd (both_ways _ refl e),
       λ less. absurd (has_enough (room_of pool owner) (count_of pool owner + length c.args.fresh.now) (length c.args.touched.now) (ensures'.0 c.if-not-has_room.false) less),
     )
