@@ -1,9 +1,9 @@
 -- A picture by its strips.
-use Rattle.std.proofs.Common.{◌≡◌, ◌≢◌, ℕ, IsTrue, true, false, List, get_or, subst, ⊎_elim, sym, ◌∙◌, arith}
+use Rattle.std.proofs.Common.{◌≡◌, ◌≢◌, ℕ, IsTrue, true, false, List, get_or, subst, le_refl, ⊎_elim, sym, ◌∙◌, arith}
 use Rattle.std.proofs.Math.Path.{fun_ext}
 use Rattle.std.proofs.lemmas.Bool.Decides.{nat_tests}
 use Rattle.std.proofs.lemmas.Bool.{cases_Bool, both_ways, false_from_ne_true}
-use Rattle.mls_geom.specs.Rects.{Rect, holds}
+use Rattle.mls_geom.specs.Rects.{Rect, IsRectangleIn, holds}
 use Rattle.mls_geom.specs.Pictures.{Picture, empty_picture, picture_of}
 use Rattle.mls_geom.specs.Locality.{AreUnorderedStrips}
 use Rattle.mls_geom.specs.Strips.{IsStrip, AreStrips, comes_before}
@@ -23,6 +23,12 @@ holds-IsStrip extent picture piece x y strip inside =
     let lines = holds_between piece.rect x y inside in
     let run = strip.rows y lines.2 lines.3 in
     between_holds extent x y (omega (arith, run.from, lines.0)) (omega (arith, run.to, lines.1)) (omega (arith, strip.from, lines.2)) (omega (arith, strip.to, lines.3))
+
+-- a strip is a rectangle of the extent
+pub IsRectangleIn-IsStrip : (extent : Rect) (picture : Picture) (piece : Piece) → IsStrip extent picture piece → IsRectangleIn extent piece.rect
+IsRectangleIn-IsStrip extent picture piece strip =
+    let run = strip.rows piece.rect.bottom (le_refl piece.rect.bottom) strip.tall in
+    record { left_in = run.from; wide = run.wide; right_in = run.to; bottom_in = strip.from; tall = strip.tall; top_in = strip.to }
 
 -- strips in order are strips in any order
 comes_after : (p q : Piece) → IsTrue (comes_before p q) → p ≢ q

@@ -57,6 +57,7 @@ impl Area {
             top: self.top.min(area.top),
         }
     }
+
     /// Returns the least area that has the squares of both.
     pub(crate) fn joined(self, other: Area) -> Area
         ensures { result ≡ record {

@@ -199,6 +199,7 @@ pub fn fresh_strips(
     ensures strips { OnOk result (AreCoveredStrips world (laid (touched.now ++ over.now)) scratch.new.strips) }
     ensures count { IfOk result (λ n. (n ≡ length scratch.new.strips) × (n ≡ covered_count world (laid (touched.now ++ over.now)))) }
     ensures too_many { IsErr result ↔ (limit < covered_count world (laid (touched.now ++ over.now))) }
+    ensures legal { OnOk result (AreLegal scratch.new.strips) }
 
     // So they complete the strips that stay, and number what the tile count is more than those.
     ensures replaced { OnOk result ((below : ℕ → ℕ → ℕ) (kept : List Piece)

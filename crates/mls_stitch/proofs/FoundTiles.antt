@@ -1,14 +1,22 @@
 -- What area search found, once it is sorted.
-use Rattle.std.proofs.Common.{◌≡◌, ◌≢◌, ℕ, ◌<◌, ◌≤◌, Bool, true, false, ◌&&◌, ◌||◌, ◌==◌, nat_lt, max, List, length, get_or, Option, All, Any, AllPairs, Contains, IsPermutation, refl, sym, ap, ◌∙◌, subst, arith}
+use Rattle.std.proofs.Common.{◌≡◌, ℕ, ◌<◌, true, false, Ordering, ◌&&◌, ◌||◌, ◌==◌, nat_lt, max, List, length, get_or, Option, AllPairs, IsPermutation, inl, inr, sym, ap, ◌∙◌, subst, arith}
 use Rattle.std.specs.List.Sorted.{IsSortedByKey}
 use Rattle.std.specs.Ordering.{is_lt, nat_cmp, ordering_then}
+use Rattle.std.proofs.lemmas.Bool.{both_ways, cases_lt}
 use Rattle.std.proofs.lemmas.Bool.Decides.{nat_tests}
 use Rattle.std.proofs.lemmas.Cmp.{nat_cmp_total, on_total, then_total}
-use Rattle.std.proofs.lemmas.List.Sorted.{ranks_by, sorted_far}
-use Rattle.mls_geom.specs.Rects.{Rect}
-use Rattle.mls_stitch.specs.Areas.{comes_first}
-use Rattle.mls_stitch.specs.Enumerations.{first_row}
+use Rattle.std.proofs.lemmas.List.Sorted.{All-permutation, ranks_by, sorted_far}
+use Rattle.mls_geom.specs.Rects.{Rect, IsRectangleIn, holds, meets}
+use Rattle.mls_geom.specs.World.{world}
+use Rattle.mls_geom.specs.declared.piece.Piece.{Piece}
+use Rattle.mls_geom.proofs.Holds.{between_holds}
+use Rattle.mls_stitch.specs.Areas.{AreInArea, IsFound, comes_first}
+use Rattle.mls_stitch.specs.Enumerations.{IsListedTo, first_row}
+use Rattle.mls_stitch.specs.Tilings.{AreBlocks}
 use Rattle.mls_stitch.specs.declared.laid_tile.LaidTile.{LaidTile}
+use Rattle.mls_stitch.proofs.Listings.{first_row_found, listed_whole, meets_lines, one_tile}
+use Rattle.mls_stitch.proofs.SettingStitches.{any_moved, once_moved}
+use Rattle.mls_stitch.proofs.Sides.{legal-AreBlocks}
 
 -- two numbers in turn
 abbrev pub row_cmp : ℕ × ℕ → ℕ × ℕ → Ordering
@@ -27,3 +35,65 @@ none_first area list sorted i j d before within =
     let q = get_or list j d in
     sym (row_before (first_row area q) q.piece.rect.left (first_row area p) p.piece.rect.left)
     ∙ sorted_far (λ x y. is_lt (row_cmp (place_of area x) (place_of area y))) (ranks_by (then_total (on_total (λ (p : ℕ × ℕ). p.0) nat_cmp_total) (on_total (λ (p : ℕ × ℕ). p.1) nat_cmp_total)) (place_of area)) list sorted i j d (omega (arith, before)) within
+
+lower_first : (p q left right : ℕ) → p < q → (nat_lt p q || (p == q && nat_lt left right)) ≡ true
+lower_first p q left right lower = grind (arith, nat_tests)
+
+left_first : (p q left right : ℕ) → p ≡ q → left < right → (nat_lt p q || (p == q && nat_lt left right)) ≡ true
+left_first p q left right level before = grind (arith, nat_tests)
+
+-- of two different places the one that does not come second comes first
+first_of : (p q left right : ℕ) → (nat_lt q p || (q == p && nat_lt right left)) ≡ false → ((p ≡ q) × (left ≡ right) → ⊥) → (nat_lt p q || (p == q && nat_lt left right)) ≡ true
+first_of p q left right not_after differ = elim (cases_lt p q) [
+  | inl lower ↦ lower_first p q left right lower
+  | inr upper ↦
+      elim (cases_lt q p) [
+        | inl higher ↦ absurd (both_ways _ not_after (lower_first q p right left higher))
+        | inr level ↦
+            let same : p ≡ q = omega (arith, upper, level) in
+            elim (cases_lt left right) [
+              | inl before ↦ left_first p q left right same before
+              | inr after ↦
+                  elim (cases_lt right left) [
+                    | inl behind ↦ absurd (both_ways _ not_after (left_first q p right left (sym same) behind))
+                    | inr there ↦ absurd (differ (same, omega (arith, after, there)))
+                  ]
+            ]
+      ]
+]
+
+-- a found tile has its first square in the area
+first_square :
+    (area : Rect) (tile : LaidTile) → IsRectangleIn world area → IsRectangleIn world tile.piece.rect → meets tile.piece.rect area ≡ true
+    → holds tile.piece.rect (max tile.piece.rect.left area.left) (first_row area tile) ≡ true
+first_square area tile inside legal met =
+    let lines = meets_lines tile.piece.rect area met in
+    let rows = first_row_found area tile inside legal met in
+    between_holds tile.piece.rect (max tile.piece.rect.left area.left) (first_row area tile) (omega arith) (omega (arith, lines.1, legal.wide)) rows.0 rows.2
+
+-- two found tiles with one first square are one
+apart_found :
+    (blocks : ℕ → Option Piece) (area : Rect) (p q : LaidTile) → AreBlocks blocks → IsRectangleIn world area → IsFound blocks area p → IsFound blocks area q
+    → (first_row area p ≡ first_row area q) × (p.piece.rect.left ≡ q.piece.rect.left) → p ≡ q
+apart_found blocks area p q tiling inside found_p found_q (row, left) =
+    let in_p = first_square area p inside (legal-AreBlocks blocks p.id p.piece tiling found_p.laid) found_p.met in
+    let in_q = first_square area q inside (legal-AreBlocks blocks q.id q.piece tiling found_q.laid) found_q.met in
+    one_tile blocks p q (max p.piece.rect.left area.left) (first_row area p) tiling found_p.laid found_q.laid in_p
+    (subst (λ x. holds q.piece.rect (max x area.left) (first_row area p) ≡ true) (sym left) (subst (λ y. holds q.piece.rect (max q.piece.rect.left area.left) y ≡ true) (sym row) in_q))
+
+-- once all parents are passed, the sorted list is what area search finds
+pub area_found :
+    (blocks : ℕ → Option Piece) (area : Rect) (list sorted : List LaidTile) → AreBlocks blocks → IsRectangleIn world area → IsListedTo blocks area list (length list) world.top
+    → IsPermutation list sorted → AllPairs (λ p q. comes_first area q p ≡ false) sorted → AreInArea blocks area sorted
+area_found blocks area list sorted tiling inside listed moved none =
+    let each = All-permutation (IsFound blocks area) list sorted moved listed.each in
+    let once = once_moved list sorted moved listed.once in
+    record {
+      each = each;
+      whole = λ x y held. any_moved (λ tile. holds tile.piece.rect x y ≡ true) list sorted moved (listed_whole blocks area list tiling inside listed x y held);
+      ordered = λ i j d before within.
+          let p = get_or sorted i d in
+          let q = get_or sorted j d in
+          first_of (first_row area p) (first_row area q) p.piece.rect.left q.piece.rect.left (none i j d before within)
+          (λ same. once i j d before within (ap (λ (t : LaidTile). t.id) (apart_found blocks area p q tiling inside (each i d (omega (arith, before, within))) (each j d within) same)));
+    }

@@ -180,20 +180,6 @@ GiveWay-remove old new owner key changes count = record {
   count = omega (arith, count);
 }
 
--- only this owner's tiles change, at one key or at more
-pub ChangesOnly-refl : (pool : Pool) (owner : ℕ) → ChangesOnly pool pool owner
-ChangesOnly-refl pool owner = record { others = λ other differs. refl; rooms = refl; capacity = refl }
-
-pub ChangesOnly-trans : {old mid new : Pool} {owner : ℕ} → ChangesOnly old mid owner → ChangesOnly mid new owner → ChangesOnly old new owner
-ChangesOnly-trans a b = record {
-  others = λ other differs. b.others other differs ∙ a.others other differs;
-  rooms = b.rooms ∙ a.rooms;
-  capacity = b.capacity ∙ a.capacity;
-}
-
-pub ChangesOnly-one : {old new : Pool} {owner key : ℕ} {slot : Option Tile} → Changes old new owner key slot → ChangesOnly old new owner
-ChangesOnly-one c = record { others = c.others; rooms = c.rooms; capacity = c.capacity }
-
 -- the keys of tiles laid in turn are the touched ones as far as they go
 again_in_turn :
     (k1 k2 t1 t2 : List ℕ) (n : ℕ) → length k1 ≡ length t1 → ((i : ℕ) → i < length t1 → slice_get k1 i ≡ slice_get t1 i)

@@ -1,3 +1,4 @@
+pub mod AroundTiles
 pub mod BuiltPlanes
 pub mod BuiltTiles
 pub mod CloseSquares
@@ -16,11 +17,14 @@ pub mod OtherPlanes
 pub mod PaintedTiles
 pub mod PoolChanges
 pub mod ReplacedBlocks
+pub mod ReplacedPlanes
 pub mod ReplacedStitches
 pub mod ReplacedTiles
 pub mod SettingStitches
 pub mod ShownTiles
 pub mod SideListings
 pub mod Sides
+pub mod SortedTiles
+pub mod SplitCalls
 pub mod SplitTiles
 pub mod TilesBeyond

@@ -1,9 +1,9 @@
 -- What area search has listed so far, from step to step.
-use Rattle.std.proofs.Common.{◌≡◌, ◌≢◌, ◌⊎◌, ℕ, zero, suc, ◌+◌, ◌-◌, ◌<◌, ◌≤◌, Bool, true, false, ◌&&◌, max, List, [], ◌∷◌, ◌++◌, length, get_or, Option, Some, All, Any, AllPairs, Contains, inl, inr, refl, sym, ap, ◌∙◌, subst, arith}
+use Rattle.std.proofs.Common.{◌≡◌, ◌≢◌, ◌⊎◌, ℕ, zero, suc, ◌+◌, ◌-◌, ◌<◌, ◌≤◌, Bool, true, false, ◌&&◌, List, [], ◌∷◌, ◌++◌, length, get_or, Option, All, Any, Contains, inl, inr, refl, sym, ap, ◌∙◌, subst, arith}
 use Rattle.std.proofs.lemmas.Bool.{both_ways, cases_lt}
 use Rattle.std.proofs.lemmas.Bool.Decides.{nat_tests}
-use Rattle.std.proofs.lemmas.List.{get_or_append_left, get_or_push, length_push}
-use Rattle.std.proofs.lemmas.List.Elements.{All-push, All-weaker, Contains-append_left, Contains-push}
+use Rattle.std.proofs.lemmas.List.{get_or_append_left, length_push}
+use Rattle.std.proofs.lemmas.List.Elements.{All-push, Contains-append_left, Contains-push}
 use Rattle.std.proofs.lemmas.List.Quantifiers.{all_pairs_push}
 use Rattle.std.proofs.lemmas.Option.{same_Some}
 use Rattle.mls_geom.specs.Rects.{Rect, IsRectangleIn, holds, meets}
@@ -93,33 +93,44 @@ parent_here area list index at_index line parent tile here reached at =
     let is : reached.parent ≡ parent = sym reached.there ∙ ap (λ place. get_or list place reached.parent) at ∙ here reached.parent in
     subst (λ p. IsParent area p tile) is reached.is_parent
 
+-- what is reached, by another index and line
+reached_as :
+    {area : Rect} {list : List LaidTile} {index line next low : ℕ} {tile : LaidTile} (reached : IsReached area list index line tile)
+    → (reached.place < next) ⊎ ((reached.place ≡ next) × (low ≤ first_row area tile)) → IsReached area list next low tile
+reached_as reached passed = record {
+  place = reached.place;
+  parent = reached.parent;
+  within = reached.within;
+  there = reached.there;
+  is_parent = reached.is_parent;
+  passed = passed;
+}
+
 -- a tile that is reached down to the next line was reached before, or is the neighbour between the lines
 reached_down :
     (blocks : ℕ → Option Piece) (area : Rect) (list : List LaidTile) (index line : ℕ) (parent tile child : LaidTile) → AreBlocks blocks → IsRectangleIn world area
     → ((d : LaidTile) → get_or list index d ≡ parent) → IsLaid blocks parent → IsLaidAt blocks (record { x = parent.piece.rect.right; y = line - 1 }) tile → IsFound blocks area child
     → IsReached area list index tile.piece.rect.bottom child → ((child ≡ tile) × IsParent area parent child) ⊎ IsReached area list index line child
 reached_down blocks area list index line parent tile child tiling inside here laid beside found reached = elim reached.passed [
-  | inl before ↦
-      inr (record { place = reached.place; parent = reached.parent; within = reached.within; there = reached.there; is_parent = reached.is_parent; passed = inl before })
+  | inl before ↦ inr (reached_as reached (inl before))
   | inr (at, above) ↦
       elim (cases_lt (first_row area child) line) [
         | inl below ↦
             let is_parent = parent_here area list index index tile.piece.rect.bottom parent child here reached at in
             inl (child_here blocks area parent tile child line tiling inside laid beside found is_parent above below, is_parent)
-        | inr over ↦
-            inr (record { place = reached.place; parent = reached.parent; within = reached.within; there = reached.there; is_parent = reached.is_parent; passed = inr (at, over) })
+        | inr over ↦ inr (reached_as reached (inr (at, over)))
       ]
 ]
 
--- what is reached stays reached further down, and in a longer list
+-- what is reached stays reached further down
 reached_lower : (area : Rect) (list : List LaidTile) (index line low : ℕ) (tile : LaidTile) → low ≤ line → IsReached area list index line tile → IsReached area list index low tile
 reached_lower area list index line low tile lower reached = elim reached.passed [
-  | inl before ↦
-      record { place = reached.place; parent = reached.parent; within = reached.within; there = reached.there; is_parent = reached.is_parent; passed = inl before }
+  | inl before ↦ reached_as reached (inl before)
   | inr (at, above) ↦
-      record { place = reached.place; parent = reached.parent; within = reached.within; there = reached.there; is_parent = reached.is_parent; passed = inr (at, omega (arith, above, lower)) }
+      reached_as reached (inr (at, omega (arith, above, lower)))
 ]
 
+-- what is reached in a list is reached in a longer one, and the other way round
 reached_push : (area : Rect) (list : List LaidTile) (more : LaidTile) (index line : ℕ) (tile : LaidTile) → IsReached area list index line tile → IsReached area (list ++ more ∷ []) index line tile
 reached_push area list more index line tile reached = record {
   place = reached.place;
@@ -193,22 +204,22 @@ listed_push blocks area list index parent tile tiling inside beside found is_par
       once = all_pairs_push (λ p q. p.id ≢ q.id) list tile listed.once new;
       on_side = λ y above below. any_push (λ t. holds t.piece.rect area.left y ≡ true) list tile (listed.on_side y above below);
       listed =
-        All-push (λ t. (t.piece.rect.left ≤ area.left) ⊎ IsReached area (list ++ tile ∷ []) index low t) list tile
-        (λ k d within. ⊎_map (λ e. e) (λ reached. reached_push area list tile index low _ (reached_lower area list index beside.line low _ lower reached)) (listed.listed k d within))
-        (inr (record {
-          place = index;
-          parent = parent;
-          within = omega (arith, length_push list tile, beside.within);
-          there = get_or_append_left list (tile ∷ []) parent index beside.within ∙ beside.here parent;
-          is_parent = is_parent;
-          passed = inr (refl, omega arith);
-        }));
+          All-push (λ t. (t.piece.rect.left ≤ area.left) ⊎ IsReached area (list ++ tile ∷ []) index low t) list tile
+          (λ k d within. ⊎_map (λ e. e) (λ reached. reached_push area list tile index low _ (reached_lower area list index beside.line low _ lower reached)) (listed.listed k d within))
+          (inr (record {
+            place = index;
+            parent = parent;
+            within = omega (arith, length_push list tile, beside.within);
+            there = get_or_append_left list (tile ∷ []) parent index beside.within ∙ beside.here parent;
+            is_parent = is_parent;
+            passed = inr (refl, omega arith);
+          }));
       reached = λ child child_found beyond reached.
-        elim (reached_down blocks area list index beside.line parent tile child tiling inside beside.here laid.laid beside.beside child_found
-        (reached_unpush area list tile index low child beside.within reached)) [
-          | inl (is, _) ↦ subst (Contains (list ++ tile ∷ [])) (sym is) (Contains-push list tile)
-          | inr before ↦ Contains-append_left list (tile ∷ []) child (listed.reached child child_found beyond before)
-        ];
+          elim (reached_down blocks area list index beside.line parent tile child tiling inside beside.here laid.laid beside.beside child_found
+          (reached_unpush area list tile index low child beside.within reached)) [
+            | inl (is, _) ↦ subst (Contains (list ++ tile ∷ [])) (sym is) (Contains-push list tile)
+            | inr before ↦ Contains-append_left list (tile ∷ []) child (listed.reached child child_found beyond before)
+          ];
     }
 
 -- and where it is not, it need not be listed
@@ -227,18 +238,17 @@ listed_skip blocks area list index parent tile tiling inside beside other =
       on_side = listed.on_side;
       listed = λ k d within. ⊎_map (λ e. e) (λ reached. reached_lower area list index beside.line low _ lower reached) (listed.listed k d within);
       reached = λ child child_found beyond reached.
-        elim (reached_down blocks area list index beside.line parent tile child tiling inside beside.here laid.laid beside.beside child_found reached) [
-          | inl (is, is_parent) ↦ absurd (other (subst (IsFound blocks area) is child_found) (subst (IsParent area parent) is is_parent))
-          | inr before ↦ listed.reached child child_found beyond before
-        ];
+          elim (reached_down blocks area list index beside.line parent tile child tiling inside beside.here laid.laid beside.beside child_found reached) [
+            | inl (is, is_parent) ↦ absurd (other (subst (IsFound blocks area) is child_found) (subst (IsParent area parent) is is_parent))
+            | inr before ↦ listed.reached child child_found beyond before
+          ];
     }
 
+-- once the index is passed, so is all that was reached there
 reached_past : (area : Rect) (list : List LaidTile) (index line : ℕ) (tile : LaidTile) → IsReached area list index line tile → IsReached area list (index + 1) world.top tile
 reached_past area list index line tile reached = elim reached.passed [
-  | inl before ↦
-      record { place = reached.place; parent = reached.parent; within = reached.within; there = reached.there; is_parent = reached.is_parent; passed = inl (omega (arith, before)) }
-  | inr (at, above) ↦
-      record { place = reached.place; parent = reached.parent; within = reached.within; there = reached.there; is_parent = reached.is_parent; passed = inl (omega (arith, at)) }
+  | inl before ↦ reached_as reached (inl (omega (arith, before)))
+  | inr (at, above) ↦ reached_as reached (inl (omega (arith, at)))
 ]
 
 -- no row is as high as the world's top
@@ -259,8 +269,7 @@ listed_from_top blocks area list index parent tiling inside listed within here =
       on_side = listed.on_side;
       listed = λ k d short. ⊎_map (λ e. e) (λ reached. reached_lower area list index world.top parent.piece.rect.top _ legal.top_in reached) (listed.listed k d short);
       reached = λ child found beyond reached. listed.reached child found beyond (elim reached.passed [
-        | inl before ↦
-            record { place = reached.place; parent = reached.parent; within = reached.within; there = reached.there; is_parent = reached.is_parent; passed = inl before }
+        | inl before ↦ reached_as reached (inl before)
         | inr (at, above) ↦
             let is_parent = parent_here area list index index parent.piece.rect.top parent child here reached at in
             let lines = holds_between parent.piece.rect (child.piece.rect.left - 1) (first_row area child) is_parent in
@@ -323,13 +332,12 @@ listed_past blocks area list index line parent tiling inside listed here last = 
   reached = λ child found beyond reached. listed.reached child found beyond (elim reached.passed [
     | inl before ↦
         elim (cases_lt reached.place index) [
-          | inl earlier ↦
-              record { place = reached.place; parent = reached.parent; within = reached.within; there = reached.there; is_parent = reached.is_parent; passed = inl earlier }
+          | inl earlier ↦ reached_as reached (inl earlier)
           | inr later ↦
               let at : reached.place ≡ index = omega (arith, before, later) in
               let is_parent = parent_here area list index (index + 1) world.top parent child here reached at in
               let lines = holds_between parent.piece.rect (child.piece.rect.left - 1) (first_row area child) is_parent in
-              record { place = reached.place; parent = reached.parent; within = reached.within; there = reached.there; is_parent = reached.is_parent; passed = inr (at, omega (arith, last, lines.2)) }
+              reached_as reached (inr (at, omega (arith, last, lines.2)))
         ]
     | inr (at, above) ↦
         let rows = first_row_found area child inside (legal-AreBlocks blocks child.id child.piece tiling found.laid) found.met in
@@ -352,8 +360,7 @@ listed_at_end blocks area list index parent tiling inside listed within here at_
       reached = λ child found beyond reached. listed.reached child found beyond (elim reached.passed [
         | inl before ↦
             elim (cases_lt reached.place index) [
-              | inl earlier ↦
-                  record { place = reached.place; parent = reached.parent; within = reached.within; there = reached.there; is_parent = reached.is_parent; passed = inl earlier }
+              | inl earlier ↦ reached_as reached (inl earlier)
               | inr later ↦
                   let at : reached.place ≡ index = omega (arith, before, later) in
                   let is_parent = parent_here area list index (index + 1) world.top parent child here reached at in
@@ -385,8 +392,8 @@ found_with blocks area tile x y tiling inside held is =
     record {
       laid = is.laid;
       met =
-        lines_meet tile.piece.rect area legal.wide inside.wide legal.tall inside.tall (omega (arith, lines.0, square.1)) (omega (arith, square.0, lines.1)) (omega (arith, lines.2, square.3))
-        (omega (arith, square.2, lines.3));
+          lines_meet tile.piece.rect area legal.wide inside.wide legal.tall inside.tall (omega (arith, lines.0, square.1)) (omega (arith, square.0, lines.1)) (omega (arith, lines.2, square.3))
+          (omega (arith, square.2, lines.3));
     }
 
 pub inside_world : (area : Rect) (x y : ℕ) → IsRectangleIn world area → holds area x y ≡ true → holds world x y ≡ true

@@ -205,7 +205,7 @@ keys_apart (x ∷ rest) once i j e below within same =
     once i j x below inside (sym (get_or-map (λ (entry : LaidTile). entry.id) (x ∷ rest) i x e inside_too) ∙ same ∙ get_or-map (λ (entry : LaidTile). entry.id) (x ∷ rest) j x e inside)
 
 -- the order of the entries is free
-once_moved : (xs ys : List LaidTile) → IsPermutation xs ys → AllPairs (λ (p q : LaidTile). p.id ≢ q.id) xs → AllPairs (λ (p q : LaidTile). p.id ≢ q.id) ys
+pub once_moved : (xs ys : List LaidTile) → IsPermutation xs ys → AllPairs (λ (p q : LaidTile). p.id ≢ q.id) xs → AllPairs (λ (p q : LaidTile). p.id ≢ q.id) ys
 once_moved xs ys moved once =
     let distinct : IsDistinct nat_eq (keys_of xs) = IsDistinct-from_apart nat_eq (keys_of xs) (λ i j d below within. ne_eqb _ _ (keys_apart xs once i j d below within)) in
     let kept : IsDistinct nat_eq (keys_of ys) = IsDistinct-moved (keys_of xs) (keys_of ys) (IsPermutation-map (λ (entry : LaidTile). entry.id) xs ys moved) distinct in
@@ -215,7 +215,7 @@ once_moved xs ys moved once =
     eqb-false _ _ (apart_from_distinct nat_eq (keys_of ys) i j 0 kept below inside)
     (get_or-map (λ (entry : LaidTile). entry.id) ys i d 0 inside_too ∙ same ∙ sym (get_or-map (λ (entry : LaidTile). entry.id) ys j d 0 within))
 
-any_moved : (P : LaidTile → Type 0) (xs ys : List LaidTile) → IsPermutation xs ys → Any P xs → Any P ys
+pub any_moved : (P : LaidTile → Type 0) (xs ys : List LaidTile) → IsPermutation xs ys → Any P xs → Any P ys
 any_moved P xs ys moved (k, x, within, is, held) =
     let (n, n_within, n_is) = Contains-permutation xs ys x moved (k, within, is) in
     (n, x, n_within, n_is, held)

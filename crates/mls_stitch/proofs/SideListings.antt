@@ -1,17 +1,20 @@
 -- The tiles on the left side of an area, from the bottom up.
-use Rattle.std.proofs.Common.{◌≡◌, ◌≢◌, ℕ, ◌<◌, ◌≤◌, true, List, [], ◌∷◌, ◌++◌, length, get_or, Option, All, Any, AllPairs, Contains, inl, inr, refl, ap, ◌∙◌, arith}
+use Rattle.std.proofs.Common.{◌≡◌, ◌≢◌, ℕ, ◌<◌, ◌≤◌, true, List, [], ◌∷◌, ◌++◌, length, get_or, Option, All, inl, inr, ap, arith}
 use Rattle.std.proofs.lemmas.Bool.{cases_lt}
-use Rattle.std.proofs.lemmas.List.Elements.{All-push, All-nil}
+use Rattle.std.proofs.lemmas.List.{length_push}
+use Rattle.std.proofs.lemmas.List.Elements.{All-push}
 use Rattle.std.proofs.lemmas.List.Quantifiers.{Any-push, all_pairs_push}
 use Rattle.mls_geom.specs.Rects.{Rect, IsRectangleIn, holds}
 use Rattle.mls_geom.specs.World.{world}
 use Rattle.mls_geom.specs.declared.piece.Piece.{Piece}
 use Rattle.mls_geom.proofs.Holds.{holds_between, between_holds}
 use Rattle.mls_stitch.specs.Areas.{IsFound}
-use Rattle.mls_stitch.specs.Enumerations.{IsListedTo, IsReached, IsSideListedTo, first_row}
-use Rattle.mls_stitch.specs.Tilings.{AreBlocks}
+use Rattle.mls_stitch.specs.Enumerations.{IsListedTo, IsSideListedTo}
+use Rattle.mls_stitch.specs.Tilings.{AreBlocks, IsPlane, block_at}
 use Rattle.mls_stitch.specs.Walks.{IsLaidAt}
 use Rattle.mls_stitch.specs.declared.laid_tile.LaidTile.{LaidTile}
+use Rattle.mls_tilepool.specs.declared.tile.Tile.{Tile}
+use Rattle.mls_stitch.proofs.ListedTiles.{length-le-AreLaid}
 use Rattle.mls_stitch.proofs.Listings.{any_push, found_with, first_row_found, same_tile}
 use Rattle.mls_stitch.proofs.Sides.{legal-AreBlocks}
 
@@ -46,11 +49,11 @@ side_push blocks area list line tile tiling inside listed low high is =
       each = All-push (IsFound blocks area) list tile listed.each found;
       once = all_pairs_push (λ p q. p.id ≢ q.id) list tile listed.once (not_below blocks area list line tile listed is);
       on_side = λ y above below.
-        elim (cases_lt y line) [
-          | inl before ↦ any_push (λ t. holds t.piece.rect area.left y ≡ true) list tile (listed.on_side y above before)
-          | inr after ↦
-              Any-push (λ t. holds t.piece.rect area.left y ≡ true) list tile (between_holds tile.piece.rect area.left y lines.0 lines.1 (omega (arith, lines.2, after)) below)
-        ];
+          elim (cases_lt y line) [
+            | inl before ↦ any_push (λ t. holds t.piece.rect area.left y ≡ true) list tile (listed.on_side y above before)
+            | inr after ↦
+                Any-push (λ t. holds t.piece.rect area.left y ≡ true) list tile (between_holds tile.piece.rect area.left y lines.0 lines.1 (omega (arith, lines.2, after)) below)
+          ];
       at_side = All-push (λ t. t.piece.rect.left ≤ area.left) list tile listed.at_side lines.0;
       below = All-push (λ t. t.piece.rect.top ≤ tile.piece.rect.top) list tile (λ k d within. omega (arith, listed.below k d within, lines.3)) (omega arith);
     }
@@ -71,3 +74,11 @@ side_whole blocks area list line tiling inside listed reaches = record {
         absurd (omega (arith, above, rows.3, inside.top_in))
   ];
 }
+
+-- there is room for the next tile
+pub side_fits :
+    (tiles : List (ℕ × Tile)) (area : Rect) (list : List LaidTile) (line : ℕ) (tile : LaidTile) → IsPlane tiles → IsRectangleIn world area → IsSideListedTo (block_at tiles) area list line
+    → area.bottom ≤ line → line < area.top → IsLaidAt (block_at tiles) (record { x = area.left; y = line }) tile → length list < length tiles
+side_fits tiles area list line tile plane inside listed low high is =
+    let longer = side_push (block_at tiles) area list line tile plane.tiling inside listed low high is in
+    omega (arith, length_push list tile, length-le-AreLaid tiles (list ++ tile ∷ []) (λ k d within. (longer.each k d within).laid) longer.once)

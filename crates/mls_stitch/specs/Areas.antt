@@ -1,5 +1,5 @@
 -- Area search (Ousterhout 1984), and the scratch in which it leaves what it finds.
-use Rattle.std.specs.Prelude.{◌≡◌, ◌<◌, ℕ, max, Bool, ◌&&◌, ◌||◌, ◌==◌, nat_lt, IsTrue, List, Option, Some}
+use Rattle.std.specs.Prelude.{◌≡◌, ℕ, max, Bool, ◌&&◌, ◌||◌, ◌==◌, nat_lt, IsTrue, List, Option, Some}
 use Rattle.std.specs.List.{All, Any, AllPairs}
 use Rattle.mls_geom.specs.Rects.{Rect, holds, meets}
 use Rattle.mls_geom.specs.declared.piece.Piece.{Piece}

@@ -1,6 +1,6 @@
 -- How area search goes over an area (after Ousterhout 1984, area enumeration): the tiles on the area's left side from the bottom up, and then, tile by
 -- tile of those listed, the right neighbours of which it is the parent. Each tile has one parent, so it is listed once.
-use Rattle.std.specs.Prelude.{◌≡◌, ◌≢◌, ◌⊎◌, ℕ, ◌-◌, ◌<◌, ◌≤◌, max, IsTrue, List, length, Option, Some, slice_index_or}
+use Rattle.std.specs.Prelude.{◌≡◌, ◌≢◌, ◌⊎◌, ℕ, ◌-◌, ◌<◌, ◌≤◌, max, IsTrue, List, length, Option, slice_index_or}
 use Rattle.std.specs.List.{All, Any, AllPairs, Contains}
 use Rattle.mls_geom.specs.Rects.{Rect, holds}
 use Rattle.mls_geom.specs.declared.piece.Piece.{Piece}

@@ -1,6 +1,6 @@
 -- Tiles that are laid before they have stitches, and the tiles around them. No public contract names these.
-use Rattle.std.specs.Prelude.{◌≡◌, ◌≢◌, ◌⊎◌, ℕ, ◌+◌, ◌<◌, List, ◌++◌, length, map, slice_get, Option, Some, None, IsTrue, IsSomeAnd}
-use Rattle.std.specs.List.{All, Any, AllPairs, Contains}
+use Rattle.std.specs.Prelude.{◌≡◌, ◌≢◌, ◌⊎◌, ℕ, ◌+◌, ◌<◌, ◌==◌, not, filter, List, ◌++◌, length, map, slice_get, Option, Some, None, IsTrue, IsSomeAnd}
+use Rattle.std.specs.List.{All, Any, AllPairs, Contains, list_any}
 use Rattle.mls_geom.specs.Rects.{Point, grown, holds}
 use Rattle.mls_geom.specs.World.{world}
 use Rattle.mls_geom.specs.declared.piece.Piece.{Piece}
@@ -31,6 +31,15 @@ pub record Lays (old new : List (ℕ × Tile)) (touched : List ℕ) (fresh : Lis
   pub pieces : map (λ entry. entry.piece) laid ≡ fresh
   pub ways : GiveWay old new touched laid
   pub again : (i : ℕ) → i < length touched → i < length fresh → slice_get (keys_of laid) i ≡ slice_get touched i
+
+-- the found tiles whose keys aren't listed
+abbrev pub unlisted_of : List ℕ → List LaidTile → List LaidTile
+unlisted_of keys found = filter (λ tile. not (list_any (λ key. key == tile.id) keys)) found
+
+-- the list has tiles of the other one, and each key of it
+pub record KeepsKeys (before after : List LaidTile) : Type 0 where
+  pub tiles : All (Contains before) after
+  pub keys : All (λ tile. Contains (keys_of after) tile.id) before
 
 -- the list has each tile, other than the touched ones, that shares a square, a side or a corner with a touched one, each once
 pub record Surround (blocks : ℕ → Option Piece) (touched : List ℕ) (list : List LaidTile) : Type 0 where

@@ -1,14 +1,13 @@
 //! The tiles around touched ones.
-ghost use Rattle.std.specs.Prelude.{◌≡◌, ◌≢◌, ◌↔◌, ◌++◌, ℕ, ◌+◌, ◌≤◌, ◌⊎◌, IsSome, filter, length, map, not, vec_len, vec_capacity};
+ghost use Rattle.std.specs.Prelude.{◌≡◌, ◌≢◌, ◌==◌, ◌↔◌, ◌⊎◌, ◌++◌, ℕ, ◌+◌, ◌≤◌, IsSome, length, vec_len, vec_capacity};
 ghost use Rattle.std.specs.List.{All, AllPairs, Contains, list_any};
 ghost use Rattle.std.specs.List.Sorted.{IsNonDecreasing};
-ghost use Rattle.mls_tilepool.specs.Pools.{IsOwner, count_of, room_of, tile_at, tiles_of};
-ghost use Rattle.mls_stitch.specs.Placing.{Surround};
+ghost use Rattle.mls_tilepool.specs.Pools.{count_of, tile_at, tiles_of};
+ghost use Rattle.mls_stitch.specs.Placing.{KeepsKeys, Surround, unlisted_of};
 ghost use Rattle.mls_stitch.specs.Tilings.{HasPlane, block_at};
-ghost use Rattle.mls_stitch.specs.declared.laid_tile.LaidTile.{LaidTile};
 
 use crate::LaidTile;
-use crate::area::area_into;
+use crate::enumeration::area_into;
 use crate::laid_tile::laid;
 use mls_tilepool::{Owner, Pool, TileId};
 
@@ -26,26 +25,45 @@ fn list_keys(touched: &[TileId], keys: &mut Vec<usize>)
     keys.sort_unstable();
 }
 
+/// Returns whether the key is listed.
+fn is_listed(keys: &[usize], id: TileId) -> bool
+    requires { IsNonDecreasing keys.now }
+    ensures { result ≡ list_any (λ key. key == id) keys.now }
+{
+    keys.binary_search(&id.key()).is_ok()
+}
+
 /// Sorts the tiles by their names, and removes duplicates.
 fn sort_dedup(entries: &mut Vec<LaidTile>)
     ensures once { AllPairs (λ p q. p.id ≢ q.id) entries.new.items }
-    ensures members { (entry : LaidTile) → Contains entries.new.items entry → Contains entries.old.items entry }
-    ensures keys { (entry : LaidTile) → Contains entries.old.items entry → Contains (map (λ entry. entry.id) entries.new.items) entry.id }
+    ensures keeps { KeepsKeys entries.old.items entries.new.items }
     ensures room { vec_capacity entries.new ≡ vec_capacity entries.old }
 {
     entries.sort_unstable_by_key(|entry| entry.id.key());
     entries.dedup_by_key(|entry| entry.id.key());
 }
 
-/// Adds those tiles to the list whose keys are not listed.
+/// Removes duplicates where there isn't room for that many more tiles.
+fn free_room(entries: &mut Vec<LaidTile>, more: usize)
+    ensures free { (vec_len entries.new + more ≤ vec_capacity entries.new)
+        ⊎ AllPairs (λ p q. p.id ≢ q.id) entries.new.items }
+    ensures keeps { KeepsKeys entries.old.items entries.new.items }
+    ensures room { vec_capacity entries.new ≡ vec_capacity entries.old }
+{
+    if entries.capacity() - entries.len() < more {
+        sort_dedup(entries);
+    }
+}
+
+/// Adds those of the tiles whose keys are not listed.
 fn list_kept(found: &[LaidTile], keys: &[usize], entries: &mut Vec<LaidTile>)
     requires ascending { IsNonDecreasing keys.now }
     requires room { vec_len entries.old + length found.now ≤ vec_capacity entries.old }
-    ensures kept { (entry : LaidTile) → Contains entries.new.items entry ↔ (Contains entries.old.items entry ⊎ (Contains found.now entry × ¬ (Contains keys.now entry.id))) }
+    ensures kept { entries.new.items ≡ entries.old.items ++ unlisted_of keys.now found.now }
     ensures room { vec_capacity entries.new ≡ vec_capacity entries.old }
 {
     for tile in found {
-        if keys.binary_search(&tile.id.key()).is_err() {
+        if !is_listed(keys, tile.id) {
             entries.push_reserved(*tile);
         }
     }
@@ -77,9 +95,7 @@ pub(crate) fn list_around(
     for id in touched {
         let area = laid(pool, owner, *id).unwrap().piece.rect.grow(1);
         area_into(pool, owner, *id, area, found);
-        if entries.capacity() - entries.len() < found.len() {
-            sort_dedup(entries);
-        }
+        free_room(entries, found.len());
         list_kept(found, keys, entries);
     }
     sort_dedup(entries);

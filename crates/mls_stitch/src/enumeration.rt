@@ -29,11 +29,23 @@ fn is_child(area: Rect, parent: &LaidTile, tile: &LaidTile) -> bool
     let row = first_row(area, tile);
     let sides = parent.sides();
     let left = tile.sides().left - 1;
-    sides.left <= left && left < sides.right && sides.bottom <= row && row < sides.top && tile.piece.rect.meets(area)
+    sides.left <= left
+        && left < sides.right
+        && sides.bottom <= row
+        && row < sides.top
+        && tile.piece.rect.meets(area)
 }
 
 /// Lists the right neighbour of the tile at the index, where it is the tile's child.
-fn push_child(pool: &Pool, owner: &Owner, area: Rect, parent: &LaidTile, tile: &LaidTile, index: usize, list: &mut Vec<LaidTile>)
+fn push_child(
+    pool: &Pool,
+    owner: &Owner,
+    area: Rect,
+    parent: &LaidTile,
+    tile: &LaidTile,
+    index: usize,
+    list: &mut Vec<LaidTile>,
+)
     requires plane { HasPlane pool.now owner.now }
     requires legal { IsRectangleIn world area }
     requires room { count_of pool.now owner.now ≤ vec_capacity list.old }
@@ -121,7 +133,13 @@ fn sort_rows(area: Rect, list: &mut Vec<LaidTile>)
 
 /// Lists the tiles that have a square of the area, by their bottom, clipped to the area, and then their left. The search
 /// starts at the tile `from`, if the owner has it.
-pub(crate) fn area_into(pool: &Pool, owner: &Owner, from: TileId, area: Rect, list: &mut Vec<LaidTile>)
+pub(crate) fn area_into(
+    pool: &Pool,
+    owner: &Owner,
+    from: TileId,
+    area: Rect,
+    list: &mut Vec<LaidTile>,
+)
     requires plane { HasPlane pool.now owner.now }
     requires room { count_of pool.now owner.now ≤ vec_capacity list.old }
     ensures found { AreInArea (block_at (tiles_of pool.now owner.now)) area list.new.items }

@@ -15,7 +15,8 @@ use mls_tilepool::{NoRoom, Owner, Pool, TileId};
 fn has_room(pool: &Pool, owner: &Owner, touched: usize, fresh: usize) -> bool
     requires live { IsOwner pool.now owner.now }
     requires there { touched ≤ count_of pool.now owner.now }
-    ensures { IsTrue result ↔ IfSome (room_of pool.now owner.now) (λ room. count_of pool.now owner.now + fresh ≤ room + touched) }
+    ensures room { IsTrue result ↔ IfSome (room_of pool.now owner.now) (λ room. count_of pool.now owner.now + fresh ≤ room + touched) }
+    ensures within { IfSome (room_of pool.now owner.now) (λ room. count_of pool.now owner.now ≤ room) }
 {
     let unused = pool.room(owner) - pool.count(owner);
     fresh <= unused as usize + touched
@@ -32,6 +33,7 @@ impl Plane {
         requires tiles_fit { count_of pool.old self.old ≤ scratch.old.room }
         requires pieces_fit { length fresh.now ≤ scratch.old.room }
         ensures no_room { IsErr result ↔ IsSomeAnd (room_of pool.old self.old) (λ room. room + length touched.now < count_of pool.old self.old + length fresh.now) }
+        ensures within { IfSome (room_of pool.old self.old) (λ room. count_of pool.old self.old ≤ room) }
         ensures replaced { OnOk result (Replaces (tiles_of pool.old self.old) (tiles_of pool.new self.old) touched.now fresh.now) }
         ensures refused { OnErr result (pool.new ≡ pool.old) }
         ensures plane { self.new ≡ self.old }
@@ -51,9 +53,10 @@ impl Plane {
             &mut scratch.entries,
         );
         place_instead(pool, &self.owner, touched, fresh, &mut scratch.entries);
-        if let Some(tile) = scratch.entries.last() {
-            self.hint = tile.id;
-        }
+        self.hint = scratch
+            .entries
+            .last()
+            .map_or(self.hint, |tile| tile.id);
         stitch_listed(pool, &self.owner, &mut scratch.entries);
         Ok(())
     }

@@ -1,8 +1,8 @@
 -- What reserving for a new owner, and releasing an owner, leave of a pool.
-use Rattle.std.proofs.Common.{◌≡◌, ◌≢◌, ℕ, ◌+◌, ◌-◌, ◌≤◌, [], get_or, Option, Some, None, is_some, refl, sym, ap, ◌∙◌, arith}
+use Rattle.std.proofs.Common.{◌≡◌, ℕ, ◌+◌, ◌-◌, ◌≤◌, [], get_or, Option, Some, None, is_some, refl, sym, ap, ◌∙◌, arith}
 use Rattle.slab.specs.Slab.{Slab, Updates, get}
 use Rattle.mls_tilepool.specs.Pools.{Pool, Reserves, owned, reserved, tiles_of, unreserved}
-use Rattle.mls_tilepool.specs.Chains.{IsPool, held_of, pool_of, room_in}
+use Rattle.mls_tilepool.specs.Chains.{IsPool, OthersKeep, held_of, pool_of, room_in}
 use Rattle.mls_tilepool.specs.declared.chain.Place.{Place}
 use Rattle.mls_tilepool.specs.declared.chain.Row.{Row}
 use Rattle.mls_tilepool.proofs.PoolChanges.{held_at, owned-none, room_at, tiles_of-none, tiles_of-same}
@@ -71,12 +71,7 @@ pub unreserved-same : (old new : Pool) → new.rooms ≡ old.rooms → new.capac
 unfolding reserved
 unreserved-same old new rooms capacity = rw (rooms, capacity) refl
 
--- the pool has changed in the tiles of one owner alone
-pub record OthersKeep (old new : Pool) (owner : ℕ) : Type 0 where
-  pub rooms : new.rooms ≡ old.rooms
-  pub capacity : new.capacity ≡ old.capacity
-  pub others : (other : ℕ) → other ≢ owner → tiles_of new other ≡ tiles_of old other
-
+-- an owner goes once its tiles are gone
 pub Reserves-from_released : (old now new : Pool) (owner : ℕ) → OthersKeep old now owner → Reserves now new owner None → Reserves old new owner None
 Reserves-from_released old now new owner kept released =
     record {

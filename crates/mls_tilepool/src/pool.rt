@@ -1,5 +1,6 @@
 //! The pool.
 ghost use Rattle.std.specs.Prelude.{◌≡◌, ℕ, ◌+◌, ◌≤◌, ◌<◌, ◌↔◌, [], Some, None, IfOk, IfSome, OnOk, OnErr, IfNone, IsErr, IsSome};
+ghost use Rattle.mls_tilepool.specs.Chains.{OthersKeep};
 ghost use Rattle.mls_tilepool.specs.Pools.{Changes, IsOwner, ListsTiles, Reserves, count_of, room_of, tile_at, tiles_of, unreserved};
 
 use crate::chain::{Place, Row, link_next, link_previous};
@@ -110,7 +111,8 @@ impl Pool {
         ensures taken { OnOk result (unreserved self.new + tiles ≡ unreserved self.old) }
         ensures refused { OnErr result (self.new ≡ self.old) }
     {
-        if self.capacity - self.reserved < tiles {
+        let left = self.capacity - self.reserved;
+        if left < tiles {
             return Err(PoolFull);
         }
         let number = self.rows.insert_reserved(Row {
@@ -129,11 +131,20 @@ impl Pool {
         ensures given_back { IfSome (room_of self.old owner)
             (λ room. unreserved self.new ≡ unreserved self.old + room) }
     {
-        while let Some(id) = self.first(&owner) {
-            self.remove(&owner, id);
-        }
+        self.clear(&owner);
         let row = self.rows.remove(owner.number);
         self.reserved -= row.room;
+    }
+
+    /// Removes all tiles of an owner.
+    fn clear(&mut self, owner: &Owner)
+        requires { IsOwner self.old owner.now }
+        ensures empty { tiles_of self.new owner.now ≡ [] }
+        ensures kept { OthersKeep self.old self.new owner.now }
+    {
+        while let Some(id) = self.first(owner) {
+            self.remove(owner, id);
+        }
     }
 
     /// Adds a tile of an owner, and returns its name.

@@ -2,7 +2,8 @@ use Rattle.std.proofs.Common.{◌≡◌, true, ap, ◌∙◌}
 use Rattle.mls_geom.specs.Rects.{holds}
 use Rattle.mls_geom.specs.Pictures.{empty_picture, painted}
 use Rattle.mls_checker.specs.Copies.{grid_picture}
-use Rattle.mls_checker.proofs.Copying.{filled-inside, overlaid-at, overlaid-meeting}
+use Rattle.mls_geom.proofs.Overlays.{overlaid-at}
+use Rattle.mls_checker.proofs.Copying.{filled-inside, overlaid-meeting}
 use Rattle.mls_checker.proofs.snapshot.copy.Goals as goal
 
 pub loop-strip-init : goal.loop-strip-init

@@ -4,6 +4,7 @@ use Rattle.mls_geom.specs.World.{world}
 use Rattle.mls_geom.specs.declared.piece.Piece.{Piece}
 use Rattle.mls_geom.proofs.CoveredCounts.{fresh_strips_number}
 use Rattle.mls_geom.proofs.ListLemmas.{All-append_right}
+use Rattle.mls_geom.proofs.StripPictures.{IsRectangleIn-IsStrip}
 use Rattle.mls_geom.proofs.TouchedStrips.{touched_strips_give_way}
 use Rattle.mls_geom.proofs.sweep.fresh_strips.Goals as goal
 
@@ -33,6 +34,9 @@ invariant_of-scratch-2 c =
       rw c.swap.ensures.x_after (omega (arith, kept.strips)),
       c.scratch.invariant.2,
     )
+
+pub returns-clause-legal : goal.returns-clause-legal
+returns-clause-legal c = rw c.swap.ensures.x_after (λ k d within. IsRectangleIn-IsStrip world _ _ (c.in_ok-find_fresh.ensures.strips.each k d within).0)
 
 pub returns-clause-replaced : goal.returns-clause-replaced
 returns-clause-replaced c = λ below kept strips untouched.

@@ -1,7 +1,6 @@
 -- The next right neighbour is listed where it is a child, for which there is room.
-use Rattle.std.proofs.Common.{◌∙◌, arith}
+use Rattle.std.proofs.Common.{arith}
 use Rattle.mls_tilepool.specs.Pools.{tiles_of}
-use Rattle.mls_stitch.specs.Areas.{IsFound}
 use Rattle.mls_stitch.specs.Tilings.{block_at}
 use Rattle.mls_stitch.proofs.Listings.{child_false, child_fits, child_true, listed_push, listed_skip}
 use Rattle.mls_stitch.proofs.enumeration.push_child.Goals as goal
@@ -16,7 +15,7 @@ push_reserved-requires c =
     omega (arith, fits, c.requires.room, c.args.list.now.ok.0)
 
 pub returns-then-is_child-clause-listed : goal.returns-then-is_child-clause-listed
-returns-then-is_child-clause-listed c = 
+returns-then-is_child-clause-listed c =
     let blocks = block_at (tiles_of c.args.pool.now c.args.owner.now) in
     let child = child_true c.args.area c.args.parent.now c.args.tile.now c.is_child.result c.is_child.ensures c.if-is_child.true in
     rw c.push_reserved.ensures.items

@@ -1,9 +1,8 @@
 -- The right neighbours of the parent are passed from the top down.
-use Rattle.std.proofs.Common.{◌≡◌, ◌<◌, ◌≤◌, length, get_or, refl, sym, ap, ◌∙◌, arith}
+use Rattle.std.proofs.Common.{◌≡◌, ◌<◌, length, refl, sym, ap, ◌∙◌, arith}
 use Rattle.std.proofs.lemmas.List.{get_or_read}
 use Rattle.mls_geom.specs.Rects.{Rect}
 use Rattle.mls_tilepool.specs.Pools.{tiles_of}
-use Rattle.mls_stitch.specs.Enumerations.{first_row}
 use Rattle.mls_stitch.specs.Tilings.{block_at}
 use Rattle.mls_stitch.specs.declared.laid_tile.LaidTile.{LaidTile}
 use Rattle.mls_stitch.proofs.Listings.{beside_first, beside_next, listed_at_end, listed_past}
@@ -30,8 +29,8 @@ neighbours-init c =
     let right' : c.sides-2.inside.right ≡ parent.piece.rect.right = ap (λ (e : Rect). e.right) (c.sides-2.view_is ∙ c.sides.ensures.value) in
     record {
       beside =
-        beside_first (block_at (tiles_of c.args.pool.now c.args.owner.now)) c.args.area list c.args.index parent c.neighbour-tile.result c.requires.plane.plane.tiling c.requires.legal
-        c.requires.listed within here (omega (arith, right, right', c.if-area-sides.false)) c.neighbour-tile.ensures;
+          beside_first (block_at (tiles_of c.args.pool.now c.args.owner.now)) c.args.area list c.args.index parent c.neighbour-tile.result c.requires.plane.plane.tiling c.requires.legal
+          c.requires.listed within here (omega (arith, right, right', c.if-area-sides.false)) c.neighbour-tile.ensures;
       longer = omega arith;
       room = refl;
     }
@@ -55,9 +54,9 @@ neighbours-preserved c =
     let within : c.args.index < length list.items = omega (arith, was.within, c.push_child.ensures.longer, c.neighbours.list.ok.0, list.ok.0) in
     record {
       beside =
-        beside_next (block_at (tiles_of c.args.pool.now c.args.owner.now)) c.args.area list.items c.args.index parent c.neighbours.tile c.neighbour-tile-in-neighbours.result
-        c.requires.plane.plane.tiling c.requires.legal c.neighbours.list.items was within c.push_child.ensures.kept c.push_child.ensures.listed
-        (omega (arith, bottom, c.first_row-last_row.ensures, c.if-sides-last_row.false)) c.neighbour-tile-in-neighbours.ensures;
+          beside_next (block_at (tiles_of c.args.pool.now c.args.owner.now)) c.args.area list.items c.args.index parent c.neighbours.tile c.neighbour-tile-in-neighbours.result
+          c.requires.plane.plane.tiling c.requires.legal c.neighbours.list.items was within c.push_child.ensures.kept c.push_child.ensures.listed
+          (omega (arith, bottom, c.first_row-last_row.ensures, c.if-sides-last_row.false)) c.neighbour-tile-in-neighbours.ensures;
       longer = omega (arith, c.neighbours.invariant.longer, c.push_child.ensures.longer);
       room = c.push_child.ensures.room ∙ c.neighbours.invariant.room;
     }

@@ -1,7 +1,7 @@
 -- The tile is the next right neighbour of the parent.
 use Rattle.std.proofs.Common.{◌≡◌, ◌≤◌, vec_len, vec_capacity}
 use Rattle.mls_tilepool.specs.Pools.{tiles_of}
-use Rattle.mls_stitch.specs.Enumerations.{IsBeside, first_row}
+use Rattle.mls_stitch.specs.Enumerations.{IsBeside}
 use Rattle.mls_stitch.specs.Tilings.{block_at}
 use Rattle.mls_stitch.proofs.enumeration.push_children.Given as goal
 

@@ -3,7 +3,8 @@ use Rattle.std.proofs.Common.{◌≡◌, ◌+◌, ◌<◌, length, take, ap, sym
 use Rattle.std.proofs.lemmas.List.{length_push, take_all}
 use Rattle.std.proofs.lemmas.Slice.Zip.{zip_end, zip_turn}
 use Rattle.mls_stitch.specs.Placing.{Lays}
-use Rattle.mls_stitch.proofs.Laying.{ChangesOnly-one, ChangesOnly-refl, ChangesOnly-trans, GiveWay-next, GiveWay-set, Lays-next, Lays-refl}
+use Rattle.mls_stitch.proofs.Laying.{GiveWay-next, GiveWay-set, Lays-next, Lays-refl}
+use Rattle.mls_stitch.proofs.PoolChanges.{ChangesOnly-one, ChangesOnly-refl, ChangesOnly-trans}
 use Rattle.mls_stitch.proofs.place.place_again.Goals as goal
 
 pub loop-id-init : goal.loop-id-init

@@ -3,7 +3,8 @@ use Rattle.std.proofs.Common.{◌≡◌, length, take, ap, sym, refl, subst, ◌
 use Rattle.std.proofs.lemmas.List.{length-take-le, take_all}
 use Rattle.mls_tilepool.specs.Pools.{Changes, count_of, tiles_of}
 use Rattle.mls_stitch.specs.Placing.{Lays}
-use Rattle.mls_stitch.proofs.Laying.{ChangesOnly-one, ChangesOnly-refl, ChangesOnly-trans, GiveWay-add, IsOwner-ChangesOnly, Lays-count, Lays-more, Lays-refl, not_full}
+use Rattle.mls_stitch.proofs.Laying.{GiveWay-add, IsOwner-ChangesOnly, Lays-count, Lays-more, Lays-refl, not_full}
+use Rattle.mls_stitch.proofs.PoolChanges.{ChangesOnly-one, ChangesOnly-refl, ChangesOnly-trans}
 use Rattle.mls_stitch.proofs.place.place_all.Goals as goal
 
 pub add-requires : goal.add-requires

@@ -2,7 +2,8 @@
 use Rattle.std.proofs.Common.{◌≡◌, [], take, ap, sym, refl, arith}
 use Rattle.std.proofs.lemmas.List.{take_all}
 use Rattle.mls_tilepool.specs.Pools.{tiles_of}
-use Rattle.mls_stitch.proofs.Laying.{ChangesOnly-one, ChangesOnly-refl, ChangesOnly-trans, GiveWay-more, GiveWay-next, GiveWay-refl, GiveWay-remove}
+use Rattle.mls_stitch.proofs.Laying.{GiveWay-more, GiveWay-next, GiveWay-refl, GiveWay-remove}
+use Rattle.mls_stitch.proofs.PoolChanges.{ChangesOnly-one, ChangesOnly-refl, ChangesOnly-trans}
 use Rattle.mls_stitch.proofs.place.remove_all.Goals as goal
 
 pub remove-removed-requires : goal.remove-removed-requires

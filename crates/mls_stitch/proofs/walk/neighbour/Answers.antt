@@ -1,5 +1,5 @@
 -- A plane's stitch leads to the tile that has its square.
-use Rattle.std.proofs.Common.{Some, refl, sym, ap, ◌∙◌, subst}
+use Rattle.std.proofs.Common.{refl, sym, ap, ◌∙◌, subst}
 use Rattle.std.proofs.lemmas.Option.{same_Some}
 use Rattle.std.specs.Option.{IsSome}
 use Rattle.mls_tilepool.specs.Pools.{tiles_of}

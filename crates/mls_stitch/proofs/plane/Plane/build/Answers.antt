@@ -3,7 +3,8 @@ use Rattle.std.proofs.Common.{[], length, ap, sym, ◌∙◌, arith, rules}
 use Rattle.mls_tilepool.specs.Pools.{tiles_of}
 use Rattle.mls_stitch.specs.Fresh.{fresh_at}
 use Rattle.mls_stitch.proofs.BuiltPlanes.{AwaitStitches-built, IsMaximal-strips_laid, shown-strips_laid, some_strip}
-use Rattle.mls_stitch.proofs.Laying.{ChangesOnly-trans, IsOwner-ChangesOnly, Lays-long}
+use Rattle.mls_stitch.proofs.Laying.{IsOwner-ChangesOnly, Lays-long}
+use Rattle.mls_stitch.proofs.PoolChanges.{ChangesOnly-trans}
 use Rattle.mls_stitch.proofs.ShownTiles.{KeysDiffer-tiles_of}
 use Rattle.mls_stitch.proofs.Sides.{IsPlane-AreTiledAs}
 use Rattle.mls_stitch.proofs.plane.Plane.build.Goals as goal

@@ -1,6 +1,6 @@
 use Rattle.mls_tilepool.specs.Pools.{count_of}
-use Rattle.mls_tilepool.proofs.OwnerCalls.{OthersKeep}
-use Rattle.mls_tilepool.proofs.pool.Pool.release.Given as goal
+use Rattle.mls_tilepool.specs.Chains.{OthersKeep}
+use Rattle.mls_tilepool.proofs.pool.Pool.clear.Given as goal
 
 abbrev pub invariant-loop-id : goal.invariant-loop-id
 invariant-loop-id l = OthersKeep l.initial.self l.self l.owner

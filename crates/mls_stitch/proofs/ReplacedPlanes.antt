@@ -1,0 +1,99 @@
+-- Fresh tiles laid in place of touched ones, and stitched with those around them.
+use Rattle.std.proofs.Common.{◌≡◌, ◌≢◌, ℕ, ◌+◌, ◌<◌, ◌≤◌, ◌++◌, true, false, List, length, map, get_or, Option, Some, None, IsSome, IfSome, All, AllPairs, Contains, inl, inr, refl, sym, ap, ◌∙◌, subst, arith}
+use Rattle.std.specs.Option.{IsSomeAnd, option_map}
+use Rattle.std.proofs.lemmas.Bool.{cases_lt}
+use Rattle.std.proofs.lemmas.List.{length-map}
+use Rattle.std.proofs.lemmas.Option.{none-some, same_Some}
+use Rattle.mls_geom.specs.declared.piece.Piece.{Piece}
+use Rattle.mls_geom.proofs.Ascending.{Contains-map}
+use Rattle.mls_tilepool.specs.Pools.{tile_in}
+use Rattle.mls_tilepool.specs.declared.tile.Tile.{Tile}
+use Rattle.mls_tilepool.proofs.TileLists.{tile_in_contains}
+use Rattle.mls_stitch.specs.Fresh.{MayReplace, replaced}
+use Rattle.mls_stitch.specs.Pending.{AwaitStitches}
+use Rattle.mls_stitch.specs.Placing.{Lays, Surround}
+use Rattle.mls_stitch.specs.Replacements.{Replaces, TakePlace}
+use Rattle.mls_stitch.specs.Tilings.{AreTiledAs, IsPlane, block_at, block_of}
+use Rattle.mls_stitch.specs.Walks.{laid_at}
+use Rattle.mls_stitch.specs.declared.laid_tile.LaidTile.{LaidTile}
+use Rattle.mls_stitch.proofs.DistinctNumbers.{length-le-AllPairs}
+use Rattle.mls_stitch.proofs.Laying.{Lays-count}
+use Rattle.mls_stitch.proofs.ReplacedStitches.{AwaitStitches-replaced, MayReplace-GiveWay}
+use Rattle.mls_stitch.proofs.ReplacedTiles.{Replaces-replaced}
+use Rattle.mls_stitch.proofs.ShownTiles.{KeysDiffer}
+
+-- nothing is not something
+no_value : false ≡ true → ⊥
+no_value e = cc
+
+-- where there is a block there is a tile
+there-block : (tiles : List (ℕ × Tile)) (slot : Option Tile) → IsSome (option_map (block_of tiles) slot) → (tile : Tile) × (slot ≡ Some tile)
+there-block tiles None there = absurd (no_value there)
+there-block tiles (Some tile) there = (tile, refl)
+
+abbrev named : ℕ → Piece → LaidTile
+named key piece = record { id = key; piece = piece }
+
+there-laid : (key : ℕ) (block : Option Piece) → IsSome block → IsSome (option_map (named key) block)
+there-laid key None there = absurd (no_value there)
+there-laid key (Some p) there = refl
+
+there-tile : (tiles : List (ℕ × Tile)) (slot : Option Tile) → IsSome slot → IsSome (option_map (block_of tiles) slot)
+there-tile tiles None there = absurd (no_value there)
+there-tile tiles (Some tile) there = refl
+
+-- and a tile is there to be read
+pub laid_there : (tiles : List (ℕ × Tile)) (key : ℕ) → IsSome (tile_in tiles key) → IsSome (laid_at tiles key)
+laid_there tiles key there = there-laid key (block_at tiles key) (there-tile tiles (tile_in tiles key) there)
+
+read_of : (key : ℕ) (block : Option Piece) (tile : LaidTile) → option_map (named key) block ≡ Some tile → (tile.id ≡ key) × (block ≡ Some tile.piece)
+read_of key None tile is = absurd (none-some tile is)
+read_of key (Some p) tile is =
+    let same : named key p ≡ tile = same_Some (named key p) tile is in
+    (sym (ap (λ (t : LaidTile). t.id) same), ap (λ (t : LaidTile). Some t.piece) same)
+
+pub laid_as : (tiles : List (ℕ × Tile)) (key : ℕ) (tile : LaidTile) → laid_at tiles key ≡ Some tile → (tile.id ≡ key) × (block_at tiles key ≡ Some tile.piece)
+laid_as tiles key tile is = read_of key (block_at tiles key) tile is
+
+-- each of these keys has a tile
+pub tiles_there : (tiles : List (ℕ × Tile)) (keys : List ℕ) → All (λ key. IsSome (block_at tiles key)) keys → All (λ key. IsSome (tile_in tiles key)) keys
+tiles_there tiles keys there k d within = let (tile, is) = there-block tiles (tile_in tiles (get_or keys k d)) (there k d within) in rw is refl
+
+-- so there are at most as many as tiles
+pub touched_few : (tiles : List (ℕ × Tile)) (keys : List ℕ) → All (λ key. IsSome (block_at tiles key)) keys → AllPairs (λ a b. a ≢ b) keys → length keys ≤ length tiles
+touched_few tiles keys there once =
+    let firsts = map (λ (entry : ℕ × Tile). entry.0) tiles in
+    let found : All (Contains firsts) keys = λ k d within.
+        let (tile, is) = there-block tiles (tile_in tiles (get_or keys k d)) (there k d within) in
+        Contains-map (λ (entry : ℕ × Tile). entry.0) tiles (get_or keys k d, tile) (tile_in_contains tiles (get_or keys k d) tile is) in
+    omega (arith, length-le-AllPairs keys firsts once found, length-map tiles (λ (entry : ℕ × Tile). entry.0))
+
+module _
+    (old mid : List (ℕ × Tile)) (touched : List ℕ) (fresh : List Piece) (around after : List LaidTile) (plane : IsPlane old) (takes : TakePlace (block_at old) touched fresh)
+    (lays : Lays old mid touched fresh around after)
+    where
+  may : MayReplace (block_at old) touched lays.laid
+  may = MayReplace-GiveWay old mid (block_at old) touched lays.laid plane.placed (subst (TakePlace (block_at old) touched) (sym lays.pieces) takes) lays.ways
+
+  -- the fresh tiles and those around them wait for their stitches
+  pub AwaitStitches-instead : Surround (block_at old) touched around → AwaitStitches mid (replaced (block_at old) touched lays.laid) after
+  AwaitStitches-instead round =
+      subst (AwaitStitches mid (replaced (block_at old) touched lays.laid)) (sym lays.listed) (AwaitStitches-replaced old mid (block_at old) touched lays.laid around plane may lays.ways round)
+
+  -- and once they are stitched, the touched tiles are replaced
+  pub Replaces-instead :
+      (new : List (ℕ × Tile)) → AreTiledAs new (replaced (block_at old) touched lays.laid) → KeysDiffer old → KeysDiffer new → length new ≡ length mid → Replaces old new touched fresh
+  Replaces-instead new tiled differ differ_after same =
+      Replaces-replaced old new touched lays.laid plane may tiled differ differ_after fresh lays.pieces lays.again (omega (arith, same, Lays-count lays))
+
+-- room that isn't enough, and room that is
+pub has_no_room : (room : Option ℕ) (wanted free : ℕ) → IsSome room → ¬ (IfSome room (λ n. wanted ≤ n + free)) → IsSomeAnd room (λ n. n + free < wanted)
+has_no_room None wanted free there few = absurd (no_value there)
+has_no_room (Some n) wanted free there few = elim (cases_lt (n + free) wanted) [
+  | inl less ↦ less
+  | inr enough ↦ absurd (few enough)
+]
+
+pub has_enough : (room : Option ℕ) (wanted free : ℕ) → IfSome room (λ n. wanted ≤ n + free) → ¬ (IsSomeAnd room (λ n. n + free < wanted))
+has_enough None wanted free enough less = less
+has_enough (Some n) wanted free enough less = omega (arith, enough, less)

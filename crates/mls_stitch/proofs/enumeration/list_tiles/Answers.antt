@@ -1,0 +1,12 @@
+-- Each listed tile's children are listed.
+use Rattle.std.proofs.Common.{◌≡◌, subst, arith, vec_len}
+use Rattle.mls_geom.specs.World.{world}
+use Rattle.mls_tilepool.specs.Pools.{tiles_of}
+use Rattle.mls_stitch.specs.Enumerations.{IsListedTo}
+use Rattle.mls_stitch.specs.Tilings.{block_at}
+use Rattle.mls_stitch.proofs.enumeration.list_tiles.Goals as goal
+
+pub returns-clause-listed : goal.returns-clause-listed
+returns-clause-listed c =
+    let all : c.tiles.index ≡ vec_len c.tiles.list = omega (arith, c.tiles-test.false, c.tiles.invariant.within, c.len.ensures) in
+    subst (λ index. IsListedTo (block_at (tiles_of c.args.pool.now c.args.owner.now)) c.args.area c.tiles.list.items index world.top) all c.tiles.invariant.listed
