@@ -14,6 +14,7 @@ pub mod Listings
 pub mod MaximalTiles
 pub mod Neighbours
 pub mod OtherPlanes
+pub mod PaintedTiles
 pub mod PoolChanges
 pub mod ReplacedBlocks
 pub mod ReplacedPlanes

@@ -1,0 +1,238 @@
+-- Painting keeps a plane maximal: where all tiles that painted pieces touch give way to the strips of what they and the pieces cover, every tile is a
+-- strip of the painted picture.
+use Rattle.std.proofs.Common.{◌≡◌, ◌≢◌,  ℕ, zero, suc, true, false, not, Bool, ◌||◌, List, [], ◌∷◌, map, filter, ◌++◌, get_or, All, AllPairs, Contains, Some, inl, inr, ap, subst, ◌∙◌, sym, suc-le-suc, le_of_suc-le-suc, arith}
+use Rattle.std.specs.List.{AllZip, list_any}
+use Rattle.std.specs.Option.{option_map}
+use Rattle.std.proofs.lemmas.Bool.{both_ways, cases_Bool, false_from_ne_true, not-true, not_from_false}
+use Rattle.std.proofs.lemmas.List.Elements.{All-append, All-contains, All-contains_itself, All-filter, All-map, filter_passes}
+use Rattle.std.proofs.lemmas.List.Folds.{Any-from_list_any, list_any_at}
+use Rattle.std.proofs.lemmas.List.Kept.{AllPairs-filter}
+use Rattle.std.proofs.lemmas.Option.{same_Some}
+use Rattle.mls_geom.specs.Locality.{AreCoveredStrips, AreUnorderedStrips, AreUntouched, is_touched, laid, touches}
+use Rattle.mls_geom.specs.Pictures.{overlaid}
+use Rattle.mls_geom.specs.Rects.{IsRectangleIn, common, grown, holds}
+use Rattle.mls_geom.specs.Strips.{IsStrip}
+use Rattle.mls_geom.specs.World.{AreLegal, world}
+use Rattle.mls_geom.specs.declared.piece.Piece.{Piece}
+use Rattle.mls_geom.proofs.Ascending.{AllPairs-append, AllPairs-map, Contains-filter, Contains-map}
+use Rattle.mls_geom.proofs.Holds.{holds_between, between_holds}
+use Rattle.mls_geom.proofs.JoinedLists.{Any-append_left, Any-append_right}
+use Rattle.mls_geom.proofs.KindsShown.{common_square}
+use Rattle.mls_geom.proofs.ListLemmas.{All-append_left, All-append_right}
+use Rattle.mls_geom.proofs.Overlays.{overlaid_outside}
+use Rattle.mls_geom.proofs.PiecePictures.{holds_outer}
+use Rattle.mls_geom.proofs.StripPictures.{kind-IsStrip}
+use Rattle.mls_geom.proofs.TouchedStrips.{touched_strips_give_way}
+use Rattle.mls_tilepool.specs.declared.tile.Tile.{Tile}
+use Rattle.mls_stitch.specs.Areas.{AreInArea}
+use Rattle.mls_stitch.specs.Pending.{keys_of}
+use Rattle.mls_stitch.specs.Replacements.{Replaces}
+use Rattle.mls_stitch.specs.Tilings.{IsMaximal, IsPlane, block_at, block_of, blocks_of, shown}
+use Rattle.mls_stitch.specs.declared.laid_tile.LaidTile.{LaidTile}
+use Rattle.mls_stitch.proofs.DistinctNumbers.{cases_Contains}
+use Rattle.mls_stitch.proofs.FreshStrips.{AreTouched, pieces_of}
+use Rattle.mls_stitch.proofs.FreshTiles.{Contains-from_map}
+use Rattle.mls_stitch.proofs.MaximalTiles.{IsMaximal-each, holds_corner, strip-IsMaximal}
+use Rattle.mls_stitch.proofs.ShownTiles.{KeysDiffer, key-blocks_of, Contains-blocks_of, shown-outside, shown_same}
+use Rattle.mls_stitch.proofs.Sides.{legal-AreBlocks, one_block}
+
+-- each tile that one of the pieces touches is listed
+abbrev pub AreAllTouched : List (ℕ × Tile) → List LaidTile → List Piece → Type 0
+AreAllTouched tiles touched over = (key : ℕ) (block : Piece) → block_at tiles key ≡ Some block → is_touched over block ≡ true → Contains (keys_of touched) key
+
+-- the block's lower-left square lies in a listed tile
+abbrev is_listed : List LaidTile → Piece → Bool
+is_listed touched block = list_any (λ tile. holds tile.piece.rect block.rect.left block.rect.bottom) touched
+
+-- the blocks that stay
+abbrev kept_of : List (ℕ × Tile) → List LaidTile → List Piece
+kept_of tiles touched = filter (λ block. not (is_listed touched block)) (blocks_of tiles)
+
+-- such a block is that of a listed tile
+listed_block :
+    (tiles : List (ℕ × Tile)) (touched : List LaidTile) (over : List Piece) (key : ℕ) (block : Piece) → IsPlane tiles → AreTouched (block_at tiles) touched over
+    → block_at tiles key ≡ Some block → is_listed touched block ≡ true → Contains (keys_of touched) key × Contains (pieces_of touched) block
+listed_block tiles touched over key block plane under here listed =
+    let x = block.rect.left in
+    let y = block.rect.bottom in
+    let corner = holds_corner world block.rect (legal-AreBlocks (block_at tiles) key block plane.tiling here) in
+    let (k, tile, within, is, inside) = Any-from_list_any (λ tile. holds tile.piece.rect x y) touched listed in
+    let there : block_at tiles tile.id ≡ Some tile.piece = rw is at (under.each k tile within) in
+    let held : Contains touched tile = (k, within, is) in
+    let same = one_block (block_at tiles) tile.id key tile.piece block x y plane.tiling there here inside corner in
+    let one : tile.id ≡ key = plane.tiling.apart tile.id key (record { x = x; y = y }) (rw there inside) (rw here corner) in
+    (subst (Contains (keys_of touched)) one (Contains-map (λ t. t.id) touched tile held),
+    subst (Contains (pieces_of touched)) same (Contains-map (λ t. t.piece) touched tile held))
+
+-- and the block of a listed tile is one
+block_listed :
+    (tiles : List (ℕ × Tile)) (touched : List LaidTile) (over : List Piece) (key : ℕ) (block : Piece) → IsPlane tiles → AreTouched (block_at tiles) touched over
+    → block_at tiles key ≡ Some block → Contains (keys_of touched) key → is_listed touched block ≡ true
+block_listed tiles touched over key block plane under here held =
+    let (tile, listed, is_key) = Contains-from_map (λ t. t.id) touched key held in
+    let there = All-contains (λ t. block_at tiles t.id ≡ Some t.piece) touched tile under.each listed in
+    let same : tile.piece ≡ block = same_Some tile.piece block (sym there ∙ ap (block_at tiles) is_key ∙ here) in
+    let corner = holds_corner world block.rect (legal-AreBlocks (block_at tiles) key block plane.tiling here) in
+    let inside : holds tile.piece.rect block.rect.left block.rect.bottom ≡ true = subst (λ p. holds p.rect block.rect.left block.rect.bottom ≡ true) (sym same) corner in
+    let (k, within, is) = listed in
+    list_any_at (λ t. holds t.piece.rect block.rect.left block.rect.bottom) touched k tile within
+    (subst (λ t. holds t.piece.rect block.rect.left block.rect.bottom ≡ true) (sym is) inside)
+
+-- a block stays, or is that of a listed tile
+kept_or_listed :
+    (tiles : List (ℕ × Tile)) (touched : List LaidTile) (over : List Piece) (key : ℕ) (block : Piece) → IsPlane tiles → AreTouched (block_at tiles) touched over
+    → block_at tiles key ≡ Some block → ¬ (Contains (keys_of touched) key) → Contains (kept_of tiles touched) block
+kept_or_listed tiles touched over key block plane under here unlisted =
+    Contains-filter (λ b. not (is_listed touched b)) (blocks_of tiles) block (Contains-blocks_of tiles key block here)
+    (not_from_false _ (false_from_ne_true _ (λ listed. unlisted (listed_block tiles touched over key block plane under here listed).0)))
+
+-- the blocks that stay and those of the listed tiles are all strips
+strips_parted :
+    (tiles : List (ℕ × Tile)) (touched : List LaidTile) (over : List Piece) → IsPlane tiles → KeysDiffer tiles → IsMaximal tiles → AreTouched (block_at tiles) touched over
+    → AreUnorderedStrips world (shown tiles) (kept_of tiles touched ++ pieces_of touched)
+strips_parted tiles touched over plane differ maximal under =
+    let stays = λ (block : Piece). not (is_listed touched block) in
+    let kept = kept_of tiles touched in
+    record {
+      each = All-append (IsStrip world (shown tiles)) kept (pieces_of touched) (All-filter stays (IsStrip world (shown tiles)) (blocks_of tiles) maximal.each)
+          (All-map (IsStrip world (shown tiles)) (λ t. t.piece) touched
+          (λ k d within. strip-IsMaximal tiles (get_or touched k d).id (get_or touched k d).piece maximal (under.each k d within)));
+      whole = λ x y inside.
+          let (k, block, within, is, here) = maximal.whole x y inside in
+          elim (cases_Bool (is_listed touched block)) [
+            | inl listed ↦
+                let (key, there) = key-blocks_of tiles block differ (k, within, is) in
+                let (j, within', is') = (listed_block tiles touched over key block plane under there listed).1 in
+                Any-append_right (λ p. holds p.rect x y ≡ true) kept (pieces_of touched) (j, block, within', is', here)
+            | inr unlisted ↦
+                let (j, within', is') = Contains-filter stays (blocks_of tiles) block (k, within, is) (not_from_false _ unlisted) in
+                Any-append_left (λ p. holds p.rect x y ≡ true) kept (pieces_of touched) (j, block, within', is', here)
+          ];
+      once = AllPairs-append (λ p q. p ≢ q) kept (pieces_of touched) (AllPairs-filter (λ p q. p ≢ q) stays (blocks_of tiles) maximal.once)
+          (AllPairs-map (λ p q. p ≢ q) (λ t. t.piece) touched (λ i j d before within same.
+          let p = get_or touched i d in
+          let q = get_or touched j d in
+          let is_p = under.each i d (omega arith) in
+          let is_q = under.each j d within in
+          let corner = holds_corner world p.piece.rect (legal-AreBlocks (block_at tiles) p.id p.piece plane.tiling is_p) in
+          let corner' : holds q.piece.rect p.piece.rect.left p.piece.rect.bottom ≡ true = subst (λ r. holds r.rect p.piece.rect.left p.piece.rect.bottom ≡ true) same corner in
+          under.once i j d before within
+          (plane.tiling.apart p.id q.id (record { x = p.piece.rect.left; y = p.piece.rect.bottom }) (rw is_p corner) (rw is_q corner'))))
+          (λ k d within. All-map (λ q. get_or kept k d ≢ q) (λ t. t.piece) touched (λ j c within' same.
+          let t = get_or touched j c in
+          let b = get_or kept k d in
+          let corner = holds_corner world t.piece.rect (legal-AreBlocks (block_at tiles) t.id t.piece plane.tiling (under.each j c within')) in
+          let inside : holds t.piece.rect b.rect.left b.rect.bottom ≡ true = subst (λ r. holds t.piece.rect r.rect.left r.rect.bottom ≡ true) (sym same) corner in
+          both_ways _ (not-true _ (filter_passes stays (blocks_of tiles) k d within))
+          (list_any_at (λ t. holds t.piece.rect b.rect.left b.rect.bottom) touched j c within' inside)));
+    }
+
+-- no piece touches a block that stays
+kept_untouched :
+    (tiles : List (ℕ × Tile)) (touched : List LaidTile) (over : List Piece) → IsPlane tiles → KeysDiffer tiles → AreTouched (block_at tiles) touched over
+    → AreAllTouched tiles touched over → AreUntouched over (kept_of tiles touched)
+kept_untouched tiles touched over plane differ under all k d within =
+    let stays = λ (block : Piece). not (is_listed touched block) in
+    let block = get_or (kept_of tiles touched) k d in
+    let listed = All-filter stays (Contains (blocks_of tiles)) (blocks_of tiles) (All-contains_itself (blocks_of tiles)) k d within in
+    let (key, here) = key-blocks_of tiles block differ listed in
+    false_from_ne_true _ (λ near.
+    both_ways _ (not-true _ (filter_passes stays (blocks_of tiles) k d within)) (block_listed tiles touched over key block plane under here (all key block here near)))
+
+-- the block under the key of a fresh piece is that piece
+in_fresh :
+    (new : List (ℕ × Tile)) (keys : List ℕ) (fresh : List Piece) (key : ℕ) (block : Piece) → AllZip (λ key piece. block_at new key ≡ Some piece) keys fresh
+    → block_at new key ≡ Some block → Contains keys key → Contains fresh block
+in_fresh new [] fresh key block zip here (k, within, is) = absurd (omega arith)
+in_fresh new (first ∷ keys) [] key block zip here held = absurd zip
+in_fresh new (first ∷ keys) (piece ∷ fresh) key block zip here (zero, within, is) =
+    (0, omega arith, same_Some piece block (sym zip.0 ∙ ap (block_at new) is ∙ here))
+in_fresh new (first ∷ keys) (piece ∷ fresh) key block zip here (suc k, within, is) =
+    let (j, within', is') = in_fresh new keys fresh key block zip.1 here (k, le_of_suc-le-suc within, is) in
+    (suc j, suc-le-suc within', is')
+
+-- what a replacement of all touched tiles by the strips of what they and the pieces cover is made of
+pub record IsPainted (old new : List (ℕ × Tile)) (touched : List LaidTile) (over fresh : List Piece) : Type 0 where
+  pub plane : IsPlane old
+  pub maximal : IsMaximal old
+  pub under : AreTouched (block_at old) touched over
+  pub all : AreAllTouched old touched over
+  pub legal : AreLegal over
+  pub covered : AreCoveredStrips world (laid (pieces_of touched ++ over)) fresh
+  pub replaced : Replaces old new (keys_of touched) fresh
+
+-- the blocks that stay and the fresh ones are the strips of the painted picture
+painted_strips :
+    (old new : List (ℕ × Tile)) (touched : List LaidTile) (over fresh : List Piece) → KeysDiffer old → IsPainted old new touched over fresh
+    → AreUnorderedStrips world (overlaid (shown old) over) (kept_of old touched ++ fresh)
+painted_strips old new touched over fresh differ painted =
+    touched_strips_give_way world (shown old) over (kept_of old touched) (pieces_of touched) fresh
+    (strips_parted old touched over painted.plane differ painted.maximal painted.under) painted.under.kinds painted.legal
+    (kept_untouched old touched over painted.plane differ painted.under painted.all) painted.covered
+
+-- so each tile is one of them
+painted_strip :
+    (old new : List (ℕ × Tile)) (touched : List LaidTile) (over fresh : List Piece) (key : ℕ) (block : Piece) → KeysDiffer old → IsPainted old new touched over fresh
+    → block_at new key ≡ Some block → IsStrip world (overlaid (shown old) over) block
+painted_strip old new touched over fresh key block differ painted here =
+    let picture = overlaid (shown old) over in
+    let strips = painted_strips old new touched over fresh differ painted in
+    let replaced = painted.replaced in
+    elim (cases_Contains replaced.keys key) [
+      | inl held ↦
+          All-contains (IsStrip world picture) fresh block (All-append_right (IsStrip world picture) (kept_of old touched) fresh strips.each)
+          (in_fresh new replaced.keys fresh key block replaced.laid here held)
+      | inr unused ↦
+          elim (cases_Contains (keys_of touched) key) [
+            | inl gone ↦
+                let none = ap (option_map (block_of new)) (replaced.gone key gone unused) in
+                absurd (cc)
+            | inr unlisted ↦
+                let there = sym (replaced.blocks key unlisted unused) ∙ here in
+                All-contains (IsStrip world picture) (kept_of old touched) block (All-append_left (IsStrip world picture) (kept_of old touched) fresh strips.each)
+                (kept_or_listed old touched over key block painted.plane painted.under there unlisted)
+          ]
+    ]
+
+-- and the tiles show the painted picture
+pub shown-painted :
+    (old new : List (ℕ × Tile)) (touched : List LaidTile) (over fresh : List Piece) → KeysDiffer old → KeysDiffer new → IsPainted old new touched over fresh
+    → shown new ≡ overlaid (shown old) over
+shown-painted old new touched over fresh differ differ' painted =
+    let picture = overlaid (shown old) over in
+    shown_same new picture painted.replaced.plane differ'
+    (λ key block x y here inside. sym (kind-IsStrip world picture block x y (painted_strip old new touched over fresh key block differ painted here) inside))
+    (λ x y outside.
+    overlaid_outside (shown old) over x y
+    (λ k d within. false_from_ne_true _ (λ inside. both_ways (holds world x y) outside (holds_outer world (get_or over k d).rect x y (painted.legal k d within) inside)))
+    ∙ shown-outside old x y painted.plane differ outside)
+
+-- so the plane is maximal again
+pub IsMaximal-painted :
+    (old new : List (ℕ × Tile)) (touched : List LaidTile) (over fresh : List Piece) → KeysDiffer old → KeysDiffer new → IsPainted old new touched over fresh → IsMaximal new
+IsMaximal-painted old new touched over fresh differ differ' painted =
+    IsMaximal-each new painted.replaced.plane differ'
+    (λ key block here.
+    subst (λ picture. IsStrip world picture block) (sym (shown-painted old new touched over fresh differ differ' painted))
+    (painted_strip old new touched over fresh key block differ painted here))
+
+-- the tiles of the area round a piece are all that it touches
+pub AreAllTouched-area :
+    (tiles : List (ℕ × Tile)) (piece : Piece) (found : List LaidTile) → IsPlane tiles → AreInArea (block_at tiles) (common (grown 1 piece.rect) world) found
+    → AreAllTouched tiles found (piece ∷ [])
+AreAllTouched-area tiles piece found plane in_area key block here near =
+    let area = common (grown 1 piece.rect) world in
+    let met : touches piece.rect block.rect ≡ true = elim (cases_Bool (touches piece.rect block.rect)) [
+      | inl near' ↦ near'
+      | inr apart ↦ absurd (both_ways (is_touched (piece ∷ []) block) (ap (λ b. b || false) apart) near)
+    ] in
+    let (x, y, in_grown, in_block) = common_square (grown 1 piece.rect) block.rect met in
+    let in_world = holds_outer world block.rect x y (legal-AreBlocks (block_at tiles) key block plane.tiling here) in_block in
+    let lines = holds_between (grown 1 piece.rect) x y in_grown in
+    let bounds = holds_between world x y in_world in
+    let in_common : holds area x y ≡ true =
+    between_holds area x y (omega (arith, lines.0, bounds.0)) (omega (arith, lines.1, bounds.1)) (omega (arith, lines.2, bounds.2)) (omega (arith, lines.3, bounds.3)) in
+    let (k, tile, within, is, inside) = in_area.whole x y in_common in
+    let there : block_at tiles tile.id ≡ Some tile.piece = rw is at (in_area.each k tile within).laid in
+    let one : tile.id ≡ key = plane.tiling.apart tile.id key (record { x = x; y = y }) (rw there inside) (rw here in_block) in
+    subst (Contains (keys_of found)) one (Contains-map (λ t. t.id) found tile (k, within, is))
