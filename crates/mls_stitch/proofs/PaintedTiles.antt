@@ -1,6 +1,6 @@
 -- Painting keeps a plane maximal: where all tiles that painted pieces touch give way to the strips of what they and the pieces cover, every tile is a
 -- strip of the painted picture.
-use Rattle.std.proofs.Common.{◌≡◌, ◌≢◌,  ℕ, zero, suc, true, false, not, Bool, ◌||◌, List, [], ◌∷◌, map, filter, ◌++◌, get_or, All, AllPairs, Contains, Some, inl, inr, ap, subst, ◌∙◌, sym, suc-le-suc, le_of_suc-le-suc, arith}
+use Rattle.std.proofs.Common.{◌≡◌, ◌≢◌, ℕ, zero, suc, true, false, not, Bool, ◌||◌, List, [], ◌∷◌, map, filter, ◌++◌, get_or, All, AllPairs, Contains, Some, inl, inr, ap, subst, ◌∙◌, sym, suc-le-suc, le_of_suc-le-suc, arith}
 use Rattle.std.specs.List.{AllZip, list_any}
 use Rattle.std.specs.Option.{option_map}
 use Rattle.std.proofs.lemmas.Bool.{both_ways, cases_Bool, false_from_ne_true, not-true, not_from_false}
@@ -60,9 +60,10 @@ listed_block tiles touched over key block plane under here listed =
     let there : block_at tiles tile.id ≡ Some tile.piece = rw is at (under.each k tile within) in
     let held : Contains touched tile = (k, within, is) in
     let same = one_block (block_at tiles) tile.id key tile.piece block x y plane.tiling there here inside corner in
-    let one : tile.id ≡ key = plane.tiling.apart tile.id key (record { x = x; y = y }) (rw there inside) (rw here corner) in
-    (subst (Contains (keys_of touched)) one (Contains-map (λ t. t.id) touched tile held),
-    subst (Contains (pieces_of touched)) same (Contains-map (λ t. t.piece) touched tile held))
+    let one : tile.id ≡ key = plane.tiling.apart tile.id key (record { x = x; y = y }) (rw there inside) (rw here corner) in (
+      subst (Contains (keys_of touched)) one (Contains-map (λ t. t.id) touched tile held),
+      subst (Contains (pieces_of touched)) same (Contains-map (λ t. t.piece) touched tile held),
+    )
 
 -- and the block of a listed tile is one
 block_listed :
