@@ -79,6 +79,6 @@ for k in 7 12 22 34; do
     grid_us=$(micros grid "$k" 3333)
     row grid "$((k * k))" "$((2 * k * k + 2 * k + 1))" "$grid_us"
 done
-comb_us=$(micros comb 400 50)
+comb_us=$(micros comb 400 3000)
 row comb 400 2401 "$comb_us"
 awk -v grid="$grid_us" -v comb="$comb_us" 'BEGIN { printf "grid/comb\t%.4f\n", grid / comb }'
