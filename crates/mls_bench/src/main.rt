@@ -1,6 +1,6 @@
 //! `mls_bench`: times the calls on planes of stitched tiles.
 //!
-//! Takes each step once and prints how many tiles it lays or finds. With the argument `time` takes each step again and
+//! Takes each step once and prints how many tiles it finds or adds. With the argument `time` takes each step again and
 //! again, and prints how many nanoseconds one takes, the least of three times.
 #![tactic(auto)]
 
@@ -29,13 +29,13 @@ fn main(rt: HostRuntime) -> Result<()> {
     Ok(())
 }
 
-/// Prints a row for each step on a grid of k by k squares: how many tiles it lays or finds.
+/// Prints a row for each step on a grid of k by k squares: how many tiles it finds or adds.
 fn print_counts(rt: &HostRuntime, k: u8) -> Result<()> {
     let mut sheet = Sheet::of_grid(rt.alloc(), rt, k)?;
     let tiles = sheet.count();
     println!(rt; "build\t{tiles}\t{tiles}")?;
     for step in STEPS {
-        let count = sheet.take(rt.alloc(), step)?;
+        let count = sheet.take(step)?;
         println!(rt; "{step}\t{tiles}\t{count}")?;
     }
     Ok(())

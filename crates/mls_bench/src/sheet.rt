@@ -1,19 +1,16 @@
 //! A plane in a pool of its own.
-ghost use Rattle.std.specs.Prelude.{◌≡◌, ◌<◌, ◌≤◌, IfOk, OnOk, map};
-ghost use Rattle.mls_geom.specs.Locality.{HaveKinds, uncovered};
-ghost use Rattle.mls_geom.specs.Rects.{IsRectangleIn};
-ghost use Rattle.mls_geom.specs.World.{AreLegal, world};
-ghost use Rattle.mls_stitch.specs.Areas.{AreInArea};
-ghost use Rattle.mls_stitch.specs.Tilings.{HasPlane, block_at};
-ghost use Rattle.mls_tilepool.specs.Pools.{count_of, tiles_of};
+ghost use Rattle.std.specs.Prelude.{◌≡◌, IfOk, Some};
+ghost use Rattle.mls_paint.specs.Planes.{HasStrips};
+ghost use Rattle.mls_tilepool.specs.Pools.{room_of};
 
 use crate::places::{Places, grid};
 use crate::steps::Step;
 use anyhow::{Result, ensure};
-use mls_geom::{Piece, Point, Rect, Scratch as Sweep, fresh_strips, strips};
-use mls_stitch::{LaidTile, Plane, Scratch};
-use mls_tilepool::{Pool, TileId};
-use std::alloc::{AllocError, Global};
+use mls_geom::{Piece, Point, Rect, Scratch as Sweep, strips};
+use mls_paint::{Scratch, find_area, overlay, tile_count};
+use mls_stitch::{Plane, Scratch as Tiles};
+use mls_tilepool::Pool;
+use std::alloc::Global;
 use std::marker::Model;
 use std::time::{Clock, Instant};
 
@@ -23,64 +20,17 @@ const ROOM: u32 = 16_384;
 /// The kind of what the steps paint.
 const PAINTED_KIND: u8 = 2;
 
-/// Returns the names of tiles.
-fn names_of(alloc: Global, tiles: &[LaidTile]) -> Result<Vec<TileId>, AllocError>
-    ensures { IfOk result (λ names. names.items ≡ map (λ tile. tile.id) tiles.now) }
-{
-    tiles.iter().map(|tile| tile.id).collect(alloc)
-}
-
-/// Returns the rectangles and kinds of tiles.
-fn pieces_of(alloc: Global, tiles: &[LaidTile]) -> Result<Vec<Piece>, AllocError>
-    ensures { IfOk result (λ pieces. pieces.items ≡ map (λ tile. tile.piece) tiles.now) }
-{
-    tiles.iter().map(|tile| tile.piece).collect(alloc)
-}
-
-/// Reads a piece.
-fn read(piece: Piece)
-    ensures kind { piece.kind < uncovered }
-    ensures legal { IsRectangleIn world piece.rect }
-{
-    let _area = piece.rect.area();
-}
-
-/// Reads each piece.
-fn read_all(pieces: &[Piece])
-    ensures kinds { HaveKinds pieces.now }
-    ensures legal { AreLegal pieces.now }
-{
-    for piece in pieces {
-        read(*piece);
-    }
-}
-
-/// Finds the tiles of an area, and leaves them in the scratch. Fails if the scratch has less room than the plane has
-/// tiles.
-fn find_area(plane: &mut Plane, pool: &Pool, area: Rect, tiles: &mut Scratch) -> Result<()>
-    requires { HasPlane pool.now plane.old }
-    ensures found { OnOk result (AreInArea (block_at (tiles_of pool.now plane.old)) area tiles.new.tiles) }
-    ensures room { OnOk result (count_of pool.now plane.old ≤ tiles.new.room) }
-    ensures plane { plane.new ≡ plane.old }
-{
-    ensure!(
-        pool.count(plane.owner()) as usize <= tiles.room(),
-        "no room"
-    );
-    plane.area(pool, area, tiles);
-    Ok(())
-}
-
 /// Builds the plane that squares show, and returns it with the nanoseconds that the build takes without the search for
 /// strips.
 fn build(
     squares: &[Piece],
     sweep: &mut Sweep,
     pool: &mut Pool,
-    tiles: &mut Scratch,
+    tiles: &mut Tiles,
     clock: &impl Clock,
 ) -> Result<(Plane, u128)>
-    ensures { IfOk result (λ built. HasPlane pool.new built.0) }
+    ensures strips { IfOk result (λ built. HasStrips pool.new built.0) }
+    ensures room { IfOk result (λ built. room_of pool.new built.0 ≡ Some 16384) }
 {
     let room = ROOM as usize;
     ensure!(
@@ -100,20 +50,23 @@ pub struct Sheet {
     places: Places,
     squares: Vec<Piece>,
     sweep: Sweep,
+    tiles: Tiles,
+    scratch: Scratch,
     pool: Pool,
-    tiles: Scratch,
     plane: Plane,
 }
 
 impl Model for Sheet {
-    ghost use Rattle.mls_stitch.specs.Tilings.{HasPlane};
-    ghost use Rattle.mls_tilepool.specs.Pools.{Pool};
+    ghost use Rattle.std.specs.Prelude.{◌≡◌, Some};
+    ghost use Rattle.mls_paint.specs.Planes.{HasStrips};
+    ghost use Rattle.mls_tilepool.specs.Pools.{Pool, room_of};
 
     ghost Value = { Pool };
 
     ghost view = { λ s. s.pool };
 
-    ghost invariant = { λ s. HasPlane s.pool s.plane };
+    ghost invariant = { λ s. HasStrips s.pool s.plane × (room_of s.pool s.plane ≡ Some 16384)
+        × (s.scratch.room ≡ 16384) × (s.scratch.pieces ≡ 1) };
 }
 
 impl Sheet {
@@ -121,15 +74,17 @@ impl Sheet {
     pub fn of_grid(alloc: Global, clock: &impl Clock, k: u8) -> Result<Sheet> {
         let squares = grid(alloc, k)?;
         let mut sweep = Sweep::new(alloc, ROOM)?;
+        let mut tiles = Tiles::new(alloc, ROOM)?;
+        let scratch = Scratch::new(alloc, ROOM, 1)?;
         let mut pool = Pool::new(alloc, ROOM)?;
-        let mut tiles = Scratch::new(alloc, ROOM)?;
         let (plane, _) = build(&squares, &mut sweep, &mut pool, &mut tiles, clock)?;
         Ok(Sheet {
             places: Places::on_grid(k)?,
             squares,
             sweep,
-            pool,
             tiles,
+            scratch,
+            pool,
             plane,
         })
     }
@@ -140,8 +95,9 @@ impl Sheet {
             places,
             squares,
             mut sweep,
-            mut pool,
             mut tiles,
+            scratch,
+            mut pool,
             plane,
         } = self;
         pool.release(plane.into_owner());
@@ -150,27 +106,28 @@ impl Sheet {
             places,
             squares,
             sweep,
-            pool,
             tiles,
+            scratch,
+            pool,
             plane,
         };
         Ok((sheet, nanos))
     }
 
     /// Returns how many tiles the plane has.
-    pub fn count(&self) -> u32 {
-        self.pool.count(self.plane.owner())
+    pub fn count(&self) -> usize {
+        tile_count(&self.pool, &self.plane) as usize
     }
 
-    /// Takes a step, and returns how many tiles it finds or lays.
-    pub fn take(&mut self, alloc: Global, step: Step) -> Result<usize> {
+    /// Takes a step, and returns how many tiles it finds, or how many more the plane has once it is painted.
+    pub fn take(&mut self, step: Step) -> Result<usize> {
         let places = self.places;
         match step {
             Step::FindNear => Ok(self.find(places.near)),
             Step::FindFar => Ok(self.find(places.far)),
-            Step::Area => self.area(places.area),
-            Step::ReplaceInGap => self.replace(alloc, places.gap),
-            Step::ReplaceInLane => self.replace(alloc, places.lane),
+            Step::Area => Ok(self.area(places.area)),
+            Step::PaintInGap => self.paint_and_clear(places.gap),
+            Step::PaintInLane => self.paint_and_clear(places.lane),
         }
     }
 
@@ -182,44 +139,32 @@ impl Sheet {
     }
 
     /// Finds the tiles of an area, and returns how many there are.
-    fn area(&mut self, area: Rect) -> Result<usize> {
-        find_area(&mut self.plane, &self.pool, area, &mut self.tiles)?;
-        Ok(self.tiles.tiles().len())
+    fn area(&mut self, area: Rect) -> usize {
+        find_area(&self.pool, &mut self.plane, area, &mut self.scratch);
+        self.scratch.tiles().len()
     }
 
-    /// Paints a square and then space over it, and returns how many tiles are laid.
-    fn replace(&mut self, alloc: Global, rect: Rect) -> Result<usize> {
-        let painted = self.paint(
-            alloc,
-            Piece {
-                rect,
-                kind: PAINTED_KIND,
-            },
-        )?;
-        let cleared = self.paint(alloc, Piece { rect, kind: 0 })?;
-        Ok(painted.saturating_add(cleared))
+    /// Paints a square and then space over it, and returns how many tiles it adds.
+    fn paint_and_clear(&mut self, rect: Rect) -> Result<usize> {
+        let before = self.count();
+        self.paint(Piece {
+            rect,
+            kind: PAINTED_KIND,
+        })?;
+        let painted = self.count();
+        self.paint(Piece { rect, kind: 0 })?;
+        Ok(painted.saturating_sub(before))
     }
 
-    /// Paints a piece, and returns how many tiles are laid: those that it touches give way to the strips of what they
-    /// and the piece cover.
-    fn paint(&mut self, alloc: Global, piece: Piece) -> Result<usize> {
-        find_area(
+    /// Paints a piece.
+    fn paint(&mut self, piece: Piece) -> Result<()> {
+        overlay(
+            &mut self.pool,
             &mut self.plane,
-            &self.pool,
-            piece.rect.grow(1),
-            &mut self.tiles,
+            &[piece],
+            ROOM,
+            &mut self.scratch,
         )?;
-        let names = names_of(alloc, self.tiles.tiles())?;
-        let touched = pieces_of(alloc, self.tiles.tiles())?;
-        read(piece);
-        read_all(&touched);
-        let limit = ROOM as usize;
-        ensure!(
-            touched.len() < limit && self.sweep.holds(limit, limit) && limit <= self.tiles.room(),
-            "no room"
-        );
-        let count = fresh_strips(&touched, &[piece], limit, &mut self.sweep)?;
-        self.plane.replace(&mut self.pool, &names, self.sweep.strips(), &mut self.tiles)?;
-        Ok(count)
+        Ok(())
     }
 }

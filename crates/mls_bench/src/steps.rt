@@ -15,9 +15,9 @@ pub enum Step {
     /// To find the tiles of an area of 20 by 20.
     Area,
     /// To paint a square in a tile that has 4 neighbours, and to clear it.
-    ReplaceInGap,
+    PaintInGap,
     /// To paint a square in a tile that lies between two rows of a grid, and to clear it.
-    ReplaceInLane,
+    PaintInLane,
 }
 
 /// All steps.
@@ -25,8 +25,8 @@ pub const STEPS: [Step; 5] = [
     Step::FindNear,
     Step::FindFar,
     Step::Area,
-    Step::ReplaceInGap,
-    Step::ReplaceInLane,
+    Step::PaintInGap,
+    Step::PaintInLane,
 ];
 
 impl Display for Step {
@@ -35,8 +35,8 @@ impl Display for Step {
             Step::FindNear => "find near",
             Step::FindFar => "find far",
             Step::Area => "area",
-            Step::ReplaceInGap => "replace in gap",
-            Step::ReplaceInLane => "replace in lane",
+            Step::PaintInGap => "paint in gap",
+            Step::PaintInLane => "paint in lane",
         })
     }
 }
@@ -50,7 +50,7 @@ pub fn time(rt: &HostRuntime, sheet: &mut Sheet, step: Step) -> Result<u128> {
     for _ in 0..3 {
         let start = Instant::now(rt)?;
         for _ in 0..ROUNDS {
-            sheet.take(rt.alloc(), step)?;
+            sheet.take(step)?;
         }
         least = least.min(start.elapsed(rt)?.as_nanos());
     }

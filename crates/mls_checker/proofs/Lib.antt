@@ -8,11 +8,13 @@ pub mod FoundInRect
 pub mod FoundSquares
 pub mod Gathering
 pub mod GridIndexes
+pub mod LentPlanes
 pub mod ListTests
 pub mod Locality
 pub mod MarkedSquares
 pub mod Near
 pub mod NextSquares
+pub mod Prefixes
 pub mod ReachLemmas
 pub mod RuleBits
 pub mod Steps

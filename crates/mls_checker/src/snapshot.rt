@@ -1,13 +1,18 @@
 //! Copies of a zone of a layout.
 ghost use Rattle.std.specs.Prelude.{◌≡◌, ◌↔◌, ℕ, ◌<◌, ◌≤◌, ◌==◌, ◌&&◌, nat_lt, nat_le, if◌then◌else◌, IfOk, IsTrue, length};
+ghost use Rattle.std.specs.List.{All};
 ghost use Rattle.mls_checker.specs.Copies.{IsShownBy, copied_layout, grid_picture};
 ghost use Rattle.mls_checker.specs.ZoneLayouts.{within};
-ghost use Rattle.mls_geom.specs.Layouts.{layout_of};
 ghost use Rattle.mls_geom.specs.Rects.{holds};
-ghost use Rattle.mls_geom.specs.Pictures.{picture_of};
+ghost use Rattle.mls_paint.specs.Planes.{layout_in, picture_in};
+ghost use Rattle.mls_paint.specs.Scratches.{HasRoomFor, KeepsRoom};
+ghost use Rattle.mls_stitch.specs.Tilings.{HasPlane};
 
 use crate::grid::Grid;
-use mls_geom::{Cover, Piece, Rect};
+use mls_geom::{Piece, Rect};
+use mls_paint::{Scratch, find_area};
+use mls_stitch::Plane;
+use mls_tilepool::Pool;
 use std::alloc::{AllocError, Global};
 use std::marker::Model;
 
@@ -29,15 +34,25 @@ impl Model for Snapshot {
 }
 
 impl Snapshot {
-    /// Copies the squares of the zone on each plane.
-    pub fn read(alloc: Global, planes: &[Cover], zone: Rect) -> Result<Snapshot, AllocError>
+    /// Copies the squares of the zone on each plane. The search leaves in the scratch what it finds.
+    pub fn read(
+        alloc: Global,
+        pool: &Pool,
+        planes: &mut [Plane],
+        zone: Rect,
+        scratch: &mut Scratch,
+    ) -> Result<Snapshot, AllocError>
+        requires planes { All (λ owner. HasPlane pool.now owner) planes.old }
+        requires room { All (λ owner. HasRoomFor pool.now owner scratch.old) planes.old }
         ensures zone { IfOk result (λ s. s.zone ≡ zone) }
-        ensures planes { IfOk result (λ s. length s.planes ≡ length planes.now) }
-        ensures layout { IfOk result (λ s. copied_layout s ≡ within zone (layout_of planes.now)) }
+        ensures planes { IfOk result (λ s. length s.planes ≡ length planes.old) }
+        ensures layout { IfOk result (λ s. copied_layout s ≡ within zone (layout_in pool.now planes.old)) }
+        ensures owners { planes.new ≡ planes.old }
+        ensures rooms { KeepsRoom scratch.old scratch.new }
     {
         let mut copies = Vec::with_capacity(alloc, planes.len())?;
-        for cover in planes {
-            copies.push(copy(alloc, cover, zone)?)?;
+        for index in 0..planes.len() {
+            copies.push(copy(alloc, pool, &mut planes[index], zone, scratch)?)?;
         }
         Ok(Snapshot {
             zone,
@@ -45,16 +60,21 @@ impl Snapshot {
         })
     }
 
-    /// Whether there are as many planes as were copied, and each shows in the zone what was copied.
-    pub fn same(&self, planes: &[Cover]) -> bool
-        ensures { IsTrue result ↔ ((length self.now.planes ≡ length planes.now)
-            × (copied_layout self.now ≡ within self.now.zone (layout_of planes.now))) }
+    /// Whether there are as many planes as were copied, and each shows in the zone what was copied. The search
+    /// leaves in the scratch what it finds.
+    pub fn same(&self, pool: &Pool, planes: &mut [Plane], scratch: &mut Scratch) -> bool
+        requires planes { All (λ owner. HasPlane pool.now owner) planes.old }
+        requires room { All (λ owner. HasRoomFor pool.now owner scratch.old) planes.old }
+        ensures same { IsTrue result ↔ ((length self.now.planes ≡ length planes.old)
+            × (copied_layout self.now ≡ within self.now.zone (layout_in pool.now planes.old))) }
+        ensures owners { planes.new ≡ planes.old }
+        ensures rooms { KeepsRoom scratch.old scratch.new }
     {
         if self.planes.len() != planes.len() {
             return false;
         }
-        for (copied, cover) in self.planes.iter().zip(planes) {
-            if !is_copy(copied, cover) {
+        for (index, copied) in self.planes.iter().enumerate() {
+            if !is_copy(copied, pool, &mut planes[index], scratch) {
                 return false;
             }
         }
@@ -81,14 +101,25 @@ impl Snapshot {
 }
 
 /// Copies the squares of the zone on one plane.
-fn copy(alloc: Global, cover: &Cover, zone: Rect) -> Result<Grid, AllocError>
+fn copy(
+    alloc: Global,
+    pool: &Pool,
+    plane: &mut Plane,
+    zone: Rect,
+    scratch: &mut Scratch,
+) -> Result<Grid, AllocError>
+    requires plane { HasPlane pool.now plane.old }
+    requires room { HasRoomFor pool.now plane.old scratch.old }
     ensures rect { IfOk result (λ g. g.rect ≡ zone) }
     ensures picture { IfOk result (λ g. grid_picture g
-        ≡ (λ x y. if holds zone x y then picture_of cover.now.strips x y else 0)) }
+        ≡ (λ x y. if holds zone x y then picture_in pool.now plane.old x y else 0)) }
+    ensures owner { plane.new ≡ plane.old }
+    ensures rooms { KeepsRoom scratch.old scratch.new }
 {
     let mut grid = Grid::new(alloc, zone)?;
-    for strip in cover.meeting(zone) {
-        fill(&mut grid, strip);
+    find_area(pool, plane, zone, scratch);
+    for tile in scratch.tiles() {
+        fill(&mut grid, tile.piece);
     }
     Ok(grid)
 }
@@ -124,12 +155,17 @@ fn fill_row(grid: &mut Grid, part: Rect, y: u32, kind: u8)
 }
 
 /// Whether the grid has what the plane shows in its rectangle.
-fn is_copy(grid: &Grid, cover: &Cover) -> bool
-    ensures { IsTrue result ↔ (grid_picture grid.now
-        ≡ (λ x y. if holds grid.now.rect x y then picture_of cover.now.strips x y else 0)) }
+fn is_copy(grid: &Grid, pool: &Pool, plane: &mut Plane, scratch: &mut Scratch) -> bool
+    requires plane { HasPlane pool.now plane.old }
+    requires room { HasRoomFor pool.now plane.old scratch.old }
+    ensures same { IsTrue result ↔ (grid_picture grid.now
+        ≡ (λ x y. if holds grid.now.rect x y then picture_in pool.now plane.old x y else 0)) }
+    ensures owner { plane.new ≡ plane.old }
+    ensures rooms { KeepsRoom scratch.old scratch.new }
 {
-    for strip in cover.meeting(grid.rect()) {
-        if !has_kind(grid, strip) {
+    find_area(pool, plane, grid.rect(), scratch);
+    for tile in scratch.tiles() {
+        if !has_kind(grid, tile.piece) {
             return false;
         }
     }

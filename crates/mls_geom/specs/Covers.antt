@@ -1,7 +1,7 @@
 -- What a caller sees of a cover.
 use Rattle.std.specs.Prelude.{ℕ, ◌≤◌, not, List, length, filter}
 use Rattle.mls_geom.specs.Locality.{AreUnorderedStrips, touches}
-use Rattle.mls_geom.specs.Rects.{Rect, meets}
+use Rattle.mls_geom.specs.Rects.{Rect}
 use Rattle.mls_geom.specs.Pictures.{picture_of}
 use Rattle.mls_geom.specs.World.{world}
 use Rattle.mls_geom.specs.declared.piece.Piece.{Piece}
@@ -15,10 +15,6 @@ pub record Cover : Type 0 where
 pub record CoversWorld (covering : Cover) : Type 0 where
   pub strips : AreUnorderedStrips world (picture_of covering.strips) covering.strips
   pub room : length covering.strips ≤ covering.room
-
--- the pieces that have a square in the rectangle
-abbrev pub meeting : List Piece → Rect → List Piece
-meeting pieces e = filter (λ piece. meets piece.rect e) pieces
 
 -- the pieces that the rectangle touches, and the others
 abbrev pub touched_by : Rect → List Piece → List Piece

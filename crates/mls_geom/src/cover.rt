@@ -1,13 +1,12 @@
 //! Planes covered by maximal strips.
 ghost use Rattle.std.specs.Prelude.{◌≡◌, ◌+◌, ◌<◌, ◌≤◌, ◌↔◌, IfOk, OnErr, OnOk, IsErr, length, vec_capacity};
-ghost use Rattle.mls_geom.specs.Covers.{CoversWorld, meeting};
-ghost use Rattle.mls_geom.specs.Pictures.{empty_picture, kinds_in, overlaid, picture_of};
+ghost use Rattle.mls_geom.specs.Covers.{CoversWorld};
+ghost use Rattle.mls_geom.specs.Pictures.{empty_picture, overlaid, picture_of};
 ghost use Rattle.mls_geom.specs.World.{AreLegal, world};
 ghost use Rattle.mls_geom.specs.TileCounts.{tile_count};
 
 use crate::touched::{bounds, gather_touched, replace_touched};
-use crate::{Meeting, Piece, Point, Rect, Scratch, TooMany};
-use mls_kinds::KindSet;
+use crate::{Piece, Point, Scratch, TooMany};
 use std::alloc::{AllocError, Global};
 use std::marker::Model;
 
@@ -73,28 +72,6 @@ impl Cover {
         ensures { result ≡ tile_count world (picture_of self.now.strips) }
     {
         self.strips.len()
-    }
-
-    /// Returns an iterator over the strips that have a square in the rectangle, in the order of
-    /// [`strips`](Cover::strips).
-    pub fn meeting(&self, rect: Rect) -> Meeting<'_>
-        ensures value { result ≡ meeting self.now.strips rect }
-        ensures covers { CoversWorld self.now }
-    {
-        Meeting::new(&self.strips, rect)
-    }
-
-    /// Returns the kinds below 64 that the squares of the rectangle have.
-    pub fn kinds(&self, rect: Rect) -> KindSet
-        ensures { result ≡ kinds_in (picture_of self.now.strips) rect }
-    {
-        let mut kinds = KindSet::empty();
-        for strip in self.meeting(rect) {
-            if strip.kind < 64 {
-                kinds.insert(strip.kind);
-            }
-        }
-        kinds
     }
 
     /// Paints pieces over the plane in turn. The strips that their bounds touch give way to others.

@@ -7,7 +7,6 @@ mod bands;
 mod cover;
 pub mod laws;
 mod lines;
-mod meeting;
 mod piece;
 mod point;
 mod rect;
@@ -22,7 +21,6 @@ mod world;
 
 pub use area::Area;
 pub use cover::Cover;
-pub use meeting::Meeting;
 pub use piece::Piece;
 pub use point::Point;
 pub use rect::{Rect, RectFault};

@@ -196,6 +196,8 @@ pub fn fresh_strips(
 ) -> Result<usize, TooMany>
     requires pieces_fit { length touched.now + length over.now ≤ scratch.old.room }
     requires strips_fit { limit ≤ scratch.old.room }
+    ensures pieces_legal { AreLegal (touched.now ++ over.now) }
+    ensures kinds { HaveKinds (touched.now ++ over.now) }
     ensures strips { OnOk result (AreCoveredStrips world (laid (touched.now ++ over.now)) scratch.new.strips) }
     ensures count { IfOk result (λ n. (n ≡ length scratch.new.strips) × (n ≡ covered_count world (laid (touched.now ++ over.now)))) }
     ensures too_many { IsErr result ↔ (limit < covered_count world (laid (touched.now ++ over.now))) }

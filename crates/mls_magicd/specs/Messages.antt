@@ -9,7 +9,7 @@ use Rattle.mls_tech.specs.declared.fault.TechFault.{TechFault}
 use Rattle.mls_tech.specs.declared.rule_line.Skipped.{Skipped}
 use Rattle.std.specs.String.{string_bytes}
 use Rattle.mls_magicd.specs.declared.fault.Fault.{Fault}
-use Rattle.mls_magicd.specs.declared.fault.Fault.TheVariants.{Options, Technology, Rule, Serve}
+use Rattle.mls_magicd.specs.declared.fault.Fault.TheVariants.{Options, Technology, Rule, Memory, Serve}
 use Rattle.mls_magicd.specs.declared.options.OptionsFault.{OptionsFault}
 use Rattle.mls_magicd.specs.declared.options.OptionsFault.TheVariants.{Refused, Memory as OptionsMemory}
 use Rattle.mls_magicd.specs.declared.technology.TechnologyFault.{TechnologyFault}
@@ -57,6 +57,7 @@ abbrev pub fault_text : Fault → List ℕ
 fault_text (Options fault) = options_fault_text fault
 fault_text (Technology fault) = technology_fault_line fault
 fault_text (Rule fault) = rule_fault_line fault
+fault_text Memory = memory_line
 fault_text (Serve fault) = serve_fault_line fault
 
 -- a skipped line of the technology

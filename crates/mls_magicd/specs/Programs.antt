@@ -11,8 +11,8 @@ use Rattle.mls_magicd.specs.CommandLines.{faults_in, file_named, quota_named, Is
 use Rattle.mls_magicd.specs.Messages.{Reports, ReportsAll, fault_text, serve_fault_line, skipped_line}
 use Rattle.mls_magicd.specs.Technologies.{HasReading, LacksTechnology}
 use Rattle.mls_magicd.specs.declared.fault.Fault.{Fault}
-use Rattle.mls_magicd.specs.declared.fault.Fault.TheVariants.{Options, Technology, Rule, Serve}
-use Rattle.mls_magicd.specs.declared.options.OptionsFault.TheVariants.{Memory, Refused}
+use Rattle.mls_magicd.specs.declared.fault.Fault.TheVariants.{Options, Technology, Rule, Memory, Serve}
+use Rattle.mls_magicd.specs.declared.options.OptionsFault.TheVariants.{Refused, Memory as OptionsMemory}
 
 -- ---- exit statuses
 
@@ -30,9 +30,10 @@ bad_command_line = 2
 
 abbrev pub status_after : Fault → ℕ
 status_after (Options (Refused text)) = bad_command_line
-status_after (Options Memory) = failed
+status_after (Options OptionsMemory) = failed
 status_after (Technology fault) = failed
 status_after (Rule fault) = failed
+status_after Memory = failed
 status_after (Serve fault) = failed
 
 -- ---- the start
@@ -61,6 +62,8 @@ FailsAtStart reads_as may_fail words contents old new (Technology fault) =
 FailsAtStart reads_as may_fail words contents old new (Rule fault) =
     (tech : Tech) × (faults_in words ≡ []) × HasReading reads_as (file_named words) tech × (compiled tech ≡ Err fault)
     × ReportsAll contents old new (skipped_lines tech)
+FailsAtStart reads_as may_fail words contents old new Memory =
+    (setting : Setting) × IsConfiguredBy reads_as words setting × ReportsAll contents old new (skipped_lines setting.tech)
 FailsAtStart reads_as may_fail words contents old new (Serve fault) = ⊥
 
 -- the start failed with the status 1, and the fault was reported

@@ -4,6 +4,7 @@ ghost use Rattle.std.specs.Prelude.{◌≡◌};
 use crate::{OptionsFault, TechnologyFault};
 use mls_edgerule::RuleFault;
 use mls_wire::ServeFault;
+use std::alloc::AllocError;
 use thiserror::Error;
 
 /// The exit status where a file is bad or can't be read, or a stream or memory failed.
@@ -24,6 +25,9 @@ pub enum Fault<'a> {
     /// A rule line of the technology can't be compiled.
     #[error(transparent)]
     Rule(RuleFault),
+    /// Memory ran out as the server was made.
+    #[error("memory")]
+    Memory,
     /// The script was left before its end.
     #[error(transparent)]
     Serve(ServeFault),
@@ -59,6 +63,16 @@ impl From<RuleFault> for Fault<'_> {
     }
 }
 
+impl From<AllocError> for Fault<'_> {
+    ghost use Rattle.mls_magicd.specs.declared.fault.Fault.TheVariants.{Memory};
+
+    ghost from_gives = { λ _ fault. fault ≡ Memory };
+
+    fn from(_error: AllocError) -> Self {
+        Fault::Memory
+    }
+}
+
 impl From<ServeFault> for Fault<'_> {
     ghost use Rattle.mls_magicd.specs.declared.fault.Fault.TheVariants.{Serve};
 
@@ -79,7 +93,7 @@ impl Fault<'_> {
         match self {
             Fault::Options(OptionsFault::Refused(_)) => BAD_COMMAND_LINE,
             Fault::Options(OptionsFault::Memory) => FAILED,
-            Fault::Technology(_) | Fault::Rule(_) | Fault::Serve(_) => FAILED,
+            Fault::Technology(_) | Fault::Rule(_) | Fault::Memory | Fault::Serve(_) => FAILED,
         }
     }
 }

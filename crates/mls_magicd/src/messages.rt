@@ -27,6 +27,7 @@ pub fn report_fault<E: Write>(faults: &mut Watched<E>, fault: &Fault<'_>)
         Fault::Options(fault) => report_options_fault(faults, fault),
         Fault::Technology(fault) => report_technology_fault(faults, *fault),
         Fault::Rule(fault) => report_rule_fault(faults, *fault),
+        Fault::Memory => report(faults, &[MEMORY]),
         Fault::Serve(fault) => report_serve_fault(faults, *fault),
     }
 }

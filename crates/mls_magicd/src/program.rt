@@ -96,8 +96,8 @@ fn serve_words<'a, S: AsStr, F: Files, R: Read, W: Write, E: Write>(
     Ok(())
 }
 
-/// Does what comes before the script: reads the words and then the technology, reports the technology's skipped lines, and
-/// compiles its rules.
+/// Does what comes before the script: reads the words and then the technology, reports the technology's skipped lines,
+/// compiles its rules, and makes the server, which reserves its memory.
 fn start<'a, S: AsStr, F: Files, E: Write>(
     alloc: Global,
     words: &'a [S],
@@ -112,5 +112,5 @@ fn start<'a, S: AsStr, F: Files, E: Write>(
     let tech = open_technology(alloc, files, options.tech)?;
     report_skipped(faults, tech.skipped());
     compile(&tech)?;
-    Ok(Solo::new(tech, options.quota))
+    Ok(Solo::new(alloc, tech, options.quota)?)
 }

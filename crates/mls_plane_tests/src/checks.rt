@@ -1,9 +1,8 @@
 //! Layouts whose forbidden squares were worked out by hand.
-ghost use Rattle.std.specs.Prelude.{◌≤◌, length};
-
-use mls_checker::{Snapshot, check, why};
+use crate::layouts::Layout;
+use mls_checker::{check, why};
 use mls_edgerule::{Rules, compile};
-use mls_geom::{Cover, Piece, Point, Rect, RectFault, Scratch};
+use mls_geom::{Piece, Point, Rect, RectFault};
 use mls_tech::{TECHNOLOGY_M, Tech};
 use std::alloc::Global;
 use std::process::Abort;
@@ -40,20 +39,9 @@ pub fn piece(kind: u8, sides: Sides) -> Result<Piece, RectFault> {
     })
 }
 
-/// An empty plane with pieces painted over it.
-pub fn painted(alloc: Global, pieces: &[Piece]) -> Result<Cover, Fail>
-    requires { length pieces.now ≤ 16 }
-{
-    let mut cover = Cover::new(alloc, 100)?;
-    cover.overlay(pieces, 100, &mut Scratch::new(alloc, 100)?)?;
-    Ok(cover)
-}
-
 /// The planes of technology M, with pieces on the plane of poly and diffusion alone.
-fn active(alloc: Global, pieces: &[Piece]) -> Result<[Cover; 2], Fail>
-    requires { length pieces.now ≤ 16 }
-{
-    Ok([painted(alloc, pieces)?, painted(alloc, &[])?])
+fn active(alloc: Global, pieces: &[Piece]) -> Result<Layout, Fail> {
+    Layout::new(alloc)?.with(pieces)?.with(&[])
 }
 
 /// Whether the square is in one of the rectangles.
@@ -69,12 +57,12 @@ fn expect_in_piece(
     rt: &impl Abort,
     alloc: Global,
     rules: &Rules,
-    planes: &[Cover],
+    layout: &mut Layout,
     piece: Rect,
     marked: &[Sides],
 ) -> Result<(), Fail> {
-    let snapshot = Snapshot::read(alloc, planes, piece.grow(rules.halo()))?;
-    assert!(rt; snapshot.same(planes));
+    let snapshot = layout.snapshot(alloc, piece.grow(rules.halo()))?;
+    assert!(rt; layout.same(&snapshot));
     let finding = check(alloc, rules, snapshot, piece)?;
     for y in piece.bottom()..piece.top() {
         for x in piece.left()..piece.right() {
@@ -92,31 +80,26 @@ fn expect_marks(
     alloc: Global,
     pieces: &[Piece],
     marked: &[Sides],
-) -> Result<(), Fail>
-    requires { length pieces.now ≤ 16 }
-{
+) -> Result<(), Fail> {
     let rules = rules_of(alloc, TECHNOLOGY_M)?;
-    let planes = active(alloc, pieces)?;
+    let mut layout = active(alloc, pieces)?;
     let whole = rect((-8, -8, 16, 16))?;
-    expect_in_piece(rt, alloc, &rules, &planes, whole, marked)?;
+    expect_in_piece(rt, alloc, &rules, &mut layout, whole, marked)?;
     for bottom in EVEN {
         for left in EVEN {
             let (right, top) = (left.saturating_add(2), bottom.saturating_add(2));
             let small = rect((left, bottom, right, top))?;
-            expect_in_piece(rt, alloc, &rules, &planes, small, marked)?;
+            expect_in_piece(rt, alloc, &rules, &mut layout, small, marked)?;
         }
     }
     Ok(())
 }
 
 /// The rules of technology M that forbid a square of a rectangle, in a layout of these pieces.
-fn violated(alloc: Global, pieces: &[Piece], sides: Sides) -> Result<u128, Fail>
-    requires { length pieces.now ≤ 16 }
-{
+fn violated(alloc: Global, pieces: &[Piece], sides: Sides) -> Result<u128, Fail> {
     let looked = rect(sides)?;
     let rules = rules_of(alloc, TECHNOLOGY_M)?;
-    let planes = active(alloc, pieces)?;
-    let snapshot = Snapshot::read(alloc, &planes, looked.grow(rules.halo()))?;
+    let snapshot = active(alloc, pieces)?.snapshot(alloc, looked.grow(rules.halo()))?;
     Ok(why(&rules, &snapshot, looked))
 }
 
@@ -199,14 +182,14 @@ end
 fn metal_over_poly(rt: HostRuntime) -> Result<(), Fail> {
     let poly = [piece(POLY, (0, 0, 4, 4))?];
     let metal = [piece(M1, (0, 0, 4, 4))?];
-    let planes = [painted(rt.alloc(), &poly)?, painted(rt.alloc(), &metal)?];
+    let mut layout = Layout::new(rt.alloc())?.with(&poly)?.with(&metal)?;
     let whole = rect((-8, -8, 8, 8))?;
     let four = rules_of(rt.alloc(), FOUR_SIDES)?;
     let ring = [(0, 0, 4, 1), (0, 3, 4, 4), (0, 1, 1, 3), (3, 1, 4, 3)];
-    expect_in_piece(&rt, rt.alloc(), &four, &planes, whole, &ring)?;
+    expect_in_piece(&rt, rt.alloc(), &four, &mut layout, whole, &ring)?;
     let two = rules_of(rt.alloc(), TWO_SIDES)?;
     let corner = [(0, 0, 1, 4), (1, 0, 4, 1)];
-    expect_in_piece(&rt, rt.alloc(), &two, &planes, whole, &corner)
+    expect_in_piece(&rt, rt.alloc(), &two, &mut layout, whole, &corner)
 }
 
 #[test]
@@ -222,14 +205,14 @@ fn corners_of_the_world(rt: HostRuntime) -> Result<(), Fail> {
         (-32767, 32758, -32766, 32768),
     ];
     let rules = rules_of(rt.alloc(), TECHNOLOGY_M)?;
-    let planes = active(rt.alloc(), &bars)?;
+    let mut layout = active(rt.alloc(), &bars)?;
     for corner in [
         (-32768, -32768, -32752, -32752),
         (-32768, 32752, -32752, 32768),
         (32752, -32768, 32768, -32752),
         (32752, 32752, 32768, 32768),
     ] {
-        expect_in_piece(&rt, rt.alloc(), &rules, &planes, rect(corner)?, &marked)?;
+        expect_in_piece(&rt, rt.alloc(), &rules, &mut layout, rect(corner)?, &marked)?;
     }
     Ok(())
 }
@@ -263,12 +246,11 @@ fn largest_piece_and_halo(rt: HostRuntime) -> Result<(), Fail> {
         piece(4, (-200, 0, -40, 256))?,
         piece(4, (248, 0, 400, 256))?,
     ];
-    let planes = [
-        painted(rt.alloc(), &bar)?,
-        painted(rt.alloc(), &[])?,
-        painted(rt.alloc(), &[])?,
-        painted(rt.alloc(), &tops)?,
-    ];
+    let mut layout = Layout::new(rt.alloc())?
+        .with(&bar)?
+        .with(&[])?
+        .with(&[])?
+        .with(&tops)?;
     let marked = [
         // The bar is one square too thin.
         (149, 0, 150, 256),
@@ -280,7 +262,7 @@ fn largest_piece_and_halo(rt: HostRuntime) -> Result<(), Fail> {
         &rt,
         rt.alloc(),
         &rules,
-        &planes,
+        &mut layout,
         rect((0, 0, 256, 256))?,
         &marked,
     )

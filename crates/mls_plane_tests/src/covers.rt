@@ -1,5 +1,7 @@
 //! Rectangles, and planes of strips.
-use crate::checks::{painted, piece};
+ghost use Rattle.std.specs.Prelude.{◌≤◌, length};
+
+use crate::checks::piece;
 use crate::dice::Dice;
 use crate::grid::{Grid, SIZE};
 use mls_geom::{Cover, Piece, Point, Rect, RectFault, Scratch, TooMany};
@@ -75,6 +77,15 @@ fn plane_of_many_strips(rt: HostRuntime) -> Result<(), Fail> {
     assert_eq!(rt; cover.tile_count(), 16001);
     assert_eq!(rt; cover.strips().len(), 16001);
     Ok(())
+}
+
+/// An empty plane with pieces painted over it.
+fn painted(alloc: Global, pieces: &[Piece]) -> Result<Cover, Fail>
+    requires { length pieces.now ≤ 16 }
+{
+    let mut cover = Cover::new(alloc, 100)?;
+    cover.overlay(pieces, 100, &mut Scratch::new(alloc, 100)?)?;
+    Ok(cover)
 }
 
 /// Paints a random area on a grid, and returns it as a piece.

@@ -1,9 +1,10 @@
 //! Random layouts in technology M, whose forbidden squares are found square by square.
-use crate::checks::{painted, piece, rules_of};
+use crate::checks::{piece, rules_of};
 use crate::dice::Dice;
 use crate::grid::{Grid, SIZE};
-use mls_checker::{Snapshot, check, why};
-use mls_geom::{Cover, Piece, Point, Rect};
+use crate::layouts::Layout;
+use mls_checker::{check, why};
+use mls_geom::{Point, Rect};
 use mls_tech::TECHNOLOGY_M;
 use std::alloc::Global;
 use std::test::Fail;
@@ -161,7 +162,7 @@ fn rules_that_forbid(planes: &[Grid; 2], square: Pair) -> u128 {
 }
 
 /// Six random pieces, on the planes of technology M and on grids.
-fn random_layout(alloc: Global, dice: &mut Dice) -> Result<([Cover; 2], [Grid; 2]), Fail> {
+fn random_layout(alloc: Global, dice: &mut Dice) -> Result<(Layout, [Grid; 2]), Fail> {
     let (first, second, third) = (dice.area(), dice.area(), dice.area());
     let (fourth, fifth, sixth) = (dice.area(), dice.area(), dice.area());
     let mut active = Grid::new();
@@ -179,10 +180,8 @@ fn random_layout(alloc: Global, dice: &mut Dice) -> Result<([Cover; 2], [Grid; 2
         piece(1, fourth)?,
     ];
     let upper = [piece(3, fifth)?, piece(3, sixth)?];
-    Ok((
-        [painted(alloc, &lower)?, painted(alloc, &upper)?],
-        [active, metal],
-    ))
+    let layout = Layout::new(alloc)?.with(&lower)?.with(&upper)?;
+    Ok((layout, [active, metal]))
 }
 
 #[test]
@@ -191,8 +190,8 @@ fn random_layouts(rt: HostRuntime) -> Result<(), Fail> {
     let window = Rect::new(-4, -4, 20, 20)?;
     let mut dice = Dice::new(4);
     for round in 0..60 {
-        let (planes, grids) = random_layout(rt.alloc(), &mut dice)?;
-        let snapshot = Snapshot::read(rt.alloc(), &planes, window.grow(rules.halo()))?;
+        let (mut layout, grids) = random_layout(rt.alloc(), &mut dice)?;
+        let snapshot = layout.snapshot(rt.alloc(), window.grow(rules.halo()))?;
         let violated = why(&rules, &snapshot, window);
         let finding = check(rt.alloc(), &rules, snapshot, window)?;
         let mut found = 0;

@@ -1,12 +1,14 @@
 //! Rows of commands and their replies, worked out by hand or by squares.
-ghost use Rattle.std.specs.Prelude.{◌≡◌, length};
-
 use crate::dice::Dice;
 use crate::grid::Grid;
+use mls_geom::Piece;
 use mls_kinds::KindSet;
+use mls_paint::Scratch;
 use mls_session::{Command, Quota, Refusal, Reply, Session};
 use mls_tech::{TECHNOLOGY_M, Tech};
+use mls_tilepool::Pool;
 use std::alloc::Global;
+use std::marker::Model;
 use std::process::Abort;
 use std::test::Fail;
 
@@ -38,18 +40,48 @@ fn quota_of(tiles: u32) -> Result<Quota, &'static str> {
     Quota::new(tiles).ok_or("no quota")
 }
 
-/// A session and its technology.
+/// A session in a pool of its own, and its technology.
 #[derive(Drop)]
 struct Trial {
     tech: Tech,
+    pool: Pool,
+    scratch: Scratch,
+    pieces: Vec<Piece>,
     session: Session,
-    ghost made_for: { length session.planes ≡ tech.plane_count },
+}
+
+impl Model for Trial {
+    ghost use Rattle.std.specs.Prelude.{◌≡◌, ◌≤◌, length, vec_capacity};
+    ghost use Rattle.mls_session.specs.Sessions.{IsHome, plane_reserve};
+    ghost use Rattle.mls_tilepool.specs.Pools.{Pool};
+
+    ghost Value = { Pool };
+
+    ghost view = { λ t. t.pool };
+
+    ghost invariant = { λ t. (length t.session.planes ≡ t.tech.plane_count) × IsHome t.pool t.session
+        × (plane_reserve t.session.quota ≤ t.scratch.room) × (1 ≤ t.scratch.pieces)
+        × (1 ≤ vec_capacity t.pieces) };
 }
 
 impl Trial {
     fn new(alloc: Global, tech: Tech, quota: u32) -> Result<Trial, Fail> {
-        let session = Session::new(alloc, &tech, quota_of(quota)?)?;
-        Ok(Trial { tech, session })
+        let quota = quota_of(quota)?;
+        let mut pool = Pool::new(alloc, 262_144)?;
+        let mut scratch = Scratch::new(alloc, 16_448, 1)?;
+        let pieces = Vec::with_capacity(alloc, 1)?;
+        let needed = tech.planes() * (quota.tiles() as usize + 64);
+        if needed > pool.unreserved() as usize {
+            return Err(Fail::new("no room"));
+        }
+        let session = Session::open(alloc, &mut pool, &tech, quota, &mut scratch)?;
+        Ok(Trial {
+            tech,
+            pool,
+            scratch,
+            pieces,
+            session,
+        })
     }
 
     fn with_technology_m(alloc: Global, quota: u32) -> Result<Trial, Fail> {
@@ -57,7 +89,14 @@ impl Trial {
     }
 
     fn command(&mut self, command: Command) -> Reply {
-        self.session.command(&self.tech, command)
+        let Trial {
+            tech,
+            pool,
+            scratch,
+            pieces,
+            session,
+        } = self;
+        session.command(pool, tech, command, pieces, scratch)
     }
 
     /// Asserts the replies to some commands.
@@ -101,6 +140,31 @@ fn whole_world(rt: HostRuntime) -> Result<(), Fail> {
         (Command::What, kinds(0b11)),
     ];
     Trial::with_technology_m(rt.alloc(), 5)?.expect(&rt, &row);
+    Ok(())
+}
+
+#[test]
+fn corners_of_the_world(rt: HostRuntime) -> Result<(), Fail> {
+    let mut trial = Trial::with_technology_m(rt.alloc(), 16384)?;
+    for (corner, paint, bits) in [
+        ((-32768, -32768, -32767, -32767), POLY, 0b11),
+        ((32767, -32768, 32768, -32767), NDIFF, 0b101),
+        ((-32768, 32767, -32767, 32768), METAL, 0b1001),
+        ((32767, 32767, 32768, 32768), POLY, 0b11),
+    ] {
+        let row = [
+            (boxed(corner), Reply::Done),
+            (Command::What, kinds(0b1)),
+            (paint, Reply::Done),
+            (Command::What, kinds(bits)),
+        ];
+        trial.expect(&rt, &row);
+    }
+    let row = [
+        (boxed((-32768, -32768, 32768, 32768)), Reply::Done),
+        (Command::What, kinds(0b1111)),
+    ];
+    trial.expect(&rt, &row);
     Ok(())
 }
 
@@ -201,7 +265,7 @@ fn random_commands(rt: HostRuntime) -> Result<(), Fail> {
             planes: [Grid::new(), Grid::new()],
             quota: quota as usize,
         };
-        for _round in 0..300 {
+        for _round in 0..700 {
             let (painted, looked) = (dice.area(), dice.area());
             let kind = dice.roll() % 3 + 1;
             let reply = squares.paint(painted, kind);

@@ -8,6 +8,8 @@ mod programs;
 #[cfg(test)]
 mod real_files;
 #[cfg(test)]
+mod same_as_covers;
+#[cfg(test)]
 mod scripts;
 #[cfg(test)]
 mod streams;

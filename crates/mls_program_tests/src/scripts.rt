@@ -26,7 +26,7 @@ fn served_with<R: Read + Drop, W: Write + Drop>(
     output: W,
 ) -> Result<(Result<(), ServeFault>, W), Fail> {
     let quota = Quota::new(quota).ok_or("no quota")?;
-    let mut solo = Solo::new(Tech::read(rt.alloc(), file)?, quota);
+    let mut solo = Solo::new(rt.alloc(), Tech::read(rt.alloc(), file)?, quota)?;
     let mut input = Watched::new(input);
     let mut output = Watched::new(output);
     let outcome = serve(rt.alloc(), &mut solo, &mut input, &mut output);

@@ -1,3 +1,5 @@
 pub mod BoxTypes
+pub mod HomePlanes
 pub mod Openings
 pub mod Painting
+pub mod SessionPlanes

@@ -1,5 +1,4 @@
 pub mod Own
-pub mod Planes
 pub mod Quotas
 pub mod Refusals
 pub mod Sessions

@@ -1,4 +1,4 @@
-//! One session over planes of strips: its box, its layout, and what each command does to them.
+//! One session over planes of stitched tiles: its box, its layout, and what each command does to them.
 #![tactic(auto)]
 
 mod command;

@@ -1,7 +1,8 @@
 //! How many tiles a plane may have.
-ghost use Rattle.std.specs.Prelude.{◌≡◌};
+ghost use Rattle.std.specs.Prelude.{◌≡◌, ◌≤◌};
 ghost use Rattle.std.specs.Option.{SomeIff};
-ghost use Rattle.mls_session.specs.Quotas.{IsQuota, default_quota};
+ghost use Rattle.mls_session.specs.Quotas.{IsQuota, default_quota, most_quota};
+ghost use Rattle.mls_session.specs.Sessions.{plane_reserve};
 
 use std::marker::Model;
 
@@ -13,6 +14,9 @@ const MOST: u32 = 16_384;
 
 /// The quota of a session if the user gives none.
 const DEFAULT: u32 = 1024;
+
+/// How many tiles a plane reserves beyond those that it may have.
+const SPARE: u32 = 64;
 
 /// The most tiles that each plane of a session may have, from 5 to 16384.
 #[derive(Clone, Copy, Debug, PartialEq, Eq)]
@@ -50,6 +54,14 @@ impl Quota {
         ensures legal { IsQuota self }
     {
         self.tiles
+    }
+
+    /// Returns how many tiles a plane reserves: 64 more than it may have.
+    pub fn reserve(self) -> u32
+        ensures value { result ≡ plane_reserve self }
+        ensures bound { result ≤ plane_reserve most_quota }
+    {
+        self.tiles + SPARE
     }
 }
 

@@ -1,30 +1,33 @@
-//! One session: a box, and a layout that commands change.
-ghost use Rattle.std.specs.Prelude.{◌≡◌, ◌<◌, IfOk, length};
+//! One session: a box, and the planes of a layout, which commands change.
+ghost use Rattle.std.specs.Prelude.{◌≡◌, ◌*◌, ◌<◌, ◌≤◌, IfOk, OnErr, length, vec_capacity};
+ghost use Rattle.std.specs.List.{All};
+ghost use Rattle.mls_geom.specs.Pictures.{overlaid};
+ghost use Rattle.mls_tilepool.specs.Pools.{Pool, unreserved};
+ghost use Rattle.mls_paint.specs.Scratches.{KeepsRoom};
 ghost use Rattle.mls_session.specs.Own.{Config, Step, box_step, opening, paint_step, repaint_step, what_step};
-ghost use Rattle.mls_geom.specs.Pictures.{painted};
-ghost use Rattle.mls_session.specs.Planes.{AreEmpty, ArePlanes};
 
 use crate::{Command, Quota, Refusal, Reply};
-use mls_geom::{Cover, Piece, Rect, RectFault, Scratch};
+use mls_geom::{Piece, Rect, RectFault};
 use mls_kinds::KindSet;
+use mls_paint::{Scratch, kinds, overlay, space_plane};
+use mls_stitch::Plane;
 use mls_tech::Tech;
+use mls_tilepool::Pool;
 use std::alloc::{AllocError, Global};
 use std::marker::Model;
 
-/// A session: its box, and what covers each plane.
+/// A session: its box, and its planes, whose tiles lie in a pool.
 ///
-/// A session reserves all its memory when it is made; no command allocates.
+/// The pool, the scratch and the list in which a command makes the pieces that it paints are lent by the caller. No command
+/// allocates.
 #[derive(Drop)]
 pub struct Session {
     quota: Quota,
     box_rect: Option<Rect>,
-    planes: Vec<Cover>,
-    scratch: Scratch,
+    planes: Vec<Plane>,
 }
 
 impl Model for Session {
-    ghost use Rattle.std.specs.Prelude.{◌≡◌, ◌+◌};
-    ghost use Rattle.mls_session.specs.Planes.{ArePlanes};
     ghost use Rattle.mls_session.specs.Quotas.{IsQuota};
     ghost use Rattle.mls_session.specs.Sessions.{Session};
 
@@ -32,28 +35,41 @@ impl Model for Session {
 
     ghost view = { λ s. record { box = s.box_rect; planes = s.planes.items; quota = s.quota } };
 
-    ghost invariant = { λ s. IsQuota s.quota × ArePlanes s.quota s.planes.items × (s.scratch.room ≡ s.quota + 1) };
+    ghost invariant = { λ s. IsQuota s.quota };
 }
 
 impl Session {
-    ghost use Rattle.mls_session.specs.Sessions.{OnRefused, config_of, state_of};
+    ghost use Rattle.mls_session.specs.Sessions.{AddsOwners, ChangesAmong, IsHome, OnRefused, config_of, plane_reserve, state_of};
 
-    /// Creates a session over the planes of a technology, with no box and an empty layout.
+    /// Opens a session over the planes of a technology, with no box and an empty layout.
     ///
-    /// Reserves the memory for as many tiles on each plane as the quota allows.
-    #[tactic(auto, using(crate::proofs::Openings::state_of_empty))]
-    pub fn new(alloc: Global, tech: &Tech, quota: Quota) -> Result<Session, AllocError>
-        ensures opening { IfOk result (λ session. state_of session ≡ opening) }
+    /// Each plane reserves 64 tiles more than the quota. The pool must have room for them.
+    pub fn open(
+        alloc: Global,
+        pool: &mut Pool,
+        tech: &Tech,
+        quota: Quota,
+        scratch: &mut Scratch,
+    ) -> Result<Session, AllocError>
+        requires room { tech.now.plane_count * plane_reserve quota ≤ unreserved pool.old }
+        requires scratch { plane_reserve quota ≤ scratch.old.room }
+        ensures opening { IfOk result (λ session. state_of pool.new session ≡ opening) }
+        ensures home { IfOk result (λ session. IsHome pool.new session) }
         ensures planes { IfOk result (λ session. length session.planes ≡ tech.now.plane_count) }
         ensures quota { IfOk result (λ session. session.quota ≡ quota) }
+        ensures added { IfOk result (λ session. AddsOwners pool.old pool.new session.planes (plane_reserve quota)) }
+        ensures refused { OnErr result (pool.new ≡ pool.old) }
+        ensures rooms { KeepsRoom scratch.old scratch.new }
     {
-        let planes = empty_planes(alloc, tech.planes(), quota)?;
-        let scratch = Scratch::new(alloc, quota.tiles() + 1)?;
+        let mut planes = Vec::with_capacity(alloc, tech.planes())?;
+        let reserve = quota.reserve();
+        for _plane in 0..tech.planes() {
+            planes.push_reserved(space_plane(pool, reserve, scratch).unwrap());
+        }
         Ok(Session {
             quota,
             box_rect: None,
             planes,
-            scratch,
         })
     }
 
@@ -62,12 +78,27 @@ impl Session {
     /// Types are those of `tech`, which must have as many planes as the session. Pass the technology that
     /// the session was made for: another one with as many planes may put a type on another plane.
     #[tactic(auto, unfolding(crate::specs::Own::own_step))]
-    pub fn command(&mut self, tech: &Tech, command: Command) -> Reply
+    pub fn command(
+        &mut self,
+        pool: &mut Pool,
+        tech: &Tech,
+        command: Command,
+        pieces: &mut Vec<Piece>,
+        scratch: &mut Scratch,
+    ) -> Reply
+        requires home { IsHome pool.old self.old }
         requires made_for { length self.old.planes ≡ tech.now.plane_count }
-        ensures step { Step (config_of tech.now self.old) (state_of self.old) command result (state_of self.new) }
-        ensures config { config_of tech.now self.new ≡ config_of tech.now self.old }
-        ensures made_for { length self.new.planes ≡ length self.old.planes }
-        ensures refused { OnRefused result (self.new ≡ self.old) }
+        requires piece_fits { 1 ≤ vec_capacity pieces.old }
+        requires tiles_fit { plane_reserve self.old.quota ≤ scratch.old.room }
+        requires paint_fits { 1 ≤ scratch.old.pieces }
+        ensures step { Step (config_of tech.now self.old) (state_of pool.old self.old) command result (state_of pool.new self.new) }
+        ensures home { IsHome pool.new self.new }
+        ensures only { ChangesAmong pool.old pool.new self.old.planes }
+        ensures planes { self.new.planes ≡ self.old.planes }
+        ensures quota { self.new.quota ≡ self.old.quota }
+        ensures refused { OnRefused result ((self.new ≡ self.old) × (pool.new ≡ pool.old)) }
+        ensures pieces_room { vec_capacity pieces.new ≡ vec_capacity pieces.old }
+        ensures rooms { KeepsRoom scratch.old scratch.new }
     {
         match command {
             Command::Box {
@@ -76,16 +107,16 @@ impl Session {
                 right,
                 top,
             } => self.set_box(Rect::new(left, bottom, right, top)),
-            Command::Paint(kind) => self.paint(tech, kind),
-            Command::What => self.what(),
+            Command::Paint(kind) => self.paint(pool, tech, kind, pieces, scratch),
+            Command::What => self.what(pool, scratch),
         }
     }
 
     /// Sets the box, or refuses it by the fault of its lines.
     fn set_box(&mut self, made: Result<Rect, RectFault>) -> Reply
-        ensures step { box_step (state_of self.old) made ≡ (state_of self.new, result) }
+        ensures step { (pool : Pool) → box_step (state_of pool self.old) made ≡ (state_of pool self.new, result) }
+        ensures planes { self.new.planes ≡ self.old.planes }
         ensures quota { self.new.quota ≡ self.old.quota }
-        ensures made_for { length self.new.planes ≡ length self.old.planes }
         ensures refused { OnRefused result (self.new ≡ self.old) }
     {
         match made {
@@ -99,12 +130,27 @@ impl Session {
     }
 
     /// Paints the box with a type, on the type's plane.
-    fn paint(&mut self, tech: &Tech, kind: Option<u8>) -> Reply
-        requires { length self.old.planes ≡ tech.now.plane_count }
-        ensures step { paint_step (config_of tech.now self.old) (state_of self.old) self.old.box kind ≡ (state_of self.new, result) }
+    fn paint(
+        &mut self,
+        pool: &mut Pool,
+        tech: &Tech,
+        kind: Option<u8>,
+        pieces: &mut Vec<Piece>,
+        scratch: &mut Scratch,
+    ) -> Reply
+        requires home { IsHome pool.old self.old }
+        requires made_for { length self.old.planes ≡ tech.now.plane_count }
+        requires piece_fits { 1 ≤ vec_capacity pieces.old }
+        requires tiles_fit { plane_reserve self.old.quota ≤ scratch.old.room }
+        requires paint_fits { 1 ≤ scratch.old.pieces }
+        ensures step { paint_step (config_of tech.now self.old) (state_of pool.old self.old) self.old.box kind ≡ (state_of pool.new self.new, result) }
+        ensures home { IsHome pool.new self.new }
+        ensures only { ChangesAmong pool.old pool.new self.old.planes }
+        ensures planes { self.new.planes ≡ self.old.planes }
         ensures quota { self.new.quota ≡ self.old.quota }
-        ensures made_for { length self.new.planes ≡ length self.old.planes }
-        ensures refused { OnRefused result (self.new ≡ self.old) }
+        ensures refused { OnRefused result ((self.new ≡ self.old) × (pool.new ≡ pool.old)) }
+        ensures pieces_room { vec_capacity pieces.new ≡ vec_capacity pieces.old }
+        ensures rooms { KeepsRoom scratch.old scratch.new }
     {
         let Some(rect) = self.box_rect else {
             return Reply::Refused(Refusal::NoBox);
@@ -115,53 +161,57 @@ impl Session {
         let Some(plane) = tech.plane_of(kind) else {
             return Reply::Refused(Refusal::UnknownType);
         };
-        self.repaint(usize::from(plane), Piece { rect, kind })
+        pieces.clear();
+        pieces.push_reserved(Piece { rect, kind });
+        self.repaint(pool, usize::from(plane), pieces, scratch)
     }
 
-    /// Paints a piece on a plane, unless the plane would then have more tiles than the quota.
-    fn repaint(&mut self, plane: usize, piece: Piece) -> Reply
-        requires { plane < length self.old.planes }
+    /// Paints pieces on a plane, unless the plane would then have more tiles than the quota.
+    fn repaint(
+        &mut self,
+        pool: &mut Pool,
+        plane: usize,
+        pieces: &[Piece],
+        scratch: &mut Scratch,
+    ) -> Reply
+        requires home { IsHome pool.old self.old }
+        requires plane { plane < length self.old.planes }
+        requires tiles_fit { plane_reserve self.old.quota ≤ scratch.old.room }
+        requires pieces_fit { length pieces.now ≤ scratch.old.pieces }
         // It depends on the quota alone of what no command changes.
         ensures step { (config : Config) → config.quota ≡ self.old.quota
-            → repaint_step config (state_of self.old) plane (painted ((state_of self.old).layout plane) piece) ≡ (state_of self.new, result) }
+            → repaint_step config (state_of pool.old self.old) plane (overlaid ((state_of pool.old self.old).layout plane) pieces.now) ≡ (state_of pool.new self.new, result) }
+        ensures home { IsHome pool.new self.new }
+        ensures only { ChangesAmong pool.old pool.new self.old.planes }
+        ensures planes { self.new.planes ≡ self.old.planes }
         ensures quota { self.new.quota ≡ self.old.quota }
-        ensures made_for { length self.new.planes ≡ length self.old.planes }
-        ensures refused { OnRefused result (self.new ≡ self.old) }
+        ensures refused { OnRefused result ((self.new ≡ self.old) × (pool.new ≡ pool.old)) }
+        ensures rooms { KeepsRoom scratch.old scratch.new }
     {
-        let limit = self.quota.tiles() as usize;
-        let cover = &mut self.planes[plane];
-        let Ok(()) = cover.overlay(&[piece], limit, &mut self.scratch) else {
+        let limit = self.quota.tiles();
+        let Ok(_) = overlay(pool, &mut self.planes[plane], pieces, limit, scratch) else {
             return Reply::Refused(Refusal::Quota);
         };
         Reply::Done
     }
 
     /// Returns the types in the box, space among them.
-    fn what(&self) -> Reply
+    fn what(&mut self, pool: &Pool, scratch: &mut Scratch) -> Reply
+        requires home { IsHome pool.now self.old }
+        requires tiles_fit { plane_reserve self.old.quota ≤ scratch.old.room }
         // It depends on the number of planes alone of what no command changes.
-        ensures { (config : Config) → config.planes ≡ length self.now.planes
-            → what_step config (state_of self.now) self.now.box ≡ (state_of self.now, result) }
+        ensures step { (config : Config) → config.planes ≡ length self.old.planes
+            → what_step config (state_of pool.now self.old) self.old.box ≡ (state_of pool.now self.new, result) }
+        ensures same { self.new ≡ self.old }
+        ensures rooms { KeepsRoom scratch.old scratch.new }
     {
         let Some(rect) = self.box_rect else {
             return Reply::Refused(Refusal::NoBox);
         };
-        let mut kinds = KindSet::empty();
-        for cover in &self.planes {
-            kinds = kinds.union(cover.kinds(rect));
+        let mut found = KindSet::empty();
+        for i in 0..self.planes.len() {
+            found = found.union(kinds(pool, &mut self.planes[i], rect, scratch));
         }
-        Reply::Kinds(kinds)
+        Reply::Kinds(found)
     }
-}
-
-/// Empty covers, with room for the quota each.
-fn empty_planes(alloc: Global, count: usize, quota: Quota) -> Result<Vec<Cover>, AllocError>
-    ensures count { IfOk result (λ planes. length planes.items ≡ count) }
-    ensures planes { IfOk result (λ planes. ArePlanes quota planes.items) }
-    ensures empty { IfOk result (λ planes. AreEmpty planes.items) }
-{
-    let mut planes = Vec::with_capacity(alloc, count)?;
-    for _plane in 0..count {
-        planes.push(Cover::new(alloc, quota.tiles() as usize)?)?;
-    }
-    Ok(planes)
 }

@@ -28,3 +28,4 @@ pub mod SortedTiles
 pub mod SplitCalls
 pub mod SplitTiles
 pub mod TilesBeyond
+pub mod TouchedTiles

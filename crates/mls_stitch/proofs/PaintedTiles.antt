@@ -1,17 +1,19 @@
 -- Painting keeps a plane maximal: where all tiles that painted pieces touch give way to the strips of what they and the pieces cover, every tile is a
--- strip of the painted picture.
-use Rattle.std.proofs.Common.{◌≡◌, ◌≢◌, ℕ, zero, suc, true, false, not, Bool, ◌||◌, List, [], ◌∷◌, map, filter, ◌++◌, get_or, All, AllPairs, Contains, Some, inl, inr, ap, subst, ◌∙◌, sym, suc-le-suc, le_of_suc-le-suc, arith}
+-- strip of the painted picture. Touched tiles that are such strips themselves may stay.
+use Rattle.std.proofs.Common.{◌≡◌, ◌≢◌, ℕ, zero, suc, ◌+◌, true, false, not, Bool, ◌||◌, List, [], ◌∷◌, filter, ◌++◌, length, get_or, AllPairs, Contains, Option, Some, inl, inr, ap, subst, ◌∙◌, sym, suc-le-suc, le_of_suc-le-suc, arith}
 use Rattle.std.specs.List.{AllZip, list_any}
 use Rattle.std.specs.Option.{option_map}
 use Rattle.std.proofs.lemmas.Bool.{both_ways, cases_Bool, false_from_ne_true, not-true, not_from_false}
-use Rattle.std.proofs.lemmas.List.Elements.{All-append, All-contains, All-contains_itself, All-filter, All-map, filter_passes}
+use Rattle.std.proofs.lemmas.List.{length-append, length-map}
+use Rattle.std.proofs.lemmas.List.Elements.{All-append, All-contains, All-contains_itself, All-filter, All-map, Contains-get_or, filter_passes}
 use Rattle.std.proofs.lemmas.List.Folds.{Any-from_list_any, list_any_at}
 use Rattle.std.proofs.lemmas.List.Kept.{AllPairs-filter}
 use Rattle.std.proofs.lemmas.Option.{same_Some}
-use Rattle.mls_geom.specs.Locality.{AreCoveredStrips, AreUnorderedStrips, AreUntouched, is_touched, laid, touches}
+use Rattle.mls_geom.specs.Locality.{AreCoveredStrips, AreUnorderedStrips, AreUntouched, covered_count, is_touched, laid, touches}
 use Rattle.mls_geom.specs.Pictures.{overlaid}
-use Rattle.mls_geom.specs.Rects.{IsRectangleIn, common, grown, holds}
+use Rattle.mls_geom.specs.Rects.{common, grown, holds}
 use Rattle.mls_geom.specs.Strips.{IsStrip}
+use Rattle.mls_geom.specs.TileCounts.{tile_count}
 use Rattle.mls_geom.specs.World.{AreLegal, world}
 use Rattle.mls_geom.specs.declared.piece.Piece.{Piece}
 use Rattle.mls_geom.proofs.Ascending.{AllPairs-append, AllPairs-map, Contains-filter, Contains-map}
@@ -22,12 +24,14 @@ use Rattle.mls_geom.proofs.ListLemmas.{All-append_left, All-append_right}
 use Rattle.mls_geom.proofs.Overlays.{overlaid_outside}
 use Rattle.mls_geom.proofs.PiecePictures.{holds_outer}
 use Rattle.mls_geom.proofs.StripPictures.{kind-IsStrip}
+use Rattle.mls_geom.proofs.CoveredCounts.{fresh_strips_number}
 use Rattle.mls_geom.proofs.TouchedStrips.{touched_strips_give_way}
+use Rattle.mls_geom.proofs.UnorderedStrips.{unordered_strips_number}
 use Rattle.mls_tilepool.specs.declared.tile.Tile.{Tile}
 use Rattle.mls_stitch.specs.Areas.{AreInArea}
 use Rattle.mls_stitch.specs.Pending.{keys_of}
 use Rattle.mls_stitch.specs.Replacements.{Replaces}
-use Rattle.mls_stitch.specs.Tilings.{IsMaximal, IsPlane, block_at, block_of, blocks_of, shown}
+use Rattle.mls_stitch.specs.Tilings.{AreBlocks, IsMaximal, IsPlane, block_at, block_of, blocks_of, shown}
 use Rattle.mls_stitch.specs.declared.laid_tile.LaidTile.{LaidTile}
 use Rattle.mls_stitch.proofs.DistinctNumbers.{cases_Contains}
 use Rattle.mls_stitch.proofs.FreshStrips.{AreTouched, pieces_of}
@@ -87,6 +91,29 @@ kept_or_listed tiles touched over key block plane under here unlisted =
     Contains-filter (λ b. not (is_listed touched b)) (blocks_of tiles) block (Contains-blocks_of tiles key block here)
     (not_from_false _ (false_from_ne_true _ (λ listed. unlisted (listed_block tiles touched over key block plane under here listed).0)))
 
+-- listed tiles with one lower-left corner are one
+pub same_corner :
+    (blocks : ℕ → Option Piece) (touched : List LaidTile) (over : List Piece) (p q : LaidTile) → AreBlocks blocks → AreTouched blocks touched over → Contains touched p
+    → Contains touched q → p.piece.rect.left ≡ q.piece.rect.left → p.piece.rect.bottom ≡ q.piece.rect.bottom → p.id ≡ q.id
+same_corner blocks touched over p q tiling under in_p in_q left bottom =
+    let is_p = All-contains (λ t. blocks t.id ≡ Some t.piece) touched p under.each in_p in
+    let is_q = All-contains (λ t. blocks t.id ≡ Some t.piece) touched q under.each in_q in
+    let corner_p = holds_corner world p.piece.rect (legal-AreBlocks blocks p.id p.piece tiling is_p) in
+    let corner_q = holds_corner world q.piece.rect (legal-AreBlocks blocks q.id q.piece tiling is_q) in
+    let corner : holds q.piece.rect p.piece.rect.left p.piece.rect.bottom ≡ true = rw (left, bottom) corner_q in
+    tiling.apart p.id q.id (record { x = p.piece.rect.left; y = p.piece.rect.bottom }) (rw is_p corner_p) (rw is_q corner)
+
+-- so their pieces differ
+pieces_differ :
+    (blocks : ℕ → Option Piece) (touched : List LaidTile) (over : List Piece) → AreBlocks blocks → AreTouched blocks touched over
+    → AllPairs (λ p q. p ≢ q) (pieces_of touched)
+pieces_differ blocks touched over tiling under =
+    AllPairs-map (λ p q. p ≢ q) (λ t. t.piece) touched
+    (λ i j d before within same.
+    under.once i j d before within
+    (same_corner blocks touched over (get_or touched i d) (get_or touched j d) tiling under (Contains-get_or touched i d (omega arith)) (Contains-get_or touched j d within)
+    (ap (λ p. p.rect.left) same) (ap (λ p. p.rect.bottom) same)))
+
 -- the blocks that stay and those of the listed tiles are all strips
 strips_parted :
     (tiles : List (ℕ × Tile)) (touched : List LaidTile) (over : List Piece) → IsPlane tiles → KeysDiffer tiles → IsMaximal tiles → AreTouched (block_at tiles) touched over
@@ -110,15 +137,7 @@ strips_parted tiles touched over plane differ maximal under =
                 Any-append_left (λ p. holds p.rect x y ≡ true) kept (pieces_of touched) (j, block, within', is', here)
           ];
       once = AllPairs-append (λ p q. p ≢ q) kept (pieces_of touched) (AllPairs-filter (λ p q. p ≢ q) stays (blocks_of tiles) maximal.once)
-          (AllPairs-map (λ p q. p ≢ q) (λ t. t.piece) touched (λ i j d before within same.
-          let p = get_or touched i d in
-          let q = get_or touched j d in
-          let is_p = under.each i d (omega arith) in
-          let is_q = under.each j d within in
-          let corner = holds_corner world p.piece.rect (legal-AreBlocks (block_at tiles) p.id p.piece plane.tiling is_p) in
-          let corner' : holds q.piece.rect p.piece.rect.left p.piece.rect.bottom ≡ true = subst (λ r. holds r.rect p.piece.rect.left p.piece.rect.bottom ≡ true) same corner in
-          under.once i j d before within
-          (plane.tiling.apart p.id q.id (record { x = p.piece.rect.left; y = p.piece.rect.bottom }) (rw is_p corner) (rw is_q corner'))))
+          (pieces_differ (block_at tiles) touched over plane.tiling under)
           (λ k d within. All-map (λ q. get_or kept k d ≢ q) (λ t. t.piece) touched (λ j c within' same.
           let t = get_or touched j c in
           let b = get_or kept k d in
@@ -140,6 +159,25 @@ kept_untouched tiles touched over plane differ under all k d within =
     false_from_ne_true _ (λ near.
     both_ways _ (not-true _ (filter_passes stays (blocks_of tiles) k d within)) (block_listed tiles touched over key block plane under here (all key block here near)))
 
+-- so the tile count after painting is that of the tiles that stay, with the strips that take the place of the others
+pub tile_count-painted :
+    (tiles : List (ℕ × Tile)) (touched : List LaidTile) (over : List Piece) → IsPlane tiles → KeysDiffer tiles → IsMaximal tiles → AreTouched (block_at tiles) touched over
+    → AreAllTouched tiles touched over → AreLegal over
+    → tile_count world (overlaid (shown tiles) over) + length touched ≡ length tiles + covered_count world (laid (pieces_of touched ++ over))
+tile_count-painted tiles touched over plane differ maximal under all legal =
+    let kept = kept_of tiles touched in
+    let parted = strips_parted tiles touched over plane differ maximal under in
+    let untouched = kept_untouched tiles touched over plane differ under all in
+    omega (
+      arith,
+      fresh_strips_number world (shown tiles) over kept (pieces_of touched) parted under.kinds legal untouched,
+      unordered_strips_number world (shown tiles) (kept ++ pieces_of touched) parted,
+      unordered_strips_number world (shown tiles) (blocks_of tiles) maximal,
+      length-append kept (pieces_of touched),
+      length-map touched (λ (t : LaidTile). t.piece),
+      length-map tiles (λ (e : ℕ × Tile). block_of tiles e.1),
+    )
+
 -- the block under the key of a fresh piece is that piece
 in_fresh :
     (new : List (ℕ × Tile)) (keys : List ℕ) (fresh : List Piece) (key : ℕ) (block : Piece) → AllZip (λ key piece. block_at new key ≡ Some piece) keys fresh
@@ -152,57 +190,67 @@ in_fresh new (first ∷ keys) (piece ∷ fresh) key block zip here (suc k, withi
     let (j, within', is') = in_fresh new keys fresh key block zip.1 here (k, le_of_suc-le-suc within, is) in
     (suc j, suc-le-suc within', is')
 
--- what a replacement of all touched tiles by the strips of what they and the pieces cover is made of
-pub record IsPainted (old new : List (ℕ × Tile)) (touched : List LaidTile) (over fresh : List Piece) : Type 0 where
+-- what a replacement in which touched tiles give way to the strips of what they all and the pieces cover is made of: some of these strips are put, and a
+-- touched tile that isn't gone is one of them itself
+pub record IsPainted (old new : List (ℕ × Tile)) (touched : List LaidTile) (over fresh : List Piece) (gone : List ℕ) (put : List Piece) : Type 0 where
   pub plane : IsPlane old
   pub maximal : IsMaximal old
   pub under : AreTouched (block_at old) touched over
   pub all : AreAllTouched old touched over
   pub legal : AreLegal over
   pub covered : AreCoveredStrips world (laid (pieces_of touched ++ over)) fresh
-  pub replaced : Replaces old new (keys_of touched) fresh
+  pub strips : (piece : Piece) → Contains put piece → Contains fresh piece
+  pub stays : (key : ℕ) (block : Piece) → Contains (keys_of touched) key → block_at old key ≡ Some block → ¬ (Contains gone key) → Contains fresh block
+  pub replaced : Replaces old new gone put
 
 -- the blocks that stay and the fresh ones are the strips of the painted picture
 painted_strips :
-    (old new : List (ℕ × Tile)) (touched : List LaidTile) (over fresh : List Piece) → KeysDiffer old → IsPainted old new touched over fresh
+    (old new : List (ℕ × Tile)) (touched : List LaidTile) (over fresh : List Piece) (gone : List ℕ) (put : List Piece) → KeysDiffer old
+    → IsPainted old new touched over fresh gone put
     → AreUnorderedStrips world (overlaid (shown old) over) (kept_of old touched ++ fresh)
-painted_strips old new touched over fresh differ painted =
+painted_strips old new touched over fresh gone put differ painted =
     touched_strips_give_way world (shown old) over (kept_of old touched) (pieces_of touched) fresh
     (strips_parted old touched over painted.plane differ painted.maximal painted.under) painted.under.kinds painted.legal
     (kept_untouched old touched over painted.plane differ painted.under painted.all) painted.covered
 
 -- so each tile is one of them
 painted_strip :
-    (old new : List (ℕ × Tile)) (touched : List LaidTile) (over fresh : List Piece) (key : ℕ) (block : Piece) → KeysDiffer old → IsPainted old new touched over fresh
+    (old new : List (ℕ × Tile)) (touched : List LaidTile) (over fresh : List Piece) (gone : List ℕ) (put : List Piece) (key : ℕ) (block : Piece) → KeysDiffer old
+    → IsPainted old new touched over fresh gone put
     → block_at new key ≡ Some block → IsStrip world (overlaid (shown old) over) block
-painted_strip old new touched over fresh key block differ painted here =
+painted_strip old new touched over fresh gone put key block differ painted here =
     let picture = overlaid (shown old) over in
-    let strips = painted_strips old new touched over fresh differ painted in
+    let strips = painted_strips old new touched over fresh gone put differ painted in
     let replaced = painted.replaced in
+    let laid_there = All-append_right (IsStrip world picture) (kept_of old touched) fresh strips.each in
     elim (cases_Contains replaced.keys key) [
       | inl held ↦
-          All-contains (IsStrip world picture) fresh block (All-append_right (IsStrip world picture) (kept_of old touched) fresh strips.each)
-          (in_fresh new replaced.keys fresh key block replaced.laid here held)
+          All-contains (IsStrip world picture) fresh block laid_there (painted.strips block (in_fresh new replaced.keys put key block replaced.laid here held))
       | inr unused ↦
-          elim (cases_Contains (keys_of touched) key) [
-            | inl gone ↦
-                let none = ap (option_map (block_of new)) (replaced.gone key gone unused) in
+          elim (cases_Contains gone key) [
+            | inl away ↦
+                let none = ap (option_map (block_of new)) (replaced.gone key away unused) in
                 absurd (cc)
-            | inr unlisted ↦
-                let there = sym (replaced.blocks key unlisted unused) ∙ here in
-                All-contains (IsStrip world picture) (kept_of old touched) block (All-append_left (IsStrip world picture) (kept_of old touched) fresh strips.each)
-                (kept_or_listed old touched over key block painted.plane painted.under there unlisted)
+            | inr remains ↦
+                let there = sym (replaced.blocks key remains unused) ∙ here in
+                elim (cases_Contains (keys_of touched) key) [
+                  | inl listed ↦ All-contains (IsStrip world picture) fresh block laid_there (painted.stays key block listed there remains)
+                  | inr unlisted ↦
+                      All-contains (IsStrip world picture) (kept_of old touched) block (All-append_left (IsStrip world picture) (kept_of old touched) fresh strips.each)
+                      (kept_or_listed old touched over key block painted.plane painted.under there unlisted)
+                ]
           ]
     ]
 
 -- and the tiles show the painted picture
 pub shown-painted :
-    (old new : List (ℕ × Tile)) (touched : List LaidTile) (over fresh : List Piece) → KeysDiffer old → KeysDiffer new → IsPainted old new touched over fresh
+    (old new : List (ℕ × Tile)) (touched : List LaidTile) (over fresh : List Piece) (gone : List ℕ) (put : List Piece) → KeysDiffer old → KeysDiffer new
+    → IsPainted old new touched over fresh gone put
     → shown new ≡ overlaid (shown old) over
-shown-painted old new touched over fresh differ differ' painted =
+shown-painted old new touched over fresh gone put differ differ' painted =
     let picture = overlaid (shown old) over in
     shown_same new picture painted.replaced.plane differ'
-    (λ key block x y here inside. sym (kind-IsStrip world picture block x y (painted_strip old new touched over fresh key block differ painted here) inside))
+    (λ key block x y here inside. sym (kind-IsStrip world picture block x y (painted_strip old new touched over fresh gone put key block differ painted here) inside))
     (λ x y outside.
     overlaid_outside (shown old) over x y
     (λ k d within. false_from_ne_true _ (λ inside. both_ways (holds world x y) outside (holds_outer world (get_or over k d).rect x y (painted.legal k d within) inside)))
@@ -210,12 +258,13 @@ shown-painted old new touched over fresh differ differ' painted =
 
 -- so the plane is maximal again
 pub IsMaximal-painted :
-    (old new : List (ℕ × Tile)) (touched : List LaidTile) (over fresh : List Piece) → KeysDiffer old → KeysDiffer new → IsPainted old new touched over fresh → IsMaximal new
-IsMaximal-painted old new touched over fresh differ differ' painted =
+    (old new : List (ℕ × Tile)) (touched : List LaidTile) (over fresh : List Piece) (gone : List ℕ) (put : List Piece) → KeysDiffer old → KeysDiffer new
+    → IsPainted old new touched over fresh gone put → IsMaximal new
+IsMaximal-painted old new touched over fresh gone put differ differ' painted =
     IsMaximal-each new painted.replaced.plane differ'
     (λ key block here.
-    subst (λ picture. IsStrip world picture block) (sym (shown-painted old new touched over fresh differ differ' painted))
-    (painted_strip old new touched over fresh key block differ painted here))
+    subst (λ picture. IsStrip world picture block) (sym (shown-painted old new touched over fresh gone put differ differ' painted))
+    (painted_strip old new touched over fresh gone put key block differ painted here))
 
 -- the tiles of the area round a piece are all that it touches
 pub AreAllTouched-area :

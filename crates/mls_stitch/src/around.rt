@@ -34,7 +34,7 @@ fn is_listed(keys: &[usize], id: TileId) -> bool
 }
 
 /// Sorts the tiles by their names, and removes duplicates.
-fn sort_dedup(entries: &mut Vec<LaidTile>)
+pub(crate) fn sort_dedup(entries: &mut Vec<LaidTile>)
     ensures once { AllPairs (λ p q. p.id ≢ q.id) entries.new.items }
     ensures keeps { KeepsKeys entries.old.items entries.new.items }
     ensures room { vec_capacity entries.new ≡ vec_capacity entries.old }
@@ -44,7 +44,7 @@ fn sort_dedup(entries: &mut Vec<LaidTile>)
 }
 
 /// Removes duplicates where there isn't room for that many more tiles.
-fn free_room(entries: &mut Vec<LaidTile>, more: usize)
+pub(crate) fn free_room(entries: &mut Vec<LaidTile>, more: usize)
     ensures free { (vec_len entries.new + more ≤ vec_capacity entries.new)
         ⊎ AllPairs (λ p q. p.id ≢ q.id) entries.new.items }
     ensures keeps { KeepsKeys entries.old.items entries.new.items }

@@ -15,6 +15,7 @@ mod scratch;
 mod split;
 mod stitch;
 mod stitching;
+mod touching;
 mod walk;
 
 pub use laid_tile::LaidTile;

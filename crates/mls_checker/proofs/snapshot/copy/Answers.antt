@@ -1,28 +1,33 @@
-use Rattle.std.proofs.Common.{◌≡◌, true, ap, ◌∙◌}
-use Rattle.mls_geom.specs.Rects.{holds}
-use Rattle.mls_geom.specs.Pictures.{empty_picture, painted}
-use Rattle.mls_checker.specs.Copies.{grid_picture}
-use Rattle.mls_geom.proofs.Overlays.{overlaid-at}
-use Rattle.mls_checker.proofs.Copying.{filled-inside, overlaid-meeting}
+use Rattle.std.proofs.Common.{All, take, ap, ◌∙◌, arith}
+use Rattle.std.proofs.lemmas.List.{take_all}
+use Rattle.mls_paint.specs.Planes.{picture_in}
+use Rattle.mls_stitch.specs.Areas.{AreInArea}
+use Rattle.mls_stitch.specs.Tilings.{block_at}
+use Rattle.mls_tilepool.specs.Pools.{tiles_of}
+use Rattle.mls_checker.proofs.Copying.{HasPiece, Shows, Shows-next, copy_by_found, cut, found-HasPiece}
+use Rattle.mls_checker.proofs.Prefixes.{take_next}
 use Rattle.mls_checker.proofs.snapshot.copy.Goals as goal
 
-pub loop-strip-init : goal.loop-strip-init
-loop-strip-init c = record {
-  rect = c.in_ok-grid.ensures.rect;
-  picture = λ x y inside.
-      rw (c.into_iter-strip-iterator.ensures.into_iter_gives, c.meeting-strip-items.ensures.value, c.in_ok-grid.ensures.empty)
-      (overlaid-meeting empty_picture c.args.cover.now.strips c.args.zone x y inside);
-}
-
-pub loop-strip-preserved : goal.loop-strip-preserved
-loop-strip-preserved c =
-    let grid = c.loop-strip.grid in
-    let strip = c.in-Some.strip in
+pub loop-tile-preserved : goal.loop-tile-preserved
+loop-tile-preserved c =
+    let picture = picture_in c.args.pool.now c.args.plane.now in
+    let tiles = c.tiles-tile-items.result.now in
+    let tile = c.tile-item.result in
+    let index = c.loop-tile.tile-index in
+    let kind : HasPiece picture tile.piece =
+    found-HasPiece c.args.pool.now c.args.plane.now c.args.zone _ tiles index tile c.requires.plane c.find_area.ensures.found c.tiles-tile-items.ensures (omega arith) c.tile-item.is in
     record {
-      rect = c.fill.ensures.rect ∙ c.loop-strip.invariant.rect;
-      picture = λ x y inside.
-          (let here : holds grid.rect x y ≡ true = rw c.loop-strip.invariant.rect inside in
-          overlaid-at (grid_picture c.fill.new.grid) (painted (grid_picture grid) strip) c.next.new.self x y
-          (ap (λ picture. picture x y) c.fill.ensures.picture ∙ filled-inside grid.rect (grid_picture grid) strip x y here)
-          ∙ rw c.in-Some.ensures.steps at (c.loop-strip.invariant.picture x y inside));
+      rect = c.fill.ensures.rect ∙ c.loop-tile.invariant.rect;
+      shown = rw (take_next tiles index tile (omega arith) c.tile-item.is)
+          (Shows-next c.loop-tile.grid c.fill.new.grid picture (take index tiles) tile c.fill.ensures.rect c.fill.ensures.picture kind c.loop-tile.invariant.shown);
     }
+
+pub returns-clause-picture : goal.returns-clause-picture
+returns-clause-picture c =
+    let blocks = block_at (tiles_of c.args.pool.now c.args.plane.now) in
+    let picture = picture_in c.args.pool.now c.args.plane.now in
+    let tiles = c.tiles-tile-items.result.now in
+    let grid = c.loop-tile.grid in
+    let found : AreInArea blocks grid.rect tiles = rw (c.loop-tile.invariant.rect, c.tiles-tile-items.ensures) c.find_area.ensures.found in
+    let all : All (Shows grid picture) tiles = rw (take_all c.loop-tile.tile-index tiles (omega arith)) at c.loop-tile.invariant.shown in
+    copy_by_found blocks grid picture tiles found all ∙ ap (cut picture) c.loop-tile.invariant.rect

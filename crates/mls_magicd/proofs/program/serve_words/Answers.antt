@@ -1,4 +1,4 @@
-use Rattle.std.proofs.Common.{inr, refl, subst}
+use Rattle.std.proofs.Common.{inr, subst}
 use Rattle.std.proofs.lemmas.Result.{err_from_is_err_and}
 use Rattle.mls_wire.specs.Runs.{OpenSession}
 use Rattle.mls_wire.specs.Solos.{open_session_of, setting_of}

@@ -1,31 +1,39 @@
-use Rattle.std.proofs.Common.{◌≡◌, ◌+◌, [], ◌∷◌, ◌++◌, take, ap, sym, ◌∙◌}
-use Rattle.std.proofs.lemmas.List.{take_all, take_more}
+use Rattle.std.proofs.Common.{◌≡◌, ◌<◌, get_or, length, take, ap, sym, ◌∙◌, arith}
+use Rattle.std.proofs.lemmas.List.{take_all}
 use Rattle.std.proofs.lemmas.List.Elements.{All-push}
 use Rattle.std.proofs.lemmas.Slice.Zip.{AllZip-long, all_zipped_more}
 use Rattle.mls_checker.proofs.CopiedLayouts.{IsCopyOf, IsCopyOf-zone, copied_by_copies}
+use Rattle.mls_checker.proofs.LentPlanes.{KeepsRoom-then, given_back}
+use Rattle.mls_checker.proofs.Prefixes.{take_next}
 use Rattle.mls_checker.proofs.snapshot.Snapshot.read.Goals as goal
 
-pub loop-cover-preserved : goal.loop-cover-preserved
-loop-cover-preserved c =
-    let copies = c.loop-cover.copies.items in
+pub loop-index-preserved : goal.loop-index-preserved
+loop-index-preserved c =
+    let pool = c.args.pool.now in
+    let owners = c.args.planes.now in
+    let copies = c.loop-index.copies.items in
     let copy = c.in_ok-copy.field-0 in
-    let cover = c.cover-item.result in
-    let planes = c.args.planes.now in
-    let more : take (c.loop-cover.cover-index + 1) planes ≡ take c.loop-cover.cover-index planes ++ cover ∷ [] =
-    take_more planes c.loop-cover.cover-index cover c.loop-cover-test.true ∙ ap (λ cover. take c.loop-cover.cover-index planes ++ cover ∷ []) (sym c.cover-item.is) in
-    let here : IsCopyOf copy cover = IsCopyOf-zone c.args.zone copy cover c.in_ok-copy.ensures.rect c.in_ok-copy.ensures.picture in
+    let owner = c.index-planes-index.result in
+    let index = c.loop-index.index in
+    let below : index < length owners = omega (arith, ap length c.loop-index.invariant.owners) in
+    let there : owner ≡ get_or owners index owner = rw c.loop-index.invariant.owners at c.index-planes-index.is in
+    let here : IsCopyOf pool copy owner = IsCopyOf-zone pool c.args.zone copy owner c.in_ok-copy.ensures.rect (rw (← c.index-planes-index.is) at c.in_ok-copy.ensures.picture) in
     rw c.in_ok-push.ensures.items
     (record {
-      zone = All-push (λ grid. grid.rect ≡ c.args.zone) copies copy c.loop-cover.invariant.zone c.in_ok-copy.ensures.rect;
-      copies = rw more (all_zipped_more IsCopyOf copies (take c.loop-cover.cover-index planes) copy cover c.loop-cover.invariant.copies here);
+      zone = All-push (λ grid. grid.rect ≡ c.args.zone) copies copy c.loop-index.invariant.zone c.in_ok-copy.ensures.rect;
+      copies = rw (take_next owners index owner below there) (all_zipped_more (IsCopyOf pool) copies (take index owners) copy owner c.loop-index.invariant.copies here);
+      owners = given_back c.loop-index.planes index owner c.copy.new.plane c.copy.ensures.owner ∙ c.loop-index.invariant.owners;
+      rooms = KeepsRoom-then c.args.scratch.now c.loop-index.scratch c.copy.new.scratch c.loop-index.invariant.rooms c.copy.ensures.rooms;
     })
 
 pub returns-clause-planes : goal.returns-clause-planes
 returns-clause-planes c =
-    let whole : take c.loop-cover.cover-index c.args.planes.now ≡ c.args.planes.now = take_all c.loop-cover.cover-index c.args.planes.now c.loop-cover-test.false in
-    sym (rw whole at (AllZip-long IsCopyOf c.loop-cover.copies.items (take c.loop-cover.cover-index c.args.planes.now) c.loop-cover.invariant.copies))
+    let owners = c.args.planes.now in
+    let whole : take c.loop-index.index owners ≡ owners = take_all c.loop-index.index owners (omega (arith, ap length c.loop-index.invariant.owners)) in
+    sym (rw whole at (AllZip-long (IsCopyOf c.args.pool.now) c.loop-index.copies.items (take c.loop-index.index owners) c.loop-index.invariant.copies))
 
 pub returns-clause-layout : goal.returns-clause-layout
 returns-clause-layout c =
-    let whole : take c.loop-cover.cover-index c.args.planes.now ≡ c.args.planes.now = take_all c.loop-cover.cover-index c.args.planes.now c.loop-cover-test.false in
-    rw whole at (copied_by_copies c.args.zone c.loop-cover.copies.items (take c.loop-cover.cover-index c.args.planes.now) c.loop-cover.invariant.zone c.loop-cover.invariant.copies)
+    let owners = c.args.planes.now in
+    let whole : take c.loop-index.index owners ≡ owners = take_all c.loop-index.index owners (omega (arith, ap length c.loop-index.invariant.owners)) in
+    copied_by_copies c.args.pool.now c.args.zone c.loop-index.copies.items owners c.loop-index.invariant.zone (rw whole at c.loop-index.invariant.copies)

@@ -1,29 +1,54 @@
 -- Each turn adds the kinds of one plane more.
-use Rattle.std.proofs.Common.{◌≡◌, Some, sym, ap, ◌∙◌, length, refl, arith}
-use Rattle.std.specs.List.{slice_get}
-use Rattle.std.proofs.lemmas.Option.{slice_get_read}
+use Rattle.std.proofs.Common.{◌≡◌, List, ℕ, Some, get_or, length, sym, ap, ◌∙◌, refl, arith}
 use Rattle.mls_session.specs.Sessions.{Session, state_of}
+use Rattle.mls_session.specs.declared.reply.Reply.TheVariants.{Kinds}
 use Rattle.mls_session.proofs.BoxTypes.{types_none, types_more, types_all, what_step-Kinds}
+use Rattle.mls_session.proofs.HomePlanes.{HasStrips-at, planes_kept}
+use Rattle.mls_session.proofs.SessionPlanes.{layout_in-at}
 use Rattle.mls_session.proofs.session.Session.what.Goals as goal
 
-pub loop-cover-init : goal.loop-cover-init
-loop-cover-init c = λ config. c.empty-kinds.ensures ∙ sym (types_none config (state_of c.args.self.now).layout c.in-Some.rect)
+pub loop-i-init : goal.loop-i-init
+loop-i-init c = record {
+  same = c.self.view_is;
+  found = λ config. c.empty-found.ensures ∙ sym (types_none config (state_of c.args.pool.now c.args.self.now).layout c.in-Some.rect);
+  rooms = record { room = refl; pieces = refl };
+}
 
-pub loop-cover-preserved : goal.loop-cover-preserved
-loop-cover-preserved c = λ config.
+pub kinds-requires-clause-plane : goal.kinds-requires-clause-plane
+kinds-requires-clause-plane c =
     let session = c.args.self.now in
-    let plane = c.loop-cover.cover-index in
-    let is_plane = slice_get_read _ _ plane c.cover-item.result refl (omega arith) c.cover-item.is in
-    let has_plane : slice_get session.planes plane ≡ Some c.cover-item.result = cc (is_plane, c.self.view_is, c.deref-cover-items.ensures.value) in
-    let more = types_more config (state_of session).layout c.in-Some.rect plane in
-    c.union-kinds.ensures ∙ rw (more, has_plane, ← c.kinds.ensures, ← c.loop-cover.invariant config) refl
+    let owner = c.index_mut.result.now in
+    let same = c.loop-i.invariant.same in
+    let is : owner ≡ get_or session.planes c.loop-i.i owner = c.index_mut.ensures.value ∙ ap (λ (kept : Session). get_or kept.planes c.loop-i.i owner) same in
+    let whole = ap (λ (kept : Session). length kept.planes) c.self.view_is in
+    (HasStrips-at c.args.pool.now session c.loop-i.i owner c.requires.home (omega (arith, whole)) is).plane
 
-pub returns : goal.returns
-returns c = λ config same.
+pub loop-i-preserved : goal.loop-i-preserved
+loop-i-preserved c =
+    let session = c.args.self.now in
+    let owner = c.index_mut.result.now in
+    let turn = c.loop-i in
+    let is : owner ≡ get_or session.planes turn.i owner = c.index_mut.ensures.value ∙ ap (λ (kept : Session). get_or kept.planes turn.i owner) turn.invariant.same in
+    let whole = ap (λ (kept : Session). length kept.planes) c.self.view_is in
+    let shows = layout_in-at c.args.pool.now session.planes turn.i owner (omega (arith, whole)) is in
+    let kept = planes_kept turn.self-inside.planes.items turn.i owner c.kinds.new.plane c.index_mut.ensures.value c.kinds.ensures.plane in
+    record {
+      same = ap (λ (planes : List ℕ). record { box = turn.self-inside.box_rect; planes = planes; quota = turn.self-inside.quota }) kept ∙ turn.invariant.same;
+      found = λ config.
+          let more = types_more config (state_of c.args.pool.now session).layout c.in-Some.rect turn.i in
+          c.union-found.ensures ∙ rw (more, shows, ← c.kinds.ensures.kinds, ← turn.invariant.found config) refl;
+      rooms = record {
+        room = c.kinds.ensures.rooms.room ∙ turn.invariant.rooms.room;
+        pieces = c.kinds.ensures.rooms.pieces ∙ turn.invariant.rooms.pieces;
+      };
+    }
+
+pub returns-clause-step : goal.returns-clause-step
+returns-clause-step c = λ config count.
+    let pool = c.args.pool.now in
     let session = c.args.self.now in
     let is_set : session.box ≡ Some c.in-Some.rect = sym (ap (λ (kept : Session). kept.box) c.self.view_is) ∙ c.in-Some.is in
-    let whole : length c.deref-cover-items.result.now ≡ length session.planes =
-    ap length c.deref-cover-items.ensures.value ∙ ap (λ (kept : Session). length kept.planes) c.self.view_is in
-    let all : c.loop-cover.cover-index ≡ config.planes = omega arith in
-    let kinds = c.loop-cover.invariant config ∙ types_all config (state_of session).layout c.in-Some.rect _ all in
-    what_step-Kinds config (state_of session) _ _ _ is_set kinds
+    let whole = ap (λ (kept : Session). length kept.planes) c.self.view_is in
+    let all : c.loop-i.i ≡ config.planes = omega (arith, whole, count) in
+    let kinds = c.loop-i.invariant.found config ∙ types_all config (state_of pool session).layout c.in-Some.rect _ all in
+    what_step-Kinds config (state_of pool session) _ _ _ is_set kinds ∙ ap (λ (kept : Session). (state_of pool kept, Kinds c.loop-i.found)) (sym c.loop-i.invariant.same)

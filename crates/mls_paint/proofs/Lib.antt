@@ -1,0 +1,5 @@
+pub mod AreaKinds
+pub mod ChangedTiles
+pub mod ListedTouched
+pub mod PaintedPlanes
+pub mod SortedPieces

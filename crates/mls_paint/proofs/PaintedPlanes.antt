@@ -1,0 +1,149 @@
+-- What a plane is once the strips of what the listed tiles and the pieces cover have taken the place of those tiles, where tiles that are such strips
+-- stay.
+use Rattle.std.proofs.Common.{◌≡◌, ℕ, ◌+◌, ◌<◌, ◌≤◌, ◌↔◌, Bool, true, false, not, IsTrue, inl, inr, refl, List, ◌++◌, length, Contains, Some, sym, ap, ◌∙◌, subst, arith}
+use Rattle.std.specs.Option.{option_map}
+use Rattle.std.proofs.lemmas.Bool.{both_ways, cases_lt}
+use Rattle.std.proofs.lemmas.List.Elements.{All-contains}
+use Rattle.std.proofs.lemmas.Option.{same_Some}
+use Rattle.mls_geom.specs.Locality.{AreCoveredStrips, HaveKinds, covered_count, is_touched, laid}
+use Rattle.mls_geom.specs.Pictures.{overlaid}
+use Rattle.mls_geom.specs.TileCounts.{tile_count}
+use Rattle.mls_geom.specs.World.{AreLegal, world}
+use Rattle.mls_geom.specs.declared.piece.Piece.{Piece}
+use Rattle.mls_tilepool.specs.Pools.{Pool, count_of, tiles_of}
+use Rattle.mls_tilepool.specs.declared.tile.Tile.{Tile}
+use Rattle.mls_stitch.specs.Pending.{keys_of}
+use Rattle.mls_stitch.specs.Replacements.{Replaces, TakePlace}
+use Rattle.mls_stitch.specs.Tilings.{HasPlane, block_at, block_of}
+use Rattle.mls_stitch.specs.declared.laid_tile.LaidTile.{LaidTile}
+use Rattle.mls_stitch.proofs.FreshStrips.{AreTouched, TakePlace-strips, pieces_of}
+use Rattle.mls_stitch.proofs.FreshTiles.{entry-keys_of}
+use Rattle.mls_stitch.proofs.ListedTiles.{length-le-AreLaid}
+use Rattle.mls_stitch.proofs.PaintedTiles.{IsMaximal-painted, IsPainted, shown-painted, tile_count-painted}
+use Rattle.mls_stitch.proofs.ShownTiles.{KeysDiffer-tiles_of}
+use Rattle.mls_paint.specs.Changes.{CornersDiffer, gone_of, put_of}
+use Rattle.mls_paint.specs.Painting.{KeepsUntouched}
+use Rattle.mls_paint.specs.Planes.{HasStrips, picture_in}
+use Rattle.mls_paint.specs.TouchedTiles.{AreNear, ListTouched}
+use Rattle.mls_paint.proofs.ChangedTiles.{Contains-gone_of, Contains-put_of, CornersDiffer-touched, TakePlace-changes, stays_among}
+use Rattle.mls_paint.proofs.ListedTouched.{AreTouched-ListTouched}
+
+-- the listed tiles of the plane are to give way to the pieces
+pub record GivesWay (pool : Pool) (owner : ℕ) (over : List Piece) (list : List LaidTile) : Type 0 where
+  pub strips : HasStrips pool owner
+  pub listed : ListTouched (block_at (tiles_of pool owner)) over list
+  pub kinds : HaveKinds (pieces_of list ++ over)
+  pub legal : AreLegal over
+
+-- the listed tiles are at most all
+pub length-ListTouched :
+    (pool : Pool) (owner : ℕ) (over : List Piece) (list : List LaidTile) → ListTouched (block_at (tiles_of pool owner)) over list → length list ≤ count_of pool owner
+length-ListTouched pool owner over list listed = length-le-AreLaid (tiles_of pool owner) list listed.each listed.once
+
+AreTouched-GivesWay :
+    (pool : Pool) (owner : ℕ) (over : List Piece) (list : List LaidTile) → GivesWay pool owner over list → AreTouched (block_at (tiles_of pool owner)) list over
+AreTouched-GivesWay pool owner over list gives =
+    AreTouched-ListTouched (block_at (tiles_of pool owner)) over list gives.strips.plane.plane.tiling gives.listed gives.kinds gives.legal
+
+-- the tile count after painting
+tile_count-GivesWay :
+    (pool : Pool) (owner : ℕ) (over : List Piece) (list : List LaidTile) → GivesWay pool owner over list
+    → tile_count world (overlaid (picture_in pool owner) over) + length list ≡ count_of pool owner + covered_count world (laid (pieces_of list ++ over))
+tile_count-GivesWay pool owner over list gives =
+    tile_count-painted (tiles_of pool owner) list over gives.strips.plane.plane (KeysDiffer-tiles_of pool owner) gives.strips.maximal
+    (AreTouched-GivesWay pool owner over list gives) gives.listed.whole gives.legal
+
+-- so it is over a limit just where the tiles that stay and the strips that take the place of the others are
+pub too_many-GivesWay :
+    (pool : Pool) (owner : ℕ) (over : List Piece) (list : List LaidTile) (limit : ℕ) → GivesWay pool owner over list
+    → (limit + length list < count_of pool owner + covered_count world (laid (pieces_of list ++ over)))
+    ↔ (limit < tile_count world (overlaid (picture_in pool owner) over))
+too_many-GivesWay pool owner over list limit gives = (
+  λ more. omega (arith, tile_count-GivesWay pool owner over list gives),
+  λ more. omega (arith, tile_count-GivesWay pool owner over list gives),
+)
+
+-- what is not refused fits
+pub fits_unless : (fits refused : Bool) (tiles limit : ℕ) → refused ≡ not fits → (IsTrue refused ↔ (limit < tiles)) → IsTrue fits ↔ (tiles ≤ limit)
+fits_unless true refused tiles limit is only = (
+  λ _. elim (cases_lt limit tiles) [
+    | inl more ↦ absurd (both_ways refused is (only.1 more))
+    | inr few ↦ few
+  ],
+  λ _. refl,
+)
+fits_unless false refused tiles limit is only = (λ never. absurd (both_ways false refl never), λ few. absurd (omega (arith, few, only.0 is)))
+
+-- the strips of what the tiles and the pieces cover take their place, other than those that are tiles already
+pub TakePlace-GivesWay :
+    (pool : Pool) (owner : ℕ) (over : List Piece) (list : List LaidTile) (fresh : List Piece) → GivesWay pool owner over list
+    → AreCoveredStrips world (laid (pieces_of list ++ over)) fresh
+    → TakePlace (block_at (tiles_of pool owner)) (keys_of (gone_of list fresh)) (put_of fresh (pieces_of list))
+TakePlace-GivesWay pool owner over list fresh gives covered =
+    let blocks = block_at (tiles_of pool owner) in
+    let under = AreTouched-GivesWay pool owner over list gives in
+    TakePlace-changes blocks list over fresh gives.strips.plane.plane.tiling under (TakePlace-strips blocks list over fresh under covered)
+
+-- no two of the tiles have one lower-left corner
+pub CornersDiffer-GivesWay : (pool : Pool) (owner : ℕ) (over : List Piece) (list : List LaidTile) → GivesWay pool owner over list → CornersDiffer (pieces_of list)
+CornersDiffer-GivesWay pool owner over list gives =
+    CornersDiffer-touched (block_at (tiles_of pool owner)) list over gives.strips.plane.plane.tiling (AreTouched-GivesWay pool owner over list gives)
+
+-- the listed tiles that are no strips have given way to the strips that are no listed tiles
+abbrev pub IsChanged : List (ℕ × Tile) → List (ℕ × Tile) → List LaidTile → List Piece → Type 0
+IsChanged old new list fresh = Replaces old new (keys_of (gone_of list fresh)) (put_of fresh (pieces_of list))
+
+IsPainted-GivesWay :
+    (old new : Pool) (owner : ℕ) (over : List Piece) (list : List LaidTile) (fresh : List Piece) → GivesWay old owner over list
+    → AreCoveredStrips world (laid (pieces_of list ++ over)) fresh → IsChanged (tiles_of old owner) (tiles_of new owner) list fresh
+    → IsPainted (tiles_of old owner) (tiles_of new owner) list over fresh (keys_of (gone_of list fresh)) (put_of fresh (pieces_of list))
+IsPainted-GivesWay old new owner over list fresh gives covered replaced =
+    let under = AreTouched-GivesWay old owner over list gives in
+    record {
+      plane = gives.strips.plane.plane;
+      maximal = gives.strips.maximal;
+      under = under;
+      all = gives.listed.whole;
+      legal = gives.legal;
+      covered = covered;
+      strips = λ piece found. (Contains-put_of fresh (pieces_of list) piece found).0;
+      stays = λ key block listed here remains. stays_among (block_at (tiles_of old owner)) list over fresh key block under listed here remains;
+      replaced = replaced;
+    }
+
+-- then the plane shows the pieces over what it showed
+pub picture-painted :
+    (old new : Pool) (owner : ℕ) (over : List Piece) (list : List LaidTile) (fresh : List Piece) → GivesWay old owner over list
+    → AreCoveredStrips world (laid (pieces_of list ++ over)) fresh → IsChanged (tiles_of old owner) (tiles_of new owner) list fresh
+    → picture_in new owner ≡ overlaid (picture_in old owner) over
+picture-painted old new owner over list fresh gives covered replaced =
+    shown-painted (tiles_of old owner) (tiles_of new owner) list over fresh (keys_of (gone_of list fresh)) (put_of fresh (pieces_of list))
+    (KeysDiffer-tiles_of old owner) (KeysDiffer-tiles_of new owner) (IsPainted-GivesWay old new owner over list fresh gives covered replaced)
+
+-- and its tiles are maximal strips
+pub HasStrips-painted :
+    (old new : Pool) (owner : ℕ) (over : List Piece) (list : List LaidTile) (fresh : List Piece) → GivesWay old owner over list
+    → AreCoveredStrips world (laid (pieces_of list ++ over)) fresh → IsChanged (tiles_of old owner) (tiles_of new owner) list fresh → HasPlane new owner
+    → HasStrips new owner
+HasStrips-painted old new owner over list fresh gives covered replaced home = record {
+  plane = home;
+  maximal =
+      IsMaximal-painted (tiles_of old owner) (tiles_of new owner) list over fresh (keys_of (gone_of list fresh)) (put_of fresh (pieces_of list))
+      (KeysDiffer-tiles_of old owner) (KeysDiffer-tiles_of new owner) (IsPainted-GivesWay old new owner over list fresh gives covered replaced);
+}
+
+-- where a piece touches each listed tile, the tiles that no piece touches stay
+pub KeepsUntouched-IsChanged :
+    (old new : List (ℕ × Tile)) (over : List Piece) (list : List LaidTile) (fresh : List Piece) → ListTouched (block_at old) over list → AreNear over list
+    → IsChanged old new list fresh → KeepsUntouched old new over
+KeepsUntouched-IsChanged old new over list fresh listed near replaced key tile here apart =
+    let block_here : block_at old key ≡ Some (block_of old tile) = ap (option_map (block_of old)) here in
+    let unlisted : ¬ (Contains (keys_of (gone_of list fresh)) key) = λ held.
+    let (entry, away, is_key) = entry-keys_of (gone_of list fresh) key held in
+    let there = (Contains-gone_of list fresh entry away).0 in
+    let laid_there = All-contains (λ t. block_at old t.id ≡ Some t.piece) list entry listed.each there in
+    let same : entry.piece ≡ block_of old tile = same_Some entry.piece (block_of old tile) (sym laid_there ∙ ap (block_at old) is_key ∙ block_here) in
+    both_ways (is_touched over (block_of old tile)) apart
+    (subst (λ p. is_touched over p ≡ true) same (All-contains (λ t. is_touched over t.piece ≡ true) list entry near there)) in
+    let (after, at, kept) = replaced.kept key tile here unlisted in
+    (after, at, kept.corner, kept.kind)

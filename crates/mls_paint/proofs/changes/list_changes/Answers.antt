@@ -1,0 +1,51 @@
+-- A sort of the touched pieces changes nothing in which strips are none of them.
+use Rattle.std.proofs.Common.{◌≡◌, ◌++◌, ℕ, List, length, take, ap, ◌∙◌, rules, arith}
+use Rattle.std.proofs.Math.Seq.{take-append_seam}
+use Rattle.std.proofs.lemmas.List.{length-map}
+use Rattle.std.proofs.lemmas.List.Sorted.{length_permutation}
+use Rattle.mls_stitch.specs.declared.laid_tile.LaidTile.{LaidTile}
+use Rattle.mls_stitch.proofs.FreshStrips.{pieces_of}
+use Rattle.mls_paint.specs.Changes.{gone_of, put_of}
+use Rattle.mls_paint.proofs.ChangedTiles.{length-changes, length-put_of-le}
+use Rattle.mls_paint.proofs.SortedPieces.{AreInOrder-sorted, AreInOrder-strips, put_of-sorted}
+use Rattle.mls_paint.proofs.changes.list_changes.Goals as goal
+
+-- a list that is filled whole has what filled it
+filled : {X : Type 0} (xs ys : List X) (n : ℕ) → n ≡ length xs → take n (xs ++ ys) ≡ xs
+filled xs ys n long = ap (λ k. take k (xs ++ ys)) long ∙ take-append_seam xs ys
+
+pub list_names-requires-clause-order : goal.list_names-requires-clause-order
+list_names-requires-clause-order c = AreInOrder-strips c.args.strips.now c.requires.order
+
+pub list_fresh-requires-clause-order : goal.list_fresh-requires-clause-order
+list_fresh-requires-clause-order c =
+    let pieces = c.args.touched.now.items in
+    let sorted = c.sort_pieces.new.pieces in
+    let moved = rw c.deref_mut.ensures.value at c.sort_pieces.ensures.moved in
+    let long : c.args.touched.now.len ≡ length sorted = omega (arith, length_permutation pieces sorted moved, c.args.touched.now.ok.0) in
+    let is_sorted : c.deref.result.now ≡ sorted = c.deref.ensures.value ∙ filled sorted _ c.args.touched.now.len long in
+    rw is_sorted (AreInOrder-sorted pieces sorted c.requires.corners moved c.sort_pieces.ensures.sorted)
+
+pub returns : goal.returns
+returns c =
+    let tiles = c.args.tiles.now in
+    let strips = c.args.strips.now in
+    let pieces = c.args.touched.now.items in
+    let sorted = c.sort_pieces.new.pieces in
+    let moved = rw c.deref_mut.ensures.value at c.sort_pieces.ensures.moved in
+    let long : c.args.touched.now.len ≡ length sorted = omega (arith, length_permutation pieces sorted moved, c.args.touched.now.ok.0) in
+    let is_sorted : c.deref.result.now ≡ sorted = c.deref.ensures.value ∙ filled sorted _ c.args.touched.now.len long in
+    let same : put_of strips sorted ≡ put_of strips (pieces_of tiles) = put_of-sorted strips pieces sorted moved ∙ ap (put_of strips) c.requires.touched in
+    let put : c.list_fresh.new.fresh.items ≡ put_of strips (pieces_of tiles) = c.list_fresh.ensures.items ∙ ap (put_of strips) is_sorted ∙ same in
+    let named : length c.list_names.new.names.items ≡ length (gone_of tiles strips) =
+    ap length c.list_names.ensures.items ∙ length-map (gone_of tiles strips) (λ (t : LaidTile). t.id) in
+    let changes = length-changes tiles strips (rw c.requires.touched at c.requires.corners) c.requires.order in
+    record {
+      names = c.list_names.ensures.items;
+      fresh = put;
+      few = omega (arith, ap length put, length-put_of-le strips (pieces_of tiles));
+      numbers = omega (arith, ap length put, named, changes);
+      touched_room = search rules;
+      names_room = c.list_names.ensures.room;
+      fresh_room = c.list_fresh.ensures.room;
+    }

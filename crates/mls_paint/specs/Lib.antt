@@ -1,0 +1,5 @@
+pub mod Changes
+pub mod Painting
+pub mod Planes
+pub mod Scratches
+pub mod TouchedTiles

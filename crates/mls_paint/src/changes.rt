@@ -1,0 +1,111 @@
+//! What changes where strips take the place of tiles: a tile that is itself one of the strips stays.
+ghost use Rattle.std.specs.Prelude.{◌≡◌, ◌+◌, ◌≤◌, false, IsTrue, length, map, vec_capacity};
+ghost use Rattle.std.specs.List.{AllPairs};
+ghost use Rattle.std.specs.List.Sorted.{IsPermutation};
+ghost use Rattle.mls_geom.specs.Strips.{comes_before};
+ghost use Rattle.mls_paint.specs.Changes.{AreInOrder, CornersDiffer, corner_of, gone_of, is_among, put_of};
+
+use mls_geom::Piece;
+use mls_stitch::LaidTile;
+use mls_tilepool::TileId;
+
+/// The lower-left corner of a piece, by which strips are in order.
+#[derive(Clone, Copy, PartialEq, Eq, PartialOrd, Ord)]
+struct Corner {
+    bottom: u32,
+    left: u32,
+}
+
+impl Corner {
+    /// Returns the lower-left corner of the piece.
+    fn of(piece: &Piece) -> Corner
+        ensures { result ≡ corner_of piece.now }
+    {
+        let area = piece.rect.area();
+        Corner {
+            bottom: area.bottom,
+            left: area.left,
+        }
+    }
+}
+
+/// Returns whether the piece begins below the other one, or in the same row and further left.
+fn comes_before(piece: &Piece, other: &Piece) -> bool
+    ensures { result ≡ comes_before piece.now other.now }
+{
+    Corner::of(piece) < Corner::of(other)
+}
+
+/// Sorts the pieces by bottom and then left.
+fn sort_pieces(pieces: &mut [Piece])
+    ensures moved { IsPermutation pieces.old pieces.new }
+    ensures sorted { AllPairs (λ p q. comes_before q p ≡ false) pieces.new }
+{
+    pieces.sort_unstable_by_key(|piece| Corner::of(piece));
+}
+
+/// Returns whether the piece is one of these, which are in order.
+fn is_among(pieces: &[Piece], piece: &Piece) -> bool
+    requires { AreInOrder pieces.now }
+    ensures { result ≡ is_among pieces.now piece.now }
+{
+    let before = pieces.partition_point(|other| comes_before(other, piece));
+    pieces.get(before) == Some(piece)
+}
+
+/// Makes `names` the names of the tiles that are none of the strips.
+fn list_names(tiles: &[LaidTile], strips: &[Piece], names: &mut Vec<TileId>)
+    requires order { AreInOrder strips.now }
+    requires room { length tiles.now ≤ vec_capacity names.old }
+    ensures items { names.new.items ≡ map (λ tile. tile.id) (gone_of tiles.now strips.now) }
+    ensures room { vec_capacity names.new ≡ vec_capacity names.old }
+{
+    names.clear();
+    for tile in tiles {
+        if !is_among(strips, &tile.piece) {
+            names.push_reserved(tile.id);
+        }
+    }
+}
+
+/// Makes `fresh` the strips that are none of the touched pieces.
+fn list_fresh(strips: &[Piece], touched: &[Piece], fresh: &mut Vec<Piece>)
+    requires order { AreInOrder touched.now }
+    requires room { length strips.now ≤ vec_capacity fresh.old }
+    ensures items { fresh.new.items ≡ put_of strips.now touched.now }
+    ensures room { vec_capacity fresh.new ≡ vec_capacity fresh.old }
+{
+    fresh.clear();
+    for strip in strips {
+        if !is_among(touched, strip) {
+            fresh.push_reserved(*strip);
+        }
+    }
+}
+
+/// Lists what changes where the strips take the place of the tiles: the names of the tiles that are none of the strips,
+/// and the strips that are none of the tiles. Sorts the tiles' pieces.
+pub(crate) fn list_changes(
+    tiles: &[LaidTile],
+    strips: &[Piece],
+    touched: &mut Vec<Piece>,
+    names: &mut Vec<TileId>,
+    fresh: &mut Vec<Piece>,
+)
+    requires order { AllPairs (λ p q. IsTrue (comes_before p q)) strips.now }
+    requires touched { touched.old.items ≡ map (λ tile. tile.piece) tiles.now }
+    requires corners { CornersDiffer touched.old.items }
+    requires tiles_fit { length tiles.now ≤ vec_capacity names.old }
+    requires strips_fit { length strips.now ≤ vec_capacity fresh.old }
+    ensures names { names.new.items ≡ map (λ tile. tile.id) (gone_of tiles.now strips.now) }
+    ensures fresh { fresh.new.items ≡ put_of strips.now (map (λ tile. tile.piece) tiles.now) }
+    ensures few { length fresh.new.items ≤ length strips.now }
+    ensures numbers { length fresh.new.items + length tiles.now ≡ length strips.now + length names.new.items }
+    ensures touched_room { vec_capacity touched.new ≡ vec_capacity touched.old }
+    ensures names_room { vec_capacity names.new ≡ vec_capacity names.old }
+    ensures fresh_room { vec_capacity fresh.new ≡ vec_capacity fresh.old }
+{
+    sort_pieces(touched);
+    list_names(tiles, strips, names);
+    list_fresh(strips, touched, fresh);
+}

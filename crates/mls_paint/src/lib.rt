@@ -1,0 +1,12 @@
+//! Painting on planes of stitched tiles, which are their maximal horizontal strips whenever no call is under way
+//! (Ousterhout 1984).
+#![tactic(auto)]
+
+mod changes;
+mod paint;
+mod planes;
+mod scratch;
+
+pub use paint::{Painted, TooManyTiles, fits, overlay, overlay_within};
+pub use planes::{find_area, kinds, space_plane, strips_of, tile_count};
+pub use scratch::Scratch;

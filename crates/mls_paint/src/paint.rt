@@ -1,0 +1,206 @@
+//! Painting pieces over a plane.
+ghost use Rattle.std.specs.Prelude.{◌≡◌, ◌+◌, ◌<◌, ◌≤◌, ◌↔◌, ◌++◌, false, true, IfOk, IfSome, IsErr, IsTrue, OnErr, OnOk, length, map, vec_capacity};
+ghost use Rattle.mls_geom.specs.Locality.{AreCoveredStrips, HaveKinds, covered_count, laid};
+ghost use Rattle.mls_geom.specs.Pictures.{overlaid};
+ghost use Rattle.mls_geom.specs.TileCounts.{tile_count};
+ghost use Rattle.mls_geom.specs.World.{AreLegal, world};
+ghost use Rattle.mls_tilepool.specs.Pools.{count_of, room_of, tiles_of};
+ghost use Rattle.mls_stitch.specs.Tilings.{ChangesOnly, HasPlane, block_at};
+ghost use Rattle.mls_paint.specs.Painting.{KeepsUntouched};
+ghost use Rattle.mls_paint.specs.Planes.{HasStrips, picture_in};
+ghost use Rattle.mls_paint.specs.Scratches.{HasRoomFor, KeepsRoom};
+ghost use Rattle.mls_paint.specs.TouchedTiles.{AreNear, ListTouched};
+
+use crate::Scratch;
+use crate::changes::list_changes;
+use crate::planes::read_count;
+use mls_geom::{Piece, Scratch as Sweep, TooMany, fresh_strips};
+use mls_stitch::{LaidTile, Plane};
+use mls_tilepool::Pool;
+use thiserror::Error;
+
+/// How many searches, and tiles that they find, one call takes before it takes all tiles as touched instead.
+const TURNS: u32 = 1 << 20;
+
+/// How a plane was painted.
+#[derive(Clone, Copy, Debug, PartialEq, Eq)]
+pub struct Painted {
+    /// Whether all tiles were taken as touched, where otherwise those that no piece touches stayed.
+    pub rebuilt: bool,
+}
+
+/// The plane would have more tiles than its limit.
+#[derive(Clone, Copy, Debug, PartialEq, Eq, Error)]
+#[error("too many tiles")]
+pub struct TooManyTiles;
+
+impl From<TooMany> for TooManyTiles {
+    fn from(_: TooMany) -> TooManyTiles {
+        TooManyTiles
+    }
+}
+
+/// Paints pieces over a plane in turn. The tiles that they touch give way to others, but for those that are strips of
+/// the painted plane.
+///
+/// Fails if the plane would then have more than `limit` tiles, and leaves it as it was.
+pub fn overlay(
+    pool: &mut Pool,
+    plane: &mut Plane,
+    over: &[Piece],
+    limit: u32,
+    scratch: &mut Scratch,
+) -> Result<Painted, TooManyTiles>
+    requires strips { HasStrips pool.old plane.old }
+    requires limit { IfSome (room_of pool.old plane.old) (λ room. limit ≤ room) }
+    requires room { HasRoomFor pool.old plane.old scratch.old }
+    requires pieces_fit { length over.now ≤ scratch.old.pieces }
+    ensures picture { OnOk result (picture_in pool.new plane.old ≡ overlaid (picture_in pool.old plane.old) over.now) }
+    ensures strips { HasStrips pool.new plane.old }
+    ensures too_many { IsErr result ↔ (limit < tile_count world (overlaid (picture_in pool.old plane.old) over.now)) }
+    ensures refused { OnErr result (pool.new ≡ pool.old) }
+    ensures kept { IfOk result (λ painted. painted.rebuilt ≡ false → KeepsUntouched (tiles_of pool.old plane.old) (tiles_of pool.new plane.old) over.now) }
+    ensures only { ChangesOnly pool.old pool.new plane.old }
+    ensures plane { plane.new ≡ plane.old }
+    ensures rooms { KeepsRoom scratch.old scratch.new }
+{
+    overlay_within(pool, plane, over, limit, TURNS, scratch)
+}
+
+/// Paints pieces over a plane as [`overlay`] does, and takes all tiles as touched where more than `turns` searches, and
+/// tiles that they find, would be needed.
+pub fn overlay_within(
+    pool: &mut Pool,
+    plane: &mut Plane,
+    over: &[Piece],
+    limit: u32,
+    turns: u32,
+    scratch: &mut Scratch,
+) -> Result<Painted, TooManyTiles>
+    requires strips { HasStrips pool.old plane.old }
+    requires limit { IfSome (room_of pool.old plane.old) (λ room. limit ≤ room) }
+    requires room { HasRoomFor pool.old plane.old scratch.old }
+    requires pieces_fit { length over.now ≤ scratch.old.pieces }
+    ensures picture { OnOk result (picture_in pool.new plane.old ≡ overlaid (picture_in pool.old plane.old) over.now) }
+    ensures strips { HasStrips pool.new plane.old }
+    ensures too_many { IsErr result ↔ (limit < tile_count world (overlaid (picture_in pool.old plane.old) over.now)) }
+    ensures refused { OnErr result (pool.new ≡ pool.old) }
+    ensures kept { IfOk result (λ painted. painted.rebuilt ≡ false → KeepsUntouched (tiles_of pool.old plane.old) (tiles_of pool.new plane.old) over.now) }
+    ensures rebuilt { IfOk result (λ painted. turns ≡ 0 → painted.rebuilt ≡ true) }
+    ensures only { ChangesOnly pool.old pool.new plane.old }
+    ensures plane { plane.new ≡ plane.old }
+    ensures rooms { KeepsRoom scratch.old scratch.new }
+{
+    let count = read_count(pool, plane, scratch);
+    let rebuilt = find_touched(pool, plane, over, turns, scratch);
+    let Scratch {
+        search,
+        sweep,
+        touched,
+        names,
+        fresh,
+        ..
+    } = scratch;
+    find_fresh(search.tiles(), over, count, limit, touched, sweep)?;
+    list_changes(search.tiles(), sweep.strips(), touched, names, fresh);
+    plane.replace(pool, names, fresh, search).unwrap();
+    Ok(Painted { rebuilt })
+}
+
+/// Returns whether [`overlay`] would succeed.
+pub fn fits(
+    pool: &Pool,
+    plane: &mut Plane,
+    over: &[Piece],
+    limit: u32,
+    scratch: &mut Scratch,
+) -> bool
+    requires strips { HasStrips pool.now plane.old }
+    requires limit { IfSome (room_of pool.now plane.old) (λ room. limit ≤ room) }
+    requires room { HasRoomFor pool.now plane.old scratch.old }
+    requires pieces_fit { length over.now ≤ scratch.old.pieces }
+    ensures fits { IsTrue result ↔ (tile_count world (overlaid (picture_in pool.now plane.old) over.now) ≤ limit) }
+    ensures plane { plane.new ≡ plane.old }
+    ensures rooms { KeepsRoom scratch.old scratch.new }
+{
+    let count = read_count(pool, plane, scratch);
+    find_touched(pool, plane, over, TURNS, scratch);
+    let Scratch {
+        search,
+        sweep,
+        touched,
+        ..
+    } = scratch;
+    find_fresh(search.tiles(), over, count, limit, touched, sweep).is_ok()
+}
+
+/// Finds the tiles that the pieces touch, or all tiles where that takes more than `turns`, and leaves them in the
+/// scratch. Returns whether it found all.
+fn find_touched(
+    pool: &Pool,
+    plane: &mut Plane,
+    over: &[Piece],
+    turns: u32,
+    scratch: &mut Scratch,
+) -> bool
+    requires plane { HasPlane pool.now plane.old }
+    requires room { count_of pool.now plane.old ≤ scratch.old.room }
+    ensures found { ListTouched (block_at (tiles_of pool.now plane.old)) over.now scratch.new.tiles }
+    ensures near { result ≡ false → AreNear over.now scratch.new.tiles }
+    ensures few { length scratch.new.tiles ≤ count_of pool.now plane.old }
+    ensures no_turns { turns ≡ 0 → result ≡ true }
+    ensures plane { plane.new ≡ plane.old }
+    ensures rooms { KeepsRoom scratch.old scratch.new }
+{
+    if turns > 0 && plane.touching(pool, over, turns as usize, &mut scratch.search) {
+        return false;
+    }
+    plane.strips_of(pool, &mut scratch.search);
+    true
+}
+
+/// Makes `pieces` the rectangles and kinds of the tiles.
+fn list_pieces(tiles: &[LaidTile], pieces: &mut Vec<Piece>)
+    requires { length tiles.now ≤ vec_capacity pieces.old }
+    ensures items { pieces.new.items ≡ map (λ tile. tile.piece) tiles.now }
+    ensures room { vec_capacity pieces.new ≡ vec_capacity pieces.old }
+{
+    pieces.clear();
+    for tile in tiles {
+        pieces.push_reserved(tile.piece);
+    }
+}
+
+/// Finds the strips that take the place of the tiles when pieces are painted over their plane, which has `count` tiles.
+///
+/// Fails if the plane would then have more than `limit` tiles.
+fn find_fresh(
+    tiles: &[LaidTile],
+    over: &[Piece],
+    count: usize,
+    limit: u32,
+    touched: &mut Vec<Piece>,
+    sweep: &mut Sweep,
+) -> Result<(), TooManyTiles>
+    requires some { length tiles.now ≤ count }
+    requires tiles_fit { length tiles.now ≤ vec_capacity touched.old }
+    requires pieces_fit { length tiles.now + length over.now ≤ sweep.old.room }
+    requires strips_fit { limit ≤ sweep.old.room }
+    ensures strips { OnOk result (AreCoveredStrips world (laid (map (λ tile. tile.piece) tiles.now ++ over.now)) sweep.new.strips) }
+    ensures fits { OnOk result (count + length sweep.new.strips ≤ limit + length tiles.now) }
+    ensures too_many { IsErr result ↔ (limit + length tiles.now < count + covered_count world (laid (map (λ tile. tile.piece) tiles.now ++ over.now))) }
+    ensures kinds { HaveKinds (map (λ tile. tile.piece) tiles.now ++ over.now) }
+    ensures legal { AreLegal over.now }
+    ensures touched { touched.new.items ≡ map (λ tile. tile.piece) tiles.now }
+    ensures touched_room { vec_capacity touched.new ≡ vec_capacity touched.old }
+    ensures sweep_room { sweep.new.room ≡ sweep.old.room }
+{
+    list_pieces(tiles, touched);
+    let limit = limit as usize;
+    let fresh = fresh_strips(touched, over, limit, sweep)?;
+    let kept = count - tiles.len();
+    if limit - fresh < kept {
+        return Err(TooManyTiles);
+    }
+    Ok(())
+}

@@ -1,0 +1,101 @@
+//! Planes of space, and what a plane shows.
+ghost use Rattle.std.specs.Prelude.{◌≡◌, ◌+◌, ◌<◌, ◌≤◌, ◌↔◌, IfOk, IsErr, OnErr, OnOk, length, map};
+ghost use Rattle.mls_geom.specs.Pictures.{empty_picture, kinds_in};
+ghost use Rattle.mls_geom.specs.Strips.{AreStrips};
+ghost use Rattle.mls_geom.specs.TileCounts.{tile_count};
+ghost use Rattle.mls_geom.specs.World.{world};
+ghost use Rattle.mls_tilepool.specs.Pools.{count_of, tiles_of, unreserved};
+ghost use Rattle.mls_stitch.specs.Areas.{AreInArea};
+ghost use Rattle.mls_stitch.specs.Tilings.{HasPlane, block_at};
+ghost use Rattle.mls_paint.specs.Planes.{AddsOwner, HasStrips, picture_in};
+ghost use Rattle.mls_paint.specs.Scratches.{HasRoomFor, KeepsRoom};
+
+use crate::Scratch;
+use mls_geom::{Piece, Rect};
+use mls_kinds::KindSet;
+use mls_stitch::Plane;
+use mls_tilepool::{Pool, PoolFull};
+
+/// Makes a plane of space, and reserves `tiles` tiles for it.
+///
+/// Fails if fewer are unreserved, and leaves the pool as it was.
+pub fn space_plane(pool: &mut Pool, tiles: u32, scratch: &mut Scratch) -> Result<Plane, PoolFull>
+    requires some { 1 ≤ tiles }
+    requires room { 1 ≤ scratch.old.room }
+    ensures full { IsErr result ↔ (unreserved pool.old < tiles) }
+    ensures strips { IfOk result (λ plane. HasStrips pool.new plane) }
+    ensures space { IfOk result (λ plane. picture_in pool.new plane ≡ empty_picture) }
+    ensures added { IfOk result (λ plane. AddsOwner pool.old pool.new plane tiles) }
+    ensures taken { OnOk result (unreserved pool.new + tiles ≡ unreserved pool.old) }
+    ensures refused { OnErr result (pool.new ≡ pool.old) }
+    ensures rooms { KeepsRoom scratch.old scratch.new }
+{
+    let owner = pool.reserve(tiles)?;
+    let space = Piece {
+        rect: Rect::world(),
+        kind: 0,
+    };
+    Ok(Plane::build(pool, owner, &[space], &mut scratch.search))
+}
+
+/// Reads how many tiles the plane has, for which there is room.
+pub(crate) fn read_count(pool: &Pool, plane: &Plane, scratch: &Scratch) -> usize
+    requires plane { HasPlane pool.now plane.now }
+    requires room { HasRoomFor pool.now plane.now scratch.now }
+    ensures count { result ≡ count_of pool.now plane.now }
+    ensures within { result ≤ scratch.now.room }
+{
+    pool.count(plane.owner()) as usize
+}
+
+/// Finds the tiles that have a square of the area, by their bottom, clipped to the area, and then their left, and
+/// leaves them in the scratch.
+pub fn find_area(pool: &Pool, plane: &mut Plane, area: Rect, scratch: &mut Scratch)
+    requires plane { HasPlane pool.now plane.old }
+    requires room { HasRoomFor pool.now plane.old scratch.old }
+    ensures found { AreInArea (block_at (tiles_of pool.now plane.old)) area scratch.new.tiles }
+    ensures plane { plane.new ≡ plane.old }
+    ensures rooms { KeepsRoom scratch.old scratch.new }
+{
+    read_count(pool, plane, scratch);
+    plane.area(pool, area, &mut scratch.search);
+}
+
+/// Finds all tiles of the plane, by bottom and then left, and leaves them in the scratch.
+pub fn strips_of(pool: &Pool, plane: &mut Plane, scratch: &mut Scratch)
+    requires strips { HasStrips pool.now plane.old }
+    requires room { HasRoomFor pool.now plane.old scratch.old }
+    ensures found { AreInArea (block_at (tiles_of pool.now plane.old)) world scratch.new.tiles }
+    ensures strips { AreStrips world (picture_in pool.now plane.old) (map (λ tile. tile.piece) scratch.new.tiles) }
+    ensures plane { plane.new ≡ plane.old }
+    ensures rooms { KeepsRoom scratch.old scratch.new }
+{
+    read_count(pool, plane, scratch);
+    plane.strips_of(pool, &mut scratch.search);
+}
+
+/// Returns the kinds below 64 that the squares of the rectangle have.
+pub fn kinds(pool: &Pool, plane: &mut Plane, rect: Rect, scratch: &mut Scratch) -> KindSet
+    requires plane { HasPlane pool.now plane.old }
+    requires room { HasRoomFor pool.now plane.old scratch.old }
+    ensures kinds { result ≡ kinds_in (picture_in pool.now plane.old) rect }
+    ensures plane { plane.new ≡ plane.old }
+    ensures rooms { KeepsRoom scratch.old scratch.new }
+{
+    find_area(pool, plane, rect, scratch);
+    let mut kinds = KindSet::empty();
+    for tile in scratch.tiles() {
+        if tile.piece.kind < 64 {
+            kinds.insert(tile.piece.kind);
+        }
+    }
+    kinds
+}
+
+/// Returns how many maximal strips the plane has, in one step.
+pub fn tile_count(pool: &Pool, plane: &Plane) -> u32
+    requires { HasStrips pool.now plane.now }
+    ensures { result ≡ tile_count world (picture_in pool.now plane.now) }
+{
+    pool.count(plane.owner())
+}

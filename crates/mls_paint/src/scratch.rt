@@ -1,0 +1,76 @@
+//! Lists in which planes are painted and searched.
+ghost use Rattle.std.specs.Prelude.{◌≡◌, ◌+◌, ◌≤◌, [], IfOk};
+
+use mls_geom::{Piece, Scratch as Sweep};
+use mls_stitch::{LaidTile, Scratch as Search};
+use mls_tilepool::TileId;
+use std::alloc::{AllocError, Global};
+use std::marker::Model;
+
+/// Lists in which the calls of this crate work. Searches leave there what they find.
+///
+/// All memory is reserved when the scratch is made.
+#[derive(Drop)]
+pub struct Scratch {
+    room: usize,
+    pieces: usize,
+    pub(crate) search: Search,
+    pub(crate) sweep: Sweep,
+    pub(crate) touched: Vec<Piece>,
+    // The tiles that are to give way, and the strips that are to take their place.
+    pub(crate) names: Vec<TileId>,
+    pub(crate) fresh: Vec<Piece>,
+}
+
+impl Model for Scratch {
+    ghost use Rattle.std.specs.Prelude.{◌≡◌, ◌+◌, ◌≤◌, vec_capacity};
+    ghost use Rattle.mls_paint.specs.Scratches.{Scratch};
+
+    ghost Value = { Scratch };
+
+    ghost view = { λ s. record { tiles = s.search.tiles; room = s.room; pieces = s.pieces } };
+
+    ghost invariant = { λ s. (s.search.room ≡ s.room) × (s.sweep.room ≡ s.room + s.pieces)
+        × (s.room ≤ vec_capacity s.touched) × (s.room ≤ vec_capacity s.names) × (s.room ≤ vec_capacity s.fresh) };
+}
+
+impl Scratch {
+    /// Creates a scratch for planes of at most `room` tiles, over which at most `pieces` pieces are painted at once.
+    pub fn new(alloc: Global, room: u32, pieces: u32) -> Result<Scratch, AllocError>
+        requires { room + pieces ≤ 4294967295 }
+        ensures room { IfOk result (λ s. s.room ≡ room) }
+        ensures pieces { IfOk result (λ s. s.pieces ≡ pieces) }
+        ensures none_found { IfOk result (λ s. s.tiles ≡ []) }
+    {
+        Ok(Scratch {
+            room: room as usize,
+            pieces: pieces as usize,
+            search: Search::new(alloc, room)?,
+            sweep: Sweep::new(alloc, room + pieces)?,
+            touched: Vec::with_capacity(alloc, room as usize)?,
+            names: Vec::with_capacity(alloc, room as usize)?,
+            fresh: Vec::with_capacity(alloc, room as usize)?,
+        })
+    }
+
+    /// Returns how many tiles a plane may have.
+    pub fn room(&self) -> usize
+        ensures { result ≡ self.now.room }
+    {
+        self.room
+    }
+
+    /// Returns how many pieces may be painted at once.
+    pub fn pieces(&self) -> usize
+        ensures { result ≡ self.now.pieces }
+    {
+        self.pieces
+    }
+
+    /// Returns the tiles that were found last.
+    pub fn tiles(&self) -> &[LaidTile]
+        ensures { result.now ≡ self.now.tiles }
+    {
+        self.search.tiles()
+    }
+}

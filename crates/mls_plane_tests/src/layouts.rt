@@ -1,0 +1,83 @@
+//! Planes of stitched tiles in one pool.
+ghost use Rattle.std.specs.Prelude.{◌≡◌, IfOk};
+
+use mls_checker::Snapshot;
+use mls_geom::{Piece, Rect};
+use mls_paint::{Scratch, overlay, space_plane};
+use mls_stitch::Plane;
+use mls_tilepool::Pool;
+use std::alloc::{AllocError, Global};
+use std::marker::Model;
+use std::test::Fail;
+
+/// How many tiles each plane may have.
+const ROOM: u32 = 100;
+
+/// How many pieces each plane may be made of.
+const PIECES: u32 = 16;
+
+/// The planes of a layout, in a pool with room for four.
+#[derive(Drop)]
+pub struct Layout {
+    pool: Pool,
+    planes: Vec<Plane>,
+    scratch: Scratch,
+}
+
+impl Model for Layout {
+    ghost use Rattle.std.specs.Prelude.{◌≡◌, Some};
+    ghost use Rattle.std.specs.List.{All};
+    ghost use Rattle.mls_paint.specs.Planes.{HasStrips};
+    ghost use Rattle.mls_tilepool.specs.Pools.{Pool, room_of};
+
+    ghost Value = { Pool };
+
+    ghost view = { λ l. l.pool };
+
+    ghost invariant = { λ l. All (λ owner. HasStrips l.pool owner) l.planes.items
+        × All (λ owner. room_of l.pool owner ≡ Some 100) l.planes.items
+        × (l.scratch.room ≡ 100) × (l.scratch.pieces ≡ 16) };
+}
+
+impl Layout {
+    /// A layout without planes.
+    pub fn new(alloc: Global) -> Result<Layout, AllocError> {
+        Ok(Layout {
+            pool: Pool::new(alloc, 4 * ROOM)?,
+            planes: Vec::new(alloc),
+            scratch: Scratch::new(alloc, ROOM, PIECES)?,
+        })
+    }
+
+    /// The layout with one plane more, over which pieces are painted.
+    pub fn with(self, pieces: &[Piece]) -> Result<Layout, Fail> {
+        let Layout {
+            mut pool,
+            mut planes,
+            mut scratch,
+        } = self;
+        if pieces.len() > scratch.pieces() {
+            return Err(Fail::new("too many pieces"));
+        }
+        let mut plane = space_plane(&mut pool, ROOM, &mut scratch)?;
+        overlay(&mut pool, &mut plane, pieces, ROOM, &mut scratch)?;
+        planes.push(plane)?;
+        Ok(Layout {
+            pool,
+            planes,
+            scratch,
+        })
+    }
+
+    /// Copies the squares of a zone.
+    pub fn snapshot(&mut self, alloc: Global, zone: Rect) -> Result<Snapshot, AllocError>
+        ensures { IfOk result (λ snapshot. snapshot.zone ≡ zone) }
+    {
+        Snapshot::read(alloc, &self.pool, &mut self.planes, zone, &mut self.scratch)
+    }
+
+    /// Whether the layout still shows what was copied.
+    pub fn same(&mut self, snapshot: &Snapshot) -> bool {
+        snapshot.same(&self.pool, &mut self.planes, &mut self.scratch)
+    }
+}
