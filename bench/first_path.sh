@@ -3,8 +3,10 @@
 #
 # A grid is k times k squares of poly, each apart from the others, which makes 2 k k + 2 k + 1 tiles. A comb is n tall
 # bars beside a ladder of n short ones, as high together as each tall bar, which makes 6 n + 1 tiles: every band between
-# two of the ladder's edges crosses all tall bars. The lines repaint the squares, or the short bars, one after another,
-# now with ndiff and now with poly, and look at each.
+# two of the ladder's edges crosses all tall bars. A scatter is the first n of 16,000 rectangles of 4 to 16 squares a
+# side, strewn over 1,160 by 1,160 squares by a fixed generator (Park and Miller 1988), poly and ndiff by turns. The
+# lines repaint the squares, the short bars or the rectangles, one after another, now with ndiff and now with poly, and
+# look at each. The last row paints all 16,000 rectangles, once the quota is full those that still fit.
 set -eu
 here=$(cd "$(dirname "${BASH_SOURCE[0]}")/.." && pwd)
 scripts=$(mktemp -d)
@@ -43,6 +45,28 @@ comb() {
         }'
 }
 
+# scatter N ROUNDS: paints N rectangles, and then repaints ROUNDS of them and looks at each
+scatter() {
+    awk -v n="$1" -v rounds="$2" '
+        function roll(limit) { seed = seed * 16807 % 2147483647; return seed % limit }
+        function box(i) { printf "a box %d %d %d %d\n", left[i], bottom[i], right[i], top[i] }
+        BEGIN {
+            seed = 2026
+            print "%open a"
+            for (i = 0; i < n; i++) {
+                left[i] = roll(1160); bottom[i] = roll(1160)
+                right[i] = left[i] + 4 + roll(13); top[i] = bottom[i] + 4 + roll(13)
+                box(i)
+                print (i % 2 == 0) ? "a paint poly" : "a paint ndiff"
+            }
+            for (r = 0; r < rounds; r++) {
+                box(r % n)
+                print ((r + int(r / n)) % 2 == 0) ? "a paint ndiff" : "a paint poly"
+                print "a what"
+            }
+        }'
+}
+
 # seconds FILE: how long magicd takes for a script, the best of three runs
 seconds() {
     local best= start end took
@@ -53,7 +77,6 @@ seconds() {
         took=$((end - start))
         if [ -z "$best" ] || [ "$took" -lt "$best" ]; then best=$took; fi
     done
-    if grep -q refused "$scripts/out"; then echo "a line was refused" >&2; exit 1; fi
     awk -v ns="$best" 'BEGIN { printf "%.6f", ns / 1e9 }'
 }
 
@@ -64,6 +87,7 @@ micros() {
     "$1" "$2" "$3" > "$scripts/after"
     before=$(seconds "$scripts/before")
     after=$(seconds "$scripts/after")
+    if grep -q refused "$scripts/out"; then echo "a line was refused" >&2; exit 1; fi
     awk -v n="$3" -v b="$before" -v a="$after" 'BEGIN { printf "%.1f", (a - b) / n * 1e6 }'
 }
 
@@ -82,3 +106,11 @@ done
 comb_us=$(micros comb 400 3000)
 row comb 400 2401 "$comb_us"
 awk -v grid="$grid_us" -v comb="$comb_us" 'BEGIN { printf "grid/comb\t%.4f\n", grid / comb }'
+for size in 270:1020 1100:3924 4450:14932; do
+    scatter_us=$(micros scatter "${size%:*}" 3000)
+    row scatter "${size%:*}" "${size#*:}" "$scatter_us"
+    if [ -z "${first_us:-}" ]; then first_us=$scatter_us; fi
+done
+awk -v last="$scatter_us" -v first="$first_us" 'BEGIN { printf "scatter of 14932 tiles/of 1020\t%.2f\n", last / first }'
+scatter 16000 0 > "$scripts/all"
+awk -v s="$(seconds "$scripts/all")" 'BEGIN { printf "16000 boxes and paints\t%.1f us each\n", s / 16000 * 1e6 }'

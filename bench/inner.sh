@@ -7,9 +7,9 @@
 #   find near         from a square of the grid to the space beside it, and back
 #   find far          from the first square of the grid to the last, and back
 #   area              all tiles of an area of 20 by 20, of which there are 7
-#   replace in gap    paints a square in the space between two squares of the grid, which gives way to five tiles, and
+#   paint in gap      paints a square in the space between two squares of the grid, which gives way to five tiles, and
 #                     clears it, so that the five give way to one; the space has 4 neighbours
-#   replace in lane   the same in the space between two rows of the grid, which has 4 k + 2 neighbours
+#   paint in lane     the same in the space between two rows of the grid, which has 4 k + 2 neighbours
 #
 # Each time is that of one such step, the least of three runs of all 1,000; of a build the least of three builds.
 set -eu
