@@ -26,7 +26,7 @@ fn main(rt: HostRuntime) -> ExitCode {
 }
 
 /// Returns the words of the command line, of which the first is the program's name.
-fn command_line(rt: &HostRuntime) -> Result<Vec<String>, OptionsFault> {
+fn command_line(rt: &HostRuntime) -> Result<Vec<String>, OptionsFault<'static>> {
     match env::args(rt) {
         Ok(words) => Ok(words.collect(rt.alloc())?),
         Err(error) if error.kind() == ErrorKind::OutOfMemory => Err(OptionsFault::Memory),

@@ -73,7 +73,7 @@ impl Sheet {
     /// Builds the plane of a grid of k by k squares.
     pub fn of_grid(alloc: Global, clock: &impl Clock, k: u8) -> Result<Sheet> {
         let squares = grid(alloc, k)?;
-        let mut sweep = Sweep::new(alloc, ROOM)?;
+        let mut sweep = Sweep::new(alloc, ROOM as usize)?;
         let mut tiles = Tiles::new(alloc, ROOM)?;
         let scratch = Scratch::new(alloc, ROOM, 1)?;
         let mut pool = Pool::new(alloc, ROOM)?;

@@ -16,6 +16,7 @@ pub mod KindsShown
 pub mod Links
 pub mod ListChanges
 pub mod ListLemmas
+pub mod ListedStrips
 pub mod LocalOverlays
 pub mod Overlays
 pub mod Painted
@@ -31,6 +32,7 @@ pub mod Starts
 pub mod StripCovers
 pub mod StripEnds
 pub mod StripLaws
+pub mod StripLists
 pub mod StripPictures
 pub mod SweepRoomLemmas
 pub mod TouchedStrips

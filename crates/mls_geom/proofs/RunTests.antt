@@ -11,7 +11,7 @@ use Rattle.mls_geom.specs.Strips.{IsRun}
 use Rattle.mls_geom.specs.TileCounts.{starts_run, run_end, goes_on_below}
 
 -- of the numbers from one line to another the first ones pass a test: they end at the number before which all pass, and which does not
-front : (p : ℕ → Bool) (low high stop : ℕ) → low ≤ stop → stop ≤ high → ((z : ℕ) → low ≤ z → z < stop → p z ≡ true) → (stop < high → p stop ≡ false)
+pub front : (p : ℕ → Bool) (low high stop : ℕ) → low ≤ stop → stop ≤ high → ((z : ℕ) → low ≤ z → z < stop → p z ≡ true) → (stop < high → p stop ≡ false)
     → low + prefix_len p (range_with_len low (high - low)) ≡ stop
 front p low high stop above below pass fail =
     let n = high - low in
@@ -25,11 +25,11 @@ front p low high stop above below pass fail =
     omega (arith, is)
 
 -- they end within the range
-front_ends : (p : ℕ → Bool) (low high : ℕ) → low ≤ high → low + prefix_len p (range_with_len low (high - low)) ≤ high
+pub front_ends : (p : ℕ → Bool) (low high : ℕ) → low ≤ high → low + prefix_len p (range_with_len low (high - low)) ≤ high
 front_ends p low high up = omega (arith, prefix_len-le-length p (range_with_len low (high - low)), length-range_with_len low (high - low))
 
 -- each of them passes
-front_passes : (p : ℕ → Bool) (low high z : ℕ) → low ≤ high → low ≤ z → z < low + prefix_len p (range_with_len low (high - low)) → p z ≡ true
+pub front_passes : (p : ℕ → Bool) (low high z : ℕ) → low ≤ high → low ≤ z → z < low + prefix_len p (range_with_len low (high - low)) → p z ≡ true
 front_passes p low high z up above before =
     let n = high - low in
     let within : z - low < n = omega (arith, front_ends p low high up) in
@@ -37,7 +37,7 @@ front_passes p low high z up above before =
     ap p (sym (get_or-range_with_len low n (z - low) 0 within ∙ at_z)) ∙ prefix_len_passes p (range_with_len low n) (z - low) 0 (omega arith)
 
 -- the number at which they end does not
-front_stops : (p : ℕ → Bool) (low high : ℕ) → low ≤ high → low + prefix_len p (range_with_len low (high - low)) < high → p (low + prefix_len p (range_with_len low (high - low))) ≡ false
+pub front_stops : (p : ℕ → Bool) (low high : ℕ) → low ≤ high → low + prefix_len p (range_with_len low (high - low)) < high → p (low + prefix_len p (range_with_len low (high - low))) ≡ false
 front_stops p low high up before =
     let n = high - low in
     let k = prefix_len p (range_with_len low n) in
@@ -46,7 +46,7 @@ front_stops p low high up before =
     ap p (sym (get_or-range_with_len low n k 0 within)) ∙ prefix_len_stops p (range_with_len low n) 0 in_range
 
 -- there is one where the first number passes
-front_begins : (p : ℕ → Bool) (low high : ℕ) → low < high → p low ≡ true → low < low + prefix_len p (range_with_len low (high - low))
+pub front_begins : (p : ℕ → Bool) (low high : ℕ) → low < high → p low ≡ true → low < low + prefix_len p (range_with_len low (high - low))
 front_begins p low high up here =
     let n = high - low in
     let some : 0 < length (range_with_len low n) = rw length-range_with_len (omega arith) in

@@ -14,7 +14,7 @@ use Rattle.mls_geom.proofs.StripPictures.{holds-IsStrip}
 use Rattle.mls_geom.proofs.Squares.{squares_where, StandsBefore, stands_before_one_way, length-squares_where, All-squares_where, Contains-squares_where, AllPairs-squares_where, AllPairs-range_with_len, Contains-range_with_len, range_with_len-Contains}
 
 -- the lower-left squares of the strips of a picture, row by row
-pub corners : Rect → Picture → List (ℕ × ℕ)
+unfoldable pub corners : Rect → Picture → List (ℕ × ℕ)
 corners extent picture = squares_where (is_corner extent picture) (columns extent) (rows extent)
 
 -- the lower-left square of a piece
@@ -66,7 +66,7 @@ corners_ascend extent picture =
     (AllPairs-range_with_len extent.bottom (extent.top - extent.bottom))
 
 -- so the strips have just these lower-left squares, in this order
-corners-AreStrips : (extent : Rect) (picture : Picture) (list : List Piece) → AreStrips extent picture list → map corner_of list ≡ corners extent picture
+pub corners-AreStrips : (extent : Rect) (picture : Picture) (list : List Piece) → AreStrips extent picture list → map corner_of list ≡ corners extent picture
 corners-AreStrips extent picture list strips =
     let there = All-map (Contains (corners extent picture)) corner_of list (λ k d within. strip_corner_there extent picture (get_or list k d) (strips.each k d within)) in
     let back =

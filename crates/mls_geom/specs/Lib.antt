@@ -4,6 +4,7 @@ pub mod Locality
 pub mod Pictures
 pub mod Rects
 pub mod Scratches
+pub mod StripLists
 pub mod Strips
 pub mod Sweep
 pub mod TileCounts

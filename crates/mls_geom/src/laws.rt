@@ -4,6 +4,7 @@ ghost use Rattle.std.specs.List.{All};
 ghost use Rattle.mls_geom.specs.Locality.{AreUnorderedStrips, AreCoveredStrips, AreUntouched, HaveKinds, covered_count, is_touched, laid};
 ghost use Rattle.mls_geom.specs.Pictures.{overlaid};
 ghost use Rattle.mls_geom.specs.Rects.{Rect, IsRectangleIn};
+ghost use Rattle.mls_geom.specs.StripLists.{strips_of};
 ghost use Rattle.mls_geom.specs.Strips.{AreStrips, IsStrip};
 ghost use Rattle.mls_geom.specs.TileCounts.{tile_count};
 ghost use Rattle.mls_geom.specs.declared.piece.Piece.{Piece};
@@ -11,6 +12,11 @@ ghost use Rattle.mls_geom.specs.declared.piece.Piece.{Piece};
 /// A picture has one list of strips: two lists of the strips of a picture in an extent are equal.
 pub fn strips_are_one()
     ensures { (extent : Rect) (picture : ℕ → ℕ → ℕ) (xs ys : List Piece) → AreStrips extent picture xs → AreStrips extent picture ys → xs ≡ ys }
+{}
+
+/// The list of the strips of a picture in an extent is the one that is made from its squares alone.
+pub fn strips_are_listed()
+    ensures { (extent : Rect) (picture : ℕ → ℕ → ℕ) (list : List Piece) → AreStrips extent picture list → list ≡ strips_of extent picture }
 {}
 
 /// The strips of a picture in an extent number its tile count, which is counted over the squares alone.

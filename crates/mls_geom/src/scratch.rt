@@ -34,14 +34,16 @@ impl Model for Scratch {
 
 impl Scratch {
     /// Creates a scratch with room for `room` pieces and `room` strips.
-    pub fn new(alloc: Global, room: u32) -> Result<Scratch, AllocError>
+    pub fn new(alloc: Global, room: usize) -> Result<Scratch, AllocError>
         ensures made { IfOk result (λ s. (s.room ≡ room) × (s.strips ≡ [])) }
     {
+        // A list of this many pieces was allocated, so there are few enough for the sums below.
+        let touched = Vec::with_capacity(alloc, room)?;
         Ok(Scratch {
-            room: room as usize,
-            sweep: Sweep::new(alloc, room)?,
-            strips: Vec::with_capacity(alloc, room as usize + 1)?,
-            touched: Vec::with_capacity(alloc, room as usize)?,
+            room,
+            sweep: Sweep::new(alloc, room + 1)?,
+            strips: Vec::with_capacity(alloc, room + 1)?,
+            touched,
         })
     }
 

@@ -40,14 +40,14 @@ pub(crate) struct Sweep {
 impl Sweep {
     ghost use Rattle.mls_geom.specs.Sweep.SweepRooms.{HasSweepRoom};
 
-    /// Reserves room for `room` pieces and one below them all, and for as many strips.
-    pub(crate) fn new(alloc: Global, room: u32) -> Result<Sweep, AllocError>
-        ensures { IfOk result (λ sweep. HasSweepRoom sweep (room + 1)) }
+    /// Reserves room for `room` pieces, and for as many strips.
+    pub(crate) fn new(alloc: Global, room: usize) -> Result<Sweep, AllocError>
+        ensures { IfOk result (λ sweep. HasSweepRoom sweep room) }
     {
-        let room = room as usize + 1;
+        let pieces = Vec::with_capacity(alloc, room)?;
         let ends = 2 * room + 2;
         Ok(Sweep {
-            pieces: Vec::with_capacity(alloc, room)?,
+            pieces,
             lines: Vec::with_capacity(alloc, ends)?,
             starts: Vec::with_capacity(alloc, room)?,
             active: Vec::with_capacity(alloc, room)?,

@@ -1,5 +1,9 @@
+mod CellLoads
+mod CellWords
 mod MessageLemmas
 mod OptionLemmas
 mod QuotaLemmas
 mod QuotaTexts
+mod Refusals
+mod Taken
 mod TechnologyLemmas

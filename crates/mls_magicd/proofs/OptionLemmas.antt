@@ -1,27 +1,32 @@
 -- The parser's results, by the definitions of the command line.
-use Rattle.std.proofs.Common.{◌≡◌, ◌∙◌, ℕ, List, [], Option, Some, None, true, false, inl, inr, ap, ap₂, refl, sym, subst, codes}
-use Rattle.clap.proofs.WalkLemmas.{first_value-rows, one_text-rows}
-use Rattle.clap.specs.Words.{App, Text, AddsArg, HasKind, HasMatchesOf, IsAmong, Kinds, app_of, fault_of, first_of, first_value, found_of, is_simple, is_simple_and_free, kind_of, matches_of, new_app, one_of, one_text, rows_of, rule_of, with_rule}
+use Rattle.std.proofs.Common.{◌≡◌, ◌∙◌, ℕ, Bool, ◌||◌, List, [], Option, Some, None, true, false, inl, inr, ap, ap₂, refl, sym, subst, codes, unwrap_or}
+use Rattle.std.specs.List.{All}
+use Rattle.std.proofs.lemmas.List.Elements.{All-nil, All-push}
+use Rattle.clap.proofs.WalkLemmas.{first_value-rows, one_text-rows, raw_values-rows}
+use Rattle.clap.specs.Words.{App, Text, AddsArg, IsPlain, IsPlainArg, all_of, args_of, groups_of, HasKind, HasMatchesOf, IsAmong, Kinds, app_of, fault_of, first_of, first_value, found_of, is_simple, is_simple_and_free, kind_of, matches_of, new_app, one_of, one_text, rows_of, rule_of, with_rule}
 use Rattle.clap.specs.declared.builder.arg.Arg.{Arg}
 use Rattle.clap.specs.declared.builder.command.Command.{Command}
+use Rattle.clap.specs.declared.builder.command.Command.TheViews.{out-Command}
 use Rattle.clap.specs.declared.error.Error.{Error}
 use Rattle.clap.specs.declared.error.kind.ErrorKind.TheVariants.{OutOfMemory}
 use Rattle.clap.specs.declared.parser.matches.ArgMatches.{ArgMatches}
-use Rattle.mls_magicd.specs.CommandLines.{magicd, tech_rule, quota_rule, faults_in, file_named, quota_named, number_in, IsQuotaOf, IsRefusedBy}
+use Rattle.mls_magicd.specs.CommandLines.{magicd, tech_rule, quota_rule, cells_rule, cell_words, bad_word, faults_in, words_found, IsBadWord, file_named, quota_named, number_in, IsParserFault, IsQuotaOf, IsRefusedBy}
 use Rattle.mls_magicd.specs.declared.options.OptionsFault.{OptionsFault}
-use Rattle.mls_magicd.specs.declared.options.OptionsFault.TheVariants.{Memory, Refused}
+use Rattle.mls_magicd.specs.declared.options.OptionsFault.TheVariants.{Memory, Refused, BadCell}
 
 -- the command that is built is the one that the definitions speak of
-pub magicd-built : (bare named with_tech whole : Command) (tech quota : Arg)
+pub magicd-built : (bare named with_tech with_quota whole : Command) (tech quota cells : Arg)
     → app_of bare ≡ new_app (codes "magicd") → app_of named ≡ app_of bare
     → AddsArg named tech with_tech → rule_of tech ≡ tech_rule → tech.global ≡ false
-    → AddsArg with_tech quota whole → rule_of quota ≡ quota_rule → quota.global ≡ false
+    → AddsArg with_tech quota with_quota → rule_of quota ≡ quota_rule → quota.global ≡ false
+    → AddsArg with_quota cells whole → rule_of cells ≡ cells_rule → cells.global ≡ false
     → app_of whole ≡ magicd
 unfolding magicd
-magicd-built bare named with_tech whole tech quota new same tech_added tech_is tech_local quota_added quota_is quota_local =
+magicd-built bare named with_tech with_quota whole tech quota cells new same tech_added tech_is tech_local quota_added quota_is quota_local cells_added cells_is cells_local =
     let start : app_of named ≡ new_app (codes "magicd") = same ∙ new in
     let first : app_of with_tech ≡ with_rule (new_app (codes "magicd")) tech_rule = tech_added.shape tech_local ∙ ap₂ with_rule start tech_is in
-    quota_added.shape quota_local ∙ ap₂ with_rule first quota_is
+    let second : app_of with_quota ≡ with_rule (with_rule (new_app (codes "magicd")) tech_rule) quota_rule = quota_added.shape quota_local ∙ ap₂ with_rule first quota_is in
+    cells_added.shape cells_local ∙ ap₂ with_rule second cells_is
 
 pub magicd-simple : is_simple magicd ≡ true
 unfolding magicd
@@ -34,10 +39,11 @@ magicd-free = refl
 -- words that are refused, and not since memory ran out, have a fault
 pub refused-for_fault : (words : List Text) (command : Command) (error : Error) (fault : OptionsFault) → app_of command ≡ magicd
     → (is_simple_and_free (app_of command) ≡ true → HasKind (fault_of (app_of command) words) error)
-    → (kind_of error ≡ OutOfMemory → fault ≡ Memory) → IsRefusedBy words fault
+    → (kind_of error ≡ OutOfMemory → fault ≡ Memory) → IsParserFault fault → IsRefusedBy words fault
 unfolding faults_in
-refused-for_fault words command error Memory built fails memory = tt
-refused-for_fault words command error (Refused text) built fails memory =
+refused-for_fault words command error Memory built fails memory parser = tt
+refused-for_fault words command error (BadCell word) built fails memory parser = absurd parser
+refused-for_fault words command error (Refused text) built fails memory parser =
     λ none. elim (fails (ap is_simple_and_free built ∙ magicd-free)) [
       | inl wants ↦ let bad : Refused text ≡ Memory = memory wants in cc
       | inr among ↦ subst (λ (kinds : Kinds). IsAmong (kind_of error) kinds) (ap (λ (a : App). fault_of a words) built ∙ none) among
@@ -68,6 +74,13 @@ unfolding quota_named
 quota-named words command m built matches =
     one_text-rows (found_of m) (codes "quota") ∙ ap (one_of (codes "quota")) (rows-of_words words command m built matches)
 
+pub cells-named : (words : List Text) (command : Command) (m : ArgMatches) → app_of command ≡ magicd → HasMatchesOf (app_of command) words m
+    → words_found (found_of m) ≡ cell_words words
+unfolding cell_words
+cells-named words command m built matches =
+    ap (λ (o : Option (List Text)). unwrap_or o [])
+    (raw_values-rows (found_of m) (codes "cells") ∙ ap (all_of (codes "cells")) (rows-of_words words command m built matches))
+
 -- the quota is the one that the words name
 pub quota-of_words : (words : List Text) (m : ArgMatches) (quota : ℕ)
     → one_text (found_of m) (codes "quota") ≡ quota_named words
@@ -79,3 +92,26 @@ quota-of_words words m quota read usual named = go (quota_named words) read
     go : (o : Option Text) → one_text (found_of m) (codes "quota") ≡ o → IsQuotaOf o quota
     go None e = usual e
     go (Some text) e = named text e
+
+-- a command with no arguments is plain
+pub empty-plain : (command : Command) → args_of command ≡ [] → groups_of command ≡ [] → IsPlain command
+empty-plain command args groups = (subst (λ (list : List Arg). All IsPlainArg list) (sym args) (All-nil IsPlainArg), groups)
+
+-- with one argument more the command is still plain, if the argument is
+pub adds-plain : (old : Command) (a : Arg) (new : Command) → AddsArg old a new → IsPlain old → IsPlainArg a → IsPlain new
+adds-plain old a new added plain is =
+    let same = added.rules in
+    let one : IsPlainArg added.arg = (same.exclusive ∙ is.0, same.conflicts ∙ is.1, same.overrides ∙ is.2, same.groups ∙ is.3) in
+    (subst (λ (args : List Arg). All IsPlainArg args) (sym added.args) (All-push IsPlainArg (args_of old) added.arg plain.0 one), added.groups ∙ plain.1)
+
+-- nor has it global arguments
+pub adds-local : (old : Command) (a : Arg) (new : Command) → AddsArg old a new → (out-Command old).has_globals ≡ false → a.global ≡ false → (out-Command new).has_globals ≡ false
+adds-local old a new added local a_local = added.globals ∙ ap₂ (λ (x y : Bool). x || y) local a_local
+
+-- words that are refused for one that names no cell have no other fault
+pub refused-for_word : (words : List Text) (command : Command) (m : ArgMatches) (fault : OptionsFault) → app_of command ≡ magicd → faults_in words ≡ []
+    → HasMatchesOf (app_of command) words m → IsBadWord (words_found (found_of m)) fault → IsRefusedBy words fault
+refused-for_word words command m Memory built none matches bad = tt
+refused-for_word words command m (Refused text) built none matches bad = absurd bad
+refused-for_word words command m (BadCell word) built none matches bad =
+    (none, subst (λ (found : List Text). bad_word found ≡ Some word.now) (cells-named words command m built matches) bad)

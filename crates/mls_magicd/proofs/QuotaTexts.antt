@@ -20,62 +20,70 @@ use Rattle.clap.specs.declared.builder.value_parser.ValueParser.{ValueParser}
 use Rattle.clap.specs.declared.builder.value_parser.ValueParser.TheVariants.{Signed}
 use Rattle.clap.specs.declared.parser.matches.ArgMatches.{ArgMatches}
 use Rattle.clap.specs.declared.parser.matches.MatchedArg.{MatchedArg}
-use Rattle.mls_magicd.specs.CommandLines.{magicd, tech_rule, quota_rule, IsQuotaText}
+use Rattle.mls_magicd.specs.CommandLines.{magicd, tech_rule, quota_rule, cells_rule, IsQuotaText}
 
 abbrev range : ValueParser
 range = Signed (pos 5) (pos 16384)
 
--- a list of two elements, which a function takes to these values
-record TwoOf {A B : Type 0} (f : A → B) (xs : List A) (p q : B) : Type 0 where
+-- a list of three elements, which a function takes to these values
+record ThreeOf {A B : Type 0} (f : A → B) (xs : List A) (p q r : B) : Type 0 where
   first : A
   second : A
-  both : xs ≡ first ∷ second ∷ []
+  third : A
+  all : xs ≡ first ∷ second ∷ third ∷ []
   first_is : f first ≡ p
   second_is : f second ≡ q
+  third_is : f third ≡ r
 
-two-of_map : {A B : Type 0} (f : A → B) (xs : List A) (p q : B) → map f xs ≡ p ∷ q ∷ [] → TwoOf f xs p q
-two-of_map f [] p q e = cc
-two-of_map f (a ∷ []) p q e = let bad : [] ≡ q ∷ [] = ap (drop 1) e in cc
-two-of_map f (a ∷ b ∷ []) p q e = record {
+three-of_map : {A B : Type 0} (f : A → B) (xs : List A) (p q r : B) → map f xs ≡ p ∷ q ∷ r ∷ [] → ThreeOf f xs p q r
+three-of_map f [] p q r e = cc
+three-of_map f (a ∷ []) p q r e = let bad : [] ≡ q ∷ r ∷ [] = ap (drop 1) e in cc
+three-of_map f (a ∷ b ∷ []) p q r e = let bad : [] ≡ r ∷ [] = ap (drop 2) e in cc
+three-of_map f (a ∷ b ∷ c ∷ []) p q r e = record {
   first = a;
   second = b;
-  both = refl;
+  third = c;
+  all = refl;
   first_is = ap (λ l. get_or l 0 p) e;
   second_is = ap (λ l. get_or l 1 p) e;
+  third_is = ap (λ l. get_or l 2 p) e;
 }
-two-of_map f (a ∷ b ∷ c ∷ rest) p q e = let bad : f c ∷ map f rest ≡ [] = ap (drop 2) e in cc
+three-of_map f (a ∷ b ∷ c ∷ d ∷ rest) p q r e = let bad : f d ∷ map f rest ≡ [] = ap (drop 3) e in cc
 
--- the command's arguments are the two options
-abbrev TwoOptions : List Arg → Type 0
-TwoOptions args = TwoOf rule_of args tech_rule quota_rule
+-- the command's arguments are the two options and the cells
+abbrev AreAll : List Arg → Type 0
+AreAll args = ThreeOf rule_of args tech_rule quota_rule cells_rule
 
-built-options : (command : Command) → app_of command ≡ magicd → TwoOptions (args_of command)
+built-args : (command : Command) → app_of command ≡ magicd → AreAll (args_of command)
 unfolding magicd
-built-options command built = two-of_map rule_of (args_of command) tech_rule quota_rule (ap (λ (a : App). a.top.rules) built)
+built-args command built = three-of_map rule_of (args_of command) tech_rule quota_rule cells_rule (ap (λ (a : App). a.top.rules) built)
 
--- the second option is the only one of its id
-quota-unique : (args : List Arg) (o : TwoOptions args) (j : ℕ) (e : Arg) → j < length args
+-- the second argument is the only one of its id
+quota-unique : (args : List Arg) (o : AreAll args) (j : ℕ) (e : Arg) → j < length args
     → bytes_eq (slice_index_or args j e).id.now (slice_index_or args 1 o.second).id.now ≡ true → j ≡ 1
 quota-unique args o j e low same =
-    go j (subst (λ (l : List Arg). j < length l) o.both low)
-    (subst (λ (l : List Arg). bytes_eq (slice_index_or l j e).id.now (slice_index_or l 1 o.second).id.now ≡ true) o.both same)
+    go j (subst (λ (l : List Arg). j < length l) o.all low)
+    (subst (λ (l : List Arg). bytes_eq (slice_index_or l j e).id.now (slice_index_or l 1 o.second).id.now ≡ true) o.all same)
   where
-    go : (k : ℕ) → k < 2 → bytes_eq (slice_index_or (o.first ∷ o.second ∷ []) k e).id.now o.second.id.now ≡ true → k ≡ 1
+    go : (k : ℕ) → k < 3 → bytes_eq (slice_index_or (o.first ∷ o.second ∷ o.third ∷ []) k e).id.now o.second.id.now ≡ true → k ≡ 1
     go zero lt is =
         let bad : false ≡ true = rw (ap (λ (r : Rule). r.id) o.first_is, ap (λ (r : Rule). r.id) o.second_is) at is in
         cc
     go (suc zero) lt is = refl
-    go (suc (suc k)) lt is = absurd (omega arith)
+    go (suc (suc zero)) lt is =
+        let bad : false ≡ true = rw (ap (λ (r : Rule). r.id) o.third_is, ap (λ (r : Rule). r.id) o.second_is) at is in
+        cc
+    go (suc (suc (suc k))) lt is = absurd (omega arith)
 
 -- each argument of the built command that has the quota's id has its parser
 quota-parser : (command : Command) (m : ArgMatches) (p : IsParsedFrom command m) → app_of command ≡ magicd
     → (j : ℕ) (x : Arg) → j < length (args_of p.built) → slice_index_or (args_of p.built) j x ≡ x → bytes_eq x.id.now (codes "quota") ≡ true
     → parser_of x ≡ range
 quota-parser command m p built j x high at same =
-    let o = built-options command built in
-    let second : slice_index_or (args_of command) 1 o.second ≡ o.second = ap (λ (l : List Arg). slice_index_or l 1 o.second) o.both in
+    let o = built-args command built in
+    let second : slice_index_or (args_of command) 1 o.second ≡ o.second = ap (λ (l : List Arg). slice_index_or l 1 o.second) o.all in
     let id_is : (slice_index_or (args_of command) 1 o.second).id.now ≡ codes "quota" = ap (λ (a : Arg). a.id.now) second ∙ ap (λ (r : Rule). r.id) o.second_is in
-    let within : 1 < length (args_of command) = subst (λ (l : List Arg). 1 < length l) (sym o.both) (omega arith) in
+    let within : 1 < length (args_of command) = subst (λ (l : List Arg). 1 < length l) (sym o.all) (omega arith) in
     let rules : SameRules (slice_index_or (args_of command) 1 o.second) x = same_rules_by_id command m p 1 o.second within (quota-unique (args_of command) o)
     (λ auto. elim auto [
       | inl h ↦ let bad : 113 ≡ 104 = ap (λ (t : Text). get_or t 0 0) (sym id_is ∙ h) in absurd (omega arith)

@@ -1,12 +1,15 @@
 -- The command line of `magicd`, and what its words mean. This project's own.
-use Rattle.std.specs.Prelude.{◌≡◌, ◌≢◌, ℕ, Option, Some, None, List, [], Result, Ok, Err, pos, codes, option_map, ⊤}
+use Rattle.std.specs.Prelude.{◌≡◌, ◌≢◌, ℕ, ◌==◌, not, Option, Some, None, is_some, List, [], ◌∷◌, Result, Ok, Err, pos, codes, find, if◌then◌else◌, map, option_map, unwrap_or, ⊤}
 use Rattle.std.specs.Str.Parse.{digits_value, without_leading_plus}
-use Rattle.clap.specs.Words.{App, IsSignedIn, Kinds, Rule, Text, without_minus, fault_of, first_of, matches_of, new_app, new_rule, one_of, with_rule}
+use Rattle.clap.specs.Words.{App, IsSignedIn, Kinds, Rule, Text, without_minus, all_of, fault_of, first_of, matched_of, matches_of, new_app, new_rule, one_of, raw_values, with_rule}
+use Rattle.clap.specs.declared.builder.action.ArgAction.TheVariants.{Append}
 use Rattle.clap.specs.declared.builder.value_parser.ValueParser.TheVariants.{Signed}
+use Rattle.clap.specs.declared.parser.matches.Found.{Found}
 use Rattle.mls_session.specs.Quotas.{least_quota, most_quota, default_quota}
+use Rattle.mls_magicd.specs.declared.cell_argument.CellArgument.{CellArgument}
 use Rattle.mls_magicd.specs.declared.options.Options.{Options}
 use Rattle.mls_magicd.specs.declared.options.OptionsFault.{OptionsFault}
-use Rattle.mls_magicd.specs.declared.options.OptionsFault.TheVariants.{Memory, Refused}
+use Rattle.mls_magicd.specs.declared.options.OptionsFault.TheVariants.{Memory, Refused, BadCell}
 
 -- `--tech FILE`
 abbrev pub tech_rule : Rule
@@ -16,9 +19,13 @@ tech_rule = record (new_rule (codes "tech")) { long = Some (codes "tech"); value
 abbrev pub quota_rule : Rule
 quota_rule = record (new_rule (codes "quota")) { long = Some (codes "quota"); value_names = 1; parser = Some (Signed (pos least_quota) (pos most_quota)) }
 
--- the two options, and the parser's own `--help`
+-- any number of `NAME=FILE`
+abbrev pub cells_rule : Rule
+cells_rule = record (new_rule (codes "cells")) { value_names = 1; action = Some Append }
+
+-- the two options, the cells, and the parser's own `--help`
 unfoldable pub magicd : App
-magicd = with_rule (with_rule (new_app (codes "magicd")) tech_rule) quota_rule
+magicd = with_rule (with_rule (with_rule (new_app (codes "magicd")) tech_rule) quota_rule) cells_rule
 
 -- the faults that the parser finds in the words, of which asking for help is one; there are none where it takes them
 unfoldable pub faults_in : List Text → Kinds
@@ -31,6 +38,16 @@ file_named words = first_of (codes "tech") (matches_of magicd words)
 -- the number after `--quota`, as text
 unfoldable pub quota_named : List Text → Option Text
 quota_named words = one_of (codes "quota") (matches_of magicd words)
+
+-- the words that are no options, and so name cells, in order
+unfoldable pub cell_words : List Text → List Text
+cell_words words = unwrap_or (all_of (codes "cells") (matches_of magicd words)) []
+
+-- those that a parse found
+abbrev pub words_found : Found → List Text
+words_found found = unwrap_or (option_map raw_values (matched_of found (codes "cells"))) []
+
+-- ---- the quota
 
 -- the number that the digits write, which a plus may precede
 unfoldable pub number_in : Text → ℕ
@@ -45,15 +62,60 @@ abbrev pub IsQuotaOf : Option Text → ℕ → Type 0
 IsQuotaOf None quota = quota ≡ default_quota
 IsQuotaOf (Some text) quota = quota ≡ number_in text
 
+-- ---- the cells
+
+-- a cell's name, and the path of its file
+pub record NamedFile : Type 0 where
+  pub name : Text
+  pub path : Text
+
+-- what a word names, cut at its first `=` (61)
+unfoldable pub named_file : Text → Option NamedFile
+named_file [] = None
+named_file (byte ∷ bytes) =
+    if byte == 61 then Some (record { name = []; path = bytes }) else option_map {T = NamedFile} (λ cut. record cut { name = byte ∷ cut.name }) (named_file bytes)
+
+-- each word names one of the files, in order
+abbrev pub NamesFiles : List Text → List NamedFile → Type 0
+NamesFiles words files = map named_file words ≡ map Some files
+
+-- the first word that has no `=`
+unfoldable pub bad_word : List Text → Option Text
+bad_word words = find (λ word. not (is_some (named_file word))) words
+
+-- what an argument names
+abbrev pub file_of : CellArgument → NamedFile
+file_of argument = record { name = argument.name.now; path = argument.path.now }
+
+-- the fault is the first word that has no `=`; out of memory is left open
+abbrev pub IsBadWord : List Text → OptionsFault → Type 0
+IsBadWord words (BadCell word) = bad_word words ≡ Some word.now
+IsBadWord words Memory = ⊤
+IsBadWord words (Refused text) = ⊥
+
+-- ---- the whole line
+
+-- the parser finds no fault in the words, and each word that names a cell has a `=`
+abbrev pub AreTaken : List Text → Type 0
+AreTaken words = (faults_in words ≡ []) × (bad_word (cell_words words) ≡ None)
+
 -- the words have no fault, and give these options
 abbrev pub ParsesAs : List Text → Options → Type 0
 ParsesAs words options =
-    (faults_in words ≡ []) × (option_map (λ path. path.now) options.tech ≡ file_named words) × IsQuotaOf (quota_named words) options.quota
+    AreTaken words × (option_map (λ path. path.now) options.tech ≡ file_named words) × IsQuotaOf (quota_named words) options.quota
+    × NamesFiles (cell_words words) (map file_of options.cells.items)
+
+-- the fault is one of the parser's
+abbrev pub IsParserFault : OptionsFault → Type 0
+IsParserFault Memory = ⊤
+IsParserFault (Refused text) = ⊤
+IsParserFault (BadCell word) = ⊥
 
 -- the words are refused for a fault that they have; out of memory is left open
 abbrev pub IsRefusedBy : List Text → OptionsFault → Type 0
 IsRefusedBy words Memory = ⊤
 IsRefusedBy words (Refused text) = faults_in words ≢ []
+IsRefusedBy words (BadCell word) = (faults_in words ≡ []) × (bad_word (cell_words words) ≡ Some word.now)
 
 abbrev pub ParsesWords : List Text → Result Options OptionsFault → Type 0
 ParsesWords words (Ok options) = ParsesAs words options

@@ -1,3 +1,4 @@
+pub mod Cells
 pub mod CommandLines
 pub mod FileReads
 pub mod Messages

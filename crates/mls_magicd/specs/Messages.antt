@@ -4,14 +4,18 @@ use Rattle.std.specs.Fmt.{decimal}
 use Rattle.std.specs.Io.KnownBytes.{Appends}
 use Rattle.mls_edgerule.specs.Faults.{rule_fault_number, rule_fault_text}
 use Rattle.mls_edgerule.specs.declared.fault.RuleFault.{RuleFault}
+use Rattle.mls_library.specs.Faults.{fault_number as cell_fault_number, fault_text as cell_fault_text}
+use Rattle.mls_library.specs.declared.fault.CellFault.{CellFault}
 use Rattle.mls_tech.specs.Faults.{fault_number as tech_fault_number, fault_text as tech_fault_text}
 use Rattle.mls_tech.specs.declared.fault.TechFault.{TechFault}
 use Rattle.mls_tech.specs.declared.rule_line.Skipped.{Skipped}
 use Rattle.std.specs.String.{string_bytes}
+use Rattle.mls_magicd.specs.declared.cells.LoadFault.{LoadFault}
+use Rattle.mls_magicd.specs.declared.cells.LoadFault.TheVariants.{Unreadable as CellUnreadable, Faulty as CellFaulty, Memory as LoadMemory}
 use Rattle.mls_magicd.specs.declared.fault.Fault.{Fault}
-use Rattle.mls_magicd.specs.declared.fault.Fault.TheVariants.{Options, Technology, Rule, Memory, Serve}
+use Rattle.mls_magicd.specs.declared.fault.Fault.TheVariants.{Options, Technology, Rule, Cell, Memory, Serve}
 use Rattle.mls_magicd.specs.declared.options.OptionsFault.{OptionsFault}
-use Rattle.mls_magicd.specs.declared.options.OptionsFault.TheVariants.{Refused, Memory as OptionsMemory}
+use Rattle.mls_magicd.specs.declared.options.OptionsFault.TheVariants.{Refused, BadCell, Memory as OptionsMemory}
 use Rattle.mls_magicd.specs.declared.technology.TechnologyFault.{TechnologyFault}
 use Rattle.mls_magicd.specs.declared.technology.TechnologyFault.TheVariants.{Unreadable, Faulty, Memory as TechnologyMemory}
 use Rattle.mls_wire.specs.Serving.{AppendsFront, serve_fault_text}
@@ -28,6 +32,9 @@ serve_fault_line fault = codes "magicd: " ++ serve_fault_text fault ++ 10 ∷ []
 
 unfoldable pub unreadable_line : List ℕ → List ℕ
 unreadable_line path = codes "magicd: cannot read " ++ path ++ 10 ∷ []
+
+unfoldable pub bad_cell_line : List ℕ → List ℕ
+bad_cell_line word = codes "magicd: bad cell argument " ++ word ++ 10 ∷ []
 
 -- a line of the technology has a fault of this sort
 unfoldable pub faulty_line : List ℕ → ℕ → ℕ → List ℕ → List ℕ
@@ -47,9 +54,25 @@ technology_fault_line (Unreadable path) = unreadable_line path.now
 technology_fault_line (Faulty fault) = tech_fault_line fault
 technology_fault_line TechnologyMemory = memory_line
 
+-- a line of a cell's file has a fault
+unfoldable pub faulty_cell_line : List ℕ → ℕ → ℕ → List ℕ → List ℕ
+faulty_cell_line name line number text =
+    codes "magicd: cell " ++ name ++ codes " line " ++ decimal line ++ codes " fault " ++ decimal number ++ 32 ∷ text ++ 10 ∷ []
+
+-- the cell's fault, with its line, number and text
+abbrev pub cell_fault_line : List ℕ → CellFault → List ℕ
+cell_fault_line name fault = faulty_cell_line name fault.line (cell_fault_number fault.kind) (cell_fault_text fault.kind)
+
+-- why a cell isn't loaded
+abbrev pub load_fault_line : LoadFault → List ℕ
+load_fault_line (CellUnreadable path) = unreadable_line path.now
+load_fault_line (CellFaulty name fault) = cell_fault_line name.now fault
+load_fault_line LoadMemory = memory_line
+
 -- why the words are refused
 abbrev pub options_fault_text : OptionsFault → List ℕ
 options_fault_text (Refused text) = string_bytes text
+options_fault_text (BadCell word) = bad_cell_line word.now
 options_fault_text OptionsMemory = memory_line
 
 -- the message for a fault of the program
@@ -57,6 +80,7 @@ abbrev pub fault_text : Fault → List ℕ
 fault_text (Options fault) = options_fault_text fault
 fault_text (Technology fault) = technology_fault_line fault
 fault_text (Rule fault) = rule_fault_line fault
+fault_text (Cell fault) = load_fault_line fault
 fault_text Memory = memory_line
 fault_text (Serve fault) = serve_fault_line fault
 

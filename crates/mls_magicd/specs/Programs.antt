@@ -1,5 +1,5 @@
 -- What the program does with its words, its technology and its script. This project's own.
-use Rattle.std.specs.Prelude.{◌≡◌, ◌≢◌, ℕ, Option, None, Ok, Err, List, [], ◌∷◌, ◌++◌, map}
+use Rattle.std.specs.Prelude.{◌≡◌, ◌≢◌, ◌⊎◌, ℕ, Option, Some, None, Ok, Err, List, [], ◌∷◌, ◌++◌, map}
 use Rattle.mls_edgerule.specs.Compiling.{compiled}
 use Rattle.mls_edgerule.specs.declared.edge_rule.EdgeRule.{EdgeRule}
 use Rattle.mls_tech.specs.Readings.{Tech}
@@ -7,12 +7,15 @@ use Rattle.mls_wire.specs.Runs.{OpenSession, Setting}
 use Rattle.mls_wire.specs.Serving.{HasReason, WritesRun, WritesCutRun}
 use Rattle.mls_wire.specs.Watches.{Watched}
 use Rattle.mls_wire.specs.declared.serving.ServeFault.{ServeFault}
-use Rattle.mls_magicd.specs.CommandLines.{faults_in, file_named, quota_named, IsQuotaOf, IsRefusedBy}
-use Rattle.mls_magicd.specs.Messages.{Reports, ReportsAll, fault_text, serve_fault_line, skipped_line}
+use Rattle.mls_wire.specs.Solos.{pool_tiles}
+use Rattle.mls_magicd.specs.Cells.{LoadsCells, StopsAtCell}
+use Rattle.mls_magicd.specs.CommandLines.{AreTaken, NamedFile, NamesFiles, bad_word, cell_words, faults_in, file_named, quota_named, IsQuotaOf, IsRefusedBy}
+use Rattle.mls_magicd.specs.Messages.{Reports, ReportsAll, bad_cell_line, fault_text, serve_fault_line, skipped_line}
 use Rattle.mls_magicd.specs.Technologies.{HasReading, LacksTechnology}
+use Rattle.mls_magicd.specs.declared.cells.LoadFault.{LoadFault}
 use Rattle.mls_magicd.specs.declared.fault.Fault.{Fault}
-use Rattle.mls_magicd.specs.declared.fault.Fault.TheVariants.{Options, Technology, Rule, Memory, Serve}
-use Rattle.mls_magicd.specs.declared.options.OptionsFault.TheVariants.{Refused, Memory as OptionsMemory}
+use Rattle.mls_magicd.specs.declared.fault.Fault.TheVariants.{Options, Technology, Rule, Cell, Memory, Serve}
+use Rattle.mls_magicd.specs.declared.options.OptionsFault.TheVariants.{Refused, BadCell, Memory as OptionsMemory}
 
 -- ---- exit statuses
 
@@ -30,9 +33,11 @@ bad_command_line = 2
 
 abbrev pub status_after : Fault → ℕ
 status_after (Options (Refused text)) = bad_command_line
+status_after (Options (BadCell word)) = bad_command_line
 status_after (Options OptionsMemory) = failed
 status_after (Technology fault) = failed
 status_after (Rule fault) = failed
+status_after (Cell fault) = failed
 status_after Memory = failed
 status_after (Serve fault) = failed
 
@@ -42,12 +47,30 @@ status_after (Serve fault) = failed
 abbrev pub Compiles : Tech → Type 0
 Compiles tech = (rules : List EdgeRule) × (compiled tech ≡ Ok rules)
 
--- the words have no fault, and the setting has the technology and the quota that they name; `reads_as` relates paths to the bytes that their files may be read as
-pub record IsConfiguredBy (reads_as : List ℕ → List ℕ → Type 0) (words : List (List ℕ)) (setting : Setting) : Type 0 where
-  pub taken : faults_in words ≡ []
+-- the words have no fault, and the setting has the technology and the quota that they name, no cells, and the whole pool; `reads_as` relates paths to the
+-- bytes that their files may be read as
+pub record IsBareFor (reads_as : List ℕ → List ℕ → Type 0) (words : List (List ℕ)) (setting : Setting) : Type 0 where
+  pub taken : AreTaken words
   pub tech : HasReading reads_as (file_named words) setting.tech
-  pub quota : IsQuotaOf (quota_named words) setting.quota
   pub rules : Compiles setting.tech
+  pub quota : IsQuotaOf (quota_named words) setting.quota
+  pub cells : setting.cells ≡ []
+  pub room : setting.room ≡ pool_tiles
+
+-- the setting is that one with the cells that the words name, which were loaded in order
+pub record IsConfiguredBy (reads_as : List ℕ → List ℕ → Type 0) (words : List (List ℕ)) (setting : Setting) : Type 0 where
+  pub bare : Setting
+  pub is_bare : IsBareFor reads_as words bare
+  pub files : List NamedFile
+  pub named : NamesFiles (cell_words words) files
+  pub loaded : LoadsCells reads_as bare files setting
+
+-- one of the cells that the words name isn't loaded into the setting
+pub record IsStoppedBy (reads_as : List ℕ → List ℕ → Type 0) (may_fail : List ℕ → Type 0) (words : List (List ℕ)) (bare : Setting) (fault : LoadFault) : Type 0 where
+  pub is_bare : IsBareFor reads_as words bare
+  pub files : List NamedFile
+  pub named : NamesFiles (cell_words words) files
+  pub stops : StopsAtCell reads_as may_fail bare files fault
 
 -- a line for each skipped line of the technology, in the order of the file
 abbrev pub skipped_lines : Tech → List (List ℕ)
@@ -58,12 +81,14 @@ abbrev pub FailsAtStart : {E : Type 0} → (List ℕ → List ℕ → Type 0) �
     → (E → Option (List ℕ)) → Watched E → Watched E → Fault → Type 0
 FailsAtStart reads_as may_fail words contents old new (Options fault) = IsRefusedBy words fault × (new ≡ old)
 FailsAtStart reads_as may_fail words contents old new (Technology fault) =
-    (faults_in words ≡ []) × LacksTechnology reads_as may_fail (file_named words) fault × (new ≡ old)
+    AreTaken words × LacksTechnology reads_as may_fail (file_named words) fault × (new ≡ old)
 FailsAtStart reads_as may_fail words contents old new (Rule fault) =
-    (tech : Tech) × (faults_in words ≡ []) × HasReading reads_as (file_named words) tech × (compiled tech ≡ Err fault)
+    (tech : Tech) × AreTaken words × HasReading reads_as (file_named words) tech × (compiled tech ≡ Err fault)
     × ReportsAll contents old new (skipped_lines tech)
+FailsAtStart reads_as may_fail words contents old new (Cell fault) =
+    (bare : Setting) × IsStoppedBy reads_as may_fail words bare fault × ReportsAll contents old new (skipped_lines bare.tech)
 FailsAtStart reads_as may_fail words contents old new Memory =
-    (setting : Setting) × IsConfiguredBy reads_as words setting × ReportsAll contents old new (skipped_lines setting.tech)
+    (bare : Setting) × IsBareFor reads_as words bare × ReportsAll contents old new (skipped_lines bare.tech)
 FailsAtStart reads_as may_fail words contents old new (Serve fault) = ⊥
 
 -- the start failed with the status 1, and the fault was reported
@@ -73,9 +98,11 @@ EndsAtStart {E} reads_as may_fail words contents old new =
     (fault : Fault) × (before : Watched E) × (status_after fault ≡ failed)
     × FailsAtStart reads_as may_fail words contents old before fault × Reports contents before new (fault_text fault)
 
--- the words have a fault, and the parser's text was reported
+-- the words have a fault, and the parser's text was reported; or one that should name a cell has no `=`, and the first such word was reported
 abbrev pub RefusesWords : {E : Type 0} → List (List ℕ) → (E → Option (List ℕ)) → Watched E → Watched E → Type 0
-RefusesWords words contents old new = (faults_in words ≢ []) × ((text : List ℕ) × Reports contents old new text)
+RefusesWords words contents old new =
+    ((faults_in words ≢ []) × ((text : List ℕ) × Reports contents old new text))
+    ⊎ ((faults_in words ≡ []) × ((word : List ℕ) × (bad_word (cell_words words) ≡ Some word) × Reports contents old new (bad_cell_line word)))
 
 -- ---- the script
 

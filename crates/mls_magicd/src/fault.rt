@@ -1,7 +1,7 @@
 //! Why the program fails.
 ghost use Rattle.std.specs.Prelude.{◌≡◌};
 
-use crate::{OptionsFault, TechnologyFault};
+use crate::{LoadFault, OptionsFault, TechnologyFault};
 use mls_edgerule::RuleFault;
 use mls_wire::ServeFault;
 use std::alloc::AllocError;
@@ -18,13 +18,16 @@ const BAD_COMMAND_LINE: u8 = 2;
 pub enum Fault<'a> {
     /// The command line is refused.
     #[error(transparent)]
-    Options(OptionsFault),
+    Options(OptionsFault<'a>),
     /// There is no technology.
     #[error(transparent)]
     Technology(TechnologyFault<'a>),
     /// A rule line of the technology can't be compiled.
     #[error(transparent)]
     Rule(RuleFault),
+    /// A cell isn't loaded.
+    #[error(transparent)]
+    Cell(LoadFault<'a>),
     /// Memory ran out as the server was made.
     #[error("memory")]
     Memory,
@@ -33,12 +36,12 @@ pub enum Fault<'a> {
     Serve(ServeFault),
 }
 
-impl From<OptionsFault> for Fault<'_> {
+impl<'a> From<OptionsFault<'a>> for Fault<'a> {
     ghost use Rattle.mls_magicd.specs.declared.fault.Fault.TheVariants.{Options};
 
     ghost from_gives = { λ cause fault. fault ≡ Options cause };
 
-    fn from(cause: OptionsFault) -> Self {
+    fn from(cause: OptionsFault<'a>) -> Self {
         Fault::Options(cause)
     }
 }
@@ -60,6 +63,16 @@ impl From<RuleFault> for Fault<'_> {
 
     fn from(cause: RuleFault) -> Self {
         Fault::Rule(cause)
+    }
+}
+
+impl<'a> From<LoadFault<'a>> for Fault<'a> {
+    ghost use Rattle.mls_magicd.specs.declared.fault.Fault.TheVariants.{Cell};
+
+    ghost from_gives = { λ cause fault. fault ≡ Cell cause };
+
+    fn from(cause: LoadFault<'a>) -> Self {
+        Fault::Cell(cause)
     }
 }
 
@@ -92,8 +105,10 @@ impl Fault<'_> {
     {
         match self {
             Fault::Options(OptionsFault::Refused(_)) => BAD_COMMAND_LINE,
+            Fault::Options(OptionsFault::BadCell(_)) => BAD_COMMAND_LINE,
             Fault::Options(OptionsFault::Memory) => FAILED,
-            Fault::Technology(_) | Fault::Rule(_) | Fault::Memory | Fault::Serve(_) => FAILED,
+            Fault::Technology(_) | Fault::Rule(_) | Fault::Cell(_) => FAILED,
+            Fault::Memory | Fault::Serve(_) => FAILED,
         }
     }
 }

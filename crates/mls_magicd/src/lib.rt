@@ -2,6 +2,8 @@
 //! streams.
 #![tactic(auto)]
 
+mod cell_argument;
+mod cells;
 mod fault;
 mod files;
 mod messages;
@@ -9,6 +11,7 @@ mod options;
 mod program;
 mod technology;
 
+pub use cells::LoadFault;
 pub use fault::Fault;
 pub use files::{FileFault, Files, HostFiles};
 pub use options::OptionsFault;

@@ -6,10 +6,11 @@ ghost use Rattle.mls_wire.specs.Serving.{AppendsFront};
 ghost use Rattle.mls_wire.specs.Watches.{HasCause};
 ghost use Rattle.mls_magicd.specs.Messages as spec;
 
-use crate::{Fault, OptionsFault, TechnologyFault};
+use crate::{Fault, LoadFault, OptionsFault, TechnologyFault};
 use arrayvec::ArrayVec;
 use itoa::Buffer;
 use mls_edgerule::RuleFault;
+use mls_library::CellFault;
 use mls_tech::{Skipped, TechFault};
 use mls_wire::{ServeFault, Watched, WriteFault};
 use std::io::Write;
@@ -27,6 +28,7 @@ pub fn report_fault<E: Write>(faults: &mut Watched<E>, fault: &Fault<'_>)
         Fault::Options(fault) => report_options_fault(faults, fault),
         Fault::Technology(fault) => report_technology_fault(faults, *fault),
         Fault::Rule(fault) => report_rule_fault(faults, *fault),
+        Fault::Cell(fault) => report_load_fault(faults, *fault),
         Fault::Memory => report(faults, &[MEMORY]),
         Fault::Serve(fault) => report_serve_fault(faults, *fault),
     }
@@ -42,13 +44,24 @@ pub fn report_skipped<E: Write>(faults: &mut Watched<E>, skipped: &[Skipped])
 }
 
 /// Reports why the words of the command line are refused.
-fn report_options_fault<E: Write>(faults: &mut Watched<E>, fault: &OptionsFault)
+fn report_options_fault<E: Write>(faults: &mut Watched<E>, fault: &OptionsFault<'_>)
     ensures { spec.Reports E.contents faults.old faults.new (spec.options_fault_text fault.now) }
 {
     match fault {
         OptionsFault::Refused(text) => report(faults, &[text.as_bytes()]),
+        OptionsFault::BadCell(word) => report_bad_cell(faults, word),
         OptionsFault::Memory => report(faults, &[MEMORY]),
     }
+}
+
+/// Reports a word that should name a cell, and has no `=`.
+fn report_bad_cell<E: Write>(faults: &mut Watched<E>, word: &str)
+    ensures { spec.Reports E.contents faults.old faults.new (spec.bad_cell_line word.now) }
+{
+    report(
+        faults,
+        &[b"magicd: bad cell argument ", word.as_bytes(), b"\n"],
+    );
 }
 
 /// Reports why there is no technology.
@@ -60,6 +73,53 @@ fn report_technology_fault<E: Write>(faults: &mut Watched<E>, fault: TechnologyF
         TechnologyFault::Faulty(fault) => report_tech_fault(faults, fault),
         TechnologyFault::Memory => report(faults, &[MEMORY]),
     }
+}
+
+/// Reports why a cell isn't loaded.
+fn report_load_fault<E: Write>(faults: &mut Watched<E>, fault: LoadFault<'_>)
+    ensures { spec.Reports E.contents faults.old faults.new (spec.load_fault_line fault.entry) }
+{
+    match fault {
+        LoadFault::Unreadable(path) => report_unreadable(faults, path),
+        LoadFault::Faulty { name, fault } => report_cell_fault(faults, name, fault),
+        LoadFault::Memory => report(faults, &[MEMORY]),
+    }
+}
+
+/// Reports a fault of the cell of this name.
+fn report_cell_fault<E: Write>(faults: &mut Watched<E>, name: &str, fault: CellFault)
+    ensures { spec.Reports E.contents faults.old faults.new (spec.cell_fault_line name.now fault) }
+{
+    let CellFault { line, kind } = fault;
+    report_faulty_cell(faults, name, line, kind.number(), kind.text());
+}
+
+/// Reports a fault in a line of the file of the cell of this name.
+fn report_faulty_cell<E: Write>(
+    faults: &mut Watched<E>,
+    name: &str,
+    line: usize,
+    number: u8,
+    text: &str,
+)
+    ensures { spec.Reports E.contents faults.old faults.new (spec.faulty_cell_line name.now line number text.now) }
+{
+    let mut line_text = Buffer::new();
+    let mut number_text = Buffer::new();
+    report(
+        faults,
+        &[
+            b"magicd: cell ",
+            name.as_bytes(),
+            b" line ",
+            line_text.format(line).as_bytes(),
+            b" fault ",
+            number_text.format(number).as_bytes(),
+            b" ",
+            text.as_bytes(),
+            b"\n",
+        ],
+    );
 }
 
 /// Reports why a script was left before its end.

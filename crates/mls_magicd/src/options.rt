@@ -1,57 +1,77 @@
 //! The options of the command line.
-ghost use Rattle.std.specs.Prelude.{◌≡◌, ℕ, List, IfOk, map, codes, false};
+ghost use Rattle.std.specs.Prelude.{◌≡◌, ℕ, List, IfOk, IfErr, map, codes, false};
 ghost use Rattle.clap.specs.declared.builder.command.Command.TheViews.{out-Command as fields_of};
 ghost use Rattle.clap.specs.Words.{app_of, found_of, kind_of, one_text, rule_of, IsPlain, IsPlainArg};
 ghost use Rattle.clap.specs.declared.error.kind.ErrorKind.TheVariants.{OutOfMemory};
 ghost use Rattle.mls_session.specs.Quotas.{default_quota};
-ghost use Rattle.mls_magicd.specs.CommandLines.{magicd, tech_rule, quota_rule, number_in, IsQuotaText, ParsesWords};
+ghost use Rattle.mls_magicd.specs.CommandLines.{magicd, tech_rule, quota_rule, cells_rule, file_of, words_found, number_in, IsBadWord, IsParserFault, NamesFiles, IsQuotaText, ParsesWords};
 
+use crate::cell_argument::CellArgument;
 use clap::error::ErrorKind;
-use clap::{Arg, ArgMatches, Command, Error as ParseError, value_parser};
+use clap::{Arg, ArgAction, ArgMatches, Command, Error as ParseError, value_parser};
 use mls_session::Quota;
-use std::alloc::{AllocError, Global};
+use std::alloc::{AllocError, AllocFailed, Global};
 use std::convert::AsStr;
 use thiserror::Error;
 
 /// What the words of the command line ask for.
-#[derive(Clone, Copy, Debug)]
+#[derive(Debug, Drop)]
 pub struct Options<'a> {
     /// The path of the technology's file, if they name one.
     pub tech: Option<&'a str>,
     /// The most tiles that a plane may have.
     pub quota: Quota,
+    /// The cells, in order.
+    pub cells: Vec<CellArgument<'a>>,
 }
 
 /// Why the words of the command line are refused.
 #[derive(Debug, Drop, Error)]
-pub enum OptionsFault {
+pub enum OptionsFault<'a> {
     #[error("memory")]
     Memory,
     /// The words have a fault, or ask for help: the text of the parser.
     #[error("{0}")]
     Refused(String),
+    /// The first word that should name a cell, and has no `=`.
+    #[error("bad cell argument {0}")]
+    BadCell(&'a str),
 }
 
-impl From<AllocError> for OptionsFault {
+impl From<AllocError> for OptionsFault<'_> {
     ghost use Rattle.mls_magicd.specs.declared.options.OptionsFault.TheVariants.{Memory};
 
     ghost from_gives = { λ _ fault. fault ≡ Memory };
 
-    fn from(_error: AllocError) -> OptionsFault {
+    fn from(_error: AllocError) -> Self {
+        OptionsFault::Memory
+    }
+}
+
+impl<T: Drop> From<AllocFailed<T>> for OptionsFault<'_> {
+    ghost use Rattle.mls_magicd.specs.declared.options.OptionsFault.TheVariants.{Memory};
+
+    ghost from_gives = { λ _ fault. fault ≡ Memory };
+
+    fn from(_error: AllocFailed<T>) -> Self {
         OptionsFault::Memory
     }
 }
 
 impl<'a> Options<'a> {
     /// Reads the words of a command line, of which the first is the program's name.
-    pub fn parse<S: AsStr>(alloc: Global, words: &'a [S]) -> Result<Options<'a>, OptionsFault>
+    pub fn parse<S: AsStr>(alloc: Global, words: &'a [S]) -> Result<Options<'a>, OptionsFault<'a>>
         ensures { ParsesWords (map S.text words.entry.now) result }
     {
         match command(alloc)?.try_get_matches_from(words) {
-            Ok(matches) => Ok(Options {
-                tech: matches.get_str("tech"),
-                quota: quota_given(&matches),
-            }),
+            Ok(matches) => {
+                let cells = cells_given(alloc, &matches)?;
+                Ok(Options {
+                    tech: matches.get_str("tech"),
+                    quota: quota_given(&matches),
+                    cells,
+                })
+            }
             Err(error) => Err(refusal(alloc, &error)),
         }
     }
@@ -66,7 +86,8 @@ fn command<'a>(alloc: Global) -> Result<Command<'a>, AllocError>
     let bare = Command::new(alloc, "magicd");
     let named = bare.about("Serves layout scripts from standard input to standard output");
     let with_tech = named.arg(tech_option(alloc))?;
-    with_tech.arg(quota_option(alloc))
+    let with_quota = with_tech.arg(quota_option(alloc))?;
+    with_quota.arg(cells_argument(alloc))
 }
 
 fn tech_option<'a>(alloc: Global) -> Arg<'a>
@@ -92,6 +113,17 @@ fn quota_option<'a>(alloc: Global) -> Arg<'a>
         .help("Gives each plane N tiles, from 5 to 16384 [default: 1024]")
 }
 
+fn cells_argument<'a>(alloc: Global) -> Arg<'a>
+    ensures rule { rule_of result ≡ cells_rule }
+    ensures plain { IsPlainArg result }
+    ensures local { result.global ≡ false }
+{
+    Arg::new(alloc, "cells")
+        .action(ArgAction::Append)
+        .value_name("NAME=FILE")
+        .help("Loads a library cell from a file")
+}
+
 /// The quota that the matches name, or the default.
 fn quota_given(matches: &ArgMatches<'_>) -> Quota
     ensures usual { one_text (found_of matches.now) (codes "quota") ≡ None → result ≡ default_quota }
@@ -104,9 +136,40 @@ fn quota_given(matches: &ArgMatches<'_>) -> Quota
         .unwrap_or_default()
 }
 
+/// The cells that the matches name, in order.
+fn cells_given<'a>(
+    alloc: Global,
+    matches: &ArgMatches<'a>,
+) -> Result<Vec<CellArgument<'a>>, OptionsFault<'a>>
+    ensures ok { IfOk result (λ cells. NamesFiles (words_found (found_of matches.now)) (map file_of cells.items)) }
+    ensures err { IfErr result (IsBadWord (words_found (found_of matches.now))) }
+{
+    match matches.get_strs("cells") {
+        Some(words) => cut_words(alloc, words),
+        None => Ok(Vec::new(alloc)),
+    }
+}
+
+/// Cuts each word at its first `=`.
+fn cut_words<'a>(
+    alloc: Global,
+    words: &[&'a str],
+) -> Result<Vec<CellArgument<'a>>, OptionsFault<'a>>
+    ensures ok { IfOk result (λ cells. NamesFiles (map (λ word. word.now) words.now) (map file_of cells.items)) }
+    ensures err { IfErr result (IsBadWord (map (λ word. word.now) words.now)) }
+{
+    let mut cells = Vec::new(alloc);
+    for word in words {
+        let cell = CellArgument::cut(word).ok_or(OptionsFault::BadCell(word))?;
+        cells.push(cell)?;
+    }
+    Ok(cells)
+}
+
 /// Maps out-of-memory to `Memory`, everything else to `Refused` with the text of the parser.
-fn refusal(alloc: Global, error: &ParseError) -> OptionsFault
-    ensures { kind_of error.now ≡ OutOfMemory → result ≡ OptionsFault.Memory }
+fn refusal<'a>(alloc: Global, error: &ParseError) -> OptionsFault<'a>
+    ensures memory { kind_of error.now ≡ OutOfMemory → result ≡ OptionsFault.Memory }
+    ensures parser { IsParserFault result }
 {
     if error.kind() == ErrorKind::OutOfMemory {
         return OptionsFault::Memory;

@@ -1,11 +1,13 @@
 //! The whole program, over any words, files and streams.
-ghost use Rattle.std.specs.Prelude.{◌≡◌, ◌≤◌, ◌⊎◌, None, OnOk, IfOk, IfErr, false, map};
+ghost use Rattle.std.specs.Prelude.{◌≡◌, ◌≤◌, ◌⊎◌, ℕ, List, None, OnOk, IfOk, IfErr, false, map};
 ghost use Rattle.mls_wire.specs.Runs.{Setting};
 ghost use Rattle.mls_wire.specs.Solos.{open_session_of, setting_of};
 ghost use Rattle.mls_wire.specs.declared.serving.ServeFault.{ServeFault};
+ghost use Rattle.mls_magicd.specs.CommandLines.{ParsesAs};
 ghost use Rattle.mls_magicd.specs.Messages.{Reports, ReportsAll, fault_text};
 ghost use Rattle.mls_magicd.specs.Programs as spec;
 
+use crate::cells::load_cells;
 use crate::messages::{report_fault, report_skipped};
 use crate::options::Options;
 use crate::technology::open_technology;
@@ -34,7 +36,7 @@ pub fn run<S: AsStr, F: Files, R: Read, W: Write, E: Write>(
     requires faults_sound { faults.old.failed ≡ false }
     ensures status { result ≤ spec.bad_command_line }
 
-    // The output is the reply text of the script's run over the technology and the quota that the words name, and the
+    // The output is the reply text of the script's run over the technology, the quota and the cells that the words name, and the
     // skipped lines of the technology were reported.
     ensures served { result ≡ spec.done → (setting : Setting) × spec.IsConfiguredBy (F.reads_as files.now) (map S.text words.now) setting
         × spec.ServesScript setting (R.remaining input.old.device) (W.contents output.old.device) (W.contents output.new.device)
@@ -49,7 +51,7 @@ pub fn run<S: AsStr, F: Files, R: Read, W: Write, E: Write>(
         × spec.EndsInScript setting (R.remaining input.old.device) (R.remaining input.new.device) (W.contents output.old.device) (W.contents output.new.device)
         input.new output.new E.contents faults.old faults.new) }
 
-    // The words have a fault, the parser's text was reported, and no line of the script was read.
+    // The words have a fault, it was reported, and no line of the script was read.
     ensures refused { result ≡ spec.bad_command_line → spec.RefusesWords (map S.text words.now) E.contents faults.old faults.new
         × (input.new ≡ input.old) × (output.new ≡ output.old) }
 {
@@ -96,8 +98,7 @@ fn serve_words<'a, S: AsStr, F: Files, R: Read, W: Write, E: Write>(
     Ok(())
 }
 
-/// Does what comes before the script: reads the words and then the technology, reports the technology's skipped lines,
-/// compiles its rules, and makes the server, which reserves its memory.
+/// Does what comes before the script: reads the words, makes the server, and loads the cells.
 fn start<'a, S: AsStr, F: Files, E: Write>(
     alloc: Global,
     words: &'a [S],
@@ -109,6 +110,25 @@ fn start<'a, S: AsStr, F: Files, E: Write>(
     ensures err { IfErr result (spec.FailsAtStart (F.reads_as files.now) (F.may_fail files.now) (map S.text words.now) E.contents faults.old faults.new) }
 {
     let options = Options::parse(alloc, words)?;
+    let mut solo = bare_server(alloc, files, &options, faults)?;
+    load_cells(alloc, files, &mut solo, &options.cells)?;
+    Ok(solo)
+}
+
+/// Reads the technology, reports its skipped lines, compiles its rules, and makes the server, which reserves its memory.
+fn bare_server<'a, F: Files, E: Write>(
+    alloc: Global,
+    files: &F,
+    options: &Options<'a>,
+    faults: &mut Watched<E>,
+) -> Result<Solo, Fault<'a>>
+    ensures bare { IfOk result (λ solo. (words : List (List ℕ)) → ParsesAs words options.now
+        → spec.IsBareFor (F.reads_as files.now) words (setting_of solo)) }
+    ensures none_open { IfOk result (λ solo. open_session_of solo ≡ None) }
+    ensures reported { IfOk result (λ solo. ReportsAll E.contents faults.old faults.new (spec.skipped_lines solo.tech)) }
+    ensures err { IfErr result (λ fault. (words : List (List ℕ)) → ParsesAs words options.now
+        → spec.FailsAtStart (F.reads_as files.now) (F.may_fail files.now) words E.contents faults.old faults.new fault) }
+{
     let tech = open_technology(alloc, files, options.tech)?;
     report_skipped(faults, tech.skipped());
     compile(&tech)?;

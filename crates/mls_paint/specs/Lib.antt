@@ -1,4 +1,5 @@
 pub mod Changes
+pub mod Owners
 pub mod Painting
 pub mod Planes
 pub mod Scratches

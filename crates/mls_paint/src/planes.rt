@@ -1,6 +1,7 @@
 //! Planes of space, and what a plane shows.
 ghost use Rattle.std.specs.Prelude.{◌≡◌, ◌+◌, ◌<◌, ◌≤◌, ◌↔◌, IfOk, IsErr, OnErr, OnOk, length, map};
 ghost use Rattle.mls_geom.specs.Pictures.{empty_picture, kinds_in};
+ghost use Rattle.mls_geom.specs.StripLists.{strips_of};
 ghost use Rattle.mls_geom.specs.Strips.{AreStrips};
 ghost use Rattle.mls_geom.specs.TileCounts.{tile_count};
 ghost use Rattle.mls_geom.specs.World.{world};
@@ -62,12 +63,12 @@ pub fn find_area(pool: &Pool, plane: &mut Plane, area: Rect, scratch: &mut Scrat
 }
 
 /// Finds all tiles of the plane, by bottom and then left, and leaves them in the scratch.
-pub fn strips_of(pool: &Pool, plane: &mut Plane, scratch: &mut Scratch)
-    requires strips { HasStrips pool.now plane.old }
-    requires room { HasRoomFor pool.now plane.old scratch.old }
-    ensures found { AreInArea (block_at (tiles_of pool.now plane.old)) world scratch.new.tiles }
-    ensures strips { AreStrips world (picture_in pool.now plane.old) (map (λ tile. tile.piece) scratch.new.tiles) }
-    ensures plane { plane.new ≡ plane.old }
+pub fn strips_of(pool: &Pool, plane: &Plane, scratch: &mut Scratch)
+    requires strips { HasStrips pool.now plane.now }
+    requires room { HasRoomFor pool.now plane.now scratch.old }
+    ensures found { AreInArea (block_at (tiles_of pool.now plane.now)) world scratch.new.tiles }
+    ensures strips { AreStrips world (picture_in pool.now plane.now) (map (λ tile. tile.piece) scratch.new.tiles) }
+    ensures listed { map (λ tile. tile.piece) scratch.new.tiles ≡ strips_of world (picture_in pool.now plane.now) }
     ensures rooms { KeepsRoom scratch.old scratch.new }
 {
     read_count(pool, plane, scratch);

@@ -37,19 +37,21 @@ impl Model for Scratch {
 impl Scratch {
     /// Creates a scratch for planes of at most `room` tiles, over which at most `pieces` pieces are painted at once.
     pub fn new(alloc: Global, room: u32, pieces: u32) -> Result<Scratch, AllocError>
-        requires { room + pieces ≤ 4294967295 }
         ensures room { IfOk result (λ s. s.room ≡ room) }
         ensures pieces { IfOk result (λ s. s.pieces ≡ pieces) }
         ensures none_found { IfOk result (λ s. s.tiles ≡ []) }
     {
+        let search = Search::new(alloc, room)?;
+        let room = room as usize;
+        let pieces = pieces as usize;
         Ok(Scratch {
-            room: room as usize,
-            pieces: pieces as usize,
-            search: Search::new(alloc, room)?,
+            room,
+            pieces,
+            search,
             sweep: Sweep::new(alloc, room + pieces)?,
-            touched: Vec::with_capacity(alloc, room as usize)?,
-            names: Vec::with_capacity(alloc, room as usize)?,
-            fresh: Vec::with_capacity(alloc, room as usize)?,
+            touched: Vec::with_capacity(alloc, room)?,
+            names: Vec::with_capacity(alloc, room)?,
+            fresh: Vec::with_capacity(alloc, room)?,
         })
     }
 

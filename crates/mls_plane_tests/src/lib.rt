@@ -13,5 +13,3 @@ mod grid;
 mod layouts;
 #[cfg(test)]
 mod random_checks;
-#[cfg(test)]
-mod sessions;

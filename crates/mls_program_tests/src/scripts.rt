@@ -34,7 +34,7 @@ fn served_with<R: Read + Drop, W: Write + Drop>(
 }
 
 /// Quotas, scripts and their replies.
-const ROWS: [(u32, &str, &str); 8] = [
+const ROWS: [(u32, &str, &str); 9] = [
     (
         1024,
         "%open a\na box 0 0 4 4\na paint poly\na what\n",
@@ -54,6 +54,12 @@ const ROWS: [(u32, &str, &str); 8] = [
         5,
         "%open a\na box -32768 -32768 32768 32768\na paint p\na box -32768 -32768 -32767 -32767\na paint ndiff\na box 32767 32767 32768 32768\na paint nd\na what\na paint m1\na what\na box 0 0 1 1\na paint ndiff\na what\n",
         "a opened\na ok\na ok\na ok\na ok\na ok\na ok\na what 1 ndiff\na ok\na what 2 ndiff m1\na ok\na refused 5 quota\na what 1 poly\n",
+    ),
+    // The corners of the world.
+    (
+        1024,
+        "%open a\na box -32768 -32768 -32767 -32767\na paint poly\na what\na box 32767 -32768 32768 -32767\na paint ndiff\na what\na box -32768 32767 -32767 32768\na paint m1\na what\na box 32767 32767 32768 32768\na what\na paint poly\na box -32768 -32768 32768 32768\na what\n",
+        "a opened\na ok\na ok\na what 1 poly\na ok\na ok\na what 1 ndiff\na ok\na ok\na what 1 m1\na ok\na what 0\na ok\na ok\na what 3 poly ndiff m1\n",
     ),
     // Sessions that can't be opened.
     (
@@ -189,6 +195,34 @@ fn look_at_63_types(rt: HostRuntime) -> Result<(), Fail> {
     Ok(())
 }
 
+/// A script of 40 rungs over the world, cut by 40 bars, each of which makes 81 tiles more.
+fn thousands_of_tiles(alloc: Global) -> Result<String, Fail> {
+    let mut script = String::from_str(alloc, "%open a\n")?;
+    for step in 0..40 {
+        let low = i32::saturating_mul(step, 4);
+        let high = low.saturating_add(2);
+        script.push_str(&format!(in alloc; "a box -32768 {low} 32768 {high}\na paint poly\n")?)?;
+    }
+    for step in 0..40 {
+        let low = i32::saturating_mul(step, 4);
+        let high = low.saturating_add(2);
+        script.push_str(&format!(in alloc; "a box {low} -32768 {high} 32768\na paint ndiff\n")?)?;
+    }
+    script.push_str("a box -32768 -32768 32768 32768\na what\na erase ndiff\na what\n")?;
+    Ok(script)
+}
+
+#[test]
+fn plane_of_thousands_of_tiles(rt: HostRuntime) -> Result<(), Fail> {
+    let script = thousands_of_tiles(rt.alloc())?;
+    let out = Vec::new(rt.alloc());
+    let (outcome, out) = served(&rt, 16384, script.as_bytes(), out)?;
+    assert_eq!(rt; outcome, Ok(()));
+    assert_eq!(rt; out.len(), 9 + 162 * 5 + 20 + 14);
+    assert!(rt; out.ends_with(b"a ok\na what 2 poly ndiff\na ok\na what 1 poly\n"));
+    Ok(())
+}
+
 #[test]
 fn faults_in_words(rt: HostRuntime) -> Result<(), Fail> {
     for (fault, text) in [
@@ -202,6 +236,7 @@ fn faults_in_words(rt: HostRuntime) -> Result<(), Fail> {
     for (fault, text) in [
         (OpenFault::OpenAlready, "open already"),
         (OpenFault::SessionsFull, "sessions full"),
+        (OpenFault::PoolFull, "pool full"),
         (OpenFault::Memory, "memory"),
     ] {
         assert_eq!(rt; format!(in rt.alloc(); "{fault}")?.as_str(), text);

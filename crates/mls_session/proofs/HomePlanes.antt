@@ -1,14 +1,15 @@
 -- Planes at home in a pool: what is known of each, and what stays true as the pool changes.
-use Rattle.std.proofs.Common.{◌≡◌, ◌≢◌, ℕ, ◌<◌, List, [], ◌∷◌, ◌++◌, length, get_or, set, Option, Some, None, All, AllPairs, inl, inr, sym, ap, ◌∙◌, subst, arith}
-use Rattle.std.proofs.lemmas.Bool.{cases_eq, cases_lt}
+use Rattle.std.proofs.Common.{◌≡◌, ◌≢◌, ℕ, ◌<◌, ◌≤◌, max, List, [], ◌∷◌, ◌++◌, length, get_or, set, Option, Some, None, IfSome, All, AllPairs, inl, inr, sym, ap, ◌∙◌, subst, arith}
+use Rattle.std.proofs.lemmas.Bool.{cases_lt}
 use Rattle.std.proofs.lemmas.List.{set-get_or}
 use Rattle.std.proofs.lemmas.List.Elements.{All-push}
 use Rattle.std.proofs.lemmas.List.Quantifiers.{all_pairs_push}
 use Rattle.mls_geom.specs.Rects.{Rect}
 use Rattle.mls_tilepool.specs.Pools.{Pool, room_of}
-use Rattle.mls_stitch.specs.Tilings.{ChangesOnly, IsMaximal, IsPlane}
-use Rattle.mls_stitch.proofs.OtherPlanes.{HasPlane-ChangesOnly, apart_from_new}
+use Rattle.mls_stitch.specs.Tilings.{ChangesOnly}
+use Rattle.mls_library.specs.Libraries.{most_tiles}
 use Rattle.mls_paint.specs.Planes.{AddsOwner, HasStrips}
+use Rattle.mls_paint.proofs.OwnerFrames.{HasStrips-AddsOwner, HasStrips-ChangesOnly, apart_from_added, has_room-HasStrips}
 use Rattle.mls_session.specs.Sessions.{IsHome, Session, plane_reserve}
 
 -- a plane that was lent to a call comes back
@@ -30,6 +31,31 @@ pub HasStrips-at :
     → HasStrips pool owner
 HasStrips-at pool session i owner home within is = subst (HasStrips pool) (sym is) (home.strips i owner within)
 
+-- its reserve fits where reserves of this quota do, and the quota fits the reserve
+pub room-at :
+    (pool : Pool) (session : Session) (i owner capacity : ℕ) → IsHome pool session → i < length session.planes → owner ≡ get_or session.planes i owner
+    → plane_reserve session.quota ≤ capacity → IfSome (room_of pool owner) (λ room. room ≤ capacity)
+room-at pool session i owner capacity home within is fits =
+    let room : room_of pool owner ≡ Some (plane_reserve session.quota) = ap (room_of pool) is ∙ home.reserves i owner within in
+    rw room fits
+
+pub limit-at :
+    (pool : Pool) (session : Session) (i owner limit : ℕ) → IsHome pool session → i < length session.planes → owner ≡ get_or session.planes i owner
+    → limit ≡ session.quota → IfSome (room_of pool owner) (λ room. limit ≤ room)
+limit-at pool session i owner limit home within is same =
+    let room : room_of pool owner ≡ Some (plane_reserve session.quota) = ap (room_of pool) is ∙ home.reserves i owner within in
+    let fits : limit ≤ plane_reserve session.quota = omega (arith, same) in
+    rw room fits
+
+-- so do as many pieces as it has tiles, or as a cell's plane may have
+pub pieces-at :
+    (pool : Pool) (session : Session) (i owner count capacity : ℕ) → IsHome pool session → i < length session.planes → owner ≡ get_or session.planes i owner
+    → IfSome (room_of pool owner) (λ room. count ≤ max room most_tiles) → plane_reserve session.quota ≤ capacity → most_tiles ≤ capacity → count ≤ capacity
+pieces-at pool session i owner count capacity home within is few reserve cell =
+    let room : room_of pool owner ≡ Some (plane_reserve session.quota) = ap (room_of pool) is ∙ home.reserves i owner within in
+    let fewer : count ≤ max (plane_reserve session.quota) most_tiles = rw room at few in
+    omega (arith, fewer, reserve, cell)
+
 -- it depends on the planes and the quota alone
 pub IsHome-same : (pool : Pool) (old new : Session) → new.planes ≡ old.planes → new.quota ≡ old.quota → IsHome pool old → IsHome pool new
 IsHome-same pool old new planes quota home = record {
@@ -41,15 +67,6 @@ IsHome-same pool old new planes quota home = record {
 }
 
 -- a change of one owner's tiles that leaves its strips leaves all planes
-HasStrips-ChangesOnly : (old new : Pool) (owner other : ℕ) → ChangesOnly old new owner → HasStrips new owner → HasStrips old other → HasStrips new other
-HasStrips-ChangesOnly old new owner other changed strips before = elim (cases_eq other owner) [
-  | inl same ↦ subst (HasStrips new) (sym same) strips
-  | inr differ ↦ record {
-    plane = HasPlane-ChangesOnly old new owner other changed differ before.plane;
-    maximal = subst IsMaximal (sym (changed.others other differ)) before.maximal;
-  }
-]
-
 pub IsHome-ChangesOnly : (old new : Pool) (session : Session) (owner : ℕ) → ChangesOnly old new owner → HasStrips new owner → IsHome old session → IsHome new session
 IsHome-ChangesOnly old new session owner changed strips home = record {
   strips = λ k d within. HasStrips-ChangesOnly old new owner (get_or session.planes k d) changed strips (home.strips k d within);
@@ -57,21 +74,11 @@ IsHome-ChangesOnly old new session owner changed strips home = record {
   apart = home.apart;
 }
 
--- an owner more leaves all planes
-HasStrips-AddsOwner : (old new : Pool) (owner other tiles : ℕ) → AddsOwner old new owner tiles → other ≢ owner → HasStrips old other → HasStrips new other
-HasStrips-AddsOwner old new owner other tiles added differ before = record {
-  plane = record {
-    live = rw (added.rooms other differ) before.plane.live;
-    plane = subst IsPlane (sym (added.others other differ)) before.plane.plane;
-  };
-  maximal = subst IsMaximal (sym (added.others other differ)) before.maximal;
-}
-
 -- the owners so far differ from a new one
 pub differ_from_new :
     (old new : Pool) (session : Session) (owner tiles : ℕ) → IsHome old session → AddsOwner old new owner tiles → All (λ other. other ≢ owner) session.planes
 differ_from_new old new session owner tiles home added k d within =
-    apart_from_new old owner (get_or session.planes k d) added.unused (home.strips k d within).plane.live
+    apart_from_added old new owner (get_or session.planes k d) tiles added (has_room-HasStrips old (get_or session.planes k d) (home.strips k d within))
 
 -- a new owner's plane beside those at home
 pub IsHome-push :
@@ -83,7 +90,7 @@ IsHome-push old new box planes quota owner home added strips =
     record {
       strips =
           All-push (HasStrips new) planes owner
-          (λ k d within. HasStrips-AddsOwner old new owner (get_or planes k d) (plane_reserve quota) added (differ k d within) (home.strips k d within))
+          (λ k d within. HasStrips-AddsOwner old new owner (get_or planes k d) (plane_reserve quota) added (home.strips k d within))
           strips;
       reserves =
           All-push (λ other. room_of new other ≡ Some (plane_reserve quota)) planes owner

@@ -1,13 +1,15 @@
 -- A session is opened plane by plane.
-use Rattle.std.proofs.Common.{◌≡◌, ◌≢◌, ℕ, zero, suc, ◌+◌, List, [], ◌∷◌, ◌++◌, length, get_or, None, All, Contains, refl, sym, ap, ◌∙◌, subst, length-append, add-mul, arith}
+use Rattle.std.proofs.Common.{◌≡◌, ◌≢◌, ℕ, zero, suc, ◌+◌, ◌*◌, List, [], ◌∷◌, ◌++◌, length, get_or, None, All, refl, ap, ◌∙◌, subst, length-append, add-mul, arith}
 use Rattle.std.proofs.Math.Path.{fun_ext}
-use Rattle.std.proofs.lemmas.List.Elements.{All-push, Contains-append_left, Contains-push}
+use Rattle.std.proofs.lemmas.List.Elements.{All-push}
 use Rattle.mls_geom.specs.Pictures.{empty_picture}
-use Rattle.mls_tilepool.specs.Pools.{Pool, room_of, unreserved}
+use Rattle.mls_tilepool.specs.Pools.{Pool, unreserved}
 use Rattle.mls_stitch.specs.Tilings.{shown}
+use Rattle.mls_paint.specs.Owners.{AddsOwners}
 use Rattle.mls_paint.specs.Planes.{AddsOwner, layout_in, picture_in}
+use Rattle.mls_paint.proofs.OwnerFrames.{AddsOwners-push}
 use Rattle.mls_session.specs.Own.{opening}
-use Rattle.mls_session.specs.Sessions.{AddsOwners, state_of}
+use Rattle.mls_session.specs.Sessions.{state_of}
 
 -- the planes show nothing
 abbrev pub AreSpace : Pool → List ℕ → Type 0
@@ -31,23 +33,12 @@ AreSpace-push old new owners owner tiles space differ added shows =
     (λ k d within. ap shown (added.others (get_or owners k d) (differ k d within)) ∙ space k d within)
     shows
 
--- one owner more
-pub AddsOwners-push :
-    (old mid new : Pool) (owners : List ℕ) (owner reserve : ℕ) → AddsOwners old mid owners reserve → All (λ other. other ≢ owner) owners
-    → AddsOwner mid new owner reserve → unreserved new + reserve ≡ unreserved mid → AddsOwners old new (owners ++ owner ∷ []) reserve
-AddsOwners-push old mid new owners owner reserve before differ added taken = record {
-  unused = All-push (λ other. room_of old other ≡ None) owners owner before.unused (sym (before.rooms owner is_new) ∙ added.unused);
-  rooms = λ other none. added.rooms other (not_last other none) ∙ before.rooms other (not_before other none);
-  others = λ other none. added.others other (not_last other none) ∙ before.others other (not_before other none);
-  taken = rw (length-append owners (owner ∷ []), add-mul (length owners) 1 reserve) (omega (arith, before.taken, taken));
-  capacity = added.capacity ∙ before.capacity;
-}
-  where
-    is_new : ¬ (Contains owners owner)
-    is_new found = differ found.0 owner found.1 found.2
-
-    not_before : (other : ℕ) → ¬ (Contains (owners ++ owner ∷ []) other) → ¬ (Contains owners other)
-    not_before other none found = none (Contains-append_left owners (owner ∷ []) other found)
-
-    not_last : (other : ℕ) → ¬ (Contains (owners ++ owner ∷ []) other) → other ≢ owner
-    not_last other none same = none (subst (λ o. Contains (owners ++ owner ∷ []) o) (sym same) (Contains-push owners owner))
+-- one owner more, with the reserve of each
+pub AddsOwners-plane :
+    (old mid new : Pool) (owners : List ℕ) (owner reserve : ℕ) → AddsOwners old mid owners (length owners * reserve) → All (λ other. other ≢ owner) owners
+    → AddsOwner mid new owner reserve → unreserved new + reserve ≡ unreserved mid
+    → AddsOwners old new (owners ++ owner ∷ []) (length (owners ++ owner ∷ []) * reserve)
+AddsOwners-plane old mid new owners owner reserve before differ added taken =
+    let one_more : length owners * reserve + reserve ≡ length (owners ++ owner ∷ []) * reserve =
+    rw (length-append owners (owner ∷ []), add-mul (length owners) 1 reserve) (omega arith) in
+    subst (AddsOwners old new (owners ++ owner ∷ [])) one_more (AddsOwners-push old mid new owners owner (length owners * reserve) reserve before differ added taken)

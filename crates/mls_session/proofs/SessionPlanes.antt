@@ -3,7 +3,7 @@ use Rattle.std.proofs.Common.{◌≡◌, ◌≢◌, ℕ, ◌<◌, List, length, 
 use Rattle.std.proofs.Math.Path.{fun_ext}
 use Rattle.std.proofs.lemmas.Bool.{cases_eq, cond-true, cond-false}
 use Rattle.std.proofs.lemmas.Bool.Decides.{nat_tests}
-use Rattle.std.proofs.lemmas.Option.{get_or_from_slice_get, slice_get_read, slice_get_within}
+use Rattle.std.proofs.lemmas.Option.{get_or_from_slice_get, slice_get_within}
 use Rattle.mls_geom.specs.Rects.{Rect}
 use Rattle.mls_geom.specs.Pictures.{Picture, overlaid}
 use Rattle.mls_geom.specs.TileCounts.{tile_count}
@@ -12,15 +12,13 @@ use Rattle.mls_geom.specs.declared.piece.Piece.{Piece}
 use Rattle.mls_tilepool.specs.Pools.{Pool}
 use Rattle.mls_stitch.specs.Tilings.{ChangesOnly, shown}
 use Rattle.mls_paint.specs.Planes.{layout_in, picture_at, picture_in}
+use Rattle.mls_paint.proofs.OwnerFrames.{layout_in-at}
 use Rattle.mls_session.specs.Own.{Config, repaint_step, with_plane}
 use Rattle.mls_session.specs.Sessions.{IsHome, Session, state_of}
 use Rattle.mls_session.specs.declared.reply.Reply.TheVariants.{Done}
 use Rattle.mls_session.proofs.HomePlanes.{owners_differ}
 
--- what a plane shows, by its owner
-pub layout_in-at : (pool : Pool) (owners : List ℕ) (plane owner : ℕ) → plane < length owners → owner ≡ get_or owners plane owner → layout_in pool owners plane ≡ picture_in pool owner
-layout_in-at pool owners plane owner within is = ap (picture_at pool) (slice_get_read owners (length owners) plane owner refl within is)
-
+-- a change of one owner's tiles leaves what the planes of all others show
 picture_at-kept : (old new : Pool) (owner : ℕ) (at : Option ℕ) → ChangesOnly old new owner → ((other : ℕ) → at ≡ Some other → other ≢ owner) → picture_at new at ≡ picture_at old at
 picture_at-kept old new owner None changed differs = refl
 picture_at-kept old new owner (Some other) changed differs = ap shown (changed.others other (differs other refl))

@@ -1,13 +1,15 @@
 -- What a caller sees of a session, its own state, and its planes in the pool.
-use Rattle.std.specs.Prelude.{◌≡◌, ◌≢◌, ℕ, ◌+◌, ◌*◌, Option, Some, None, List, length, ⊤}
+use Rattle.std.specs.Prelude.{◌≡◌, ◌≢◌, ℕ, ◌+◌, Option, Some, List, map, ⊤}
 use Rattle.std.specs.List.{All, AllPairs, Contains}
+use Rattle.mls_geom.specs.Layouts.{Layout}
 use Rattle.mls_geom.specs.Rects.{Rect}
-use Rattle.mls_tech.specs.Readings.{Tech, plane_of_type}
-use Rattle.mls_tilepool.specs.Pools.{Pool, room_of, tiles_of, unreserved}
+use Rattle.mls_library.specs.Libraries.{HavePlanes, Library, IsHome as AreCellsHome, cell_layout}
+use Rattle.mls_tech.specs.Readings.{Tech}
+use Rattle.mls_tilepool.specs.Pools.{Pool, room_of}
 use Rattle.mls_paint.specs.Planes.{HasStrips, layout_in}
 use Rattle.mls_session.specs.Own.{Config, OwnState}
 use Rattle.mls_session.specs.declared.reply.Reply.{Reply}
-use Rattle.mls_session.specs.declared.reply.Reply.TheVariants.{Done, Kinds, Refused}
+use Rattle.mls_session.specs.declared.reply.Reply.TheVariants.{Done, Kinds, Saved, Refused}
 
 -- the box, the owners of the planes' tiles, and the most tiles that a plane may have
 pub record Session : Type 0 where
@@ -15,12 +17,13 @@ pub record Session : Type 0 where
   pub planes : List ℕ
   pub quota : ℕ
 
--- what no command changes: the planes and types of the technology, and the most tiles that a plane may have
-abbrev pub config_with : Tech → ℕ → Config
-config_with tech quota = record { planes = tech.plane_count; plane_of = plane_of_type tech.type_planes; quota = quota }
+-- the layouts of a library's cells
+abbrev pub cell_layouts : Pool → Library → List Layout
+cell_layouts pool cells = map (cell_layout pool) cells
 
-abbrev pub config_of : Tech → Session → Config
-config_of tech session = config_with tech session.quota
+-- what no command changes: the technology, the cells' layouts, and the most tiles that a plane may have
+abbrev pub config_of : Tech → Pool → Library → Session → Config
+config_of tech pool cells session = record { tech = tech; cells = cell_layouts pool cells; quota = session.quota }
 
 -- the layout is what the tiles of its planes show
 abbrev pub state_of : Pool → Session → OwnState
@@ -36,22 +39,15 @@ pub record IsHome (pool : Pool) (session : Session) : Type 0 where
   pub reserves : All (λ owner. room_of pool owner ≡ Some (plane_reserve session.quota)) session.planes
   pub apart : AllPairs (λ a b. a ≢ b) session.planes
 
--- only tiles of these owners have changed: all others are equal in every field, and so are all reserves and the capacity
-pub record ChangesAmong (old new : Pool) (owners : List ℕ) : Type 0 where
-  pub others : (other : ℕ) → ¬ (Contains owners other) → tiles_of new other ≡ tiles_of old other
-  pub rooms : new.rooms ≡ old.rooms
-  pub capacity : new.capacity ≡ old.capacity
-
--- these owners are new, each with this reserve, and everything else is as it was
-pub record AddsOwners (old new : Pool) (owners : List ℕ) (reserve : ℕ) : Type 0 where
-  pub unused : All (λ owner. room_of old owner ≡ None) owners
-  pub rooms : (other : ℕ) → ¬ (Contains owners other) → room_of new other ≡ room_of old other
-  pub others : (other : ℕ) → ¬ (Contains owners other) → tiles_of new other ≡ tiles_of old other
-  pub taken : unreserved new + length owners * reserve ≡ unreserved old
-  pub capacity : new.capacity ≡ old.capacity
+-- the library's cells lie in the pool, under other owners than these, and each has a plane for each of the technology's
+pub record CanDump (tech : Tech) (pool : Pool) (cells : Library) (owners : List ℕ) : Type 0 where
+  pub home : AreCellsHome pool cells
+  pub apart : All (λ cell. All (λ owner. ¬ (Contains owners owner)) cell.planes) cells
+  pub planes : HavePlanes tech.plane_count cells
 
 -- the fact, if the reply is a refusal
 abbrev pub OnRefused : Reply → Type 0 → Type 0
 OnRefused Done P = ⊤
 OnRefused (Kinds kinds) P = ⊤
+OnRefused (Saved lines) P = ⊤
 OnRefused (Refused refusal) P = P

@@ -1,4 +1,6 @@
 //! What a user asks of a session.
+use mls_kinds::KindSet;
+use mls_library::CellId;
 
 /// A command of a session.
 #[derive(Clone, Copy, Debug, PartialEq, Eq)]
@@ -12,6 +14,17 @@ pub enum Command {
     },
     /// Paints the box with a type, or with `None` if no type has the name that the user wrote.
     Paint(Option<u8>),
+    /// Erases these types in the box, on each plane, or `None` if some name that the user wrote is of no type.
+    Erase(Option<KindSet>),
+    /// Paints the squares of a cell that aren't space, moved to the right by `dx` and up by `dy`, on each plane. The cell
+    /// is `None` if none has the name that the user wrote.
+    Dump {
+        cell: Option<CellId>,
+        dx: i32,
+        dy: i32,
+    },
     /// Asks for the types in the box.
     What,
+    /// Asks for the number of lines of the layout's text as a cell file.
+    Save,
 }

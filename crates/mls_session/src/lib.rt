@@ -1,7 +1,9 @@
 //! One session over planes of stitched tiles: its box, its layout, and what each command does to them.
 #![tactic(auto)]
 
+mod change;
 mod command;
+mod moving;
 mod quota;
 mod refusal;
 mod reply;

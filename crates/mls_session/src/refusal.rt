@@ -13,16 +13,22 @@ pub enum Refusal {
     OutsideWorld,
     /// No box is set.
     NoBox,
-    /// No plane can be painted with the type: there is none of the name, or it is space.
+    /// There is no type of the name or number, or it is space, which can't be painted.
     UnknownType,
-    /// The plane would have more tiles than the quota.
+    /// A plane would have more tiles than the quota.
     Quota,
+    /// No cell has the name.
+    UnknownCell = 7,
+    /// A square of the cell that isn't space would lie outside the world.
+    CellOutside,
+    /// Memory ran out.
+    Memory,
 }
 
 impl Refusal {
     ghost use Rattle.mls_session.specs.Refusals as spec;
 
-    /// The refusal's number, from 1 to 5.
+    /// The refusal's number, from 1 to 9.
     pub fn number(self) -> u8
         ensures { result ≡ spec.refusal_number self }
     {
@@ -39,6 +45,9 @@ impl Refusal {
             Refusal::NoBox => "no box",
             Refusal::UnknownType => "unknown type",
             Refusal::Quota => "quota",
+            Refusal::UnknownCell => "unknown cell",
+            Refusal::CellOutside => "cell outside the world",
+            Refusal::Memory => "memory",
         }
     }
 }

@@ -9,6 +9,8 @@ pub enum Reply {
     Done,
     /// The types in the box, space among them.
     Kinds(KindSet),
+    /// The number of lines of the layout's text as a cell file.
+    Saved(usize),
     /// The command is refused, and nothing has changed.
     Refused(Refusal),
 }

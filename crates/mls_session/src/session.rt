@@ -3,12 +3,19 @@ ghost use Rattle.std.specs.Prelude.{◌≡◌, ◌*◌, ◌<◌, ◌≤◌, IfOk
 ghost use Rattle.std.specs.List.{All};
 ghost use Rattle.mls_geom.specs.Pictures.{overlaid};
 ghost use Rattle.mls_tilepool.specs.Pools.{Pool, unreserved};
+ghost use Rattle.mls_library.specs.Libraries as library_spec;
+ghost use Rattle.mls_paint.specs.Owners.{AddsOwners, ChangesAmong};
 ghost use Rattle.mls_paint.specs.Scratches.{KeepsRoom};
 ghost use Rattle.mls_session.specs.Own.{Config, Step, box_step, opening, paint_step, repaint_step, what_step};
+ghost use Rattle.mls_session.specs.Rooms.{HasRooms};
+
+mod changing;
+mod saving;
 
 use crate::{Command, Quota, Refusal, Reply};
 use mls_geom::{Piece, Rect, RectFault};
 use mls_kinds::KindSet;
+use mls_library::Library;
 use mls_paint::{Scratch, kinds, overlay, space_plane};
 use mls_stitch::Plane;
 use mls_tech::Tech;
@@ -39,7 +46,7 @@ impl Model for Session {
 }
 
 impl Session {
-    ghost use Rattle.mls_session.specs.Sessions.{AddsOwners, ChangesAmong, IsHome, OnRefused, config_of, plane_reserve, state_of};
+    ghost use Rattle.mls_session.specs.Sessions.{CanDump, IsHome, OnRefused, cell_layouts, config_of, plane_reserve, state_of};
 
     /// Opens a session over the planes of a technology, with no box and an empty layout.
     ///
@@ -57,7 +64,7 @@ impl Session {
         ensures home { IfOk result (λ session. IsHome pool.new session) }
         ensures planes { IfOk result (λ session. length session.planes ≡ tech.now.plane_count) }
         ensures quota { IfOk result (λ session. session.quota ≡ quota) }
-        ensures added { IfOk result (λ session. AddsOwners pool.old pool.new session.planes (plane_reserve quota)) }
+        ensures added { IfOk result (λ session. AddsOwners pool.old pool.new session.planes (length session.planes * plane_reserve quota)) }
         ensures refused { OnErr result (pool.new ≡ pool.old) }
         ensures rooms { KeepsRoom scratch.old scratch.new }
     {
@@ -75,24 +82,26 @@ impl Session {
 
     /// Carries out a command, or refuses it and changes nothing.
     ///
-    /// Types are those of `tech`, which must have as many planes as the session. Pass the technology that
-    /// the session was made for: another one with as many planes may put a type on another plane.
+    /// Types are those of `tech`, which must have as many planes as the session, and cells those of `library`. Pass the
+    /// technology that the session was made for: another one with as many planes may put a type on another plane.
     #[tactic(auto, unfolding(crate::specs::Own::own_step))]
     pub fn command(
         &mut self,
         pool: &mut Pool,
         tech: &Tech,
+        library: &Library,
         command: Command,
         pieces: &mut Vec<Piece>,
         scratch: &mut Scratch,
     ) -> Reply
         requires home { IsHome pool.old self.old }
         requires made_for { length self.old.planes ≡ tech.now.plane_count }
-        requires piece_fits { 1 ≤ vec_capacity pieces.old }
-        requires tiles_fit { plane_reserve self.old.quota ≤ scratch.old.room }
-        requires paint_fits { 1 ≤ scratch.old.pieces }
-        ensures step { Step (config_of tech.now self.old) (state_of pool.old self.old) command result (state_of pool.new self.new) }
+        requires can_dump { CanDump tech.now pool.old library.now self.old.planes }
+        requires has_rooms { HasRooms self.old.quota scratch.old (vec_capacity pieces.old) }
+        ensures step { Step (config_of tech.now pool.old library.now self.old) (state_of pool.old self.old) command result (state_of pool.new self.new) }
         ensures home { IsHome pool.new self.new }
+        ensures cells_home { library_spec.IsHome pool.new library.now }
+        ensures cells { cell_layouts pool.new library.now ≡ cell_layouts pool.old library.now }
         ensures only { ChangesAmong pool.old pool.new self.old.planes }
         ensures planes { self.new.planes ≡ self.old.planes }
         ensures quota { self.new.quota ≡ self.old.quota }
@@ -108,7 +117,12 @@ impl Session {
                 top,
             } => self.set_box(Rect::new(left, bottom, right, top)),
             Command::Paint(kind) => self.paint(pool, tech, kind, pieces, scratch),
+            Command::Erase(kinds) => self.erase(pool, tech, kinds, pieces, scratch),
+            Command::Dump { cell, dx, dy } => {
+                self.dump(pool, library, cell, dx, dy, pieces, scratch)
+            }
             Command::What => self.what(pool, scratch),
+            Command::Save => Reply::Saved(self.count_lines(pool, tech, scratch)),
         }
     }
 
@@ -143,7 +157,9 @@ impl Session {
         requires piece_fits { 1 ≤ vec_capacity pieces.old }
         requires tiles_fit { plane_reserve self.old.quota ≤ scratch.old.room }
         requires paint_fits { 1 ≤ scratch.old.pieces }
-        ensures step { paint_step (config_of tech.now self.old) (state_of pool.old self.old) self.old.box kind ≡ (state_of pool.new self.new, result) }
+        // It depends on the technology and the quota alone of what no command changes.
+        ensures step { (config : Config) → config.tech ≡ tech.now → config.quota ≡ self.old.quota
+            → paint_step config (state_of pool.old self.old) self.old.box kind ≡ (state_of pool.new self.new, result) }
         ensures home { IsHome pool.new self.new }
         ensures only { ChangesAmong pool.old pool.new self.old.planes }
         ensures planes { self.new.planes ≡ self.old.planes }
@@ -200,7 +216,7 @@ impl Session {
         requires home { IsHome pool.now self.old }
         requires tiles_fit { plane_reserve self.old.quota ≤ scratch.old.room }
         // It depends on the number of planes alone of what no command changes.
-        ensures step { (config : Config) → config.planes ≡ length self.old.planes
+        ensures step { (config : Config) → config.tech.plane_count ≡ length self.old.planes
             → what_step config (state_of pool.now self.old) self.old.box ≡ (state_of pool.now self.new, result) }
         ensures same { self.new ≡ self.old }
         ensures rooms { KeepsRoom scratch.old scratch.new }

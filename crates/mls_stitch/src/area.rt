@@ -29,16 +29,16 @@ impl Plane {
     }
 
     /// Finds all tiles of the plane, by bottom and then left, and leaves them in the scratch.
-    pub fn strips_of(&mut self, pool: &Pool, scratch: &mut Scratch)
-        requires plane { HasPlane pool.now self.old }
-        requires room { count_of pool.now self.old ≤ scratch.old.room }
-        ensures found { AreInArea (block_at (tiles_of pool.now self.old)) world scratch.new.tiles }
-        ensures picture { picture_of (map (λ tile. tile.piece) scratch.new.tiles) ≡ shown (tiles_of pool.now self.old) }
-        ensures strips { IsMaximal (tiles_of pool.now self.old) → AreStrips world (shown (tiles_of pool.now self.old)) (map (λ tile. tile.piece) scratch.new.tiles) }
-        ensures count { length scratch.new.tiles ≡ count_of pool.now self.old }
-        ensures plane { self.new ≡ self.old }
+    pub fn strips_of(&self, pool: &Pool, scratch: &mut Scratch)
+        requires plane { HasPlane pool.now self.now }
+        requires room { count_of pool.now self.now ≤ scratch.old.room }
+        ensures found { AreInArea (block_at (tiles_of pool.now self.now)) world scratch.new.tiles }
+        ensures picture { picture_of (map (λ tile. tile.piece) scratch.new.tiles) ≡ shown (tiles_of pool.now self.now) }
+        ensures strips { IsMaximal (tiles_of pool.now self.now) → AreStrips world (shown (tiles_of pool.now self.now)) (map (λ tile. tile.piece) scratch.new.tiles) }
+        ensures count { length scratch.new.tiles ≡ count_of pool.now self.now }
         ensures scratch_room { scratch.new.room ≡ scratch.old.room }
     {
-        self.area(pool, Rect::world(), scratch);
+        let world = Rect::world();
+        area_into(pool, &self.owner, self.hint, world, &mut scratch.tiles);
     }
 }

@@ -9,5 +9,7 @@ pub mod NameLemmas
 pub mod ReaderLemmas
 pub mod ReadingLemmas
 pub mod TokenLemmas
+pub mod TypeNames
 pub mod TypeTests
+pub mod UnbrokenLines
 pub mod SpelledLists

@@ -1,5 +1,5 @@
 -- The spelling of names, and the names of a list, added one by one.
-use Rattle.std.proofs.Common.{◌≡◌, ℕ, Bool, true, false, cond, not, List, [], ◌∷◌, ◌++◌, Option, Some, Result, Ok, Err, is_some, refl, sym, ap, subst, ◌∙◌}
+use Rattle.std.proofs.Common.{◌≡◌, ℕ, Bool, true, false, cond, not, List, [], ◌∷◌, ◌++◌, Option, Some, None, Result, Ok, Err, is_some, refl, sym, ap, subst, ◌∙◌}
 use Rattle.std.specs.Prelude.{All, IfSome}
 use Rattle.std.proofs.lemmas.Map.Entries.{All-lookup}
 use Rattle.mls_text.specs.Words.{same_word}
@@ -36,19 +36,32 @@ module _ (is_spelled : List ℕ → Bool) (number : ℕ) (names : Numbered) wher
         → add_names is_spelled number names (word ∷ words) ≡ add_names is_spelled number (names ++ (word, number) ∷ []) words
     add_names-new e f = add_names-word _ _ e f
 
+-- where all names of a list are added, the first is spelled well and names nothing yet
+module _ (is_spelled : List ℕ → Bool) (number : ℕ) (names : Numbered) (word : List ℕ) (words : List (List ℕ)) (added : Numbered) (e : add_names is_spelled number names (word ∷ words) ≡ Ok added) where
+  abbrev IsFirst : Type 0
+  IsFirst = (is_spelled word ≡ true) × (number_named names word ≡ None) × (add_names is_spelled number (names ++ (word, number) ∷ []) words ≡ Ok added)
+
+  pub add_names-first : IsFirst
+  add_names-first = by (is_spelled word) (number_named names word) refl refl
+    where
+      by : (spelled : Bool) (found : Option ℕ) → is_spelled word ≡ spelled → number_named names word ≡ found → IsFirst
+      by false found s f = absurd (cc (add_names-misspelled is_spelled number names word words s))
+      by true (Some n) s f = absurd (cc (add_names-twice is_spelled number names word words s (ap is_some f)))
+      by true None s f = (s, f, sym (add_names-new is_spelled number names word words s (ap is_some f)) ∙ e)
+
+-- what each name that is added keeps holds once all are
+module _ (Kept : Numbered → Type 0) (is_spelled : List ℕ → Bool) (number : ℕ)
+    (more : (names : Numbered) (word : List ℕ) → is_spelled word ≡ true → number_named names word ≡ None → Kept names → Kept (names ++ (word, number) ∷ [])) where
+  pub add_names-keeps : (names : Numbered) (words : List (List ℕ)) (added : Numbered) → add_names is_spelled number names words ≡ Ok added → Kept names → Kept added
+  add_names-keeps names [] added e kept = let same : names ≡ added = cc (add_names-none is_spelled number names) in subst Kept same kept
+  add_names-keeps names (word ∷ words) added e kept =
+      let (spelled, new, rest) = add_names-first is_spelled number names word words added e in
+      add_names-keeps (names ++ (word, number) ∷ []) words added rest (more names word spelled new kept)
+
 -- what holds of each number and of the new one holds of each number afterwards
 module _ (P : ℕ → Type 0) (is_spelled : List ℕ → Bool) (number : ℕ) (here : P number) where
   pub add_names-All : (names : Numbered) (words : List (List ℕ)) (added : Numbered) → add_names is_spelled number names words ≡ Ok added → All (λ entry. P entry.1) names → All (λ entry. P entry.1) added
-  add_names-All names [] added e all = let same : names ≡ added = cc (add_names-none is_spelled number names) in subst (All (λ entry. P entry.1)) same all
-  add_names-All names (word ∷ words) added e all =
-      by (is_spelled word) (is_some (number_named names word)) refl refl
-      (λ rest. add_names-All (names ++ (word, number) ∷ []) words added rest (All-push (λ entry. P entry.1) names (word, number) all here))
-    where
-      by : (spelled twice : Bool) → is_spelled word ≡ spelled → is_some (number_named names word) ≡ twice
-          → (add_names is_spelled number (names ++ (word, number) ∷ []) words ≡ Ok added → All (λ entry. P entry.1) added) → All (λ entry. P entry.1) added
-      by false twice s t rest = absurd (cc (add_names-misspelled is_spelled number names word words s))
-      by true true s t rest = absurd (cc (add_names-twice is_spelled number names word words s t))
-      by true false s t rest = rest (sym (add_names-new is_spelled number names word words s t) ∙ e)
+  add_names-All = add_names-keeps (All (λ entry. P entry.1)) is_spelled number (λ names word _ _ all. All-push (λ entry. P entry.1) names (word, number) all here)
 
 -- what holds of each number holds of the one that a word names
 module _ (P : ℕ → Type 0) (names : Numbered) (word : List ℕ) (all : All (λ entry. P entry.1) names) where

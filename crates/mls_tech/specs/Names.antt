@@ -3,9 +3,10 @@ use Rattle.std.specs.Prelude.{ℕ, ◌==◌, Bool, not, ◌||◌, ◌&&◌, List
 use Rattle.std.specs.List.{list_all, list_any, starts_with}
 use Rattle.mls_text.specs.Words.{is_empty, same_word}
 
--- a byte that is no blank and none of `, ~ ( ) / "`
+-- a byte that is no blank, no line feed and none of `, ~ ( ) / "`. No word of a line has a line feed, so no file is read otherwise for it; but
+-- so a name is a word that a line can have
 abbrev pub is_name_byte : ℕ → Bool
-is_name_byte b = not (b == 32 || b == 9 || b == 44 || b == 126 || b == 40 || b == 41 || b == 47 || b == 34)
+is_name_byte b = not (b == 32 || b == 9 || b == 10 || b == 44 || b == 126 || b == 40 || b == 41 || b == 47 || b == 34)
 
 -- the spelling of a name
 unfoldable pub is_name : List ℕ → Bool

@@ -1,5 +1,5 @@
 -- The meaning of a technology file: the value that its lines add up to, or its first fault with its line. It depends on the bytes alone.
-use Rattle.std.specs.Prelude.{◌≡◌, ◌<◌, ◌≤◌, ℕ, All, ◌+◌, ◌-◌, ◌==◌, Bool, false, not, ◌||◌, ◌&&◌, nat_lt, nat_le, if◌then◌else◌, Option, Some, None, Result, Ok, Err, List, [], ◌∷◌, ◌++◌, length, codes, slice_get, take, count_by, find, is_none, is_some}
+use Rattle.std.specs.Prelude.{◌≡◌, ◌≢◌, ◌<◌, ◌≤◌, ℕ, All, ◌+◌, ◌-◌, ◌==◌, Bool, false, not, ◌||◌, ◌&&◌, nat_lt, nat_le, if◌then◌else◌, Option, Some, None, Result, Ok, Err, List, [], ◌∷◌, ◌++◌, length, codes, slice_get, take, count_by, find, is_none, is_some, IfSome, IsSome, IsTrue}
 use Rattle.std.specs.List.{list_any}
 use Rattle.std.specs.Map.{lookup}
 use Rattle.std.specs.Option.{option_map, option_map_or}
@@ -9,6 +9,7 @@ use Rattle.mls_tech.specs.FileLines.{NumberedLine, content_lines}
 use Rattle.mls_tech.specs.Names.{is_name, is_type_name}
 use Rattle.mls_tech.specs.TypeLists.{Scope, ◌>>=◌, or_fault}
 use Rattle.mls_text.specs.Fields.{fields_of}
+use Rattle.mls_text.specs.Lines.{IsUnbroken}
 use Rattle.mls_text.specs.Words.{words_of, same_word}
 use Rattle.mls_tech.specs.declared.fault.TechFault.{TechFault}
 use Rattle.mls_tech.specs.declared.fault.TechFaultKind.{TechFaultKind}
@@ -52,6 +53,18 @@ number_named names word = lookup (same_word word) names
 -- the first name of a number
 abbrev pub name_of : Numbered → ℕ → Option (List ℕ)
 name_of names number = option_map (λ entry. entry.0) (find (λ entry. entry.1 == number) names)
+
+-- each type's names are spelled so that cell files can have them, each name has one meaning, and each type has a name
+pub record HasNames (types : Numbered) (type_planes : List ℕ) : Type 0 where
+  pub spelled : All (λ entry. entry.1 ≢ 0 → IsTrue (is_type_name entry.0)) types
+  pub once : All (λ entry. number_named types entry.0 ≡ Some entry.1) types
+  pub each : (kind : ℕ) → 1 ≤ kind → kind ≤ length type_planes → IsSome (name_of types kind)
+
+-- what holds of every technology, whose own name can stand in a line
+pub record IsWellFormed (name : Option (List ℕ)) (planes : Numbered) (plane_count : ℕ) (types : Numbered) (type_planes : List ℕ) : Type 0 where
+  pub limits : IsWithinLimits planes plane_count types type_planes
+  pub named : HasNames types type_planes
+  pub unbroken : IfSome name IsUnbroken
 
 -- the plane of a type other than space
 abbrev pub plane_of_type : List ℕ → ℕ → Option ℕ

@@ -3,6 +3,7 @@ ghost use Rattle.std.specs.Prelude.{◌≡◌, [], ◌∷◌, MatchOption, IfOk,
 ghost use Rattle.std.specs.List.{list_any};
 ghost use Rattle.mls_tech.specs.FileLines.{begins_content, content_lines};
 ghost use Rattle.mls_tech.specs.Readings as spec;
+ghost use Rattle.mls_text.specs.Lines.{IsUnbroken};
 ghost use Rattle.mls_text.specs.Words.{words_of};
 
 use crate::joined_lines::read_line;
@@ -56,6 +57,7 @@ impl<'a> FileLines<'a> {
         ensures ok { IfOk result (λ found. MatchOption found
             ((self.old.ahead ≡ []) × (self.new ≡ record { line = []; ahead = [] }))
             (λ number. self.old.ahead ≡ record { line = number; bytes = self.new.line } ∷ self.new.ahead)) }
+        ensures unbroken { IfOk result (λ _. IsUnbroken self.new.line) }
         ensures err { OnErr result (self.new.ahead ≡ self.old.ahead) }
     {
         while !self.rest.is_empty() {

@@ -23,7 +23,10 @@ fn has_name_bytes(word: &[u8]) -> bool
 fn is_name_byte(byte: u8) -> bool
     ensures { result ≡ spec.is_name_byte byte }
 {
-    !matches!(byte, b' ' | b'\t' | b',' | b'~' | b'(' | b')' | b'/' | b'"')
+    !matches!(
+        byte,
+        b' ' | b'\t' | b'\n' | b',' | b'~' | b'(' | b')' | b'/' | b'"'
+    )
 }
 
 /// Returns whether the word can name a type; some words have another meaning in cell files.

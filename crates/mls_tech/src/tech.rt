@@ -1,6 +1,8 @@
 //! Technologies.
 ghost use Rattle.std.specs.Prelude.{◌≡◌, ◌<◌, ◌≤◌, length, IfOk, IfSome, option_copied};
+ghost use Rattle.mls_tech.specs.Readings.{HasNames};
 ghost use Rattle.mls_tech.specs.Readings as spec;
+ghost use Rattle.mls_text.specs.Lines.{IsUnbroken};
 
 mod file;
 mod lines;
@@ -26,7 +28,7 @@ pub struct Tech {
 }
 
 impl Model for Tech {
-    ghost use Rattle.mls_tech.specs.Readings.{Tech, IsWithinLimits};
+    ghost use Rattle.mls_tech.specs.Readings.{Tech, IsWellFormed};
 
     ghost Value = { Tech };
 
@@ -40,7 +42,7 @@ impl Model for Tech {
       skipped = tech.skipped.items;
     } };
 
-    ghost invariant = { λ tech. IsWithinLimits tech.planes tech.plane_count tech.types tech.type_planes.items };
+    ghost invariant = { λ tech. IsWellFormed tech.name tech.planes tech.plane_count tech.types tech.type_planes.items };
 }
 
 impl Tech {
@@ -63,7 +65,8 @@ impl Tech {
 
     /// Returns the technology's name, if the file has one.
     pub fn name(&self) -> Option<&[u8]>
-        ensures { option_copied result ≡ self.now.name }
+        ensures value { option_copied result ≡ self.now.name }
+        ensures unbroken { IfSome result (λ name. IsUnbroken name.now) }
     {
         self.name.as_ref().map(|name| name.as_slice())
     }
@@ -112,6 +115,7 @@ impl Tech {
     pub fn types(&self) -> usize
         ensures value { result ≡ length self.now.type_planes }
         ensures limit { result ≤ 63 }
+        ensures named { HasNames self.now.types self.now.type_planes }
     {
         self.type_planes.len()
     }

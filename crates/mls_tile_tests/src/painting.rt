@@ -97,7 +97,7 @@ impl Canvas {
 
     /// Returns the rectangles and kinds of the tiles, by bottom and then left.
     fn pieces(&mut self, alloc: Global) -> Result<Vec<Piece>, AllocError> {
-        strips_of(&self.pool, &mut self.plane, &mut self.scratch);
+        strips_of(&self.pool, &self.plane, &mut self.scratch);
         self.scratch
             .tiles()
             .iter()

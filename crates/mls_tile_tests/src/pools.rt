@@ -235,7 +235,7 @@ impl Trio {
     fn of(alloc: Global, pieces: &[Piece]) -> Result<Trio, Fail> {
         let mut pool = Pool::new(alloc, ROOM)?;
         let mut scratch = Scratch::new(alloc, ROOM)?;
-        let mut sweep = Sweep::new(alloc, ROOM)?;
+        let mut sweep = Sweep::new(alloc, ROOM as usize)?;
         let first = plane_of(&mut pool, pieces, &mut scratch, &mut sweep)?;
         let second = plane_of(&mut pool, pieces, &mut scratch, &mut sweep)?;
         let third = plane_of(&mut pool, pieces, &mut scratch, &mut sweep)?;

@@ -178,7 +178,7 @@ impl Model for Sheet {
 impl Sheet {
     /// Builds the plane that pieces show, painted in turn on space.
     pub fn of(alloc: Global, pieces: &[Piece]) -> Result<Sheet, Fail> {
-        let mut sweep = Sweep::new(alloc, ROOM)?;
+        let mut sweep = Sweep::new(alloc, ROOM as usize)?;
         if pieces.len() > ROOM as usize {
             return Err(Fail::new("too many pieces"));
         }

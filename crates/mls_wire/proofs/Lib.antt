@@ -1,4 +1,5 @@
 pub mod Chunks
+pub mod CommandRuns
 pub mod Executing
 pub mod NameLemmas
 pub mod NextLineLemmas
@@ -6,3 +7,5 @@ pub mod Results
 pub mod RunLemmas
 pub mod ScriptTexts
 pub mod ServingLemmas
+pub mod SettingLemmas
+pub mod TypeLists

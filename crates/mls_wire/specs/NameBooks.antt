@@ -4,6 +4,8 @@ use Rattle.std.specs.Prelude.{ℕ, Bool, Option, List}
 pub record Names : Type 0 where
   -- the type of a name
   pub type_of : List ℕ → Option ℕ
+  -- the number of the cell of a name
+  pub cell_of : List ℕ → Option ℕ
   -- the first name of a type
   pub type_name : ℕ → Option (List ℕ)
   -- a session of this name is open

@@ -1,8 +1,18 @@
--- Whole runs of a script over one session. Only `%open` may be refused because memory ran out. This project's own.
-use Rattle.std.specs.Prelude.{◌≡◌, ℕ, ◌+◌, Bool, false, if◌then◌else◌, ◌⊎◌, IsTrue, Option, Some, None, Result, Ok, Err, List, [], ◌∷◌, ◌++◌, length}
+-- Whole runs of a script over one session. Only `%open` and `save` may be refused because memory ran out. This project's own.
+use Rattle.std.specs.Prelude.{◌≡◌, ℕ, ◌+◌, ◌-◌, ◌*◌, Bool, true, false, nat_lt, if◌then◌else◌, ◌⊎◌, IsTrue, Option, Some, None, Result, Ok, Err, List, [], ◌∷◌, ◌++◌, length, map, position}
+use Rattle.std.specs.Result.{IsOkAnd}
+use Rattle.mls_geom.specs.Layouts.{Layout}
+use Rattle.mls_library.specs.CellFiles.{layout_of}
+use Rattle.mls_library.specs.Faults.{UnlessMemory}
+use Rattle.mls_library.specs.Libraries.{loading_of, tile_counts, total}
+use Rattle.mls_library.specs.SavedCells.{saved_text}
+use Rattle.mls_library.specs.declared.fault.CellFault.{CellFault}
 use Rattle.mls_session.specs.Own.{Config, OwnState, opening, own_step}
-use Rattle.mls_session.specs.Sessions.{config_with}
+use Rattle.mls_session.specs.Sessions.{plane_reserve}
 use Rattle.mls_session.specs.declared.command.Command.{Command}
+use Rattle.mls_session.specs.declared.refusal.Refusal.TheVariants.{Memory as OutOfMemory}
+use Rattle.mls_session.specs.declared.reply.Reply.{Reply}
+use Rattle.mls_session.specs.declared.reply.Reply.TheVariants.{Done, Kinds, Saved, Refused}
 use Rattle.mls_tech.specs.Readings.{Tech, number_named, name_of}
 use Rattle.mls_text.specs.Words.{same_word}
 use Rattle.mls_wire.specs.NameBooks.{Names}
@@ -11,17 +21,45 @@ use Rattle.mls_wire.specs.Says.{line_says}
 use Rattle.mls_wire.specs.declared.line.Line.{Line}
 use Rattle.mls_wire.specs.declared.line.Line.TheVariants.{Silent, Open, Run}
 use Rattle.mls_wire.specs.declared.line.LineFault.{LineFault}
-use Rattle.mls_wire.specs.declared.response.OpenFault.TheVariants.{OpenAlready, SessionsFull, Memory}
+use Rattle.mls_wire.specs.declared.response.OpenFault.TheVariants.{OpenAlready, SessionsFull, PoolFull, Memory}
 use Rattle.mls_wire.specs.declared.response.Response.{Response}
-use Rattle.mls_wire.specs.declared.response.Response.TheVariants.{Silent as NoResponse, Fault, Opened, NotOpened, Replied}
+use Rattle.mls_wire.specs.declared.response.Response.TheVariants.{Silent as NoResponse, Fault, Opened, NotOpened, Replied, Saved as SavedText}
 
--- what no line changes: the technology, and how many tiles a plane may have
+-- a cell's name and its layout
+pub record NamedLayout : Type 0 where
+  pub name : List ℕ
+  pub layout : Layout
+
+-- what no line changes: the technology, how many tiles a plane may have, the cells in the order in which they were loaded, and how many tiles of the
+-- pool they leave
 pub record Setting : Type 0 where
   pub tech : Tech
   pub quota : ℕ
+  pub cells : List NamedLayout
+  pub room : ℕ
 
 abbrev pub config_for : Setting → Config
-config_for setting = config_with setting.tech setting.quota
+config_for setting = record { tech = setting.tech; cells = map (λ cell. cell.layout) setting.cells; quota = setting.quota }
+
+-- how many tiles the planes of a session reserve
+abbrev pub session_reserve : Setting → ℕ
+session_reserve setting = setting.tech.plane_count * plane_reserve setting.quota
+
+-- ---- loading cells, before any line
+abbrev pub cell_names : Setting → List (List ℕ)
+cell_names setting = map (λ cell. cell.name) setting.cells
+
+-- with one cell more, whose planes take this many tiles
+abbrev pub with_cell : Setting → NamedLayout → ℕ → Setting
+with_cell setting cell tiles = record setting { cells = setting.cells ++ cell ∷ []; room = setting.room - tiles }
+
+-- the cell is loaded as the definition reads it, under the next number, or there is its fault and nothing changes, unless memory ran out
+abbrev pub LoadsCell : Setting → List ℕ → List ℕ → Result ℕ CellFault → Setting → Type 0
+LoadsCell old name bytes (Ok id) new =
+    IsOkAnd (loading_of old.tech (cell_names old) old.room name bytes)
+    (λ rects. (id ≡ length old.cells) × (new ≡ with_cell old (record { name = name; layout = layout_of rects }) (total (tile_counts old.tech.plane_count rects))))
+LoadsCell old name bytes (Err fault) new =
+    UnlessMemory fault.kind fault.line (loading_of old.tech (cell_names old) old.room name bytes ≡ Err fault) × (new ≡ old)
 
 -- the session that is open, if any, by its name and own state
 abbrev pub OpenSession : Type 0
@@ -35,27 +73,45 @@ is_named (Some session) name = same_word session.0 name
 -- what names mean while this session is open
 abbrev pub book_of : Setting → OpenSession → Names
 book_of setting session =
-    record { type_of = number_named setting.tech.types; type_name = name_of setting.tech.types; is_open = is_named session }
+    record {
+      type_of = number_named setting.tech.types;
+      cell_of = λ name. position (λ cell. same_word name cell.name) setting.cells;
+      type_name = name_of setting.tech.types;
+      is_open = is_named session;
+    }
 
--- a session is opened where none is, unless memory runs out
-abbrev pub Opens : OpenSession → List ℕ → Response → OpenSession → Type 0
-Opens None name response new =
+-- a session is opened, unless the pool or memory has no room for it
+abbrev pub OpensIn : Bool → List ℕ → Response → OpenSession → Type 0
+OpensIn true name response new = (response ≡ NotOpened name PoolFull) × (new ≡ None)
+OpensIn false name response new =
     ((response ≡ Opened name) × (new ≡ Some (name, opening))) ⊎ ((response ≡ NotOpened name Memory) × (new ≡ None))
-Opens (Some session) name response new =
+
+-- a session is opened where none is
+abbrev pub Opens : Setting → OpenSession → List ℕ → Response → OpenSession → Type 0
+Opens setting None name response new = OpensIn (nat_lt setting.room (session_reserve setting)) name response new
+Opens setting (Some session) name response new =
     (response ≡ NotOpened name (if same_word session.0 name then OpenAlready else SessionsFull)) × (new ≡ Some session)
+
+-- the session's reply; where it is saved, with the text of its layout, unless memory runs out
+abbrev pub Replies : Setting → List ℕ → OwnState → Reply → Response → Type 0
+Replies setting name own (Saved lines) response =
+    (response ≡ SavedText name lines (saved_text setting.tech own.layout)) ⊎ (response ≡ Replied name (Refused OutOfMemory))
+Replies setting name own Done response = response ≡ Replied name Done
+Replies setting name own (Kinds kinds) response = response ≡ Replied name (Kinds kinds)
+Replies setting name own (Refused refusal) response = response ≡ Replied name (Refused refusal)
 
 -- the open session takes its own step
 abbrev pub RunsCommand : Setting → OpenSession → List ℕ → Command → Response → OpenSession → Type 0
 RunsCommand setting None name command response new = ⊥
 RunsCommand setting (Some session) name command response new =
-    (response ≡ Replied name (own_step (config_for setting) session.1 command).1)
+    Replies setting name session.1 (own_step (config_for setting) session.1 command).1 response
     × (new ≡ Some (session.0, (own_step (config_for setting) session.1 command).0))
 
 -- what a line says has this response, and leads to the new session
 abbrev pub Executes : Setting → OpenSession → Result Line LineFault → Response → OpenSession → Type 0
 Executes setting old (Err fault) response new = (response ≡ Fault fault) × (new ≡ old)
 Executes setting old (Ok Silent) response new = (response ≡ NoResponse) × (new ≡ old)
-Executes setting old (Ok (Open name)) response new = Opens old name response new
+Executes setting old (Ok (Open name)) response new = Opens setting old name response new
 Executes setting old (Ok (Run name command)) response new = RunsCommand setting old name command response new
 
 -- a line's session is open

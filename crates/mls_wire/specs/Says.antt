@@ -1,9 +1,13 @@
 -- What a line of a script says, or its first fault. This project's own.
-use Rattle.std.specs.Prelude.{ℕ, ℤ, if◌then◌else◌, Option, Some, None, Result, Ok, Err, List, [], ◌∷◌, codes}
+use Rattle.std.specs.Prelude.{ℕ, ℤ, ◌==◌, Bool, false, if◌then◌else◌, is_some, Option, Some, None, Result, Ok, Err, List, [], ◌∷◌, codes}
+use Rattle.std.specs.List.{list_all, list_any}
+use Rattle.std.specs.Option.{option_map_or}
+use Rattle.mls_kinds.specs.KindSets.{set_of}
 use Rattle.mls_session.specs.declared.command.Command.{Command}
-use Rattle.mls_session.specs.declared.command.Command.TheVariants.{Box, Paint, What}
+use Rattle.mls_session.specs.declared.command.Command.TheVariants.{Box, Paint, Erase, Dump, What, Save}
 use Rattle.mls_wire.specs.NameBooks.{Names}
 use Rattle.mls_wire.specs.Numbers.{number_of}
+use Rattle.mls_text.specs.Fields.{fields_of}
 use Rattle.mls_text.specs.Words.{begins_with, words_of, same_word}
 use Rattle.mls_wire.specs.SessionNames.{is_session_name}
 use Rattle.mls_wire.specs.declared.line.Line.{Line}
@@ -24,17 +28,51 @@ abbrev pub paint_says : Names → List (List ℕ) → Result Command LineFault
 paint_says book (name ∷ []) = Ok (Paint (book.type_of name))
 paint_says book _ = Err UnknownCommand
 
+-- the name is that of this type
+abbrev pub names_type : Names → ℕ → List ℕ → Bool
+names_type book kind name = option_map_or (λ named. kind == named) (book.type_of name) false
+
+-- the set of the types of these names, or none where a name is of no type
+unfoldable pub types_named : Names → List (List ℕ) → Option ℕ
+types_named book names =
+    if list_all (λ name. is_some (book.type_of name)) names then Some (set_of (λ kind. list_any (names_type book kind) names)) else None
+
+-- names of types between commas
+abbrev pub erase_says : Names → List (List ℕ) → Result Command LineFault
+erase_says book (names ∷ []) = Ok (Erase (types_named book (fields_of names)))
+erase_says book _ = Err UnknownCommand
+
+unfoldable pub dump_by : Option ℕ → Option ℤ → Option ℤ → Result Command LineFault
+dump_by cell (Some dx) (Some dy) = Ok (Dump cell dx dy)
+dump_by cell _ _ = Err BadNumber
+
+-- a cell's name, and how far it is moved to the right and up
+abbrev pub dump_says : Names → List (List ℕ) → Result Command LineFault
+dump_says book (name ∷ dx ∷ dy ∷ []) = dump_by (book.cell_of name) (number_of dx) (number_of dy)
+dump_says book _ = Err UnknownCommand
+
+abbrev pub save_says : List (List ℕ) → Result Command LineFault
+save_says [] = Ok Save
+save_says _ = Err UnknownCommand
+
 abbrev pub what_says : List (List ℕ) → Result Command LineFault
 what_says [] = Ok What
 what_says _ = Err UnknownCommand
+
+-- a command that changes the layout, and the words after its own
+unfoldable pub edit_of : Names → List ℕ → List (List ℕ) → Result Command LineFault
+edit_of book verb words =
+    if same_word verb (codes "paint") then paint_says book words
+    else (if same_word verb (codes "erase") then erase_says book words
+    else (if same_word verb (codes "dump") then dump_says book words else Err UnknownCommand))
 
 -- the words after a session's name
 unfoldable pub command_of : Names → List (List ℕ) → Result Command LineFault
 command_of book [] = Err UnknownCommand
 command_of book (verb ∷ words) =
     if same_word verb (codes "box") then box_says words
-    else (if same_word verb (codes "paint") then paint_says book words
-    else (if same_word verb (codes "what") then what_says words else Err UnknownCommand))
+    else (if same_word verb (codes "what") then what_says words
+    else (if same_word verb (codes "save") then save_says words else edit_of book verb words))
 
 -- a command for a session: a fault of its name's form comes first, then one of the command's, and last that no session of the name is open
 abbrev pub line_with : Names → List ℕ → Result Command LineFault → Result Line LineFault

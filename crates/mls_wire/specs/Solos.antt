@@ -1,20 +1,30 @@
 -- What a server of one session keeps.
-use Rattle.std.specs.Prelude.{◌≡◌, ℕ, ◌≤◌, Option, Some, None, List, length}
-use Rattle.mls_paint.specs.Scratches.{Scratch}
-use Rattle.mls_session.specs.Sessions.{IsHome, Session, plane_reserve, state_of}
+use Rattle.std.specs.Prelude.{◌≡◌, ℕ, Option, Some, None, List, [], length, map}
+use Rattle.mls_library.specs.Libraries.{Library, NamedCell, cell_layout}
+use Rattle.mls_session.specs.Sessions.{CanDump, IsHome, Session, state_of}
 use Rattle.mls_tech.specs.Readings.{Tech}
 use Rattle.mls_tilepool.specs.Pools.{Pool, unreserved}
-use Rattle.mls_wire.specs.Runs.{OpenSession, Setting}
+use Rattle.mls_wire.specs.Runs.{NamedLayout, OpenSession, Setting}
 
--- the technology and the quota of each session, the pool of all tiles, and the open session with its name
+-- the technology and the quota of each session, the pool of all tiles, the library of cells, how many tiles of the pool these leave, and the open session
+-- with its name
 pub record Solo : Type 0 where
   pub tech : Tech
   pub quota : ℕ
   pub pool : Pool
+  pub library : Library
+  pub room : ℕ
   pub session : Option (List ℕ × Session)
 
+-- a cell's name, and what its planes show
+abbrev pub named_layout : Pool → NamedCell → NamedLayout
+named_layout pool cell = record { name = cell.name; layout = cell_layout pool cell }
+
+abbrev pub named_layouts : Pool → Library → List NamedLayout
+named_layouts pool cells = map (named_layout pool) cells
+
 abbrev pub setting_of : Solo → Setting
-setting_of solo = record { tech = solo.tech; quota = solo.quota }
+setting_of solo = record { tech = solo.tech; quota = solo.quota; cells = named_layouts solo.pool solo.library; room = solo.room }
 
 abbrev pub open_session_in : Pool → Option (List ℕ × Session) → OpenSession
 open_session_in pool None = None
@@ -28,21 +38,14 @@ open_session_of solo = open_session_in solo.pool solo.session
 abbrev pub pool_tiles : ℕ
 pool_tiles = 262144
 
--- a session was made for the technology, with this quota, and its planes lie in the pool
-pub record IsMadeFor (tech : Tech) (quota : ℕ) (pool : Pool) (session : Session) : Type 0 where
+-- a session was made for the technology, with this quota, and its planes lie in the pool beside those of the cells
+pub record IsMadeFor (tech : Tech) (quota : ℕ) (pool : Pool) (cells : Library) (session : Session) : Type 0 where
   pub planes_match : length session.planes ≡ tech.plane_count
   pub quota_match : session.quota ≡ quota
   pub home : IsHome pool session
+  pub can_dump : CanDump tech pool cells session.planes
 
--- so was the open session; where none is open, no tile of the pool is reserved
-abbrev pub IsOpenFor : Tech → ℕ → Pool → Option (List ℕ × Session) → Type 0
-IsOpenFor tech quota pool None = unreserved pool ≡ pool_tiles
-IsOpenFor tech quota pool (Some session) = IsMadeFor tech quota pool session.1
-
--- the scratch has room for planes of this quota and for 65536 pieces at once, and the list in which commands make pieces has this capacity, the greater
--- of 4096 and of what such a plane reserves, or more
-pub record HasRooms (quota : ℕ) (scratch : Scratch) (list : ℕ) : Type 0 where
-  pub tiles : plane_reserve quota ≤ scratch.room
-  pub painted : 65536 ≤ scratch.pieces
-  pub list_least : 4096 ≤ list
-  pub list_reserve : plane_reserve quota ≤ list
+-- so was the open session; where none is open, only the cells have reserved tiles of the pool, of which this many are left
+abbrev pub IsOpenFor : Tech → ℕ → Pool → Library → ℕ → Option (List ℕ × Session) → Type 0
+IsOpenFor tech quota pool cells room None = CanDump tech pool cells [] × (unreserved pool ≡ room)
+IsOpenFor tech quota pool cells room (Some session) = IsMadeFor tech quota pool cells session.1

@@ -19,7 +19,7 @@ pub use name::Name;
 pub use names::Names;
 pub use parse::parse_line;
 pub use reply::push_response;
-pub use response::{OpenFault, Response};
+pub use response::{OpenFault, Response, SavedText};
 pub use script_line::ScriptLine;
 pub use serving::{ServeFault, serve};
 pub use solo::Solo;

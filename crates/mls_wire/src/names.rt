@@ -1,8 +1,9 @@
 //! What names mean.
-ghost use Rattle.std.specs.Prelude.{◌≡◌};
+ghost use Rattle.std.specs.Prelude.{◌≡◌, ◌<◌, IfSome};
 ghost use Rattle.std.specs.Option.{option_map};
 
 use crate::Name;
+use mls_library::CellId;
 
 /// What names mean to a reader of lines, and what types are called in replies.
 pub trait Names {
@@ -13,7 +14,12 @@ pub trait Names {
 
     /// Returns the type of this name.
     fn type_of(&self, word: &[u8]) -> Option<u8>
-        ensures { result ≡ (book self.now).type_of word.now };
+        ensures value { result ≡ (book self.now).type_of word.now }
+        ensures small { IfSome result (λ kind. kind < 64) };
+
+    /// Returns the cell of this name.
+    fn cell_of(&self, word: &[u8]) -> Option<CellId>
+        ensures { result ≡ (book self.now).cell_of word.now };
 
     /// Returns the first name of a type.
     fn type_name(&self, kind: u8) -> Option<&[u8]>

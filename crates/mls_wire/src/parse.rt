@@ -1,12 +1,14 @@
 //! From a line to what it says.
 ghost use Rattle.std.specs.Prelude.{◌≡◌};
-ghost use Rattle.mls_wire.specs.Says.{box_says, command_of, line_says, open_says, paint_says, session_says, what_says, words_say};
+ghost use Rattle.mls_text.specs.Fields.{fields_of};
+ghost use Rattle.mls_wire.specs.Says.{box_says, command_of, dump_says, edit_of, erase_says, line_says, open_says, paint_says, save_says, session_says, types_named, what_says, words_say};
 ghost use Rattle.mls_wire.specs.ScriptLines.{text_of};
 
 use crate::number::number_of;
 use crate::{Line, LineFault, Name, Names, ScriptLine};
+use mls_kinds::KindSet;
 use mls_session::Command;
-use mls_text::Words;
+use mls_text::{Fields, Words};
 
 /// Returns what a line says, or its first fault.
 #[tactic(auto, unfolding(crate::specs::Says::line_says))]
@@ -64,9 +66,23 @@ fn parse_command<N: Names>(names: &N, mut words: Words) -> Result<Command, LineF
     ensures { result ≡ command_of (N.book names.now) words.entry }
 {
     match words.next() {
+        None => Err(LineFault::UnknownCommand),
         Some(b"box") => parse_box(words),
-        Some(b"paint") => parse_paint(names, words),
         Some(b"what") => parse_what(words),
+        Some(b"save") => parse_save(words),
+        Some(verb) => parse_edit(names, verb, words),
+    }
+}
+
+/// Returns the command of `paint`, `erase` or `dump`, and of the words after it.
+#[tactic(auto, unfolding(crate::specs::Says::edit_of))]
+fn parse_edit<N: Names>(names: &N, verb: &[u8], words: Words) -> Result<Command, LineFault>
+    ensures { result ≡ edit_of (N.book names.now) verb.now words.entry }
+{
+    match verb {
+        b"paint" => parse_paint(names, words),
+        b"erase" => parse_erase(names, words),
+        b"dump" => parse_dump(names, words),
         _ => Err(LineFault::UnknownCommand),
     }
 }
@@ -109,6 +125,61 @@ fn parse_paint<N: Names>(names: &N, mut words: Words) -> Result<Command, LineFau
         return Err(LineFault::UnknownCommand);
     };
     Ok(Command::Paint(names.type_of(name)))
+}
+
+/// Returns the command of the words after `erase`.
+fn parse_erase<N: Names>(names: &N, mut words: Words) -> Result<Command, LineFault>
+    ensures { result ≡ erase_says (N.book names.now) words.entry }
+{
+    let (Some(list), None) = (words.next(), words.next()) else {
+        return Err(LineFault::UnknownCommand);
+    };
+    Ok(Command::Erase(types_of(names, list)))
+}
+
+/// Returns the types whose names stand in a list between commas, or `None` if one of them is of no type.
+#[tactic(auto, unfolding(crate::specs::Says::types_named))]
+fn types_of<N: Names>(names: &N, list: &[u8]) -> Option<KindSet>
+    ensures { result ≡ types_named (N.book names.now) (fields_of list.now) }
+{
+    let mut types = KindSet::empty();
+    for name in Fields::new(list) {
+        types.insert(names.type_of(name)?);
+    }
+    Some(types)
+}
+
+/// Returns the command of the words after `dump`.
+#[tactic(auto, unfolding(crate::specs::Says::dump_by))]
+fn parse_dump<N: Names>(names: &N, mut words: Words) -> Result<Command, LineFault>
+    ensures { result ≡ dump_says (N.book names.now) words.entry }
+{
+    let (Some(name), Some(dx), Some(dy), None) = (
+        words.next(),
+        words.next(),
+        words.next(),
+        words.next(),
+    ) else {
+        return Err(LineFault::UnknownCommand);
+    };
+    match (number_of(dx), number_of(dy)) {
+        (Some(dx), Some(dy)) => Ok(Command::Dump {
+            cell: names.cell_of(name),
+            dx,
+            dy,
+        }),
+        _ => Err(LineFault::BadNumber),
+    }
+}
+
+/// Returns the command of the words after `save`.
+fn parse_save(mut words: Words) -> Result<Command, LineFault>
+    ensures { result ≡ save_says words.entry }
+{
+    match words.next() {
+        None => Ok(Command::Save),
+        Some(_) => Err(LineFault::UnknownCommand),
+    }
 }
 
 /// Returns the command of the words after `what`.

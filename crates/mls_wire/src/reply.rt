@@ -42,6 +42,13 @@ pub fn push_response<N: Names>(
             out.push(b' ')?;
             push_reply(names, *reply, out)?;
         }
+        Response::Saved(name, lines, text) => {
+            out.extend_from_slice(name.as_bytes())?;
+            out.push(b' ')?;
+            push_reply(names, Reply::Saved(*lines), out)?;
+            out.push(b'\n')?;
+            return out.extend_from_slice(text.as_bytes());
+        }
     }
     out.push(b'\n')?;
     Ok(())
@@ -76,6 +83,10 @@ fn push_reply<N: Names>(names: &N, reply: Reply, out: &mut Vec<u8>) -> Result<()
             let types = without_space(kinds);
             push_decimal(types.len() as u64, out)?;
             push_types(names, types, out)
+        }
+        Reply::Saved(lines) => {
+            out.extend_from_slice(b"saved ")?;
+            push_decimal(lines as u64, out)
         }
         Reply::Refused(refusal) => {
             out.extend_from_slice(b"refused ")?;

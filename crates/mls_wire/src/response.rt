@@ -3,6 +3,7 @@ ghost use Rattle.std.specs.Prelude.{◌≡◌};
 
 use crate::{LineFault, Name};
 use mls_session::Reply;
+use std::marker::Model;
 use thiserror::Error;
 
 /// The response to a line.
@@ -18,6 +19,38 @@ pub enum Response {
     NotOpened(Name, OpenFault),
     /// The session's reply to its command.
     Replied(Name, Reply),
+    /// The number of lines of the session's layout as a cell file, and their text.
+    Saved(Name, usize, SavedText),
+}
+
+/// The text of a layout as a cell file.
+#[derive(Drop)]
+pub struct SavedText {
+    bytes: Vec<u8>,
+}
+
+impl Model for SavedText {
+    ghost use Rattle.std.specs.Prelude.{ℕ, List};
+
+    ghost Value = { List ℕ };
+
+    ghost view = { λ text. text.bytes.items };
+}
+
+impl SavedText {
+    /// Creates a text of these bytes.
+    pub(crate) fn new(bytes: Vec<u8>) -> SavedText
+        ensures { result ≡ bytes.items }
+    {
+        SavedText { bytes }
+    }
+
+    /// Returns the bytes.
+    pub fn as_bytes(&self) -> &[u8]
+        ensures { result.now ≡ self.now }
+    {
+        self.bytes.as_slice()
+    }
 }
 
 /// Why a session can't be opened.
@@ -28,6 +61,8 @@ pub enum OpenFault {
     OpenAlready,
     /// No more sessions can be open.
     SessionsFull,
+    /// The pool has no room for the planes of a session.
+    PoolFull,
     /// Memory ran out.
     Memory,
 }
@@ -42,6 +77,7 @@ impl OpenFault {
         match self {
             OpenFault::OpenAlready => 1,
             OpenFault::SessionsFull => 2,
+            OpenFault::PoolFull => 3,
             OpenFault::Memory => 4,
         }
     }
@@ -53,6 +89,7 @@ impl OpenFault {
         match self {
             OpenFault::OpenAlready => "open already",
             OpenFault::SessionsFull => "sessions full",
+            OpenFault::PoolFull => "pool full",
             OpenFault::Memory => "memory",
         }
     }

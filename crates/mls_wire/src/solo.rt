@@ -1,14 +1,19 @@
 //! A server of one session.
-ghost use Rattle.std.specs.Prelude.{◌≡◌, ◌≤◌, IfOk, IsTrue};
-ghost use Rattle.mls_wire.specs.Runs.{CanExecute, Executes, Opens, RunsCommand, book_of, is_named};
+ghost use Rattle.std.specs.Prelude.{◌≡◌, ◌≤◌, IfOk, IsTrue, length};
+ghost use Rattle.mls_library.specs.SavedCells.{saved_line_count};
+ghost use Rattle.mls_session.specs.declared.reply.Reply.TheVariants.{Saved};
+ghost use Rattle.mls_paint.specs.Scratches.{KeepsRoom};
+ghost use Rattle.mls_session.specs.Sessions.{IsHome, plane_reserve, state_of};
+ghost use Rattle.mls_wire.specs.Runs.{CanExecute, Executes, LoadsCell, Opens, Replies, RunsCommand, Setting, book_of, is_named};
 ghost use Rattle.mls_wire.specs.Says.{line_says};
 ghost use Rattle.mls_wire.specs.ScriptLines.{text_of};
-ghost use Rattle.mls_wire.specs.Solos.{open_session_of, setting_of};
+ghost use Rattle.mls_wire.specs.Solos.{open_session_of, pool_tiles, setting_of};
 
-use crate::{Line, Name, Names, OpenFault, Response, ScriptLine, parse_line};
+use crate::{Line, Name, Names, OpenFault, Response, SavedText, ScriptLine, parse_line};
 use mls_geom::Piece;
+use mls_library::{CellFault, CellId, Library};
 use mls_paint::Scratch;
-use mls_session::{Command, Quota, Session};
+use mls_session::{Command, Quota, Reply, Session};
 use mls_tech::Tech;
 use mls_tilepool::Pool;
 use std::alloc::{AllocError, Global};
@@ -20,17 +25,21 @@ const CAPACITY: u32 = 262_144;
 /// How many pieces can be painted at once.
 const PAINT_ROOM: u32 = 65_536;
 
-/// How many pieces a command can make, however small the quota is.
-const PIECES_ROOM: u32 = 4096;
+/// The most tiles that a cell's plane has, and so the most pieces that dumping it makes, however small the quota is.
+const CELL_TILES: u32 = 4096;
 
 /// A server that has one session at most.
 ///
-/// It keeps the pool in which the planes of its session lie, and the lists in which the commands of the session work.
+/// It keeps the pool in which the planes of its cells and of its session lie, and the lists in which the commands of the
+/// session work.
 #[derive(Drop)]
 pub struct Solo {
     tech: Tech,
     quota: Quota,
     pool: Pool,
+    library: Library,
+    /// How many tiles of the pool the cells leave.
+    room: u32,
     scratch: Scratch,
     pieces: Vec<Piece>,
     session: Option<(Name, Session)>,
@@ -38,39 +47,65 @@ pub struct Solo {
 
 impl Model for Solo {
     ghost use Rattle.std.specs.Prelude.{vec_capacity};
-    ghost use Rattle.mls_wire.specs.Solos.{HasRooms, IsOpenFor, Solo};
+    ghost use Rattle.mls_session.specs.Rooms.{HasRooms};
+    ghost use Rattle.mls_wire.specs.Solos.{IsOpenFor, Solo};
 
     ghost Value = { Solo };
 
-    ghost view = { λ solo. record { tech = solo.tech; quota = solo.quota; pool = solo.pool; session = solo.session } };
+    ghost view = { λ solo. record { tech = solo.tech; quota = solo.quota; pool = solo.pool; library = solo.library; room = solo.room; session = solo.session } };
 
-    ghost invariant = { λ solo. IsOpenFor solo.tech solo.quota solo.pool solo.session
+    ghost invariant = { λ solo. IsOpenFor solo.tech solo.quota solo.pool solo.library solo.room solo.session
         × HasRooms solo.quota solo.scratch (vec_capacity solo.pieces) };
 }
 
 impl Solo {
-    ghost use Rattle.std.specs.Prelude.{None};
+    ghost use Rattle.std.specs.Prelude.{None, []};
 
-    /// Creates a server with no open session, whose sessions have the planes and types of this technology and this quota.
+    /// Creates a server with no cells and no open session, whose sessions have the planes and types of this technology and
+    /// this quota.
     ///
     /// Reserves the memory of the pool, and of the lists in which commands work.
     #[tactic(auto, unfolding(mls_tilepool::specs::Pools::reserved))]
     pub fn new(alloc: Global, tech: Tech, quota: Quota) -> Result<Solo, AllocError>
-        ensures setting { IfOk result (λ solo. setting_of solo ≡ record { tech = tech; quota = quota }) }
+        ensures setting { IfOk result (λ solo. setting_of solo ≡ record { tech = tech; quota = quota; cells = []; room = pool_tiles }) }
         ensures session { IfOk result (λ solo. open_session_of solo ≡ None) }
     {
         let reserve = quota.reserve();
         let pool = Pool::new(alloc, CAPACITY)?;
-        let scratch = Scratch::new(alloc, reserve, PAINT_ROOM)?;
-        let pieces = Vec::with_capacity(alloc, reserve.max(PIECES_ROOM) as usize)?;
+        let scratch = Scratch::new(alloc, reserve.max(CELL_TILES), PAINT_ROOM)?;
+        let pieces = Vec::with_capacity(alloc, reserve.max(CELL_TILES) as usize)?;
         Ok(Solo {
             tech,
             quota,
             pool,
+            library: Library::new(alloc),
+            room: CAPACITY,
             scratch,
             pieces,
             session: None,
         })
+    }
+
+    /// Loads a cell from a file. No session may be open.
+    ///
+    /// # Errors
+    ///
+    /// Those of [`Library::load`]. The server then stays as it was.
+    pub fn load(&mut self, alloc: Global, name: &[u8], bytes: &[u8]) -> Result<CellId, CellFault>
+        requires none_open { open_session_of self.old ≡ None }
+        ensures loads { LoadsCell (setting_of self.old) name.now bytes.now result (setting_of self.new) }
+        ensures none_open { open_session_of self.new ≡ None }
+    {
+        let Solo {
+            tech,
+            pool,
+            library,
+            room,
+            ..
+        } = self;
+        let id = library.load(alloc, pool, tech, name, bytes)?;
+        *room = pool.unreserved();
+        Ok(id)
     }
 
     /// Executes a line, and returns the response to it.
@@ -94,13 +129,13 @@ impl Solo {
         match said {
             Line::Silent => Response::Silent,
             Line::Open(name) => self.open(alloc, name),
-            Line::Run(name, command) => self.run_command(name, command),
+            Line::Run(name, command) => self.run_command(alloc, name, command),
         }
     }
 
     /// Opens a session, if none is open.
     fn open(&mut self, alloc: Global, name: Name) -> Response
-        ensures opens { Opens (open_session_of self.old) name result (open_session_of self.new) }
+        ensures opens { Opens (setting_of self.old) (open_session_of self.old) name result (open_session_of self.new) }
         ensures setting { setting_of self.new ≡ setting_of self.old }
     {
         if let Some((other, _)) = &self.session {
@@ -115,22 +150,23 @@ impl Solo {
             tech,
             quota,
             pool,
+            room,
             scratch,
             session,
             ..
         } = self;
-        prove!(tech.planes() as u32 * quota.reserve() <= CAPACITY);
-        match Session::open(alloc, pool, tech, *quota, scratch) {
-            Ok(opened) => {
-                *session = Some((name, opened));
-                Response::Opened(name)
-            }
-            Err(_) => Response::NotOpened(name, OpenFault::Memory),
+        if *room < tech.planes() as u32 * quota.reserve() {
+            return Response::NotOpened(name, OpenFault::PoolFull);
         }
+        let Ok(opened) = Session::open(alloc, pool, tech, *quota, scratch) else {
+            return Response::NotOpened(name, OpenFault::Memory);
+        };
+        *session = Some((name, opened));
+        Response::Opened(name)
     }
 
     /// Runs a command in the open session.
-    fn run_command(&mut self, name: Name, command: Command) -> Response
+    fn run_command(&mut self, alloc: Global, name: Name, command: Command) -> Response
         requires { IsTrue (is_named (open_session_of self.old) name) }
         ensures runs { RunsCommand (setting_of self.old) (open_session_of self.old) name command result (open_session_of self.new) }
         ensures setting { setting_of self.new ≡ setting_of self.old }
@@ -138,18 +174,43 @@ impl Solo {
         let Solo {
             tech,
             pool,
+            library,
             scratch,
             pieces,
             session,
             ..
         } = self;
-        match session {
-            Some((_, session)) => Response::Replied(
-                name,
-                session.command(pool, tech, command, pieces, scratch),
-            ),
-            None => unreachable!(),
+        let Some((_, session)) = session else {
+            unreachable!()
+        };
+        if let Command::Save = command {
+            return save(alloc, name, session, pool, tech, scratch);
         }
+        let reply = session.command(pool, tech, library, command, pieces, scratch);
+        Response::Replied(name, reply)
+    }
+}
+
+/// Saves the layout of a session.
+fn save(
+    alloc: Global,
+    name: Name,
+    session: &Session,
+    pool: &Pool,
+    tech: &Tech,
+    scratch: &mut Scratch,
+) -> Response
+    requires home { IsHome pool.now session.now }
+    requires made_for { length session.now.planes ≡ tech.now.plane_count }
+    requires tiles_fit { plane_reserve session.now.quota ≤ scratch.old.room }
+    ensures replies { (setting : Setting) → setting.tech ≡ tech.now
+        → Replies setting name (state_of pool.now session.now) (Saved (saved_line_count tech.now (state_of pool.now session.now).layout)) result }
+    ensures rooms { KeepsRoom scratch.old scratch.new }
+{
+    let mut text = Vec::new(alloc);
+    match session.save_text(pool, tech, &mut text, scratch) {
+        Reply::Saved(lines) => Response::Saved(name, lines, SavedText::new(text)),
+        reply => Response::Replied(name, reply),
     }
 }
 
@@ -161,6 +222,10 @@ impl Names for Solo {
 
     fn type_of(&self, word: &[u8]) -> Option<u8> {
         self.tech.type_of(word)
+    }
+
+    fn cell_of(&self, word: &[u8]) -> Option<CellId> {
+        self.library.cell_named(word)
     }
 
     fn type_name(&self, kind: u8) -> Option<&[u8]> {

@@ -2,6 +2,7 @@
 ghost use Rattle.std.specs.Prelude.{◌≡◌, Ok, OnOk};
 ghost use Rattle.mls_tech.specs.Inner.Gives.{GivesUnlessMemory};
 ghost use Rattle.mls_tech.specs.Readings as spec;
+ghost use Rattle.mls_text.specs.Lines.{IsUnbroken};
 ghost use Rattle.mls_text.specs.Words.{words_of};
 ghost use Rattle.mls_tech.specs.declared.section.Section.TheVariants.{Drc};
 
@@ -33,6 +34,7 @@ impl Tech {
         number: usize,
         lines: &FileLines<'_>,
     ) -> Result<Option<Section>, TechFaultKind>
+        requires unbroken { IsUnbroken lines.now.line }
         ensures { GivesUnlessMemory (λ next. (next, self.new)) result
             (spec.read_line inside self.old (record { line = number; bytes = lines.now.line }) lines.now.ahead) }
     {
@@ -58,6 +60,7 @@ impl Tech {
         number: usize,
         line: &[u8],
     ) -> Result<(), TechFaultKind>
+        requires unbroken { IsUnbroken line.now }
         ensures { GivesUnlessMemory (λ _. self.new) result
             (spec.section_line section self.old (record { line = number; bytes = line.now })) }
     {
@@ -73,6 +76,7 @@ impl Tech {
     /// Reads a line of the section `tech`: the first word other than `format` is the name.
     #[tactic(auto, unfolding(crate::specs::Readings::tech_line))]
     fn tech_line(&mut self, alloc: Global, line: &[u8]) -> Result<(), AllocError>
+        requires unbroken { IsUnbroken line.now }
         ensures { OnOk result (spec.tech_line self.old (words_of line.now) ≡ Ok self.new) }
     {
         let Some(word) = Words::new(line).next() else {
@@ -117,13 +121,16 @@ impl Tech {
             .number_of(without_dash(plane))
             .ok_or(TechFaultKind::UnknownPlane)?;
         let kind = self.kinds();
+        // At a fault both stay empty, so that no type is without a name.
         let mut types = mem::replace(&mut self.types, NameTable::new(alloc));
+        let mut type_planes = mem::replace(&mut self.type_planes, Vec::new(alloc));
         types.add_names(alloc, NameKind::TypeName, kind, names)?;
         if kind > MAX_TYPES {
             return Err(TechFaultKind::Limit);
         }
-        self.type_planes.push(plane)?;
+        type_planes.push(plane)?;
         self.types = types;
+        self.type_planes = type_planes;
         Ok(())
     }
 

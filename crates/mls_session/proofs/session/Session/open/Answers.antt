@@ -1,10 +1,11 @@
 -- Each turn adds a plane of space.
-use Rattle.std.proofs.Common.{◌≡◌, ◌+◌, None, sym, subst, ◌∙◌, arith}
+use Rattle.std.proofs.Common.{◌≡◌, ◌+◌, ◌*◌, length, None, sym, subst, ◌∙◌, arith}
 use Rattle.mls_tilepool.specs.Pools.{unreserved}
+use Rattle.mls_paint.specs.Owners.{AddsOwners}
 use Rattle.mls_paint.specs.Planes.{AddsOwner}
-use Rattle.mls_session.specs.Sessions.{AddsOwners, IsHome, plane_reserve}
+use Rattle.mls_session.specs.Sessions.{IsHome, plane_reserve}
 use Rattle.mls_session.proofs.HomePlanes.{IsHome-push, differ_from_new}
-use Rattle.mls_session.proofs.Openings.{AddsOwners-push, AreSpace, AreSpace-push, state_of-opening}
+use Rattle.mls_session.proofs.Openings.{AddsOwners-plane, AreSpace, AreSpace-push, state_of-opening}
 use Rattle.mls_session.proofs.session.Session.open.Goals as goal
 
 pub loop-plane-preserved : goal.loop-plane-preserved
@@ -29,7 +30,7 @@ loop-plane-preserved c =
           subst (λ owners. IsHome new (record { box = None; planes = owners; quota = c.args.quota })) (sym items)
           (IsHome-push old new None planes c.args.quota owner so_far.home added strips);
       space = subst (AreSpace new) (sym items) (AreSpace-push old new planes owner reserve so_far.space differ added shows);
-      added = subst (λ owners. AddsOwners c.args.pool.now new owners reserve) (sym items) (AddsOwners-push c.args.pool.now old new planes owner reserve so_far.added differ added taken);
+      added = subst (λ owners. AddsOwners c.args.pool.now new owners (length owners * reserve)) (sym items) (AddsOwners-plane c.args.pool.now old new planes owner reserve so_far.added differ added taken);
       rooms = record { room = made.rooms.room ∙ so_far.rooms.room; pieces = made.rooms.pieces ∙ so_far.rooms.pieces };
     }
 

@@ -1,6 +1,7 @@
-use Rattle.std.proofs.Common.{◌≡◌, None, length, vec_capacity}
+use Rattle.std.proofs.Common.{◌≡◌, ◌*◌, None, length, vec_capacity}
 use Rattle.mls_paint.specs.Scratches.{KeepsRoom}
-use Rattle.mls_session.specs.Sessions.{AddsOwners, IsHome, plane_reserve}
+use Rattle.mls_paint.specs.Owners.{AddsOwners}
+use Rattle.mls_session.specs.Sessions.{IsHome, plane_reserve}
 use Rattle.mls_session.proofs.Openings.{AreSpace}
 use Rattle.mls_session.proofs.session.Session.open.Given as goal
 
@@ -11,6 +12,6 @@ invariant-loop-plane l = record {
   reserved : vec_capacity l.planes ≡ l.fn.tech.plane_count;
   home : IsHome l.pool (record { box = None; planes = l.planes.items; quota = l.fn.quota });
   space : AreSpace l.pool l.planes.items;
-  added : AddsOwners l.fn.pool l.pool l.planes.items (plane_reserve l.fn.quota);
+  added : AddsOwners l.fn.pool l.pool l.planes.items (length l.planes.items * plane_reserve l.fn.quota);
   rooms : KeepsRoom l.fn.scratch l.scratch;
 }

@@ -1,16 +1,17 @@
 -- Each turn adds the kinds of one plane more.
 use Rattle.std.proofs.Common.{◌≡◌, List, ℕ, Some, get_or, length, sym, ap, ◌∙◌, refl, arith}
+use Rattle.mls_paint.proofs.OwnerFrames.{layout_in-at}
+use Rattle.mls_session.specs.Own.{types_in}
 use Rattle.mls_session.specs.Sessions.{Session, state_of}
 use Rattle.mls_session.specs.declared.reply.Reply.TheVariants.{Kinds}
-use Rattle.mls_session.proofs.BoxTypes.{types_none, types_more, types_all, what_step-Kinds}
+use Rattle.mls_session.proofs.BoxTypes.{types_none, types_more, what_step-Kinds}
 use Rattle.mls_session.proofs.HomePlanes.{HasStrips-at, planes_kept}
-use Rattle.mls_session.proofs.SessionPlanes.{layout_in-at}
 use Rattle.mls_session.proofs.session.Session.what.Goals as goal
 
 pub loop-i-init : goal.loop-i-init
 loop-i-init c = record {
   same = c.self.view_is;
-  found = λ config. c.empty-found.ensures ∙ sym (types_none config (state_of c.args.pool.now c.args.self.now).layout c.in-Some.rect);
+  found = c.empty-found.ensures ∙ sym (types_none (state_of c.args.pool.now c.args.self.now).layout c.in-Some.rect);
   rooms = record { room = refl; pieces = refl };
 }
 
@@ -34,9 +35,9 @@ loop-i-preserved c =
     let kept = planes_kept turn.self-inside.planes.items turn.i owner c.kinds.new.plane c.index_mut.ensures.value c.kinds.ensures.plane in
     record {
       same = ap (λ (planes : List ℕ). record { box = turn.self-inside.box_rect; planes = planes; quota = turn.self-inside.quota }) kept ∙ turn.invariant.same;
-      found = λ config.
-          let more = types_more config (state_of c.args.pool.now session).layout c.in-Some.rect turn.i in
-          c.union-found.ensures ∙ rw (more, shows, ← c.kinds.ensures.kinds, ← turn.invariant.found config) refl;
+      found =
+          let more = types_more (state_of c.args.pool.now session).layout c.in-Some.rect turn.i in
+          c.union-found.ensures ∙ rw (more, shows, ← c.kinds.ensures.kinds, ← turn.invariant.found) refl;
       rooms = record {
         room = c.kinds.ensures.rooms.room ∙ turn.invariant.rooms.room;
         pieces = c.kinds.ensures.rooms.pieces ∙ turn.invariant.rooms.pieces;
@@ -47,8 +48,9 @@ pub returns-clause-step : goal.returns-clause-step
 returns-clause-step c = λ config count.
     let pool = c.args.pool.now in
     let session = c.args.self.now in
+    let layout = (state_of pool session).layout in
     let is_set : session.box ≡ Some c.in-Some.rect = sym (ap (λ (kept : Session). kept.box) c.self.view_is) ∙ c.in-Some.is in
     let whole = ap (λ (kept : Session). length kept.planes) c.self.view_is in
-    let all : c.loop-i.i ≡ config.planes = omega (arith, whole, count) in
-    let kinds = c.loop-i.invariant.found config ∙ types_all config (state_of pool session).layout c.in-Some.rect _ all in
+    let all : c.loop-i.i ≡ config.tech.plane_count = omega (arith, whole, count) in
+    let kinds = c.loop-i.invariant.found ∙ ap (λ n. types_in n layout c.in-Some.rect) all in
     what_step-Kinds config (state_of pool session) _ _ _ is_set kinds ∙ ap (λ (kept : Session). (state_of pool kept, Kinds c.loop-i.found)) (sym c.loop-i.invariant.same)

@@ -1,6 +1,6 @@
 use Rattle.std.proofs.Common.{◌≡◌}
 use Rattle.mls_paint.specs.Scratches.{KeepsRoom}
-use Rattle.mls_session.specs.Own.{Config, types_in}
+use Rattle.mls_session.specs.Own.{types_in}
 use Rattle.mls_session.specs.Sessions.{state_of}
 use Rattle.mls_session.proofs.session.Session.what.Given as goal
 
@@ -8,6 +8,6 @@ use Rattle.mls_session.proofs.session.Session.what.Given as goal
 abbrev pub invariant-loop-i : goal.invariant-loop-i
 invariant-loop-i l = record {
   same : record { box = l.self-inside.box_rect; planes = l.self-inside.planes.items; quota = l.self-inside.quota } ≡ l.fn.self;
-  found : (config : Config) → l.found ≡ types_in (record config { planes = l.i }) (state_of l.pool l.fn.self).layout l.rect;
+  found : l.found ≡ types_in l.i (state_of l.pool l.fn.self).layout l.rect;
   rooms : KeepsRoom l.fn.scratch l.scratch;
 }

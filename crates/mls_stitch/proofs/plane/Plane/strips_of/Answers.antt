@@ -1,5 +1,5 @@
 -- An area search over the world finds all tiles.
-use Rattle.std.proofs.Common.{subst}
+use Rattle.std.proofs.Common.{subst₂}
 use Rattle.mls_tilepool.specs.Pools.{tiles_of}
 use Rattle.mls_stitch.specs.Areas.{AreInArea}
 use Rattle.mls_stitch.specs.Tilings.{block_at}
@@ -10,20 +10,20 @@ use Rattle.mls_stitch.proofs.plane.Plane.strips_of.Goals as goal
 pub returns-clause-picture : goal.returns-clause-picture
 returns-clause-picture c =
     let tiles = tiles_of c.args.pool.now c.args.self.now in
-    let list = c.area.new.scratch.tiles in
-    let found = subst (λ area. AreInArea (block_at tiles) area list) c.world.ensures c.area.ensures.found in
+    let list = c.area_into.new.list.items in
+    let found = subst₂ (λ owner area. AreInArea (block_at (tiles_of c.args.pool.now owner)) area list) c.self.view_is c.world-world.ensures c.area_into.ensures.found in
     picture-AreInArea tiles list c.requires.plane.plane (KeysDiffer-tiles_of c.args.pool.now c.args.self.now) found
 
 pub returns-clause-strips : goal.returns-clause-strips
 returns-clause-strips c =
     let tiles = tiles_of c.args.pool.now c.args.self.now in
-    let list = c.area.new.scratch.tiles in
-    let found = subst (λ area. AreInArea (block_at tiles) area list) c.world.ensures c.area.ensures.found in
+    let list = c.area_into.new.list.items in
+    let found = subst₂ (λ owner area. AreInArea (block_at (tiles_of c.args.pool.now owner)) area list) c.self.view_is c.world-world.ensures c.area_into.ensures.found in
     strips-AreInArea tiles list c.requires.plane.plane found
 
 pub returns-clause-count : goal.returns-clause-count
 returns-clause-count c =
     let tiles = tiles_of c.args.pool.now c.args.self.now in
-    let list = c.area.new.scratch.tiles in
-    let found = subst (λ area. AreInArea (block_at tiles) area list) c.world.ensures c.area.ensures.found in
+    let list = c.area_into.new.list.items in
+    let found = subst₂ (λ owner area. AreInArea (block_at (tiles_of c.args.pool.now owner)) area list) c.self.view_is c.world-world.ensures c.area_into.ensures.found in
     length-AreInArea tiles list c.requires.plane.plane (KeysDiffer-tiles_of c.args.pool.now c.args.self.now) found

@@ -6,10 +6,10 @@ use Rattle.mls_tech.proofs.tech.Tech.type_of.Goals as goal
 pub returns-clause-known : goal.returns-clause-known
 returns-clause-known c =
     let fields = c.self.inside in
-    rw (c.number_of.ensures, ← c.self.view_is) (number_named-All (λ kind. kind ≤ length fields.type_planes.items) fields.types c.args.name.now c.self.invariant.types_named)
+    rw (c.number_of.ensures, ← c.self.view_is) (number_named-All (λ kind. kind ≤ length fields.type_planes.items) fields.types c.args.name.now c.self.invariant.limits.types_named)
 
 pub returns-clause-small : goal.returns-clause-small
 returns-clause-small c =
     let fields = c.self.inside in
-    let small = All-weaker (λ entry. entry.1 ≤ length fields.type_planes.items) (λ entry. entry.1 < 64) (λ entry within. omega (arith, c.self.invariant.few_types)) fields.types c.self.invariant.types_named in
+    let small = All-weaker (λ entry. entry.1 ≤ length fields.type_planes.items) (λ entry. entry.1 < 64) (λ entry within. omega (arith, c.self.invariant.limits.few_types)) fields.types c.self.invariant.limits.types_named in
     rw c.number_of.ensures (number_named-All (λ kind. kind < 64) fields.types c.args.name.now small)

@@ -1,0 +1,34 @@
+-- A cell that is found by its number is one of the library's.
+use Rattle.std.proofs.Common.{◌≡◌, ℕ, ◌≤◌, Option, Some, None, List, All, refl, subst, arith}
+use Rattle.std.specs.Prelude.{slice_get}
+use Rattle.std.specs.Option.{option_map}
+use Rattle.std.proofs.lemmas.Option.{get_or_from_slice_get, slice_get_within}
+use Rattle.mls_tilepool.specs.Pools.{Pool}
+use Rattle.mls_paint.specs.Scratches.{HasRoomFor, Scratch}
+use Rattle.mls_library.specs.Libraries.{IsCellHome, IsFrozen, IsHome, Library, NamedCell, most_tiles}
+
+-- the cell of which `Library::get` gives the planes
+found_in : (owners : List ℕ) (found : Option NamedCell) → Some owners ≡ option_map (λ cell. cell.planes) found
+    → (cell : NamedCell) × (found ≡ Some cell) × (cell.planes ≡ owners)
+found_in owners None e = absurd (cc e)
+found_in owners (Some cell) e = (cell, refl, cc)
+
+pub cell_found : (cells : Library) (id : ℕ) (owners : List ℕ) → Some owners ≡ option_map (λ cell. cell.planes) (slice_get cells id)
+    → (cell : NamedCell) × (slice_get cells id ≡ Some cell) × (cell.planes ≡ owners)
+cell_found cells id owners e = found_in owners (slice_get cells id) e
+
+-- what holds of each cell holds of one that is found
+pub All-found : (P : NamedCell → Type 0) (cells : Library) (id : ℕ) (cell : NamedCell) → All P cells → slice_get cells id ≡ Some cell → P cell
+All-found P cells id cell all e = subst P (get_or_from_slice_get cells id cell cell e) (all id cell (slice_get_within cells id cell e))
+
+-- its planes are at home
+pub IsFrozen-found :
+    (pool : Pool) (cells : Library) (id : ℕ) (owners : List ℕ) → IsHome pool cells → Some owners ≡ option_map (λ cell. cell.planes) (slice_get cells id)
+    → All (IsFrozen pool) owners
+IsFrozen-found pool cells id owners home e =
+    let found = cell_found cells id owners e in
+    subst (All (IsFrozen pool)) found.2 (All-found (IsCellHome pool) cells id found.0 home.each found.1).frozen
+
+-- and a scratch for as many tiles as a cell's plane may have has room for each
+pub HasRoomFor-IsFrozen : (pool : Pool) (owner : ℕ) (scratch : Scratch) → IsFrozen pool owner → most_tiles ≤ scratch.room → HasRoomFor pool owner scratch
+HasRoomFor-IsFrozen pool owner scratch frozen room = rw frozen.reserve (omega (arith, frozen.few, room))

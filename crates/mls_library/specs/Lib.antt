@@ -1,0 +1,5 @@
+pub mod CellFiles
+pub mod Faults
+pub mod Inner
+pub mod Libraries
+pub mod SavedCells

@@ -1,0 +1,9 @@
+//! The rectangles of cell files.
+use mls_geom::Piece;
+
+/// A rectangle of one type, and the type's plane.
+#[derive(Clone, Copy, Debug, PartialEq, Eq)]
+pub(crate) struct CellRect {
+    pub plane: u8,
+    pub piece: Piece,
+}

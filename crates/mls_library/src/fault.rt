@@ -1,0 +1,107 @@
+//! The faults of cells.
+ghost use Rattle.std.specs.Prelude.{◌≡◌};
+ghost use Rattle.mls_library.specs.declared.fault.CellFaultKind.TheVariants.{Memory, TooManyTiles};
+
+use mls_geom::TooMany;
+use std::alloc::{AllocError, AllocFailed};
+use thiserror::Error;
+
+/// What is wrong with a cell.
+#[derive(Clone, Copy, Debug, PartialEq, Eq, Error)]
+#[error("{}", self.text())]
+pub enum CellFaultKind {
+    /// The file, or the cell's name, has another form.
+    Form = 1,
+    /// A section is of no type.
+    UnknownLayer,
+    /// The cell uses other cells.
+    Hierarchy,
+    /// The file has another scale.
+    Scale,
+    /// A rectangle has squares outside the world.
+    OutsideWorld,
+    /// A plane would have more tiles than a cell's plane may have.
+    TooManyTiles,
+    /// The library has a cell of the name.
+    NameTwice,
+    /// The pool has not enough unreserved tiles.
+    PoolFull,
+    /// Memory ran out.
+    Memory,
+    /// The cell has a triangle.
+    Triangle,
+    /// The library has as many cells as it may have.
+    LibraryFull,
+}
+
+impl CellFaultKind {
+    ghost use Rattle.mls_library.specs.Faults.{fault_number, fault_text};
+
+    /// Returns the fault's number, from 1 to 11.
+    pub fn number(self) -> u8
+        ensures { result ≡ fault_number self }
+    {
+        self as u8
+    }
+
+    /// Returns the fault's text.
+    pub fn text(self) -> &'static str
+        ensures { result.now ≡ fault_text self }
+    {
+        match self {
+            CellFaultKind::Form => "form",
+            CellFaultKind::UnknownLayer => "unknown layer",
+            CellFaultKind::Hierarchy => "hierarchy",
+            CellFaultKind::Scale => "scale",
+            CellFaultKind::OutsideWorld => "outside the world",
+            CellFaultKind::TooManyTiles => "too many tiles",
+            CellFaultKind::NameTwice => "name twice",
+            CellFaultKind::PoolFull => "pool full",
+            CellFaultKind::Memory => "memory",
+            CellFaultKind::Triangle => "triangle",
+            CellFaultKind::LibraryFull => "library full",
+        }
+    }
+}
+
+/// A fault and the line of the file that has it.
+#[derive(Clone, Copy, Debug, PartialEq, Eq, Error)]
+#[error("line {line}: {kind}")]
+pub struct CellFault {
+    /// The line's number, from 1, or 0 for a fault of no line.
+    pub line: usize,
+    pub kind: CellFaultKind,
+}
+
+impl CellFault {
+    /// Creates a fault of no line.
+    pub(crate) fn of_cell(kind: CellFaultKind) -> CellFault
+        ensures { result ≡ record { line = 0; kind = kind } }
+    {
+        CellFault { line: 0, kind }
+    }
+}
+
+impl From<AllocError> for CellFault {
+    ghost from_gives = { λ _ fault. fault ≡ record { line = 0; kind = Memory } };
+
+    fn from(_error: AllocError) -> CellFault {
+        CellFault::of_cell(CellFaultKind::Memory)
+    }
+}
+
+impl<T: Drop> From<AllocFailed<T>> for CellFault {
+    ghost from_gives = { λ _ fault. fault ≡ record { line = 0; kind = Memory } };
+
+    fn from(_error: AllocFailed<T>) -> CellFault {
+        CellFault::of_cell(CellFaultKind::Memory)
+    }
+}
+
+impl From<TooMany> for CellFault {
+    ghost from_gives = { λ _ fault. fault ≡ record { line = 0; kind = TooManyTiles } };
+
+    fn from(_: TooMany) -> CellFault {
+        CellFault::of_cell(CellFaultKind::TooManyTiles)
+    }
+}

@@ -1,0 +1,20 @@
+//! Library cells: cell files (the `.mag` form of Magic, for flat cells), read into planes of a pool that never change.
+#![tactic(auto)]
+
+mod cell;
+mod cell_name;
+mod cell_rect;
+mod fault;
+mod file;
+mod integer;
+mod library;
+mod lines;
+mod meaning;
+mod place;
+mod plane_strips;
+mod saved;
+
+pub use cell::Cell;
+pub use fault::{CellFault, CellFaultKind};
+pub use library::{CellId, Library};
+pub use saved::{layer_line_count, push_end, push_header, push_layer};

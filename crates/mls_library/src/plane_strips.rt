@@ -1,0 +1,76 @@
+//! The strips of a cell's planes.
+ghost use Rattle.std.specs.Prelude.{◌≡◌, ◌≤◌, true, All, IfOk, IfErr, OnOk, length, map, nat_lt};
+ghost use Rattle.std.specs.List.{list_any};
+ghost use Rattle.mls_library.specs.CellFiles.{pieces_on};
+ghost use Rattle.mls_library.specs.Faults.{UnlessMemory};
+ghost use Rattle.mls_library.specs.Inner.{AreLayoutStrips};
+ghost use Rattle.mls_library.specs.declared.fault.CellFaultKind.TheVariants.{TooManyTiles};
+ghost use Rattle.mls_library.specs.Libraries.{most_tiles, tile_counts, total};
+
+use crate::CellFault;
+use crate::cell_rect::CellRect;
+use mls_geom::{Piece, Scratch as Sweep, strips};
+use std::alloc::{AllocError, Global};
+
+/// The most tiles that a cell's plane may have.
+pub(crate) const MOST_TILES: u32 = 4096;
+
+/// Makes `pieces` those that are painted on a plane, in order.
+fn list_pieces(rects: &[CellRect], plane: u8, pieces: &mut Vec<Piece>) -> Result<(), AllocError>
+    ensures items { OnOk result (pieces.new.items ≡ pieces_on plane rects.now) }
+    ensures few { OnOk result (length pieces.new.items ≤ length rects.now) }
+{
+    pieces.clear();
+    for rect in rects {
+        if rect.plane == plane {
+            pieces.push(rect.piece)?;
+        }
+    }
+    Ok(())
+}
+
+/// Returns how many tiles the planes have together.
+pub(crate) fn count_tiles(planes: &[Vec<Piece>]) -> usize
+    requires few { length planes.now ≤ 4 }
+    requires limit { All (λ strips. length strips.items ≤ most_tiles) planes.now }
+    ensures { result ≡ total (map (λ strips. length strips.items) planes.now) }
+{
+    let mut count = 0;
+    for strips in planes {
+        count += strips.len();
+    }
+    count
+}
+
+/// Creates a sweep for this many pieces, and for the strips of a plane.
+fn sweep_for(alloc: Global, pieces: usize) -> Result<Sweep, AllocError>
+    ensures pieces { IfOk result (λ sweep. pieces ≤ sweep.room) }
+    ensures strips { IfOk result (λ sweep. most_tiles ≤ sweep.room) }
+{
+    Sweep::new(alloc, pieces.max(MOST_TILES as usize))
+}
+
+/// Finds the strips of each plane of a layout.
+///
+/// Fails if a plane has more than a cell's plane may have.
+pub(crate) fn find_plane_strips(
+    alloc: Global,
+    planes: u8,
+    rects: &[CellRect],
+) -> Result<Vec<Vec<Piece>>, CellFault>
+    requires { planes ≤ 4 }
+    ensures strips { IfOk result (λ found. AreLayoutStrips rects.now (map (λ list. list.items) found.items)) }
+    ensures count { IfOk result (λ found. length found.items ≡ planes) }
+    ensures fault { IfErr result (λ fault. UnlessMemory fault.kind fault.line
+        ((fault ≡ record { line = 0; kind = TooManyTiles }) × (list_any (λ count. nat_lt most_tiles count) (tile_counts planes rects.now) ≡ true))) }
+{
+    let mut sweep = sweep_for(alloc, rects.len())?;
+    let mut pieces = Vec::new(alloc);
+    let mut found = Vec::with_capacity(alloc, usize::from(planes))?;
+    for plane in 0..planes {
+        list_pieces(rects, plane, &mut pieces)?;
+        strips(&[], &pieces, MOST_TILES as usize, &mut sweep)?;
+        found.push_reserved(Vec::from_slice(alloc, sweep.strips())?);
+    }
+    Ok(found)
+}

@@ -1,0 +1,136 @@
+//! The writing of cell files.
+ghost use Rattle.std.specs.Prelude.{◌≡◌, ◌++◌, ◌∷◌, ◌==◌, ◌≤◌, [], IfSome, OnErr, OnOk, count_by, length, map};
+ghost use Rattle.std.specs.Fmt.{signed_decimal};
+ghost use Rattle.mls_library.specs.SavedCells as spec;
+ghost use Rattle.mls_tech.specs.Readings.{Tech};
+ghost use Rattle.mls_text.specs.Lines.{IsUnbroken};
+
+use itoa::Buffer;
+use mls_geom::Rect;
+use mls_stitch::LaidTile;
+use mls_tech::Tech;
+use std::alloc::AllocError;
+
+/// Returns how many lines the section of a type has in a cell file, where the type's plane has these tiles.
+pub fn layer_line_count(tiles: &[LaidTile], kind: u8) -> usize
+    ensures { (tech : Tech) → result ≡ length (spec.layer_lines tech kind (map (λ tile. tile.piece) tiles.now)) }
+{
+    match count_strips(tiles, kind) {
+        0 => 0,
+        strips => strips + 1,
+    }
+}
+
+/// Returns how many tiles are of the type.
+fn count_strips(tiles: &[LaidTile], kind: u8) -> usize
+    ensures value { result ≡ count_by (λ tile. tile.piece.kind == kind) tiles.now }
+    ensures bound { result ≤ length tiles.now }
+{
+    tiles.iter().filter(|tile| tile.piece.kind == kind).count()
+}
+
+/// Appends the first lines of a cell file.
+///
+/// # Errors
+///
+/// Out of memory. What the text had before is still in front of it.
+#[tactic(auto, unfolding(crate::specs::SavedCells::text_of))]
+pub fn push_header(tech: &Tech, out: &mut Vec<u8>) -> Result<(), AllocError>
+    ensures text { OnOk result (out.new.items ≡ out.old.items ++ spec.text_of (spec.header_lines tech.now)) }
+    ensures kept { OnErr result (spec.Extends out.old.items out.new.items) }
+    // The technology's name stands on one line.
+    ensures unbroken { IfSome tech.now.name IsUnbroken }
+{
+    let name = tech.name().unwrap_or(b"none");
+    out.extend_from_slice(b"magic\ntech ")?;
+    out.extend_from_slice(name)?;
+    out.push(b'\n')?;
+    Ok(())
+}
+
+/// Appends the section of a type, whose plane has these tiles, by bottom and then left. It has none without a tile of the type.
+///
+/// # Errors
+///
+/// Out of memory. What the text had before is still in front of it.
+pub fn push_layer(
+    tech: &Tech,
+    kind: u8,
+    tiles: &[LaidTile],
+    out: &mut Vec<u8>,
+) -> Result<(), AllocError>
+    ensures text { OnOk result (out.new.items ≡ out.old.items ++ spec.text_of (spec.layer_lines tech.now kind (map (λ tile. tile.piece) tiles.now))) }
+    ensures kept { OnErr result (spec.Extends out.old.items out.new.items) }
+{
+    if layer_line_count(tiles, kind) == 0 {
+        return Ok(());
+    }
+    push_section(first_name(tech, kind), out)?;
+    push_strips(kind, tiles, out)
+}
+
+/// Returns the name that is written for a type.
+fn first_name(tech: &Tech, kind: u8) -> &[u8]
+    ensures { result.now ≡ spec.first_name tech.now kind }
+{
+    tech.type_name(kind).unwrap_or(b"")
+}
+
+/// Appends the last line of a cell file.
+///
+/// # Errors
+///
+/// Out of memory. What the text had before is still in front of it.
+pub fn push_end(out: &mut Vec<u8>) -> Result<(), AllocError>
+    ensures text { OnOk result (out.new.items ≡ out.old.items ++ spec.text_of spec.end_lines) }
+    ensures kept { OnErr result (spec.Extends out.old.items out.new.items) }
+{
+    push_section(b"end", out)
+}
+
+/// Appends the line that begins a section.
+#[tactic(auto, unfolding(crate::specs::SavedCells::text_of))]
+fn push_section(name: &[u8], out: &mut Vec<u8>) -> Result<(), AllocError>
+    ensures text { OnOk result (out.new.items ≡ out.old.items ++ spec.text_of (spec.spaced (spec.section_words name.now) ∷ [])) }
+    ensures kept { OnErr result (spec.Extends out.old.items out.new.items) }
+{
+    out.extend_from_slice(b"<< ")?;
+    out.extend_from_slice(name)?;
+    out.extend_from_slice(b" >>\n")
+}
+
+/// Appends a line for each tile of the type.
+fn push_strips(kind: u8, tiles: &[LaidTile], out: &mut Vec<u8>) -> Result<(), AllocError>
+    ensures text { OnOk result (out.new.items ≡ out.old.items ++ spec.text_of (spec.strip_lines (spec.of_kind kind (map (λ tile. tile.piece) tiles.now)))) }
+    ensures kept { OnErr result (spec.Extends out.old.items out.new.items) }
+{
+    for tile in tiles {
+        if tile.piece.kind == kind {
+            push_rect(tile.piece.rect, out)?;
+        }
+    }
+    Ok(())
+}
+
+/// Appends the line of a rectangle.
+fn push_rect(rect: Rect, out: &mut Vec<u8>) -> Result<(), AllocError>
+    ensures text { OnOk result (out.new.items ≡ out.old.items ++ (spec.spaced (spec.rect_words rect) ++ 10 ∷ [])) }
+    ensures kept { OnErr result (spec.Extends out.old.items out.new.items) }
+{
+    out.extend_from_slice(b"rect ")?;
+    push_coordinate(rect.left(), b' ', out)?;
+    push_coordinate(rect.bottom(), b' ', out)?;
+    push_coordinate(rect.right(), b' ', out)?;
+    push_coordinate(rect.top(), b'\n', out)
+}
+
+/// Appends a coordinate and the byte that follows it.
+fn push_coordinate(coordinate: i32, end: u8, out: &mut Vec<u8>) -> Result<(), AllocError>
+    ensures text { OnOk result (out.new.items ≡ out.old.items ++ (signed_decimal coordinate ++ end ∷ [])) }
+    ensures kept { OnErr result (spec.Extends out.old.items out.new.items) }
+{
+    let mut buffer = Buffer::new();
+    out.extend_from_slice(buffer.format(coordinate).as_bytes())?;
+    out.push(end)?;
+    Ok(())
+}

@@ -1,0 +1,65 @@
+-- Cells that are loaded one after another.
+use Rattle.std.proofs.Common.{◌≡◌, ◌∙◌, ◌<◌, ℕ, suc, ◌+◌, List, [], ◌∷◌, ◌++◌, length, get_or, map, take, drop, refl, sym, ap, subst}
+use Rattle.std.specs.Prelude.{Result, Ok, Err}
+use Rattle.std.specs.Result.{IsOkAnd}
+use Rattle.std.proofs.lemmas.List.{map-append}
+use Rattle.mls_library.specs.CellFiles.{layout_of}
+use Rattle.mls_library.specs.Libraries.{loading_of, tile_counts, total}
+use Rattle.mls_wire.specs.Runs.{LoadsCell, Setting, cell_names, with_cell}
+use Rattle.mls_magicd.specs.Cells.{FailsToLoad, LoadsFile, LoadsCells, StopsAtCell}
+use Rattle.mls_magicd.proofs.Taken.{map-take_more, split-at}
+use Rattle.mls_magicd.specs.CommandLines.{NamedFile}
+use Rattle.mls_magicd.specs.declared.cells.LoadFault.{LoadFault}
+
+-- what each value gives is given where there is one
+IsOkAnd-gives : {A E : Type 0} (r : Result A E) (P : A → Type 0) (Q : Type 0) → ((x : A) → P x → Q) → IsOkAnd r P → Q
+IsOkAnd-gives (Ok x) P Q f p = f x p
+IsOkAnd-gives (Err e) P Q f p = absurd p
+
+-- a loaded cell leaves the technology
+loaded_tech : (old new : Setting) (name bytes : List ℕ) (id : ℕ) → LoadsCell old name bytes (Ok id) new → new.tech ≡ old.tech
+loaded_tech old new name bytes id loads =
+    IsOkAnd-gives (loading_of old.tech (cell_names old) old.room name bytes)
+    (λ rects. (id ≡ length old.cells) × (new ≡ with_cell old (record { name = name; layout = layout_of rects }) (total (tile_counts old.tech.plane_count rects))))
+    (new.tech ≡ old.tech) (λ rects is. ap (λ (setting : Setting). setting.tech) is.1) loads
+
+module _ (reads_as : List ℕ → List ℕ → Type 0) where
+  -- none was loaded
+  pub LoadsCells-nil : (setting : Setting) → LoadsCells reads_as setting [] setting
+  unfolding LoadsCells
+  LoadsCells-nil setting = refl
+
+  -- one cell more
+  pub LoadsCells-more : (old mid new : Setting) (files : List NamedFile) (file : NamedFile)
+      → LoadsCells reads_as old files mid → LoadsFile reads_as mid file new → LoadsCells reads_as old (files ++ file ∷ []) new
+  unfolding LoadsCells
+  LoadsCells-more old mid new [] file before loads = (new, subst (λ (setting : Setting). LoadsFile reads_as setting file new) before loads, refl)
+  LoadsCells-more old mid new (first ∷ files) file before loads = (before.0, before.1, LoadsCells-more before.0 mid new files file before.2 loads)
+
+  -- the technology stays
+  pub LoadsCells-tech : (old new : Setting) (files : List NamedFile) → LoadsCells reads_as old files new → new.tech ≡ old.tech
+  unfolding LoadsCells
+  LoadsCells-tech old new [] loads = ap (λ (setting : Setting). setting.tech) loads
+  LoadsCells-tech old new (file ∷ files) loads =
+      LoadsCells-tech loads.0 new files loads.2 ∙ loaded_tech old loads.0 file.name loads.1.0 loads.1.1 loads.1.3
+
+  module _ {X : Type 0} (file_at : X → NamedFile) (cells : List X) (i : ℕ) (d : X) (low : i < length cells) where
+    -- the cells up to one, and that one
+    pub LoadsCells-taken : (old mid new : Setting) → LoadsCells reads_as old (map file_at (take i cells)) mid → LoadsFile reads_as mid (file_at (get_or cells i d)) new
+        → LoadsCells reads_as old (map file_at (take (i + 1) cells)) new
+    LoadsCells-taken old mid new before loads =
+        subst (λ (files : List NamedFile). LoadsCells reads_as old files new) (sym (map-take_more file_at cells i d low))
+        (LoadsCells-more old mid new (map file_at (take i cells)) (file_at (get_or cells i d)) before loads)
+
+    -- those up to one are loaded, and that one isn't
+    pub stops-at : (may_fail : List ℕ → Type 0) (old mid : Setting) (fault : LoadFault) → LoadsCells reads_as old (map file_at (take i cells)) mid
+        → FailsToLoad reads_as may_fail mid (file_at (get_or cells i d)) fault → StopsAtCell reads_as may_fail old (map file_at cells) fault
+    stops-at may_fail old mid fault loaded failed = record {
+      before = map file_at (take i cells);
+      file = file_at (get_or cells i d);
+      after = map file_at (drop (suc i) cells);
+      order = ap (map file_at) (split-at cells i d low) ∙ map-append file_at (take i cells) (get_or cells i d ∷ drop (suc i) cells);
+      mid = mid;
+      loads = loaded;
+      fails = failed;
+    }

@@ -1,0 +1,24 @@
+-- A command changes tiles of the session's planes alone, so the library's cells stay as they are.
+use Rattle.std.proofs.Common.{◌≡◌, ℕ, suc, List, [], ◌∷◌, All, refl, ap, ◌∙◌, arith}
+use Rattle.mls_geom.specs.Layouts.{Layout}
+use Rattle.mls_tilepool.specs.Pools.{Pool}
+use Rattle.mls_library.specs.Libraries.{IsHome as AreCellsHome, Library, cell_layout}
+use Rattle.mls_library.proofs.KeptCells.{IsCellApart, IsHome-ChangesAmong, cell_layout-ChangesAmong}
+use Rattle.mls_paint.specs.Owners.{ChangesAmong}
+use Rattle.mls_tech.specs.Readings.{Tech}
+use Rattle.mls_session.specs.Sessions.{CanDump, cell_layouts}
+
+module _ (old new : Pool) (owners : List ℕ) (only : ChangesAmong old new owners) where
+  -- they are at home
+  pub home-ChangesAmong : (tech : Tech) (cells : Library) → CanDump tech old cells owners → AreCellsHome new cells
+  home-ChangesAmong tech cells can = IsHome-ChangesAmong old new owners only cells can.apart can.home
+
+  layouts_kept : (cells : Library) → All (IsCellApart owners) cells → cell_layouts new cells ≡ cell_layouts old cells
+  layouts_kept [] apart = refl
+  layouts_kept (cell ∷ cells) apart =
+      ap (λ layout. layout ∷ cell_layouts new cells) (cell_layout-ChangesAmong old new owners only cell (apart 0 cell (omega arith)))
+      ∙ ap (λ layouts. cell_layout old cell ∷ layouts) (layouts_kept cells (λ k d within. apart (suc k) d (omega (arith, within))))
+
+  -- and show what they showed
+  pub layouts-ChangesAmong : (tech : Tech) (cells : Library) → CanDump tech old cells owners → cell_layouts new cells ≡ cell_layouts old cells
+  layouts-ChangesAmong tech cells can = layouts_kept cells can.apart

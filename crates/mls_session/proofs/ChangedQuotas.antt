@@ -1,0 +1,105 @@
+-- Whether a plane would have more tiles than the quota, on one plane and on all.
+use Rattle.std.proofs.Common.{◌≡◌, Bool, true, false, not, ℕ, ◌<◌, ◌≤◌, nat_lt, if◌then◌else◌, Result, Ok, Err, IsErr, IsOk, List, [], length, get_or, inl, inr, refl, sym, ap, ◌∙◌, subst, arith}
+use Rattle.std.specs.List.{list_any, range_with_len}
+use Rattle.std.proofs.lemmas.Bool.{cases_Bool, cases_lt}
+use Rattle.std.proofs.lemmas.Bool.Decides.{nat_tests}
+use Rattle.mls_geom.specs.Layouts.{Layout}
+use Rattle.mls_geom.specs.Pictures.{Picture}
+use Rattle.mls_geom.specs.TileCounts.{tile_count}
+use Rattle.mls_geom.specs.World.{world}
+use Rattle.mls_tilepool.specs.Pools.{Pool}
+use Rattle.mls_tech.specs.Readings.{nothing_read}
+use Rattle.mls_paint.specs.Planes.{layout_in, picture_in}
+use Rattle.mls_paint.proofs.OwnerFrames.{layout_in-at}
+use Rattle.mls_session.specs.Inner.{FitsQuota, changed, changed_layout}
+use Rattle.mls_session.specs.Own.{Config, OwnState, change_step, exceeds_quota}
+use Rattle.mls_session.specs.Sessions.{Session, state_of}
+use Rattle.mls_session.specs.declared.change.Change.{Change}
+use Rattle.mls_session.specs.declared.reply.Reply.{Reply}
+use Rattle.mls_session.specs.declared.reply.Reply.TheVariants.{Done, Refused}
+use Rattle.mls_session.specs.declared.refusal.Refusal.TheVariants.{Quota}
+use Rattle.mls_session.proofs.FirstPlanes.{any_at}
+
+-- the plane of the layout would have more tiles
+abbrev pub exceeds : ℕ → Layout → ℕ → Bool
+exceeds quota layout plane = nat_lt quota (tile_count world (layout plane))
+
+-- on all planes it depends on their number and on the quota
+pub exceeds_quota-is :
+    (config : Config) (layout : Layout) (planes quota : ℕ) → config.tech.plane_count ≡ planes → config.quota ≡ quota
+    → exceeds_quota config layout ≡ list_any (exceeds quota layout) (range_with_len 0 planes)
+exceeds_quota-is config layout planes quota count same = rw (count, same) refl
+
+-- ---- on one plane
+module _ (pool : Pool) (session : Session) (change : Change) (i owner limit : ℕ) (over : Picture) (within : i < length session.planes) (is : owner ≡ get_or session.planes i owner) (same : limit ≡ session.quota) (made : over ≡ changed pool change i (picture_in pool owner)) where
+  made-at : over ≡ changed_layout pool change (layout_in pool session.planes) i
+  made-at = made ∙ ap (changed pool change i) (sym (layout_in-at pool session.planes i owner within is))
+
+  pub exceeds-fits : tile_count world over ≤ limit → exceeds session.quota (changed_layout pool change (layout_in pool session.planes)) i ≡ false
+  exceeds-fits few =
+      let test : nat_lt session.quota (tile_count world over) ≡ false = grind (arith, nat_tests, few, same) in
+      ap (λ picture. nat_lt session.quota (tile_count world picture)) (sym made-at) ∙ test
+
+  pub exceeds-more : (tile_count world over ≤ limit → ⊥) → exceeds session.quota (changed_layout pool change (layout_in pool session.planes)) i ≡ true
+  exceeds-more many =
+      let more : limit < tile_count world over = elim (cases_lt limit (tile_count world over)) [
+        | inl above ↦ above
+        | inr few ↦ absurd (many few)
+      ] in
+      let test : nat_lt session.quota (tile_count world over) ≡ true = grind (arith, nat_tests, more, same) in
+      ap (λ picture. nat_lt session.quota (tile_count world picture)) (sym made-at) ∙ test
+
+  -- a plane that fits the quota is painted
+  pub ok_where_fits :
+      {T E : Type 0} (painted : Result T E) → FitsQuota (length session.planes) session.quota (changed_layout pool change (layout_in pool session.planes))
+      → (IsErr painted → limit < tile_count world over) → IsOk painted
+  ok_where_fits (Ok done) fits refused = refl
+  ok_where_fits (Err fault) fits refused =
+      let few = subst (λ picture. tile_count world picture ≤ session.quota) (sym made-at) (fits i within) in
+      absurd (omega (arith, few, same, refused refl))
+
+-- ---- on all planes
+-- one plane that has more is enough
+pub exceeds_quota-more :
+    (config : Config) (layout : Layout) (planes quota i : ℕ) → config.tech.plane_count ≡ planes → config.quota ≡ quota → i < planes → exceeds quota layout i ≡ true
+    → false ≡ not (exceeds_quota config layout)
+exceeds_quota-more config layout planes quota i count same within more =
+    ap not (sym (exceeds_quota-is config layout planes quota count same ∙ any_at (exceeds quota layout) planes i within more))
+
+pub exceeds_quota-none :
+    (config : Config) (layout : Layout) (planes quota i : ℕ) → config.tech.plane_count ≡ planes → config.quota ≡ quota → i ≡ planes
+    → list_any (exceeds quota layout) (range_with_len 0 i) ≡ false → true ≡ not (exceeds_quota config layout)
+exceeds_quota-none config layout planes quota i count same all none =
+    ap not (sym (exceeds_quota-is config layout planes quota count same ∙ ap (λ n. list_any (exceeds quota layout) (range_with_len 0 n)) (sym all) ∙ none))
+
+-- where a test finds no such plane, all fit
+pub FitsQuota-tested :
+    (fits : Bool) (layout : Layout) (planes quota : ℕ) → ((config : Config) → config.tech.plane_count ≡ planes → config.quota ≡ quota → fits ≡ not (exceeds_quota config layout))
+    → fits ≡ true → FitsQuota planes quota layout
+FitsQuota-tested fits layout planes quota tested passed plane within =
+    let config : Config = record { tech = record nothing_read { plane_count = planes }; cells = []; quota = quota } in
+    elim (cases_lt quota (tile_count world (layout plane))) [
+      | inl more ↦
+          let test : exceeds quota layout plane ≡ true = grind (arith, nat_tests, more) in
+          absurd (cc (sym passed ∙ tested config refl refl ∙ sym (exceeds_quota-more config layout planes quota plane refl refl within test)))
+      | inr few ↦ few
+    ]
+
+-- ---- the step
+pub change_step-Refused : (config : Config) (own : OwnState) (layout : Layout) (fits : Bool) → fits ≡ not (exceeds_quota config layout) → fits ≡ false → change_step config own layout ≡ (own, Refused Quota)
+change_step-Refused config own layout fits tested failed =
+    by (exceeds_quota config layout) (sym failed ∙ tested)
+  where
+    by : (more : Bool) → false ≡ not more → ◌≡◌ {A = OwnState × Reply} (if more then (own, Refused Quota) else (record own { layout = layout }, Done)) (own, Refused Quota)
+    by true h = refl
+    by false h = absurd (cc h)
+
+pub change_step-Done :
+    (config : Config) (own new : OwnState) (layout : Layout) (fits : Bool) → fits ≡ not (exceeds_quota config layout) → fits ≡ true → new ≡ record own { layout = layout }
+    → change_step config own layout ≡ (new, Done)
+change_step-Done config own new layout fits tested passed is =
+    by (exceeds_quota config layout) (sym passed ∙ tested) ∙ ap (λ state. (state, Done)) (sym is)
+  where
+    by : (more : Bool) → true ≡ not more → ◌≡◌ {A = OwnState × Reply} (if more then (own, Refused Quota) else (record own { layout = layout }, Done)) (record own { layout = layout }, Done)
+    by true h = absurd (cc h)
+    by false h = refl

@@ -1,0 +1,273 @@
+-- Moved rectangles, and their squares.
+use Rattle.std.proofs.Common.{◌≡◌, Bool, true, false, ℕ, ℤ, pos, negsuc, ◌+◌, ◌-◌, ◌<◌, ◌≤◌, ◌+ℤ◌, ◌-ℤ◌, ◌≤ℤ◌, ◌<ℤ◌, ◌&&◌, ◌||◌, if◌then◌else◌, nat_le, nat_lt, Option, Some, None, Result, Ok, Err, inl, inr, ◌⊎◌, refl, sym, ap, ◌∙◌, subst, arith}
+use Rattle.std.specs.Int.{w32}
+use Rattle.std.specs.Prelude.{FitsSigned, int_le, int_lt, nat_abs}
+use Rattle.std.specs.Result.{result_ok}
+use Rattle.std.proofs.lemmas.Bool.{cases_Bool}
+use Rattle.std.proofs.lemmas.Bool.Decides.{nat_tests}
+use Rattle.std.proofs.lemmas.Int.{fits_signed_from_abs, ints}
+use Rattle.std.proofs.lemmas.Option.{same_Some}
+use Rattle.mls_geom.specs.Rects.{IsRectangleIn, Rect, holds}
+use Rattle.mls_geom.specs.World.{coordinate_of, is_outside, origin, rect_of, world}
+use Rattle.mls_geom.specs.declared.rect.RectFault.{RectFault}
+use Rattle.mls_geom.specs.declared.rect.RectFault.TheVariants.{Empty, Outside}
+use Rattle.mls_geom.proofs.Holds.{between_holds, holds_between}
+use Rattle.mls_session.specs.Changes.{has_square}
+use Rattle.mls_session.specs.Inner.{moved_line, moved_rect, or_none}
+
+-- ---- lines
+-- the world has no line at this coordinate, counted as the program does
+abbrev pub is_beyond : ℤ → Bool
+is_beyond z = int_lt z (pos 4161536) || int_lt (pos 4227072) z
+
+is_outside-moved_line : (line : ℕ) (z : ℤ) → is_outside (moved_line line z) ≡ is_beyond (pos line +ℤ z)
+unfolding is_outside
+is_outside-moved_line line z =
+    let back : moved_line line z +ℤ pos origin ≡ pos line +ℤ z = omega (arith, ints) in
+    ap is_beyond back
+
+coordinate_of-moved_line : (line : ℕ) (z : ℤ) → coordinate_of (moved_line line z) ≡ nat_abs (pos line +ℤ z)
+unfolding coordinate_of
+coordinate_of-moved_line line z =
+    let back : moved_line line z +ℤ pos origin ≡ pos line +ℤ z = omega (arith, ints) in
+    ap nat_abs back
+
+in_order : (low high : ℕ) (z : ℤ) → low < high → int_le (moved_line high z) (moved_line low z) ≡ false
+in_order low high z below = grind (arith, ints)
+
+-- ---- what moving a rectangle returns
+-- the lines of the rectangle, moved
+abbrev pub lines_moved : Rect → ℤ → ℤ → Rect
+lines_moved e dx dy = record {
+  left = nat_abs (pos e.left +ℤ dx);
+  bottom = nat_abs (pos e.bottom +ℤ dy);
+  right = nat_abs (pos e.right +ℤ dx);
+  top = nat_abs (pos e.top +ℤ dy);
+}
+
+-- one of them is no line of the world
+abbrev pub goes_beyond : Rect → ℤ → ℤ → Bool
+goes_beyond e dx dy = is_beyond (pos e.left +ℤ dx) || is_beyond (pos e.bottom +ℤ dy) || is_beyond (pos e.right +ℤ dx) || is_beyond (pos e.top +ℤ dy)
+
+choose : (a b c : Bool) (s : Rect) → a ≡ false → b ≡ false → or_none (if a || b then Err Empty else (if c then Err Outside else Ok s)) ≡ (if c then None else Some s)
+choose true b c s first second = absurd (cc first)
+choose false true c s first second = absurd (cc second)
+choose false false true s first second = refl
+choose false false false s first second = refl
+
+pub moved_rect-is : (e : Rect) (dx dy : ℤ) → e.left < e.right → e.bottom < e.top → moved_rect e dx dy ≡ (if goes_beyond e dx dy then None else Some (lines_moved e dx dy))
+unfolding moved_rect rect_of
+moved_rect-is e dx dy wide tall =
+    choose (int_le (moved_line e.right dx) (moved_line e.left dx)) (int_le (moved_line e.top dy) (moved_line e.bottom dy)) _ _ (in_order e.left e.right dx wide)
+    (in_order e.bottom e.top dy tall)
+    ∙ rw (
+      is_outside-moved_line e.left dx,
+      is_outside-moved_line e.bottom dy,
+      is_outside-moved_line e.right dx,
+      is_outside-moved_line e.top dy,
+      coordinate_of-moved_line e.left dx,
+      coordinate_of-moved_line e.bottom dy,
+      coordinate_of-moved_line e.right dx,
+      coordinate_of-moved_line e.top dy,
+    ) refl
+
+-- ---- a rectangle that stays in the world
+-- the rectangle is the other one, moved, and lies in the world
+pub record IsMoved (e r : Rect) (dx dy : ℤ) : Type 0 where
+  pub left : pos r.left ≡ pos e.left +ℤ dx
+  pub bottom : pos r.bottom ≡ pos e.bottom +ℤ dy
+  pub right : pos r.right ≡ pos e.right +ℤ dx
+  pub top : pos r.top ≡ pos e.top +ℤ dy
+  pub legal : IsRectangleIn world r
+
+within : (z : ℤ) → is_beyond z ≡ false → (pos (nat_abs z) ≡ z) × (4161536 ≤ nat_abs z) × (nat_abs z ≤ 4227072)
+within (pos n) h = (refl, grind (arith, ints, nat_tests), grind (arith, ints, nat_tests))
+within (negsuc n) h = absurd (cc h)
+
+neither : (a b : Bool) → (a || b) ≡ false → (a ≡ false) × (b ≡ false)
+neither true b h = absurd (cc h)
+neither false b h = (refl, h)
+
+kept : (b : Bool) (s r : Rect) → (if b then None else Some s) ≡ Some r → (b ≡ false) × (s ≡ r)
+kept true s r h = absurd (cc h)
+kept false s r h = (refl, same_Some s r h)
+
+lost : (b : Bool) (s : Rect) → (if b then None else Some s) ≡ None → b ≡ true
+lost true s h = refl
+lost false s h = absurd (cc h)
+
+pub IsMoved-moved_rect : (e r : Rect) (dx dy : ℤ) → e.left < e.right → e.bottom < e.top → moved_rect e dx dy ≡ Some r → IsMoved e r dx dy
+IsMoved-moved_rect e r dx dy wide tall is =
+    let stays = kept (goes_beyond e dx dy) (lines_moved e dx dy) r (sym (moved_rect-is e dx dy wide tall) ∙ is) in
+    let three = neither (is_beyond (pos e.left +ℤ dx) || is_beyond (pos e.bottom +ℤ dy) || is_beyond (pos e.right +ℤ dx)) (is_beyond (pos e.top +ℤ dy)) stays.0 in
+    let two = neither (is_beyond (pos e.left +ℤ dx) || is_beyond (pos e.bottom +ℤ dy)) (is_beyond (pos e.right +ℤ dx)) three.0 in
+    let one = neither (is_beyond (pos e.left +ℤ dx)) (is_beyond (pos e.bottom +ℤ dy)) two.0 in
+    let left = within (pos e.left +ℤ dx) one.0 in
+    let bottom = within (pos e.bottom +ℤ dy) one.1 in
+    let right = within (pos e.right +ℤ dx) two.1 in
+    let top = within (pos e.top +ℤ dy) three.1 in
+    let moved : IsMoved e (lines_moved e dx dy) dx dy = record {
+      left = left.0;
+      bottom = bottom.0;
+      right = right.0;
+      top = top.0;
+      legal = record {
+        left_in = left.1;
+        wide = omega (arith, ints, left.0, right.0, wide);
+        right_in = right.2;
+        bottom_in = bottom.1;
+        tall = omega (arith, ints, bottom.0, top.0, tall);
+        top_in = top.2;
+      };
+    } in
+    subst (λ s. IsMoved e s dx dy) stays.1 moved
+
+-- ---- sums of 32 bits
+fits_near : (z : ℤ) → negsuc 32767 ≤ℤ z → z ≤ℤ pos 32768 → FitsSigned w32 z
+fits_near (pos n) low high = fits_signed_from_abs w32 (pos n) (omega (arith, ints, high))
+fits_near (negsuc n) low high = fits_signed_from_abs w32 (negsuc n) (omega (arith, ints, low))
+
+near : (line : ℕ) (w z : ℤ) → pos line ≡ w +ℤ pos origin → is_beyond (pos line +ℤ z) ≡ false → (negsuc 32767 ≤ℤ (w +ℤ z)) × ((w +ℤ z) ≤ℤ pos 32768)
+near line w z counted stays =
+    let inside = within (pos line +ℤ z) stays in
+    (omega (arith, ints, inside.0, inside.1, counted), omega (arith, ints, inside.0, inside.2, counted))
+
+-- a line that doesn't fit, as users count it, is none of the world
+is_beyond-unfit : (line : ℕ) (w z : ℤ) → pos line ≡ w +ℤ pos origin → ¬ (FitsSigned w32 (w +ℤ z)) → is_beyond (pos line +ℤ z) ≡ true
+is_beyond-unfit line w z counted unfit = elim (cases_Bool (is_beyond (pos line +ℤ z))) [
+  | inl beyond ↦ beyond
+  | inr stays ↦ let lines = near line w z counted stays in absurd (unfit (fits_near (w +ℤ z) lines.0 lines.1))
+]
+
+any_of : (a b c d : Bool) → (a ≡ true) ⊎ ((b ≡ true) ⊎ ((c ≡ true) ⊎ (d ≡ true))) → (a || b || c || d) ≡ true
+any_of true b c d h = refl
+any_of false true c d h = refl
+any_of false false true d h = refl
+any_of false false false true h = refl
+any_of false false false false (inl h) = absurd (cc h)
+any_of false false false false (inr (inl h)) = absurd (cc h)
+any_of false false false false (inr (inr (inl h))) = absurd (cc h)
+any_of false false false false (inr (inr (inr h))) = absurd (cc h)
+
+module _ (e : Rect) (dx dy : ℤ) (legal : IsRectangleIn world e) where
+  lost_by :
+      (is_beyond (pos e.left +ℤ dx) ≡ true) ⊎ ((is_beyond (pos e.bottom +ℤ dy) ≡ true) ⊎ ((is_beyond (pos e.right +ℤ dx) ≡ true) ⊎ (is_beyond (pos e.top +ℤ dy) ≡ true)))
+      → moved_rect e dx dy ≡ None
+  lost_by one =
+      let beyond = any_of (is_beyond (pos e.left +ℤ dx)) (is_beyond (pos e.bottom +ℤ dy)) (is_beyond (pos e.right +ℤ dx)) (is_beyond (pos e.top +ℤ dy)) one in
+      moved_rect-is e dx dy legal.wide legal.tall ∙ ap (λ b. if b then None else Some (lines_moved e dx dy)) beyond
+
+  pub moved_rect-left : (w : ℤ) → pos e.left ≡ w +ℤ pos origin → ¬ (FitsSigned w32 (w +ℤ dx)) → moved_rect e dx dy ≡ None
+  moved_rect-left w counted unfit = lost_by (inl (is_beyond-unfit e.left w dx counted unfit))
+
+  pub moved_rect-bottom : (w : ℤ) → pos e.bottom ≡ w +ℤ pos origin → ¬ (FitsSigned w32 (w +ℤ dy)) → moved_rect e dx dy ≡ None
+  moved_rect-bottom w counted unfit = lost_by (inr (inl (is_beyond-unfit e.bottom w dy counted unfit)))
+
+  pub moved_rect-right : (w : ℤ) → pos e.right ≡ w +ℤ pos origin → ¬ (FitsSigned w32 (w +ℤ dx)) → moved_rect e dx dy ≡ None
+  moved_rect-right w counted unfit = lost_by (inr (inr (inl (is_beyond-unfit e.right w dx counted unfit))))
+
+  pub moved_rect-top : (w : ℤ) → pos e.top ≡ w +ℤ pos origin → ¬ (FitsSigned w32 (w +ℤ dy)) → moved_rect e dx dy ≡ None
+  moved_rect-top w counted unfit = lost_by (inr (inr (inr (is_beyond-unfit e.top w dy counted unfit))))
+
+-- lines that fit make the rectangle
+moved_line-is : (line : ℕ) (w z sum : ℤ) → pos line ≡ w +ℤ pos origin → sum ≡ w +ℤ z → moved_line line z ≡ sum
+moved_line-is line w z sum counted is = omega (arith, ints, counted, is)
+
+result_ok-is : (made : Result Rect RectFault) → result_ok made ≡ or_none made
+result_ok-is (Ok e) = refl
+result_ok-is (Err fault) = refl
+
+pub moved_rect-sums :
+    (e : Rect) (dx dy wl wb wr wt l b r t : ℤ) (made : Result Rect RectFault) (after : Option Rect) → pos e.left ≡ wl +ℤ pos origin → pos e.bottom ≡ wb +ℤ pos origin
+    → pos e.right ≡ wr +ℤ pos origin → pos e.top ≡ wt +ℤ pos origin → l ≡ wl +ℤ dx → b ≡ wb +ℤ dy → r ≡ wr +ℤ dx → t ≡ wt +ℤ dy → made ≡ rect_of l b r t
+    → after ≡ result_ok made → after ≡ moved_rect e dx dy
+unfolding moved_rect
+moved_rect-sums e dx dy wl wb wr wt l b r t made after left bottom right top sum_l sum_b sum_r sum_t is_made is =
+    is ∙ result_ok-is made ∙ ap or_none is_made
+    ∙ rw (moved_line-is e.left wl dx l left sum_l, moved_line-is e.bottom wb dy b bottom sum_b, moved_line-is e.right wr dx r right sum_r, moved_line-is e.top wt dy t top sum_t) refl
+
+-- ---- its squares
+-- the rectangle has the square at this column and row, which may lie below 0
+abbrev pub holds_at : Rect → ℤ → ℤ → Bool
+holds_at e (pos x) (pos y) = holds e x y
+holds_at e x y = false
+
+from_low : (l l' x a : ℕ) (d : ℤ) → pos l' ≡ pos l +ℤ d → pos x -ℤ d ≡ pos a → nat_le l' x ≡ nat_le l a
+from_low l l' x a d line at = grind (arith, ints, nat_tests)
+
+to_high : (r r' x a : ℕ) (d : ℤ) → pos r' ≡ pos r +ℤ d → pos x -ℤ d ≡ pos a → nat_lt x r' ≡ nat_lt a r
+to_high r r' x a d line at = grind (arith, ints, nat_tests)
+
+below_low : (l l' x a : ℕ) (d : ℤ) → pos l' ≡ pos l +ℤ d → pos x -ℤ d ≡ negsuc a → nat_le l' x ≡ false
+below_low l l' x a d line at = grind (arith, ints, nat_tests)
+
+no_column : (a b c d : Bool) → a ≡ false → (a && b && c && d) ≡ false
+no_column true b c d h = absurd (cc h)
+no_column false b c d h = refl
+
+no_row : (a b c d : Bool) → c ≡ false → (a && b && c && d) ≡ false
+no_row a b true d h = absurd (cc h)
+no_row true true false d h = refl
+no_row true false false d h = refl
+no_row false b false d h = refl
+
+module _ (e r : Rect) (dx dy : ℤ) (x y : ℕ) (moved : IsMoved e r dx dy) where
+  holds-at : (zx zy : ℤ) → pos x -ℤ dx ≡ zx → pos y -ℤ dy ≡ zy → holds r x y ≡ holds_at e zx zy
+  holds-at (pos a) (pos b) column row =
+      rw (from_low e.left r.left x a dx moved.left column, to_high e.right r.right x a dx moved.right column, from_low e.bottom r.bottom y b dy moved.bottom row, to_high e.top r.top y b dy moved.top row) refl
+  holds-at (pos a) (negsuc b) column row = no_row (nat_le r.left x) (nat_lt x r.right) (nat_le r.bottom y) (nat_lt y r.top) (below_low e.bottom r.bottom y b dy moved.bottom row)
+  holds-at (negsuc a) zy column row = no_column (nat_le r.left x) (nat_lt x r.right) (nat_le r.bottom y) (nat_lt y r.top) (below_low e.left r.left x a dx moved.left column)
+
+  -- they are the squares of the rectangle, moved
+  pub holds-IsMoved : holds r x y ≡ holds_at e (pos x -ℤ dx) (pos y -ℤ dy)
+  holds-IsMoved = holds-at (pos x -ℤ dx) (pos y -ℤ dy) refl refl
+
+-- ---- squares that leave the world
+has_square-from : (x y : ℤ) → pos 4161536 ≤ℤ x → x <ℤ pos 4227072 → pos 4161536 ≤ℤ y → y <ℤ pos 4227072 → has_square x y ≡ true
+has_square-from x y a b c d = grind (arith, ints)
+
+has_square-to : (x y : ℤ) → has_square x y ≡ true → (pos 4161536 ≤ℤ x) × (x <ℤ pos 4227072) × (pos 4161536 ≤ℤ y) × (y <ℤ pos 4227072)
+has_square-to x y h = (grind (arith, ints), grind (arith, ints), grind (arith, ints), grind (arith, ints))
+
+-- the world has each square of a rectangle that stays
+pub has_square-IsMoved : (e r : Rect) (dx dy : ℤ) (x y : ℕ) → IsMoved e r dx dy → holds e x y ≡ true → has_square (pos x +ℤ dx) (pos y +ℤ dy) ≡ true
+has_square-IsMoved e r dx dy x y moved inside =
+    let lines = holds_between e x y inside in
+    has_square-from (pos x +ℤ dx) (pos y +ℤ dy)
+    (omega (arith, ints, lines.0, moved.left, moved.legal.left_in))
+    (omega (arith, ints, lines.1, moved.right, moved.legal.right_in))
+    (omega (arith, ints, lines.2, moved.bottom, moved.legal.bottom_in))
+    (omega (arith, ints, lines.3, moved.top, moved.legal.top_in))
+
+not_beyond : (z : ℤ) → pos 4161536 ≤ℤ z → z ≤ℤ pos 4227072 → is_beyond z ≡ false
+not_beyond z low high = grind (arith, ints)
+
+none_of : (a b c d : Bool) → a ≡ false → b ≡ false → c ≡ false → d ≡ false → (a || b || c || d) ≡ false
+none_of a b c d ha hb hc hd = rw (ha, hb, hc, hd) refl
+
+-- and lacks one of the squares of a rectangle that doesn't
+pub square-leaves :
+    (e : Rect) (dx dy : ℤ) → e.left < e.right → e.bottom < e.top → moved_rect e dx dy ≡ None
+    → (x : ℕ) × (y : ℕ) × (holds e x y ≡ true) × (has_square (pos x +ℤ dx) (pos y +ℤ dy) ≡ false)
+square-leaves e dx dy wide tall none = elim (cases_Bool (has_square (pos e.left +ℤ dx) (pos e.bottom +ℤ dy))) [
+  | inr low ↦ (e.left, e.bottom, between_holds e e.left e.bottom (omega arith) wide (omega arith) tall, low)
+  | inl low ↦ elim (cases_Bool (has_square (pos (e.right - 1) +ℤ dx) (pos (e.top - 1) +ℤ dy))) [
+    | inr high ↦ (
+      e.right - 1,
+      e.top - 1,
+      between_holds e (e.right - 1) (e.top - 1) (omega (arith, wide)) (omega (arith, wide)) (omega (arith, tall)) (omega (arith, tall)),
+      high,
+    )
+    | inl high ↦
+        let lower = has_square-to (pos e.left +ℤ dx) (pos e.bottom +ℤ dy) low in
+        let upper = has_square-to (pos (e.right - 1) +ℤ dx) (pos (e.top - 1) +ℤ dy) high in
+        let beyond = lost (goes_beyond e dx dy) (lines_moved e dx dy) (sym (moved_rect-is e dx dy wide tall) ∙ none) in
+        let stays =
+        none_of (is_beyond (pos e.left +ℤ dx)) (is_beyond (pos e.bottom +ℤ dy)) (is_beyond (pos e.right +ℤ dx)) (is_beyond (pos e.top +ℤ dy))
+        (not_beyond (pos e.left +ℤ dx) lower.0 (omega (arith, ints, lower.1)))
+        (not_beyond (pos e.bottom +ℤ dy) lower.2 (omega (arith, ints, lower.3)))
+        (not_beyond (pos e.right +ℤ dx) (omega (arith, ints, lower.0, wide)) (omega (arith, ints, upper.1, wide)))
+        (not_beyond (pos e.top +ℤ dy) (omega (arith, ints, lower.2, tall)) (omega (arith, ints, upper.3, tall))) in
+        absurd (cc (sym beyond ∙ stays))
+  ]
+]

@@ -1,0 +1,193 @@
+-- Dumping a cell's plane: the pieces are its tiles that aren't space, moved, and none leaves the world where no square does.
+use Rattle.std.proofs.Common.{◌≡◌, ◌≢◌, Bool, true, false, ℕ, ℤ, pos, negsuc, ◌+ℤ◌, ◌-ℤ◌, ◌==◌, ◌&&◌, not, if◌then◌else◌, Option, Some, None, IsSome, List, All, Contains, inl, inr, ne_eqb, refl, sym, ap, ◌∙◌}
+use Rattle.std.specs.List.{list_any}
+use Rattle.std.proofs.Math.Bool.{and-false, and-true}
+use Rattle.std.proofs.Math.Path.{fun_ext}
+use Rattle.std.proofs.lemmas.Bool.{cases_Bool, false_from_ne_true}
+use Rattle.std.proofs.lemmas.Bool.Decides.{same_from_decides}
+use Rattle.std.proofs.lemmas.List.Elements.{All-contains}
+use Rattle.std.proofs.lemmas.List.Folds.{Any-from_list_any, list_any-from_Any}
+use Rattle.mls_geom.specs.Pictures.{Picture, columns, overlaid, rows}
+use Rattle.mls_geom.specs.Rects.{IsRectangleIn, Rect, holds}
+use Rattle.mls_geom.specs.World.{world}
+use Rattle.mls_geom.specs.declared.piece.Piece.{Piece}
+use Rattle.mls_geom.proofs.Holds.{between_holds, holds_between}
+use Rattle.mls_geom.proofs.PiecePictures.{holds_outer}
+use Rattle.mls_geom.proofs.Squares.{Contains-range_with_len, range_with_len-Contains}
+use Rattle.mls_tilepool.specs.declared.tile.Tile.{Tile}
+use Rattle.mls_stitch.specs.Areas.{AreInArea, IsFound}
+use Rattle.mls_stitch.specs.Tilings.{IsPlane, block_at, shown}
+use Rattle.mls_stitch.specs.declared.laid_tile.LaidTile.{LaidTile}
+use Rattle.mls_stitch.proofs.ShownTiles.{KeysDiffer, shown-inside, shown-outside}
+use Rattle.mls_stitch.proofs.Sides.{legal-AreBlocks}
+use Rattle.mls_session.specs.Changes.{dumped, has_square, kind_at, leaves_world, moved}
+use Rattle.mls_session.specs.Inner.{moved_rect}
+use Rattle.mls_session.proofs.MovedRects.{IsMoved, IsMoved-moved_rect, has_square-IsMoved, holds-IsMoved, holds_at, square-leaves}
+use Rattle.mls_session.proofs.TilePieces.{ArePatches, is_covered}
+
+-- the square is one of the tile's, moved, and isn't space
+abbrev pub dumps : ℤ → ℤ → LaidTile → ℕ → ℕ → Bool
+dumps dx dy tile x y = holds_at tile.piece.rect (pos x -ℤ dx) (pos y -ℤ dy) && not (tile.piece.kind == 0)
+
+-- the tile is space, or isn't lost as it is moved
+abbrev pub Stays : ℤ → ℤ → LaidTile → Type 0
+Stays dx dy tile = tile.piece.kind ≢ 0 → moved_rect tile.piece.rect dx dy ≢ None
+
+both : (a b : Bool) → a ≡ true → b ≡ true → (a && b) ≡ true
+both a b first second = rw (first, second) refl
+
+parts : (a b : Bool) → (a && b) ≡ true → (a ≡ true) × (b ≡ true)
+parts true true h = (refl, refl)
+parts true false h = absurd (cc h)
+parts false b h = absurd (cc h)
+
+either_way : (b : Bool) (more less : ℕ) → (if not b then more else less) ≡ (if b then less else more)
+either_way true more less = refl
+either_way false more less = refl
+
+-- ---- a piece for a tile that isn't space
+pub holds-moved :
+    (dx dy : ℤ) (tile : LaidTile) (moved : Rect) → IsRectangleIn world tile.piece.rect → moved_rect tile.piece.rect dx dy ≡ Some moved → tile.piece.kind ≢ 0
+    → (x y : ℕ) → holds moved x y ≡ dumps dx dy tile x y
+holds-moved dx dy tile moved legal is some x y =
+    let there = holds_at tile.piece.rect (pos x -ℤ dx) (pos y -ℤ dy) in
+    holds-IsMoved tile.piece.rect moved dx dy x y (IsMoved-moved_rect tile.piece.rect moved dx dy legal.wide legal.tall is)
+    ∙ sym (and-true there) ∙ ap (λ b. there && b) (sym (ap not (ne_eqb tile.piece.kind 0 some)))
+
+pub dumps-space : (dx dy : ℤ) (tile : LaidTile) → tile.piece.kind ≡ 0 → (x y : ℕ) → dumps dx dy tile x y ≡ false
+dumps-space dx dy tile space x y =
+    let there = holds_at tile.piece.rect (pos x -ℤ dx) (pos y -ℤ dy) in
+    ap (λ kind. there && not (kind == 0)) space ∙ and-false there
+
+-- ---- the test for squares that leave the world
+-- a square of the world passes it
+leaves_world-at :
+    (picture : Picture) (dx dy : ℤ) (x y : ℕ) → holds world x y ≡ true → (not (picture x y == 0) && not (has_square (pos x +ℤ dx) (pos y +ℤ dy))) ≡ true
+    → leaves_world picture dx dy ≡ true
+unfolding leaves_world
+leaves_world-at picture dx dy x y inside leaves =
+    let lines = holds_between world x y inside in
+    let (i, row_within, row_is) = Contains-range_with_len world.bottom world.top y lines.2 lines.3 in
+    let (j, column_within, column_is) = Contains-range_with_len world.left world.right x lines.0 lines.1 in
+    let test : ℕ → ℕ → Bool = λ x y. not (picture x y == 0) && not (has_square (pos x +ℤ dx) (pos y +ℤ dy)) in
+    list_any-from_Any (λ y. list_any (λ x. test x y) (columns world)) (rows world)
+    (i, y, row_within, row_is, list_any-from_Any (λ x. test x y) (columns world) (j, x, column_within, column_is, leaves))
+
+at-leaves_world :
+    (picture : Picture) (dx dy : ℤ) → leaves_world picture dx dy ≡ true
+    → (x : ℕ) × (y : ℕ) × (holds world x y ≡ true) × ((not (picture x y == 0) && not (has_square (pos x +ℤ dx) (pos y +ℤ dy))) ≡ true)
+unfolding leaves_world
+at-leaves_world picture dx dy h =
+    let test : ℕ → ℕ → Bool = λ x y. not (picture x y == 0) && not (has_square (pos x +ℤ dx) (pos y +ℤ dy)) in
+    let (i, y, row_within, row_is, in_row) = Any-from_list_any (λ y. list_any (λ x. test x y) (columns world)) (rows world) h in
+    let (j, x, column_within, column_is, leaves) = Any-from_list_any (λ x. test x y) (columns world) in_row in
+    let row = range_with_len-Contains world.bottom world.top y (i, row_within, row_is) in
+    let column = range_with_len-Contains world.left world.right x (j, column_within, column_is) in
+    (x, y, between_holds world x y column.0 column.1 row.0 row.1, leaves)
+
+-- no square of a rectangle that stays does
+keeps :
+    (dx dy : ℤ) (x y : ℕ) (e : Rect) (after : Option Rect) → IsRectangleIn world e → holds e x y ≡ true → moved_rect e dx dy ≡ after → after ≢ None
+    → not (has_square (pos x +ℤ dx) (pos y +ℤ dy)) ≡ true → ⊥
+keeps dx dy x y e None legal inside is stays leaves = stays refl
+keeps dx dy x y e (Some r) legal inside is stays leaves =
+    let there = has_square-IsMoved e r dx dy x y (IsMoved-moved_rect e r dx dy legal.wide legal.tall is) inside in
+    absurd (cc (sym leaves ∙ ap not there))
+
+-- ---- what is painted
+module _ (tiles : List (ℕ × Tile)) (list : List LaidTile) (plane : IsPlane tiles) (differ : KeysDiffer tiles) (found : AreInArea (block_at tiles) world list) where
+  laid_there : (tile : LaidTile) → Contains list tile → block_at tiles tile.id ≡ Some tile.piece
+  laid_there tile there = (All-contains (IsFound (block_at tiles) world) list tile found.each there).laid
+
+  shows_there : (tile : LaidTile) (x y : ℕ) → Contains list tile → holds tile.piece.rect x y ≡ true → shown tiles x y ≡ tile.piece.kind
+  shows_there tile x y there inside = shown-inside tiles tile.id tile.piece x y plane differ (laid_there tile there) inside
+
+  pub legal_there : (tile : LaidTile) → Contains list tile → IsRectangleIn world tile.piece.rect
+  legal_there tile there = legal-AreBlocks (block_at tiles) tile.id tile.piece plane.tiling (laid_there tile there)
+
+  -- a square of the plane that isn't space is in a tile of its kind
+  tile_there : (x y : ℕ) → not (shown tiles x y == 0) ≡ true → (tile : LaidTile) × Contains list tile × (holds tile.piece.rect x y ≡ true)
+  tile_there x y some = elim (cases_Bool (holds world x y)) [
+    | inl inside ↦
+        let (k, tile, within, is, held) = found.whole x y inside in
+        (tile, (k, within, is), held)
+    | inr outside ↦ absurd (cc (sym some ∙ ap (λ kind. not (kind == 0)) (shown-outside tiles x y plane differ outside)))
+  ]
+
+  -- the pieces show what the plane does, moved
+  pub kind-dumps : (dx dy : ℤ) (tile : LaidTile) (x y : ℕ) → Contains list tile → dumps dx dy tile x y ≡ true → tile.piece.kind ≡ moved (shown tiles) dx dy x y
+  unfolding moved
+  kind-dumps dx dy tile x y there covered =
+      at (pos x -ℤ dx) (pos y -ℤ dy) (parts (holds_at tile.piece.rect (pos x -ℤ dx) (pos y -ℤ dy)) (not (tile.piece.kind == 0)) covered).0
+    where
+      at : (zx zy : ℤ) → holds_at tile.piece.rect zx zy ≡ true → tile.piece.kind ≡ kind_at (shown tiles) zx zy
+      at (pos a) (pos b) inside = sym (shows_there tile a b there inside)
+      at (pos a) (negsuc b) inside = absurd (cc inside)
+      at (negsuc a) zy inside = absurd (cc inside)
+
+  -- the tiles have the moved squares that aren't space
+  some_there : (zx zy : ℤ) → list_any (λ tile. holds_at tile.piece.rect zx zy && not (tile.piece.kind == 0)) list ≡ true → not (kind_at (shown tiles) zx zy == 0) ≡ true
+  some_there (pos a) (pos b) h =
+      let (k, tile, within, is, covered) = Any-from_list_any (λ t. holds t.piece.rect a b && not (t.piece.kind == 0)) list h in
+      let at = parts (holds tile.piece.rect a b) (not (tile.piece.kind == 0)) covered in
+      ap (λ kind. not (kind == 0)) (shows_there tile a b (k, within, is) at.0) ∙ at.1
+  some_there (pos a) (negsuc b) h =
+      let (k, tile, within, is, covered) = Any-from_list_any (λ (t : LaidTile). false) list h in
+      absurd (cc covered)
+  some_there (negsuc a) zy h =
+      let (k, tile, within, is, covered) = Any-from_list_any (λ (t : LaidTile). false) list h in
+      absurd (cc covered)
+
+  there_some : (zx zy : ℤ) → not (kind_at (shown tiles) zx zy == 0) ≡ true → list_any (λ tile. holds_at tile.piece.rect zx zy && not (tile.piece.kind == 0)) list ≡ true
+  there_some (pos a) (pos b) some =
+      let (tile, there, inside) = tile_there a b some in
+      list_any-from_Any (λ t. holds t.piece.rect a b && not (t.piece.kind == 0)) list
+      (there.0, tile, there.1, there.2, both (holds tile.piece.rect a b) (not (tile.piece.kind == 0)) inside (ap (λ kind. not (kind == 0)) (sym (shows_there tile a b there inside)) ∙ some))
+  there_some (pos a) (negsuc b) some = absurd (cc some)
+  there_some (negsuc a) zy some = absurd (cc some)
+
+  is_covered-dumps : (dx dy : ℤ) (x y : ℕ) → is_covered (dumps dx dy) list x y ≡ not (moved (shown tiles) dx dy x y == 0)
+  unfolding moved
+  is_covered-dumps dx dy x y =
+      let zx = pos x -ℤ dx in
+      let zy = pos y -ℤ dy in
+      same_from_decides {P = not (kind_at (shown tiles) zx zy == 0) ≡ true} (is_covered (dumps dx dy) list x y) (not (kind_at (shown tiles) zx zy == 0))
+      (some_there zx zy, there_some zx zy) (λ h. h, λ h. h)
+
+  pub overlaid-dumps :
+      (dx dy : ℤ) (pieces : List Piece) (below : Picture) → ArePatches (dumps dx dy) (moved (shown tiles) dx dy) list pieces
+      → overlaid below pieces ≡ dumped below (shown tiles) dx dy
+  overlaid-dumps dx dy pieces below patches =
+      patches.paint below
+      ∙ fun_ext (λ x. fun_ext (λ y.
+      let over = moved (shown tiles) dx dy x y in
+      ap (λ covered. if covered then over else below x y) (is_covered-dumps dx dy x y) ∙ either_way (over == 0) over (below x y)))
+
+  -- ---- what leaves the world
+  pub leaves_world-lost :
+      (dx dy : ℤ) (tile : LaidTile) → Contains list tile → tile.piece.kind ≢ 0 → moved_rect tile.piece.rect dx dy ≡ None → leaves_world (shown tiles) dx dy ≡ true
+  leaves_world-lost dx dy tile there some none =
+      let legal = legal_there tile there in
+      let (x, y, inside, out) = square-leaves tile.piece.rect dx dy legal.wide legal.tall none in
+      let kind = shows_there tile x y there inside in
+      let is_some : not (shown tiles x y == 0) ≡ true = ap (λ k. not (k == 0)) kind ∙ ap not (ne_eqb tile.piece.kind 0 some) in
+      leaves_world-at (shown tiles) dx dy x y (holds_outer world tile.piece.rect x y legal inside) (both _ _ is_some (ap not out))
+
+  pub leaves_world-Stays : (dx dy : ℤ) → All (Stays dx dy) list → leaves_world (shown tiles) dx dy ≡ false
+  leaves_world-Stays dx dy stays = false_from_ne_true (leaves_world (shown tiles) dx dy) (λ leaves.
+      let (x, y, inside, out) = at-leaves_world (shown tiles) dx dy leaves in
+      let tests = parts (not (shown tiles x y == 0)) (not (has_square (pos x +ℤ dx) (pos y +ℤ dy))) out in
+      let (tile, there, held) = tile_there x y tests.0 in
+      let legal = legal_there tile there in
+      let kind = shows_there tile x y there held in
+      let some : tile.piece.kind ≢ 0 = λ zero. absurd (cc (sym tests.0 ∙ ap (λ k. not (k == 0)) (kind ∙ zero))) in
+      let kept = All-contains (Stays dx dy) list tile stays there some in
+      keeps dx dy x y tile.piece.rect (moved_rect tile.piece.rect dx dy) legal held refl kept tests.1)
+
+  pub moved_rect-some :
+      (dx dy : ℤ) (tile : LaidTile) → Contains list tile → tile.piece.kind ≢ 0 → leaves_world (shown tiles) dx dy ≡ false → IsSome (moved_rect tile.piece.rect dx dy)
+  moved_rect-some dx dy tile there some stays = by (moved_rect tile.piece.rect dx dy) refl
+    where
+      by : (after : Option Rect) → moved_rect tile.piece.rect dx dy ≡ after → IsSome after
+      by None lost = absurd (cc (sym stays ∙ leaves_world-lost dx dy tile there some lost))
+      by (Some r) kept = refl

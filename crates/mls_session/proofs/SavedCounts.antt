@@ -1,0 +1,46 @@
+-- How many lines a saved layout can have: each plane has at most as many strips as the world has squares.
+use Rattle.std.proofs.Common.{◌≡◌, ℕ, ◌+◌, ◌*◌, ◌≤◌, ◌==◌, List, [], ◌∷◌, length, get_or, ap, ◌∙◌, subst, arith}
+use Rattle.std.specs.List.{count_by}
+use Rattle.std.proofs.lemmas.List.{length-map}
+use Rattle.std.proofs.lemmas.List.FromFn.{length-range_with_len}
+use Rattle.std.proofs.lemmas.List.Sums.{count_by-le-length, length-filter, sum_by-le}
+use Rattle.mls_geom.specs.Pictures.{Picture, columns, rows}
+use Rattle.mls_geom.specs.Rects.{Rect}
+use Rattle.mls_geom.specs.StripLists.{strips_of}
+use Rattle.mls_geom.specs.TileCounts.{is_corner, tile_count}
+use Rattle.mls_geom.specs.World.{world}
+use Rattle.mls_geom.specs.declared.piece.Piece.{Piece}
+use Rattle.mls_geom.proofs.ListedStrips.{AreStrips-strips_of}
+use Rattle.mls_geom.proofs.StripLaws.{strips_number}
+use Rattle.mls_library.specs.SavedCells.{first_name, layer_lines, of_kind, rect_words, section_lines, spaced}
+use Rattle.mls_tech.specs.Readings.{Tech}
+
+-- at most one strip begins in each square
+tile_count-squares : (extent : Rect) (picture : Picture) → tile_count extent picture ≤ length (rows extent) * length (columns extent)
+unfolding tile_count
+tile_count-squares extent picture =
+    sum_by-le (λ y. count_by (λ x. is_corner extent picture x y) (columns extent)) (length (columns extent)) (rows extent)
+    (λ k d within. count_by-le-length (λ x. is_corner extent picture x (get_or (rows extent) k d)) (columns extent))
+
+pub strips_of-squares : (extent : Rect) (picture : Picture) → length (strips_of extent picture) ≤ length (rows extent) * length (columns extent)
+strips_of-squares extent picture = rw (strips_number extent picture (strips_of extent picture) (AreStrips-strips_of extent picture)) (tile_count-squares extent picture)
+
+section_lines-few : (name : List ℕ) (strips : List Piece) → length (section_lines name strips) ≤ length strips + 1
+section_lines-few name [] = omega arith
+section_lines-few name (strip ∷ strips) = omega (arith, length-map (strip ∷ strips) (λ each. spaced (rect_words each.rect)))
+
+-- a section has a line for each strip of its type, and one more
+pub layer_lines-few : (tech : Tech) (kind : ℕ) (strips : List Piece) → length (layer_lines tech kind strips) ≤ length strips + 1
+layer_lines-few tech kind strips =
+    let own = section_lines-few (first_name tech kind) (of_kind kind strips) in
+    let some = length-filter (λ strip. strip.kind == kind) strips in
+    let all = count_by-le-length (λ (strip : Piece). strip.kind == kind) strips in
+    omega (arith, own, some, all)
+
+-- a plane of the world has at most 2^32
+pub strips_few : (picture : Picture) → length (strips_of world picture) ≤ 4294967296
+strips_few picture =
+    let high : length (rows world) ≡ 65536 = length-range_with_len world.bottom 65536 in
+    let wide : length (columns world) ≡ 65536 = length-range_with_len world.left 65536 in
+    let squares : length (rows world) * length (columns world) ≡ 4294967296 = ap (λ n. n * length (columns world)) high ∙ ap (λ n. 65536 * n) wide in
+    subst (λ n. length (strips_of world picture) ≤ n) squares (strips_of-squares world picture)

@@ -1,0 +1,110 @@
+-- Each turn makes a piece for a tile that isn't space.
+use Rattle.std.proofs.Common.{◌≡◌, ◌≢◌, ◌≤◌, ℕ, Some, to_z, of_z, w32, length, take, refl, ap, subst, sym, ◌∙◌, arith}
+use Rattle.std.proofs.lemmas.Int.{to_z-of_z}
+use Rattle.std.proofs.lemmas.List.{take_all}
+use Rattle.mls_geom.specs.World.{world}
+use Rattle.mls_tilepool.specs.Pools.{tiles_of}
+use Rattle.mls_stitch.specs.Areas.{AreInArea}
+use Rattle.mls_stitch.specs.Tilings.{block_at, shown}
+use Rattle.mls_stitch.proofs.ShownTiles.{KeysDiffer-tiles_of}
+use Rattle.mls_session.specs.Changes.{moved}
+use Rattle.mls_session.proofs.FoundTiles.{length-strips}
+use Rattle.mls_session.proofs.MovedTiles.{dumps, dumps-space, holds-moved, kind-dumps, legal_there, moved_rect-some, overlaid-dumps}
+use Rattle.mls_session.proofs.TilePieces.{ArePatches, ArePatches-left, ArePatches-made, few-ArePatches}
+use Rattle.mls_session.proofs.change.list_dumped.Goals as goal
+use Rattle.mls_session.proofs.change.list_dumped.Goals.{then-tile-ne0, else-tile-ne0}
+
+pub unwrap-rect-requires : goal.unwrap-rect-requires
+unwrap-rect-requires c =
+    let pool = c.args.pool.now in
+    let owner = c.args.cell.now in
+    let tiles = tiles_of pool owner in
+    let items = c.tiles-tile-items.result.now in
+    let found = subst (AreInArea (block_at tiles) world) (sym c.tiles-tile-items.ensures) c.strips_of.ensures.found in
+    let along = c.ranges.dx in
+    let up = c.ranges.dy in
+    let moved = simp to_z-of_z at c.moved_rect.ensures in
+    rw moved (moved_rect-some tiles items c.requires.cell.strips.plane.plane (KeysDiffer-tiles_of pool owner) found c.args.dx c.args.dy c.tile-item.result
+    (c.loop-tile.tile-index, c.loop-tile-test.true, sym c.tile-item.is) c.if-tile-ne0.true c.requires.stays)
+
+pub push_reserved-requires : goal.push_reserved-requires
+push_reserved-requires c =
+    let pool = c.args.pool.now in
+    let owner = c.args.cell.now in
+    let dx = to_z w32 (of_z w32 c.args.dx) in
+    let dy = to_z w32 (of_z w32 c.args.dy) in
+    let items = c.tiles-tile-items.result.now in
+    let few = few-ArePatches (dumps dx dy) (moved (shown (tiles_of pool owner)) dx dy) items c.loop-tile.tile-index c.loop-tile.pieces.items c.loop-tile.invariant.patches in
+    let all = length-strips pool owner c.strips_of.new.scratch.tiles c.strips_of.ensures.strips in
+    omega (
+      arith,
+      few,
+      all,
+      ap length c.tiles-tile-items.ensures,
+      c.requires.cell.few,
+      c.requires.cell_pieces_fit,
+      c.loop-tile-test.true,
+      c.loop-tile.invariant.room,
+      c.loop-tile.pieces.ok.0,
+    )
+
+pub loop-tile-preserved : goal.loop-tile-preserved
+loop-tile-preserved c =
+    let pool = c.args.pool.now in
+    let owner = c.args.cell.now in
+    let tiles = tiles_of pool owner in
+    let dx = to_z w32 (of_z w32 c.args.dx) in
+    let dy = to_z w32 (of_z w32 c.args.dy) in
+    let items = c.tiles-tile-items.result.now in
+    let i = c.loop-tile.tile-index in
+    let tile = c.tile-item.result in
+    let so_far = c.loop-tile.invariant in
+    let over = moved (shown tiles) dx dy in
+    let found = subst (AreInArea (block_at tiles) world) (sym c.tiles-tile-items.ensures) c.strips_of.ensures.found in
+    let plane = c.requires.cell.strips.plane.plane in
+    let differ = KeysDiffer-tiles_of pool owner in
+    elim c.if-tile-ne0.branch [
+      | then-tile-ne0 w ↦
+          let made = w.push_reserved.ensures in
+          record {
+            patches =
+                ArePatches-made (dumps dx dy) over items i tile c.loop-tile.pieces.items c.if-tile-ne0.pieces.items
+                (record { rect = w.unwrap-rect.result; kind = tile.piece.kind }) c.loop-tile-test.true c.tile-item.is so_far.patches (rw w.pieces-is made.items)
+                (holds-moved dx dy tile w.unwrap-rect.result (legal_there tiles items plane differ found tile (i, c.loop-tile-test.true, sym c.tile-item.is))
+                (sym w.moved_rect.ensures ∙ w.unwrap-rect.ensures) w.if-tile-ne0.true)
+                (λ x y covered. kind-dumps tiles items plane differ found dx dy tile x y (i, c.loop-tile-test.true, sym c.tile-item.is) covered);
+            room = rw w.pieces-is (made.capacity ∙ so_far.room);
+          }
+      | else-tile-ne0 w ↦ record {
+        patches =
+            ArePatches-left (dumps dx dy) over items i tile c.loop-tile.pieces.items c.if-tile-ne0.pieces.items c.loop-tile-test.true c.tile-item.is so_far.patches
+            (ap (λ v. v.items) w.pieces-is) (dumps-space dx dy tile w.if-tile-ne0.false);
+        room = rw w.pieces-is so_far.room;
+      }
+    ]
+
+pub returns-clause-picture : goal.returns-clause-picture
+returns-clause-picture c = λ below.
+    let pool = c.args.pool.now in
+    let owner = c.args.cell.now in
+    let tiles = tiles_of pool owner in
+    let items = c.tiles-tile-items.result.now in
+    let found = subst (AreInArea (block_at tiles) world) (sym c.tiles-tile-items.ensures) c.strips_of.ensures.found in
+    let pieces = c.loop-tile.pieces.items in
+    let along = c.ranges.dx in
+    let up = c.ranges.dy in
+    let so_far = simp to_z-of_z at c.loop-tile.invariant.patches in
+    let patches =
+    subst (λ list. ArePatches (dumps c.args.dx c.args.dy) (moved (shown tiles) c.args.dx c.args.dy) list pieces) (take_all c.loop-tile.tile-index items c.loop-tile-test.false) so_far in
+    overlaid-dumps tiles items c.requires.cell.strips.plane.plane (KeysDiffer-tiles_of pool owner) found c.args.dx c.args.dy pieces below patches
+
+pub returns-clause-few : goal.returns-clause-few
+returns-clause-few c =
+    let pool = c.args.pool.now in
+    let owner = c.args.cell.now in
+    let dx = to_z w32 (of_z w32 c.args.dx) in
+    let dy = to_z w32 (of_z w32 c.args.dy) in
+    let items = c.tiles-tile-items.result.now in
+    let few = few-ArePatches (dumps dx dy) (moved (shown (tiles_of pool owner)) dx dy) items c.loop-tile.tile-index c.loop-tile.pieces.items c.loop-tile.invariant.patches in
+    let all = length-strips pool owner c.strips_of.new.scratch.tiles c.strips_of.ensures.strips in
+    omega (arith, few, all, ap length c.tiles-tile-items.ensures, c.requires.cell.few)

@@ -1,0 +1,16 @@
+-- What saving a layout returns. This project's own.
+use Rattle.std.specs.Prelude.{◌≡◌, ℕ, List, ◌++◌}
+use Rattle.mls_geom.specs.Layouts.{Layout}
+use Rattle.mls_library.specs.SavedCells.{saved_line_count, saved_text}
+use Rattle.mls_tech.specs.Readings.{Tech}
+use Rattle.mls_session.specs.declared.refusal.Refusal.{Refusal}
+use Rattle.mls_session.specs.declared.refusal.Refusal.TheVariants.{Memory}
+use Rattle.mls_session.specs.declared.reply.Reply.{Reply}
+use Rattle.mls_session.specs.declared.reply.Reply.TheVariants.{Done, Kinds, Saved, Refused}
+
+-- the text of the layout was appended, and the reply has the number of its lines; or memory ran out, and nothing was appended
+abbrev pub SavesText : Tech → Layout → Reply → List ℕ → List ℕ → Type 0
+SavesText tech layout (Saved lines) old new = (lines ≡ saved_line_count tech layout) × (new ≡ old ++ saved_text tech layout)
+SavesText tech layout (Refused refusal) old new = (refusal ≡ Memory) × (new ≡ old)
+SavesText tech layout Done old new = ⊥
+SavesText tech layout (Kinds kinds) old new = ⊥

@@ -1,0 +1,166 @@
+//! What commands change on several planes.
+ghost use Rattle.std.specs.Prelude.{◌≡◌, ◌≤◌, false, max, length, vec_capacity, IfSome};
+ghost use Rattle.std.specs.List.{All};
+ghost use Rattle.mls_geom.specs.Pictures.{Picture, overlaid};
+ghost use Rattle.mls_library.specs.Libraries.{IsFrozen, most_tiles};
+ghost use Rattle.mls_paint.specs.Planes.{HasStrips, layout_in, picture_in};
+ghost use Rattle.mls_paint.specs.Scratches.{HasRoomFor, KeepsRoom};
+ghost use Rattle.mls_session.specs.Changes.{dumped, erased, layout_leaves_world, leaves_world};
+ghost use Rattle.mls_session.specs.Inner.{CanChange, HasCapacityFor, changed};
+ghost use Rattle.mls_tilepool.specs.Pools.{room_of};
+
+use crate::moving::moved_rect;
+use mls_geom::{Piece, Rect};
+use mls_kinds::KindSet;
+use mls_paint::{Scratch, find_area, strips_of};
+use mls_stitch::Plane;
+use mls_tilepool::Pool;
+
+/// What a command changes on several planes.
+#[derive(Clone, Copy)]
+pub(crate) enum Change<'a> {
+    /// Erases these types in a rectangle.
+    Erase {
+        rect: Rect,
+        kinds: KindSet,
+    },
+    /// Paints the squares of a cell that aren't space, moved to the right by `dx` and up by `dy`.
+    Dump {
+        planes: &'a [Plane],
+        dx: i32,
+        dy: i32,
+    },
+}
+
+impl Change<'_> {
+    /// Makes `pieces` those that the change paints on a plane, of this number.
+    pub fn list_pieces(
+        &self,
+        pool: &Pool,
+        number: usize,
+        plane: &mut Plane,
+        pieces: &mut Vec<Piece>,
+        scratch: &mut Scratch,
+    )
+        requires strips { HasStrips pool.now plane.old }
+        requires room { HasRoomFor pool.now plane.old scratch.old }
+        requires can_change { CanChange pool.now self.now }
+        requires cell_room { most_tiles ≤ scratch.old.room }
+        requires pieces_fit { HasCapacityFor pool.now plane.old (vec_capacity pieces.old) }
+        requires cell_pieces_fit { most_tiles ≤ vec_capacity pieces.old }
+        ensures picture { (below : Picture) → below ≡ picture_in pool.now plane.old → overlaid below pieces.new.items ≡ changed pool.now self.now number below }
+        ensures few { IfSome (room_of pool.now plane.old) (λ room. length pieces.new.items ≤ max room most_tiles) }
+        ensures pieces_room { vec_capacity pieces.new ≡ vec_capacity pieces.old }
+        ensures plane { plane.new ≡ plane.old }
+        ensures rooms { KeepsRoom scratch.old scratch.new }
+    {
+        match *self {
+            Change::Erase { rect, kinds } => list_erased(pool, plane, rect, kinds, pieces, scratch),
+            Change::Dump { planes, dx, dy } => match planes.get(number) {
+                Some(cell) => list_dumped(pool, cell, dx, dy, pieces, scratch),
+                None => pieces.clear(),
+            },
+        }
+    }
+}
+
+/// Makes `pieces` pieces of space in the squares of a rectangle of a plane that have one of these types.
+fn list_erased(
+    pool: &Pool,
+    plane: &mut Plane,
+    rect: Rect,
+    kinds: KindSet,
+    pieces: &mut Vec<Piece>,
+    scratch: &mut Scratch,
+)
+    requires strips { HasStrips pool.now plane.old }
+    requires room { HasRoomFor pool.now plane.old scratch.old }
+    requires pieces_fit { HasCapacityFor pool.now plane.old (vec_capacity pieces.old) }
+    ensures picture { overlaid (picture_in pool.now plane.old) pieces.new.items ≡ erased (picture_in pool.now plane.old) rect kinds }
+    ensures few { IfSome (room_of pool.now plane.old) (λ room. length pieces.new.items ≤ room) }
+    ensures pieces_room { vec_capacity pieces.new ≡ vec_capacity pieces.old }
+    ensures plane { plane.new ≡ plane.old }
+    ensures rooms { KeepsRoom scratch.old scratch.new }
+{
+    let count = pool.count(plane.owner()) as usize;
+    prove!(count <= pieces.capacity());
+    find_area(pool, plane, rect, scratch);
+    pieces.clear();
+    for tile in scratch.tiles() {
+        if kinds.contains(tile.piece.kind) {
+            let part = tile.piece.rect.clip(rect).unwrap();
+            pieces.push_reserved(Piece {
+                rect: part,
+                kind: 0,
+            });
+        }
+    }
+}
+
+/// Makes `pieces` those of a cell's plane that aren't space, moved. None of them leaves the world.
+fn list_dumped(
+    pool: &Pool,
+    cell: &Plane,
+    dx: i32,
+    dy: i32,
+    pieces: &mut Vec<Piece>,
+    scratch: &mut Scratch,
+)
+    requires cell { IsFrozen pool.now cell.now }
+    requires cell_room { most_tiles ≤ scratch.old.room }
+    requires cell_pieces_fit { most_tiles ≤ vec_capacity pieces.old }
+    requires stays { leaves_world (picture_in pool.now cell.now) dx dy ≡ false }
+    ensures picture { (below : Picture) → overlaid below pieces.new.items ≡ dumped below (picture_in pool.now cell.now) dx dy }
+    ensures few { length pieces.new.items ≤ most_tiles }
+    ensures pieces_room { vec_capacity pieces.new ≡ vec_capacity pieces.old }
+    ensures rooms { KeepsRoom scratch.old scratch.new }
+{
+    strips_of(pool, cell, scratch);
+    pieces.clear();
+    for tile in scratch.tiles() {
+        if tile.piece.kind != 0 {
+            let rect = moved_rect(tile.piece.rect, dx, dy).unwrap();
+            pieces.push_reserved(Piece {
+                rect,
+                kind: tile.piece.kind,
+            });
+        }
+    }
+}
+
+/// Returns whether a square of the cell that isn't space leaves the world as it is moved.
+pub(crate) fn cell_leaves_world(
+    pool: &Pool,
+    planes: &[Plane],
+    dx: i32,
+    dy: i32,
+    scratch: &mut Scratch,
+) -> bool
+    requires cell { All (IsFrozen pool.now) planes.now }
+    requires cell_room { most_tiles ≤ scratch.old.room }
+    ensures leaves { result ≡ layout_leaves_world (length planes.now) (layout_in pool.now planes.now) dx dy }
+    ensures rooms { KeepsRoom scratch.old scratch.new }
+{
+    for plane in planes {
+        if plane_leaves_world(pool, plane, dx, dy, scratch) {
+            return true;
+        }
+    }
+    false
+}
+
+/// Returns whether a square of a cell's plane that isn't space leaves the world as it is moved.
+fn plane_leaves_world(pool: &Pool, plane: &Plane, dx: i32, dy: i32, scratch: &mut Scratch) -> bool
+    requires cell { IsFrozen pool.now plane.now }
+    requires cell_room { most_tiles ≤ scratch.old.room }
+    ensures leaves { result ≡ leaves_world (picture_in pool.now plane.now) dx dy }
+    ensures rooms { KeepsRoom scratch.old scratch.new }
+{
+    strips_of(pool, plane, scratch);
+    for tile in scratch.tiles() {
+        if tile.piece.kind != 0 && moved_rect(tile.piece.rect, dx, dy).is_none() {
+            return true;
+        }
+    }
+    false
+}
