@@ -15,11 +15,7 @@ use Rattle.mls_library.specs.Libraries.{most_tiles, tile_counts}
 use Rattle.mls_library.specs.declared.cell_rect.CellRect.{CellRect}
 use Rattle.mls_library.specs.declared.fault.CellFault.{CellFault}
 use Rattle.mls_library.specs.declared.fault.CellFaultKind.TheVariants.{TooManyTiles}
-
--- a range is one number longer at its end
-range-push : (a n : ℕ) → range_with_len a (suc n) ≡ range_with_len a n ++ (a + n) ∷ []
-range-push a zero = ap (λ x. x ∷ []) (omega arith)
-range-push a (suc n) = ap (λ rest. a ∷ rest) (range-push (a + 1) n ∙ ap (λ x. range_with_len (a + 1) n ++ x ∷ []) (omega arith))
+use Rattle.mls_library.proofs.Ranges.{range-push}
 
 module _ (rects : List CellRect) where
   abbrev count_at : ℕ → ℕ

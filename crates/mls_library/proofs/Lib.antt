@@ -7,6 +7,7 @@ pub mod KeptCells
 pub mod LayoutStrips
 pub mod LineMeanings
 pub mod Loading
+pub mod Ranges
 pub mod ReadingLemmas
 pub mod WorldLines
 pub mod SavedLines

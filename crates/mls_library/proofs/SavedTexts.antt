@@ -17,6 +17,7 @@ use Rattle.mls_geom.specs.declared.piece.Piece.{Piece}
 use Rattle.mls_stitch.specs.declared.laid_tile.LaidTile.{LaidTile}
 use Rattle.mls_tech.specs.Readings.{Tech, plane_of_type}
 use Rattle.mls_library.specs.SavedCells.{Extends, coordinate_text, end_lines, file_lines, first_name, header_lines, layer_lines, layers_lines, of_kind, rect_words, section_lines, section_words, spaced, strip_lines, text_of, types_of}
+use Rattle.mls_library.proofs.Ranges.{range-push}
 use Rattle.mls_library.proofs.SavedNumbers.{short_line, user_line}
 
 -- ---- what stays in front
@@ -189,10 +190,6 @@ layer_appended tech kind tiles name old middle new first some headed listed =
 -- the header and the sections of the first types
 abbrev pub lines_up_to : Tech → (ℕ → List Piece) → ℕ → List (List ℕ)
 lines_up_to tech strips types = header_lines tech ++ layers_lines tech strips (range_with_len 1 types)
-
-range-push : (a n : ℕ) → range_with_len a (suc n) ≡ range_with_len a n ++ (a + n) ∷ []
-range-push a zero = ap (λ x. x ∷ []) (omega arith)
-range-push a (suc n) = ap (λ rest. a ∷ rest) (range-push (a + 1) n ∙ ap (λ x. range_with_len (a + 1) n ++ x ∷ []) (omega arith))
 
 module _ (tech : Tech) (strips : ℕ → List Piece) where
   abbrev type_lines : ℕ → List (List ℕ)

@@ -1,6 +1,5 @@
 -- A command changes tiles of the session's planes alone, so the library's cells stay as they are.
 use Rattle.std.proofs.Common.{◌≡◌, ℕ, suc, List, [], ◌∷◌, All, refl, ap, ◌∙◌, arith}
-use Rattle.mls_geom.specs.Layouts.{Layout}
 use Rattle.mls_tilepool.specs.Pools.{Pool}
 use Rattle.mls_library.specs.Libraries.{IsHome as AreCellsHome, Library, cell_layout}
 use Rattle.mls_library.proofs.KeptCells.{IsCellApart, IsHome-ChangesAmong, cell_layout-ChangesAmong}

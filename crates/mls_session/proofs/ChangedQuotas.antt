@@ -1,7 +1,7 @@
 -- Whether a plane would have more tiles than the quota, on one plane and on all.
-use Rattle.std.proofs.Common.{◌≡◌, Bool, true, false, not, ℕ, ◌<◌, ◌≤◌, nat_lt, if◌then◌else◌, Result, Ok, Err, IsErr, IsOk, List, [], length, get_or, inl, inr, refl, sym, ap, ◌∙◌, subst, arith}
+use Rattle.std.proofs.Common.{◌≡◌, Bool, true, false, not, ℕ, ◌<◌, ◌≤◌, nat_lt, if◌then◌else◌, Result, Ok, Err, IsErr, IsOk, [], length, get_or, inl, inr, refl, sym, ap, ◌∙◌, subst, arith}
 use Rattle.std.specs.List.{list_any, range_with_len}
-use Rattle.std.proofs.lemmas.Bool.{cases_Bool, cases_lt}
+use Rattle.std.proofs.lemmas.Bool.{cases_lt}
 use Rattle.std.proofs.lemmas.Bool.Decides.{nat_tests}
 use Rattle.mls_geom.specs.Layouts.{Layout}
 use Rattle.mls_geom.specs.Pictures.{Picture}
@@ -13,7 +13,7 @@ use Rattle.mls_paint.specs.Planes.{layout_in, picture_in}
 use Rattle.mls_paint.proofs.OwnerFrames.{layout_in-at}
 use Rattle.mls_session.specs.Inner.{FitsQuota, changed, changed_layout}
 use Rattle.mls_session.specs.Own.{Config, OwnState, change_step, exceeds_quota}
-use Rattle.mls_session.specs.Sessions.{Session, state_of}
+use Rattle.mls_session.specs.Sessions.{Session}
 use Rattle.mls_session.specs.declared.change.Change.{Change}
 use Rattle.mls_session.specs.declared.reply.Reply.{Reply}
 use Rattle.mls_session.specs.declared.reply.Reply.TheVariants.{Done, Refused}

@@ -1,5 +1,5 @@
 -- The cell of a number, and the step of a dump.
-use Rattle.std.proofs.Common.{◌≡◌, Bool, true, false, ℕ, ℤ, ◌<◌, Option, Some, None, List, All, length, get_or, map, slice_get, refl, sym, ap, ◌∙◌, subst}
+use Rattle.std.proofs.Common.{◌≡◌, Bool, true, false, ℕ, ℤ, Option, Some, None, List, All, length, get_or, slice_get, refl, sym, ap, ◌∙◌, subst}
 use Rattle.std.specs.List.{list_any, range_with_len}
 use Rattle.std.specs.Option.{option_map}
 use Rattle.std.proofs.lemmas.Bool.{both_ways, false_from_ne_true}

@@ -1,13 +1,12 @@
 -- Erasing some types of a rectangle: the pieces are the parts in the rectangle of the tiles that an area search finds there.
 use Rattle.std.proofs.Common.{◌≡◌, Bool, true, false, ℕ, ◌<◌, ◌&&◌, if◌then◌else◌, Option, Some, None, is_some, IsSome, IfSome, List, length, get_or, refl, sym, ap, ◌∙◌}
-use Rattle.std.specs.List.{list_any}
 use Rattle.std.proofs.Math.Bool.{and-false, and-true}
 use Rattle.std.proofs.Math.Path.{fun_ext}
 use Rattle.std.proofs.lemmas.Bool.Decides.{same_from_decides}
 use Rattle.std.proofs.lemmas.List.Elements.{All-contains}
 use Rattle.std.proofs.lemmas.List.Folds.{Any-from_list_any, list_any-from_Any}
 use Rattle.mls_kinds.specs.KindSets.{holds as has_kind}
-use Rattle.mls_geom.specs.Pictures.{Picture, empty_picture, overlaid}
+use Rattle.mls_geom.specs.Pictures.{empty_picture, overlaid}
 use Rattle.mls_geom.specs.Rects.{Rect, clipped, common, holds}
 use Rattle.mls_geom.specs.declared.piece.Piece.{Piece}
 use Rattle.mls_tilepool.specs.declared.tile.Tile.{Tile}

@@ -1,5 +1,5 @@
 -- How many tiles there are.
-use Rattle.std.proofs.Common.{◌≡◌, ℕ, ◌≤◌, Option, Some, None, IsSome, IfSome, List, length, map, ap, sym, ◌∙◌, arith}
+use Rattle.std.proofs.Common.{◌≡◌, ℕ, ◌≤◌, Option, Some, None, IsSome, IfSome, List, length, map, sym, ◌∙◌, arith}
 use Rattle.std.proofs.lemmas.List.{length-map}
 use Rattle.mls_geom.specs.Rects.{Rect}
 use Rattle.mls_geom.specs.TileCounts.{tile_count}

@@ -9,8 +9,8 @@ use Rattle.mls_tilepool.specs.Pools.{Pool, room_of}
 use Rattle.mls_stitch.specs.Tilings.{ChangesOnly}
 use Rattle.mls_library.specs.Libraries.{most_tiles}
 use Rattle.mls_paint.specs.Planes.{AddsOwner, HasStrips}
-use Rattle.mls_paint.proofs.OwnerFrames.{HasStrips-AddsOwner, HasStrips-ChangesOnly, apart_from_added, has_room-HasStrips}
-use Rattle.mls_session.specs.Sessions.{IsHome, Session, plane_reserve}
+use Rattle.mls_paint.proofs.OwnerFrames.{ChangesAmong-refl, HasStrips-AddsOwner, HasStrips-ChangesOnly, apart_from_added, has_room-HasStrips}
+use Rattle.mls_session.specs.Sessions.{IsHome, KeepsPlanes, Session, plane_reserve}
 
 -- a plane that was lent to a call comes back
 pub planes_kept : (planes : List ℕ) (i before after : ℕ) → before ≡ get_or planes i before → after ≡ before → set planes i after ≡ planes
@@ -64,6 +64,16 @@ IsHome-same pool old new planes quota home = record {
       subst (λ tiles. All (λ owner. room_of pool owner ≡ Some (plane_reserve tiles)) new.planes) (sym quota)
       (subst (λ owners. All (λ owner. room_of pool owner ≡ Some (plane_reserve old.quota)) owners) (sym planes) home.reserves);
   apart = subst (AllPairs (λ a b. a ≢ b)) (sym planes) home.apart;
+}
+
+-- where the pool stays, a session that has the same planes and quota keeps the rest
+pub KeepsPlanes-same :
+    (pool : Pool) (before after : Session) → after.planes ≡ before.planes → after.quota ≡ before.quota → IsHome pool before → KeepsPlanes pool pool before after
+KeepsPlanes-same pool before after planes quota home = record {
+  home = IsHome-same pool before after planes quota home;
+  only = ChangesAmong-refl pool before.planes;
+  planes = planes;
+  quota = quota;
 }
 
 -- a change of one owner's tiles that leaves its strips leaves all planes

@@ -7,6 +7,7 @@ pub mod ErasedTiles
 pub mod FirstPlanes
 pub mod FoundTiles
 pub mod HomePlanes
+pub mod KeptRooms
 pub mod MovedRects
 pub mod MovedTiles
 pub mod Openings

@@ -22,7 +22,7 @@ use Rattle.mls_stitch.proofs.ShownTiles.{KeysDiffer, shown-inside, shown-outside
 use Rattle.mls_stitch.proofs.Sides.{legal-AreBlocks}
 use Rattle.mls_session.specs.Changes.{dumped, has_square, kind_at, leaves_world, moved}
 use Rattle.mls_session.specs.Inner.{moved_rect}
-use Rattle.mls_session.proofs.MovedRects.{IsMoved, IsMoved-moved_rect, has_square-IsMoved, holds-IsMoved, holds_at, square-leaves}
+use Rattle.mls_session.proofs.MovedRects.{IsMoved-moved_rect, has_square-IsMoved, holds-IsMoved, holds_at, square-leaves}
 use Rattle.mls_session.proofs.TilePieces.{ArePatches, is_covered}
 
 -- the square is one of the tile's, moved, and isn't space

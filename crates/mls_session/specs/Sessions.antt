@@ -6,6 +6,7 @@ use Rattle.mls_geom.specs.Rects.{Rect}
 use Rattle.mls_library.specs.Libraries.{HavePlanes, Library, IsHome as AreCellsHome, cell_layout}
 use Rattle.mls_tech.specs.Readings.{Tech}
 use Rattle.mls_tilepool.specs.Pools.{Pool, room_of}
+use Rattle.mls_paint.specs.Owners.{ChangesAmong}
 use Rattle.mls_paint.specs.Planes.{HasStrips, layout_in}
 use Rattle.mls_session.specs.Own.{Config, OwnState}
 use Rattle.mls_session.specs.declared.reply.Reply.{Reply}
@@ -38,6 +39,13 @@ pub record IsHome (pool : Pool) (session : Session) : Type 0 where
   pub strips : All (λ owner. HasStrips pool owner) session.planes
   pub reserves : All (λ owner. room_of pool owner ≡ Some (plane_reserve session.quota)) session.planes
   pub apart : AllPairs (λ a b. a ≢ b) session.planes
+
+-- what every command keeps: the session has the planes and the quota that it had, its planes are at home, and only their tiles have changed
+pub record KeepsPlanes (old new : Pool) (before after : Session) : Type 0 where
+  pub home : IsHome new after
+  pub only : ChangesAmong old new before.planes
+  pub planes : after.planes ≡ before.planes
+  pub quota : after.quota ≡ before.quota
 
 -- the library's cells lie in the pool, under other owners than these, and each has a plane for each of the technology's
 pub record CanDump (tech : Tech) (pool : Pool) (cells : Library) (owners : List ℕ) : Type 0 where

@@ -1,10 +1,9 @@
 //! One session: a box, and the planes of a layout, which commands change.
 ghost use Rattle.std.specs.Prelude.{◌≡◌, ◌*◌, ◌<◌, ◌≤◌, IfOk, OnErr, length, vec_capacity};
-ghost use Rattle.std.specs.List.{All};
 ghost use Rattle.mls_geom.specs.Pictures.{overlaid};
 ghost use Rattle.mls_tilepool.specs.Pools.{Pool, unreserved};
 ghost use Rattle.mls_library.specs.Libraries as library_spec;
-ghost use Rattle.mls_paint.specs.Owners.{AddsOwners, ChangesAmong};
+ghost use Rattle.mls_paint.specs.Owners.{AddsOwners};
 ghost use Rattle.mls_paint.specs.Scratches.{KeepsRoom};
 ghost use Rattle.mls_session.specs.Own.{Config, Step, box_step, opening, paint_step, repaint_step, what_step};
 ghost use Rattle.mls_session.specs.Rooms.{HasRooms};
@@ -46,7 +45,7 @@ impl Model for Session {
 }
 
 impl Session {
-    ghost use Rattle.mls_session.specs.Sessions.{CanDump, IsHome, OnRefused, cell_layouts, config_of, plane_reserve, state_of};
+    ghost use Rattle.mls_session.specs.Sessions.{CanDump, IsHome, KeepsPlanes, OnRefused, cell_layouts, config_of, plane_reserve, state_of};
 
     /// Opens a session over the planes of a technology, with no box and an empty layout.
     ///
@@ -99,12 +98,9 @@ impl Session {
         requires can_dump { CanDump tech.now pool.old library.now self.old.planes }
         requires has_rooms { HasRooms self.old.quota scratch.old (vec_capacity pieces.old) }
         ensures step { Step (config_of tech.now pool.old library.now self.old) (state_of pool.old self.old) command result (state_of pool.new self.new) }
-        ensures home { IsHome pool.new self.new }
+        ensures keeps { KeepsPlanes pool.old pool.new self.old self.new }
         ensures cells_home { library_spec.IsHome pool.new library.now }
         ensures cells { cell_layouts pool.new library.now ≡ cell_layouts pool.old library.now }
-        ensures only { ChangesAmong pool.old pool.new self.old.planes }
-        ensures planes { self.new.planes ≡ self.old.planes }
-        ensures quota { self.new.quota ≡ self.old.quota }
         ensures refused { OnRefused result ((self.new ≡ self.old) × (pool.new ≡ pool.old)) }
         ensures pieces_room { vec_capacity pieces.new ≡ vec_capacity pieces.old }
         ensures rooms { KeepsRoom scratch.old scratch.new }
@@ -160,10 +156,7 @@ impl Session {
         // It depends on the technology and the quota alone of what no command changes.
         ensures step { (config : Config) → config.tech ≡ tech.now → config.quota ≡ self.old.quota
             → paint_step config (state_of pool.old self.old) self.old.box kind ≡ (state_of pool.new self.new, result) }
-        ensures home { IsHome pool.new self.new }
-        ensures only { ChangesAmong pool.old pool.new self.old.planes }
-        ensures planes { self.new.planes ≡ self.old.planes }
-        ensures quota { self.new.quota ≡ self.old.quota }
+        ensures keeps { KeepsPlanes pool.old pool.new self.old self.new }
         ensures refused { OnRefused result ((self.new ≡ self.old) × (pool.new ≡ pool.old)) }
         ensures pieces_room { vec_capacity pieces.new ≡ vec_capacity pieces.old }
         ensures rooms { KeepsRoom scratch.old scratch.new }
@@ -197,10 +190,7 @@ impl Session {
         // It depends on the quota alone of what no command changes.
         ensures step { (config : Config) → config.quota ≡ self.old.quota
             → repaint_step config (state_of pool.old self.old) plane (overlaid ((state_of pool.old self.old).layout plane) pieces.now) ≡ (state_of pool.new self.new, result) }
-        ensures home { IsHome pool.new self.new }
-        ensures only { ChangesAmong pool.old pool.new self.old.planes }
-        ensures planes { self.new.planes ≡ self.old.planes }
-        ensures quota { self.new.quota ≡ self.old.quota }
+        ensures keeps { KeepsPlanes pool.old pool.new self.old self.new }
         ensures refused { OnRefused result ((self.new ≡ self.old) × (pool.new ≡ pool.old)) }
         ensures rooms { KeepsRoom scratch.old scratch.new }
     {

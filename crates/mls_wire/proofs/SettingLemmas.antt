@@ -17,7 +17,7 @@ use Rattle.mls_library.specs.Libraries.{IsHome as AreCellsHome}
 use Rattle.mls_library.specs.declared.fault.CellFault.{CellFault}
 use Rattle.mls_library.proofs.KeptCells.{IsCellApart-AddsOwners, IsHome-AddsOwners, cell_layout-AddsOwners}
 use Rattle.mls_session.specs.Rooms.{HasRooms}
-use Rattle.mls_session.specs.Sessions.{CanDump, IsHome, Session, cell_layouts, config_of}
+use Rattle.mls_session.specs.Sessions.{CanDump, IsHome, KeepsPlanes, Session, cell_layouts, config_of}
 use Rattle.mls_wire.specs.Runs.{LoadsCell, NamedLayout, Setting, cell_names, config_for, with_cell}
 use Rattle.mls_wire.specs.Solos.{IsMadeFor, IsOpenFor, Solo, named_layout, named_layouts, open_session_in, open_session_of, setting_of}
 
@@ -150,15 +150,15 @@ IsMadeFor-opened tech quota old new cells session tiles can added home planes sa
 
 -- ---- commands
 pub IsMadeFor-command :
-    (tech : Tech) (quota : ℕ) (old new : Pool) (cells : Library) (before after : Session) → IsMadeFor tech quota old cells before → IsHome new after → AreCellsHome new cells
-    → after.planes ≡ before.planes → after.quota ≡ before.quota → IsMadeFor tech quota new cells after
-IsMadeFor-command tech quota old new cells before after made home cells_home planes same_quota = record {
-  planes_match = ap length planes ∙ made.planes_match;
-  quota_match = same_quota ∙ made.quota_match;
-  home = home;
+    (tech : Tech) (quota : ℕ) (old new : Pool) (cells : Library) (before after : Session) → IsMadeFor tech quota old cells before → KeepsPlanes old new before after
+    → AreCellsHome new cells → IsMadeFor tech quota new cells after
+IsMadeFor-command tech quota old new cells before after made kept cells_home = record {
+  planes_match = ap length kept.planes ∙ made.planes_match;
+  quota_match = kept.quota ∙ made.quota_match;
+  home = kept.home;
   can_dump = record {
     home = cells_home;
-    apart = subst (λ owners. All (λ cell. All (λ owner. ¬ (Contains owners owner)) cell.planes) cells) (sym planes) made.can_dump.apart;
+    apart = subst (λ owners. All (λ cell. All (λ owner. ¬ (Contains owners owner)) cell.planes) cells) (sym kept.planes) made.can_dump.apart;
     planes = made.can_dump.planes;
   };
 }

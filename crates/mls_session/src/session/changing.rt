@@ -2,7 +2,6 @@
 ghost use Rattle.std.specs.Prelude.{◌≡◌, ◌≤◌, true, not, length, vec_capacity};
 ghost use Rattle.std.specs.List.{All, Contains};
 ghost use Rattle.mls_library.specs.Libraries as library_spec;
-ghost use Rattle.mls_paint.specs.Owners.{ChangesAmong};
 ghost use Rattle.mls_paint.specs.Scratches.{KeepsRoom};
 ghost use Rattle.mls_session.specs.Inner.{CanChange, FitsQuota, IsApartFrom, changed_layout};
 ghost use Rattle.mls_session.specs.Own.{Config, are_types, cell_at, change_step, dump_step, erase_step, exceeds_quota};
@@ -19,7 +18,7 @@ use mls_tech::Tech;
 use mls_tilepool::Pool;
 
 impl Session {
-    ghost use Rattle.mls_session.specs.Sessions.{IsHome, OnRefused, cell_layouts, state_of};
+    ghost use Rattle.mls_session.specs.Sessions.{IsHome, KeepsPlanes, OnRefused, cell_layouts, state_of};
 
     /// Erases types in the box, on each plane.
     pub(super) fn erase(
@@ -36,10 +35,7 @@ impl Session {
         // It depends on the technology and the quota alone of what no command changes.
         ensures step { (config : Config) → config.tech ≡ tech.now → config.quota ≡ self.old.quota
             → erase_step config (state_of pool.old self.old) self.old.box kinds ≡ (state_of pool.new self.new, result) }
-        ensures home { IsHome pool.new self.new }
-        ensures only { ChangesAmong pool.old pool.new self.old.planes }
-        ensures planes { self.new.planes ≡ self.old.planes }
-        ensures quota { self.new.quota ≡ self.old.quota }
+        ensures keeps { KeepsPlanes pool.old pool.new self.old self.new }
         ensures refused { OnRefused result ((self.new ≡ self.old) × (pool.new ≡ pool.old)) }
         ensures pieces_room { vec_capacity pieces.new ≡ vec_capacity pieces.old }
         ensures rooms { KeepsRoom scratch.old scratch.new }
@@ -75,10 +71,7 @@ impl Session {
         // It depends on the number of planes, the cells and the quota alone of what no command changes.
         ensures step { (config : Config) → config.tech.plane_count ≡ length self.old.planes → config.cells ≡ cell_layouts pool.old library.now
             → config.quota ≡ self.old.quota → dump_step config (state_of pool.old self.old) (cell_at config cell) dx dy ≡ (state_of pool.new self.new, result) }
-        ensures home { IsHome pool.new self.new }
-        ensures only { ChangesAmong pool.old pool.new self.old.planes }
-        ensures planes { self.new.planes ≡ self.old.planes }
-        ensures quota { self.new.quota ≡ self.old.quota }
+        ensures keeps { KeepsPlanes pool.old pool.new self.old self.new }
         ensures refused { OnRefused result ((self.new ≡ self.old) × (pool.new ≡ pool.old)) }
         ensures pieces_room { vec_capacity pieces.new ≡ vec_capacity pieces.old }
         ensures rooms { KeepsRoom scratch.old scratch.new }
@@ -111,10 +104,7 @@ impl Session {
         // It depends on the number of planes and the quota alone of what no command changes.
         ensures step { (config : Config) → config.tech.plane_count ≡ length self.old.planes → config.quota ≡ self.old.quota
             → change_step config (state_of pool.old self.old) (changed_layout pool.old change.now (state_of pool.old self.old).layout) ≡ (state_of pool.new self.new, result) }
-        ensures home { IsHome pool.new self.new }
-        ensures only { ChangesAmong pool.old pool.new self.old.planes }
-        ensures planes { self.new.planes ≡ self.old.planes }
-        ensures quota { self.new.quota ≡ self.old.quota }
+        ensures keeps { KeepsPlanes pool.old pool.new self.old self.new }
         ensures refused { OnRefused result ((self.new ≡ self.old) × (pool.new ≡ pool.old)) }
         ensures pieces_room { vec_capacity pieces.new ≡ vec_capacity pieces.old }
         ensures rooms { KeepsRoom scratch.old scratch.new }
@@ -168,8 +158,7 @@ impl Session {
         requires has_rooms { HasRooms self.old.quota scratch.old (vec_capacity pieces.old) }
         requires fits { FitsQuota (length self.old.planes) self.old.quota (changed_layout pool.old change.now (state_of pool.old self.old).layout) }
         ensures layout { state_of pool.new self.new ≡ record { box = self.old.box; layout = changed_layout pool.old change.now (state_of pool.old self.old).layout } }
-        ensures home { IsHome pool.new self.new }
-        ensures only { ChangesAmong pool.old pool.new self.old.planes }
+        ensures keeps { KeepsPlanes pool.old pool.new self.old self.new }
         ensures same { self.new ≡ self.old }
         ensures pieces_room { vec_capacity pieces.new ≡ vec_capacity pieces.old }
         ensures rooms { KeepsRoom scratch.old scratch.new }

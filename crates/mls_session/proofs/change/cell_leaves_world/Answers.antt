@@ -1,10 +1,11 @@
 -- The cell leaves the world where one of its planes does.
-use Rattle.std.proofs.Common.{◌≡◌, ◌||◌, ℕ, to_z, of_z, w32, length, sym, ap, ◌∙◌}
+use Rattle.std.proofs.Common.{◌||◌, to_z, of_z, w32, length, sym, ap, ◌∙◌}
 use Rattle.std.proofs.lemmas.Int.{to_z-of_z}
 use Rattle.mls_paint.specs.Planes.{layout_in}
 use Rattle.mls_paint.proofs.OwnerFrames.{layout_in-at}
-use Rattle.mls_session.specs.Changes.{layout_leaves_world, leaves_world}
+use Rattle.mls_session.specs.Changes.{leaves_world}
 use Rattle.mls_session.proofs.FirstPlanes.{any_at, any_more}
+use Rattle.mls_session.proofs.KeptRooms.{KeepsRoom-trans}
 use Rattle.mls_session.proofs.change.cell_leaves_world.Goals as goal
 
 pub returns-then-plane_leaves_world-clause-leaves : goal.returns-then-plane_leaves_world-clause-leaves
@@ -32,8 +33,5 @@ loop-plane-preserved c =
       stays =
           any_more (λ plane. leaves_world (layout_in pool planes plane) dx dy) i
           ∙ ap (λ before. before || leaves_world (layout_in pool planes i) dx dy) c.loop-plane.invariant.stays ∙ stays;
-      rooms = record {
-        room = c.plane_leaves_world.ensures.rooms.room ∙ c.loop-plane.invariant.rooms.room;
-        pieces = c.plane_leaves_world.ensures.rooms.pieces ∙ c.loop-plane.invariant.rooms.pieces;
-      };
+      rooms = KeepsRoom-trans c.loop-plane.invariant.rooms c.plane_leaves_world.ensures.rooms;
     }

@@ -1,5 +1,5 @@
 -- Each turn makes a piece for a tile of these types.
-use Rattle.std.proofs.Common.{◌≡◌, ◌≤◌, ℕ, length, take, refl, ap, subst, sym, ◌∙◌, arith, vec_capacity}
+use Rattle.std.proofs.Common.{length, refl, ap, subst, sym, ◌∙◌, arith, vec_capacity}
 use Rattle.std.proofs.lemmas.List.{take_all}
 use Rattle.mls_geom.specs.Pictures.{empty_picture}
 use Rattle.mls_tilepool.specs.Pools.{room_of, tiles_of}

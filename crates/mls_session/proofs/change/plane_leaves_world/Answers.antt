@@ -1,5 +1,5 @@
 -- A tile leaves the world exactly where one of its squares does.
-use Rattle.std.proofs.Common.{◌≡◌, Option, Some, None, is_some, true, false, to_z, of_z, w32, All, take, ap, refl, subst, sym, ◌∙◌}
+use Rattle.std.proofs.Common.{◌≡◌, Option, Some, None, is_some, false, to_z, of_z, w32, All, ap, refl, subst, sym, ◌∙◌}
 use Rattle.std.proofs.lemmas.Int.{to_z-of_z}
 use Rattle.std.proofs.lemmas.List.{take_all}
 use Rattle.mls_geom.specs.World.{world}

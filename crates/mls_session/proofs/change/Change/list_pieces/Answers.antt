@@ -1,5 +1,5 @@
 -- Past a cell's last plane there is nothing to paint.
-use Rattle.std.proofs.Common.{◌≡◌, [], sym, ap, ◌∙◌}
+use Rattle.std.proofs.Common.{sym}
 use Rattle.mls_session.proofs.ChangedPlanes.{dumped-past}
 use Rattle.mls_session.proofs.change.Change.list_pieces.Goals as goal
 

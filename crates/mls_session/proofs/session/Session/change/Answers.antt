@@ -1,10 +1,9 @@
 -- No plane is changed unless each would fit.
-use Rattle.std.proofs.Common.{◌≡◌, length, refl, sym, ap, ◌∙◌, subst}
-use Rattle.mls_geom.specs.Layouts.{Layout}
+use Rattle.std.proofs.Common.{length, sym, ap, ◌∙◌, subst}
 use Rattle.mls_paint.specs.Planes.{layout_in}
 use Rattle.mls_session.specs.Inner.{FitsQuota, changed_layout}
 use Rattle.mls_session.specs.Sessions.{Session, state_of}
-use Rattle.mls_session.proofs.ChangedQuotas.{FitsQuota-tested, change_step-Done, change_step-Refused}
+use Rattle.mls_session.proofs.ChangedQuotas.{FitsQuota-tested, change_step-Refused}
 use Rattle.mls_session.specs.declared.reply.Reply.TheVariants.{Refused}
 use Rattle.mls_session.specs.declared.refusal.Refusal.TheVariants.{Quota}
 use Rattle.mls_session.proofs.session.Session.change.Goals as goal

@@ -1,5 +1,5 @@
 -- Each turn asks whether one plane more would fit.
-use Rattle.std.proofs.Common.{◌≡◌, ◌||◌, ℕ, List, get_or, length, refl, sym, ap, ◌∙◌, arith}
+use Rattle.std.proofs.Common.{◌≡◌, ◌||◌, ℕ, List, get_or, length, sym, ap, ◌∙◌, arith}
 use Rattle.mls_geom.specs.Pictures.{overlaid}
 use Rattle.mls_paint.specs.Planes.{layout_in, picture_in}
 use Rattle.mls_session.specs.Inner.{changed, changed_layout}
@@ -7,6 +7,7 @@ use Rattle.mls_session.specs.Sessions.{Session}
 use Rattle.mls_session.proofs.ChangedQuotas.{exceeds, exceeds-fits, exceeds-more, exceeds_quota-more, exceeds_quota-none}
 use Rattle.mls_session.proofs.FirstPlanes.{any_more}
 use Rattle.mls_session.proofs.HomePlanes.{HasStrips-at, planes_kept}
+use Rattle.mls_session.proofs.KeptRooms.{KeepsRoom-trans}
 use Rattle.mls_session.proofs.session.Session.change_fits.Goals as goal
 
 pub list_pieces-requires-clause-strips : goal.list_pieces-requires-clause-strips
@@ -67,10 +68,7 @@ loop-i-preserved c =
           ∙ exceeds-fits pool session change i owner c.tiles-limit.result (overlaid below c.deref.result.now) (omega (arith, whole)) is limit made
           (c.fits.ensures.fits.0 c.if-not-fits.false);
       room = c.list_pieces.ensures.pieces_room ∙ turn.invariant.room;
-      rooms = record {
-        room = c.fits.ensures.rooms.room ∙ c.list_pieces.ensures.rooms.room ∙ turn.invariant.rooms.room;
-        pieces = c.fits.ensures.rooms.pieces ∙ c.list_pieces.ensures.rooms.pieces ∙ turn.invariant.rooms.pieces;
-      };
+      rooms = KeepsRoom-trans (KeepsRoom-trans turn.invariant.rooms c.list_pieces.ensures.rooms) c.fits.ensures.rooms;
     }
 
 pub returns-clause-fits : goal.returns-clause-fits

@@ -1,13 +1,11 @@
 -- Each turn adds the lines of one type's section.
-use Rattle.std.proofs.Common.{◌≡◌, ℕ, ◌+◌, ◌-◌, ◌*◌, ◌≤◌, length, map, refl, sym, ap, ◌∙◌, arith}
-use Rattle.mls_geom.specs.Layouts.{Layout}
-use Rattle.mls_geom.specs.StripLists.{strips_of}
-use Rattle.mls_geom.specs.World.{world}
+use Rattle.std.proofs.Common.{◌≡◌, ◌+◌, ◌-◌, length, refl, sym, ap, ◌∙◌, arith}
 use Rattle.mls_library.specs.SavedCells.{layer_lines, strips_on}
 use Rattle.mls_library.proofs.SavedTexts.{count_up_to-all, count_up_to-more, count_up_to-none, lines_up_to, pieces_of}
 use Rattle.mls_paint.specs.Planes.{layout_in}
 use Rattle.mls_session.proofs.SavedCounts.{layer_lines-few, strips_few}
-use Rattle.mls_session.proofs.SavedPlanes.{IsListed, listed_plane}
+use Rattle.mls_session.proofs.SavedPlanes.{listed_plane}
+use Rattle.mls_session.proofs.KeptRooms.{KeepsRoom-trans}
 use Rattle.mls_session.proofs.session.Session.count_lines.Goals as goal
 
 pub loop-kind-init : goal.loop-kind-init
@@ -62,7 +60,7 @@ loop-kind-preserved c =
       count = omega (arith, so_far.count, lines, more, own, ap (λ n. length (lines_up_to tech (strips_on layout) n)) last);
       few = omega (arith, so_far.few, lines, some, few, same);
       lists = c.list_plane.ensures.lists;
-      rooms = record { room = c.list_plane.ensures.rooms.room ∙ so_far.rooms.room; pieces = c.list_plane.ensures.rooms.pieces ∙ so_far.rooms.pieces };
+      rooms = KeepsRoom-trans so_far.rooms c.list_plane.ensures.rooms;
     }
 
 pub returns-clause-count : goal.returns-clause-count

@@ -1,7 +1,7 @@
 -- The cell's planes are frozen, and none of the session's.
-use Rattle.std.proofs.Common.{◌≡◌, ◌≤◌, ℕ, List, Some, All, Contains, length, sym, ap, ◌∙◌, arith, subst}
+use Rattle.std.proofs.Common.{◌≡◌, Some, All, Contains, length, sym, ap, ◌∙◌, arith}
 use Rattle.std.proofs.lemmas.Int.{to_z-of_z}
-use Rattle.mls_library.specs.Libraries.{IsFrozen, Library}
+use Rattle.mls_library.specs.Libraries.{IsFrozen}
 use Rattle.mls_paint.specs.Planes.{layout_in}
 use Rattle.mls_session.specs.Sessions.{state_of}
 use Rattle.mls_session.proofs.DumpedCells.{HasPlanes, cell_at-HasPlanes, dump_step-CellOutside, dump_step-change_step, each_stays, planes_there}

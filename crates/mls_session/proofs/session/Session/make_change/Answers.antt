@@ -1,5 +1,5 @@
 -- Each turn changes one plane more.
-use Rattle.std.proofs.Common.{◌≡◌, ℕ, List, get_or, length, refl, sym, ap, ◌∙◌, arith}
+use Rattle.std.proofs.Common.{◌≡◌, ℕ, List, get_or, length, sym, ap, ◌∙◌, arith}
 use Rattle.mls_geom.specs.Layouts.{Layout}
 use Rattle.mls_geom.specs.Pictures.{overlaid}
 use Rattle.mls_paint.specs.Planes.{picture_in}
@@ -8,6 +8,7 @@ use Rattle.mls_session.specs.Sessions.{Session, state_of}
 use Rattle.mls_session.proofs.ChangedPlanes.{CanChange-ChangesAmong, IsMade-more, changed-IsMade, layout_in-IsMade}
 use Rattle.mls_session.proofs.ChangedQuotas.{ok_where_fits}
 use Rattle.mls_session.proofs.HomePlanes.{planes_kept}
+use Rattle.mls_session.proofs.KeptRooms.{KeepsRoom-trans}
 use Rattle.mls_session.proofs.session.Session.make_change.Goals as goal
 
 pub list_pieces-requires-clause-can_change : goal.list_pieces-requires-clause-can_change
@@ -60,10 +61,7 @@ loop-i-preserved c =
           IsMade-more old mid session change i owner c.requires.apart so_far.made (omega (arith, whole)) is new (rw same_plane at c.overlay.ensures.only)
           (rw same_plane at c.overlay.ensures.strips) (ap (picture_in new) (sym same_plane) ∙ shows ∙ made);
       room = c.list_pieces.ensures.pieces_room ∙ so_far.room;
-      rooms = record {
-        room = c.overlay.ensures.rooms.room ∙ c.list_pieces.ensures.rooms.room ∙ so_far.rooms.room;
-        pieces = c.overlay.ensures.rooms.pieces ∙ c.list_pieces.ensures.rooms.pieces ∙ so_far.rooms.pieces;
-      };
+      rooms = KeepsRoom-trans (KeepsRoom-trans so_far.rooms c.list_pieces.ensures.rooms) c.overlay.ensures.rooms;
     }
 
 pub returns-clause-layout : goal.returns-clause-layout

@@ -6,6 +6,7 @@ use Rattle.mls_paint.specs.Planes.{AddsOwner}
 use Rattle.mls_session.specs.Sessions.{IsHome, plane_reserve}
 use Rattle.mls_session.proofs.HomePlanes.{IsHome-push, differ_from_new}
 use Rattle.mls_session.proofs.Openings.{AddsOwners-plane, AreSpace, AreSpace-push, state_of-opening}
+use Rattle.mls_session.proofs.KeptRooms.{KeepsRoom-trans}
 use Rattle.mls_session.proofs.session.Session.open.Goals as goal
 
 pub loop-plane-preserved : goal.loop-plane-preserved
@@ -31,7 +32,7 @@ loop-plane-preserved c =
           (IsHome-push old new None planes c.args.quota owner so_far.home added strips);
       space = subst (AreSpace new) (sym items) (AreSpace-push old new planes owner reserve so_far.space differ added shows);
       added = subst (λ owners. AddsOwners c.args.pool.now new owners (length owners * reserve)) (sym items) (AddsOwners-plane c.args.pool.now old new planes owner reserve so_far.added differ added taken);
-      rooms = record { room = made.rooms.room ∙ so_far.rooms.room; pieces = made.rooms.pieces ∙ so_far.rooms.pieces };
+      rooms = KeepsRoom-trans so_far.rooms made.rooms;
     }
 
 pub returns-clause-opening : goal.returns-clause-opening

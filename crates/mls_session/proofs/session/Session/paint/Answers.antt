@@ -1,4 +1,4 @@
-use Rattle.std.proofs.Common.{◌≡◌, [], ◌∷◌, ◌++◌, Some, sym, ap, ◌∙◌, refl}
+use Rattle.std.proofs.Common.{◌≡◌, [], ◌∷◌, ◌++◌, Some, sym, ap, ◌∙◌}
 use Rattle.mls_geom.specs.declared.piece.Piece.{Piece}
 use Rattle.mls_tech.specs.Readings.{Tech, plane_of_type}
 use Rattle.mls_session.specs.Sessions.{Session, state_of}

@@ -1,11 +1,12 @@
 -- Each turn appends the text of one type's section.
-use Rattle.std.proofs.Common.{◌≡◌, ℕ, ◌+◌, ◌-◌, ◌≤◌, ◌++◌, List, length, map, refl, sym, ap, ◌∙◌, arith}
-use Rattle.mls_library.specs.SavedCells.{Extends, header_lines, layer_lines, strips_on, text_of}
+use Rattle.std.proofs.Common.{◌≡◌, ◌+◌, ◌-◌, ◌++◌, length, refl, sym, ap, ◌∙◌, arith}
+use Rattle.mls_library.specs.SavedCells.{layer_lines, strips_on, text_of}
 use Rattle.mls_library.proofs.SavedCells.{saved-reads-back}
 use Rattle.mls_library.proofs.SavedTexts.{Extends-appended, Extends-trans, lines_up_to, lines_up_to-none, on_err, pieces_of, text_up_to-all, text_up_to-more}
 use Rattle.mls_paint.specs.Planes.{layout_in}
 use Rattle.mls_session.proofs.Results.{on_err-map, on_ok-map}
-use Rattle.mls_session.proofs.SavedPlanes.{IsListed, listed_plane}
+use Rattle.mls_session.proofs.SavedPlanes.{listed_plane}
+use Rattle.mls_session.proofs.KeptRooms.{KeepsRoom-trans}
 use Rattle.mls_session.proofs.session.Session.push_text.Goals as goal
 
 pub loop-kind-init : goal.loop-kind-init
@@ -29,8 +30,7 @@ returns-in_err-push_layer-clause-kept c =
     (Extends-appended c.args.out.now.items c.loop-kind.out.items _ c.loop-kind.invariant.text) c.in_err-push_layer.ensures.kept)
 
 pub returns-in_err-push_layer-clause-rooms : goal.returns-in_err-push_layer-clause-rooms
-returns-in_err-push_layer-clause-rooms c =
-    record { room = c.list_plane.ensures.rooms.room ∙ c.loop-kind.invariant.rooms.room; pieces = c.list_plane.ensures.rooms.pieces ∙ c.loop-kind.invariant.rooms.pieces }
+returns-in_err-push_layer-clause-rooms c = KeepsRoom-trans c.loop-kind.invariant.rooms c.list_plane.ensures.rooms
 
 pub loop-kind-preserved : goal.loop-kind-preserved
 loop-kind-preserved c =
@@ -53,7 +53,7 @@ loop-kind-preserved c =
       text = text_up_to-more tech (strips_on layout) c.args.out.now.items old c.push_layer.new.out.items (kind - 1) listed.plane (pieces_of tiles) listed.place listed.tiles_are so_far.text appended
           ∙ ap (λ n. c.args.out.now.items ++ text_of (lines_up_to tech (strips_on layout) n)) last;
       lists = c.list_plane.ensures.lists;
-      rooms = record { room = c.list_plane.ensures.rooms.room ∙ so_far.rooms.room; pieces = c.list_plane.ensures.rooms.pieces ∙ so_far.rooms.pieces };
+      rooms = KeepsRoom-trans so_far.rooms c.list_plane.ensures.rooms;
     }
 
 pub returns-clause-text : goal.returns-clause-text

@@ -1,6 +1,7 @@
 -- The plane's tiles show the pieces, and all else is at home as before.
-use Rattle.std.proofs.Common.{◌≡◌, ◌<◌, get_or, ap, ◌∙◌, arith}
+use Rattle.std.proofs.Common.{◌≡◌, ◌<◌, get_or, ap, sym, ◌∙◌, arith}
 use Rattle.std.proofs.lemmas.Bool.{false≢true}
+use Rattle.mls_paint.proofs.OwnerFrames.{ChangesAmong-ChangesOnly}
 use Rattle.mls_session.specs.Sessions.{Session}
 use Rattle.mls_session.proofs.HomePlanes.{IsHome-ChangesOnly, IsHome-same, planes_kept}
 use Rattle.mls_session.proofs.SessionPlanes.{repaint_step-Done}
@@ -20,13 +21,19 @@ returns-clause-step c = λ config same_quota.
     (planes_kept c.self.inside.planes.items c.args.plane owner c.overlay.new.plane c.index_mut.ensures.value done.plane ∙ ap (λ (kept : Session). kept.planes) view)
     done.only done.picture few
 
-pub returns-clause-home : goal.returns-clause-home
-returns-clause-home c =
+pub returns-clause-keeps : goal.returns-clause-keeps
+returns-clause-keeps c =
     let session = c.args.self.now in
     let owner = c.index_mut.result.now in
     let view = c.self.view_is in
     let done = c.in-Ok.ensures in
-    IsHome-same c.overlay.new.pool session _
-    (planes_kept c.self.inside.planes.items c.args.plane owner c.overlay.new.plane c.index_mut.ensures.value done.plane ∙ ap (λ (kept : Session). kept.planes) view)
-    (ap (λ (kept : Session). kept.quota) view)
-    (IsHome-ChangesOnly c.args.pool.now c.overlay.new.pool session owner done.only done.strips c.requires.home)
+    let is : owner ≡ get_or session.planes c.args.plane owner = c.index_mut.ensures.value ∙ ap (λ (kept : Session). get_or kept.planes c.args.plane owner) view in
+    let planes =
+    planes_kept c.self.inside.planes.items c.args.plane owner c.overlay.new.plane c.index_mut.ensures.value done.plane ∙ ap (λ (kept : Session). kept.planes) view in
+    let quota = ap (λ (kept : Session). kept.quota) view in
+    record {
+      home = IsHome-same c.overlay.new.pool session _ planes quota (IsHome-ChangesOnly c.args.pool.now c.overlay.new.pool session owner done.only done.strips c.requires.home);
+      only = ChangesAmong-ChangesOnly c.args.pool.now c.overlay.new.pool session.planes owner (c.args.plane, c.requires.plane, sym is) done.only;
+      planes = planes;
+      quota = quota;
+    }

@@ -6,6 +6,7 @@ use Rattle.mls_session.specs.Sessions.{Session, state_of}
 use Rattle.mls_session.specs.declared.reply.Reply.TheVariants.{Kinds}
 use Rattle.mls_session.proofs.BoxTypes.{types_none, types_more, what_step-Kinds}
 use Rattle.mls_session.proofs.HomePlanes.{HasStrips-at, planes_kept}
+use Rattle.mls_session.proofs.KeptRooms.{KeepsRoom-trans}
 use Rattle.mls_session.proofs.session.Session.what.Goals as goal
 
 pub loop-i-init : goal.loop-i-init
@@ -38,10 +39,7 @@ loop-i-preserved c =
       found =
           let more = types_more (state_of c.args.pool.now session).layout c.in-Some.rect turn.i in
           c.union-found.ensures ∙ rw (more, shows, ← c.kinds.ensures.kinds, ← turn.invariant.found) refl;
-      rooms = record {
-        room = c.kinds.ensures.rooms.room ∙ turn.invariant.rooms.room;
-        pieces = c.kinds.ensures.rooms.pieces ∙ turn.invariant.rooms.pieces;
-      };
+      rooms = KeepsRoom-trans turn.invariant.rooms c.kinds.ensures.rooms;
     }
 
 pub returns-clause-step : goal.returns-clause-step

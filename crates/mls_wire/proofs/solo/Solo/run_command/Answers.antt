@@ -31,8 +31,8 @@ invariant_of-self-2 c =
     let own = c.self.inside in
     let done = c.command-reply.ensures in
     let made = subst (IsOpenFor own.tech own.quota own.pool own.library own.room) c.in-Some.is c.self.invariant.0 in (
-      IsMadeFor-command own.tech own.quota own.pool c.command-reply.new.pool own.library c.in-Some.session c.command-reply.new.self made done.home done.cells_home
-          done.planes done.quota,
+      IsMadeFor-command own.tech own.quota own.pool c.command-reply.new.pool own.library c.in-Some.session c.command-reply.new.self made done.keeps
+          done.cells_home,
       HasRooms-kept own.quota own.scratch c.command-reply.new.scratch _ _ done.rooms done.pieces_room c.self.invariant.1,
     )
 
