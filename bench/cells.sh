@@ -3,13 +3,15 @@
 #
 # A grid is k times k squares of poly with a side of 10, each 10 apart from the others, which makes 2 k k + 2 k + 1 tiles.
 #
+#   paint      paints the squares of a grid into an empty session, one after another
 #   erase      on grids of some 100, 1,000 and 4,000 tiles: erases one square, and paints it again
-#   save       a grid of 4,900 squares on each of two planes, 9,800 rectangles together, saved twenty times
-#   load       a file of 10,000 rectangles that overlap, so that their plane has few tiles, and a file of the most
-#              squares in a grid that a cell's plane has room for
-#   dump       a cell of some 1,000 tiles, into an empty session and over itself
+#   save       a grid of 4,900 squares on each of two planes, 9,800 rectangles together, saved sixty times
+#   load       a file of 10,000 rectangles that overlap, so that their plane has few tiles, and 32 times a file of the
+#              most squares in a grid that a cell's plane has room for
+#   dump       a cell of some 1,000 tiles, into an empty session and then over itself, one square to the right and back
 #
-# Each time is the difference of two scripts or of two command lines, of each the best of five runs.
+# Each time is the difference of two scripts or of two command lines, of each the least of five runs. They take turns with
+# the script of the first step, and the last column is how many times as long a step takes as the paint of one square.
 set -eu
 here=$(cd "$(dirname "${BASH_SOURCE[0]}")/.." && pwd)
 work=$(mktemp -d)
@@ -70,43 +72,63 @@ overlapping() {
     }'
 }
 
-# seconds SCRIPT WORD..: how long magicd takes for a script with these words, the best of five runs
-seconds() {
-    local script=$1 best= start end took
-    shift
-    for _ in 1 2 3 4 5; do
-        start=$(date +%s%N)
-        "$here/magicd" --quota 16384 "$@" < "$script" > "$work/out"
-        end=$(date +%s%N)
-        took=$((end - start))
-        if [ -z "$best" ] || [ "$took" -lt "$best" ]; then best=$took; fi
-    done
+# run_timed I SCRIPT WORD..: runs magicd on a script with these words; keeps the least nanoseconds of all runs with this I
+run_timed() {
+    local i=$1 script=$2 start took
+    shift 2
+    start=$(date +%s%N)
+    "$program" --quota 16384 "$@" < "$script" > "$work/out"
+    took=$(($(date +%s%N) - start))
     if grep -q refused "$work/out"; then echo "a line was refused" >&2; exit 1; fi
-    awk -v ns="$best" 'BEGIN { printf "%.6f", ns / 1e9 }'
+    if [ -z "${least[i]:-}" ] || [ "$took" -lt "${least[i]}" ]; then least[i]=$took; fi
 }
 
-# each LESS MORE N: microseconds for each of N steps, from the seconds with none and with all of them
-each() {
-    awk -v less="$1" -v more="$2" -v n="$3" 'BEGIN { printf "%.2f", (more - less) / n * 1e6 }'
+# row STEP SIZE N: the row of a step that is taken N times more by the script "more" and the words "more_words" than by
+# "less" and "less_words"
+row() {
+    least=()
+    for _ in 1 2 3 4 5; do
+        run_timed 0 /dev/null
+        run_timed 1 "$work/paint"
+        run_timed 2 "$work/less" "${less_words[@]}"
+        run_timed 3 "$work/more" "${more_words[@]}"
+    done
+    awk -v OFS='\t' -v step="$1" -v size="$2" -v n="$3" -v paint="$(((least[1] - least[0]) / squares))" \
+        -v ns="$((least[3] - least[2]))" 'BEGIN {
+            print step, size, sprintf("%.2f", ns / n / 1000), sprintf("%.2f", ns / n / paint)
+        }'
 }
 
 "$here/magicd" < /dev/null
-printf '%s\t%s\t%s\n' step size us
+program=$here/crates/magicd/out/magicd
+printf '%s\t%s\t%s\t%s\n' step size us paints
+squares=$((88 * 88))
+erase 88 0 > "$work/paint"
+less_words=()
+more_words=()
+cp /dev/null "$work/less"
+cp "$work/paint" "$work/more"
+row 'paint one square' "$squares squares" "$squares"
 for k in 7 22 44; do
     erase "$k" 0 > "$work/less"
-    erase "$k" 3000 > "$work/more"
-    printf 'erase and paint\t%s tiles\t%s\n' "$((2 * k * k + 2 * k + 1))" \
-        "$(each "$(seconds "$work/less")" "$(seconds "$work/more")" 3000)"
+    erase "$k" 30000 > "$work/more"
+    row 'erase and paint one square' "$((2 * k * k + 2 * k + 1)) tiles" 30000
 done
 save 70 0 > "$work/less"
-save 70 20 > "$work/more"
-printf 'save\t9800 squares\t%s a rectangle\n' "$(each "$(seconds "$work/less")" "$(seconds "$work/more")" $((20 * 9800)))"
+save 70 60 > "$work/more"
+row 'save one rectangle' '9800 squares' $((60 * 9800))
+cp /dev/null "$work/less"
+cp /dev/null "$work/more"
 overlapping 10000 > "$work/many.mag"
+more_words=("c=$work/many.mag")
+row 'load one rectangle' '10000 that overlap' 10000
 cell_of_grid 44 > "$work/grid.mag"
-bare=$(seconds /dev/null)
-printf 'load\t10000 overlapping rectangles\t%s a rectangle\n' "$(each "$bare" "$(seconds /dev/null "c=$work/many.mag")" 10000)"
-printf 'load\t1936 squares, 3961 tiles\t%s a rectangle\n' "$(each "$bare" "$(seconds /dev/null "c=$work/grid.mag")" 1936)"
+more_words=()
+for ((i = 0; i < 32; i++)); do more_words+=("c$i=$work/grid.mag"); done
+row 'load one rectangle' '1936 squares' $((32 * 1936))
 cell_of_grid 22 > "$work/cell.mag"
 dump 0 > "$work/less"
 dump 200 > "$work/more"
-printf 'dump\tcell of 1013 tiles\t%s\n' "$(each "$(seconds "$work/less" "c=$work/cell.mag")" "$(seconds "$work/more" "c=$work/cell.mag")" 200)"
+less_words=("c=$work/cell.mag")
+more_words=("c=$work/cell.mag")
+row 'dump one cell' '1013 tiles' 200

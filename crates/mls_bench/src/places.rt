@@ -68,3 +68,39 @@ impl Places {
         })
     }
 }
+
+/// Rows and columns of cells in a piece of 256 by 256 squares.
+#[derive(Clone, Copy)]
+pub struct CellGrid {
+    pub rows: u8,
+    pub columns: u8,
+}
+
+/// The side of the piece that is checked.
+const PIECE_SIDE: i32 = 256;
+
+/// Returns the piece that is checked.
+pub fn checked_piece() -> Result<Rect, RectFault> {
+    square(0, 0, PIECE_SIDE)
+}
+
+/// Makes a rectangle in each cell, of two kinds in turn. Where there are 24 columns, rectangles are 6 squares wide and 4
+/// apart.
+pub fn cells(alloc: Global, grid: CellGrid, kinds: [u8; 2]) -> Result<Vec<Piece>> {
+    let height = PIECE_SIDE / i32::from(grid.rows.max(1));
+    let width = PIECE_SIDE / i32::from(grid.columns.max(1));
+    let mut pieces = Vec::new(alloc);
+    for row in 0..grid.rows {
+        let bottom = height.saturating_mul(i32::from(row));
+        let top = bottom.saturating_add(height * 6 / 10);
+        for column in 0..grid.columns {
+            let left = width.saturating_mul(i32::from(column));
+            let right = left.saturating_add(width * 6 / 10);
+            pieces.push(Piece {
+                rect: Rect::new(left, bottom, right, top)?,
+                kind: kinds[usize::from((row ^ column) % 2)],
+            })?;
+        }
+    }
+    Ok(pieces)
+}

@@ -18,7 +18,7 @@ const M1: u8 = 3;
 const EVEN: [i32; 12] = [-8, -6, -4, -2, 0, 2, 4, 6, 8, 10, 12, 14];
 
 /// Four coordinates: left, bottom, right and top.
-type Sides = (i32, i32, i32, i32);
+pub type Sides = (i32, i32, i32, i32);
 
 /// The rules of a technology file.
 pub fn rules_of(alloc: Global, file: &[u8]) -> Result<Rules, Fail> {
@@ -72,6 +72,19 @@ fn expect_in_piece(
         }
     }
     Ok(())
+}
+
+/// Asserts the same by the rules of a technology file.
+fn expect_by_file(
+    rt: &impl Abort,
+    alloc: Global,
+    file: &[u8],
+    layout: &mut Layout,
+    piece: Rect,
+    marked: &[Sides],
+) -> Result<(), Fail> {
+    let rules = rules_of(alloc, file)?;
+    expect_in_piece(rt, alloc, &rules, layout, piece, marked)
 }
 
 /// Asserts the same in technology M, of a piece that holds the whole layout and of pieces of 2 by 2 squares.
@@ -178,18 +191,66 @@ drc
 end
 ";
 
+/// Asserts what the rules of both files mark of a square of metal over poly.
+fn expect_metal_edges(rt: &impl Abort, alloc: Global, layout: &mut Layout) -> Result<(), Fail> {
+    let whole = rect((-8, -8, 8, 8))?;
+    let ring = [(0, 0, 4, 1), (0, 3, 4, 4), (0, 1, 1, 3), (3, 1, 4, 3)];
+    expect_by_file(rt, alloc, FOUR_SIDES, layout, whole, &ring)?;
+    let corner = [(0, 0, 1, 4), (1, 0, 4, 1)];
+    expect_by_file(rt, alloc, TWO_SIDES, layout, whole, &corner)
+}
+
 #[test]
 fn metal_over_poly(rt: HostRuntime) -> Result<(), Fail> {
     let poly = [piece(POLY, (0, 0, 4, 4))?];
     let metal = [piece(M1, (0, 0, 4, 4))?];
     let mut layout = Layout::new(rt.alloc())?.with(&poly)?.with(&metal)?;
-    let whole = rect((-8, -8, 8, 8))?;
-    let four = rules_of(rt.alloc(), FOUR_SIDES)?;
-    let ring = [(0, 0, 4, 1), (0, 3, 4, 4), (0, 1, 1, 3), (3, 1, 4, 3)];
-    expect_in_piece(&rt, rt.alloc(), &four, &mut layout, whole, &ring)?;
-    let two = rules_of(rt.alloc(), TWO_SIDES)?;
-    let corner = [(0, 0, 1, 4), (1, 0, 4, 1)];
-    expect_in_piece(&rt, rt.alloc(), &two, &mut layout, whole, &corner)
+    expect_metal_edges(&rt, rt.alloc(), &mut layout)
+}
+
+/// Returns how many sides a check of a piece in technology M looks at.
+fn sides_looked_at(alloc: Global, layout: &mut Layout, piece: Rect) -> Result<u64, Fail> {
+    let rules = rules_of(alloc, TECHNOLOGY_M)?;
+    let snapshot = layout.snapshot(alloc, piece.grow(rules.halo()))?;
+    Ok(check(alloc, &rules, snapshot, piece)?.edges())
+}
+
+/// Asserts that nothing is marked in a piece, in technology M, and that a check of it looks at 1 to 200 sides.
+fn expect_few_sides(
+    rt: &impl Abort,
+    alloc: Global,
+    layout: &mut Layout,
+    piece: Rect,
+) -> Result<(), Fail> {
+    expect_by_file(rt, alloc, TECHNOLOGY_M, layout, piece, &[])?;
+    let sides = sides_looked_at(alloc, layout, piece)?;
+    assert!(rt; (1..=200).contains(&sides), "{sides} sides");
+    Ok(())
+}
+
+#[test]
+fn large_square(rt: HostRuntime) -> Result<(), Fail> {
+    let square = [piece(POLY, (10, 10, 210, 210))?];
+    let looked = rect((0, 0, 256, 256))?;
+    let mut layout = active(rt.alloc(), &square)?;
+    expect_few_sides(&rt, rt.alloc(), &mut layout, looked)
+}
+
+/// Asserts what technology M marks in the four corners of the world, of bars there.
+fn expect_in_corners(rt: &impl Abort, alloc: Global, layout: &mut Layout) -> Result<(), Fail> {
+    let marked = [
+        (-32767, -32768, -32766, -32758),
+        (-32767, 32758, -32766, 32768),
+    ];
+    for corner in [
+        (-32768, -32768, -32752, -32752),
+        (-32768, 32752, -32752, 32768),
+        (32752, -32768, 32768, -32752),
+        (32752, 32752, 32768, 32768),
+    ] {
+        expect_by_file(rt, alloc, TECHNOLOGY_M, layout, rect(corner)?, &marked)?;
+    }
+    Ok(())
 }
 
 #[test]
@@ -200,21 +261,8 @@ fn corners_of_the_world(rt: HostRuntime) -> Result<(), Fail> {
         piece(POLY, (32767, -32768, 32768, -32758))?,
         piece(POLY, (32767, 32758, 32768, 32768))?,
     ];
-    let marked = [
-        (-32767, -32768, -32766, -32758),
-        (-32767, 32758, -32766, 32768),
-    ];
-    let rules = rules_of(rt.alloc(), TECHNOLOGY_M)?;
     let mut layout = active(rt.alloc(), &bars)?;
-    for corner in [
-        (-32768, -32768, -32752, -32752),
-        (-32768, 32752, -32752, 32768),
-        (32752, -32768, 32768, -32752),
-        (32752, 32752, 32768, 32768),
-    ] {
-        expect_in_piece(&rt, rt.alloc(), &rules, &mut layout, rect(corner)?, &marked)?;
-    }
-    Ok(())
+    expect_in_corners(&rt, rt.alloc(), &mut layout)
 }
 
 /// Four planes with a type each, the first of them with the widest rules that there may be.

@@ -51,18 +51,6 @@ impl Grid {
         }
     }
 
-    /// The kinds of the squares of an area: bit k for kind k.
-    pub fn kinds(&self, area: (i32, i32, i32, i32)) -> u64 {
-        let (left, bottom, right, top) = area;
-        let mut kinds = 0;
-        for y in bottom..top {
-            for x in left..right {
-                kinds |= 1u64.wrapping_shl(u32::from(self.kind_at(x, y)));
-            }
-        }
-        kinds
-    }
-
     /// How many maximal strips the plane has: the squares that are the lower left square of their strip.
     pub fn tile_count(&self) -> usize {
         let mut count = 0usize;

@@ -1,213 +1,276 @@
-//! Random layouts in technology M, whose forbidden squares are found square by square.
-use crate::checks::{piece, rules_of};
+//! Random layouts, in which the plain program finds the same forbidden squares.
+use crate::checks::{Sides, piece, rules_of};
 use crate::dice::Dice;
-use crate::grid::{Grid, SIZE};
 use crate::layouts::Layout;
 use mls_checker::{check, why};
-use mls_geom::{Point, Rect};
+use mls_edgerule::Rules;
+use mls_geom::{Piece, Point, Rect, RectFault};
+use mls_plain_check::{Forbidden, Square, Squares, find};
 use mls_tech::TECHNOLOGY_M;
-use std::alloc::Global;
+use std::alloc::{AllocError, Global};
+use std::process::Abort;
 use std::test::Fail;
 
-/// A step or a square, by column and row.
-type Pair = (i32, i32);
+/// How many layouts are checked by the rules of each technology.
+const LAYOUTS: usize = 300;
 
-const RIGHT: Pair = (1, 0);
+/// How many layouts are checked by each rule of a technology alone.
+const LAYOUTS_A_RULE: usize = 60;
 
-const UP: Pair = (0, 1);
+/// The types of the pieces that are painted on a plane, each as likely as the others.
+type Types = [u8; 4];
 
-const LEFT: Pair = (-1, 0);
+/// `poly` and `ndiff` on the plane `active`, `m1` on the plane `metal1`.
+const TWO_PLANES: &[Types] = &[[1, 1, 2, 0], [3, 3, 3, 0]];
 
-const DOWN: Pair = (0, -1);
+/// `q` on the plane `p`.
+const ONE_PLANE: &[Types] = &[[1, 1, 1, 0]];
 
-/// An edge rule on one plane, whose corner distance is its distance. Bit k of a set is for type k.
-struct Row {
-    plane: usize,
-    types1: u64,
-    types2: u64,
-    ok: u64,
-    corner: u64,
-    distance: i32,
-    directions: &'static [Pair],
+/// 16 by 16 blocks on which pieces are painted: the lower-left corner, and the side of a block.
+#[derive(Clone, Copy)]
+struct Field {
+    left: i32,
+    bottom: i32,
+    scale: i32,
 }
 
-const SPACE: u64 = 0b1;
-
-const POLY: u64 = 0b10;
-
-const NDIFF: u64 = 0b100;
-
-const M1: u64 = 0b1000;
-
-/// The rules of technology M.
-const ROWS: [Row; 4] = [
-    Row {
-        plane: 0,
-        types1: SPACE | NDIFF,
-        types2: POLY,
-        ok: POLY,
-        corner: POLY,
-        distance: 2,
-        directions: &[RIGHT, UP],
-    },
-    Row {
-        plane: 0,
-        types1: POLY,
-        types2: SPACE | NDIFF,
-        ok: SPACE | NDIFF,
-        corner: SPACE | NDIFF,
-        distance: 3,
-        directions: &[RIGHT, UP, LEFT, DOWN],
-    },
-    Row {
-        plane: 0,
-        types1: POLY,
-        types2: SPACE | NDIFF,
-        ok: SPACE | POLY,
-        corner: SPACE | NDIFF,
-        distance: 1,
-        directions: &[RIGHT, UP, LEFT, DOWN],
-    },
-    Row {
-        plane: 1,
-        types1: SPACE,
-        types2: M1,
-        ok: M1,
-        corner: M1,
-        distance: 3,
-        directions: &[RIGHT, UP],
-    },
-];
-
-/// The square that lies some steps from another one.
-fn moved(square: Pair, steps: i32, (x, y): Pair) -> Pair {
-    (
-        square.0.wrapping_add(x.wrapping_mul(steps)),
-        square.1.wrapping_add(y.wrapping_mul(steps)),
-    )
-}
-
-fn has(plane: &Grid, set: u64, square: Pair) -> bool {
-    let kind = u32::from(plane.kind_at(square.0, square.1));
-    set.wrapping_shr(kind) & 1 == 1
-}
-
-impl Row {
-    /// Whether an edge in this direction leads into the square.
-    fn is_edge(&self, plane: &Grid, square: Pair, direction: Pair) -> bool {
-        has(plane, self.types2, square) && has(plane, self.types1, moved(square, -1, direction))
-    }
-
-    /// Whether the row of squares after some edge in this direction has the square.
-    fn row_reaches(&self, plane: &Grid, square: Pair, direction: Pair) -> bool {
-        (0..self.distance).any(|i| self.is_edge(
-            plane,
-            moved(square, i.wrapping_neg(), direction),
-            direction,
-        ))
-    }
-
-    /// Whether the corner block to one side of some edge in this direction has the square.
-    fn corner_reaches(&self, plane: &Grid, square: Pair, direction: Pair, side: Pair) -> bool {
-        for i in 0..self.distance {
-            for j in 1..self.distance.saturating_add(1) {
-                let level = moved(square, i.wrapping_neg(), direction);
-                let edge = moved(level, j.wrapping_neg(), side);
-                let corner = moved(moved(edge, -1, direction), 1, side);
-                if self.is_edge(plane, edge, direction) && has(plane, self.corner, corner) {
-                    return true;
-                }
-            }
-        }
-        false
-    }
-
-    /// Whether the rule forbids the square.
-    fn forbids(&self, plane: &Grid, square: Pair) -> bool {
-        if has(plane, self.ok, square) {
-            return false;
-        }
-        for direction in self.directions {
-            let (x, y) = *direction;
-            if self.row_reaches(plane, square, (x, y))
-                || self.corner_reaches(plane, square, (x, y), (y, x))
-                || self.corner_reaches(
-                    plane,
-                    square,
-                    (x, y),
-                    (y.wrapping_neg(), x.wrapping_neg()),
-                )
-            {
-                return true;
-            }
-        }
-        false
-    }
-}
-
-/// The rules that forbid a square: bit n - 1 for rule n.
-fn rules_that_forbid(planes: &[Grid; 2], square: Pair) -> u128 {
-    let mut rules = 0;
-    for (place, row) in ROWS.iter().enumerate() {
-        let plane = if row.plane == 0 {
-            &planes[0]
-        } else {
-            &planes[1]
+impl Field {
+    /// The field of a layout: in the middle of the world and in its corners in turn.
+    fn of_layout(number: usize, scale: i32) -> Field {
+        let low = -32768;
+        let high = 32768i32.saturating_sub(scale.saturating_mul(16));
+        let (left, bottom) = match number % 5 {
+            0 => (0, 0),
+            1 => (low, low),
+            2 => (high, low),
+            3 => (low, high),
+            _ => (high, high),
         };
-        if row.forbids(plane, square) {
-            rules |= 1u128.wrapping_shl(place as u32);
+        Field {
+            left,
+            bottom,
+            scale,
         }
     }
-    rules
+
+    /// The squares of some blocks, given the numbers of their lines.
+    fn sides(self, blocks: Sides) -> Sides {
+        let (left, bottom, right, top) = blocks;
+        let x = |line: i32| self.left.saturating_add(line.saturating_mul(self.scale));
+        let y = |line: i32| self.bottom.saturating_add(line.saturating_mul(self.scale));
+        (x(left), y(bottom), x(right), y(top))
+    }
+
+    /// The rectangle of some blocks.
+    fn rect(self, blocks: Sides) -> Result<Rect, RectFault> {
+        let (left, bottom, right, top) = self.sides(blocks);
+        Rect::new(left, bottom, right, top)
+    }
 }
 
-/// Six random pieces, on the planes of technology M and on grids.
-fn random_layout(alloc: Global, dice: &mut Dice) -> Result<(Layout, [Grid; 2]), Fail> {
-    let (first, second, third) = (dice.area(), dice.area(), dice.area());
-    let (fourth, fifth, sixth) = (dice.area(), dice.area(), dice.area());
-    let mut active = Grid::new();
-    active.paint(first, 1);
-    active.paint(second, 1);
-    active.paint(third, 2);
-    active.paint(fourth, 1);
-    let mut metal = Grid::new();
-    metal.paint(fifth, 3);
-    metal.paint(sixth, 3);
-    let lower = [
-        piece(1, first)?,
-        piece(1, second)?,
-        piece(2, third)?,
-        piece(1, fourth)?,
-    ];
-    let upper = [piece(3, fifth)?, piece(3, sixth)?];
-    let layout = Layout::new(alloc)?.with(&lower)?.with(&upper)?;
-    Ok((layout, [active, metal]))
+/// One of the types.
+fn random_type(dice: &mut Dice, types: Types) -> u8 {
+    types[usize::from(dice.roll() % 4)]
+}
+
+/// A random piece on a field.
+fn random_piece(dice: &mut Dice, field: Field, types: Types) -> Result<Piece, RectFault> {
+    let sides = field.sides(dice.area());
+    piece(random_type(dice, types), sides)
+}
+
+/// Five random pieces on a field.
+fn random_pieces(
+    alloc: Global,
+    dice: &mut Dice,
+    field: Field,
+    types: Types,
+) -> Result<Vec<Piece>, Fail> {
+    let mut pieces = Vec::new(alloc);
+    for _ in 0..5 {
+        let next = random_piece(dice, field, types)?;
+        pieces.push(next)?;
+    }
+    Ok(pieces)
+}
+
+/// Asserts that a check of a piece finds the squares and the rules that the plain program found.
+fn expect_same(
+    rt: &impl Abort,
+    alloc: Global,
+    rules: &Rules,
+    layout: &mut Layout,
+    forbidden: &Forbidden,
+    piece: Rect,
+) -> Result<(), Fail> {
+    let snapshot = layout.snapshot(alloc, piece.grow(rules.halo()))?;
+    assert_eq!(rt;
+        why(rules, &snapshot, piece),
+        forbidden.why(piece),
+        "in {piece:?}"
+    );
+    let finding = check(alloc, rules, snapshot, piece)?;
+    for y in piece.bottom()..piece.top() {
+        for x in piece.left()..piece.right() {
+            let square = Point::new(x, y).ok_or("no square")?;
+            let is_marked = finding.marks().is_marked(square);
+            assert_eq!(rt;
+                is_marked,
+                forbidden.is_marked(Square::at(square)),
+                "at {x}, {y}"
+            );
+        }
+    }
+    Ok(())
+}
+
+/// Asserts the same of a random layout with these planes: of all its squares, and of two random pieces.
+fn expect_same_in_layout(
+    rt: &impl Abort,
+    alloc: Global,
+    rules: &Rules,
+    planes: &[Types],
+    dice: &mut Dice,
+    field: Field,
+) -> Result<(), Fail> {
+    let whole = field.rect((0, 0, 16, 16))?.grow(4);
+    let mut squares = Squares::new(alloc, whole.grow(rules.halo()), planes.len())?;
+    let mut layout = Layout::new(alloc)?;
+    let mut plane = 0u8;
+    for types in planes {
+        let pieces = random_pieces(alloc, dice, field, *types)?;
+        squares.paint(plane, &pieces);
+        layout = layout.with(&pieces)?;
+        plane = plane.saturating_add(1);
+    }
+    let forbidden = find(alloc, rules, &squares, whole)?;
+    expect_same(rt, alloc, rules, &mut layout, &forbidden, whole)?;
+    for _ in 0..2 {
+        let part = field.rect(dice.area())?;
+        expect_same(rt, alloc, rules, &mut layout, &forbidden, part)?;
+    }
+    Ok(())
+}
+
+/// Asserts the same of random layouts, by the rules of a technology file.
+fn expect_same_in_layouts(
+    rt: &impl Abort,
+    alloc: Global,
+    file: &[u8],
+    planes: &[Types],
+    layouts: usize,
+) -> Result<(), Fail> {
+    let rules = rules_of(alloc, file)?;
+    let mut dice = Dice::new(4);
+    for number in 0..layouts {
+        let field = Field::of_layout(number, 1);
+        expect_same_in_layout(rt, alloc, &rules, planes, &mut dice, field)?;
+    }
+    Ok(())
+}
+
+/// The text of a technology with these rule lines.
+fn technology(alloc: Global, head: &str, lines: &[&str]) -> Result<String, AllocError> {
+    let mut text = String::from_str(alloc, head)?;
+    text.push_str("drc\n")?;
+    for line in lines {
+        text.push_str(line)?;
+        text.push_str("\n")?;
+    }
+    text.push_str("end\n")?;
+    Ok(text)
 }
 
 #[test]
-fn random_layouts(rt: HostRuntime) -> Result<(), Fail> {
-    let rules = rules_of(rt.alloc(), TECHNOLOGY_M)?;
-    let window = Rect::new(-4, -4, 20, 20)?;
-    let mut dice = Dice::new(4);
-    for round in 0..60 {
-        let (mut layout, grids) = random_layout(rt.alloc(), &mut dice)?;
-        let snapshot = layout.snapshot(rt.alloc(), window.grow(rules.halo()))?;
-        let violated = why(&rules, &snapshot, window);
-        let finding = check(rt.alloc(), &rules, snapshot, window)?;
-        let mut found = 0;
-        for y in -4..SIZE + 4 {
-            for x in -4..SIZE + 4 {
-                let forbidding = rules_that_forbid(&grids, (x, y));
-                let square = Point::new(x, y).ok_or("no square")?;
-                assert_eq!(rt;
-                    finding.marks().is_marked(square),
-                    forbidding != 0,
-                    "at {x}, {y} of layout {round}"
-                );
-                found |= forbidding;
-            }
-        }
-        assert_eq!(rt; violated, found, "in layout {round}");
+fn technology_m(rt: HostRuntime) -> Result<(), Fail> {
+    expect_same_in_layouts(&rt, rt.alloc(), TECHNOLOGY_M, TWO_PLANES, LAYOUTS)
+}
+
+const TWO_PLANES_HEAD: &str = "planes
+ active
+ metal1
+end
+types
+ active poly
+ active ndiff
+ metal1 m1
+end
+";
+
+/// Rules of every kind: on one plane and on two, with and without corners, and with types on both sides of their edges.
+const LINES: [&str; 12] = [
+    "width poly 2 \"\"",
+    "width poly,ndiff 4 \"\"",
+    "spacing poly poly 3 touching_ok \"\"",
+    "spacing poly,ndiff ndiff 2 touching_ok \"\"",
+    "spacing poly ndiff 1 touching_illegal \"\"",
+    "spacing m1 poly 3 touching_illegal \"\"",
+    "edge space poly 2 poly poly 2 \"\"",
+    "edge space m1 1 space,ndiff 0 0 \"\" active",
+    "edge4way space m1 1 space,ndiff 0 0 \"\" active",
+    "edge4way poly,space poly,ndiff 3 space,poly poly,ndiff 2 \"\"",
+    "edge poly,ndiff poly,ndiff 1 poly ~poly/active 4 \"\"",
+    "edge4way m1 space,m1 2 poly space,m1 0 \"\" active",
+];
+
+#[test]
+fn rules_of_every_kind(rt: HostRuntime) -> Result<(), Fail> {
+    let all = technology(rt.alloc(), TWO_PLANES_HEAD, &LINES)?;
+    expect_same_in_layouts(&rt, rt.alloc(), all.as_bytes(), TWO_PLANES, LAYOUTS)
+}
+
+#[test]
+fn each_rule_alone(rt: HostRuntime) -> Result<(), Fail> {
+    for line in LINES {
+        let one = technology(rt.alloc(), TWO_PLANES_HEAD, &[line])?;
+        let file = one.as_bytes();
+        expect_same_in_layouts(&rt, rt.alloc(), file, TWO_PLANES, LAYOUTS_A_RULE)?;
+    }
+    Ok(())
+}
+
+/// Rules of every kind that reach as far as they may.
+const FAR_LINES: [&str; 6] = [
+    "width poly 100 \"\"",
+    "spacing poly poly 100 touching_ok \"\"",
+    "spacing m1 poly 100 touching_illegal \"\"",
+    "edge space poly 100 poly poly 100 \"\"",
+    "edge space m1 100 space,ndiff space,m1 100 \"\" active",
+    "edge4way poly,space poly,ndiff 100 poly,ndiff ndiff 100 \"\"",
+];
+
+#[test]
+fn rules_that_reach_far(rt: HostRuntime) -> Result<(), Fail> {
+    let mut dice = Dice::new(5);
+    for (number, line) in FAR_LINES.iter().enumerate() {
+        let one = technology(rt.alloc(), TWO_PLANES_HEAD, &[*line])?;
+        let rules = rules_of(rt.alloc(), one.as_bytes())?;
+        let field = Field::of_layout(number, 16);
+        expect_same_in_layout(&rt, rt.alloc(), &rules, TWO_PLANES, &mut dice, field)?;
+    }
+    Ok(())
+}
+
+const ONE_PLANE_HEAD: &str = "planes
+ p
+end
+types
+ p q
+end
+";
+
+/// Rules that have space on both sides of their edges, as only those of a single plane can.
+const SPACE_LINES: [&str; 3] = [
+    "edge space space 1 q 0 0 \"q only\"",
+    "edge4way space,q space 2 q space 3 \"\"",
+    "edge4way space,q space,q 1 q q 2 \"\"",
+];
+
+#[test]
+fn space_beside_space(rt: HostRuntime) -> Result<(), Fail> {
+    for line in SPACE_LINES {
+        let one = technology(rt.alloc(), ONE_PLANE_HEAD, &[line])?;
+        expect_same_in_layouts(&rt, rt.alloc(), one.as_bytes(), ONE_PLANE, LAYOUTS)?;
     }
     Ok(())
 }

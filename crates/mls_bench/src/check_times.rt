@@ -1,0 +1,127 @@
+//! Checks of a piece, and how long they take.
+ghost use Rattle.std.specs.Prelude.{◌≡◌};
+ghost use Rattle.mls_checker.specs.Halos.{zone_of};
+
+use crate::places::{CellGrid, checked_piece};
+use crate::scene::Scene;
+use anyhow::{Result, ensure};
+use mls_checker::{Finding, check, why};
+use mls_edgerule::Rules;
+use mls_geom::Rect;
+use mls_plain_check::Forbidden;
+use std::alloc::Global;
+use std::time::Instant;
+
+/// How often the plain program checks a piece, and how often it is checked by tiles after each of these times.
+const PLAIN_ROUNDS: u32 = 30;
+
+const ROUNDS: u32 = 10;
+
+/// The least nanoseconds that each step took.
+#[derive(Clone, Copy)]
+pub struct Times {
+    pub read: u128,
+    pub check: u128,
+    pub why: u128,
+    pub plain: u128,
+}
+
+/// Returns the nanoseconds since an instant, or those of another time if they are fewer.
+fn least(rt: &HostRuntime, nanos: u128, start: Instant) -> Result<u128> {
+    Ok(nanos.min(start.elapsed(rt)?.as_nanos()))
+}
+
+/// Checks a piece by the plain program, and keeps the least time.
+fn check_plainly(
+    rt: &HostRuntime,
+    scene: &Scene,
+    rules: &Rules,
+    piece: Rect,
+    times: &mut Times,
+) -> Result<Forbidden> {
+    let start = Instant::now(rt)?;
+    let forbidden = scene.find_plainly(rt.alloc(), rules, piece)?;
+    times.plain = least(rt, times.plain, start)?;
+    Ok(forbidden)
+}
+
+/// Fails where the plain program found that other rules are violated, or where squares are marked and none is violated, or
+/// the other way round.
+fn expect_same(violated: u128, finding: &Finding, forbidden: &Forbidden) -> Result<()> {
+    let has_marks = !finding.marks().areas().is_empty();
+    ensure!(
+        violated == forbidden.why(finding.piece()) && has_marks == (violated != 0),
+        "the plain program found something else"
+    );
+    Ok(())
+}
+
+/// Reads a piece and checks it, and keeps the least times. Fails where the plain program found something else.
+fn check_by_tiles(
+    rt: &HostRuntime,
+    scene: &mut Scene,
+    rules: &Rules,
+    piece: Rect,
+    forbidden: &Forbidden,
+    times: &mut Times,
+) -> Result<()>
+    requires { scene.old ≡ zone_of rules.now piece }
+    ensures { scene.new ≡ scene.old }
+{
+    let start = Instant::now(rt)?;
+    let snapshot = scene.read(rt.alloc())?;
+    times.read = least(rt, times.read, start)?;
+    let start = Instant::now(rt)?;
+    let violated = why(rules, &snapshot, piece);
+    times.why = least(rt, times.why, start)?;
+    let start = Instant::now(rt)?;
+    let finding = check(rt.alloc(), rules, snapshot, piece)?;
+    times.check = least(rt, times.check, start)?;
+    expect_same(violated, &finding, forbidden)
+}
+
+/// Reads a piece and checks it again and again, once by the plain program too.
+fn check_by_both(
+    rt: &HostRuntime,
+    scene: &mut Scene,
+    rules: &Rules,
+    piece: Rect,
+    times: &mut Times,
+) -> Result<()>
+    requires { scene.old ≡ zone_of rules.now piece }
+    ensures { scene.new ≡ scene.old }
+{
+    let forbidden = check_plainly(rt, scene, rules, piece, times)?;
+    for _ in 0..ROUNDS {
+        check_by_tiles(rt, scene, rules, piece, &forbidden, times)?;
+    }
+    Ok(())
+}
+
+/// Checks a piece of a grid of cells. Returns how many strips a plane has in the zone, and the least times.
+pub fn time_checks(rt: &HostRuntime, rules: &Rules, grid: CellGrid) -> Result<(usize, Times)> {
+    let piece = checked_piece()?;
+    let mut scene = Scene::new(rt.alloc(), grid, piece.grow(rules.halo()))?;
+    let mut times = Times {
+        read: u128::MAX,
+        check: u128::MAX,
+        why: u128::MAX,
+        plain: u128::MAX,
+    };
+    for _ in 0..PLAIN_ROUNDS {
+        check_by_both(rt, &mut scene, rules, piece, &mut times)?;
+    }
+    Ok((scene.strips(), times))
+}
+
+/// Checks a piece of a grid of cells once. Returns how many strips a plane has in the zone, and how many sides were looked at.
+pub fn count_sides(alloc: Global, rules: &Rules, grid: CellGrid) -> Result<(usize, u64)> {
+    let piece = checked_piece()?;
+    let mut scene = Scene::new(alloc, grid, piece.grow(rules.halo()))?;
+    let forbidden = scene.find_plainly(alloc, rules, piece)?;
+    let snapshot = scene.read(alloc)?;
+    let violated = why(rules, &snapshot, piece);
+    let finding = check(alloc, rules, snapshot, piece)?;
+    expect_same(violated, &finding, &forbidden)?;
+    Ok((scene.strips(), finding.edges()))
+}

@@ -1,8 +1,0 @@
--- The grid has what the plane shows in the tiles compared so far.
-use Rattle.std.proofs.Common.{take, All}
-use Rattle.mls_paint.specs.Planes.{picture_in}
-use Rattle.mls_checker.proofs.Copying.{Shows}
-use Rattle.mls_checker.proofs.snapshot.is_copy.Given as goal
-
-abbrev pub invariant-loop-tile : goal.invariant-loop-tile
-invariant-loop-tile l = All (Shows l.grid (picture_in l.fn.pool l.fn.plane)) (take l.tile-index l.tile-items)
