@@ -1,0 +1,11 @@
+pub mod AreaSizes
+pub mod CheckedMarks
+pub mod CheckedSquares
+pub mod DirtySquares
+pub mod KeptLists
+pub mod MarkCounts
+pub mod MarkedRuns
+pub mod PaintedPieces
+pub mod PaintedRuns
+pub mod RangeSums
+pub mod SquareCounts

@@ -1,0 +1,41 @@
+-- What is known of which squares of a layout the rules forbid: some areas await checking, and outside these the marks are right (after Taylor and
+-- Ousterhout 1984: an incremental checker).
+use Rattle.std.specs.Prelude.{◌≡◌, ℕ, true, false, if◌then◌else◌, List, [], Option, Some, None}
+use Rattle.mls_edgerule.specs.declared.edge_rule.EdgeRule.{EdgeRule}
+use Rattle.mls_geom.specs.Layouts.{Layout}
+use Rattle.mls_geom.specs.Rects.{Rect, holds}
+use Rattle.mls_geom.specs.World.{world}
+use Rattle.mls_edgerule.specs.Halos.{halo_of}
+use Rattle.mls_checker.specs.Forbids.{forbidden}
+use Rattle.mls_checker.specs.Marking.{SquareSet, no_squares, squares_of}
+use Rattle.mls_errorplane.specs.DirtyLists.{added, dropped, first_piece_of, zone_round}
+
+-- the marked squares, and the areas that await checking
+pub record Checking : Type 0 where
+  pub marks : SquareSet
+  pub dirty : List Rect
+
+-- nothing is marked, and nothing awaits checking
+abbrev pub clean : Checking
+clean = record { marks = no_squares; dirty = [] }
+
+-- outside the areas the marks are exactly the squares that the rules forbid
+abbrev pub IsChecked : List EdgeRule → Layout → Checking → Type 0
+IsChecked rules layout checking =
+    (x y : ℕ) → holds world x y ≡ true → squares_of checking.dirty x y ≡ false → checking.marks x y ≡ forbidden rules layout x y
+
+-- in the piece the marks become those squares, and elsewhere they stay
+abbrev pub checked_marks : List EdgeRule → Layout → Option Rect → SquareSet → SquareSet
+checked_marks rules layout None marks x y = marks x y
+checked_marks rules layout (Some piece) marks x y = if holds piece x y then forbidden rules layout x y else marks x y
+
+-- the first piece is checked, and awaits checking no longer
+abbrev pub check_step : List EdgeRule → Layout → Checking → Checking
+check_step rules layout checking = record {
+  marks = checked_marks rules layout (first_piece_of checking.dirty) checking.marks;
+  dirty = dropped checking.dirty;
+}
+
+-- the squares of the rectangle, and those that the rules can tell from them, await checking
+abbrev pub soiled : List EdgeRule → Rect → Checking → Checking
+soiled rules rect checking = record checking { dirty = added checking.dirty (zone_round (halo_of rules) rect) }

@@ -1,0 +1,51 @@
+-- A layout's error plane, and its areas that await checking.
+use Rattle.std.specs.Prelude.{◌≡◌, ◌≢◌, ℕ, Bool, nat_lt, true, false, if◌then◌else◌, List, [], ⊤}
+use Rattle.mls_edgerule.specs.declared.edge_rule.EdgeRule.{EdgeRule}
+use Rattle.mls_geom.specs.Layouts.{Layout}
+use Rattle.mls_geom.specs.Pictures.{Picture}
+use Rattle.mls_geom.specs.Rects.{Rect}
+use Rattle.mls_geom.specs.TileCounts.{tile_count}
+use Rattle.mls_geom.specs.World.{world}
+use Rattle.mls_tilepool.specs.Pools.{Pool}
+use Rattle.mls_paint.specs.Planes.{HasStrips, picture_in}
+use Rattle.mls_checker.specs.Marking.{SquareSet}
+use Rattle.mls_errorplane.specs.Checkings.{Checking, check_step}
+use Rattle.mls_errorplane.specs.MarkPlanes.{is_marked}
+use Rattle.mls_errorplane.specs.declared.error_plane.Stepped.{Stepped}
+use Rattle.mls_errorplane.specs.declared.error_plane.Stepped.TheVariants.{Idle, Done, Full, Memory}
+
+-- the owner of the plane's tiles, and the areas
+pub record ErrorPlane : Type 0 where
+  pub owner : ℕ
+  pub dirty : List Rect
+
+-- kind 1 where the set has the square, and kind 0 elsewhere
+abbrev pub marks_picture : SquareSet → Picture
+marks_picture set x y = if set x y then 1 else 0
+
+-- what the plane marks, and the areas
+abbrev pub checking_of : Pool → ErrorPlane → Checking
+checking_of pool errors = record { marks = is_marked (picture_in pool errors.owner); dirty = errors.dirty }
+
+-- the plane is in maximal strips, and shows marks and nothing else
+pub record ShowsMarks (pool : Pool) (owner : ℕ) : Type 0 where
+  pub strips : HasStrips pool owner
+  pub marks : picture_in pool owner ≡ marks_picture (is_marked (picture_in pool owner))
+
+-- an error plane with these marks would have more tiles than the limit
+abbrev pub exceeds : ℕ → SquareSet → Bool
+exceeds limit marks = nat_lt limit (tile_count world (marks_picture marks))
+
+-- how a check step ended, and what is known after it
+abbrev pub HasStepped : List EdgeRule → Layout → ℕ → Checking → Stepped → Checking → Type 0
+HasStepped rules layout limit old Idle new = (old.dirty ≡ []) × (new ≡ old)
+HasStepped rules layout limit old Done new = (old.dirty ≢ []) × (exceeds limit (check_step rules layout old).marks ≡ false) × (new ≡ check_step rules layout old)
+HasStepped rules layout limit old Full new = (old.dirty ≢ []) × (exceeds limit (check_step rules layout old).marks ≡ true) × (new ≡ old)
+HasStepped rules layout limit old Memory new = (old.dirty ≢ []) × (new ≡ old)
+
+-- the fact, unless the step was done
+abbrev pub UnlessDone : Stepped → Type 0 → Type 0
+UnlessDone Idle P = P
+UnlessDone Done P = ⊤
+UnlessDone Full P = P
+UnlessDone Memory P = P

@@ -1,0 +1,172 @@
+//! The list of the areas of a layout that await checking.
+ghost use Rattle.std.specs.Prelude.{◌≡◌, ◌==◌, ◌<◌, ◌≤◌, [], IfOk, IfSome, length};
+ghost use Rattle.std.specs.VecDeque.{deque_capacity, deque_len};
+ghost use Rattle.mls_geom.specs.Rects.{IsRectangleIn};
+ghost use Rattle.mls_geom.specs.World.{world};
+ghost use Rattle.mls_errorplane.specs.MarkPlanes.{most_pieces};
+ghost use Rattle.mls_errorplane.specs.DirtyLists as spec;
+ghost use Rattle.mls_errorplane.specs.DirtyLists.{IsDirtyList, added, dropped, first_piece_of, round_both, united, zone_round};
+
+use mls_geom::Rect;
+use std::alloc::{AllocError, Global};
+use std::collections::VecDeque;
+use std::marker::Model;
+
+/// A list to which an area is added becomes one area where it has more than these.
+const MOST_AREAS: usize = 64;
+
+/// A piece is at most this wide and this high.
+const PIECE_SIDE: u32 = 256;
+
+/// How many pieces [`mark`](crate::mark) takes at most for a finding whose piece is the first piece of a list.
+pub const MARK_ROOM: usize = 32_769;
+
+/// The areas of a layout that await checking, which are checked piece by piece, those added first before others.
+///
+/// All memory is reserved when the list is made.
+#[derive(Drop)]
+pub struct Dirty {
+    areas: VecDeque<Rect>,
+}
+
+impl Model for Dirty {
+    ghost use Rattle.std.specs.Prelude.{◌≤◌, List};
+    ghost use Rattle.std.specs.VecDeque.{deque_capacity};
+    ghost use Rattle.mls_geom.specs.Rects.{Rect};
+    ghost use Rattle.mls_errorplane.specs.DirtyLists.{IsDirtyList};
+
+    ghost Value = { List Rect };
+
+    ghost view = { λ d. d.areas.items };
+
+    ghost invariant = { λ d. IsDirtyList d.areas.items × (66 ≤ deque_capacity d.areas) };
+}
+
+impl Dirty {
+    /// Creates an empty list, and reserves all memory that it takes.
+    pub fn new(alloc: Global) -> Result<Dirty, AllocError>
+        ensures { IfOk result (λ d. d ≡ []) }
+    {
+        Ok(Dirty {
+            areas: VecDeque::with_capacity(alloc, MOST_AREAS + 2)?,
+        })
+    }
+
+    /// Adds the squares of the world that lie in the rectangle or at most `halo` squares away from it, as an area at
+    /// the end.
+    ///
+    /// If there are then more than 64 areas, the smallest rectangle round all of them takes their place.
+    pub fn add(&mut self, rect: Rect, halo: u32)
+        ensures { self.new ≡ added self.old (zone_round halo rect) }
+    {
+        self.areas.push_back_reserved(zone_round(rect, halo));
+        if self.areas.len() > MOST_AREAS {
+            unite(&mut self.areas);
+        }
+    }
+
+    /// Returns the piece that is to be checked next: the lower-left part of the first area, at most 256 by 256.
+    pub fn first_piece(&self) -> Option<Rect>
+        ensures piece { result ≡ first_piece_of self.now }
+        ensures legal { IfSome result (IsRectangleIn world) }
+        ensures few { IfSome result (λ piece. most_pieces piece ≤ MARK_ROOM) }
+    {
+        let first = self.areas.front()?;
+        Some(piece_of(*first))
+    }
+
+    /// Takes the first piece out of the list. What it leaves of the first area stays in the area's place: the part to
+    /// the right, as high as the piece, and then the part above, as wide as the area, unless they are empty.
+    pub fn drop_piece(&mut self)
+        ensures { self.new ≡ dropped self.old }
+    {
+        drop_piece(&mut self.areas);
+    }
+
+    /// Returns how many areas there are.
+    pub fn len(&self) -> usize
+        ensures value { result ≡ length self.now }
+        ensures kept { IsDirtyList self.now }
+    {
+        self.areas.len()
+    }
+
+    /// Returns whether there is no area.
+    pub fn is_empty(&self) -> bool
+        ensures { result ≡ (length self.now == 0) }
+    {
+        self.areas.is_empty()
+    }
+}
+
+/// Returns the squares of the world that lie in the rectangle or at most `halo` squares away from it.
+fn zone_round(rect: Rect, halo: u32) -> Rect
+    ensures value { result ≡ zone_round halo rect }
+    ensures legal { IsRectangleIn world result }
+{
+    let zone = rect.grow(halo);
+    zone.area();
+    zone
+}
+
+/// Returns the lower-left part of an area that is checked at once.
+#[tactic(auto, using(crate::proofs::AreaSizes::few_pieces))]
+fn piece_of(area: Rect) -> Rect
+    ensures value { result ≡ spec.piece_of area }
+    ensures legal { IsRectangleIn world result }
+    ensures few { most_pieces result ≤ MARK_ROOM }
+{
+    let lines = area.area();
+    Rect::between(
+        lines.left,
+        lines.bottom,
+        lines.right.min(lines.left + PIECE_SIDE),
+        lines.top.min(lines.bottom + PIECE_SIDE),
+    )
+}
+
+/// Returns the smallest rectangle round two.
+fn round_both(one: Rect, other: Rect) -> Rect
+    ensures { result ≡ round_both one other }
+{
+    let a = one.area();
+    let b = other.area();
+    Rect::between(
+        a.left.min(b.left),
+        a.bottom.min(b.bottom),
+        a.right.max(b.right),
+        a.top.max(b.top),
+    )
+}
+
+/// Puts the smallest rectangle round all areas in their place.
+fn unite(areas: &mut VecDeque<Rect>)
+    ensures items { areas.new.items ≡ united areas.old.items }
+    ensures room { deque_capacity areas.new ≡ deque_capacity areas.old }
+{
+    let Some(first) = areas.pop_front() else {
+        return;
+    };
+    let all = areas.iter().fold(first, |all, area| round_both(all, *area));
+    areas.clear();
+    areas.push_back_reserved(all);
+}
+
+/// Puts what the first piece leaves of the first area in that area's place.
+fn drop_piece(areas: &mut VecDeque<Rect>)
+    requires { deque_len areas.old < deque_capacity areas.old }
+    ensures items { areas.new.items ≡ dropped areas.old.items }
+    ensures room { deque_capacity areas.new ≡ deque_capacity areas.old }
+{
+    let Some(first) = areas.pop_front() else {
+        return;
+    };
+    let area = first.area();
+    let piece = piece_of(first).area();
+    if piece.top < area.top {
+        areas.push_front_reserved(Rect::between(area.left, piece.top, area.right, area.top));
+    }
+    if piece.right < area.right {
+        areas.push_front_reserved(Rect::between(piece.right, area.bottom, area.right, piece.top));
+    }
+}

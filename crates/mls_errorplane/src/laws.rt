@@ -1,0 +1,70 @@
+//! Laws of lists of areas, of marks and of checking. Each function does nothing, and its contract is the law.
+ghost use Rattle.std.specs.Prelude.{◌≡◌, ℕ, ◌+◌, ◌*◌, ◌<◌, ◌≤◌, ◌^◌, true, ◌||◌, if◌then◌else◌, List, [], ◌∷◌};
+ghost use Rattle.std.specs.List.{All};
+ghost use Rattle.mls_checker.specs.Forbids.{forbidden};
+ghost use Rattle.mls_checker.specs.Marking.{SquareSet, squares_of};
+ghost use Rattle.mls_checker.specs.ZoneLayouts.{AgreeOutside};
+ghost use Rattle.mls_edgerule.specs.declared.edge_rule.EdgeRule.{EdgeRule};
+ghost use Rattle.mls_errorplane.specs.Checkings.{Checking, IsChecked, check_step, soiled};
+ghost use Rattle.mls_errorplane.specs.DirtyLists.{IsDirtyList, added, area_of, dropped, first_piece_of, piece_of, round_all, squares_in};
+ghost use Rattle.mls_errorplane.specs.MarkPlanes.{is_marked, remarked};
+ghost use Rattle.mls_errorplane.specs.Sizes.{size_of};
+ghost use Rattle.mls_geom.specs.Layouts.{Layout};
+ghost use Rattle.mls_geom.specs.Pictures.{Picture};
+ghost use Rattle.mls_geom.specs.Rects.{IsRectangleIn, Rect, holds};
+ghost use Rattle.mls_geom.specs.World.{world};
+
+/// The squares of a list are those of its first piece and those of the list without that piece.
+pub fn dropping_keeps_squares()
+    ensures { (areas : List Rect) (x y : ℕ) → squares_of areas x y ≡ (squares_in (first_piece_of areas) x y || squares_of (dropped areas) x y) }
+{}
+
+/// The areas of a list without its first piece have as many squares fewer as the piece has.
+pub fn dropping_takes_as_many_squares()
+    ensures { (first : Rect) (rest : List Rect) → IsRectangleIn world first
+        → area_of (dropped (first ∷ rest)) + size_of (piece_of first) ≡ area_of (first ∷ rest) }
+{}
+
+/// So each dropped piece makes a list smaller.
+pub fn dropping_makes_smaller()
+    ensures { (first : Rect) (rest : List Rect) → IsRectangleIn world first → area_of (dropped (first ∷ rest)) < area_of (first ∷ rest) }
+{}
+
+/// No list has so many squares that its pieces could not be counted.
+pub fn lists_are_bounded()
+    ensures { (areas : List Rect) → IsDirtyList areas → area_of areas ≤ 65 * 2 ^ 32 }
+{}
+
+/// No square is lost where an area is added, also where one area takes the place of all.
+pub fn adding_keeps_squares()
+    ensures { (areas : List Rect) (area : Rect) (x y : ℕ) → (squares_of areas x y || holds area x y) ≡ true → squares_of (added areas area) x y ≡ true }
+{}
+
+/// The rectangle round all areas lies in every rectangle in which they all lie.
+pub fn uniting_is_smallest()
+    ensures { (extent first : Rect) (rest : List Rect) → IsRectangleIn extent first → All (IsRectangleIn extent) rest → IsRectangleIn extent (round_all first rest) }
+{}
+
+/// Where a rectangle is marked anew, its marked squares are those of the set, and outside it those that were marked.
+pub fn remarking_replaces_marks()
+    ensures { (below : Picture) (rect : Rect) (set : SquareSet) (x y : ℕ)
+        → is_marked (remarked below rect set) x y ≡ (if holds rect x y then set x y else is_marked below x y) }
+{}
+
+/// Where the first piece of the areas that await checking is checked, the marks stay right outside the areas that are left.
+pub fn steps_keep_marks_right()
+    ensures { (rules : List EdgeRule) (layout : Layout) (checking : Checking) → IsChecked rules layout checking
+        → IsChecked rules layout (check_step rules layout checking) }
+{}
+
+/// Where an edit's rectangle is added with the rules' halo, the marks stay right outside the areas, for the edited layout.
+pub fn edits_keep_marks_right()
+    ensures { (rules : List EdgeRule) (rect : Rect) (layout other : Layout) (checking : Checking) → AgreeOutside rect layout other
+        → IsChecked rules layout checking → IsChecked rules other (soiled rules rect checking) }
+{}
+
+/// Where no area awaits checking, the marks are exactly the squares that the rules forbid.
+pub fn no_areas_means_exact_marks()
+    ensures { (rules : List EdgeRule) (layout : Layout) (marks : SquareSet) → IsChecked rules layout (record { marks = marks; dirty = [] })
+        → (x y : ℕ) → holds world x y ≡ true → marks x y ≡ forbidden rules layout x y }
+{}
