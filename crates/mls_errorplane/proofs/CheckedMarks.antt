@@ -1,5 +1,5 @@
 -- What an error plane shows once a finding's piece is marked on it.
-use Rattle.std.proofs.Common.{◌≡◌, ◌≢◌, ℕ, nat_lt, ◌+◌, ◌-◌, ◌*◌, ◌/◌, ◌≤◌, ◌<◌, ◌==◌, Bool, not, ◌&&◌, true, false, if◌then◌else◌, List, [], ◌∷◌, All, Option, Some, None, Result, Ok, Err, IfOk, get_or, slice_get, refl, sym, ap, subst, ◌∙◌, arith}
+use Rattle.std.proofs.Common.{◌≡◌, ◌≢◌, ℕ, nat_lt, ◌<◌, ◌==◌, Bool, not, ◌&&◌, true, false, if◌then◌else◌, List, [], ◌∷◌, All, Option, Some, None, Result, Ok, Err, IfOk, slice_get, refl, sym, ap, subst, ◌∙◌, arith}
 use Rattle.std.proofs.Math.Path.{fun_ext}
 use Rattle.std.proofs.lemmas.Bool.{false_from_ne_true}
 use Rattle.std.proofs.lemmas.Bool.Decides.{nat_tests}
@@ -17,7 +17,6 @@ use Rattle.mls_paint.specs.Planes.{layout_in, picture_at}
 use Rattle.mls_checker.specs.Copies.{Snapshot, copied_layout}
 use Rattle.mls_checker.specs.Findings.{Finding, IsExact}
 use Rattle.mls_checker.specs.Forbids.{forbidden}
-use Rattle.mls_checker.specs.Halos.{zone_of}
 use Rattle.mls_checker.specs.Marking.{Marks, SquareSet, marks}
 use Rattle.mls_checker.specs.ZoneLayouts.{AgreeOutside, within}
 use Rattle.mls_checker.proofs.Locality.{forbidden_same_within}

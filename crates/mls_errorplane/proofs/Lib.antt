@@ -2,6 +2,8 @@ pub mod AreaSizes
 pub mod CheckedMarks
 pub mod CheckedSquares
 pub mod DirtySquares
+pub mod EmptyLayouts
+pub mod FinishedFindings
 pub mod KeptLists
 pub mod MarkCounts
 pub mod MarkedRuns
@@ -9,3 +11,6 @@ pub mod PaintedPieces
 pub mod PaintedRuns
 pub mod RangeSums
 pub mod SquareCounts
+pub mod StepsDone
+pub mod ViolatedNear
+pub mod ViolatedParts

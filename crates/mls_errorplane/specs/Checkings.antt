@@ -1,8 +1,10 @@
 -- What is known of which squares of a layout the rules forbid: some areas await checking, and outside these the marks are right (after Taylor and
 -- Ousterhout 1984: an incremental checker).
-use Rattle.std.specs.Prelude.{◌≡◌, ℕ, true, false, if◌then◌else◌, List, [], Option, Some, None}
+use Rattle.std.specs.Prelude.{◌≡◌, ℕ, Bool, true, false, if◌then◌else◌, List, [], ◌∷◌, Option, Some, None}
+use Rattle.std.specs.List.{list_any}
 use Rattle.mls_edgerule.specs.declared.edge_rule.EdgeRule.{EdgeRule}
 use Rattle.mls_geom.specs.Layouts.{Layout}
+use Rattle.mls_geom.specs.Pictures.{columns, empty_picture, rows}
 use Rattle.mls_geom.specs.Rects.{Rect, holds}
 use Rattle.mls_geom.specs.World.{world}
 use Rattle.mls_edgerule.specs.Halos.{halo_of}
@@ -15,9 +17,13 @@ pub record Checking : Type 0 where
   pub marks : SquareSet
   pub dirty : List Rect
 
--- nothing is marked, and nothing awaits checking
-abbrev pub clean : Checking
-clean = record { marks = no_squares; dirty = [] }
+-- the rules forbid some square of the world
+unfoldable pub forbids_any : List EdgeRule → Layout → Bool
+forbids_any rules layout = list_any (λ y. list_any (λ x. forbidden rules layout x y) (columns world)) (rows world)
+
+-- how checking begins, with an empty layout: nothing is marked, and the whole world awaits checking where the rules forbid a square of it
+abbrev pub opening_checking : List EdgeRule → Checking
+opening_checking rules = record { marks = no_squares; dirty = if forbids_any rules (λ plane. empty_picture) then world ∷ [] else [] }
 
 -- outside the areas the marks are exactly the squares that the rules forbid
 abbrev pub IsChecked : List EdgeRule → Layout → Checking → Type 0

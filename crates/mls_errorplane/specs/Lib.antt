@@ -1,6 +1,9 @@
+pub mod CatchingUp
 pub mod Checkings
 pub mod DirtyLists
+pub mod EmptyLayouts
 pub mod ErrorPlanes
 pub mod MarkPlanes
+pub mod Outcomes
 pub mod PaintedMarks
 pub mod Sizes

@@ -1,16 +1,17 @@
 //! Checking a layout piece by piece, after it was edited.
-ghost use Rattle.std.specs.Prelude.{◌≡◌, ◌≤◌, ℕ, true, IfOk, IfSome, OnErr, OnOk, ◌+◌, length, vec_capacity};
+ghost use Rattle.std.specs.Prelude.{◌≡◌, ◌≤◌, ◌↔◌, ℕ, true, IfOk, IfSome, IsTrue, OnErr, OnOk, ◌+◌, length, vec_capacity};
 ghost use Rattle.std.specs.List.{All};
 ghost use Rattle.mls_checker.specs.Forbids.{forbidden};
-ghost use Rattle.mls_checker.specs.Marking.{marks};
+ghost use Rattle.mls_checker.specs.Marking.{marks, no_squares};
 ghost use Rattle.mls_geom.specs.Rects.{holds};
 ghost use Rattle.mls_geom.specs.World.{world};
 ghost use Rattle.mls_paint.specs.Planes.{AddsOwner, HasStrips, layout_in, picture_in};
 ghost use Rattle.mls_paint.specs.Scratches.{HasRoomFor, KeepsRoom};
 ghost use Rattle.mls_stitch.specs.Tilings.{ChangesOnly, HasPlane};
 ghost use Rattle.mls_tilepool.specs.Pools.{Pool, room_of, unreserved};
-ghost use Rattle.mls_errorplane.specs.Checkings.{clean, soiled};
-ghost use Rattle.mls_errorplane.specs.MarkPlanes.{marked_count};
+ghost use Rattle.mls_errorplane.specs.Checkings.{soiled};
+ghost use Rattle.mls_errorplane.specs.DirtyLists.{IsDirtyList};
+ghost use Rattle.mls_errorplane.specs.MarkPlanes.{marked_count, most_pieces};
 
 use crate::{Dirty, MARK_ROOM, count, mark};
 use mls_checker::{Finding, Snapshot, check};
@@ -35,6 +36,17 @@ pub enum Stepped {
     Memory,
 }
 
+/// How finishing ended, where a finding was made outside.
+#[derive(Clone, Copy, Debug, PartialEq, Eq)]
+pub enum Outcome {
+    /// The finding was marked, and its piece no longer awaits checking.
+    Finished,
+    /// The finding is by other rules, of another piece than the first, or of a layout that has changed since.
+    Stale,
+    /// The error plane would have more tiles than the limit.
+    Full,
+}
+
 /// The marks of a layout, as tiles of a plane in a pool, and the areas of the layout that await checking.
 #[derive(Drop)]
 pub struct ErrorPlane {
@@ -52,29 +64,23 @@ impl Model for ErrorPlane {
 
 impl ErrorPlane {
     ghost use Rattle.mls_errorplane.specs.ErrorPlanes.{HasStepped, ShowsMarks, UnlessDone, checking_of};
+    ghost use Rattle.mls_errorplane.specs.Outcomes.{HasFinished, IsFresh, UnlessFinished};
 
-    /// Creates an error plane without marks, which reserves this many tiles of the pool, and no areas.
+    /// Creates an error plane without marks, which reserves this many tiles of the pool, with these areas.
     ///
-    /// The pool must have room for them.
-    pub fn new(
-        alloc: Global,
-        pool: &mut Pool,
-        reserve: u32,
-        scratch: &mut Scratch,
-    ) -> Result<ErrorPlane, AllocError>
+    /// The pool must have room for the tiles. No memory is taken.
+    pub fn new(dirty: Dirty, pool: &mut Pool, reserve: u32, scratch: &mut Scratch) -> ErrorPlane
         requires some { 1 ≤ reserve }
         requires room { reserve ≤ unreserved pool.old }
         requires scratch { 1 ≤ scratch.old.room }
-        ensures marks { IfOk result (λ errors. ShowsMarks pool.new errors.owner) }
-        ensures clean { IfOk result (λ errors. checking_of pool.new errors ≡ clean) }
-        ensures added { IfOk result (λ errors. AddsOwner pool.old pool.new errors.owner reserve) }
-        ensures taken { OnOk result (unreserved pool.new + reserve ≡ unreserved pool.old) }
-        ensures refused { OnErr result (pool.new ≡ pool.old) }
+        ensures marks { ShowsMarks pool.new result.owner }
+        ensures begins { checking_of pool.new result ≡ record { marks = no_squares; dirty = dirty } }
+        ensures added { AddsOwner pool.old pool.new result.owner reserve }
+        ensures taken { unreserved pool.new + reserve ≡ unreserved pool.old }
         ensures rooms { KeepsRoom scratch.old scratch.new }
     {
-        let dirty = Dirty::new(alloc)?;
         let plane = space_plane(pool, reserve, scratch).unwrap();
-        Ok(ErrorPlane { plane, dirty })
+        ErrorPlane { plane, dirty }
     }
 
     /// Adds a rectangle that was edited, and the squares round it that the rules can tell from it, to the areas that await
@@ -129,6 +135,75 @@ impl ErrorPlane {
         Stepped::Done
     }
 
+    /// Marks a finding that was made outside, and takes its piece out of the areas.
+    ///
+    /// Returns [`Outcome::Stale`] unless the finding is by these rules, of the first piece, and of the layout on these
+    /// planes as it is now in the finding's zone, and then [`Outcome::Full`] if the error plane would have more than
+    /// `limit` tiles. In both cases nothing changes.
+    ///
+    /// No memory is taken. The list of pieces and the scratch, which are lent, must have room for [`MARK_ROOM`] pieces.
+    pub fn finish(
+        &mut self,
+        pool: &mut Pool,
+        planes: &mut [Plane],
+        rules: &Rules,
+        finding: &Finding,
+        limit: u32,
+        pieces: &mut Vec<Piece>,
+        scratch: &mut Scratch,
+    ) -> Outcome
+        requires planes { All (λ owner. HasPlane pool.old owner) planes.old }
+        requires planes_fit { All (λ owner. HasRoomFor pool.old owner scratch.old) planes.old }
+        requires marks { ShowsMarks pool.old self.old.owner }
+        requires marks_fit { HasRoomFor pool.old self.old.owner scratch.old }
+        requires limit { IfSome (room_of pool.old self.old.owner) (λ room. limit ≤ room) }
+        requires pieces_fit { MARK_ROOM ≤ scratch.old.pieces }
+        requires list_fits { MARK_ROOM ≤ vec_capacity pieces.old }
+        ensures finished { HasFinished rules.now (length planes.old) (layout_in pool.old planes.old) limit (checking_of pool.old self.old) finding.now result (checking_of pool.new self.new) }
+        ensures marks { ShowsMarks pool.new self.new.owner }
+        ensures same { UnlessFinished result ((self.new ≡ self.old) × (pool.new ≡ pool.old)) }
+        ensures only { ChangesOnly pool.old pool.new self.old.owner }
+        ensures owner { self.new.owner ≡ self.old.owner }
+        ensures owners { planes.new ≡ planes.old }
+        ensures pieces_room { vec_capacity pieces.new ≡ vec_capacity pieces.old }
+        ensures rooms { KeepsRoom scratch.old scratch.new }
+    {
+        if !self.is_fresh(pool, planes, rules, finding, scratch) {
+            return Outcome::Stale;
+        }
+        let Ok(_) = mark(pool, &mut self.plane, finding, limit, pieces, scratch) else {
+            return Outcome::Full;
+        };
+        self.dirty.drop_piece();
+        Outcome::Finished
+    }
+
+    /// Returns whether the finding is by these rules, of the first piece, and of the layout on these planes as it is now
+    /// in the finding's zone.
+    fn is_fresh(
+        &self,
+        pool: &Pool,
+        planes: &mut [Plane],
+        rules: &Rules,
+        finding: &Finding,
+        scratch: &mut Scratch,
+    ) -> bool
+        requires planes { All (λ owner. HasPlane pool.now owner) planes.old }
+        requires planes_fit { All (λ owner. HasRoomFor pool.now owner scratch.old) planes.old }
+        ensures fresh { IsTrue result ↔ IsFresh rules.now (length planes.old) (layout_in pool.now planes.old) (checking_of pool.now self.now) finding.now }
+        ensures few { IsTrue result → most_pieces finding.now.piece ≤ MARK_ROOM }
+        ensures owners { planes.new ≡ planes.old }
+        ensures rooms { KeepsRoom scratch.old scratch.new }
+    {
+        let Some(piece) = self.dirty.first_piece() else {
+            return false;
+        };
+        if !is_of(finding, piece, rules) {
+            return false;
+        }
+        finding.snapshot().same(pool, planes, scratch)
+    }
+
     /// Returns how many squares are marked.
     pub fn marked(&self, pool: &Pool, scratch: &mut Scratch) -> u64
         requires strips { HasStrips pool.now self.now.owner }
@@ -141,7 +216,8 @@ impl ErrorPlane {
 
     /// Returns how many areas await checking.
     pub fn areas(&self) -> usize
-        ensures { result ≡ length self.now.dirty }
+        ensures value { result ≡ length self.now.dirty }
+        ensures kept { IsDirtyList self.now.dirty }
     {
         self.dirty.len()
     }
@@ -167,4 +243,18 @@ fn check_piece(
     let zone = piece.grow(rules.halo());
     let snapshot = Snapshot::read(alloc, pool, planes, zone, scratch)?;
     check(alloc, rules, snapshot, piece)
+}
+
+/// Returns whether the finding is of this piece and by these rules.
+fn is_of(finding: &Finding, piece: Rect, rules: &Rules) -> bool
+    ensures { IsTrue result ↔ ((finding.now.piece ≡ piece) × (finding.now.rules ≡ rules.now)) }
+{
+    finding.piece() == piece && are_same(finding.rules(), rules)
+}
+
+/// Returns whether the rules are the same, in the same order.
+fn are_same(one: &Rules, other: &Rules) -> bool
+    ensures { IsTrue result ↔ (one.now ≡ other.now) }
+{
+    one.as_slice() == other.as_slice()
 }

@@ -5,12 +5,13 @@ ghost use Rattle.mls_checker.specs.Forbids.{forbidden};
 ghost use Rattle.mls_checker.specs.Marking.{SquareSet, squares_of};
 ghost use Rattle.mls_checker.specs.ZoneLayouts.{AgreeOutside};
 ghost use Rattle.mls_edgerule.specs.declared.edge_rule.EdgeRule.{EdgeRule};
-ghost use Rattle.mls_errorplane.specs.Checkings.{Checking, IsChecked, check_step, soiled};
+ghost use Rattle.mls_errorplane.specs.CatchingUp.{AfterSteps};
+ghost use Rattle.mls_errorplane.specs.Checkings.{Checking, IsChecked, check_step, opening_checking, soiled};
 ghost use Rattle.mls_errorplane.specs.DirtyLists.{IsDirtyList, added, area_of, dropped, first_piece_of, piece_of, round_all, squares_in};
 ghost use Rattle.mls_errorplane.specs.MarkPlanes.{is_marked, remarked};
 ghost use Rattle.mls_errorplane.specs.Sizes.{size_of};
 ghost use Rattle.mls_geom.specs.Layouts.{Layout};
-ghost use Rattle.mls_geom.specs.Pictures.{Picture};
+ghost use Rattle.mls_geom.specs.Pictures.{Picture, empty_picture};
 ghost use Rattle.mls_geom.specs.Rects.{IsRectangleIn, Rect, holds};
 ghost use Rattle.mls_geom.specs.World.{world};
 
@@ -51,10 +52,21 @@ pub fn remarking_replaces_marks()
         → is_marked (remarked below rect set) x y ≡ (if holds rect x y then set x y else is_marked below x y) }
 {}
 
+/// Where checking begins, with an empty layout, the marks are right outside the areas.
+pub fn openings_are_checked()
+    ensures { (rules : List EdgeRule) → IsChecked rules (λ plane. empty_picture) (opening_checking rules) }
+{}
+
 /// Where the first piece of the areas that await checking is checked, the marks stay right outside the areas that are left.
 pub fn steps_keep_marks_right()
     ensures { (rules : List EdgeRule) (layout : Layout) (checking : Checking) → IsChecked rules layout checking
         → IsChecked rules layout (check_step rules layout checking) }
+{}
+
+/// Where one check step after another is done, the marks stay right outside the areas that are left.
+pub fn catching_up_keeps_marks_right()
+    ensures { (rules : List EdgeRule) (layout : Layout) (limit : ℕ) (old new : Checking) → AfterSteps rules layout limit old new
+        → IsChecked rules layout old → IsChecked rules layout new }
 {}
 
 /// Where an edit's rectangle is added with the rules' halo, the marks stay right outside the areas, for the edited layout.

@@ -1,12 +1,18 @@
 //! Areas of a layout that await checking, and the marks that checks leave (Taylor and Ousterhout 1984).
 #![tactic(auto)]
 
+mod catching_up;
 mod dirty;
 mod error_plane;
 pub mod laws;
 mod mark_pieces;
 mod marks;
+mod opening;
+mod violated;
 
+pub use catching_up::CaughtUp;
 pub use dirty::{Dirty, MARK_ROOM};
-pub use error_plane::{ErrorPlane, Stepped};
+pub use error_plane::{ErrorPlane, Outcome, Stepped};
 pub use marks::{count, mark};
+pub use opening::opening_areas;
+pub use violated::why;

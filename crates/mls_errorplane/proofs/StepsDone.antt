@@ -1,0 +1,92 @@
+-- Check steps one after another: what they keep, and that they come to an end.
+use Rattle.std.proofs.Common.{◌≡◌, ◌≢◌, ℕ, zero, suc, ◌<◌, List, [], ◌∷◌, length, get_or, All, refl, sym, ap, subst, arith}
+use Rattle.mls_edgerule.specs.declared.edge_rule.EdgeRule.{EdgeRule}
+use Rattle.mls_geom.specs.Layouts.{Layout}
+use Rattle.mls_geom.specs.Rects.{Rect}
+use Rattle.mls_tilepool.specs.Pools.{Pool}
+use Rattle.mls_stitch.specs.Tilings.{ChangesOnly, HasPlane, shown}
+use Rattle.mls_stitch.proofs.OtherPlanes.{HasPlane-ChangesOnly}
+use Rattle.mls_paint.specs.Planes.{layout_in}
+use Rattle.mls_paint.proofs.OwnerFrames.{layout_in-kept}
+use Rattle.mls_errorplane.specs.CatchingUp.{AfterSteps, HasCaughtUp, Steps}
+use Rattle.mls_errorplane.specs.Checkings.{Checking, IsChecked}
+use Rattle.mls_errorplane.specs.DirtyLists.{IsDirtyList, area_of, dropped}
+use Rattle.mls_errorplane.specs.ErrorPlanes.{HasStepped}
+use Rattle.mls_errorplane.specs.declared.catching_up.CaughtUp.TheVariants as caught_up
+use Rattle.mls_errorplane.specs.declared.error_plane.Stepped.TheVariants as stepped
+use Rattle.mls_errorplane.proofs.AreaSizes.{area_of-dropped-less}
+use Rattle.mls_errorplane.proofs.CheckedSquares.{step-IsChecked}
+
+-- ---- states
+pub AfterSteps-none : (rules : List EdgeRule) (layout : Layout) (limit : ℕ) (old : Checking) → AfterSteps rules layout limit old old
+AfterSteps-none rules layout limit old = (zero, refl)
+
+-- one step more
+pub AfterSteps-more :
+    (rules : List EdgeRule) (layout : Layout) (limit : ℕ) (old mid new : Checking) → AfterSteps rules layout limit old mid
+    → HasStepped rules layout limit mid stepped.Done new → AfterSteps rules layout limit old new
+AfterSteps-more rules layout limit old mid new (count, steps) step = (suc count, (mid, steps, step))
+
+Steps-IsChecked :
+    (rules : List EdgeRule) (layout : Layout) (limit count : ℕ) (old new : Checking) → Steps rules layout limit count old new
+    → IsChecked rules layout old → IsChecked rules layout new
+Steps-IsChecked rules layout limit zero old new same right = subst (IsChecked rules layout) (sym same) right
+Steps-IsChecked rules layout limit (suc count) old new (mid, steps, step) right =
+    subst (IsChecked rules layout) (sym step.2) (step-IsChecked rules layout mid (Steps-IsChecked rules layout limit count old mid steps right))
+
+-- marks that are right outside the areas stay so
+pub AfterSteps-IsChecked :
+    (rules : List EdgeRule) (layout : Layout) (limit : ℕ) (old new : Checking) → AfterSteps rules layout limit old new
+    → IsChecked rules layout old → IsChecked rules layout new
+AfterSteps-IsChecked rules layout limit old new (count, steps) right = Steps-IsChecked rules layout limit count old new steps right
+
+-- ---- how many squares await checking
+smaller : (areas : List Rect) → IsDirtyList areas → areas ≢ [] → area_of (dropped areas) < area_of areas
+smaller [] kept some = absurd (some refl)
+smaller (first ∷ rest) kept some = area_of-dropped-less first rest (kept.legal 0 first (omega arith))
+
+-- a step that is done leaves fewer
+pub area_of-Done :
+    (rules : List EdgeRule) (layout : Layout) (limit : ℕ) (old new : Checking) → IsDirtyList old.dirty → HasStepped rules layout limit old stepped.Done new
+    → area_of new.dirty < area_of old.dirty
+area_of-Done rules layout limit old new kept step =
+    subst (λ (checking : Checking). area_of checking.dirty < area_of old.dirty) (sym step.2) (smaller old.dirty kept step.0)
+
+-- a list without areas is empty
+pub no_areas : (areas : List Rect) → (0 < length areas → ⊥) → areas ≡ []
+no_areas [] none = refl
+no_areas (first ∷ rest) none = absurd (none (omega arith))
+
+-- ---- planes
+-- a change of one owner's tiles leaves the planes of others, and the layout on them
+pub HasPlane-apart :
+    (old new : Pool) (owner : ℕ) (planes : List ℕ) → ChangesOnly old new owner → All (λ other. other ≢ owner) planes
+    → All (HasPlane old) planes → All (HasPlane new) planes
+HasPlane-apart old new owner planes changed apart have k d within =
+    HasPlane-ChangesOnly old new owner (get_or planes k d) changed (apart k d within) (have k d within)
+
+pub layout_in-apart :
+    (old new : Pool) (owner : ℕ) (planes : List ℕ) → ChangesOnly old new owner → All (λ other. other ≢ owner) planes
+    → layout_in new planes ≡ layout_in old planes
+layout_in-apart old new owner planes changed apart =
+    layout_in-kept old new planes (λ k d within. ap shown (changed.others (get_or planes k d) (apart k d within)))
+
+-- ---- how catching up ends
+-- after the steps so far no area is left, or the next step isn't done
+pub HasCaughtUp-Idle :
+    (rules : List EdgeRule) (layout : Layout) (limit : ℕ) (old mid new : Checking) → AfterSteps rules layout limit old mid
+    → HasStepped rules layout limit mid stepped.Idle new → HasCaughtUp rules layout limit old caught_up.Done new
+HasCaughtUp-Idle rules layout limit old mid new after (none, same) =
+    subst (λ (now : Checking). HasCaughtUp rules layout limit old caught_up.Done now) (sym same) (after, none)
+
+pub HasCaughtUp-Full :
+    (rules : List EdgeRule) (layout : Layout) (limit : ℕ) (old mid new : Checking) → AfterSteps rules layout limit old mid
+    → HasStepped rules layout limit mid stepped.Full new → HasCaughtUp rules layout limit old caught_up.Full new
+HasCaughtUp-Full rules layout limit old mid new after (some, more, same) =
+    subst (λ (now : Checking). HasCaughtUp rules layout limit old caught_up.Full now) (sym same) (after, some, more)
+
+pub HasCaughtUp-Memory :
+    (rules : List EdgeRule) (layout : Layout) (limit : ℕ) (old mid new : Checking) → AfterSteps rules layout limit old mid
+    → HasStepped rules layout limit mid stepped.Memory new → HasCaughtUp rules layout limit old caught_up.Memory new
+HasCaughtUp-Memory rules layout limit old mid new after (some, same) =
+    subst (λ (now : Checking). HasCaughtUp rules layout limit old caught_up.Memory now) (sym same) (after, some)

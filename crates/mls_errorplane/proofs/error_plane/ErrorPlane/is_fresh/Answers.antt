@@ -1,0 +1,26 @@
+use Rattle.std.proofs.Common.{length, sym, ap, subst, ◌∙◌}
+use Rattle.std.proofs.lemmas.Bool.{both_ways, false≢true}
+use Rattle.mls_checker.specs.Copies.{Snapshot}
+use Rattle.mls_paint.specs.Planes.{layout_in}
+use Rattle.mls_errorplane.specs.DirtyLists.{first_piece_of}
+use Rattle.mls_errorplane.specs.ErrorPlanes.{ErrorPlane, checking_of}
+use Rattle.mls_errorplane.proofs.FinishedFindings.{IsShown, fresh-same, made-fresh}
+use Rattle.mls_errorplane.proofs.error_plane.ErrorPlane.is_fresh.Goals as goal
+
+pub returns-then-not-is_of-clause-fresh : goal.returns-then-not-is_of-clause-fresh
+returns-then-not-is_of-clause-fresh c =
+    let first = c.in-Some.ensures.piece ∙ ap (λ (e : ErrorPlane). first_piece_of e.dirty) c.self.view_is in (
+      λ is. absurd (false≢true is),
+      λ fresh. absurd (both_ways c.is_of.result c.if-not-is_of.true
+          (c.is_of.ensures.1 (fresh-same c.args.rules.now (length c.args.planes.now) (layout_in c.args.pool.now c.args.planes.now) (checking_of c.args.pool.now c.args.self.now) c.args.finding.now c.in-Some.piece first fresh))),
+    )
+
+pub returns-clause-fresh : goal.returns-clause-fresh
+returns-clause-fresh c =
+    let planes = length c.args.planes.now in
+    let layout = layout_in c.args.pool.now c.args.planes.now in
+    let first = c.in-Some.ensures.piece ∙ ap (λ (e : ErrorPlane). first_piece_of e.dirty) c.self.view_is in (
+      λ is. made-fresh c.args.rules.now planes layout (checking_of c.args.pool.now c.args.self.now) c.args.finding.now c.in-Some.piece first (c.is_of.ensures.0 c.if-not-is_of.false)
+          (subst (λ (s : Snapshot). IsShown s planes layout) c.snapshot.ensures (c.same.ensures.same.0 is)),
+      λ fresh. c.same.ensures.same.1 (subst (λ (s : Snapshot). IsShown s planes layout) (sym c.snapshot.ensures) (fresh.planes, fresh.zone)),
+    )

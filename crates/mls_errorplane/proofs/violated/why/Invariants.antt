@@ -1,0 +1,19 @@
+use Rattle.std.proofs.Common.{◌≡◌, ◌-◌, ◌≤◌}
+use Rattle.mls_checker.specs.Findings.{violated_rules}
+use Rattle.mls_paint.specs.Planes.{layout_in}
+use Rattle.mls_paint.specs.Scratches.{KeepsRoom}
+use Rattle.mls_errorplane.proofs.ViolatedParts.{below}
+use Rattle.mls_errorplane.proofs.violated.why.Given as goal
+
+-- the rules that forbid some square of the rows so far
+abbrev pub invariant-rows : goal.invariant-rows
+invariant-rows l = record {
+  from : l.fn.rect.bottom ≤ l.bottom;
+  to : l.bottom ≤ l.fn.rect.top;
+  value : l.violated ≡ violated_rules l.rules (below l.bottom l.fn.rect) (layout_in l.pool l.fn.planes);
+  owners : l.planes ≡ l.fn.planes;
+  rooms : KeepsRoom l.fn.scratch l.scratch;
+}
+
+abbrev pub decreases-rows : goal.decreases-rows
+decreases-rows l = l.fn.rect.top - l.bottom
