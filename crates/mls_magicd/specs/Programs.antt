@@ -1,9 +1,8 @@
 -- What the program does with its words, its technology and its script. This project's own.
 use Rattle.std.specs.Prelude.{◌≡◌, ◌≢◌, ◌⊎◌, ℕ, Option, Some, None, Ok, Err, List, [], ◌∷◌, ◌++◌, map}
 use Rattle.mls_edgerule.specs.Compiling.{compiled}
-use Rattle.mls_edgerule.specs.declared.edge_rule.EdgeRule.{EdgeRule}
 use Rattle.mls_tech.specs.Readings.{Tech}
-use Rattle.mls_wire.specs.Runs.{OpenSession, Setting}
+use Rattle.mls_wire.specs.Runs.{MarksAreRight, OpenSession, Setting}
 use Rattle.mls_wire.specs.Serving.{HasReason, WritesRun, WritesCutRun}
 use Rattle.mls_wire.specs.Watches.{Watched}
 use Rattle.mls_wire.specs.declared.serving.ServeFault.{ServeFault}
@@ -43,16 +42,12 @@ status_after (Serve fault) = failed
 
 -- ---- the start
 
--- each rule line of the technology compiles
-abbrev pub Compiles : Tech → Type 0
-Compiles tech = (rules : List EdgeRule) × (compiled tech ≡ Ok rules)
-
--- the words have no fault, and the setting has the technology and the quota that they name, no cells, and the whole pool; `reads_as` relates paths to the
--- bytes that their files may be read as
+-- the words have no fault, and the setting has the technology that they name and its compiled rules, the quota that they name, no cells, and the whole
+-- pool; `reads_as` relates paths to the bytes that their files may be read as
 pub record IsBareFor (reads_as : List ℕ → List ℕ → Type 0) (words : List (List ℕ)) (setting : Setting) : Type 0 where
   pub taken : AreTaken words
   pub tech : HasReading reads_as (file_named words) setting.tech
-  pub rules : Compiles setting.tech
+  pub rules : compiled setting.tech ≡ Ok setting.rules
   pub quota : IsQuotaOf (quota_named words) setting.quota
   pub cells : setting.cells ≡ []
   pub room : setting.room ≡ pool_tiles
@@ -106,15 +101,16 @@ RefusesWords words contents old new =
 
 -- ---- the script
 
--- the output gained the reply texts of the script's run over sessions of this setting, none of which is open at first
+-- the output gained the reply texts of the script's run over sessions of this setting, none of which is open at first; after it the marks of the open one
+-- are right outside the areas that await checking
 abbrev pub ServesScript : Setting → Option (List ℕ) → Option (List ℕ) → Option (List ℕ) → Type 0
-ServesScript setting script written now = (last : OpenSession) × WritesRun setting None script written now last
+ServesScript setting script written now = (last : OpenSession) × WritesRun setting None script written now last × MarksAreRight setting last
 
 -- it gained those of a run that was cut by this fault
 abbrev pub FailsInScript : {R W : Type 0} → Setting → Option (List ℕ) → Option (List ℕ) → Option (List ℕ) → Option (List ℕ)
     → Watched R → Watched W → ServeFault → Type 0
 FailsInScript setting script rest written now input output fault =
-    ((last : OpenSession) × WritesCutRun setting None fault script rest written now last) × HasReason fault input output
+    ((last : OpenSession) × WritesCutRun setting None fault script rest written now last × MarksAreRight setting last) × HasReason fault input output
 
 -- so it did, and the fault was reported after the skipped lines
 abbrev pub EndsInScript : {R W E : Type 0} → Setting → Option (List ℕ) → Option (List ℕ) → Option (List ℕ) → Option (List ℕ)

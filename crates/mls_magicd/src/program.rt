@@ -131,6 +131,6 @@ fn bare_server<'a, F: Files, E: Write>(
 {
     let tech = open_technology(alloc, files, options.tech)?;
     report_skipped(faults, tech.skipped());
-    compile(&tech)?;
-    Ok(Solo::new(alloc, tech, options.quota)?)
+    let rules = compile(&tech)?;
+    Ok(Solo::new(alloc, tech, rules, options.quota)?)
 }

@@ -6,8 +6,8 @@ use std::test::Fail;
 
 /// Files by their paths.
 #[derive(Drop)]
-struct NamedFiles<'a> {
-    files: &'a [(&'a str, &'a [u8])],
+pub struct NamedFiles<'a> {
+    pub files: &'a [(&'a str, &'a [u8])],
 }
 
 impl Files for NamedFiles<'_> {
@@ -31,10 +31,10 @@ impl Files for NamedFiles<'_> {
 }
 
 /// Two overlapping rectangles on two planes, as a cell.
-const CELL: &[u8] =
+pub const CELL: &[u8] =
     b"magic\ntech M\ntimestamp 7\n<< poly >>\nrect 0 0 2 4\n<< m1 >>\nrect 1 0 4 3\n<< end >>\n";
 
-const EMPTY: &[u8] = b"magic\n<< end >>\n";
+pub const EMPTY: &[u8] = b"magic\n<< end >>\n";
 
 /// A cell with one rectangle of poly and two of metal.
 const THREE: &[u8] =
@@ -336,10 +336,10 @@ fn a_pool_full_of_cells(rt: HostRuntime) -> Result<(), Fail> {
     let files = NamedFiles {
         files: &[("wide.mag", text.as_bytes())],
     };
-    // A session's two planes take 32896 tiles of the pool's 262144, and each cell takes 8190.
+    // A session's two planes and its error plane take 49344 tiles of the pool's 262144, and each cell takes 8190.
     for (cells, reply) in [
-        (27, b"a opened\n".as_slice()),
-        (28, b"a refused open 3 pool full\n".as_slice()),
+        (25, b"a opened\n".as_slice()),
+        (26, b"a refused open 3 pool full\n".as_slice()),
         (32, b"a refused open 3 pool full\n".as_slice()),
     ] {
         let words = words_for(rt.alloc(), cells, "wide.mag")?;

@@ -1,5 +1,6 @@
 //! Scripts and their replies.
 use crate::devices::ByteReader;
+use mls_edgerule::compile;
 use mls_session::Quota;
 use mls_tech::{TECHNOLOGY_M, Tech};
 use mls_wire::{LineFault, OpenFault, ReadFault, ServeFault, Solo, Watched, WriteFault, serve};
@@ -26,7 +27,9 @@ fn served_with<R: Read + Drop, W: Write + Drop>(
     output: W,
 ) -> Result<(Result<(), ServeFault>, W), Fail> {
     let quota = Quota::new(quota).ok_or("no quota")?;
-    let mut solo = Solo::new(rt.alloc(), Tech::read(rt.alloc(), file)?, quota)?;
+    let tech = Tech::read(rt.alloc(), file)?;
+    let rules = compile(&tech)?;
+    let mut solo = Solo::new(rt.alloc(), tech, rules, quota)?;
     let mut input = Watched::new(input);
     let mut output = Watched::new(output);
     let outcome = serve(rt.alloc(), &mut solo, &mut input, &mut output);
@@ -77,7 +80,7 @@ const ROWS: [(u32, &str, &str); 9] = [
     (
         5,
         "%close a\n%OPEN a\n%open\n%open a b\n%open \u{e9} b\n # x\na\nb box 0 0 4 x\nb what\nb drc check\na what now\na box x 0 4\n",
-        "line 1 fault 1 unknown command\nline 2 fault 1 unknown command\nline 3 fault 3 name\nline 4 fault 1 unknown command\nline 5 fault 3 name\nline 6 fault 3 name\nline 7 fault 1 unknown command\nline 8 fault 2 bad number\nline 9 fault 4 not open\nline 10 fault 1 unknown command\nline 11 fault 1 unknown command\nline 12 fault 1 unknown command\n",
+        "line 1 fault 1 unknown command\nline 2 fault 1 unknown command\nline 3 fault 3 name\nline 4 fault 1 unknown command\nline 5 fault 3 name\nline 6 fault 3 name\nline 7 fault 1 unknown command\nline 8 fault 2 bad number\nline 9 fault 4 not open\nline 10 fault 4 not open\nline 11 fault 1 unknown command\nline 12 fault 1 unknown command\n",
     ),
     // Numbers.
     (

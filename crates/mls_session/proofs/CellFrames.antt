@@ -1,11 +1,11 @@
--- A command changes tiles of the session's planes alone, so the library's cells stay as they are.
+-- A command changes tiles of the drawing's planes alone, so the library's cells stay as they are.
 use Rattle.std.proofs.Common.{◌≡◌, ℕ, suc, List, [], ◌∷◌, All, refl, ap, ◌∙◌, arith}
 use Rattle.mls_tilepool.specs.Pools.{Pool}
 use Rattle.mls_library.specs.Libraries.{IsHome as AreCellsHome, Library, cell_layout}
 use Rattle.mls_library.proofs.KeptCells.{IsCellApart, IsHome-ChangesAmong, cell_layout-ChangesAmong}
 use Rattle.mls_paint.specs.Owners.{ChangesAmong}
 use Rattle.mls_tech.specs.Readings.{Tech}
-use Rattle.mls_session.specs.Sessions.{CanDump, cell_layouts}
+use Rattle.mls_session.specs.Drawings.{CanDump, cell_layouts}
 
 module _ (old new : Pool) (owners : List ℕ) (only : ChangesAmong old new owners) where
   -- they are at home

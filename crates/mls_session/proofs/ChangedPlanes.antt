@@ -16,7 +16,7 @@ use Rattle.mls_paint.specs.Planes.{HasStrips, layout_in, picture_at, picture_in}
 use Rattle.mls_paint.proofs.OwnerFrames.{ChangesAmong-ChangesOnly, ChangesAmong-refl, ChangesAmong-trans, layout_in-ChangesAmong, layout_in-at, picture_in-ChangesAmong, room_of-ChangesAmong}
 use Rattle.mls_session.specs.Changes.{dumped, kind_at, leaves_world, moved}
 use Rattle.mls_session.specs.Inner.{CanChange, IsApartFrom, changed, changed_layout}
-use Rattle.mls_session.specs.Sessions.{IsHome, Session}
+use Rattle.mls_session.specs.Drawings.{IsHome, Drawing}
 use Rattle.mls_session.specs.declared.change.Change.{Change}
 use Rattle.mls_session.specs.declared.change.Change.TheVariants.{Erase, Dump}
 use Rattle.mls_session.proofs.HomePlanes.{IsHome-ChangesOnly, owners_differ}
@@ -43,55 +43,55 @@ CanChange-ChangesAmong old new (Dump planes dx dy) owners apart only can = (
 
 -- ---- plane by plane
 -- the first planes show the change and the others what they showed, only they have changed, and all are at home
-pub record IsMade (old new : Pool) (session : Session) (change : Change) (count : ℕ) : Type 0 where
-  pub done : (k d : ℕ) → k < count → k < length session.planes → picture_in new (get_or session.planes k d) ≡ changed old change k (picture_in old (get_or session.planes k d))
-  pub rest : (k d : ℕ) → count ≤ k → k < length session.planes → picture_in new (get_or session.planes k d) ≡ picture_in old (get_or session.planes k d)
-  pub only : ChangesAmong old new session.planes
-  pub home : IsHome new session
+pub record IsMade (old new : Pool) (drawing : Drawing) (change : Change) (count : ℕ) : Type 0 where
+  pub done : (k d : ℕ) → k < count → k < length drawing.planes → picture_in new (get_or drawing.planes k d) ≡ changed old change k (picture_in old (get_or drawing.planes k d))
+  pub rest : (k d : ℕ) → count ≤ k → k < length drawing.planes → picture_in new (get_or drawing.planes k d) ≡ picture_in old (get_or drawing.planes k d)
+  pub only : ChangesAmong old new drawing.planes
+  pub home : IsHome new drawing
 
-pub IsMade-none : (pool : Pool) (session : Session) (change : Change) → IsHome pool session → IsMade pool pool session change 0
-IsMade-none pool session change home = record {
+pub IsMade-none : (pool : Pool) (drawing : Drawing) (change : Change) → IsHome pool drawing → IsMade pool pool drawing change 0
+IsMade-none pool drawing change home = record {
   done = λ k d before within. absurd (omega (arith, before));
   rest = λ k d after within. refl;
-  only = ChangesAmong-refl pool session.planes;
+  only = ChangesAmong-refl pool drawing.planes;
   home = home;
 }
 
-module _ (old mid : Pool) (session : Session) (change : Change) (i owner : ℕ) (apart : IsApartFrom change session.planes) (made : IsMade old mid session change i) (within : i < length session.planes) (is : owner ≡ get_or session.planes i owner) where
-  at : (d : ℕ) → get_or session.planes i d ≡ owner
-  at d = get_or_default session.planes i d owner within ∙ sym is
+module _ (old mid : Pool) (drawing : Drawing) (change : Change) (i owner : ℕ) (apart : IsApartFrom change drawing.planes) (made : IsMade old mid drawing change i) (within : i < length drawing.planes) (is : owner ≡ get_or drawing.planes i owner) where
+  at : (d : ℕ) → get_or drawing.planes i d ≡ owner
+  at d = get_or_default drawing.planes i d owner within ∙ sym is
 
   -- what the change makes of the next plane depends on what there was at first
   pub changed-IsMade : changed mid change i (picture_in mid owner) ≡ changed old change i (picture_in old owner)
   changed-IsMade =
-      changed-ChangesAmong old mid change session.planes i (picture_in mid owner) apart made.only
+      changed-ChangesAmong old mid change drawing.planes i (picture_in mid owner) apart made.only
       ∙ ap (changed old change i) (ap (picture_in mid) (sym (at 0)) ∙ made.rest i 0 (omega arith) within ∙ ap (picture_in old) (at 0))
 
   module _ (new : Pool) (changes : ChangesOnly mid new owner) (strips : HasStrips new owner) (shows : picture_in new owner ≡ changed mid change i (picture_in mid owner)) where
-    differs : (k d : ℕ) → k ≢ i → k < length session.planes → get_or session.planes k d ≢ owner
-    differs k d other below same = owners_differ session.planes k i d made.home.apart below within other (same ∙ sym (at d))
+    differs : (k d : ℕ) → k ≢ i → k < length drawing.planes → get_or drawing.planes k d ≢ owner
+    differs k d other below same = owners_differ drawing.planes k i d made.home.apart below within other (same ∙ sym (at d))
 
-    kept : (k d : ℕ) → k ≢ i → k < length session.planes → picture_in new (get_or session.planes k d) ≡ picture_in mid (get_or session.planes k d)
-    kept k d other below = ap shown (changes.others (get_or session.planes k d) (differs k d other below))
+    kept : (k d : ℕ) → k ≢ i → k < length drawing.planes → picture_in new (get_or drawing.planes k d) ≡ picture_in mid (get_or drawing.planes k d)
+    kept k d other below = ap shown (changes.others (get_or drawing.planes k d) (differs k d other below))
 
-    next_done : (k d : ℕ) → k < i + 1 → k < length session.planes → picture_in new (get_or session.planes k d) ≡ changed old change k (picture_in old (get_or session.planes k d))
+    next_done : (k d : ℕ) → k < i + 1 → k < length drawing.planes → picture_in new (get_or drawing.planes k d) ≡ changed old change k (picture_in old (get_or drawing.planes k d))
     next_done k d before below = elim (cases_eq k i) [
       | inl same ↦
-          let P : ℕ → Type 0 = λ j. picture_in new (get_or session.planes j d) ≡ changed old change j (picture_in old (get_or session.planes j d)) in
+          let P : ℕ → Type 0 = λ j. picture_in new (get_or drawing.planes j d) ≡ changed old change j (picture_in old (get_or drawing.planes j d)) in
           subst P (sym same) (ap (picture_in new) (at d) ∙ shows ∙ changed-IsMade ∙ ap (λ o. changed old change i (picture_in old o)) (sym (at d)))
       | inr other ↦ kept k d other below ∙ made.done k d (omega (arith, before, other)) below
     ]
 
-    pub IsMade-more : IsMade old new session change (i + 1)
+    pub IsMade-more : IsMade old new drawing change (i + 1)
     IsMade-more = record {
       done = next_done;
       rest = λ k d after below.
           let other : k ≢ i = omega (arith, after) in
           kept k d other below ∙ made.rest k d (omega (arith, after)) below;
       only =
-          ChangesAmong-trans old mid new session.planes made.only
-          (ChangesAmong-ChangesOnly mid new session.planes owner (i, within, sym is) changes);
-      home = IsHome-ChangesOnly mid new session owner changes strips made.home;
+          ChangesAmong-trans old mid new drawing.planes made.only
+          (ChangesAmong-ChangesOnly mid new drawing.planes owner (i, within, sym is) changes);
+      home = IsHome-ChangesOnly mid new drawing owner changes strips made.home;
     }
 
 -- ---- all planes
@@ -123,18 +123,18 @@ changed-past pool (Dump planes dx dy) owners plane apart past =
 
 -- the layout is changed once all planes are
 pub layout_in-IsMade :
-    (old new : Pool) (session : Session) (change : Change) (count : ℕ) → IsApartFrom change session.planes → IsMade old new session change count
-    → length session.planes ≤ count → layout_in new session.planes ≡ changed_layout old change (layout_in old session.planes)
-layout_in-IsMade old new session change count apart made all = fun_ext at_plane
+    (old new : Pool) (drawing : Drawing) (change : Change) (count : ℕ) → IsApartFrom change drawing.planes → IsMade old new drawing change count
+    → length drawing.planes ≤ count → layout_in new drawing.planes ≡ changed_layout old change (layout_in old drawing.planes)
+layout_in-IsMade old new drawing change count apart made all = fun_ext at_plane
   where
-    at_plane : (plane : ℕ) → layout_in new session.planes plane ≡ changed_layout old change (layout_in old session.planes) plane
-    at_plane plane = elim (cases_lt plane (length session.planes)) [
+    at_plane : (plane : ℕ) → layout_in new drawing.planes plane ≡ changed_layout old change (layout_in old drawing.planes) plane
+    at_plane plane = elim (cases_lt plane (length drawing.planes)) [
       | inl within ↦
-          let owner = get_or session.planes plane 0 in
-          let is : owner ≡ get_or session.planes plane owner = get_or_default session.planes plane 0 owner within in
-          layout_in-at new session.planes plane owner within is ∙ made.done plane 0 (omega (arith, within, all)) within
-          ∙ ap (changed old change plane) (sym (layout_in-at old session.planes plane owner within is))
+          let owner = get_or drawing.planes plane 0 in
+          let is : owner ≡ get_or drawing.planes plane owner = get_or_default drawing.planes plane 0 owner within in
+          layout_in-at new drawing.planes plane owner within is ∙ made.done plane 0 (omega (arith, within, all)) within
+          ∙ ap (changed old change plane) (sym (layout_in-at old drawing.planes plane owner within is))
       | inr past ↦
-          layout_in-past new session.planes plane past ∙ sym (changed-past old change session.planes plane apart past)
-          ∙ ap (changed old change plane) (sym (layout_in-past old session.planes plane past))
+          layout_in-past new drawing.planes plane past ∙ sym (changed-past old change drawing.planes plane apart past)
+          ∙ ap (changed old change plane) (sym (layout_in-past old drawing.planes plane past))
     ]

@@ -12,8 +12,8 @@ use Rattle.mls_tech.specs.Readings.{nothing_read}
 use Rattle.mls_paint.specs.Planes.{layout_in, picture_in}
 use Rattle.mls_paint.proofs.OwnerFrames.{layout_in-at}
 use Rattle.mls_session.specs.Inner.{FitsQuota, changed, changed_layout}
-use Rattle.mls_session.specs.Own.{Config, OwnState, change_step, exceeds_quota}
-use Rattle.mls_session.specs.Sessions.{Session}
+use Rattle.mls_session.specs.Own.{Config, Drawn, change_step, exceeds_quota}
+use Rattle.mls_session.specs.Drawings.{Drawing}
 use Rattle.mls_session.specs.declared.change.Change.{Change}
 use Rattle.mls_session.specs.declared.reply.Reply.{Reply}
 use Rattle.mls_session.specs.declared.reply.Reply.TheVariants.{Done, Refused}
@@ -31,31 +31,31 @@ pub exceeds_quota-is :
 exceeds_quota-is config layout planes quota count same = rw (count, same) refl
 
 -- ---- on one plane
-module _ (pool : Pool) (session : Session) (change : Change) (i owner limit : ℕ) (over : Picture) (within : i < length session.planes) (is : owner ≡ get_or session.planes i owner) (same : limit ≡ session.quota) (made : over ≡ changed pool change i (picture_in pool owner)) where
-  made-at : over ≡ changed_layout pool change (layout_in pool session.planes) i
-  made-at = made ∙ ap (changed pool change i) (sym (layout_in-at pool session.planes i owner within is))
+module _ (pool : Pool) (drawing : Drawing) (change : Change) (i owner limit : ℕ) (over : Picture) (within : i < length drawing.planes) (is : owner ≡ get_or drawing.planes i owner) (same : limit ≡ drawing.quota) (made : over ≡ changed pool change i (picture_in pool owner)) where
+  made-at : over ≡ changed_layout pool change (layout_in pool drawing.planes) i
+  made-at = made ∙ ap (changed pool change i) (sym (layout_in-at pool drawing.planes i owner within is))
 
-  pub exceeds-fits : tile_count world over ≤ limit → exceeds session.quota (changed_layout pool change (layout_in pool session.planes)) i ≡ false
+  pub exceeds-fits : tile_count world over ≤ limit → exceeds drawing.quota (changed_layout pool change (layout_in pool drawing.planes)) i ≡ false
   exceeds-fits few =
-      let test : nat_lt session.quota (tile_count world over) ≡ false = grind (arith, nat_tests, few, same) in
-      ap (λ picture. nat_lt session.quota (tile_count world picture)) (sym made-at) ∙ test
+      let test : nat_lt drawing.quota (tile_count world over) ≡ false = grind (arith, nat_tests, few, same) in
+      ap (λ picture. nat_lt drawing.quota (tile_count world picture)) (sym made-at) ∙ test
 
-  pub exceeds-more : (tile_count world over ≤ limit → ⊥) → exceeds session.quota (changed_layout pool change (layout_in pool session.planes)) i ≡ true
+  pub exceeds-more : (tile_count world over ≤ limit → ⊥) → exceeds drawing.quota (changed_layout pool change (layout_in pool drawing.planes)) i ≡ true
   exceeds-more many =
       let more : limit < tile_count world over = elim (cases_lt limit (tile_count world over)) [
         | inl above ↦ above
         | inr few ↦ absurd (many few)
       ] in
-      let test : nat_lt session.quota (tile_count world over) ≡ true = grind (arith, nat_tests, more, same) in
-      ap (λ picture. nat_lt session.quota (tile_count world picture)) (sym made-at) ∙ test
+      let test : nat_lt drawing.quota (tile_count world over) ≡ true = grind (arith, nat_tests, more, same) in
+      ap (λ picture. nat_lt drawing.quota (tile_count world picture)) (sym made-at) ∙ test
 
   -- a plane that fits the quota is painted
   pub ok_where_fits :
-      {T E : Type 0} (painted : Result T E) → FitsQuota (length session.planes) session.quota (changed_layout pool change (layout_in pool session.planes))
+      {T E : Type 0} (painted : Result T E) → FitsQuota (length drawing.planes) drawing.quota (changed_layout pool change (layout_in pool drawing.planes))
       → (IsErr painted → limit < tile_count world over) → IsOk painted
   ok_where_fits (Ok done) fits refused = refl
   ok_where_fits (Err fault) fits refused =
-      let few = subst (λ picture. tile_count world picture ≤ session.quota) (sym made-at) (fits i within) in
+      let few = subst (λ picture. tile_count world picture ≤ drawing.quota) (sym made-at) (fits i within) in
       absurd (omega (arith, few, same, refused refl))
 
 -- ---- on all planes
@@ -77,7 +77,7 @@ pub FitsQuota-tested :
     (fits : Bool) (layout : Layout) (planes quota : ℕ) → ((config : Config) → config.tech.plane_count ≡ planes → config.quota ≡ quota → fits ≡ not (exceeds_quota config layout))
     → fits ≡ true → FitsQuota planes quota layout
 FitsQuota-tested fits layout planes quota tested passed plane within =
-    let config : Config = record { tech = record nothing_read { plane_count = planes }; cells = []; quota = quota } in
+    let config : Config = record { tech = record nothing_read { plane_count = planes }; rules = []; cells = []; quota = quota } in
     elim (cases_lt quota (tile_count world (layout plane))) [
       | inl more ↦
           let test : exceeds quota layout plane ≡ true = grind (arith, nat_tests, more) in
@@ -86,20 +86,20 @@ FitsQuota-tested fits layout planes quota tested passed plane within =
     ]
 
 -- ---- the step
-pub change_step-Refused : (config : Config) (own : OwnState) (layout : Layout) (fits : Bool) → fits ≡ not (exceeds_quota config layout) → fits ≡ false → change_step config own layout ≡ (own, Refused Quota)
+pub change_step-Refused : (config : Config) (own : Drawn) (layout : Layout) (fits : Bool) → fits ≡ not (exceeds_quota config layout) → fits ≡ false → change_step config own layout ≡ (own, Refused Quota)
 change_step-Refused config own layout fits tested failed =
     by (exceeds_quota config layout) (sym failed ∙ tested)
   where
-    by : (more : Bool) → false ≡ not more → ◌≡◌ {A = OwnState × Reply} (if more then (own, Refused Quota) else (record own { layout = layout }, Done)) (own, Refused Quota)
+    by : (more : Bool) → false ≡ not more → ◌≡◌ {A = Drawn × Reply} (if more then (own, Refused Quota) else (record own { layout = layout }, Done)) (own, Refused Quota)
     by true h = refl
     by false h = absurd (cc h)
 
 pub change_step-Done :
-    (config : Config) (own new : OwnState) (layout : Layout) (fits : Bool) → fits ≡ not (exceeds_quota config layout) → fits ≡ true → new ≡ record own { layout = layout }
+    (config : Config) (own new : Drawn) (layout : Layout) (fits : Bool) → fits ≡ not (exceeds_quota config layout) → fits ≡ true → new ≡ record own { layout = layout }
     → change_step config own layout ≡ (new, Done)
 change_step-Done config own new layout fits tested passed is =
     by (exceeds_quota config layout) (sym passed ∙ tested) ∙ ap (λ state. (state, Done)) (sym is)
   where
-    by : (more : Bool) → true ≡ not more → ◌≡◌ {A = OwnState × Reply} (if more then (own, Refused Quota) else (record own { layout = layout }, Done)) (record own { layout = layout }, Done)
+    by : (more : Bool) → true ≡ not more → ◌≡◌ {A = Drawn × Reply} (if more then (own, Refused Quota) else (record own { layout = layout }, Done)) (record own { layout = layout }, Done)
     by true h = absurd (cc h)
     by false h = refl

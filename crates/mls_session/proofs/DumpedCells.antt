@@ -11,8 +11,8 @@ use Rattle.mls_library.specs.Libraries.{Library, NamedCell, cell_layout}
 use Rattle.mls_paint.specs.Planes.{layout_in, picture_in}
 use Rattle.mls_paint.proofs.OwnerFrames.{layout_in-at}
 use Rattle.mls_session.specs.Changes.{layout_leaves_world, leaves_world}
-use Rattle.mls_session.specs.Own.{Config, OwnState, cell_at, change_step, dump_step, dumped_layout}
-use Rattle.mls_session.specs.Sessions.{cell_layouts}
+use Rattle.mls_session.specs.Own.{Config, Drawn, cell_at, change_step, dump_step, dumped_layout}
+use Rattle.mls_session.specs.Drawings.{cell_layouts}
 use Rattle.mls_session.specs.declared.reply.Reply.TheVariants.{Refused}
 use Rattle.mls_session.specs.declared.refusal.Refusal.TheVariants.{CellOutside}
 use Rattle.mls_session.proofs.FirstPlanes.{any_at}
@@ -53,7 +53,7 @@ each_stays pool planes dx dy none k d within =
     ∙ false_from_ne_true (test k) (λ leaves. both_ways (list_any test (range_with_len 0 (length planes))) none (any_at test (length planes) k within leaves))
 
 -- ---- the step
-module _ (config : Config) (own : OwnState) (cell : Option ℕ) (layout : Layout) (dx dy : ℤ) (planes : ℕ) (found : cell_at config cell ≡ Some layout) (count : config.tech.plane_count ≡ planes) where
+module _ (config : Config) (own : Drawn) (cell : Option ℕ) (layout : Layout) (dx dy : ℤ) (planes : ℕ) (found : cell_at config cell ≡ Some layout) (count : config.tech.plane_count ≡ planes) where
   pub dump_step-CellOutside : layout_leaves_world planes layout dx dy ≡ true → dump_step config own (cell_at config cell) dx dy ≡ (own, Refused CellOutside)
   dump_step-CellOutside leaves = rw (found, count, leaves) refl
 

@@ -13,7 +13,7 @@ use Rattle.mls_geom.specs.declared.rect.RectFault.{RectFault}
 use Rattle.mls_geom.specs.declared.rect.RectFault.TheVariants.{Empty, Outside}
 use Rattle.mls_geom.proofs.Holds.{between_holds, holds_between}
 use Rattle.mls_session.specs.Changes.{has_square}
-use Rattle.mls_session.specs.Inner.{moved_line, moved_rect, or_none}
+use Rattle.mls_session.specs.Bounds.{moved_line, moved_rect, or_none}
 
 -- ---- lines
 -- the world has no line at this coordinate, counted as the program does
@@ -226,7 +226,7 @@ module _ (e r : Rect) (dx dy : ℤ) (x y : ℕ) (moved : IsMoved e r dx dy) wher
 has_square-from : (x y : ℤ) → pos 4161536 ≤ℤ x → x <ℤ pos 4227072 → pos 4161536 ≤ℤ y → y <ℤ pos 4227072 → has_square x y ≡ true
 has_square-from x y a b c d = grind (arith, ints)
 
-has_square-to : (x y : ℤ) → has_square x y ≡ true → (pos 4161536 ≤ℤ x) × (x <ℤ pos 4227072) × (pos 4161536 ≤ℤ y) × (y <ℤ pos 4227072)
+pub has_square-to : (x y : ℤ) → has_square x y ≡ true → (pos 4161536 ≤ℤ x) × (x <ℤ pos 4227072) × (pos 4161536 ≤ℤ y) × (y <ℤ pos 4227072)
 has_square-to x y h = (grind (arith, ints), grind (arith, ints), grind (arith, ints), grind (arith, ints))
 
 -- the world has each square of a rectangle that stays
@@ -239,10 +239,10 @@ has_square-IsMoved e r dx dy x y moved inside =
     (omega (arith, ints, lines.2, moved.bottom, moved.legal.bottom_in))
     (omega (arith, ints, lines.3, moved.top, moved.legal.top_in))
 
-not_beyond : (z : ℤ) → pos 4161536 ≤ℤ z → z ≤ℤ pos 4227072 → is_beyond z ≡ false
+pub not_beyond : (z : ℤ) → pos 4161536 ≤ℤ z → z ≤ℤ pos 4227072 → is_beyond z ≡ false
 not_beyond z low high = grind (arith, ints)
 
-none_of : (a b c d : Bool) → a ≡ false → b ≡ false → c ≡ false → d ≡ false → (a || b || c || d) ≡ false
+pub none_of : (a b c d : Bool) → a ≡ false → b ≡ false → c ≡ false → d ≡ false → (a || b || c || d) ≡ false
 none_of a b c d ha hb hc hd = rw (ha, hb, hc, hd) refl
 
 -- and lacks one of the squares of a rectangle that doesn't

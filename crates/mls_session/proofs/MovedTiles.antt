@@ -21,7 +21,7 @@ use Rattle.mls_stitch.specs.declared.laid_tile.LaidTile.{LaidTile}
 use Rattle.mls_stitch.proofs.ShownTiles.{KeysDiffer, shown-inside, shown-outside}
 use Rattle.mls_stitch.proofs.Sides.{legal-AreBlocks}
 use Rattle.mls_session.specs.Changes.{dumped, has_square, kind_at, leaves_world, moved}
-use Rattle.mls_session.specs.Inner.{moved_rect}
+use Rattle.mls_session.specs.Bounds.{moved_rect}
 use Rattle.mls_session.proofs.MovedRects.{IsMoved-moved_rect, has_square-IsMoved, holds-IsMoved, holds_at, square-leaves}
 use Rattle.mls_session.proofs.TilePieces.{ArePatches, is_covered}
 
@@ -61,7 +61,7 @@ dumps-space dx dy tile space x y =
 
 -- ---- the test for squares that leave the world
 -- a square of the world passes it
-leaves_world-at :
+pub leaves_world-at :
     (picture : Picture) (dx dy : ℤ) (x y : ℕ) → holds world x y ≡ true → (not (picture x y == 0) && not (has_square (pos x +ℤ dx) (pos y +ℤ dy))) ≡ true
     → leaves_world picture dx dy ≡ true
 unfolding leaves_world
@@ -99,14 +99,14 @@ module _ (tiles : List (ℕ × Tile)) (list : List LaidTile) (plane : IsPlane ti
   laid_there : (tile : LaidTile) → Contains list tile → block_at tiles tile.id ≡ Some tile.piece
   laid_there tile there = (All-contains (IsFound (block_at tiles) world) list tile found.each there).laid
 
-  shows_there : (tile : LaidTile) (x y : ℕ) → Contains list tile → holds tile.piece.rect x y ≡ true → shown tiles x y ≡ tile.piece.kind
+  pub shows_there : (tile : LaidTile) (x y : ℕ) → Contains list tile → holds tile.piece.rect x y ≡ true → shown tiles x y ≡ tile.piece.kind
   shows_there tile x y there inside = shown-inside tiles tile.id tile.piece x y plane differ (laid_there tile there) inside
 
   pub legal_there : (tile : LaidTile) → Contains list tile → IsRectangleIn world tile.piece.rect
   legal_there tile there = legal-AreBlocks (block_at tiles) tile.id tile.piece plane.tiling (laid_there tile there)
 
   -- a square of the plane that isn't space is in a tile of its kind
-  tile_there : (x y : ℕ) → not (shown tiles x y == 0) ≡ true → (tile : LaidTile) × Contains list tile × (holds tile.piece.rect x y ≡ true)
+  pub tile_there : (x y : ℕ) → not (shown tiles x y == 0) ≡ true → (tile : LaidTile) × Contains list tile × (holds tile.piece.rect x y ≡ true)
   tile_there x y some = elim (cases_Bool (holds world x y)) [
     | inl inside ↦
         let (k, tile, within, is, held) = found.whole x y inside in

@@ -1,4 +1,4 @@
--- A session is opened plane by plane.
+-- A drawing is opened plane by plane.
 use Rattle.std.proofs.Common.{◌≡◌, ◌≢◌, ℕ, zero, suc, ◌+◌, ◌*◌, List, [], ◌∷◌, ◌++◌, length, get_or, None, All, refl, ap, ◌∙◌, subst, length-append, add-mul, arith}
 use Rattle.std.proofs.Math.Path.{fun_ext}
 use Rattle.std.proofs.lemmas.List.Elements.{All-push}
@@ -8,8 +8,8 @@ use Rattle.mls_stitch.specs.Tilings.{shown}
 use Rattle.mls_paint.specs.Owners.{AddsOwners}
 use Rattle.mls_paint.specs.Planes.{AddsOwner, layout_in, picture_in}
 use Rattle.mls_paint.proofs.OwnerFrames.{AddsOwners-push}
-use Rattle.mls_session.specs.Own.{opening}
-use Rattle.mls_session.specs.Sessions.{state_of}
+use Rattle.mls_session.specs.Own.{blank}
+use Rattle.mls_session.specs.Drawings.{drawn_of}
 
 -- the planes show nothing
 abbrev pub AreSpace : Pool → List ℕ → Type 0
@@ -20,9 +20,9 @@ layout_in-AreSpace pool [] space plane = refl
 layout_in-AreSpace pool (owner ∷ owners) space zero = space 0 owner (omega arith)
 layout_in-AreSpace pool (owner ∷ owners) space (suc plane) = layout_in-AreSpace pool owners (λ k d within. space (suc k) d (omega (arith, within))) plane
 
--- so their session is in the opening state
-pub state_of-opening : (pool : Pool) (owners : List ℕ) (quota : ℕ) → AreSpace pool owners → state_of pool (record { box = None; planes = owners; quota = quota }) ≡ opening
-state_of-opening pool owners quota space = ap (λ layout. record { box = None; layout = layout }) (fun_ext (layout_in-AreSpace pool owners space))
+-- so their drawing is blank
+pub drawn_of-blank : (pool : Pool) (owners : List ℕ) (quota : ℕ) → AreSpace pool owners → drawn_of pool (record { box = None; planes = owners; quota = quota }) ≡ blank
+drawn_of-blank pool owners quota space = ap (λ layout. record { box = None; layout = layout }) (fun_ext (layout_in-AreSpace pool owners space))
 
 -- one plane of space more
 pub AreSpace-push :

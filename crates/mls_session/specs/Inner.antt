@@ -1,13 +1,12 @@
 -- The words of private contracts. A caller needs none of them.
-use Rattle.std.specs.Prelude.{◌≡◌, ℕ, ℤ, ◌+ℤ◌, ◌-ℤ◌, pos, ◌<◌, ◌≤◌, false, Option, Some, None, Result, Ok, Err, List, IfSome, length, map}
+use Rattle.std.specs.Prelude.{◌≡◌, ℕ, ◌<◌, ◌≤◌, false, min, max, Option, Some, None, List, IfSome, length, map}
 use Rattle.std.specs.List.{All, Contains}
 use Rattle.mls_geom.specs.Layouts.{Layout}
 use Rattle.mls_geom.specs.Pictures.{Picture}
 use Rattle.mls_geom.specs.Rects.{Rect}
 use Rattle.mls_geom.specs.StripLists.{strips_of}
 use Rattle.mls_geom.specs.TileCounts.{tile_count}
-use Rattle.mls_geom.specs.World.{origin, rect_of, world}
-use Rattle.mls_geom.specs.declared.rect.RectFault.{RectFault}
+use Rattle.mls_geom.specs.World.{world}
 use Rattle.mls_library.specs.Libraries.{IsFrozen}
 use Rattle.mls_paint.specs.Planes.{layout_in, picture_in}
 use Rattle.mls_stitch.specs.declared.laid_tile.LaidTile.{LaidTile}
@@ -16,17 +15,11 @@ use Rattle.mls_session.specs.Changes.{dumped, erased, leaves_world}
 use Rattle.mls_session.specs.declared.change.Change.{Change}
 use Rattle.mls_session.specs.declared.change.Change.TheVariants.{Erase, Dump}
 
-abbrev pub or_none : Result Rect RectFault → Option Rect
-or_none (Ok rect) = Some rect
-or_none (Err fault) = None
-
--- a line of the world moved by z, as users count it
-abbrev pub moved_line : ℕ → ℤ → ℤ
-moved_line line z = pos line -ℤ pos origin +ℤ z
-
--- the rectangle moved to the right by dx and up by dy, if the world has it there
-unfoldable pub moved_rect : Rect → ℤ → ℤ → Option Rect
-moved_rect rect dx dy = or_none (rect_of (moved_line rect.left dx) (moved_line rect.bottom dy) (moved_line rect.right dx) (moved_line rect.top dy))
+-- the smallest rectangle round both, where there may be only one of them or none
+abbrev pub round_both : Option Rect → Option Rect → Option Rect
+round_both None other = other
+round_both (Some a) None = Some a
+round_both (Some a) (Some b) = Some (record { left = min a.left b.left; bottom = min a.bottom b.bottom; right = max a.right b.right; top = max a.top b.top })
 
 -- what a change makes of what a plane shows
 abbrev pub changed : Pool → Change → ℕ → Picture → Picture

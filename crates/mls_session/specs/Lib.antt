@@ -1,4 +1,6 @@
+pub mod Bounds
 pub mod Changes
+pub mod Drawings
 pub mod Inner
 pub mod Own
 pub mod Quotas

@@ -1,10 +1,17 @@
 -- One session's machine: its own state, and what each command does to it. This project's own.
-use Rattle.std.specs.Prelude.{◌≡◌, ℕ, ℤ, ◌==◌, nat_le, nat_lt, if◌then◌else◌, Bool, not, Option, Some, None, Result, Ok, Err, List, length, slice_get}
-use Rattle.std.specs.List.{list_all, list_any, range_with_len}
+use Rattle.std.specs.Prelude.{◌≡◌, ℕ, ℤ, ◌==◌, nat_le, nat_lt, if◌then◌else◌, Bool, not, Option, Some, None, Result, Ok, Err, List, length, slice_get, ◌≢◌, ◌⊎◌}
+use Rattle.std.specs.List.{count_by, list_all, list_any, range_with_len, sum_by}
 use Rattle.std.specs.Option.{option_and_then}
+use Rattle.mls_edgerule.specs.declared.edge_rule.EdgeRule.{EdgeRule}
+use Rattle.mls_checker.specs.Findings.{violated_rules}
+use Rattle.mls_checker.specs.Marking.{SquareSet}
+use Rattle.mls_errorplane.specs.CatchingUp.{HasCaughtUp}
+use Rattle.mls_errorplane.specs.Checkings.{Checking, opening_checking, soiled}
+use Rattle.mls_errorplane.specs.declared.catching_up.CaughtUp.{CaughtUp}
+use Rattle.mls_errorplane.specs.declared.catching_up.CaughtUp.TheVariants.{Done as AllChecked, Full as MarksFull, Memory as OutOfMemory}
 use Rattle.mls_geom.specs.Rects.{Rect}
 use Rattle.mls_geom.specs.Layouts.{Layout}
-use Rattle.mls_geom.specs.Pictures.{Picture, painted, shows, empty_picture}
+use Rattle.mls_geom.specs.Pictures.{Picture, columns, empty_picture, painted, rows, shows}
 use Rattle.mls_geom.specs.TileCounts.{tile_count}
 use Rattle.mls_geom.specs.World.{world, rect_of}
 use Rattle.mls_geom.specs.declared.rect.RectFault.{RectFault}
@@ -12,26 +19,38 @@ use Rattle.mls_geom.specs.declared.rect.RectFault.TheVariants.{Empty, Outside}
 use Rattle.mls_kinds.specs.KindSets.{members, set_of}
 use Rattle.mls_library.specs.SavedCells.{saved_line_count}
 use Rattle.mls_tech.specs.Readings.{Tech, plane_of_type}
+use Rattle.mls_session.specs.Bounds.{dumped_rect}
 use Rattle.mls_session.specs.Changes.{dumped, erased, layout_leaves_world}
 use Rattle.mls_session.specs.declared.command.Command.{Command}
-use Rattle.mls_session.specs.declared.command.Command.TheVariants.{Box, Paint, Erase, Dump, What, Save}
+use Rattle.mls_session.specs.declared.command.Command.TheVariants.{Box, Paint, Erase, Dump, What, Save, Check, CatchUp, Why, Count}
 use Rattle.mls_session.specs.declared.reply.Reply.{Reply}
-use Rattle.mls_session.specs.declared.reply.Reply.TheVariants.{Done, Kinds, Saved, Refused}
-use Rattle.mls_session.specs.declared.refusal.Refusal.TheVariants.{EmptyBox, OutsideWorld, NoBox, UnknownType, Quota, UnknownCell, CellOutside}
+use Rattle.mls_session.specs.declared.reply.Reply.TheVariants.{Done, Kinds, Saved, Count as Counted, Why as WhyRules, Refused, Stopped}
+use Rattle.mls_session.specs.declared.refusal.Refusal.TheVariants.{EmptyBox, OutsideWorld, NoBox, UnknownType, Quota, UnknownCell, CellOutside, Memory}
 
--- what no command changes: the technology, the layouts of the library's cells, and the most tiles that a plane may have
+-- what no command changes: the technology, its compiled rules, the layouts of the library's cells, and the most tiles that a plane may have
 pub record Config : Type 0 where
   pub tech : Tech
+  pub rules : List EdgeRule
   pub cells : List Layout
   pub quota : ℕ
 
-pub record OwnState : Type 0 where
+-- the box, if one is set, and the layout
+pub record Drawn : Type 0 where
   pub box : Option Rect
   pub layout : Layout
 
+-- no box, and nothing but space
+abbrev pub blank : Drawn
+blank = record { box = None; layout = λ plane. empty_picture }
+
+-- what is drawn, and what is known of which squares of it the rules forbid: the marked squares, and the areas that await checking
+pub record OwnState : Type 0 where
+  pub drawn : Drawn
+  pub checking : Checking
+
 -- how a session begins
-abbrev pub opening : OwnState
-opening = record { box = None; layout = λ plane. empty_picture }
+abbrev pub opening : List EdgeRule → OwnState
+opening rules = record { drawn = blank; checking = opening_checking rules }
 
 -- ---- the layout that commands make
 -- the layout with one plane's picture in place of its own
@@ -65,53 +84,53 @@ are_types tech kinds = list_all (λ kind. nat_le kind (length tech.type_planes))
 
 -- ---- the commands
 -- the box becomes the rectangle, or is refused by its first fault
-abbrev pub box_step : OwnState → Result Rect RectFault → OwnState × Reply
+abbrev pub box_step : Drawn → Result Rect RectFault → Drawn × Reply
 box_step own (Ok e) = (record own { box = Some e }, Done)
 box_step own (Err Empty) = (own, Refused EmptyBox)
 box_step own (Err Outside) = (own, Refused OutsideWorld)
 
 -- the plane becomes the picture, unless it would have more tiles than the quota
-abbrev pub repaint_step : Config → OwnState → ℕ → Picture → OwnState × Reply
+abbrev pub repaint_step : Config → Drawn → ℕ → Picture → Drawn × Reply
 repaint_step config own plane picture =
     if nat_lt config.quota (tile_count world picture) then (own, Refused Quota)
     else (record own { layout = with_plane own.layout plane picture }, Done)
 
 -- the box is painted with the type, on the type's plane
-abbrev pub paint_on : Config → OwnState → Rect → ℕ → Option ℕ → OwnState × Reply
+abbrev pub paint_on : Config → Drawn → Rect → ℕ → Option ℕ → Drawn × Reply
 paint_on config own e kind None = (own, Refused UnknownType)
 paint_on config own e kind (Some plane) = repaint_step config own plane (painted (own.layout plane) (record { rect = e; kind = kind }))
 
-abbrev pub paint_in : Config → OwnState → Rect → Option ℕ → OwnState × Reply
+abbrev pub paint_in : Config → Drawn → Rect → Option ℕ → Drawn × Reply
 paint_in config own e None = (own, Refused UnknownType)
 paint_in config own e (Some kind) = paint_on config own e kind (plane_of_type config.tech.type_planes kind)
 
-abbrev pub paint_step : Config → OwnState → Option Rect → Option ℕ → OwnState × Reply
+abbrev pub paint_step : Config → Drawn → Option Rect → Option ℕ → Drawn × Reply
 paint_step config own None kind = (own, Refused NoBox)
 paint_step config own (Some e) kind = paint_in config own e kind
 
 -- the layout becomes another one on all planes, unless one of them would have more tiles than the quota
-abbrev pub change_step : Config → OwnState → Layout → OwnState × Reply
+abbrev pub change_step : Config → Drawn → Layout → Drawn × Reply
 change_step config own layout = if exceeds_quota config layout then (own, Refused Quota) else (record own { layout = layout }, Done)
 
 -- these types are erased in the box, on each plane
-abbrev pub erase_in : Config → OwnState → Rect → Option ℕ → OwnState × Reply
+abbrev pub erase_in : Config → Drawn → Rect → Option ℕ → Drawn × Reply
 erase_in config own e None = (own, Refused UnknownType)
 erase_in config own e (Some kinds) =
     if not (are_types config.tech kinds) then (own, Refused UnknownType) else change_step config own (erased_layout own.layout e kinds)
 
-abbrev pub erase_step : Config → OwnState → Option Rect → Option ℕ → OwnState × Reply
+abbrev pub erase_step : Config → Drawn → Option Rect → Option ℕ → Drawn × Reply
 erase_step config own None kinds = (own, Refused NoBox)
 erase_step config own (Some e) kinds = erase_in config own e kinds
 
 -- the cell is dumped on all planes, unless a square of it would leave the world
-abbrev pub dump_step : Config → OwnState → Option Layout → ℤ → ℤ → OwnState × Reply
+abbrev pub dump_step : Config → Drawn → Option Layout → ℤ → ℤ → Drawn × Reply
 dump_step config own None dx dy = (own, Refused UnknownCell)
 dump_step config own (Some cell) dx dy =
     if layout_leaves_world config.tech.plane_count cell dx dy then (own, Refused CellOutside)
     else change_step config own (dumped_layout own.layout cell dx dy)
 
 -- the types in the box
-abbrev pub what_step : Config → OwnState → Option Rect → OwnState × Reply
+abbrev pub what_step : Config → Drawn → Option Rect → Drawn × Reply
 what_step config own None = (own, Refused NoBox)
 what_step config own (Some e) = (own, Kinds (types_in config.tech.plane_count own.layout e))
 
@@ -119,15 +138,71 @@ what_step config own (Some e) = (own, Kinds (types_in config.tech.plane_count ow
 abbrev pub cell_at : Config → Option ℕ → Option Layout
 cell_at config cell = option_and_then (slice_get config.cells) cell
 
--- the state after a command, and the reply to it
-unfoldable pub own_step : Config → OwnState → Command → OwnState × Reply
-own_step config own (Box left bottom right top) = box_step own (rect_of left bottom right top)
-own_step config own (Paint kind) = paint_step config own own.box kind
-own_step config own (Erase kinds) = erase_step config own own.box kinds
-own_step config own (Dump cell dx dy) = dump_step config own (cell_at config cell) dx dy
-own_step config own What = what_step config own own.box
-own_step config own Save = (own, Saved (saved_line_count config.tech own.layout))
+-- ---- areas that await checking
+-- where an edit is accepted, the rectangle that it changed, if it changed one, awaits checking
+abbrev pub soiled_after : List EdgeRule → Option Rect → Reply → Checking → Checking
+soiled_after rules (Some rect) Done checking = soiled rules rect checking
+soiled_after rules _ _ checking = checking
 
+abbrev pub edit_step : Config → OwnState → Option Rect → Drawn × Reply → OwnState × Reply
+edit_step config own rect step = (record { drawn = step.0; checking = soiled_after config.rules rect step.1 own.checking }, step.1)
+
+-- the smallest rectangle round the squares other than space of the cell, moved
+abbrev pub dumped_in : Config → Option Layout → ℤ → ℤ → Option Rect
+dumped_in config None dx dy = None
+dumped_in config (Some cell) dx dy = dumped_rect config.tech.plane_count cell dx dy
+
+-- the box changes nothing of what is drawn
+abbrev pub check_in : Drawn → Option Rect → Drawn × Reply
+check_in drawn None = (drawn, Refused NoBox)
+check_in drawn (Some e) = (drawn, Done)
+
+-- ---- marks
+-- the number of marked squares of the world
+unfoldable pub marked_squares : SquareSet → ℕ
+marked_squares marks = sum_by (λ y. count_by (λ x. marks x y) (columns world)) (rows world)
+
+-- how many squares are marked, and how many areas await checking
+abbrev pub count_step : OwnState → OwnState × Reply
+count_step own = (own, Counted (marked_squares own.checking.marks) (length own.checking.dirty))
+
+-- the rules that forbid a square of the box, in the layout as it is now
+abbrev pub why_step : Config → OwnState → Option Rect → OwnState × Reply
+why_step config own None = (own, Refused NoBox)
+why_step config own (Some e) = (own, WhyRules (violated_rules config.rules e own.drawn.layout))
+
+-- these rules, unless there is a box and memory runs out
+abbrev pub AnswersWhy : Config → OwnState → Reply → OwnState → Type 0
+AnswersWhy config old reply new = (why_step config old old.drawn.box ≡ (new, reply)) ⊎ ((old.drawn.box ≢ None) × (reply ≡ Refused Memory) × (new ≡ old))
+
+-- the number of lines of the layout's text
+abbrev pub save_step : Config → OwnState → OwnState × Reply
+save_step config own = (own, Saved (saved_line_count config.tech own.drawn.layout))
+
+-- the reply where this number of areas is left
+abbrev pub caught_up_reply : ℕ → CaughtUp → Reply
+caught_up_reply pending AllChecked = Done
+caught_up_reply pending MarksFull = Stopped Quota pending
+caught_up_reply pending OutOfMemory = Stopped Memory pending
+
+-- some check steps are done, until no area awaits checking, or until the next one is refused: the error plane would have more tiles than the quota, or
+-- memory ran out
+abbrev pub CatchesUp : Config → OwnState → Reply → OwnState → Type 0
+CatchesUp config old reply new =
+    (ended : CaughtUp) × HasCaughtUp config.rules old.drawn.layout config.quota old.checking ended new.checking
+    × (reply ≡ caught_up_reply (length new.checking.dirty) ended) × (new.drawn ≡ old.drawn)
+
+-- ---- the commands
 -- from the old state the command has this reply and leads to the new one
-abbrev pub Step : Config → OwnState → Command → Reply → OwnState → Type 0
-Step config old command reply new = own_step config old command ≡ (new, reply)
+unfoldable pub Step : Config → OwnState → Command → Reply → OwnState → Type 0
+Step config old (Box left bottom right top) reply new = edit_step config old None (box_step old.drawn (rect_of left bottom right top)) ≡ (new, reply)
+Step config old (Paint kind) reply new = edit_step config old old.drawn.box (paint_step config old.drawn old.drawn.box kind) ≡ (new, reply)
+Step config old (Erase kinds) reply new = edit_step config old old.drawn.box (erase_step config old.drawn old.drawn.box kinds) ≡ (new, reply)
+Step config old (Dump cell dx dy) reply new =
+    edit_step config old (dumped_in config (cell_at config cell) dx dy) (dump_step config old.drawn (cell_at config cell) dx dy) ≡ (new, reply)
+Step config old What reply new = edit_step config old None (what_step config old.drawn old.drawn.box) ≡ (new, reply)
+Step config old Save reply new = save_step config old ≡ (new, reply)
+Step config old Check reply new = edit_step config old old.drawn.box (check_in old.drawn old.drawn.box) ≡ (new, reply)
+Step config old CatchUp reply new = CatchesUp config old reply new
+Step config old Why reply new = AnswersWhy config old reply new
+Step config old Count reply new = count_step old ≡ (new, reply)

@@ -5,7 +5,7 @@ use Rattle.mls_library.specs.SavedCells.{saved_line_count, saved_text}
 use Rattle.mls_tech.specs.Readings.{Tech}
 use Rattle.mls_session.specs.declared.refusal.Refusal.TheVariants.{Memory}
 use Rattle.mls_session.specs.declared.reply.Reply.{Reply}
-use Rattle.mls_session.specs.declared.reply.Reply.TheVariants.{Done, Kinds, Saved, Refused}
+use Rattle.mls_session.specs.declared.reply.Reply.TheVariants.{Done, Kinds, Saved, Count, Why, Refused, Stopped}
 
 -- the text of the layout was appended, and the reply has the number of its lines; or memory ran out, and nothing was appended
 abbrev pub SavesText : Tech → Layout → Reply → List ℕ → List ℕ → Type 0
@@ -13,3 +13,6 @@ SavesText tech layout (Saved lines) old new = (lines ≡ saved_line_count tech l
 SavesText tech layout (Refused refusal) old new = (refusal ≡ Memory) × (new ≡ old)
 SavesText tech layout Done old new = ⊥
 SavesText tech layout (Kinds kinds) old new = ⊥
+SavesText tech layout (Count errors pending) old new = ⊥
+SavesText tech layout (Why violated) old new = ⊥
+SavesText tech layout (Stopped refusal pending) old new = ⊥

@@ -1,61 +1,52 @@
 -- What a caller sees of a session, its own state, and its planes in the pool.
-use Rattle.std.specs.Prelude.{◌≡◌, ◌≢◌, ℕ, ◌+◌, Option, Some, List, map, ⊤}
-use Rattle.std.specs.List.{All, AllPairs, Contains}
-use Rattle.mls_geom.specs.Layouts.{Layout}
-use Rattle.mls_geom.specs.Rects.{Rect}
-use Rattle.mls_library.specs.Libraries.{HavePlanes, Library, IsHome as AreCellsHome, cell_layout}
+use Rattle.std.specs.Prelude.{◌≡◌, ◌≢◌, ℕ, Some, List, [], ◌∷◌, ◌++◌}
+use Rattle.std.specs.List.{All}
+use Rattle.mls_edgerule.specs.declared.edge_rule.EdgeRule.{EdgeRule}
+use Rattle.mls_library.specs.Libraries.{Library}
 use Rattle.mls_tech.specs.Readings.{Tech}
 use Rattle.mls_tilepool.specs.Pools.{Pool, room_of}
 use Rattle.mls_paint.specs.Owners.{ChangesAmong}
-use Rattle.mls_paint.specs.Planes.{HasStrips, layout_in}
+use Rattle.mls_errorplane.specs.Checkings.{IsChecked}
+use Rattle.mls_errorplane.specs.ErrorPlanes.{ErrorPlane, ShowsMarks, checking_of}
+use Rattle.mls_session.specs.Drawings.{Drawing, IsHome as IsDrawingHome, cell_layouts, drawn_of, plane_reserve}
 use Rattle.mls_session.specs.Own.{Config, OwnState}
-use Rattle.mls_session.specs.declared.reply.Reply.{Reply}
-use Rattle.mls_session.specs.declared.reply.Reply.TheVariants.{Done, Kinds, Saved, Refused}
 
--- the box, the owners of the planes' tiles, and the most tiles that a plane may have
+-- what is drawn, and its error plane
 pub record Session : Type 0 where
-  pub box : Option Rect
-  pub planes : List ℕ
-  pub quota : ℕ
+  pub drawing : Drawing
+  pub errors : ErrorPlane
 
--- the layouts of a library's cells
-abbrev pub cell_layouts : Pool → Library → List Layout
-cell_layouts pool cells = map (cell_layout pool) cells
+-- what no command changes
+abbrev pub config_of : Tech → List EdgeRule → Pool → Library → Session → Config
+config_of tech rules pool cells session = record { tech = tech; rules = rules; cells = cell_layouts pool cells; quota = session.drawing.quota }
 
--- what no command changes: the technology, the cells' layouts, and the most tiles that a plane may have
-abbrev pub config_of : Tech → Pool → Library → Session → Config
-config_of tech pool cells session = record { tech = tech; cells = cell_layouts pool cells; quota = session.quota }
-
--- the layout is what the tiles of its planes show
+-- the layout and the marks are what the tiles of the session's planes show
 abbrev pub state_of : Pool → Session → OwnState
-state_of pool session = record { box = session.box; layout = layout_in pool session.planes }
+state_of pool session = record { drawn = drawn_of pool session.drawing; checking = checking_of pool session.errors }
 
--- how many tiles each plane reserves: some more than it may have
-abbrev pub plane_reserve : ℕ → ℕ
-plane_reserve quota = quota + 64
+-- the owners of the layout's planes, and last that of the error plane
+abbrev pub owners_of : Session → List ℕ
+owners_of session = session.drawing.planes ++ session.errors.owner ∷ []
 
--- each plane lies in the pool in maximal strips, with its reserve, under an owner of its own
+-- the error plane shows marks and nothing else, with its reserve, under an owner that none of the layout's planes has
+pub record HasErrorPlane (pool : Pool) (drawing : Drawing) (owner : ℕ) : Type 0 where
+  pub marks : ShowsMarks pool owner
+  pub reserve : room_of pool owner ≡ Some (plane_reserve drawing.quota)
+  pub apart : All (λ plane. plane ≢ owner) drawing.planes
+
+-- so the session's planes lie in the pool
 pub record IsHome (pool : Pool) (session : Session) : Type 0 where
-  pub strips : All (λ owner. HasStrips pool owner) session.planes
-  pub reserves : All (λ owner. room_of pool owner ≡ Some (plane_reserve session.quota)) session.planes
-  pub apart : AllPairs (λ a b. a ≢ b) session.planes
+  pub drawing : IsDrawingHome pool session.drawing
+  pub errors : HasErrorPlane pool session.drawing session.errors.owner
 
--- what every command keeps: the session has the planes and the quota that it had, its planes are at home, and only their tiles have changed
+-- what every call keeps: the session has the planes and the quota that it had, its planes are at home, and only their tiles have changed
 pub record KeepsPlanes (old new : Pool) (before after : Session) : Type 0 where
   pub home : IsHome new after
-  pub only : ChangesAmong old new before.planes
-  pub planes : after.planes ≡ before.planes
-  pub quota : after.quota ≡ before.quota
+  pub only : ChangesAmong old new (owners_of before)
+  pub planes : after.drawing.planes ≡ before.drawing.planes
+  pub errors : after.errors.owner ≡ before.errors.owner
+  pub quota : after.drawing.quota ≡ before.drawing.quota
 
--- the library's cells lie in the pool, under other owners than these, and each has a plane for each of the technology's
-pub record CanDump (tech : Tech) (pool : Pool) (cells : Library) (owners : List ℕ) : Type 0 where
-  pub home : AreCellsHome pool cells
-  pub apart : All (λ cell. All (λ owner. ¬ (Contains owners owner)) cell.planes) cells
-  pub planes : HavePlanes tech.plane_count cells
-
--- the fact, if the reply is a refusal
-abbrev pub OnRefused : Reply → Type 0 → Type 0
-OnRefused Done P = ⊤
-OnRefused (Kinds kinds) P = ⊤
-OnRefused (Saved lines) P = ⊤
-OnRefused (Refused refusal) P = P
+-- outside the areas that await checking, the marked squares are exactly those of the layout that the rules forbid
+abbrev pub HasRightMarks : List EdgeRule → OwnState → Type 0
+HasRightMarks rules own = IsChecked rules own.drawn.layout own.checking

@@ -27,4 +27,12 @@ pub enum Command {
     What,
     /// Asks for the number of lines of the layout's text as a cell file.
     Save,
+    /// Adds the box to the areas that await checking.
+    Check,
+    /// Checks all areas that await checking, piece by piece.
+    CatchUp,
+    /// Asks for the rules that forbid some square of the box, in the layout as it is now.
+    Why,
+    /// Asks for the number of marked squares, and of areas that await checking.
+    Count,
 }

@@ -1,8 +1,10 @@
-//! One session over planes of stitched tiles: its box, its layout, and what each command does to them.
+//! One session over planes of stitched tiles: its box, its layout, its marks, and what each command does to them.
 #![tactic(auto)]
 
+mod bounds;
 mod change;
 mod command;
+mod drawing;
 mod moving;
 mod quota;
 mod refusal;

@@ -1,11 +1,11 @@
 //! Moved rectangles.
 ghost use Rattle.std.specs.Prelude.{◌≡◌};
-ghost use Rattle.mls_session.specs.Inner.{moved_rect};
+ghost use Rattle.mls_session.specs.Bounds.{moved_rect};
 
 use mls_geom::Rect;
 
 /// Returns the rectangle moved to the right by `dx` and up by `dy`, if it stays in the world.
-#[tactic(auto, unfolding(crate::specs::Inner::moved_rect))]
+#[tactic(auto, unfolding(crate::specs::Bounds::moved_rect))]
 pub(crate) fn moved_rect(rect: Rect, dx: i32, dy: i32) -> Option<Rect>
     ensures { result ≡ moved_rect rect dx dy }
 {

@@ -2,7 +2,7 @@
 ghost use Rattle.std.specs.Prelude.{◌≡◌, ◌≤◌};
 ghost use Rattle.std.specs.Option.{SomeIff};
 ghost use Rattle.mls_session.specs.Quotas.{IsQuota, default_quota, most_quota};
-ghost use Rattle.mls_session.specs.Sessions.{plane_reserve};
+ghost use Rattle.mls_session.specs.Drawings.{plane_reserve};
 
 use std::marker::Model;
 
@@ -12,13 +12,13 @@ const LEAST: u32 = 5;
 /// The greatest quota.
 const MOST: u32 = 16_384;
 
-/// The quota of a session if the user gives none.
+/// The quota of a drawing if the user gives none.
 const DEFAULT: u32 = 1024;
 
 /// How many tiles a plane reserves beyond those that it may have.
 const SPARE: u32 = 64;
 
-/// The most tiles that each plane of a session may have, from 5 to 16384.
+/// The most tiles that each plane of a drawing may have, from 5 to 16384.
 #[derive(Clone, Copy, Debug, PartialEq, Eq)]
 pub struct Quota {
     tiles: u32,

@@ -11,6 +11,13 @@ pub enum Reply {
     Kinds(KindSet),
     /// The number of lines of the layout's text as a cell file.
     Saved(usize),
+    /// How many squares are marked, and how many areas await checking.
+    Count { errors: u64, pending: usize },
+    /// The rules that forbid some square of the box: bit n - 1 is 1 for each rule n of them.
+    Why(u128),
     /// The command is refused, and nothing has changed.
     Refused(Refusal),
+    /// Catching up stopped before all areas were checked: for each piece that was checked the marks are right, and this
+    /// many areas still await checking.
+    Stopped { refusal: Refusal, pending: usize },
 }

@@ -1,103 +1,108 @@
-//! One session: a box, and the planes of a layout, which commands change.
-ghost use Rattle.std.specs.Prelude.{◌≡◌, ◌*◌, ◌<◌, ◌≤◌, IfOk, OnErr, length, vec_capacity};
-ghost use Rattle.mls_geom.specs.Pictures.{overlaid};
-ghost use Rattle.mls_tilepool.specs.Pools.{Pool, unreserved};
+//! One session: what it draws, its error plane, and what each command does to them.
+ghost use Rattle.std.specs.Prelude.{◌≡◌, ◌*◌, ◌+◌, ◌≤◌, IfOk, OnErr, length, vec_capacity};
+ghost use Rattle.mls_errorplane.specs.Checkings.{opening_checking};
+ghost use Rattle.mls_errorplane.specs.ErrorPlanes.{HasStepped, UnlessDone};
+ghost use Rattle.mls_errorplane.specs.Outcomes.{HasFinished, UnlessFinished};
 ghost use Rattle.mls_library.specs.Libraries as library_spec;
+ghost use Rattle.mls_library.specs.SavedCells.{HoldsOwnTypes, ReadsAs, saved_text};
 ghost use Rattle.mls_paint.specs.Owners.{AddsOwners};
+ghost use Rattle.mls_paint.specs.Planes.{layout_in};
 ghost use Rattle.mls_paint.specs.Scratches.{KeepsRoom};
-ghost use Rattle.mls_session.specs.Own.{Config, Step, box_step, opening, paint_step, repaint_step, what_step};
+ghost use Rattle.mls_session.specs.Drawings.{CanDump, OnRefused, cell_layouts, drawn_of, plane_reserve};
+ghost use Rattle.mls_session.specs.Own.{Config, Step, opening, soiled_after};
 ghost use Rattle.mls_session.specs.Rooms.{HasRooms};
+ghost use Rattle.mls_session.specs.Saving.{SavesText};
+ghost use Rattle.mls_tilepool.specs.Pools.{Pool, unreserved};
 
-mod changing;
-mod saving;
+mod commands;
 
-use crate::{Command, Quota, Refusal, Reply};
-use mls_geom::{Piece, Rect, RectFault};
-use mls_kinds::KindSet;
+use crate::drawing::Drawing;
+use crate::{Command, Quota, Reply};
+use mls_checker::Finding;
+use mls_edgerule::Rules;
+use mls_errorplane::{ErrorPlane, Outcome, Stepped, opening_areas};
+use mls_geom::Piece;
 use mls_library::Library;
-use mls_paint::{Scratch, kinds, overlay, space_plane};
-use mls_stitch::Plane;
+use mls_paint::Scratch;
 use mls_tech::Tech;
 use mls_tilepool::Pool;
 use std::alloc::{AllocError, Global};
 use std::marker::Model;
 
-/// A session: its box, and its planes, whose tiles lie in a pool.
+/// A session: what it draws, and what is known of which squares of it the rules forbid.
 ///
-/// The pool, the scratch and the list in which a command makes the pieces that it paints are lent by the caller. No command
-/// allocates.
+/// The pool, the scratch and the list in which a command makes the pieces that it paints are lent by the caller.
 #[derive(Drop)]
 pub struct Session {
-    quota: Quota,
-    box_rect: Option<Rect>,
-    planes: Vec<Plane>,
+    drawing: Drawing,
+    errors: ErrorPlane,
 }
 
 impl Model for Session {
-    ghost use Rattle.mls_session.specs.Quotas.{IsQuota};
     ghost use Rattle.mls_session.specs.Sessions.{Session};
 
     ghost Value = { Session };
 
-    ghost view = { λ s. record { box = s.box_rect; planes = s.planes.items; quota = s.quota } };
-
-    ghost invariant = { λ s. IsQuota s.quota };
+    ghost view = { λ s. record { drawing = s.drawing; errors = s.errors } };
 }
 
 impl Session {
-    ghost use Rattle.mls_session.specs.Sessions.{CanDump, IsHome, KeepsPlanes, OnRefused, cell_layouts, config_of, plane_reserve, state_of};
+    ghost use Rattle.mls_session.specs.Sessions.{HasRightMarks, IsHome, KeepsPlanes, config_of, owners_of, state_of};
 
-    /// Opens a session over the planes of a technology, with no box and an empty layout.
+    /// Opens a session over the planes of a technology, with no box, an empty layout and no marks. Nothing awaits checking,
+    /// unless the rules forbid squares of the empty layout.
     ///
-    /// Each plane reserves 64 tiles more than the quota. The pool must have room for them.
+    /// Each plane, and the error plane, reserves 64 tiles more than the quota. The pool must have room for them.
     pub fn open(
         alloc: Global,
         pool: &mut Pool,
         tech: &Tech,
+        rules: &Rules,
         quota: Quota,
         scratch: &mut Scratch,
     ) -> Result<Session, AllocError>
-        requires room { tech.now.plane_count * plane_reserve quota ≤ unreserved pool.old }
+        requires room { (tech.now.plane_count + 1) * plane_reserve quota ≤ unreserved pool.old }
         requires scratch { plane_reserve quota ≤ scratch.old.room }
-        ensures opening { IfOk result (λ session. state_of pool.new session ≡ opening) }
+        ensures opening { IfOk result (λ session. state_of pool.new session ≡ opening rules.now) }
+        ensures marks_right { IfOk result (λ session. HasRightMarks rules.now (state_of pool.new session)) }
         ensures home { IfOk result (λ session. IsHome pool.new session) }
-        ensures planes { IfOk result (λ session. length session.planes ≡ tech.now.plane_count) }
-        ensures quota { IfOk result (λ session. session.quota ≡ quota) }
-        ensures added { IfOk result (λ session. AddsOwners pool.old pool.new session.planes (length session.planes * plane_reserve quota)) }
+        ensures planes { IfOk result (λ session. length session.drawing.planes ≡ tech.now.plane_count) }
+        ensures quota { IfOk result (λ session. session.drawing.quota ≡ quota) }
+        ensures added { IfOk result (λ session. AddsOwners pool.old pool.new (owners_of session) (length (owners_of session) * plane_reserve quota)) }
         ensures refused { OnErr result (pool.new ≡ pool.old) }
         ensures rooms { KeepsRoom scratch.old scratch.new }
     {
-        let mut planes = Vec::with_capacity(alloc, tech.planes())?;
-        let reserve = quota.reserve();
-        for _plane in 0..tech.planes() {
-            planes.push_reserved(space_plane(pool, reserve, scratch).unwrap());
-        }
-        Ok(Session {
-            quota,
-            box_rect: None,
-            planes,
-        })
+        let dirty = opening_areas(alloc, rules)?;
+        let drawing = Drawing::open(alloc, pool, tech, quota, scratch)?;
+        let errors = ErrorPlane::new(dirty, pool, quota.reserve(), scratch);
+        Ok(Session { drawing, errors })
     }
 
-    /// Carries out a command, or refuses it and changes nothing.
+    /// Carries out a command, or refuses it and changes nothing. Only catching up that stops before its end keeps what it
+    /// did.
     ///
     /// Types are those of `tech`, which must have as many planes as the session, and cells those of `library`. Pass the
-    /// technology that the session was made for: another one with as many planes may put a type on another plane.
-    #[tactic(auto, unfolding(crate::specs::Own::own_step))]
+    /// technology and the rules that the session was opened with: another technology with as many planes may put a type on
+    /// another plane, and marks are right by one list of rules alone.
+    ///
+    /// Only [`Command::Why`] and [`Command::CatchUp`] allocate, for one piece at a time.
     pub fn command(
         &mut self,
+        alloc: Global,
         pool: &mut Pool,
         tech: &Tech,
+        rules: &Rules,
         library: &Library,
         command: Command,
         pieces: &mut Vec<Piece>,
         scratch: &mut Scratch,
     ) -> Reply
         requires home { IsHome pool.old self.old }
-        requires made_for { length self.old.planes ≡ tech.now.plane_count }
-        requires can_dump { CanDump tech.now pool.old library.now self.old.planes }
-        requires has_rooms { HasRooms self.old.quota scratch.old (vec_capacity pieces.old) }
-        ensures step { Step (config_of tech.now pool.old library.now self.old) (state_of pool.old self.old) command result (state_of pool.new self.new) }
+        requires made_for { length self.old.drawing.planes ≡ tech.now.plane_count }
+        requires can_dump { CanDump tech.now pool.old library.now (owners_of self.old) }
+        requires has_rooms { HasRooms self.old.drawing.quota scratch.old (vec_capacity pieces.old) }
+        ensures step { Step (config_of tech.now rules.now pool.old library.now self.old) (state_of pool.old self.old) command result (state_of pool.new self.new) }
+        ensures marks_right { HasRightMarks rules.now (state_of pool.old self.old) → HasRightMarks rules.now (state_of pool.new self.new) }
         ensures keeps { KeepsPlanes pool.old pool.new self.old self.new }
         ensures cells_home { library_spec.IsHome pool.new library.now }
         ensures cells { cell_layouts pool.new library.now ≡ cell_layouts pool.old library.now }
@@ -105,119 +110,81 @@ impl Session {
         ensures pieces_room { vec_capacity pieces.new ≡ vec_capacity pieces.old }
         ensures rooms { KeepsRoom scratch.old scratch.new }
     {
-        match command {
-            Command::Box {
-                left,
-                bottom,
-                right,
-                top,
-            } => self.set_box(Rect::new(left, bottom, right, top)),
-            Command::Paint(kind) => self.paint(pool, tech, kind, pieces, scratch),
-            Command::Erase(kinds) => self.erase(pool, tech, kinds, pieces, scratch),
-            Command::Dump { cell, dx, dy } => {
-                self.dump(pool, library, cell, dx, dy, pieces, scratch)
-            }
-            Command::What => self.what(pool, scratch),
-            Command::Save => Reply::Saved(self.count_lines(pool, tech, scratch)),
-        }
+        self.execute(alloc, pool, tech, rules, library, command, pieces, scratch)
     }
 
-    /// Sets the box, or refuses it by the fault of its lines.
-    fn set_box(&mut self, made: Result<Rect, RectFault>) -> Reply
-        ensures step { (pool : Pool) → box_step (state_of pool self.old) made ≡ (state_of pool self.new, result) }
-        ensures planes { self.new.planes ≡ self.old.planes }
-        ensures quota { self.new.quota ≡ self.old.quota }
-        ensures refused { OnRefused result (self.new ≡ self.old) }
-    {
-        match made {
-            Ok(rect) => {
-                self.box_rect = Some(rect);
-                Reply::Done
-            }
-            Err(RectFault::Empty) => Reply::Refused(Refusal::EmptyBox),
-            Err(RectFault::Outside) => Reply::Refused(Refusal::OutsideWorld),
-        }
-    }
-
-    /// Paints the box with a type, on the type's plane.
-    fn paint(
+    /// Checks the first piece of the areas that await checking, and takes it out of them.
+    ///
+    /// Unless this is done, nothing changes.
+    pub fn step(
         &mut self,
+        alloc: Global,
         pool: &mut Pool,
-        tech: &Tech,
-        kind: Option<u8>,
+        rules: &Rules,
         pieces: &mut Vec<Piece>,
         scratch: &mut Scratch,
-    ) -> Reply
+    ) -> Stepped
         requires home { IsHome pool.old self.old }
-        requires made_for { length self.old.planes ≡ tech.now.plane_count }
-        requires piece_fits { 1 ≤ vec_capacity pieces.old }
-        requires tiles_fit { plane_reserve self.old.quota ≤ scratch.old.room }
-        requires paint_fits { 1 ≤ scratch.old.pieces }
-        // It depends on the technology and the quota alone of what no command changes.
-        ensures step { (config : Config) → config.tech ≡ tech.now → config.quota ≡ self.old.quota
-            → paint_step config (state_of pool.old self.old) self.old.box kind ≡ (state_of pool.new self.new, result) }
+        requires has_rooms { HasRooms self.old.drawing.quota scratch.old (vec_capacity pieces.old) }
+        ensures stepped { HasStepped rules.now (state_of pool.old self.old).drawn.layout self.old.drawing.quota (state_of pool.old self.old).checking result (state_of pool.new self.new).checking }
+        ensures drawn { (state_of pool.new self.new).drawn ≡ (state_of pool.old self.old).drawn }
+        ensures marks_right { HasRightMarks rules.now (state_of pool.old self.old) → HasRightMarks rules.now (state_of pool.new self.new) }
         ensures keeps { KeepsPlanes pool.old pool.new self.old self.new }
-        ensures refused { OnRefused result ((self.new ≡ self.old) × (pool.new ≡ pool.old)) }
+        ensures same { UnlessDone result ((self.new ≡ self.old) × (pool.new ≡ pool.old)) }
         ensures pieces_room { vec_capacity pieces.new ≡ vec_capacity pieces.old }
         ensures rooms { KeepsRoom scratch.old scratch.new }
     {
-        let Some(rect) = self.box_rect else {
-            return Reply::Refused(Refusal::NoBox);
-        };
-        let Some(kind) = kind else {
-            return Reply::Refused(Refusal::UnknownType);
-        };
-        let Some(plane) = tech.plane_of(kind) else {
-            return Reply::Refused(Refusal::UnknownType);
-        };
-        pieces.clear();
-        pieces.push_reserved(Piece { rect, kind });
-        self.repaint(pool, usize::from(plane), pieces, scratch)
+        let errors = &mut self.errors;
+        self.drawing
+            .step(alloc, pool, rules, errors, pieces, scratch)
     }
 
-    /// Paints pieces on a plane, unless the plane would then have more tiles than the quota.
-    fn repaint(
+    /// Marks what a finding says of its piece, and takes the piece out of the areas that await checking, if the finding is
+    /// by these rules and of the first piece, and the layout is still the one in which it was found; it is stale
+    /// otherwise.
+    ///
+    /// Unless this is finished, nothing changes. No memory is taken.
+    pub fn finish(
         &mut self,
         pool: &mut Pool,
-        plane: usize,
-        pieces: &[Piece],
+        rules: &Rules,
+        finding: &Finding,
+        pieces: &mut Vec<Piece>,
         scratch: &mut Scratch,
-    ) -> Reply
+    ) -> Outcome
         requires home { IsHome pool.old self.old }
-        requires plane { plane < length self.old.planes }
-        requires tiles_fit { plane_reserve self.old.quota ≤ scratch.old.room }
-        requires pieces_fit { length pieces.now ≤ scratch.old.pieces }
-        // It depends on the quota alone of what no command changes.
-        ensures step { (config : Config) → config.quota ≡ self.old.quota
-            → repaint_step config (state_of pool.old self.old) plane (overlaid ((state_of pool.old self.old).layout plane) pieces.now) ≡ (state_of pool.new self.new, result) }
+        requires has_rooms { HasRooms self.old.drawing.quota scratch.old (vec_capacity pieces.old) }
+        ensures finished { HasFinished rules.now (length self.old.drawing.planes) (state_of pool.old self.old).drawn.layout self.old.drawing.quota (state_of pool.old self.old).checking finding.now result (state_of pool.new self.new).checking }
+        ensures drawn { (state_of pool.new self.new).drawn ≡ (state_of pool.old self.old).drawn }
+        ensures marks_right { HasRightMarks rules.now (state_of pool.old self.old) → HasRightMarks rules.now (state_of pool.new self.new) }
         ensures keeps { KeepsPlanes pool.old pool.new self.old self.new }
-        ensures refused { OnRefused result ((self.new ≡ self.old) × (pool.new ≡ pool.old)) }
+        ensures same { UnlessFinished result ((self.new ≡ self.old) × (pool.new ≡ pool.old)) }
+        ensures pieces_room { vec_capacity pieces.new ≡ vec_capacity pieces.old }
         ensures rooms { KeepsRoom scratch.old scratch.new }
     {
-        let limit = self.quota.tiles();
-        let Ok(_) = overlay(pool, &mut self.planes[plane], pieces, limit, scratch) else {
-            return Reply::Refused(Refusal::Quota);
-        };
-        Reply::Done
+        let errors = &mut self.errors;
+        self.drawing
+            .finish(pool, rules, errors, finding, pieces, scratch)
     }
 
-    /// Returns the types in the box, space among them.
-    fn what(&mut self, pool: &Pool, scratch: &mut Scratch) -> Reply
-        requires home { IsHome pool.now self.old }
-        requires tiles_fit { plane_reserve self.old.quota ≤ scratch.old.room }
-        // It depends on the number of planes alone of what no command changes.
-        ensures step { (config : Config) → config.tech.plane_count ≡ length self.old.planes
-            → what_step config (state_of pool.now self.old) self.old.box ≡ (state_of pool.now self.new, result) }
-        ensures same { self.new ≡ self.old }
+    /// Appends the text of the layout, as a cell file, and returns the number of its lines.
+    ///
+    /// Out of memory, appends nothing and returns a refusal.
+    pub fn save_text(
+        &self,
+        pool: &Pool,
+        tech: &Tech,
+        out: &mut Vec<u8>,
+        scratch: &mut Scratch,
+    ) -> Reply
+        requires home { IsHome pool.now self.now }
+        requires made_for { length self.now.drawing.planes ≡ tech.now.plane_count }
+        requires tiles_fit { plane_reserve self.now.drawing.quota ≤ scratch.old.room }
+        ensures saves { SavesText tech.now (state_of pool.now self.now).drawn.layout result out.old.items out.new.items }
+        ensures reads_back { HoldsOwnTypes tech.now (state_of pool.now self.now).drawn.layout
+            → ReadsAs tech.now (saved_text tech.now (state_of pool.now self.now).drawn.layout) (state_of pool.now self.now).drawn.layout }
         ensures rooms { KeepsRoom scratch.old scratch.new }
     {
-        let Some(rect) = self.box_rect else {
-            return Reply::Refused(Refusal::NoBox);
-        };
-        let mut found = KindSet::empty();
-        for i in 0..self.planes.len() {
-            found = found.union(kinds(pool, &mut self.planes[i], rect, scratch));
-        }
-        Reply::Kinds(found)
+        self.drawing.save_text(pool, tech, out, scratch)
     }
 }

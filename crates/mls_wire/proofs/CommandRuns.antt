@@ -1,5 +1,7 @@
 -- A command of the open session is that of the run: it takes the session's own step, and only `save` has lines.
-use Rattle.std.proofs.Common.{◌≡◌, ℕ, ℤ, Bool, true, false, not, cond, nat_lt, List, Option, Some, None, Result, Ok, Err, refl, sym, ap, subst, ◌∙◌}
+use Rattle.std.proofs.Common.{◌≡◌, ℕ, ℤ, Bool, true, false, not, cond, nat_lt, length, List, Option, Some, None, Result, Ok, Err, inl, inr, refl, sym, ap, subst, ◌∙◌}
+use Rattle.mls_errorplane.specs.declared.catching_up.CaughtUp.{CaughtUp}
+use Rattle.mls_errorplane.specs.declared.catching_up.CaughtUp.TheVariants.{Done as AllChecked, Full as MarksFull, Memory as MarksMemory}
 use Rattle.mls_geom.specs.Layouts.{Layout}
 use Rattle.mls_geom.specs.Pictures.{Picture, painted}
 use Rattle.mls_geom.specs.Rects.{Rect}
@@ -10,13 +12,13 @@ use Rattle.mls_geom.specs.declared.rect.RectFault.TheVariants.{Empty, Outside}
 use Rattle.mls_library.specs.SavedCells.{saved_line_count}
 use Rattle.mls_tech.specs.Readings.{plane_of_type}
 use Rattle.mls_session.specs.Changes.{layout_leaves_world}
-use Rattle.mls_session.specs.Own.{Config, OwnState, Step, are_types, box_step, cell_at, change_step, dump_step, dumped_layout, erase_step, erased_layout, exceeds_quota, own_step, paint_on, paint_step, what_step, with_plane}
+use Rattle.mls_session.specs.Own.{AnswersWhy, Config, Drawn, OwnState, Step, are_types, box_step, caught_up_reply, cell_at, change_step, check_in, dump_step, dumped_layout, erase_step, erased_layout, exceeds_quota, paint_on, paint_step, what_step, why_step, with_plane}
 use Rattle.mls_session.specs.declared.command.Command.{Command}
-use Rattle.mls_session.specs.declared.command.Command.TheVariants.{Box, Paint, Erase, Dump, What, Save}
+use Rattle.mls_session.specs.declared.command.Command.TheVariants.{Box, Paint, Erase, Dump, What, Save, Check, CatchUp, Why, Count}
 use Rattle.mls_session.specs.declared.refusal.Refusal.{Refusal}
 use Rattle.mls_session.specs.declared.refusal.Refusal.TheVariants.{Quota, UnknownType, CellOutside}
 use Rattle.mls_session.specs.declared.reply.Reply.{Reply}
-use Rattle.mls_session.specs.declared.reply.Reply.TheVariants.{Done, Kinds, Saved, Refused}
+use Rattle.mls_session.specs.declared.reply.Reply.TheVariants.{Done, Kinds, Saved, Count as Counted, Why as WhyRules, Refused, Stopped}
 use Rattle.mls_wire.specs.Runs.{Replies, RunsCommand, Setting, config_for}
 use Rattle.mls_wire.specs.declared.response.Response.{Response}
 use Rattle.mls_wire.specs.declared.response.Response.TheVariants.{Replied}
@@ -26,14 +28,17 @@ abbrev IsNotSaved : Reply → Type 0
 IsNotSaved Done = Unit {0}
 IsNotSaved (Kinds kinds) = Unit {0}
 IsNotSaved (Saved lines) = ⊥
+IsNotSaved (Counted errors pending) = Unit {0}
+IsNotSaved (WhyRules rules) = Unit {0}
 IsNotSaved (Refused refusal) = Unit {0}
+IsNotSaved (Stopped refusal pending) = Unit {0}
 
-module _ (config : Config) (own : OwnState) where
-  unless_quota : (full : Bool) (new : OwnState) → IsNotSaved (cond {A = OwnState × Reply} full (own, Refused Quota) (new, Done)).1
+module _ (config : Config) (own : Drawn) where
+  unless_quota : (full : Bool) (new : Drawn) → IsNotSaved (cond {A = Drawn × Reply} full (own, Refused Quota) (new, Done)).1
   unless_quota true new = tt
   unless_quota false new = tt
 
-  change_not_saved : (refusal : Refusal) (refused : Bool) (layout : Layout) → IsNotSaved (cond {A = OwnState × Reply} refused (own, Refused refusal) (change_step config own layout)).1
+  change_not_saved : (refusal : Refusal) (refused : Bool) (layout : Layout) → IsNotSaved (cond {A = Drawn × Reply} refused (own, Refused refusal) (change_step config own layout)).1
   change_not_saved refusal true layout = tt
   change_not_saved refusal false layout = unless_quota (exceeds_quota config layout) (record own { layout = layout })
 
@@ -66,36 +71,66 @@ module _ (config : Config) (own : OwnState) where
   what_not_saved None = tt
   what_not_saved (Some e) = tt
 
-  command_not_saved : (command : Command) → (command ≡ Save → ⊥) → IsNotSaved (own_step config own command).1
-  unfolding own_step
-  command_not_saved (Box left bottom right top) other = box_not_saved (rect_of left bottom right top)
-  command_not_saved (Paint kind) other = paint_not_saved own.box kind
-  command_not_saved (Erase kinds) other = erase_not_saved own.box kinds
-  command_not_saved (Dump cell dx dy) other = dump_not_saved (cell_at config cell) dx dy
-  command_not_saved What other = what_not_saved own.box
-  command_not_saved Save other = absurd (other refl)
+  check_not_saved : (box : Option Rect) → IsNotSaved (check_in own box).1
+  check_not_saved None = tt
+  check_not_saved (Some e) = tt
+
+caught_up_not_saved : (pending : ℕ) (ended : CaughtUp) → IsNotSaved (caught_up_reply pending ended)
+caught_up_not_saved pending AllChecked = tt
+caught_up_not_saved pending MarksFull = tt
+caught_up_not_saved pending MarksMemory = tt
+
+module _ (config : Config) (old new : OwnState) (reply : Reply) where
+  why_not_saved : AnswersWhy config old reply new → IsNotSaved reply
+  why_not_saved (inl answers) = subst IsNotSaved (ap (λ r. r.1) answers) (in_box old.drawn.box)
+    where
+      in_box : (box : Option Rect) → IsNotSaved (why_step config old box).1
+      in_box None = tt
+      in_box (Some e) = tt
+  why_not_saved (inr memory) = subst IsNotSaved (sym memory.1) tt
+
+  command_not_saved : (command : Command) → (command ≡ Save → ⊥) → Step config old command reply new → IsNotSaved reply
+  unfolding Step
+  command_not_saved (Box left bottom right top) other step = subst IsNotSaved (ap (λ r. r.1) step) (box_not_saved config old.drawn (rect_of left bottom right top))
+  command_not_saved (Paint kind) other step = subst IsNotSaved (ap (λ r. r.1) step) (paint_not_saved config old.drawn old.drawn.box kind)
+  command_not_saved (Erase kinds) other step = subst IsNotSaved (ap (λ r. r.1) step) (erase_not_saved config old.drawn old.drawn.box kinds)
+  command_not_saved (Dump cell dx dy) other step = subst IsNotSaved (ap (λ r. r.1) step) (dump_not_saved config old.drawn (cell_at config cell) dx dy)
+  command_not_saved What other step = subst IsNotSaved (ap (λ r. r.1) step) (what_not_saved config old.drawn old.drawn.box)
+  command_not_saved Save other step = absurd (other refl)
+  command_not_saved Check other step = subst IsNotSaved (ap (λ r. r.1) step) (check_not_saved config old.drawn old.drawn.box)
+  command_not_saved CatchUp other step = subst IsNotSaved (sym step.2) (caught_up_not_saved (length new.checking.dirty) step.0)
+  command_not_saved Why other step = why_not_saved step
+  command_not_saved Count other step = subst IsNotSaved (ap (λ r. r.1) step) tt
 
 module _ (setting : Setting) (called name : List ℕ) (own : OwnState) where
   reply_given : (reply : Reply) → IsNotSaved reply → Replies setting name own reply (Replied name reply)
   reply_given Done h = refl
   reply_given (Kinds kinds) h = refl
   reply_given (Saved lines) h = absurd h
+  reply_given (Counted errors pending) h = refl
+  reply_given (WhyRules rules) h = refl
   reply_given (Refused refusal) h = refl
+  reply_given (Stopped refusal pending) h = refl
 
+module _ (setting : Setting) (called name : List ℕ) (old : OwnState) where
   -- the session's step
   pub RunsCommand-step :
-      (config : Config) (command : Command) (reply : Reply) (new : OwnState) → config_for setting ≡ config → (command ≡ Save → ⊥) → Step config own command reply new
-      → RunsCommand setting (Some (called, own)) name command (Replied name reply) (Some (called, new))
-  RunsCommand-step config command reply new same other step =
-      let steps : own_step (config_for setting) own command ≡ (new, reply) = ap (λ given. own_step given own command) same ∙ step in
-      let not_saved : IsNotSaved reply = subst (λ r. IsNotSaved r.1) steps (command_not_saved (config_for setting) own command other) in (
-        subst (λ r. Replies setting name own r.1 (Replied name reply)) (sym steps) (reply_given reply not_saved),
-        ap (λ r. Some (called, r.0)) (sym steps),
-      )
+      (config : Config) (command : Command) (reply : Reply) (new : OwnState) → config_for setting ≡ config → (command ≡ Save → ⊥) → Step config old command reply new
+      → RunsCommand setting (Some (called, old)) name command (Replied name reply) (Some (called, new))
+  RunsCommand-step config command reply new same other step = (
+    reply,
+    new,
+    subst (λ given. Step given old command reply new) (sym same) step,
+    reply_given setting called name new reply (command_not_saved config old new reply command other step),
+    refl,
+  )
+
+  save-steps : Step (config_for setting) old Save (Saved (saved_line_count setting.tech old.drawn.layout)) old
+  unfolding Step
+  save-steps = refl
 
   -- the text of its layout
   pub RunsCommand-save :
-      (response : Response) → Replies setting name own (Saved (saved_line_count setting.tech own.layout)) response
-      → RunsCommand setting (Some (called, own)) name Save response (Some (called, own))
-  unfolding own_step
-  RunsCommand-save response replies = (replies, refl)
+      (response : Response) → Replies setting name old (Saved (saved_line_count setting.tech old.drawn.layout)) response
+      → RunsCommand setting (Some (called, old)) name Save response (Some (called, old))
+  RunsCommand-save response replies = (Saved (saved_line_count setting.tech old.drawn.layout), old, save-steps, replies, refl)

@@ -2,11 +2,11 @@
 use Rattle.std.proofs.Common.{◌≡◌, ℕ, Bool, true, false, cond, Option, Some, None, List, [], ◌∷◌, Result, Ok, Err, refl, sym, subst, codes}
 use Rattle.mls_session.specs.declared.command.Command.{Command}
 use Rattle.mls_wire.specs.Runs.{Setting, OpenSession, CanExecute, book_of}
-use Rattle.mls_wire.specs.Says.{line_says, words_say, session_says, open_says, command_of, line_with}
+use Rattle.mls_wire.specs.Says.{line_says, words_say, session_says, open_says, step_says, command_of, line_with}
 use Rattle.mls_text.specs.Words.{begins_with, words_of, same_word}
 use Rattle.mls_wire.specs.SessionNames.{is_session_name}
 use Rattle.mls_wire.specs.declared.line.Line.{Line}
-use Rattle.mls_wire.specs.declared.line.Line.TheVariants.{Silent, Open, Run}
+use Rattle.mls_wire.specs.declared.line.Line.TheVariants.{Silent, Open, Step, Run}
 use Rattle.mls_wire.specs.declared.line.LineFault.{LineFault}
 use Rattle.mls_wire.specs.declared.line.LineFault.TheVariants.{UnknownCommand, BadName, NotOpen}
 
@@ -38,12 +38,23 @@ open_executable session [] = tt
 open_executable session (name ∷ []) = choice session (is_session_name name) (Ok (Open name)) (Err BadName) tt tt
 open_executable session (name ∷ more ∷ words) = choice session (is_session_name name) (Err UnknownCommand) (Err BadName) tt tt
 
+if_stepped : (setting : Setting) (session : OpenSession) (name : List ℕ) (test : Bool) → (book_of setting session).is_open name ≡ test → CanExecuteSaid session (cond test (Ok (Step name)) (Err NotOpen))
+if_stepped setting session name true h = h
+if_stepped setting session name false h = tt
+
+step_executable : (setting : Setting) (session : OpenSession) (words : List (List ℕ)) → CanExecuteSaid session (step_says (book_of setting session) words)
+unfolding step_says
+step_executable setting session [] = tt
+step_executable setting session (name ∷ []) = choice session (is_session_name name) _ (Err BadName) (if_stepped setting session name _ refl) tt
+step_executable setting session (name ∷ more ∷ words) = choice session (is_session_name name) (Err UnknownCommand) (Err BadName) tt tt
+
 words_executable : (setting : Setting) (session : OpenSession) (words : List (List ℕ)) → CanExecuteSaid session (words_say (book_of setting session) words)
 unfolding words_say
 words_executable setting session [] = tt
 words_executable setting session (word ∷ words) =
     choice session (same_word word (codes "%open")) _ _ (open_executable session words)
-    (choice session (begins_with 37 word) (Err UnknownCommand) _ tt (session_executable setting session word words))
+    (choice session (same_word word (codes "%step")) _ _ (step_executable setting session words)
+    (choice session (begins_with 37 word) (Err UnknownCommand) _ tt (session_executable setting session word words)))
 
 line_executable : (setting : Setting) (session : OpenSession) (line : Option (List ℕ)) → CanExecuteSaid session (line_says (book_of setting session) line)
 unfolding line_says

@@ -4,6 +4,7 @@ pub mod Executing
 pub mod NameLemmas
 pub mod NextLineLemmas
 pub mod Results
+pub mod RuleSets
 pub mod RunLemmas
 pub mod ScriptTexts
 pub mod ServingLemmas

@@ -5,6 +5,7 @@ use Rattle.std.specs.Prelude.{IsErrAnd}
 use Rattle.std.specs.Result.{IsOkAnd}
 use Rattle.std.proofs.lemmas.List.{get_or-map, length-map, map-append}
 use Rattle.std.proofs.lemmas.Simd.{map-map}
+use Rattle.mls_edgerule.specs.declared.edge_rule.EdgeRule.{EdgeRule}
 use Rattle.mls_geom.specs.Layouts.{Layout}
 use Rattle.mls_text.specs.Words.{same_word}
 use Rattle.mls_tech.specs.Readings.{Tech}
@@ -17,8 +18,11 @@ use Rattle.mls_library.specs.Libraries.{IsHome as AreCellsHome}
 use Rattle.mls_library.specs.declared.fault.CellFault.{CellFault}
 use Rattle.mls_library.proofs.KeptCells.{IsCellApart-AddsOwners, IsHome-AddsOwners, cell_layout-AddsOwners}
 use Rattle.mls_session.specs.Rooms.{HasRooms}
-use Rattle.mls_session.specs.Sessions.{CanDump, IsHome, KeepsPlanes, Session, cell_layouts, config_of}
-use Rattle.mls_wire.specs.Runs.{LoadsCell, NamedLayout, Setting, cell_names, config_for, with_cell}
+use Rattle.mls_session.specs.Drawings.{CanDump, cell_layouts}
+use Rattle.mls_session.specs.Sessions.{HasRightMarks, IsHome, KeepsPlanes, Session, config_of, owners_of, state_of}
+use Rattle.mls_checker.specs.Marking.{squares_of}
+use Rattle.mls_session.proofs.CellFrames.{home-ChangesAmong, layouts-ChangesAmong}
+use Rattle.mls_wire.specs.Runs.{LoadsCell, MarksAreExact, MarksAreRight, NamedLayout, OpenSession, Setting, cell_names, config_for, with_cell}
 use Rattle.mls_wire.specs.Solos.{IsMadeFor, IsOpenFor, Solo, named_layout, named_layouts, open_session_in, open_session_of, setting_of}
 
 -- what holds of a value, where the result is that value
@@ -66,11 +70,11 @@ module _ (old new : Pool) where
       named_layouts-each cells (λ k d within. cell_layout-AddsOwners old new owners tiles added (get_or cells k d) (home.each k d within))
 
 -- ---- loading a cell
-module _ (solo : Solo) (made : IsOpenFor solo.tech solo.quota solo.pool solo.library solo.room solo.session) (none : open_session_of solo ≡ None) where
+module _ (solo : Solo) (made : IsOpenFor solo.tech solo.rules solo.quota solo.pool solo.library solo.room solo.session) (none : open_session_of solo ≡ None) where
   only_cells : CanDump solo.tech solo.pool solo.library [] × (unreserved solo.pool ≡ solo.room)
   only_cells = for_none solo.session made none
     where
-      for_none : (session : Option (List ℕ × Session)) → IsOpenFor solo.tech solo.quota solo.pool solo.library solo.room session → open_session_in solo.pool session ≡ None
+      for_none : (session : Option (List ℕ × Session)) → IsOpenFor solo.tech solo.rules solo.quota solo.pool solo.library solo.room session → open_session_in solo.pool session ≡ None
           → CanDump solo.tech solo.pool solo.library [] × (unreserved solo.pool ≡ solo.room)
       for_none None made none = made
       for_none (Some session) made none = cc
@@ -101,11 +105,12 @@ module _ (solo : Solo) (made : IsOpenFor solo.tech solo.quota solo.pool solo.lib
   with_cell-added pool library room tiles cell name layout named more shows added left = ap with_cells cells ∙ ap with_room rest
     where
       with_cells : List NamedLayout → Setting
-      with_cells layouts = record { tech = solo.tech; quota = solo.quota; cells = layouts; room = room }
+      with_cells layouts = record { tech = solo.tech; rules = solo.rules; quota = solo.quota; cells = layouts; room = room }
 
       with_room : ℕ → Setting
       with_room free = record {
         tech = solo.tech;
+        rules = solo.rules;
         quota = solo.quota;
         cells = named_layouts solo.pool solo.library ++ record { name = name; layout = layout } ∷ [];
         room = free;
@@ -135,33 +140,48 @@ module _ (solo : Solo) (made : IsOpenFor solo.tech solo.quota solo.pool solo.lib
 
 -- ---- opening a session
 pub IsMadeFor-opened :
-    (tech : Tech) (quota : ℕ) (old new : Pool) (cells : Library) (session : Session) (tiles : ℕ) → CanDump tech old cells [] → AddsOwners old new session.planes tiles
-    → IsHome new session → length session.planes ≡ tech.plane_count → session.quota ≡ quota → IsMadeFor tech quota new cells session
-IsMadeFor-opened tech quota old new cells session tiles can added home planes same_quota = record {
+    (tech : Tech) (rules : List EdgeRule) (quota : ℕ) (old new : Pool) (cells : Library) (session : Session) (tiles : ℕ) → CanDump tech old cells []
+    → AddsOwners old new (owners_of session) tiles → IsHome new session → length session.drawing.planes ≡ tech.plane_count → session.drawing.quota ≡ quota
+    → HasRightMarks rules (state_of new session) → IsMadeFor tech rules quota new cells session
+IsMadeFor-opened tech rules quota old new cells session tiles can added home planes same_quota right = record {
   planes_match = planes;
   quota_match = same_quota;
   home = home;
   can_dump = record {
-    home = IsHome-AddsOwners old new session.planes tiles added cells can.home;
-    apart = λ k d within. IsCellApart-AddsOwners old new session.planes tiles added (get_or cells k d) (can.home.each k d within);
+    home = IsHome-AddsOwners old new (owners_of session) tiles added cells can.home;
+    apart = λ k d within. IsCellApart-AddsOwners old new (owners_of session) tiles added (get_or cells k d) (can.home.each k d within);
     planes = can.planes;
   };
+  marks_right = right;
 }
 
--- ---- commands
-pub IsMadeFor-command :
-    (tech : Tech) (quota : ℕ) (old new : Pool) (cells : Library) (before after : Session) → IsMadeFor tech quota old cells before → KeepsPlanes old new before after
-    → AreCellsHome new cells → IsMadeFor tech quota new cells after
-IsMadeFor-command tech quota old new cells before after made kept cells_home = record {
-  planes_match = ap length kept.planes ∙ made.planes_match;
-  quota_match = kept.quota ∙ made.quota_match;
-  home = kept.home;
-  can_dump = record {
-    home = cells_home;
-    apart = subst (λ owners. All (λ cell. All (λ owner. ¬ (Contains owners owner)) cell.planes) cells) (sym kept.planes) made.can_dump.apart;
-    planes = made.can_dump.planes;
-  };
-}
+-- ---- commands and check steps
+owners-kept : (old new : Pool) (before after : Session) → KeepsPlanes old new before after → owners_of after ≡ owners_of before
+owners-kept old new before after kept =
+    ap (λ planes. planes ++ after.errors.owner ∷ []) kept.planes ∙ ap (λ owner. before.drawing.planes ++ owner ∷ []) kept.errors
+
+module _ (tech : Tech) (rules : List EdgeRule) (quota : ℕ) (old new : Pool) (cells : Library) (before after : Session) (made : IsMadeFor tech rules quota old cells before) where
+  pub IsMadeFor-kept :
+      KeepsPlanes old new before after → AreCellsHome new cells → (HasRightMarks rules (state_of old before) → HasRightMarks rules (state_of new after))
+      → IsMadeFor tech rules quota new cells after
+  IsMadeFor-kept kept cells_home right = record {
+    planes_match = ap length kept.planes ∙ made.planes_match;
+    quota_match = kept.quota ∙ made.quota_match;
+    home = kept.home;
+    can_dump = record {
+      home = cells_home;
+      apart = subst (λ owners. All (λ cell. All (λ owner. ¬ (Contains owners owner)) cell.planes) cells) (sym (owners-kept old new before after kept)) made.can_dump.apart;
+      planes = made.can_dump.planes;
+    };
+    marks_right = right made.marks_right;
+  }
+
+  -- a check step changes tiles of the session's planes alone, so the cells stay as they are
+  pub cells_home-kept : KeepsPlanes old new before after → AreCellsHome new cells
+  cells_home-kept kept = home-ChangesAmong old new (owners_of before) kept.only tech cells made.can_dump
+
+  pub layouts-kept : KeepsPlanes old new before after → cell_layouts new cells ≡ cell_layouts old cells
+  layouts-kept kept = layouts-ChangesAmong old new (owners_of before) kept.only tech cells made.can_dump
 
 pub HasRooms-kept :
     (quota : ℕ) (old new : Scratch) (list capacity : ℕ) → KeepsRoom old new → capacity ≡ list → HasRooms quota old list → HasRooms quota new capacity
@@ -170,12 +190,30 @@ HasRooms-kept quota old new list capacity kept same rooms = record {
   cell_tiles = rw kept.room rooms.cell_tiles;
   pieces = rw kept.pieces rooms.pieces;
   cell_pieces = rw kept.pieces rooms.cell_pieces;
+  mark_pieces = rw kept.pieces rooms.mark_pieces;
   list = rw same rooms.list;
   cell_list = rw same rooms.cell_list;
+  mark_list = rw same rooms.mark_list;
 }
 
 -- what no command changes, as the session is given it
-pub config_for-setting : (solo : Solo) (session : Session) → session.quota ≡ solo.quota → config_for (setting_of solo) ≡ config_of solo.tech solo.pool solo.library session
+pub config_for-setting :
+    (solo : Solo) (session : Session) → session.drawing.quota ≡ solo.quota → config_for (setting_of solo) ≡ config_of solo.tech solo.rules solo.pool solo.library session
 config_for-setting solo session same =
-    ap (λ cells. record { tech = solo.tech; cells = cells; quota = solo.quota }) (layouts-layouts solo.pool solo.library)
-    ∙ ap (λ quota. record { tech = solo.tech; cells = cell_layouts solo.pool solo.library; quota = quota }) (sym same)
+    ap (λ cells. record { tech = solo.tech; rules = solo.rules; cells = cells; quota = solo.quota }) (layouts-layouts solo.pool solo.library)
+    ∙ ap (λ quota. record { tech = solo.tech; rules = solo.rules; cells = cell_layouts solo.pool solo.library; quota = quota }) (sym same)
+
+-- ---- marks
+pub marks_right-of :
+    (solo : Solo) → IsOpenFor solo.tech solo.rules solo.quota solo.pool solo.library solo.room solo.session → MarksAreRight (setting_of solo) (open_session_of solo)
+marks_right-of solo made = of_session solo.session made
+  where
+    of_session : (session : Option (List ℕ × Session)) → IsOpenFor solo.tech solo.rules solo.quota solo.pool solo.library solo.room session
+        → MarksAreRight (setting_of solo) (open_session_in solo.pool session)
+    of_session None made = tt
+    of_session (Some session) made = made.marks_right
+
+-- where no area awaits checking, no square lies in one
+pub exact_marks-of : (setting : Setting) (session : OpenSession) → MarksAreRight setting session → MarksAreExact setting session
+exact_marks-of setting None right = tt
+exact_marks-of setting (Some session) right = λ none x y inside. right x y inside (ap (λ areas. squares_of areas x y) none)

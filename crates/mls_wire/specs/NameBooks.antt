@@ -8,5 +8,7 @@ pub record Names : Type 0 where
   pub cell_of : List ℕ → Option ℕ
   -- the first name of a type
   pub type_name : ℕ → Option (List ℕ)
+  -- why a rule is there, by its number from 1
+  pub why_text : ℕ → Option (List ℕ)
   -- a session of this name is open
   pub is_open : List ℕ → Bool

@@ -1,16 +1,19 @@
 -- The text of a line's response. Each reply ends with a line feed. This project's own.
-use Rattle.std.specs.Prelude.{ℕ, ◌==◌, List, [], ◌∷◌, ◌++◌, length, codes}
-use Rattle.std.specs.List.{flat_map}
+use Rattle.std.specs.Prelude.{ℕ, ◌-◌, ◌==◌, List, [], ◌∷◌, ◌++◌, length, codes}
+use Rattle.std.specs.Int.{bit_at}
+use Rattle.std.specs.List.{filter, flat_map, range_with_len}
 use Rattle.std.specs.Option.{unwrap_or}
+use Rattle.mls_errorplane.specs.declared.error_plane.Stepped.{Stepped as StepEnd}
+use Rattle.mls_errorplane.specs.declared.error_plane.Stepped.TheVariants.{Idle, Done as StepDone, Full, Memory as StepMemory}
 use Rattle.mls_kinds.specs.KindSets.{difference, members, set_of}
 use Rattle.mls_session.specs.Refusals.{refusal_number, refusal_text}
 use Rattle.mls_session.specs.declared.reply.Reply.{Reply}
-use Rattle.mls_session.specs.declared.reply.Reply.TheVariants.{Done, Kinds, Saved, Refused}
+use Rattle.mls_session.specs.declared.reply.Reply.TheVariants.{Done, Kinds, Saved, Count, Why, Refused, Stopped}
 use Rattle.mls_wire.specs.NameBooks.{Names}
 use Rattle.mls_wire.specs.Says.{line_fault_number, line_fault_text}
 use Rattle.std.specs.Fmt.{decimal}
 use Rattle.mls_wire.specs.declared.response.Response.{Response}
-use Rattle.mls_wire.specs.declared.response.Response.TheVariants.{Silent, Fault, Opened, NotOpened, Replied, Saved as SavedText}
+use Rattle.mls_wire.specs.declared.response.Response.TheVariants.{Silent, Fault, Opened, NotOpened, Stepped, Replied, Saved as SavedText}
 use Rattle.mls_wire.specs.declared.response.OpenFault.{OpenFault}
 use Rattle.mls_wire.specs.declared.response.OpenFault.TheVariants.{OpenAlready, SessionsFull, PoolFull, Memory}
 
@@ -38,12 +41,34 @@ without_space kinds = difference kinds (set_of (λ kind. kind == 0))
 abbrev pub type_text : Names → ℕ → List ℕ
 type_text book kind = 32 ∷ unwrap_or (book.type_name kind) []
 
+-- the rules of a set, which has rule n where its bit n - 1 is 1, in rising order
+unfoldable pub rules_in : ℕ → List ℕ
+rules_in set = filter (λ n. bit_at set (n - 1) == 1) (range_with_len 1 128)
+
+-- a space, the rule's number in brackets, and its why text
+abbrev pub rule_text : Names → ℕ → List ℕ
+rule_text book n = codes " [" ++ decimal n ++ codes "] " ++ unwrap_or (book.why_text n) []
+
+-- how many areas await checking
+abbrev pub pending_text : ℕ → List ℕ
+pending_text pending = 32 ∷ decimal pending ++ codes " pending"
+
+-- how a check step ended
+abbrev pub stepped_text : StepEnd → List ℕ
+stepped_text Idle = codes "idle"
+stepped_text StepDone = codes "done"
+stepped_text Full = codes "full"
+stepped_text StepMemory = codes "memory"
+
 -- a reply without its line's first word and its line feed
 unfoldable pub reply_text : Names → Reply → List ℕ
 reply_text book Done = codes "ok"
 reply_text book (Kinds kinds) = codes "what " ++ decimal (length (members (without_space kinds))) ++ flat_map (type_text book) (members (without_space kinds))
 reply_text book (Saved lines) = codes "saved " ++ decimal lines
+reply_text book (Count errors pending) = codes "count " ++ decimal errors ++ codes " errors" ++ pending_text pending
+reply_text book (Why rules) = codes "why " ++ decimal (length (rules_in rules)) ++ flat_map (rule_text book) (rules_in rules)
 reply_text book (Refused refusal) = codes "refused " ++ numbered (refusal_number refusal) (refusal_text refusal)
+reply_text book (Stopped refusal pending) = codes "refused " ++ numbered (refusal_number refusal) (refusal_text refusal) ++ pending_text pending
 
 -- the reply text of the response to line n
 unfoldable pub response_text : Names → ℕ → Response → List ℕ
@@ -51,5 +76,6 @@ response_text book n Silent = []
 response_text book n (Fault fault) = codes "line " ++ decimal n ++ codes " fault " ++ numbered (line_fault_number fault) (line_fault_text fault) ++ 10 ∷ []
 response_text book n (Opened name) = name ++ codes " opened" ++ 10 ∷ []
 response_text book n (NotOpened name fault) = name ++ codes " refused open " ++ numbered (open_fault_number fault) (open_fault_text fault) ++ 10 ∷ []
+response_text book n (Stepped name end) = name ++ codes " step " ++ stepped_text end ++ 10 ∷ []
 response_text book n (Replied name reply) = name ++ 32 ∷ reply_text book reply ++ 10 ∷ []
 response_text book n (SavedText name lines text) = name ++ 32 ∷ reply_text book (Saved lines) ++ 10 ∷ text

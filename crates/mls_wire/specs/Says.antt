@@ -4,14 +4,14 @@ use Rattle.std.specs.List.{list_all, list_any}
 use Rattle.std.specs.Option.{option_map_or}
 use Rattle.mls_kinds.specs.KindSets.{set_of}
 use Rattle.mls_session.specs.declared.command.Command.{Command}
-use Rattle.mls_session.specs.declared.command.Command.TheVariants.{Box, Paint, Erase, Dump, What, Save}
+use Rattle.mls_session.specs.declared.command.Command.TheVariants.{Box, Paint, Erase, Dump, What, Save, Check, CatchUp, Why, Count}
 use Rattle.mls_wire.specs.NameBooks.{Names}
 use Rattle.mls_wire.specs.Numbers.{number_of}
 use Rattle.mls_text.specs.Fields.{fields_of}
 use Rattle.mls_text.specs.Words.{begins_with, words_of, same_word}
 use Rattle.mls_wire.specs.SessionNames.{is_session_name}
 use Rattle.mls_wire.specs.declared.line.Line.{Line}
-use Rattle.mls_wire.specs.declared.line.Line.TheVariants.{Silent, Open, Run}
+use Rattle.mls_wire.specs.declared.line.Line.TheVariants.{Silent, Open, Step, Run}
 use Rattle.mls_wire.specs.declared.line.LineFault.{LineFault}
 use Rattle.mls_wire.specs.declared.line.LineFault.TheVariants.{UnknownCommand, BadNumber, BadName, NotOpen}
 
@@ -59,6 +59,18 @@ abbrev pub what_says : List (List ℕ) → Result Command LineFault
 what_says [] = Ok What
 what_says _ = Err UnknownCommand
 
+-- the command on checks that this word is
+unfoldable pub drc_of : List ℕ → Result Command LineFault
+drc_of word =
+    if same_word word (codes "check") then Ok Check
+    else (if same_word word (codes "catchup") then Ok CatchUp
+    else (if same_word word (codes "why") then Ok Why
+    else (if same_word word (codes "count") then Ok Count else Err UnknownCommand)))
+
+abbrev pub drc_says : List (List ℕ) → Result Command LineFault
+drc_says (word ∷ []) = drc_of word
+drc_says _ = Err UnknownCommand
+
 -- a command that changes the layout, and the words after its own
 unfoldable pub edit_of : Names → List ℕ → List (List ℕ) → Result Command LineFault
 edit_of book verb words =
@@ -72,7 +84,8 @@ command_of book [] = Err UnknownCommand
 command_of book (verb ∷ words) =
     if same_word verb (codes "box") then box_says words
     else (if same_word verb (codes "what") then what_says words
-    else (if same_word verb (codes "save") then save_says words else edit_of book verb words))
+    else (if same_word verb (codes "save") then save_says words
+    else (if same_word verb (codes "drc") then drc_says words else edit_of book verb words)))
 
 -- a command for a session: a fault of its name's form comes first, then one of the command's, and last that no session of the name is open
 abbrev pub line_with : Names → List ℕ → Result Command LineFault → Result Line LineFault
@@ -88,11 +101,18 @@ open_says [] = Err BadName
 open_says (name ∷ []) = if is_session_name name then Ok (Open name) else Err BadName
 open_says (name ∷ more ∷ words) = if is_session_name name then Err UnknownCommand else Err BadName
 
+-- the words after `%step`: here too a fault of the name's form comes first, then one of the number of words, and last that no session of the name is open
+unfoldable pub step_says : Names → List (List ℕ) → Result Line LineFault
+step_says book [] = Err BadName
+step_says book (name ∷ []) = if is_session_name name then (if book.is_open name then Ok (Step name) else Err NotOpen) else Err BadName
+step_says book (name ∷ more ∷ words) = if is_session_name name then Err UnknownCommand else Err BadName
+
 unfoldable pub words_say : Names → List (List ℕ) → Result Line LineFault
 words_say book [] = Ok Silent
 words_say book (word ∷ words) =
     if same_word word (codes "%open") then open_says words
-    else (if begins_with 37 word then Err UnknownCommand else session_says book word words)
+    else (if same_word word (codes "%step") then step_says book words
+    else (if begins_with 37 word then Err UnknownCommand else session_says book word words))
 
 -- a line as it was read: one that is too long is a fault whatever it holds, and a comment begins with `#` in its very first byte
 unfoldable pub line_says : Names → Option (List ℕ) → Result Line LineFault

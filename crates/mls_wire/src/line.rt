@@ -10,6 +10,8 @@ pub enum Line {
     Silent,
     /// Opens a session.
     Open(Name),
+    /// Runs one check step in an open session.
+    Step(Name),
     /// Runs a command in an open session.
     Run(Name, Command),
 }

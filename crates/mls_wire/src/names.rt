@@ -25,6 +25,10 @@ pub trait Names {
     fn type_name(&self, kind: u8) -> Option<&[u8]>
         ensures { option_map (λ name. name.now) result ≡ (book self.now).type_name kind };
 
+    /// Returns why rule `n` is there, from 1.
+    fn why_text(&self, n: usize) -> Option<&[u8]>
+        ensures { option_map (λ text. text.now) result ≡ (book self.now).why_text n };
+
     /// Returns whether a session of this name is open.
     fn is_open(&self, name: &Name) -> bool
         ensures { result ≡ (book self.now).is_open name.now };

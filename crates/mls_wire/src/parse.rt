@@ -1,7 +1,7 @@
 //! From a line to what it says.
 ghost use Rattle.std.specs.Prelude.{◌≡◌};
 ghost use Rattle.mls_text.specs.Fields.{fields_of};
-ghost use Rattle.mls_wire.specs.Says.{box_says, command_of, dump_says, edit_of, erase_says, line_says, open_says, paint_says, save_says, session_says, types_named, what_says, words_say};
+ghost use Rattle.mls_wire.specs.Says.{box_says, command_of, drc_says, dump_says, edit_of, erase_says, line_says, open_says, paint_says, save_says, session_says, step_says, types_named, what_says, words_say};
 ghost use Rattle.mls_wire.specs.ScriptLines.{text_of};
 
 use crate::number::number_of;
@@ -30,6 +30,7 @@ fn parse_words<N: Names>(names: &N, mut words: Words) -> Result<Line, LineFault>
     match words.next() {
         None => Ok(Line::Silent),
         Some(b"%open") => parse_open(words),
+        Some(b"%step") => parse_step(names, words),
         Some([b'%', ..]) => Err(LineFault::UnknownCommand),
         Some(name) => parse_session(names, name, words),
     }
@@ -45,6 +46,21 @@ fn parse_open(mut words: Words) -> Result<Line, LineFault>
         None => Ok(Line::Open(name)),
         Some(_) => Err(LineFault::UnknownCommand),
     }
+}
+
+/// Returns what the words after `%step` say.
+#[tactic(auto, unfolding(crate::specs::Says::step_says))]
+fn parse_step<N: Names>(names: &N, mut words: Words) -> Result<Line, LineFault>
+    ensures { result ≡ step_says (N.book names.now) words.entry }
+{
+    let name = words.next().and_then(Name::new).ok_or(LineFault::BadName)?;
+    if words.next().is_some() {
+        return Err(LineFault::UnknownCommand);
+    }
+    if !names.is_open(&name) {
+        return Err(LineFault::NotOpen);
+    }
+    Ok(Line::Step(name))
 }
 
 /// Returns what a session's name and the words after it say.
@@ -70,6 +86,7 @@ fn parse_command<N: Names>(names: &N, mut words: Words) -> Result<Command, LineF
         Some(b"box") => parse_box(words),
         Some(b"what") => parse_what(words),
         Some(b"save") => parse_save(words),
+        Some(b"drc") => parse_drc(words),
         Some(verb) => parse_edit(names, verb, words),
     }
 }
@@ -189,5 +206,22 @@ fn parse_what(mut words: Words) -> Result<Command, LineFault>
     match words.next() {
         None => Ok(Command::What),
         Some(_) => Err(LineFault::UnknownCommand),
+    }
+}
+
+/// Returns the command of the words after `drc`.
+#[tactic(auto, unfolding(crate::specs::Says::drc_of))]
+fn parse_drc(mut words: Words) -> Result<Command, LineFault>
+    ensures { result ≡ drc_says words.entry }
+{
+    let (Some(word), None) = (words.next(), words.next()) else {
+        return Err(LineFault::UnknownCommand);
+    };
+    match word {
+        b"check" => Ok(Command::Check),
+        b"catchup" => Ok(Command::CatchUp),
+        b"why" => Ok(Command::Why),
+        b"count" => Ok(Command::Count),
+        _ => Err(LineFault::UnknownCommand),
     }
 }

@@ -1,13 +1,16 @@
 //! The text of replies.
-ghost use Rattle.std.specs.Prelude.{◌≡◌, ◌+◌, ◌++◌, ◌∷◌, ◌<◌, ◌==◌, OnOk, length, decimal, codes};
+ghost use Rattle.std.specs.Prelude.{◌≡◌, ◌+◌, ◌++◌, ◌∷◌, ◌<◌, ◌==◌, ◌≤◌, ◌-◌, OnOk, length, decimal, codes};
+ghost use Rattle.std.specs.Int.{bit_at};
 ghost use Rattle.std.specs.List.{flat_map};
 ghost use Rattle.mls_kinds.specs.KindSets.{members};
+ghost use Rattle.mls_session.specs.Refusals.{refusal_number, refusal_text};
 ghost use Rattle.mls_wire.specs.Replies as spec;
 
 use crate::{Names, Response};
 use itoa::{Buffer, Integer};
+use mls_errorplane::Stepped;
 use mls_kinds::KindSet;
-use mls_session::Reply;
+use mls_session::{Refusal, Reply};
 use std::alloc::AllocError;
 
 /// Appends the reply text of the response to line `n`.
@@ -36,6 +39,11 @@ pub fn push_response<N: Names>(
             out.extend_from_slice(name.as_bytes())?;
             out.extend_from_slice(b" refused open ")?;
             push_numbered(fault.number(), fault.text().as_bytes(), out)?;
+        }
+        Response::Stepped(name, end) => {
+            out.extend_from_slice(name.as_bytes())?;
+            out.extend_from_slice(b" step ")?;
+            out.extend_from_slice(stepped_text(*end).as_bytes())?;
         }
         Response::Replied(name, reply) => {
             out.extend_from_slice(name.as_bytes())?;
@@ -88,10 +96,51 @@ fn push_reply<N: Names>(names: &N, reply: Reply, out: &mut Vec<u8>) -> Result<()
             out.extend_from_slice(b"saved ")?;
             push_decimal(lines as u64, out)
         }
-        Reply::Refused(refusal) => {
-            out.extend_from_slice(b"refused ")?;
-            push_numbered(refusal.number(), refusal.text().as_bytes(), out)
+        Reply::Count { errors, pending } => {
+            out.extend_from_slice(b"count ")?;
+            push_decimal(errors, out)?;
+            out.extend_from_slice(b" errors")?;
+            push_pending(pending, out)
         }
+        Reply::Why(rules) => {
+            out.extend_from_slice(b"why ")?;
+            push_decimal(rule_count(rules), out)?;
+            push_rules(names, rules, out)
+        }
+        Reply::Refused(refusal) => push_refusal(refusal, out),
+        Reply::Stopped { refusal, pending } => {
+            push_refusal(refusal, out)?;
+            push_pending(pending, out)
+        }
+    }
+}
+
+/// Appends the number and the text of a refusal.
+fn push_refusal(refusal: Refusal, out: &mut Vec<u8>) -> Result<(), AllocError>
+    ensures { OnOk result (out.new.items ≡ out.old.items ++ codes "refused " ++ spec.numbered (refusal_number refusal) (refusal_text refusal)) }
+{
+    out.extend_from_slice(b"refused ")?;
+    push_numbered(refusal.number(), refusal.text().as_bytes(), out)
+}
+
+/// Appends how many areas await checking.
+fn push_pending(pending: usize, out: &mut Vec<u8>) -> Result<(), AllocError>
+    ensures { OnOk result (out.new.items ≡ out.old.items ++ spec.pending_text pending) }
+{
+    out.push(b' ')?;
+    push_decimal(pending as u64, out)?;
+    out.extend_from_slice(b" pending")
+}
+
+/// Returns how a check step ended, in words.
+fn stepped_text(end: Stepped) -> &'static str
+    ensures { result.now ≡ spec.stepped_text end }
+{
+    match end {
+        Stepped::Idle => "idle",
+        Stepped::Done => "done",
+        Stepped::Full => "full",
+        Stepped::Memory => "memory",
     }
 }
 
@@ -120,6 +169,50 @@ fn push_type<N: Names>(names: &N, kind: u8, out: &mut Vec<u8>) -> Result<(), All
     out.push(b' ')?;
     if let Some(name) = names.type_name(kind) {
         out.extend_from_slice(name)?;
+    }
+    Ok(())
+}
+
+/// The most rules that a set may have.
+const MOST_RULES: usize = 128;
+
+/// Returns how many rules the set has.
+fn rule_count(rules: u128) -> u32
+    ensures { result ≡ length (spec.rules_in rules) }
+{
+    rules.count_ones()
+}
+
+/// Appends the text of each rule of the set, in rising order.
+fn push_rules<N: Names>(names: &N, rules: u128, out: &mut Vec<u8>) -> Result<(), AllocError>
+    ensures { OnOk result (out.new.items ≡ out.old.items ++ flat_map (spec.rule_text (N.book names.now)) (spec.rules_in rules)) }
+{
+    for n in 1..=MOST_RULES {
+        if has_rule(rules, n) {
+            push_rule(names, n, out)?;
+        }
+    }
+    Ok(())
+}
+
+/// Returns whether the set has rule `n`.
+fn has_rule(rules: u128, n: usize) -> bool
+    requires first { 1 ≤ n }
+    requires last { n ≤ 128 }
+    ensures { result ≡ (bit_at rules (n - 1) == 1) }
+{
+    (rules >> (n - 1)) & 1 == 1
+}
+
+/// Appends the number of a rule in brackets, and its why text.
+fn push_rule<N: Names>(names: &N, n: usize, out: &mut Vec<u8>) -> Result<(), AllocError>
+    ensures { OnOk result (out.new.items ≡ out.old.items ++ spec.rule_text (N.book names.now) n) }
+{
+    out.extend_from_slice(b" [")?;
+    push_decimal(n as u64, out)?;
+    out.extend_from_slice(b"] ")?;
+    if let Some(text) = names.why_text(n) {
+        out.extend_from_slice(text)?;
     }
     Ok(())
 }

@@ -2,6 +2,7 @@
 ghost use Rattle.std.specs.Prelude.{◌≡◌};
 
 use crate::{LineFault, Name};
+use mls_errorplane::Stepped;
 use mls_session::Reply;
 use std::marker::Model;
 use thiserror::Error;
@@ -17,6 +18,8 @@ pub enum Response {
     Opened(Name),
     /// The session can't be opened.
     NotOpened(Name, OpenFault),
+    /// How the session's check step ended.
+    Stepped(Name, Stepped),
     /// The session's reply to its command.
     Replied(Name, Reply),
     /// The number of lines of the session's layout as a cell file, and their text.

@@ -1,6 +1,7 @@
 //! Serving a script.
 ghost use Rattle.std.specs.Prelude.{◌≡◌, ◌≢◌, false, OnOk, OnErr, IfErr};
 ghost use Rattle.std.specs.Io.KnownBytes.{Appends};
+ghost use Rattle.mls_wire.specs.Runs.{MarksAreExact, MarksAreRight};
 ghost use Rattle.mls_wire.specs.ScriptLines.{text_of};
 ghost use Rattle.mls_wire.specs.Serving.{AppendsFront, WritesRun, WritesCutRun, WritesLine, WritesCutLine, HasReason};
 ghost use Rattle.mls_wire.specs.Solos.{open_session_of, setting_of};
@@ -87,9 +88,12 @@ pub fn serve<R: Read, W: Write>(
         (R.remaining input.old.device) (R.remaining input.new.device)
         (W.contents output.old.device) (W.contents output.new.device) (open_session_of solo.new)) }
     ensures cause { IfErr result (λ fault. HasReason fault input.new output.new) }
+    ensures marks_right { MarksAreRight (setting_of solo.new) (open_session_of solo.new) }
+    ensures marks_exact { MarksAreExact (setting_of solo.new) (open_session_of solo.new) }
     ensures setting { setting_of solo.new ≡ setting_of solo.old }
 {
     prove!(!input.failed() && !output.failed());
+    solo.marks_are_right();
     let mut reader = LineReader::new();
     let mut text = Vec::new(alloc);
     let mut n: u128 = 1;
@@ -123,6 +127,8 @@ fn serve_line<W: Write>(
         (W.contents output.old.device) (W.contents output.new.device) (open_session_of solo.new)) }
     ensures cut { IfErr result (λ fault. WritesCutLine (setting_of solo.old) (open_session_of solo.old) n (text_of line.entry) fault
         (W.contents output.old.device) (W.contents output.new.device) (open_session_of solo.new)) }
+    ensures marks_right { MarksAreRight (setting_of solo.new) (open_session_of solo.new) }
+    ensures marks_exact { MarksAreExact (setting_of solo.new) (open_session_of solo.new) }
     ensures setting { setting_of solo.new ≡ setting_of solo.old }
     ensures kind { IfErr result (λ fault. fault ≢ ServeFault.Read) }
     ensures cause { IfErr result (λ fault. fault ≡ ServeFault.Write → HasCause output.new) }

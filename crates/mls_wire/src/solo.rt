@@ -3,13 +3,16 @@ ghost use Rattle.std.specs.Prelude.{◌≡◌, ◌≤◌, IfOk, IsTrue, length};
 ghost use Rattle.mls_library.specs.SavedCells.{saved_line_count};
 ghost use Rattle.mls_session.specs.declared.reply.Reply.TheVariants.{Saved};
 ghost use Rattle.mls_paint.specs.Scratches.{KeepsRoom};
-ghost use Rattle.mls_session.specs.Sessions.{IsHome, plane_reserve, state_of};
-ghost use Rattle.mls_wire.specs.Runs.{CanExecute, Executes, LoadsCell, Opens, Replies, RunsCommand, Setting, book_of, is_named};
+ghost use Rattle.mls_session.specs.Drawings.{plane_reserve};
+ghost use Rattle.mls_session.specs.Sessions.{IsHome, state_of};
+ghost use Rattle.mls_wire.specs.Runs.{CanExecute, Executes, LoadsCell, MarksAreExact, MarksAreRight, Opens, Replies, RunsCommand, RunsStep, Setting, book_of, is_named};
 ghost use Rattle.mls_wire.specs.Says.{line_says};
 ghost use Rattle.mls_wire.specs.ScriptLines.{text_of};
 ghost use Rattle.mls_wire.specs.Solos.{open_session_of, pool_tiles, setting_of};
 
 use crate::{Line, Name, Names, OpenFault, Response, SavedText, ScriptLine, parse_line};
+use mls_edgerule::Rules;
+use mls_errorplane::MARK_ROOM;
 use mls_geom::Piece;
 use mls_library::{CellFault, CellId, Library};
 use mls_paint::Scratch;
@@ -19,13 +22,14 @@ use mls_tilepool::Pool;
 use std::alloc::{AllocError, Global};
 use std::marker::Model;
 
-/// How many tiles the pool has. The planes of one session take 65792 at most: four planes at the greatest quota.
+/// How many tiles the pool has. The planes of one session take 82240 at most: four planes and the error plane at the greatest
+/// quota.
 const CAPACITY: u32 = 262_144;
 
 /// How many pieces can be painted at once.
 const PAINT_ROOM: u32 = 65_536;
 
-/// The most tiles that a cell's plane has, and so the most pieces that dumping it makes, however small the quota is.
+/// The most tiles that a cell's plane has, however small the quota is.
 const CELL_TILES: u32 = 4096;
 
 /// A server that has one session at most.
@@ -35,12 +39,14 @@ const CELL_TILES: u32 = 4096;
 #[derive(Drop)]
 pub struct Solo {
     tech: Tech,
+    rules: Rules,
     quota: Quota,
     pool: Pool,
     library: Library,
     /// How many tiles of the pool the cells leave.
     room: u32,
     scratch: Scratch,
+    /// Has room for the marks of a check step, which may be more pieces than a plane of a session or a cell has tiles.
     pieces: Vec<Piece>,
     session: Option<(Name, Session)>,
 }
@@ -52,30 +58,31 @@ impl Model for Solo {
 
     ghost Value = { Solo };
 
-    ghost view = { λ solo. record { tech = solo.tech; quota = solo.quota; pool = solo.pool; library = solo.library; room = solo.room; session = solo.session } };
+    ghost view = { λ solo. record { tech = solo.tech; rules = solo.rules; quota = solo.quota; pool = solo.pool; library = solo.library; room = solo.room; session = solo.session } };
 
-    ghost invariant = { λ solo. IsOpenFor solo.tech solo.quota solo.pool solo.library solo.room solo.session
+    ghost invariant = { λ solo. IsOpenFor solo.tech solo.rules solo.quota solo.pool solo.library solo.room solo.session
         × HasRooms solo.quota solo.scratch (vec_capacity solo.pieces) };
 }
 
 impl Solo {
     ghost use Rattle.std.specs.Prelude.{None, []};
 
-    /// Creates a server with no cells and no open session, whose sessions have the planes and types of this technology and
-    /// this quota.
+    /// Creates a server with no cells and no open session, whose sessions have the planes and types of this technology, are
+    /// checked by these rules, and have this quota.
     ///
     /// Reserves the memory of the pool, and of the lists in which commands work.
     #[tactic(auto, unfolding(mls_tilepool::specs::Pools::reserved))]
-    pub fn new(alloc: Global, tech: Tech, quota: Quota) -> Result<Solo, AllocError>
-        ensures setting { IfOk result (λ solo. setting_of solo ≡ record { tech = tech; quota = quota; cells = []; room = pool_tiles }) }
+    pub fn new(alloc: Global, tech: Tech, rules: Rules, quota: Quota) -> Result<Solo, AllocError>
+        ensures setting { IfOk result (λ solo. setting_of solo ≡ record { tech = tech; rules = rules; quota = quota; cells = []; room = pool_tiles }) }
         ensures session { IfOk result (λ solo. open_session_of solo ≡ None) }
     {
         let reserve = quota.reserve();
         let pool = Pool::new(alloc, CAPACITY)?;
         let scratch = Scratch::new(alloc, reserve.max(CELL_TILES), PAINT_ROOM)?;
-        let pieces = Vec::with_capacity(alloc, reserve.max(CELL_TILES) as usize)?;
+        let pieces = Vec::with_capacity(alloc, MARK_ROOM)?;
         Ok(Solo {
             tech,
+            rules,
             quota,
             pool,
             library: Library::new(alloc),
@@ -112,12 +119,25 @@ impl Solo {
     pub fn respond(&mut self, alloc: Global, line: ScriptLine<'_>) -> Response
         ensures executes { Executes (setting_of self.old) (open_session_of self.old)
             (line_says (book_of (setting_of self.old) (open_session_of self.old)) (text_of line.entry)) result (open_session_of self.new) }
+        ensures marks_right { MarksAreRight (setting_of self.new) (open_session_of self.new) }
+        ensures marks_exact { MarksAreExact (setting_of self.new) (open_session_of self.new) }
         ensures setting { setting_of self.new ≡ setting_of self.old }
     {
-        match parse_line(self, line) {
+        let response = match parse_line(self, line) {
             Ok(said) => self.execute(alloc, said),
             Err(fault) => Response::Fault(fault),
-        }
+        };
+        self.marks_are_right();
+        response
+    }
+
+    /// Does nothing. Its contract is what every server keeps: the open session's marks are right outside the areas that
+    /// await checking, and exact where none does.
+    pub fn marks_are_right(&self)
+        ensures right { MarksAreRight (setting_of self.now) (open_session_of self.now) }
+        ensures exact { MarksAreExact (setting_of self.now) (open_session_of self.now) }
+    {
+        let _session = &self.session;
     }
 
     /// Executes what a line says.
@@ -129,6 +149,7 @@ impl Solo {
         match said {
             Line::Silent => Response::Silent,
             Line::Open(name) => self.open(alloc, name),
+            Line::Step(name) => self.step(alloc, name),
             Line::Run(name, command) => self.run_command(alloc, name, command),
         }
     }
@@ -148,6 +169,7 @@ impl Solo {
         }
         let Solo {
             tech,
+            rules,
             quota,
             pool,
             room,
@@ -155,10 +177,10 @@ impl Solo {
             session,
             ..
         } = self;
-        if *room < tech.planes() as u32 * quota.reserve() {
+        if *room < (tech.planes() as u32 + 1) * quota.reserve() {
             return Response::NotOpened(name, OpenFault::PoolFull);
         }
-        let Ok(opened) = Session::open(alloc, pool, tech, *quota, scratch) else {
+        let Ok(opened) = Session::open(alloc, pool, tech, rules, *quota, scratch) else {
             return Response::NotOpened(name, OpenFault::Memory);
         };
         *session = Some((name, opened));
@@ -173,6 +195,7 @@ impl Solo {
     {
         let Solo {
             tech,
+            rules,
             pool,
             library,
             scratch,
@@ -186,8 +209,29 @@ impl Solo {
         if let Command::Save = command {
             return save(alloc, name, session, pool, tech, scratch);
         }
-        let reply = session.command(pool, tech, library, command, pieces, scratch);
+        let reply = session.command(alloc, pool, tech, rules, library, command, pieces, scratch);
         Response::Replied(name, reply)
+    }
+
+    /// Does a check step in the open session.
+    fn step(&mut self, alloc: Global, name: Name) -> Response
+        requires { IsTrue (is_named (open_session_of self.old) name) }
+        ensures runs { RunsStep (setting_of self.old) (open_session_of self.old) name result (open_session_of self.new) }
+        ensures setting { setting_of self.new ≡ setting_of self.old }
+    {
+        let Solo {
+            rules,
+            pool,
+            scratch,
+            pieces,
+            session,
+            ..
+        } = self;
+        let Some((_, session)) = session else {
+            unreachable!()
+        };
+        let end = session.step(alloc, pool, rules, pieces, scratch);
+        Response::Stepped(name, end)
     }
 }
 
@@ -201,10 +245,10 @@ fn save(
     scratch: &mut Scratch,
 ) -> Response
     requires home { IsHome pool.now session.now }
-    requires made_for { length session.now.planes ≡ tech.now.plane_count }
-    requires tiles_fit { plane_reserve session.now.quota ≤ scratch.old.room }
+    requires made_for { length session.now.drawing.planes ≡ tech.now.plane_count }
+    requires tiles_fit { plane_reserve session.now.drawing.quota ≤ scratch.old.room }
     ensures replies { (setting : Setting) → setting.tech ≡ tech.now
-        → Replies setting name (state_of pool.now session.now) (Saved (saved_line_count tech.now (state_of pool.now session.now).layout)) result }
+        → Replies setting name (state_of pool.now session.now) (Saved (saved_line_count tech.now (state_of pool.now session.now).drawn.layout)) result }
     ensures rooms { KeepsRoom scratch.old scratch.new }
 {
     let mut text = Vec::new(alloc);
@@ -230,6 +274,10 @@ impl Names for Solo {
 
     fn type_name(&self, kind: u8) -> Option<&[u8]> {
         self.tech.type_name(kind)
+    }
+
+    fn why_text(&self, n: usize) -> Option<&[u8]> {
+        self.tech.why(n)
     }
 
     fn is_open(&self, name: &Name) -> bool {

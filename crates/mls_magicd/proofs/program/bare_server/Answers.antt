@@ -9,7 +9,7 @@ use Rattle.mls_magicd.proofs.program.bare_server.Goals as goal
 
 pub returns-in_err-new-clause-err : goal.returns-in_err-new-clause-err
 returns-in_err-new-clause-err g c =
-    let setting : Setting = record { tech = c.in_ok-tech.tech; quota = c.args.options.now.quota; cells = []; room = pool_tiles } in
+    let setting : Setting = record { tech = c.in_ok-tech.tech; rules = c.in_ok-rules.rules; quota = c.args.options.now.quota; cells = []; room = pool_tiles } in
     let reported : ReportsAll g.E.Write.contents c.args.faults.now c.report_skipped.new.faults (skipped_lines setting.tech) = search rules in
     let fault = err_from_is_err_and c.from_residual-in_err-new.result c.from_residual-in_err-new.ensures.1 in
     rw fault.1 (λ words parsed.

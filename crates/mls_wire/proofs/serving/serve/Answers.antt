@@ -32,6 +32,8 @@ pub lines-preserved : goal.lines-preserved
 lines-preserved g c = record {
   served = line_done (setting_of c.args.solo.now) (setting_of c.lines.solo) c.lines.invariant.setting _ (open_session_of c.lines.solo) (open_session_of c.serve_line-in-Line.new.solo) c.lines.n _ _ c.line-in-Line.ensures
       _ _ _ _ _ c.lines.invariant.served _ (rw c.in-Line.is at c.in_ok-next_line.ensures.taken) c.in_ok-serve_line-in-Line.ensures.done;
+  marks_right = c.serve_line-in-Line.ensures.marks_right;
+  marks_exact = c.serve_line-in-Line.ensures.marks_exact;
   setting = c.serve_line-in-Line.ensures.setting ∙ c.lines.invariant.setting;
   numbered = omega (arith, c.in_ok-next_line.ensures.fewer);
 }

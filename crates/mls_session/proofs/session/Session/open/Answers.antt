@@ -1,39 +1,51 @@
--- Each turn adds a plane of space.
-use Rattle.std.proofs.Common.{◌≡◌, ◌+◌, ◌*◌, length, None, sym, subst, ◌∙◌, arith}
+use Rattle.std.proofs.Common.{◌≡◌, ◌+◌, ℕ, List, ap, ◌∙◌, sym, subst}
+use Rattle.mls_geom.specs.Rects.{Rect}
+use Rattle.mls_checker.specs.Marking.{no_squares}
 use Rattle.mls_tilepool.specs.Pools.{unreserved}
-use Rattle.mls_paint.specs.Owners.{AddsOwners}
 use Rattle.mls_paint.specs.Planes.{AddsOwner}
-use Rattle.mls_session.specs.Sessions.{IsHome, plane_reserve}
-use Rattle.mls_session.proofs.HomePlanes.{IsHome-push, differ_from_new}
-use Rattle.mls_session.proofs.Openings.{AddsOwners-plane, AreSpace, AreSpace-push, state_of-opening}
-use Rattle.mls_session.proofs.KeptRooms.{KeepsRoom-trans}
+use Rattle.mls_errorplane.specs.Checkings.{Checking, opening_checking}
+use Rattle.mls_errorplane.specs.ErrorPlanes.{checking_of}
+use Rattle.mls_errorplane.proofs.EmptyLayouts.{opening-IsChecked}
+use Rattle.mls_session.specs.Drawings.{plane_reserve}
+use Rattle.mls_session.specs.Own.{Drawn, OwnState, blank, opening}
+use Rattle.mls_session.specs.Sessions.{HasRightMarks, state_of}
+use Rattle.mls_session.proofs.ErrorPlanes.{IsHome-added, differs, drawn-added}
+use Rattle.mls_session.proofs.Openings.{AddsOwners-plane}
 use Rattle.mls_session.proofs.session.Session.open.Goals as goal
 
-pub loop-plane-preserved : goal.loop-plane-preserved
-loop-plane-preserved c =
-    let old = c.loop-plane.pool in
-    let new = c.space_plane.new.pool in
-    let planes = c.loop-plane.planes.items in
-    let owner = c.unwrap.result in
-    let reserve = plane_reserve c.args.quota in
-    let so_far = c.loop-plane.invariant in
-    let made = c.space_plane.ensures in
-    let strips = rw c.unwrap.ensures at made.strips in
-    let shows = rw c.unwrap.ensures at made.space in
-    let added : AddsOwner old new owner reserve = rw (← c.reserve-reserve.ensures.value) (rw c.unwrap.ensures at made.added) in
-    let taken : unreserved new + reserve ≡ unreserved old = rw (← c.reserve-reserve.ensures.value) (rw c.unwrap.ensures at made.taken) in
-    let differ = differ_from_new old new (record { box = None; planes = planes; quota = c.args.quota }) owner reserve so_far.home added in
-    let items = c.push_reserved.ensures.items in
-    record {
-      count = omega (arith, c.push_reserved.ensures.len, so_far.count);
-      reserved = c.push_reserved.ensures.capacity ∙ so_far.reserved;
-      home =
-          subst (λ owners. IsHome new (record { box = None; planes = owners; quota = c.args.quota })) (sym items)
-          (IsHome-push old new None planes c.args.quota owner so_far.home added strips);
-      space = subst (AreSpace new) (sym items) (AreSpace-push old new planes owner reserve so_far.space differ added shows);
-      added = subst (λ owners. AddsOwners c.args.pool.now new owners (length owners * reserve)) (sym items) (AddsOwners-plane c.args.pool.now old new planes owner reserve so_far.added differ added taken);
-      rooms = KeepsRoom-trans so_far.rooms made.rooms;
-    }
+-- the error plane has as many tiles as each other plane
+reserved : (c : goal.After-new-errors) → AddsOwner c.open.new.pool c.new-errors.new.pool c.new-errors.result.owner (plane_reserve c.in_ok-drawing.drawing.quota)
+reserved c =
+    subst (AddsOwner c.open.new.pool c.new-errors.new.pool c.new-errors.result.owner)
+    (c.reserve.ensures.value ∙ ap plane_reserve (sym c.in_ok-drawing.ensures.quota)) c.new-errors.ensures.added
+
+begins : (c : goal.After-new-errors) → state_of c.new-errors.new.pool (record { drawing = c.in_ok-drawing.drawing; errors = c.new-errors.result }) ≡ opening c.args.rules.now
+begins c =
+    let drawing = c.in_ok-drawing.drawing in
+    let drawn = drawn-added c.open.new.pool c.new-errors.new.pool drawing c.new-errors.result.owner c.in_ok-drawing.ensures.home (reserved c) ∙ c.in_ok-drawing.ensures.blank in
+    let known : checking_of c.new-errors.new.pool c.new-errors.result ≡ opening_checking c.args.rules.now =
+    c.new-errors.ensures.begins ∙ ap (λ (areas : List Rect). record { marks = no_squares; dirty = areas }) c.in_ok-dirty.ensures in
+    let own : Drawn → Checking → OwnState = λ d k. record { drawn = d; checking = k } in
+    ap (λ d. own d (checking_of c.new-errors.new.pool c.new-errors.result)) drawn ∙ ap (own blank) known
 
 pub returns-clause-opening : goal.returns-clause-opening
-returns-clause-opening c = state_of-opening c.loop-plane.pool c.loop-plane.planes.items c.args.quota c.loop-plane.invariant.space
+returns-clause-opening c = begins c
+
+pub returns-clause-marks_right : goal.returns-clause-marks_right
+returns-clause-marks_right c = subst (HasRightMarks c.args.rules.now) (sym (begins c)) (opening-IsChecked c.args.rules.now)
+
+pub returns-clause-home : goal.returns-clause-home
+returns-clause-home c =
+    IsHome-added c.open.new.pool c.new-errors.new.pool c.in_ok-drawing.drawing c.new-errors.result.owner c.in_ok-drawing.ensures.home (reserved c) c.new-errors.result.dirty
+    c.new-errors.ensures.marks
+
+pub returns-clause-added : goal.returns-clause-added
+returns-clause-added c =
+    let drawing = c.in_ok-drawing.drawing in
+    let mid = c.open.new.pool in
+    let new = c.new-errors.new.pool in
+    let owner = c.new-errors.result.owner in
+    let apart = differs mid new drawing owner c.in_ok-drawing.ensures.home (reserved c) in
+    let taken : unreserved new + plane_reserve c.args.quota ≡ unreserved mid = ap (λ (n : ℕ). unreserved new + n) (sym c.reserve.ensures.value) ∙ c.new-errors.ensures.taken in
+    let added : AddsOwner mid new owner (plane_reserve c.args.quota) = subst (AddsOwner mid new owner) c.reserve.ensures.value c.new-errors.ensures.added in
+    AddsOwners-plane c.args.pool.now mid new drawing.planes owner (plane_reserve c.args.quota) c.in_ok-drawing.ensures.added apart added taken

@@ -8,6 +8,7 @@ pub returns-in_err-id-clause-loads : goal.returns-in_err-id-clause-loads
 returns-in_err-id-clause-loads c =
     let before : Solo = record {
       tech = c.self.inside.tech;
+      rules = c.self.inside.rules;
       quota = c.self.inside.quota;
       pool = c.self.inside.pool;
       library = c.self.inside.library;
@@ -28,6 +29,7 @@ pub returns-clause-loads : goal.returns-clause-loads
 returns-clause-loads c =
     let before : Solo = record {
       tech = c.self.inside.tech;
+      rules = c.self.inside.rules;
       quota = c.self.inside.quota;
       pool = c.self.inside.pool;
       library = c.self.inside.library;

@@ -3,7 +3,7 @@ use Rattle.mls_session.specs.declared.command.Command.TheVariants.{Save}
 use Rattle.mls_session.specs.Sessions.{state_of}
 use Rattle.mls_session.specs.Own.{OwnState}
 use Rattle.mls_wire.proofs.CommandRuns.{RunsCommand-save, RunsCommand-step}
-use Rattle.mls_wire.proofs.SettingLemmas.{HasRooms-kept, IsMadeFor-command, config_for-setting, named_layouts-same}
+use Rattle.mls_wire.proofs.SettingLemmas.{HasRooms-kept, IsMadeFor-kept, config_for-setting, named_layouts-same}
 use Rattle.mls_wire.specs.Runs.{RunsCommand}
 use Rattle.mls_wire.specs.Solos.{IsOpenFor, Solo, open_session_of, setting_of}
 use Rattle.mls_wire.specs.declared.response.Response.TheVariants.{Replied}
@@ -14,6 +14,7 @@ returns-in-Save-clause-runs c =
     let own = c.self.inside in
     let before : Solo = record {
       tech = own.tech;
+      rules = own.rules;
       quota = own.quota;
       pool = own.pool;
       library = own.library;
@@ -30,9 +31,9 @@ pub invariant_of-self-2 : goal.invariant_of-self-2
 invariant_of-self-2 c =
     let own = c.self.inside in
     let done = c.command-reply.ensures in
-    let made = subst (IsOpenFor own.tech own.quota own.pool own.library own.room) c.in-Some.is c.self.invariant.0 in (
-      IsMadeFor-command own.tech own.quota own.pool c.command-reply.new.pool own.library c.in-Some.session c.command-reply.new.self made done.keeps
-          done.cells_home,
+    let made = subst (IsOpenFor own.tech own.rules own.quota own.pool own.library own.room) c.in-Some.is c.self.invariant.0 in (
+      IsMadeFor-kept own.tech own.rules own.quota own.pool c.command-reply.new.pool own.library c.in-Some.session c.command-reply.new.self made done.keeps
+          done.cells_home done.marks_right,
       HasRooms-kept own.quota own.scratch c.command-reply.new.scratch _ _ done.rooms done.pieces_room c.self.invariant.1,
     )
 
@@ -40,9 +41,10 @@ pub returns : goal.returns
 returns c =
     let own = c.self.inside in
     let done = c.command-reply.ensures in
-    let made = subst (IsOpenFor own.tech own.quota own.pool own.library own.room) c.in-Some.is c.self.invariant.0 in
+    let made = subst (IsOpenFor own.tech own.rules own.quota own.pool own.library own.room) c.in-Some.is c.self.invariant.0 in
     let before : Solo = record {
       tech = own.tech;
+      rules = own.rules;
       quota = own.quota;
       pool = own.pool;
       library = own.library;
@@ -58,6 +60,6 @@ returns c =
           (RunsCommand-step (setting_of before) c.in-Some.field-0-0 c.args.name (state_of own.pool c.in-Some.session) _ c.args.command reply new
           (config_for-setting before c.in-Some.session made.quota_match) c.in_default-command.not-Save done.step);
       setting =
-          ap (λ cells. record { tech = own.tech; quota = own.quota; cells = cells; room = own.room }) (named_layouts-same own.pool c.command-reply.new.pool own.library done.cells)
+          ap (λ cells. record { tech = own.tech; rules = own.rules; quota = own.quota; cells = cells; room = own.room }) (named_layouts-same own.pool c.command-reply.new.pool own.library done.cells)
           ∙ ap setting_of same;
     }

@@ -1,0 +1,164 @@
+-- An edit leaves a layout as it was outside the edit's rectangle.
+use Rattle.std.proofs.Common.{◌≡◌, Bool, true, false, ℕ, ℤ, pos, negsuc, ◌-◌, ◌<◌, ◌≤◌, ◌+ℤ◌, ◌-ℤ◌, ◌==◌, ◌&&◌, not, if◌then◌else◌, Option, Some, None, Contains, inl, inr, refl, sym, ap, subst, ◌∙◌, eqb-true, arith}
+use Rattle.std.specs.List.{range_with_len}
+use Rattle.std.specs.Option.{option_and_then}
+use Rattle.std.proofs.Math.Path.{fun_ext}
+use Rattle.std.proofs.lemmas.Bool.{and_from, cases_Bool, cases_lt}
+use Rattle.std.proofs.lemmas.Int.{ints}
+use Rattle.std.proofs.lemmas.List.Folds.{Any-from_list_any}
+use Rattle.mls_geom.specs.Layouts.{Layout}
+use Rattle.mls_geom.specs.Pictures.{Picture, empty_picture, painted}
+use Rattle.mls_geom.specs.Rects.{Rect, holds}
+use Rattle.mls_geom.specs.World.{world}
+use Rattle.mls_geom.proofs.Holds.{holds_between}
+use Rattle.mls_geom.proofs.Squares.{range_with_len-Contains}
+use Rattle.mls_kinds.specs.KindSets.{holds as has_kind}
+use Rattle.mls_checker.specs.ZoneLayouts.{AgreeOutside}
+use Rattle.mls_session.specs.Bounds.{dumped_rect, has_paint, moved_rect, painted_bounds}
+use Rattle.mls_session.specs.Changes.{has_square, kind_at, layout_leaves_world, leaves_world, moved}
+use Rattle.mls_session.specs.Own.{dumped_layout, erased_layout, with_plane}
+use Rattle.mls_session.proofs.FirstPlanes.{any_at}
+use Rattle.mls_session.proofs.MovedRects.{IsMoved, IsMoved-moved_rect, has_square-to, holds-IsMoved, holds_at, lines_moved, moved_rect-is, none_of, not_beyond}
+use Rattle.mls_session.proofs.MovedTiles.{leaves_world-at}
+use Rattle.mls_session.proofs.SmallestRects.{IsBounds, IsBounds-bounds_of, IsSmallest, Passes}
+
+-- ---- paint and erase
+pub AgreeOutside-painted :
+    (layout : Layout) (plane : ℕ) (e : Rect) (kind : ℕ) → AgreeOutside e layout (with_plane layout plane (painted (layout plane) (record { rect = e; kind = kind })))
+AgreeOutside-painted layout plane e kind p x y outside = by (p == plane) refl
+  where
+    picture : Picture
+    picture = painted (layout plane) (record { rect = e; kind = kind })
+
+    by : (same : Bool) → (p == plane) ≡ same → layout p x y ≡ (if same then picture else layout p) x y
+    by true same = ap (λ q. layout q x y) (eqb-true p plane same) ∙ ap (λ inside. if inside then kind else layout plane x y) (sym outside)
+    by false same = refl
+
+pub AgreeOutside-erased : (layout : Layout) (e : Rect) (kinds : ℕ) → AgreeOutside e layout (erased_layout layout e kinds)
+AgreeOutside-erased layout e kinds plane x y outside = ap (λ inside. if inside && has_kind kinds (layout plane x y) then 0 else layout plane x y) (sym outside)
+
+-- ---- dump
+-- a smallest rectangle has a square
+sized : (test : ℕ → ℕ → Bool) (e : Rect) → IsSmallest test e → (e.left < e.right) × (e.bottom < e.top)
+sized test e smallest =
+    let (y, left) = smallest.on_left in
+    let (x, bottom) = smallest.on_bottom in
+    let column = holds_between e e.left y (smallest.each e.left y left) in
+    let row = holds_between e x e.bottom (smallest.each x e.bottom bottom) in
+    (column.1, row.3)
+
+bounds_there : (test : ℕ → ℕ → Bool) (found : Option Rect) (e : Rect) → IsBounds test found → found ≡ Some e → IsSmallest test e
+bounds_there test found e is same = subst (IsBounds test) same is
+
+module _ (planes : ℕ) (cell : Layout) (dx dy : ℤ) where
+  plane_there : (x y : ℕ) → has_paint planes cell x y ≡ true → (plane : ℕ) × (plane < planes) × (not (cell plane x y == 0) ≡ true)
+  plane_there x y some =
+      let (i, plane, within, is, here) = Any-from_list_any (λ plane. not (cell plane x y == 0)) (range_with_len 0 planes) some in
+      let count : planes ≡ planes - 0 = omega arith in
+      let lines = range_with_len-Contains 0 planes plane (subst (λ n. Contains (range_with_len 0 n) plane) count (i, within, is)) in
+      (plane, lines.1, here)
+
+  -- ---- where no square leaves the world, the rectangle doesn't
+  module _ (stays : layout_leaves_world planes cell dx dy ≡ false) where
+    lands : (x y : ℕ) → Passes (has_paint planes cell) x y → has_square (pos x +ℤ dx) (pos y +ℤ dy) ≡ true
+    lands x y passes =
+        let (plane, within, some) = plane_there x y passes.1 in
+        elim (cases_Bool (has_square (pos x +ℤ dx) (pos y +ℤ dy))) [
+          | inl there ↦ there
+          | inr lost ↦
+              let leaves = leaves_world-at (cell plane) dx dy x y passes.0 (and_from _ _ some (ap not lost)) in
+              absurd (cc (sym stays ∙ any_at (λ plane. leaves_world (cell plane) dx dy) planes plane within leaves))
+        ]
+
+    moved_rect-smallest : (e : Rect) → IsSmallest (has_paint planes cell) e → moved_rect e dx dy ≡ Some (lines_moved e dx dy)
+    moved_rect-smallest e smallest =
+        let size = sized (has_paint planes cell) e smallest in
+        let (ly, on_left) = smallest.on_left in
+        let (bx, on_bottom) = smallest.on_bottom in
+        let (rx, ry, right, on_right) = smallest.on_right in
+        let (tx, ty, top, on_top) = smallest.on_top in
+        let left_square = has_square-to (pos e.left +ℤ dx) (pos ly +ℤ dy) (lands e.left ly on_left) in
+        let bottom_square = has_square-to (pos bx +ℤ dx) (pos e.bottom +ℤ dy) (lands bx e.bottom on_bottom) in
+        let right_square = has_square-to (pos rx +ℤ dx) (pos ry +ℤ dy) (lands rx ry on_right) in
+        let top_square = has_square-to (pos tx +ℤ dx) (pos ty +ℤ dy) (lands tx ty on_top) in
+        let inside =
+        none_of _ _ _ _
+        (not_beyond (pos e.left +ℤ dx) left_square.0 (omega (arith, ints, left_square.1)))
+        (not_beyond (pos e.bottom +ℤ dy) bottom_square.2 (omega (arith, ints, bottom_square.3)))
+        (not_beyond (pos e.right +ℤ dx) (omega (arith, ints, right, right_square.0)) (omega (arith, ints, right, right_square.1)))
+        (not_beyond (pos e.top +ℤ dy) (omega (arith, ints, top, top_square.2)) (omega (arith, ints, top, top_square.3))) in
+        moved_rect-is e dx dy size.0 size.1 ∙ ap (λ beyond. if beyond then None else Some (lines_moved e dx dy)) inside
+
+  -- ---- what it paints
+  module _ (beyond : (plane : ℕ) → planes ≤ plane → cell plane ≡ empty_picture) (outside : (plane x y : ℕ) → holds world x y ≡ false → cell plane x y ≡ 0) where
+    space_at : (plane x y : ℕ) → ¬ (Passes (has_paint planes cell) x y) → cell plane x y ≡ 0
+    space_at plane x y none = elim (cases_lt plane planes) [
+      | inr over ↦ ap (λ (picture : Picture). picture x y) (beyond plane over)
+      | inl within ↦ elim (cases_Bool (holds world x y)) [
+        | inr out ↦ outside plane x y out
+        | inl inside ↦ elim (cases_Bool (cell plane x y == 0)) [
+          | inl space ↦ eqb-true (cell plane x y) 0 space
+          | inr some ↦ absurd (none (inside, any_at (λ plane. not (cell plane x y == 0)) planes plane within (ap not some)))
+        ]
+      ]
+    ]
+
+    kept_square : (layout : Layout) (plane x y : ℕ) → moved (cell plane) dx dy x y ≡ 0 → layout plane x y ≡ dumped_layout layout cell dx dy plane x y
+    kept_square layout plane x y space = ap (λ kind. if kind == 0 then layout plane x y else kind) (sym space)
+
+    -- the dump of a cell without a square other than space changes nothing
+    pub dumped-nothing : (layout : Layout) → painted_bounds planes cell ≡ None → dumped_layout layout cell dx dy ≡ layout
+    unfolding moved
+    dumped-nothing layout empty =
+        sym (fun_ext (λ plane. fun_ext (λ x. fun_ext (λ y. kept_square layout plane x y (at plane (pos x -ℤ dx) (pos y -ℤ dy))))))
+      where
+        none : (x y : ℕ) → ¬ (Passes (has_paint planes cell) x y)
+        none = subst (IsBounds (has_paint planes cell)) empty (IsBounds-bounds_of (has_paint planes cell))
+
+        at : (plane : ℕ) (zx zy : ℤ) → kind_at (cell plane) zx zy ≡ 0
+        at plane (pos a) (pos b) = space_at plane a b (none a b)
+        at plane (pos a) (negsuc b) = refl
+        at plane (negsuc a) zy = refl
+
+    agrees_outside : (layout : Layout) (e rect : Rect) → IsSmallest (has_paint planes cell) e → IsMoved e rect dx dy → AgreeOutside rect layout (dumped_layout layout cell dx dy)
+    unfolding moved
+    agrees_outside layout e rect smallest is plane x y out =
+        kept_square layout plane x y (at (pos x -ℤ dx) (pos y -ℤ dy) (sym (holds-IsMoved e rect dx dy x y is) ∙ out))
+      where
+        at : (zx zy : ℤ) → holds_at e zx zy ≡ false → kind_at (cell plane) zx zy ≡ 0
+        at (pos a) (pos b) h = space_at plane a b (λ passes. absurd (cc (sym h ∙ smallest.each a b passes)))
+        at (pos a) (negsuc b) h = refl
+        at (negsuc a) zy h = refl
+
+    -- and that of another cell changes squares of the moved rectangle alone
+    pub dumped-bounds :
+        (layout : Layout) (bounds : Rect) → layout_leaves_world planes cell dx dy ≡ false → painted_bounds planes cell ≡ Some bounds
+        → (rect : Rect) × (moved_rect bounds dx dy ≡ Some rect) × AgreeOutside rect layout (dumped_layout layout cell dx dy)
+    dumped-bounds layout bounds stays found =
+        let smallest = bounds_there (has_paint planes cell) (painted_bounds planes cell) bounds (IsBounds-bounds_of (has_paint planes cell)) found in
+        let size = sized (has_paint planes cell) bounds smallest in
+        let rect = lines_moved bounds dx dy in
+        let is = moved_rect-smallest stays bounds smallest in
+        (rect, is, agrees_outside layout bounds rect smallest (IsMoved-moved_rect bounds rect dx dy size.0 size.1 is))
+
+    -- so it is of the rectangle that is asked for
+    pub AgreeOutside-dumped : (layout : Layout) (rect : Rect) → dumped_rect planes cell dx dy ≡ Some rect → AgreeOutside rect layout (dumped_layout layout cell dx dy)
+    AgreeOutside-dumped layout rect asked = by (painted_bounds planes cell) (IsBounds-bounds_of (has_paint planes cell)) asked
+      where
+        by :
+            (found : Option Rect) → IsBounds (has_paint planes cell) found → option_and_then (λ bounds. moved_rect bounds dx dy) found ≡ Some rect
+            → AgreeOutside rect layout (dumped_layout layout cell dx dy)
+        by None none h = absurd (cc h)
+        by (Some bounds) smallest h =
+            let size = sized (has_paint planes cell) bounds smallest in
+            agrees_outside layout bounds rect smallest (IsMoved-moved_rect bounds rect dx dy size.0 size.1 h)
+
+    -- and a dump that has none changes nothing
+    pub dumped-None : (layout : Layout) → layout_leaves_world planes cell dx dy ≡ false → dumped_rect planes cell dx dy ≡ None → dumped_layout layout cell dx dy ≡ layout
+    dumped-None layout stays asked = by (painted_bounds planes cell) refl asked
+      where
+        by : (found : Option Rect) → painted_bounds planes cell ≡ found → option_and_then (λ bounds. moved_rect bounds dx dy) found ≡ None → dumped_layout layout cell dx dy ≡ layout
+        by None empty h = dumped-nothing layout empty
+        by (Some bounds) found h =
+            let (rect, is, agrees) = dumped-bounds layout bounds stays found in
+            absurd (cc (sym h ∙ is))

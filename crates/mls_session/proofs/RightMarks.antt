@@ -1,0 +1,231 @@
+-- Marks that are right outside the areas that await checking stay so, whatever a command does.
+use Rattle.std.proofs.Common.{◌≡◌, ℕ, ℤ, ◌≤◌, Bool, true, false, if◌then◌else◌, not, nat_lt, ◌⊎◌, inl, inr, Option, Some, None, Result, Ok, Err, List, All, get_or, slice_get, refl, sym, ap, ◌∙◌, subst}
+use Rattle.std.specs.Option.{option_and_then}
+use Rattle.std.proofs.lemmas.List.Elements.{All-map}
+use Rattle.std.proofs.lemmas.Option.{get_or_from_slice_get, slice_get_within}
+use Rattle.mls_edgerule.specs.declared.edge_rule.EdgeRule.{EdgeRule}
+use Rattle.mls_geom.specs.Layouts.{Layout}
+use Rattle.mls_geom.specs.Pictures.{empty_picture, painted}
+use Rattle.mls_geom.specs.Rects.{Rect, holds}
+use Rattle.mls_geom.specs.TileCounts.{tile_count}
+use Rattle.mls_geom.specs.World.{rect_of, world}
+use Rattle.mls_geom.specs.declared.rect.RectFault.{RectFault}
+use Rattle.mls_geom.specs.declared.rect.RectFault.TheVariants.{Empty, Outside}
+use Rattle.mls_tech.specs.Readings.{plane_of_type}
+use Rattle.mls_tilepool.specs.Pools.{Pool}
+use Rattle.mls_checker.specs.Findings.{Finding}
+use Rattle.mls_checker.specs.ZoneLayouts.{AgreeOutside}
+use Rattle.mls_library.specs.Libraries.{HavePlanes, IsHome as AreCellsHome, Library, cell_layout}
+use Rattle.mls_errorplane.specs.Checkings.{Checking, IsChecked}
+use Rattle.mls_errorplane.specs.CatchingUp.{HasCaughtUp}
+use Rattle.mls_errorplane.specs.ErrorPlanes.{HasStepped}
+use Rattle.mls_errorplane.specs.Outcomes.{HasFinished}
+use Rattle.mls_errorplane.specs.declared.catching_up.CaughtUp.{CaughtUp}
+use Rattle.mls_errorplane.specs.declared.catching_up.CaughtUp.TheVariants as caught_up
+use Rattle.mls_errorplane.specs.declared.error_plane.Outcome.{Outcome}
+use Rattle.mls_errorplane.specs.declared.error_plane.Outcome.TheVariants as outcome
+use Rattle.mls_errorplane.specs.declared.error_plane.Stepped.{Stepped}
+use Rattle.mls_errorplane.specs.declared.error_plane.Stepped.TheVariants as stepped
+use Rattle.mls_errorplane.proofs.CheckedSquares.{edit-IsChecked, step-IsChecked}
+use Rattle.mls_errorplane.proofs.StepsDone.{AfterSteps-IsChecked}
+use Rattle.mls_session.specs.Bounds.{dumped_rect}
+use Rattle.mls_session.specs.Changes.{layout_leaves_world}
+use Rattle.mls_session.specs.Drawings.{cell_layouts}
+use Rattle.mls_session.specs.Own.{AnswersWhy, CatchesUp, Config, Drawn, OwnState, Step, are_types, box_step, cell_at, change_step, check_in, count_step, dump_step, dumped_in, dumped_layout, edit_step, erase_step, erased_layout, exceeds_quota, paint_on, paint_step, save_step, soiled_after, what_step, why_step, with_plane}
+use Rattle.mls_session.specs.Sessions.{HasRightMarks}
+use Rattle.mls_session.specs.declared.command.Command.{Command}
+use Rattle.mls_session.specs.declared.command.Command.TheVariants.{Box, Paint, Erase, Dump, What, Save, Check, CatchUp, Why, Count}
+use Rattle.mls_session.specs.declared.refusal.Refusal.TheVariants.{CellOutside, Quota, UnknownType}
+use Rattle.mls_session.specs.declared.reply.Reply.{Reply}
+use Rattle.mls_session.specs.declared.reply.Reply.TheVariants.{Done, Kinds, Saved, Count as Counted, Why as WhyRules, Refused, Stopped}
+use Rattle.mls_session.proofs.DumpedRects.{layout_in-beyond, layout_in-outside}
+use Rattle.mls_session.proofs.EditedSquares.{AgreeOutside-dumped, AgreeOutside-erased, AgreeOutside-painted, dumped-None}
+
+-- ---- edits
+-- a step leaves the layout, or it is accepted and changes squares of its rectangle alone
+abbrev IsEdit : Layout → Option Rect → Drawn × Reply → Type 0
+IsEdit layout rect step = (step.0.layout ≡ layout) ⊎ ((e : Rect) × (rect ≡ Some e) × (step.1 ≡ Done) × AgreeOutside e layout step.0.layout)
+
+kept : (rules : List EdgeRule) (layout : Layout) (checking : Checking) (rect : Option Rect) (reply : Reply) → IsChecked rules layout checking
+    → IsChecked rules layout (soiled_after rules rect reply checking)
+kept rules layout checking None reply right = right
+kept rules layout checking (Some e) Done right = edit-IsChecked rules e layout layout checking (λ plane x y out. refl) right
+kept rules layout checking (Some e) (Kinds kinds) right = right
+kept rules layout checking (Some e) (Saved lines) right = right
+kept rules layout checking (Some e) (Counted errors pending) right = right
+kept rules layout checking (Some e) (WhyRules violated) right = right
+kept rules layout checking (Some e) (Refused refusal) right = right
+kept rules layout checking (Some e) (Stopped refusal pending) right = right
+
+edited : (rules : List EdgeRule) (old new : Layout) (checking : Checking) (rect : Option Rect) (reply : Reply) (e : Rect) → rect ≡ Some e → reply ≡ Done
+    → AgreeOutside e old new → IsChecked rules old checking → IsChecked rules new (soiled_after rules rect reply checking)
+edited rules old new checking rect reply e is done agree right =
+    subst (λ (r : Option Rect). IsChecked rules new (soiled_after rules r reply checking)) (sym is)
+    (subst (λ (r : Reply). IsChecked rules new (soiled_after rules (Some e) r checking)) (sym done) (edit-IsChecked rules e old new checking agree right))
+
+after_edit :
+    (config : Config) (old new : OwnState) (rect : Option Rect) (step : Drawn × Reply) (reply : Reply) → IsEdit old.drawn.layout rect step
+    → edit_step config old rect step ≡ (new, reply) → HasRightMarks config.rules old → HasRightMarks config.rules new
+after_edit config old new rect step reply (inl same) is right =
+    subst (HasRightMarks config.rules) (ap (λ (r : OwnState × Reply). r.0) is)
+    (subst (λ (layout : Layout). IsChecked config.rules layout (soiled_after config.rules rect step.1 old.checking)) (sym same)
+    (kept config.rules old.drawn.layout old.checking rect step.1 right))
+after_edit config old new rect step reply (inr (e, at, done, agree)) is right =
+    subst (HasRightMarks config.rules) (ap (λ (r : OwnState × Reply). r.0) is)
+    (edited config.rules old.drawn.layout step.0.layout old.checking rect step.1 e at done agree right)
+
+-- ---- each command that edits
+box_edit : (drawn : Drawn) (made : Result Rect RectFault) → IsEdit drawn.layout None (box_step drawn made)
+box_edit drawn (Ok e) = inl refl
+box_edit drawn (Err Empty) = inl refl
+box_edit drawn (Err Outside) = inl refl
+
+either_edit :
+    (drawn : Drawn) (rect : Option Rect) (refused : Reply) (step : Drawn × Reply) (over : Bool) → IsEdit drawn.layout rect step
+    → IsEdit drawn.layout rect (if over then (drawn, refused) else step)
+either_edit drawn rect refused step true edit = inl refl
+either_edit drawn rect refused step false edit = edit
+
+paint_edit_on : (config : Config) (drawn : Drawn) (e : Rect) (kind : ℕ) (plane : Option ℕ) → IsEdit drawn.layout (Some e) (paint_on config drawn e kind plane)
+paint_edit_on config drawn e kind None = inl refl
+paint_edit_on config drawn e kind (Some plane) =
+    let picture = painted (drawn.layout plane) (record { rect = e; kind = kind }) in
+    let layout = with_plane drawn.layout plane picture in
+    either_edit drawn (Some e) (Refused Quota) (record drawn { layout = layout }, Done) (nat_lt config.quota (tile_count world picture))
+    (inr (e, refl, refl, AgreeOutside-painted drawn.layout plane e kind))
+
+paint_edit : (config : Config) (drawn : Drawn) (box : Option Rect) (kind : Option ℕ) → IsEdit drawn.layout box (paint_step config drawn box kind)
+paint_edit config drawn None kind = inl refl
+paint_edit config drawn (Some e) None = inl refl
+paint_edit config drawn (Some e) (Some kind) = paint_edit_on config drawn e kind (plane_of_type config.tech.type_planes kind)
+
+change_edit :
+    (config : Config) (drawn : Drawn) (rect : Option Rect) (layout : Layout) → IsEdit drawn.layout rect (record drawn { layout = layout }, Done)
+    → IsEdit drawn.layout rect (change_step config drawn layout)
+change_edit config drawn rect layout edit = either_edit drawn rect (Refused Quota) (record drawn { layout = layout }, Done) (exceeds_quota config layout) edit
+
+erase_edit : (config : Config) (drawn : Drawn) (box : Option Rect) (kinds : Option ℕ) → IsEdit drawn.layout box (erase_step config drawn box kinds)
+erase_edit config drawn None kinds = inl refl
+erase_edit config drawn (Some e) None = inl refl
+erase_edit config drawn (Some e) (Some kinds) =
+    let layout = erased_layout drawn.layout e kinds in
+    either_edit drawn (Some e) (Refused UnknownType) (change_step config drawn layout) (not (are_types config.tech kinds))
+    (change_edit config drawn (Some e) layout (inr (e, refl, refl, AgreeOutside-erased drawn.layout e kinds)))
+
+what_edit : (config : Config) (drawn : Drawn) (box : Option Rect) → IsEdit drawn.layout None (what_step config drawn box)
+what_edit config drawn None = inl refl
+what_edit config drawn (Some e) = inl refl
+
+check_edit : (drawn : Drawn) (box : Option Rect) → IsEdit drawn.layout box (check_in drawn box)
+check_edit drawn None = inl refl
+check_edit drawn (Some e) = inl refl
+
+-- a cell's layout is space past its planes and outside the world
+pub record IsCellLayout (planes : ℕ) (cell : Layout) : Type 0 where
+  pub beyond : (plane : ℕ) → planes ≤ plane → cell plane ≡ empty_picture
+  pub outside : (plane x y : ℕ) → holds world x y ≡ false → cell plane x y ≡ 0
+
+-- a dump of one that stays in the world changes squares of its rectangle alone
+dump_edit_in :
+    (config : Config) (drawn : Drawn) (cell : Layout) (dx dy : ℤ) (rect : Option Rect) → IsCellLayout config.tech.plane_count cell
+    → layout_leaves_world config.tech.plane_count cell dx dy ≡ false → dumped_rect config.tech.plane_count cell dx dy ≡ rect
+    → IsEdit drawn.layout rect (record drawn { layout = dumped_layout drawn.layout cell dx dy }, Done)
+dump_edit_in config drawn cell dx dy None is stays at = inl (dumped-None config.tech.plane_count cell dx dy is.beyond is.outside drawn.layout stays at)
+dump_edit_in config drawn cell dx dy (Some e) is stays at =
+    inr (e, refl, refl, AgreeOutside-dumped config.tech.plane_count cell dx dy is.beyond is.outside drawn.layout e at)
+
+dump_edit_of :
+    (config : Config) (drawn : Drawn) (cell : Layout) (dx dy : ℤ) (leaves : Bool) → IsCellLayout config.tech.plane_count cell
+    → layout_leaves_world config.tech.plane_count cell dx dy ≡ leaves
+    → IsEdit drawn.layout (dumped_rect config.tech.plane_count cell dx dy)
+    (if leaves then (drawn, Refused CellOutside) else change_step config drawn (dumped_layout drawn.layout cell dx dy))
+dump_edit_of config drawn cell dx dy true is stays = inl refl
+dump_edit_of config drawn cell dx dy false is stays =
+    let rect = dumped_rect config.tech.plane_count cell dx dy in
+    change_edit config drawn rect (dumped_layout drawn.layout cell dx dy) (dump_edit_in config drawn cell dx dy rect is stays refl)
+
+dump_edit :
+    (config : Config) (drawn : Drawn) (cell : Option Layout) (dx dy : ℤ) → ((layout : Layout) → cell ≡ Some layout → IsCellLayout config.tech.plane_count layout)
+    → IsEdit drawn.layout (dumped_in config cell dx dy) (dump_step config drawn cell dx dy)
+dump_edit config drawn None dx dy are = inl refl
+dump_edit config drawn (Some cell) dx dy are = dump_edit_of config drawn cell dx dy (layout_leaves_world config.tech.plane_count cell dx dy) (are cell refl) refl
+
+-- ---- check steps
+pub HasStepped-IsChecked :
+    (rules : List EdgeRule) (layout : Layout) (limit : ℕ) (old new : Checking) (ended : Stepped) → HasStepped rules layout limit old ended new
+    → IsChecked rules layout old → IsChecked rules layout new
+HasStepped-IsChecked rules layout limit old new stepped.Idle (none, same) right = subst (IsChecked rules layout) (sym same) right
+HasStepped-IsChecked rules layout limit old new stepped.Done (some, fits, is) right = subst (IsChecked rules layout) (sym is) (step-IsChecked rules layout old right)
+HasStepped-IsChecked rules layout limit old new stepped.Full (some, full, same) right = subst (IsChecked rules layout) (sym same) right
+HasStepped-IsChecked rules layout limit old new stepped.Memory (some, same) right = subst (IsChecked rules layout) (sym same) right
+
+pub HasFinished-IsChecked :
+    (rules : List EdgeRule) (planes : ℕ) (layout : Layout) (limit : ℕ) (old new : Checking) (finding : Finding) (ended : Outcome)
+    → HasFinished rules planes layout limit old finding ended new → IsChecked rules layout old → IsChecked rules layout new
+HasFinished-IsChecked rules planes layout limit old new finding outcome.Finished (fresh, fits, is) right =
+    subst (IsChecked rules layout) (sym is) (step-IsChecked rules layout old right)
+HasFinished-IsChecked rules planes layout limit old new finding outcome.Stale (stale, same) right = subst (IsChecked rules layout) (sym same) right
+HasFinished-IsChecked rules planes layout limit old new finding outcome.Full (fresh, full, same) right = subst (IsChecked rules layout) (sym same) right
+
+HasCaughtUp-IsChecked :
+    (rules : List EdgeRule) (layout : Layout) (limit : ℕ) (old new : Checking) (ended : CaughtUp) → HasCaughtUp rules layout limit old ended new
+    → IsChecked rules layout old → IsChecked rules layout new
+HasCaughtUp-IsChecked rules layout limit old new caught_up.Done (steps, none) right = AfterSteps-IsChecked rules layout limit old new steps right
+HasCaughtUp-IsChecked rules layout limit old new caught_up.Full (steps, some, full) right = AfterSteps-IsChecked rules layout limit old new steps right
+HasCaughtUp-IsChecked rules layout limit old new caught_up.Memory (steps, some) right = AfterSteps-IsChecked rules layout limit old new steps right
+
+after_catching_up : (config : Config) (old new : OwnState) (reply : Reply) → CatchesUp config old reply new → HasRightMarks config.rules old → HasRightMarks config.rules new
+after_catching_up config old new reply (ended, caught, is, same) right =
+    subst (λ (drawn : Drawn). IsChecked config.rules drawn.layout new.checking) (sym same)
+    (HasCaughtUp-IsChecked config.rules old.drawn.layout config.quota old.checking new.checking ended caught right)
+
+-- ---- commands that only look
+unchanged :
+    (config : Config) (old new : OwnState) (reply : Reply) (step : OwnState × Reply) → step.0 ≡ old → step ≡ (new, reply)
+    → HasRightMarks config.rules old → HasRightMarks config.rules new
+unchanged config old new reply step same is right = subst (HasRightMarks config.rules) (sym same ∙ ap (λ (r : OwnState × Reply). r.0) is) right
+
+why_keeps : (config : Config) (old : OwnState) (box : Option Rect) → (why_step config old box).0 ≡ old
+why_keeps config old None = refl
+why_keeps config old (Some e) = refl
+
+after_why : (config : Config) (old new : OwnState) (reply : Reply) → AnswersWhy config old reply new → HasRightMarks config.rules old → HasRightMarks config.rules new
+after_why config old new reply (inl is) right = unchanged config old new reply (why_step config old old.drawn.box) (why_keeps config old old.drawn.box) is right
+after_why config old new reply (inr (some, refused, same)) right = subst (HasRightMarks config.rules) (sym same) right
+
+-- ---- all commands
+pub HasRightMarks-Step :
+    (config : Config) (old new : OwnState) (command : Command) (reply : Reply)
+    → ((cell : Option ℕ) (layout : Layout) → cell_at config cell ≡ Some layout → IsCellLayout config.tech.plane_count layout)
+    → Step config old command reply new → HasRightMarks config.rules old → HasRightMarks config.rules new
+unfolding Step
+HasRightMarks-Step config old new (Box left bottom right top) reply cells step = after_edit config old new None _ reply (box_edit old.drawn (rect_of left bottom right top)) step
+HasRightMarks-Step config old new (Paint kind) reply cells step = after_edit config old new old.drawn.box _ reply (paint_edit config old.drawn old.drawn.box kind) step
+HasRightMarks-Step config old new (Erase kinds) reply cells step = after_edit config old new old.drawn.box _ reply (erase_edit config old.drawn old.drawn.box kinds) step
+HasRightMarks-Step config old new (Dump cell dx dy) reply cells step =
+    after_edit config old new (dumped_in config (cell_at config cell) dx dy) _ reply (dump_edit config old.drawn (cell_at config cell) dx dy (cells cell)) step
+HasRightMarks-Step config old new What reply cells step = after_edit config old new None _ reply (what_edit config old.drawn old.drawn.box) step
+HasRightMarks-Step config old new Save reply cells step = unchanged config old new reply (save_step config old) refl step
+HasRightMarks-Step config old new Check reply cells step = after_edit config old new old.drawn.box _ reply (check_edit old.drawn old.drawn.box) step
+HasRightMarks-Step config old new CatchUp reply cells step = after_catching_up config old new reply step
+HasRightMarks-Step config old new Why reply cells step = after_why config old new reply step
+HasRightMarks-Step config old new Count reply cells step = unchanged config old new reply (count_step old) refl step
+
+-- ---- the cells of a library
+at_number : (P : Layout → Type 0) (cells : List Layout) (cell : Option ℕ) (layout : Layout) → All P cells → option_and_then (slice_get cells) cell ≡ Some layout → P layout
+at_number P cells None layout all is = absurd (cc is)
+at_number P cells (Some id) layout all is = subst P (get_or_from_slice_get cells id layout layout is) (all id layout (slice_get_within cells id layout is))
+
+pub IsCellLayout-at :
+    (pool : Pool) (cells : Library) (planes : ℕ) (cell : Option ℕ) (layout : Layout) → AreCellsHome pool cells → HavePlanes planes cells
+    → option_and_then (slice_get (cell_layouts pool cells)) cell ≡ Some layout → IsCellLayout planes layout
+IsCellLayout-at pool cells planes cell layout home count is =
+    at_number (IsCellLayout planes) (cell_layouts pool cells) cell layout (All-map (IsCellLayout planes) (cell_layout pool) cells each) is
+  where
+    each : All (λ c. IsCellLayout planes (cell_layout pool c)) cells
+    each k d within =
+        let owners = (get_or cells k d).planes in
+        record {
+          beyond = λ plane over. layout_in-beyond pool owners plane (subst (λ n. n ≤ plane) (sym (count k d within)) over);
+          outside = layout_in-outside pool owners (home.each k d within).frozen;
+        }
