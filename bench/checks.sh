@@ -119,18 +119,18 @@ done
 for size in 540:1014 2200:3937 8900:14373; do
     n=${size%:*}
     scatter "$n" 1160 checked 0 > "$work/less"
-    scatter "$n" 1160 edit 1000 > "$work/more"
-    row edit "${size#*:} tiles of poly" 1000
+    scatter "$n" 1160 edit 5000 > "$work/more"
+    row edit "${size#*:} tiles of poly" 5000
     cp "$work/more" "$work/less"
-    scatter "$n" 1160 catchup 1000 > "$work/more"
-    row 'catch up' "${size#*:} tiles of poly" 1000
-    scatter "$n" 1160 look 1000 > "$work/less"
-    scatter "$n" 1160 why 1000 > "$work/more"
-    row why "${size#*:} tiles of poly" 1000
+    scatter "$n" 1160 catchup 5000 > "$work/more"
+    row 'catch up' "${size#*:} tiles of poly" 5000
+    scatter "$n" 1160 look 20000 > "$work/less"
+    scatter "$n" 1160 why 20000 > "$work/more"
+    row why "${size#*:} tiles of poly" 20000
 done
 world 'a drc why' 0 > "$work/less"
 world 'a drc why' 10 > "$work/more"
 row 'why, world' '3 bars' 10
 empty > "$work/less"
-empty 'a drc check' 'a drc catchup' > "$work/more"
+empty 'a drc check' 'a drc catchup' 'a drc count' > "$work/more"
 row 'empty world' '65536 pieces' 1
