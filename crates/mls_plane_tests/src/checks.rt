@@ -1,10 +1,10 @@
 //! Layouts whose forbidden squares were worked out by hand.
 use crate::layouts::Layout;
-use mls_checker::{check, why};
+use mls_checker::{Finding, check, why};
 use mls_edgerule::{Rules, compile};
 use mls_geom::{Piece, Point, Rect, RectFault};
 use mls_tech::{TECHNOLOGY_M, Tech};
-use std::alloc::Global;
+use std::alloc::{AllocError, Global};
 use std::process::Abort;
 use std::test::Fail;
 
@@ -22,7 +22,13 @@ pub type Sides = (i32, i32, i32, i32);
 
 /// The rules of a technology file.
 pub fn rules_of(alloc: Global, file: &[u8]) -> Result<Rules, Fail> {
-    Ok(compile(&Tech::read(alloc, file)?)?)
+    let tech = Tech::read(alloc, file)?;
+    rules_of_tech(&tech)
+}
+
+/// The rules of a technology.
+fn rules_of_tech(tech: &Tech) -> Result<Rules, Fail> {
+    Ok(compile(tech)?)
 }
 
 /// A rectangle.
@@ -52,6 +58,36 @@ fn is_in(rectangles: &[Sides], x: i32, y: i32) -> bool {
         && y < *top)
 }
 
+/// What a check of a piece of a layout finds. Asserts that its copy of the layout is the same as the layout.
+fn finding_in(
+    rt: &impl Abort,
+    alloc: Global,
+    rules: &Rules,
+    layout: &mut Layout,
+    piece: Rect,
+) -> Result<Finding, AllocError> {
+    let snapshot = layout.snapshot(alloc, piece.grow(rules.halo()))?;
+    assert!(rt; layout.same(&snapshot));
+    check(alloc, rules, snapshot, piece)
+}
+
+/// Asserts that the squares of a piece that are marked are those that lie in the rectangles.
+fn expect_marked(
+    rt: &impl Abort,
+    finding: &Finding,
+    piece: Rect,
+    marked: &[Sides],
+) -> Result<(), Fail> {
+    for y in piece.bottom()..piece.top() {
+        for x in piece.left()..piece.right() {
+            let square = Point::new(x, y).ok_or("no square")?;
+            let is_marked = finding.marks().is_marked(square);
+            assert_eq!(rt; is_marked, is_in(marked, x, y), "at {x}, {y}");
+        }
+    }
+    Ok(())
+}
+
 /// Asserts that the marked squares of a piece are those of its squares that lie in the rectangles.
 fn expect_in_piece(
     rt: &impl Abort,
@@ -61,17 +97,8 @@ fn expect_in_piece(
     piece: Rect,
     marked: &[Sides],
 ) -> Result<(), Fail> {
-    let snapshot = layout.snapshot(alloc, piece.grow(rules.halo()))?;
-    assert!(rt; layout.same(&snapshot));
-    let finding = check(alloc, rules, snapshot, piece)?;
-    for y in piece.bottom()..piece.top() {
-        for x in piece.left()..piece.right() {
-            let square = Point::new(x, y).ok_or("no square")?;
-            let is_marked = finding.marks().is_marked(square);
-            assert_eq!(rt; is_marked, is_in(marked, x, y), "at {x}, {y}");
-        }
-    }
-    Ok(())
+    let finding = finding_in(rt, alloc, rules, layout, piece)?;
+    expect_marked(rt, &finding, piece, marked)
 }
 
 /// Asserts the same by the rules of a technology file.
@@ -87,6 +114,24 @@ fn expect_by_file(
     expect_in_piece(rt, alloc, &rules, layout, piece, marked)
 }
 
+/// Asserts the same of pieces of 2 by 2 squares.
+fn expect_in_small_pieces(
+    rt: &impl Abort,
+    alloc: Global,
+    rules: &Rules,
+    layout: &mut Layout,
+    marked: &[Sides],
+) -> Result<(), Fail> {
+    for bottom in EVEN {
+        for left in EVEN {
+            let (right, top) = (left.saturating_add(2), bottom.saturating_add(2));
+            let small = rect((left, bottom, right, top))?;
+            expect_in_piece(rt, alloc, rules, layout, small, marked)?;
+        }
+    }
+    Ok(())
+}
+
 /// Asserts the same in technology M, of a piece that holds the whole layout and of pieces of 2 by 2 squares.
 fn expect_marks(
     rt: &impl Abort,
@@ -94,26 +139,30 @@ fn expect_marks(
     pieces: &[Piece],
     marked: &[Sides],
 ) -> Result<(), Fail> {
+    let whole = rect((-8, -8, 16, 16))?;
     let rules = rules_of(alloc, TECHNOLOGY_M)?;
     let mut layout = active(alloc, pieces)?;
-    let whole = rect((-8, -8, 16, 16))?;
     expect_in_piece(rt, alloc, &rules, &mut layout, whole, marked)?;
-    for bottom in EVEN {
-        for left in EVEN {
-            let (right, top) = (left.saturating_add(2), bottom.saturating_add(2));
-            let small = rect((left, bottom, right, top))?;
-            expect_in_piece(rt, alloc, &rules, &mut layout, small, marked)?;
-        }
-    }
-    Ok(())
+    expect_in_small_pieces(rt, alloc, &rules, &mut layout, marked)
+}
+
+/// The rules that forbid a square of a rectangle.
+fn violated_in(
+    alloc: Global,
+    rules: &Rules,
+    layout: &mut Layout,
+    looked: Rect,
+) -> Result<u128, AllocError> {
+    let snapshot = layout.snapshot(alloc, looked.grow(rules.halo()))?;
+    Ok(why(rules, &snapshot, looked))
 }
 
 /// The rules of technology M that forbid a square of a rectangle, in a layout of these pieces.
 fn violated(alloc: Global, pieces: &[Piece], sides: Sides) -> Result<u128, Fail> {
     let looked = rect(sides)?;
     let rules = rules_of(alloc, TECHNOLOGY_M)?;
-    let snapshot = active(alloc, pieces)?.snapshot(alloc, looked.grow(rules.halo()))?;
-    Ok(why(&rules, &snapshot, looked))
+    let mut layout = active(alloc, pieces)?;
+    Ok(violated_in(alloc, &rules, &mut layout, looked)?)
 }
 
 #[test]
@@ -285,20 +334,28 @@ drc
 end
 ";
 
-#[test]
-fn largest_piece_and_halo(rt: HostRuntime) -> Result<(), Fail> {
-    let rules = rules_of(rt.alloc(), WIDE_RULES)?;
-    assert_eq!(rt; rules.halo(), 101);
+/// A bar that is too thin, between two tops that are too close.
+fn wide_layout(alloc: Global) -> Result<Layout, Fail> {
     let bar = [piece(1, (50, -50, 149, 300))?];
     let tops = [
         piece(4, (-200, 0, -40, 256))?,
         piece(4, (248, 0, 400, 256))?,
     ];
-    let mut layout = Layout::new(rt.alloc())?
+    Layout::new(alloc)?
         .with(&bar)?
         .with(&[])?
         .with(&[])?
-        .with(&tops)?;
+        .with(&tops)
+}
+
+/// Asserts what these rules mark of it.
+fn expect_wide_marks(
+    rt: &impl Abort,
+    alloc: Global,
+    rules: &Rules,
+    layout: &mut Layout,
+) -> Result<(), Fail> {
+    assert_eq!(rt; rules.halo(), 101);
     let marked = [
         // The bar is one square too thin.
         (149, 0, 150, 256),
@@ -306,12 +363,13 @@ fn largest_piece_and_halo(rt: HostRuntime) -> Result<(), Fail> {
         (50, 0, 60, 256),
         (148, 0, 149, 256),
     ];
-    expect_in_piece(
-        &rt,
-        rt.alloc(),
-        &rules,
-        &mut layout,
-        rect((0, 0, 256, 256))?,
-        &marked,
-    )
+    let looked = rect((0, 0, 256, 256))?;
+    expect_in_piece(rt, alloc, rules, layout, looked, &marked)
+}
+
+#[test]
+fn largest_piece_and_halo(rt: HostRuntime) -> Result<(), Fail> {
+    let rules = rules_of(rt.alloc(), WIDE_RULES)?;
+    let mut layout = wide_layout(rt.alloc())?;
+    expect_wide_marks(&rt, rt.alloc(), &rules, &mut layout)
 }

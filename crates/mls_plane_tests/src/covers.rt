@@ -1,11 +1,12 @@
 //! Rectangles, and planes of strips.
-ghost use Rattle.std.specs.Prelude.{◌≤◌, length};
+ghost use Rattle.std.specs.Prelude.{◌≡◌, ◌≤◌, length};
 
 use crate::checks::piece;
 use crate::dice::Dice;
 use crate::grid::{Grid, SIZE};
 use mls_geom::{Cover, Piece, Point, Rect, RectFault, Scratch, TooMany};
 use std::alloc::Global;
+use std::process::Abort;
 use std::test::Fail;
 
 #[test]
@@ -65,26 +66,55 @@ fn diagonal(alloc: Global, count: i32) -> Result<Vec<Piece>, Fail> {
     Ok(pieces)
 }
 
-#[test]
-fn plane_of_many_strips(rt: HostRuntime) -> Result<(), Fail> {
-    let mut cover = Cover::new(rt.alloc(), 16384)?;
-    let mut scratch = Scratch::new(rt.alloc(), 20000)?;
-    let pieces = diagonal(rt.alloc(), 4000)?;
-    assert_eq!(rt; pieces.len(), 4000);
-    assert_eq!(rt; cover.overlay(&pieces, 16000, &mut scratch), Err(TooMany));
+/// Paints pieces that make 16,001 strips, for which 16,000 are too few.
+fn paint_many_strips(
+    rt: &impl Abort,
+    cover: &mut Cover,
+    pieces: &[Piece],
+    scratch: &mut Scratch,
+) -> Result<(), TooMany>
+    requires room { cover.old.room ≡ 16384 }
+    requires one { length cover.old.strips ≡ 1 }
+    requires few { length pieces.now ≤ 4000 }
+    requires scratch { scratch.old.room ≡ 20000 }
+{
+    assert_eq!(rt; cover.overlay(pieces, 16000, scratch), Err(TooMany));
     assert_eq!(rt; cover.tile_count(), 1);
-    cover.overlay(&pieces, 16001, &mut scratch)?;
+    cover.overlay(pieces, 16001, scratch)?;
     assert_eq!(rt; cover.tile_count(), 16001);
     assert_eq!(rt; cover.strips().len(), 16001);
     Ok(())
+}
+
+/// Paints the same pieces on an empty plane.
+fn paint_many_strips_on_space(
+    rt: &impl Abort,
+    alloc: Global,
+    pieces: &[Piece],
+    scratch: &mut Scratch,
+) -> Result<(), Fail>
+    requires few { length pieces.now ≤ 4000 }
+    requires scratch { scratch.old.room ≡ 20000 }
+{
+    let mut cover = Cover::new(alloc, 16384)?;
+    Ok(paint_many_strips(rt, &mut cover, pieces, scratch)?)
+}
+
+#[test]
+fn plane_of_many_strips(rt: HostRuntime) -> Result<(), Fail> {
+    let pieces = diagonal(rt.alloc(), 4000)?;
+    assert_eq!(rt; pieces.len(), 4000);
+    let mut scratch = Scratch::new(rt.alloc(), 20000)?;
+    paint_many_strips_on_space(&rt, rt.alloc(), &pieces, &mut scratch)
 }
 
 /// An empty plane with pieces painted over it.
 fn painted(alloc: Global, pieces: &[Piece]) -> Result<Cover, Fail>
     requires { length pieces.now ≤ 16 }
 {
+    let mut scratch = Scratch::new(alloc, 100)?;
     let mut cover = Cover::new(alloc, 100)?;
-    cover.overlay(pieces, 100, &mut Scratch::new(alloc, 100)?)?;
+    cover.overlay(pieces, 100, &mut scratch)?;
     Ok(cover)
 }
 
@@ -95,26 +125,37 @@ fn random_piece(dice: &mut Dice, grid: &mut Grid, kind: u8) -> Result<Piece, Rec
     piece(kind, area)
 }
 
+/// Asserts that a plane has the squares of a grid.
+fn expect_squares(rt: &impl Abort, cover: &Cover, grid: &Grid) -> Result<(), Fail> {
+    for y in -1..SIZE + 1 {
+        for x in -1..SIZE + 1 {
+            let square = Point::new(x, y).ok_or("no square")?;
+            assert_eq!(rt; cover.kind_at(square), grid.kind_at(x, y), "at {x}, {y}");
+        }
+    }
+    Ok(())
+}
+
+/// Asserts that a plane of random pieces has the squares of a grid on which they are painted.
+fn expect_later_pieces(rt: &impl Abort, alloc: Global, dice: &mut Dice) -> Result<(), Fail> {
+    let mut grid = Grid::new();
+    let pieces = [
+        random_piece(dice, &mut grid, 1)?,
+        random_piece(dice, &mut grid, 2)?,
+        random_piece(dice, &mut grid, 0)?,
+        random_piece(dice, &mut grid, 63)?,
+        random_piece(dice, &mut grid, 1)?,
+    ];
+    let cover = painted(alloc, &pieces)?;
+    assert_eq!(rt; cover.tile_count(), grid.tile_count());
+    expect_squares(rt, &cover, &grid)
+}
+
 #[test]
 fn later_pieces_win(rt: HostRuntime) -> Result<(), Fail> {
     let mut dice = Dice::new(1);
-    for round in 0..100 {
-        let mut grid = Grid::new();
-        let pieces = [
-            random_piece(&mut dice, &mut grid, 1)?,
-            random_piece(&mut dice, &mut grid, 2)?,
-            random_piece(&mut dice, &mut grid, 0)?,
-            random_piece(&mut dice, &mut grid, 63)?,
-            random_piece(&mut dice, &mut grid, 1)?,
-        ];
-        let cover = painted(rt.alloc(), &pieces)?;
-        assert_eq!(rt; cover.tile_count(), grid.tile_count(), "in round {round}");
-        for y in -1..SIZE + 1 {
-            for x in -1..SIZE + 1 {
-                let square = Point::new(x, y).ok_or("no square")?;
-                assert_eq!(rt; cover.kind_at(square), grid.kind_at(x, y), "at {x}, {y}");
-            }
-        }
+    for _ in 0..100 {
+        expect_later_pieces(&rt, rt.alloc(), &mut dice)?;
     }
     Ok(())
 }

@@ -1,5 +1,8 @@
 //! Planes of stitched tiles in one pool.
-ghost use Rattle.std.specs.Prelude.{◌≡◌, IfOk};
+ghost use Rattle.std.specs.Prelude.{◌≡◌, IfOk, OnOk, Some};
+ghost use Rattle.std.specs.List.{All};
+ghost use Rattle.mls_paint.specs.Planes.{HasStrips};
+ghost use Rattle.mls_tilepool.specs.Pools.{room_of};
 
 use mls_checker::Snapshot;
 use mls_geom::{Piece, Rect};
@@ -15,6 +18,31 @@ const ROOM: u32 = 100;
 
 /// How many pieces each plane may be made of.
 const PIECES: u32 = 16;
+
+/// Adds a plane to those of a layout, over which pieces are painted.
+fn add_plane(
+    pool: &mut Pool,
+    planes: &mut Vec<Plane>,
+    scratch: &mut Scratch,
+    pieces: &[Piece],
+) -> Result<(), Fail>
+    requires strips { All (λ owner. HasStrips pool.old owner) planes.old.items }
+    requires rooms { All (λ owner. room_of pool.old owner ≡ Some 100) planes.old.items }
+    requires scratch_room { scratch.old.room ≡ 100 }
+    requires scratch_pieces { scratch.old.pieces ≡ 16 }
+    ensures strips { OnOk result (All (λ owner. HasStrips pool.new owner) planes.new.items) }
+    ensures rooms { OnOk result (All (λ owner. room_of pool.new owner ≡ Some 100) planes.new.items) }
+    ensures scratch_room { OnOk result (scratch.new.room ≡ 100) }
+    ensures scratch_pieces { OnOk result (scratch.new.pieces ≡ 16) }
+{
+    if pieces.len() > scratch.pieces() {
+        return Err(Fail::new("too many pieces"));
+    }
+    let mut plane = space_plane(pool, ROOM, scratch)?;
+    overlay(pool, &mut plane, pieces, ROOM, scratch)?;
+    planes.push(plane)?;
+    Ok(())
+}
 
 /// The planes of a layout, in a pool with room for four.
 #[derive(Drop)]
@@ -56,12 +84,7 @@ impl Layout {
             mut planes,
             mut scratch,
         } = self;
-        if pieces.len() > scratch.pieces() {
-            return Err(Fail::new("too many pieces"));
-        }
-        let mut plane = space_plane(&mut pool, ROOM, &mut scratch)?;
-        overlay(&mut pool, &mut plane, pieces, ROOM, &mut scratch)?;
-        planes.push(plane)?;
+        add_plane(&mut pool, &mut planes, &mut scratch, pieces)?;
         Ok(Layout {
             pool,
             planes,

@@ -2,7 +2,7 @@
 use crate::checks::{Sides, piece, rules_of};
 use crate::dice::Dice;
 use crate::layouts::Layout;
-use mls_checker::{check, why};
+use mls_checker::{Finding, check, why};
 use mls_edgerule::Rules;
 use mls_geom::{Piece, Point, Rect, RectFault};
 use mls_plain_check::{Forbidden, Square, Squares, find};
@@ -61,6 +61,11 @@ impl Field {
         (x(left), y(bottom), x(right), y(top))
     }
 
+    /// The rectangle of all blocks and of four squares around them.
+    fn whole(self) -> Result<Rect, RectFault> {
+        Ok(self.rect((0, 0, 16, 16))?.grow(4))
+    }
+
     /// The rectangle of some blocks.
     fn rect(self, blocks: Sides) -> Result<Rect, RectFault> {
         let (left, bottom, right, top) = self.sides(blocks);
@@ -94,22 +99,31 @@ fn random_pieces(
     Ok(pieces)
 }
 
-/// Asserts that a check of a piece finds the squares and the rules that the plain program found.
-fn expect_same(
+/// Asserts that a check of a piece finds the rules that the plain program found, and returns what it finds.
+fn finding_by_same_rules(
     rt: &impl Abort,
     alloc: Global,
     rules: &Rules,
     layout: &mut Layout,
     forbidden: &Forbidden,
     piece: Rect,
-) -> Result<(), Fail> {
+) -> Result<Finding, AllocError> {
     let snapshot = layout.snapshot(alloc, piece.grow(rules.halo()))?;
     assert_eq!(rt;
         why(rules, &snapshot, piece),
         forbidden.why(piece),
         "in {piece:?}"
     );
-    let finding = check(alloc, rules, snapshot, piece)?;
+    check(alloc, rules, snapshot, piece)
+}
+
+/// Asserts that a check of a piece marks the squares that the plain program found.
+fn expect_same_squares(
+    rt: &impl Abort,
+    finding: &Finding,
+    forbidden: &Forbidden,
+    piece: Rect,
+) -> Result<(), Fail> {
     for y in piece.bottom()..piece.top() {
         for x in piece.left()..piece.right() {
             let square = Point::new(x, y).ok_or("no square")?;
@@ -124,7 +138,99 @@ fn expect_same(
     Ok(())
 }
 
-/// Asserts the same of a random layout with these planes: of all its squares, and of two random pieces.
+/// Asserts that a check of a piece finds the squares and the rules that the plain program found.
+fn expect_same(
+    rt: &impl Abort,
+    alloc: Global,
+    rules: &Rules,
+    layout: &mut Layout,
+    forbidden: &Forbidden,
+    piece: Rect,
+) -> Result<(), Fail> {
+    let finding = finding_by_same_rules(rt, alloc, rules, layout, forbidden, piece)?;
+    expect_same_squares(rt, &finding, forbidden, piece)
+}
+
+/// Asserts the same of a layout: of all its squares, and of two random pieces.
+fn expect_same_in_pieces(
+    rt: &impl Abort,
+    alloc: Global,
+    rules: &Rules,
+    layout: &mut Layout,
+    forbidden: &Forbidden,
+    dice: &mut Dice,
+    field: Field,
+) -> Result<(), Fail> {
+    let whole = field.whole()?;
+    expect_same(rt, alloc, rules, layout, forbidden, whole)?;
+    for _ in 0..2 {
+        let part = field.rect(dice.area())?;
+        expect_same(rt, alloc, rules, layout, forbidden, part)?;
+    }
+    Ok(())
+}
+
+/// A layout with one random plane more, which is painted on squares too.
+fn with_random_plane(
+    alloc: Global,
+    layout: Layout,
+    squares: &mut Squares,
+    plane: u8,
+    types: Types,
+    dice: &mut Dice,
+    field: Field,
+) -> Result<Layout, Fail> {
+    let pieces = random_pieces(alloc, dice, field, types)?;
+    squares.paint(plane, &pieces);
+    layout.with(&pieces)
+}
+
+/// A random layout with these planes, which is painted on squares too.
+fn random_layout(
+    alloc: Global,
+    squares: &mut Squares,
+    planes: &[Types],
+    dice: &mut Dice,
+    field: Field,
+) -> Result<Layout, Fail> {
+    let mut layout = Layout::new(alloc)?;
+    let mut plane = 0u8;
+    for types in planes {
+        layout = with_random_plane(alloc, layout, squares, plane, *types, dice, field)?;
+        plane = plane.saturating_add(1);
+    }
+    Ok(layout)
+}
+
+/// Asserts the same of a layout and of squares that show it.
+fn expect_same_as_squares(
+    rt: &impl Abort,
+    alloc: Global,
+    rules: &Rules,
+    layout: &mut Layout,
+    squares: &Squares,
+    dice: &mut Dice,
+    field: Field,
+) -> Result<(), Fail> {
+    let forbidden = find(alloc, rules, squares, field.whole()?)?;
+    expect_same_in_pieces(rt, alloc, rules, layout, &forbidden, dice, field)
+}
+
+/// Asserts the same of a random layout with these planes, on squares of space.
+fn expect_same_on_squares(
+    rt: &impl Abort,
+    alloc: Global,
+    rules: &Rules,
+    squares: &mut Squares,
+    planes: &[Types],
+    dice: &mut Dice,
+    field: Field,
+) -> Result<(), Fail> {
+    let mut layout = random_layout(alloc, squares, planes, dice, field)?;
+    expect_same_as_squares(rt, alloc, rules, &mut layout, squares, dice, field)
+}
+
+/// Asserts the same of a random layout with these planes.
 fn expect_same_in_layout(
     rt: &impl Abort,
     alloc: Global,
@@ -133,57 +239,54 @@ fn expect_same_in_layout(
     dice: &mut Dice,
     field: Field,
 ) -> Result<(), Fail> {
-    let whole = field.rect((0, 0, 16, 16))?.grow(4);
-    let mut squares = Squares::new(alloc, whole.grow(rules.halo()), planes.len())?;
-    let mut layout = Layout::new(alloc)?;
-    let mut plane = 0u8;
-    for types in planes {
-        let pieces = random_pieces(alloc, dice, field, *types)?;
-        squares.paint(plane, &pieces);
-        layout = layout.with(&pieces)?;
-        plane = plane.saturating_add(1);
-    }
-    let forbidden = find(alloc, rules, &squares, whole)?;
-    expect_same(rt, alloc, rules, &mut layout, &forbidden, whole)?;
-    for _ in 0..2 {
-        let part = field.rect(dice.area())?;
-        expect_same(rt, alloc, rules, &mut layout, &forbidden, part)?;
+    let zone = field.whole()?.grow(rules.halo());
+    let mut squares = Squares::new(alloc, zone, planes.len())?;
+    expect_same_on_squares(rt, alloc, rules, &mut squares, planes, dice, field)
+}
+
+/// Asserts the same of random layouts.
+fn expect_same_by_rules(
+    rt: &impl Abort,
+    alloc: Global,
+    rules: &Rules,
+    planes: &[Types],
+    layouts: usize,
+) -> Result<(), Fail> {
+    let mut dice = Dice::new(4);
+    for number in 0..layouts {
+        let field = Field::of_layout(number, 1);
+        expect_same_in_layout(rt, alloc, rules, planes, &mut dice, field)?;
     }
     Ok(())
 }
 
-/// Asserts the same of random layouts, by the rules of a technology file.
-fn expect_same_in_layouts(
-    rt: &impl Abort,
-    alloc: Global,
-    file: &[u8],
-    planes: &[Types],
-    layouts: usize,
-) -> Result<(), Fail> {
-    let rules = rules_of(alloc, file)?;
-    let mut dice = Dice::new(4);
-    for number in 0..layouts {
-        let field = Field::of_layout(number, 1);
-        expect_same_in_layout(rt, alloc, &rules, planes, &mut dice, field)?;
-    }
-    Ok(())
+/// Adds a line to a text.
+fn add_line(text: &mut String, line: &str) -> Result<(), AllocError> {
+    text.push_str(line)?;
+    text.push_str("\n")
 }
 
 /// The text of a technology with these rule lines.
 fn technology(alloc: Global, head: &str, lines: &[&str]) -> Result<String, AllocError> {
     let mut text = String::from_str(alloc, head)?;
-    text.push_str("drc\n")?;
+    add_line(&mut text, "drc")?;
     for line in lines {
-        text.push_str(line)?;
-        text.push_str("\n")?;
+        add_line(&mut text, line)?;
     }
-    text.push_str("end\n")?;
+    add_line(&mut text, "end")?;
     Ok(text)
+}
+
+/// The rules of a technology with these rule lines.
+fn rules_of_lines(alloc: Global, head: &str, lines: &[&str]) -> Result<Rules, Fail> {
+    let text = technology(alloc, head, lines)?;
+    rules_of(alloc, text.as_bytes())
 }
 
 #[test]
 fn technology_m(rt: HostRuntime) -> Result<(), Fail> {
-    expect_same_in_layouts(&rt, rt.alloc(), TECHNOLOGY_M, TWO_PLANES, LAYOUTS)
+    let rules = rules_of(rt.alloc(), TECHNOLOGY_M)?;
+    expect_same_by_rules(&rt, rt.alloc(), &rules, TWO_PLANES, LAYOUTS)
 }
 
 const TWO_PLANES_HEAD: &str = "planes
@@ -215,16 +318,15 @@ const LINES: [&str; 12] = [
 
 #[test]
 fn rules_of_every_kind(rt: HostRuntime) -> Result<(), Fail> {
-    let all = technology(rt.alloc(), TWO_PLANES_HEAD, &LINES)?;
-    expect_same_in_layouts(&rt, rt.alloc(), all.as_bytes(), TWO_PLANES, LAYOUTS)
+    let rules = rules_of_lines(rt.alloc(), TWO_PLANES_HEAD, &LINES)?;
+    expect_same_by_rules(&rt, rt.alloc(), &rules, TWO_PLANES, LAYOUTS)
 }
 
 #[test]
 fn each_rule_alone(rt: HostRuntime) -> Result<(), Fail> {
     for line in LINES {
-        let one = technology(rt.alloc(), TWO_PLANES_HEAD, &[line])?;
-        let file = one.as_bytes();
-        expect_same_in_layouts(&rt, rt.alloc(), file, TWO_PLANES, LAYOUTS_A_RULE)?;
+        let rules = rules_of_lines(rt.alloc(), TWO_PLANES_HEAD, &[line])?;
+        expect_same_by_rules(&rt, rt.alloc(), &rules, TWO_PLANES, LAYOUTS_A_RULE)?;
     }
     Ok(())
 }
@@ -243,8 +345,7 @@ const FAR_LINES: [&str; 6] = [
 fn rules_that_reach_far(rt: HostRuntime) -> Result<(), Fail> {
     let mut dice = Dice::new(5);
     for (number, line) in FAR_LINES.iter().enumerate() {
-        let one = technology(rt.alloc(), TWO_PLANES_HEAD, &[*line])?;
-        let rules = rules_of(rt.alloc(), one.as_bytes())?;
+        let rules = rules_of_lines(rt.alloc(), TWO_PLANES_HEAD, &[*line])?;
         let field = Field::of_layout(number, 16);
         expect_same_in_layout(&rt, rt.alloc(), &rules, TWO_PLANES, &mut dice, field)?;
     }
@@ -269,8 +370,8 @@ const SPACE_LINES: [&str; 3] = [
 #[test]
 fn space_beside_space(rt: HostRuntime) -> Result<(), Fail> {
     for line in SPACE_LINES {
-        let one = technology(rt.alloc(), ONE_PLANE_HEAD, &[line])?;
-        expect_same_in_layouts(&rt, rt.alloc(), one.as_bytes(), ONE_PLANE, LAYOUTS)?;
+        let rules = rules_of_lines(rt.alloc(), ONE_PLANE_HEAD, &[line])?;
+        expect_same_by_rules(&rt, rt.alloc(), &rules, ONE_PLANE, LAYOUTS)?;
     }
     Ok(())
 }

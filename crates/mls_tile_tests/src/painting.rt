@@ -2,7 +2,7 @@
 ghost use Rattle.std.specs.Prelude.{◌≤◌, length};
 
 use crate::pieces::{Sides, piece};
-use mls_geom::{Piece, Rect};
+use mls_geom::{Piece, Rect, RectFault};
 use mls_kinds::KindSet;
 use mls_paint::{
     Scratch, TooManyTiles, find_area, fits, kinds, overlay, overlay_within, space_plane, strips_of,
@@ -12,6 +12,7 @@ use mls_stitch::Plane;
 use mls_tilepool::Pool;
 use std::alloc::{AllocError, Global};
 use std::marker::Model;
+use std::process::Abort;
 use std::test::Fail;
 
 /// How many tiles there is room for.
@@ -133,50 +134,118 @@ fn squares(alloc: Global, kind: u8) -> Result<Vec<Piece>, Fail> {
     Ok(squares)
 }
 
-/// Returns the squares in turn, and then each as space, from the last to the first.
-fn painted_and_erased(alloc: Global) -> Result<Vec<Piece>, Fail> {
-    let mut pieces = squares(alloc, 1)?;
-    for space in squares(alloc, 0)?.iter().rev() {
-        pieces.push(*space)?;
+/// Returns the same squares from the last to the first.
+fn squares_from_last(alloc: Global, kind: u8) -> Result<Vec<Piece>, Fail> {
+    let squares = squares(alloc, kind)?;
+    Ok(squares.iter().rev().copied().collect(alloc)?)
+}
+
+/// Paints pieces one by one, and returns how often the plane was built anew.
+fn paint_each(canvas: &mut Canvas, pieces: &[Piece]) -> Result<u32, TooManyTiles> {
+    let mut rebuilt = 0u32;
+    for piece in pieces {
+        if canvas.paint(&[*piece], 1024)? {
+            rebuilt = rebuilt.saturating_add(1);
+        }
     }
-    Ok(pieces)
+    Ok(rebuilt)
+}
+
+/// Paints the squares one by one, and returns how often the plane was built anew.
+fn paint_squares(alloc: Global, canvas: &mut Canvas) -> Result<u32, Fail> {
+    let squares = squares(alloc, 1)?;
+    Ok(paint_each(canvas, &squares)?)
+}
+
+/// Erases the squares one by one, and returns how often the plane was built anew.
+fn erase_squares(alloc: Global, canvas: &mut Canvas) -> Result<u32, Fail> {
+    let spaces = squares_from_last(alloc, 0)?;
+    Ok(paint_each(canvas, &spaces)?)
+}
+
+/// Asserts that squares are painted and erased one by one with few planes built anew.
+fn expect_few_rebuilt(rt: &impl Abort, alloc: Global, canvas: &mut Canvas) -> Result<(), Fail> {
+    let painting = paint_squares(alloc, canvas)?;
+    assert_eq!(rt; canvas.tile_count(), 221);
+    let erasing = erase_squares(alloc, canvas)?;
+    assert_eq!(rt; canvas.tile_count(), 1);
+    assert!(rt; painting.saturating_add(erasing) <= 10);
+    Ok(())
 }
 
 #[test]
 fn local_updates(rt: HostRuntime) -> Result<(), Fail> {
     let mut canvas = Canvas::new(rt.alloc())?;
-    let mut rebuilt = 0u32;
-    for square in &squares(rt.alloc(), 1)? {
-        if canvas.paint(&[*square], 1024)? {
-            rebuilt = rebuilt.saturating_add(1);
-        }
-    }
-    assert_eq!(rt; canvas.tile_count(), 221);
-    for space in squares(rt.alloc(), 0)?.iter().rev() {
-        if canvas.paint(&[*space], 1024)? {
-            rebuilt = rebuilt.saturating_add(1);
-        }
-    }
-    assert_eq!(rt; canvas.tile_count(), 1);
-    assert!(rt; rebuilt <= 10);
+    expect_few_rebuilt(&rt, rt.alloc(), &mut canvas)
+}
+
+/// Paints a piece on two planes, on one of them within a bound of turns, and asserts that they have the same tiles.
+fn expect_same_tiles(
+    rt: &impl Abort,
+    alloc: Global,
+    canvas: &mut Canvas,
+    hurried: &mut Canvas,
+    piece: Piece,
+    turns: u32,
+) -> Result<(), Fail> {
+    canvas.paint(&[piece], 1024)?;
+    let rebuilt = hurried.paint_within(piece, turns)?;
+    assert!(rt; rebuilt || turns != 0);
+    let tiles = canvas.pieces(alloc)?;
+    assert_eq!(rt; hurried.pieces(alloc)?.as_slice(), tiles.as_slice());
     Ok(())
+}
+
+/// Asserts the same of each piece in turn.
+fn expect_same_after_each(
+    rt: &impl Abort,
+    alloc: Global,
+    canvas: &mut Canvas,
+    hurried: &mut Canvas,
+    pieces: &[Piece],
+    turns: u32,
+) -> Result<(), Fail> {
+    for piece in pieces {
+        expect_same_tiles(rt, alloc, canvas, hurried, *piece, turns)?;
+    }
+    Ok(())
+}
+
+/// Asserts the same of squares that are painted and erased.
+fn expect_same_of_squares(
+    rt: &impl Abort,
+    alloc: Global,
+    canvas: &mut Canvas,
+    hurried: &mut Canvas,
+    turns: u32,
+) -> Result<(), Fail> {
+    let squares = squares(alloc, 1)?;
+    expect_same_after_each(rt, alloc, canvas, hurried, &squares, turns)?;
+    let spaces = squares_from_last(alloc, 0)?;
+    expect_same_after_each(rt, alloc, canvas, hurried, &spaces, turns)
+}
+
+/// Asserts the same of a plane of space and another one.
+fn expect_same_beside(
+    rt: &impl Abort,
+    alloc: Global,
+    canvas: &mut Canvas,
+    turns: u32,
+) -> Result<(), Fail> {
+    let mut hurried = Canvas::new(alloc)?;
+    expect_same_of_squares(rt, alloc, canvas, &mut hurried, turns)
+}
+
+/// Asserts the same of two planes of space.
+fn expect_same_in_turns(rt: &impl Abort, alloc: Global, turns: u32) -> Result<(), Fail> {
+    let mut canvas = Canvas::new(alloc)?;
+    expect_same_beside(rt, alloc, &mut canvas, turns)
 }
 
 #[test]
 fn turns_change_no_tile(rt: HostRuntime) -> Result<(), Fail> {
-    let pieces = painted_and_erased(rt.alloc())?;
     for turns in [0, 1, 5] {
-        let mut canvas = Canvas::new(rt.alloc())?;
-        let mut hurried = Canvas::new(rt.alloc())?;
-        for piece in &pieces {
-            canvas.paint(&[*piece], 1024)?;
-            let rebuilt = hurried.paint_within(*piece, turns)?;
-            assert!(rt; rebuilt || turns != 0);
-            assert_eq!(rt;
-                hurried.pieces(rt.alloc())?.as_slice(),
-                canvas.pieces(rt.alloc())?.as_slice()
-            );
-        }
+        expect_same_in_turns(&rt, rt.alloc(), turns)?;
     }
     Ok(())
 }
@@ -189,12 +258,16 @@ const CORNERS: [(u8, Sides); 4] = [
     (63, (32767, 32767, 32768, 32768)),
 ];
 
-#[test]
-fn all_corners_of_the_world(rt: HostRuntime) -> Result<(), Fail> {
-    let mut canvas = Canvas::new(rt.alloc())?;
+/// Paints the corners.
+fn paint_corners(canvas: &mut Canvas) -> Result<(), Fail> {
     for (kind, sides) in CORNERS {
         canvas.paint(&[piece(kind, sides)?], 1024)?;
     }
+    Ok(())
+}
+
+/// Asserts that each corner has its kind alone.
+fn expect_corners(rt: &impl Abort, canvas: &mut Canvas) -> Result<(), Fail> {
     for (kind, sides) in CORNERS {
         let corner = piece(kind, sides)?;
         let found = canvas.kinds(corner.rect);
@@ -203,14 +276,33 @@ fn all_corners_of_the_world(rt: HostRuntime) -> Result<(), Fail> {
     }
     let all = canvas.kinds(Rect::world());
     assert_eq!(rt; all.bits(), 0x8000_0000_0000_000F);
-    let found = canvas.area(rt.alloc(), Rect::new(-32768, -32768, -32767, 32768)?)?;
-    let left = [
+    Ok(())
+}
+
+/// Returns the tiles that the leftmost column meets.
+fn leftmost_tiles() -> Result<[Piece; 3], RectFault> {
+    Ok([
         piece(1, (-32768, -32768, -32767, -32767))?,
         piece(0, (-32768, -32767, 32768, 32767))?,
         piece(3, (-32768, 32767, -32767, 32768))?,
-    ];
+    ])
+}
+
+/// Asserts that an area search of the leftmost column finds them.
+fn expect_leftmost_tiles(rt: &impl Abort, alloc: Global, canvas: &mut Canvas) -> Result<(), Fail> {
+    let left = leftmost_tiles()?;
+    let column = Rect::new(-32768, -32768, -32767, 32768)?;
+    let found = canvas.area(alloc, column)?;
     assert_eq!(rt; found.as_slice(), left.as_slice());
     Ok(())
+}
+
+#[test]
+fn all_corners_of_the_world(rt: HostRuntime) -> Result<(), Fail> {
+    let mut canvas = Canvas::new(rt.alloc())?;
+    paint_corners(&mut canvas)?;
+    expect_corners(&rt, &mut canvas)?;
+    expect_leftmost_tiles(&rt, rt.alloc(), &mut canvas)
 }
 
 /// Returns squares of 2 by 2 along a diagonal, each apart from the next.
@@ -224,24 +316,56 @@ fn diagonal(alloc: Global, count: i32) -> Result<Vec<Piece>, Fail> {
     Ok(pieces)
 }
 
+/// Asserts that pieces which take one tile too many are refused, and leave the plane as it was.
+fn expect_refused(
+    rt: &impl Abort,
+    alloc: Global,
+    canvas: &mut Canvas,
+    pieces: &[Piece],
+) -> Result<(), Fail>
+    requires { length pieces.now ≤ 4000 }
+{
+    assert!(rt; !canvas.fits(pieces, 16_000));
+    assert_eq!(rt; canvas.paint(pieces, 16_000), Err(TooManyTiles));
+    let space = Piece {
+        rect: Rect::world(),
+        kind: 0,
+    };
+    assert_eq!(rt; canvas.pieces(alloc)?.as_slice(), [space].as_slice());
+    Ok(())
+}
+
+/// Asserts that they are painted at once where there is room for just their tiles.
+fn expect_painted(
+    rt: &impl Abort,
+    canvas: &mut Canvas,
+    pieces: &[Piece],
+) -> Result<(), TooManyTiles>
+    requires { length pieces.now ≤ 4000 }
+{
+    assert!(rt; canvas.fits(pieces, 16_001));
+    canvas.paint(pieces, 16_001)?;
+    assert_eq!(rt; canvas.tile_count(), 16_001);
+    Ok(())
+}
+
+/// Asserts the same of a plane of space.
+fn expect_limit(rt: &impl Abort, alloc: Global, pieces: &[Piece]) -> Result<(), Fail>
+    requires { length pieces.now ≤ 4000 }
+{
+    let mut canvas = Canvas::new(alloc)?;
+    expect_refused(rt, alloc, &mut canvas, pieces)?;
+    expect_painted(rt, &mut canvas, pieces)?;
+    Ok(())
+}
+
 #[test]
 fn overlay_of_4000_pieces(rt: HostRuntime) -> Result<(), Fail> {
     let pieces = diagonal(rt.alloc(), 4000)?;
     if pieces.len() > 4000 {
         return Err(Fail::new("too many pieces"));
     }
-    let mut canvas = Canvas::new(rt.alloc())?;
-    assert!(rt; !canvas.fits(&pieces, 16_000));
-    assert_eq!(rt; canvas.paint(&pieces, 16_000), Err(TooManyTiles));
-    let space = Piece {
-        rect: Rect::world(),
-        kind: 0,
-    };
-    assert_eq!(rt; canvas.pieces(rt.alloc())?.as_slice(), [space].as_slice());
-    assert!(rt; canvas.fits(&pieces, 16_001));
-    canvas.paint(&pieces, 16_001)?;
-    assert_eq!(rt; canvas.tile_count(), 16_001);
-    Ok(())
+    expect_limit(&rt, rt.alloc(), &pieces)
 }
 
 #[test]

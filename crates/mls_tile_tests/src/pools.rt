@@ -1,14 +1,12 @@
-//! Reserves of a pool, and several planes in one.
-ghost use Rattle.std.specs.Prelude.{◌≢◌, ℕ, ◌≤◌, IfOk, OnOk};
-ghost use Rattle.mls_stitch.specs.Tilings.{HasPlane};
+//! Reserves of a pool, and tiles under their names.
+ghost use Rattle.std.specs.Prelude.{ℕ, ◌≤◌, IfOk};
 ghost use Rattle.mls_tilepool.specs.Pools.{IsOwner};
 
-use crate::pieces::piece;
-use mls_geom::{Piece, Rect, Scratch as Sweep, strips};
-use mls_stitch::{Plane, Scratch};
+use mls_geom::Rect;
 use mls_tilepool::{NoRoom, Owner, Pool, PoolFull, Tile, TileId};
-use std::alloc::{AllocError, Global};
+use std::alloc::Global;
 use std::marker::Model;
+use std::process::Abort;
 use std::test::Fail;
 
 #[test]
@@ -27,17 +25,22 @@ fn reserve(pool: &mut Pool, tiles: u32) -> Result<Owner, PoolFull>
     pool.reserve(tiles)
 }
 
+/// Asserts that two reserves of five fill a pool of ten, and that one of them can be given back.
+fn expect_two_halves(rt: &impl Abort, pool: &mut Pool) -> Result<(), PoolFull> {
+    let first = reserve(pool, 5)?;
+    let _second = reserve(pool, 5)?;
+    assert_eq!(rt; pool.unreserved(), 0);
+    assert_eq!(rt; reserve(pool, 1).err(), Some(PoolFull));
+    pool.release(first);
+    assert_eq!(rt; pool.unreserved(), 5);
+    assert!(rt; reserve(pool, 5).is_ok());
+    Ok(())
+}
+
 #[test]
 fn two_halves_fill_a_pool(rt: HostRuntime) -> Result<(), Fail> {
     let mut pool = Pool::new(rt.alloc(), 10)?;
-    let first = reserve(&mut pool, 5)?;
-    let _second = reserve(&mut pool, 5)?;
-    assert_eq!(rt; pool.unreserved(), 0);
-    assert_eq!(rt; reserve(&mut pool, 1).err(), Some(PoolFull));
-    pool.release(first);
-    assert_eq!(rt; pool.unreserved(), 5);
-    assert!(rt; reserve(&mut pool, 5).is_ok());
-    Ok(())
+    Ok(expect_two_halves(&rt, &mut pool)?)
 }
 
 /// Returns a tile with no stitches.
@@ -130,9 +133,8 @@ fn full_pool_gives_all_back(rt: HostRuntime) -> Result<(), Fail> {
     Ok(())
 }
 
-#[test]
-fn tiles_change_under_their_names(rt: HostRuntime) -> Result<(), Fail> {
-    let mut holding = Holding::of(rt.alloc(), 3)?;
+/// Asserts what an owner's tiles are, of two that are added and one of which is removed.
+fn expect_changes(rt: &impl Abort, holding: &mut Holding) -> Result<(), NoRoom> {
     let first = holding.add(1)?;
     let second = holding.add(2)?;
     assert_eq!(rt; holding.paint(second, 3), Some(()));
@@ -146,147 +148,9 @@ fn tiles_change_under_their_names(rt: HostRuntime) -> Result<(), Fail> {
     Ok(())
 }
 
-/// Returns the tiles of a plane, each with its name.
-fn tiles_of_plane(
-    alloc: Global,
-    pool: &Pool,
-    plane: &Plane,
-) -> Result<Vec<(TileId, Tile)>, AllocError>
-    requires { HasPlane pool.now plane.now }
-{
-    pool.tiles(plane.owner()).collect(alloc)
-}
-
-/// Fails if a tile of the plane is another one than it was.
-fn check_same(
-    alloc: Global,
-    pool: &Pool,
-    plane: &Plane,
-    before: &[(TileId, Tile)],
-) -> Result<(), Fail>
-    requires { HasPlane pool.now plane.now }
-{
-    let tiles = tiles_of_plane(alloc, pool, plane)?;
-    if tiles.as_slice() != before {
-        return Err(Fail::new("a tile of another plane has changed"));
-    }
-    Ok(())
-}
-
-/// How many tiles there is room for in a pool of three planes.
-const ROOM: u32 = 100;
-
-/// How many tiles each of the planes has reserved.
-const RESERVE: u32 = 30;
-
-/// Builds the plane that pieces show, painted in turn on space, in a pool of other planes.
-fn plane_of(
-    pool: &mut Pool,
-    pieces: &[Piece],
-    scratch: &mut Scratch,
-    sweep: &mut Sweep,
-) -> Result<Plane, Fail>
-    ensures home { IfOk result (λ plane. HasPlane pool.new plane) }
-    ensures apart { IfOk result (λ plane. (other : ℕ) → HasPlane pool.old other → other ≢ plane) }
-    ensures others { OnOk result ((other : ℕ) → HasPlane pool.old other → HasPlane pool.new other) }
-{
-    let limit = RESERVE as usize;
-    if pieces.len() > limit || !sweep.holds(limit, limit) || scratch.room() < limit {
-        return Err(Fail::new("no room"));
-    }
-    strips(&[], pieces, limit, sweep)?;
-    let owner = pool.reserve(RESERVE)?;
-    Ok(Plane::build(pool, owner, sweep.strips(), scratch))
-}
-
-/// Removes a plane, and gives its reserve back.
-fn release(pool: &mut Pool, plane: Plane)
-    requires { HasPlane pool.old plane }
-    ensures { (other : ℕ) → other ≢ plane → HasPlane pool.old other → HasPlane pool.new other }
-{
-    pool.release(plane.into_owner());
-}
-
-/// Three planes in one pool.
-#[derive(Drop)]
-struct Trio {
-    pool: Pool,
-    first: Plane,
-    second: Plane,
-    third: Plane,
-    scratch: Scratch,
-    sweep: Sweep,
-}
-
-impl Model for Trio {
-    ghost use Rattle.std.specs.Prelude.{◌≢◌};
-    ghost use Rattle.mls_stitch.specs.Tilings.{HasPlane};
-    ghost use Rattle.mls_tilepool.specs.Pools.{Pool};
-
-    ghost Value = { Pool };
-
-    ghost view = { λ t. t.pool };
-
-    ghost invariant = { λ t. HasPlane t.pool t.first × HasPlane t.pool t.second × HasPlane t.pool t.third × (t.first ≢ t.second) × (t.first ≢ t.third) × (t.second ≢ t.third) };
-}
-
-impl Trio {
-    /// Builds three planes that show the same pieces.
-    fn of(alloc: Global, pieces: &[Piece]) -> Result<Trio, Fail> {
-        let mut pool = Pool::new(alloc, ROOM)?;
-        let mut scratch = Scratch::new(alloc, ROOM)?;
-        let mut sweep = Sweep::new(alloc, ROOM as usize)?;
-        let first = plane_of(&mut pool, pieces, &mut scratch, &mut sweep)?;
-        let second = plane_of(&mut pool, pieces, &mut scratch, &mut sweep)?;
-        let third = plane_of(&mut pool, pieces, &mut scratch, &mut sweep)?;
-        Ok(Trio {
-            pool,
-            first,
-            second,
-            third,
-            scratch,
-            sweep,
-        })
-    }
-
-    /// Releases the first plane and builds one of these pieces, which is the third one then. Fails if either step changes
-    /// a tile of the others.
-    fn turn(self, alloc: Global, pieces: &[Piece]) -> Result<Trio, Fail> {
-        let Trio {
-            mut pool,
-            first,
-            second,
-            third,
-            mut scratch,
-            mut sweep,
-        } = self;
-        let seconds = tiles_of_plane(alloc, &pool, &second)?;
-        let thirds = tiles_of_plane(alloc, &pool, &third)?;
-        release(&mut pool, first);
-        check_same(alloc, &pool, &second, &seconds)?;
-        check_same(alloc, &pool, &third, &thirds)?;
-        let last = plane_of(&mut pool, pieces, &mut scratch, &mut sweep)?;
-        check_same(alloc, &pool, &second, &seconds)?;
-        check_same(alloc, &pool, &third, &thirds)?;
-        Ok(Trio {
-            pool,
-            first: second,
-            second: third,
-            third: last,
-            scratch,
-            sweep,
-        })
-    }
-}
-
 #[test]
-fn planes_of_one_pool_leave_one_another(rt: HostRuntime) -> Result<(), Fail> {
-    let bars = [piece(1, (0, 0, 1, 10))?, piece(2, (4, 2, 6, 8))?];
-    let squares = [piece(3, (-5, -5, 5, 5))?, piece(0, (-3, -3, 3, 3))?];
-    let mut trio = Trio::of(rt.alloc(), &bars)?;
-    for _ in 0..150 {
-        trio = trio.turn(rt.alloc(), &squares)?;
-        trio = trio.turn(rt.alloc(), &bars)?;
-    }
+fn tiles_change_under_their_names(rt: HostRuntime) -> Result<(), Fail> {
+    let mut holding = Holding::of(rt.alloc(), 3)?;
+    expect_changes(&rt, &mut holding)?;
     Ok(())
 }

@@ -1,9 +1,11 @@
 //! Random replacements of tiles, compared with planes that are built anew.
 use crate::pieces::piece;
-use crate::sheet::Sheet;
+use crate::sheet::{Row, Sheet};
 use mls_geom::{Piece, RectFault};
 use rand::RngExt;
 use rand_pcg::Pcg32;
+use std::alloc::Global;
+use std::process::Abort;
 use std::test::Fail;
 
 /// Returns a piece of at most 7 by 7 squares between the coordinates 0 and 16, of a kind below 4.
@@ -15,22 +17,55 @@ fn random_piece(rng: &mut Pcg32) -> Result<Piece, RectFault> {
     piece(rng.random_range(0..4), (left, bottom, right, top))
 }
 
+/// Random pieces, and the plane on which they were painted.
+#[derive(Drop)]
+struct Replay {
+    pieces: Vec<Piece>,
+    sheet: Sheet,
+}
+
+impl Replay {
+    /// Begins with a plane of space.
+    fn new(alloc: Global) -> Result<Replay, Fail> {
+        let sheet = Sheet::of(alloc, &[])?;
+        let pieces = Vec::new(alloc);
+        Ok(Replay { pieces, sheet })
+    }
+
+    /// Paints one piece more.
+    fn paint(&mut self, alloc: Global, piece: &Piece) -> Result<(), Fail> {
+        self.pieces.push(*piece)?;
+        self.sheet.paint(alloc, *piece)
+    }
+
+    /// Returns the tiles of the plane, and those of one that is built anew.
+    fn rows(&mut self, alloc: Global) -> Result<(Vec<Row>, Vec<Row>), Fail> {
+        let mut anew = Sheet::of(alloc, &self.pieces)?;
+        let rows_anew = anew.rows(alloc)?;
+        Ok((self.sheet.rows(alloc)?, rows_anew))
+    }
+}
+
+/// Asserts that the plane has the tiles and stitches of one that is built anew, with one random piece more.
+fn expect_same_with_next(
+    rt: &impl Abort,
+    alloc: Global,
+    replay: &mut Replay,
+    rng: &mut Pcg32,
+) -> Result<(), Fail> {
+    let piece = random_piece(rng)?;
+    replay.paint(alloc, &piece)?;
+    let (rows, anew) = replay.rows(alloc)?;
+    assert_eq!(rt; rows.as_slice(), anew.as_slice(), "with {piece:?}");
+    Ok(())
+}
+
 #[test]
 fn replaced_planes_are_as_if_built_anew(rt: HostRuntime) -> Result<(), Fail> {
     let mut rng = Pcg32::new(9, 1);
-    let mut pieces = Vec::new(rt.alloc());
-    let mut sheet = Sheet::of(rt.alloc(), &[])?;
-    for round in 0..500 {
-        let piece = random_piece(&mut rng)?;
-        pieces.push(piece)?;
-        sheet.paint(rt.alloc(), piece)?;
-        let rows = sheet.rows(rt.alloc())?;
-        let mut anew = Sheet::of(rt.alloc(), &pieces)?;
-        assert_eq!(rt;
-            rows.as_slice(),
-            anew.rows(rt.alloc())?.as_slice(),
-            "in round {round}"
-        );
+    let mut replay = Replay::new(rt.alloc())?;
+    for _ in 0..500 {
+        expect_same_with_next(&rt, rt.alloc(), &mut replay, &mut rng)?;
     }
     Ok(())
 }

@@ -1,5 +1,5 @@
 //! A plane of tiles in a pool of its own, as the tests see it.
-ghost use Rattle.std.specs.Prelude.{◌≡◌, ◌<◌, ◌≤◌, IfOk, IsTrue, OnOk, Some, map};
+ghost use Rattle.std.specs.Prelude.{◌≡◌, ◌≢◌, ◌<◌, ◌≤◌, ℕ, IfOk, IsTrue, OnOk, Some, map};
 ghost use Rattle.mls_geom.specs.Locality.{HaveKinds, uncovered};
 ghost use Rattle.mls_geom.specs.Rects.{IsRectangleIn};
 ghost use Rattle.mls_geom.specs.World.{AreLegal, world};
@@ -152,7 +152,35 @@ fn repaint(
     Ok(())
 }
 
-/// A plane in a pool, with lists to work in.
+/// Builds the plane that pieces show, painted in turn on space, in a pool of other planes.
+fn plane_of(
+    pool: &mut Pool,
+    pieces: &[Piece],
+    scratch: &mut Scratch,
+    sweep: &mut Sweep,
+) -> Result<Plane, Fail>
+    ensures home { IfOk result (λ plane. HasPlane pool.new plane) }
+    ensures apart { IfOk result (λ plane. (other : ℕ) → HasPlane pool.old other → other ≢ plane) }
+    ensures others { (other : ℕ) → HasPlane pool.old other → HasPlane pool.new other }
+{
+    let limit = ROOM as usize;
+    if pieces.len() > limit || !sweep.holds(limit, limit) || scratch.room() < limit {
+        return Err(Fail::new("no room"));
+    }
+    strips(&[], pieces, limit, sweep)?;
+    let owner = pool.reserve(ROOM)?;
+    Ok(Plane::build(pool, owner, sweep.strips(), scratch))
+}
+
+/// Removes a plane, and gives its reserve back.
+fn release(pool: &mut Pool, plane: Plane)
+    requires { HasPlane pool.old plane }
+    ensures { (other : ℕ) → other ≢ plane → HasPlane pool.old other → HasPlane pool.new other }
+{
+    pool.release(plane.into_owner());
+}
+
+/// A plane in a pool with room for another, with lists to work in.
 #[derive(Drop)]
 pub struct Sheet {
     pool: Pool,
@@ -178,21 +206,23 @@ impl Model for Sheet {
 impl Sheet {
     /// Builds the plane that pieces show, painted in turn on space.
     pub fn of(alloc: Global, pieces: &[Piece]) -> Result<Sheet, Fail> {
-        let mut sweep = Sweep::new(alloc, ROOM as usize)?;
-        if pieces.len() > ROOM as usize {
-            return Err(Fail::new("too many pieces"));
-        }
-        strips(&[], pieces, ROOM as usize, &mut sweep)?;
-        let mut pool = Pool::new(alloc, ROOM)?;
-        let owner = pool.reserve(ROOM)?;
+        let mut pool = Pool::new(alloc, 2 * ROOM)?;
         let mut scratch = Scratch::new(alloc, ROOM)?;
-        let plane = Plane::build(&mut pool, owner, sweep.strips(), &mut scratch);
+        let mut sweep = Sweep::new(alloc, ROOM as usize)?;
+        let plane = plane_of(&mut pool, pieces, &mut scratch, &mut sweep)?;
         Ok(Sheet {
             pool,
             plane,
             scratch,
             sweep,
         })
+    }
+
+    /// Builds the plane that pieces show in the same pool, and releases it.
+    pub fn build_beside(&mut self, pieces: &[Piece]) -> Result<(), Fail> {
+        let beside = plane_of(&mut self.pool, pieces, &mut self.scratch, &mut self.sweep)?;
+        release(&mut self.pool, beside);
+        Ok(())
     }
 
     /// Returns the lower-left square of a tile.

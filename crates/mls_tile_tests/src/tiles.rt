@@ -1,8 +1,9 @@
 //! Planes whose tiles and stitches were worked out by hand.
 use crate::pieces::{Sides, piece};
 use crate::sheet::{Row, Sheet, Square};
-use mls_geom::Piece;
+use mls_geom::{Piece, RectFault};
 use std::alloc::Global;
+use std::process::Abort;
 use std::test::Fail;
 
 /// The lower-left squares of the tiles of a plane with one bar: B below it, L to its left, the bar P, R to its right,
@@ -47,75 +48,121 @@ fn rows_of_bar() -> [Row; 5] {
     ]
 }
 
-#[test]
-fn bar_has_five_tiles(rt: HostRuntime) -> Result<(), Fail> {
-    let mut sheet = bar(rt.alloc())?;
-    assert_eq!(rt;
-        sheet.rows(rt.alloc())?.as_slice(),
-        rows_of_bar().as_slice()
-    );
-    Ok(())
-}
-
-#[test]
-fn bar_splits_and_joins_in_y(rt: HostRuntime) -> Result<(), Fail> {
-    let mut sheet = bar(rt.alloc())?;
-    sheet.split_y(0, 5)?;
-    let rows = [
+/// Returns them with the bar split at row 5.
+fn rows_of_split_bar() -> [Row; 6] {
+    [
         row((-32768, -32768, 32768, 0), 0, [None, None, None, R]),
         row((-32768, 0, 0, 10), 0, [B, None, Q, A]),
         row((0, 0, 1, 5), 1, [B, L, R, Q]),
         row((1, 0, 32768, 10), 0, [B, P, None, A]),
         row((0, 5, 1, 10), 1, [P, L, R, A]),
         row((-32768, 10, 32768, 32768), 0, [L, None, None, None]),
-    ];
-    assert_eq!(rt; sheet.rows(rt.alloc())?.as_slice(), rows.as_slice());
-    sheet.join_y(0, 5)?;
-    assert_eq!(rt;
-        sheet.rows(rt.alloc())?.as_slice(),
-        rows_of_bar().as_slice()
-    );
-    Ok(())
+    ]
 }
 
-#[test]
-fn space_splits_and_joins_in_x(rt: HostRuntime) -> Result<(), Fail> {
-    let mut sheet = bar(rt.alloc())?;
-    sheet.split_x(-9, 0)?;
-    let rows = [
+/// Returns them with the space to the left of the bar split at column -9.
+fn rows_of_split_space() -> [Row; 6] {
+    [
         row((-32768, -32768, 32768, 0), 0, [None, None, None, R]),
         row((-32768, 0, -9, 10), 0, [B, None, M, A]),
         row((-9, 0, 0, 10), 0, [B, L, P, A]),
         row((0, 0, 1, 10), 1, [B, M, R, A]),
         row((1, 0, 32768, 10), 0, [B, P, None, A]),
         row((-32768, 10, 32768, 32768), 0, [L, None, None, None]),
-    ];
-    assert_eq!(rt; sheet.rows(rt.alloc())?.as_slice(), rows.as_slice());
-    sheet.join_x(-9, 0)?;
-    assert_eq!(rt;
-        sheet.rows(rt.alloc())?.as_slice(),
-        rows_of_bar().as_slice()
-    );
+    ]
+}
+
+/// Asserts what the tiles of a plane are.
+fn expect_rows(
+    rt: &impl Abort,
+    alloc: Global,
+    sheet: &mut Sheet,
+    rows: &[Row],
+) -> Result<(), Fail> {
+    let found = sheet.rows(alloc)?;
+    assert_eq!(rt; found.as_slice(), rows);
     Ok(())
+}
+
+/// Asserts which tiles an area search finds.
+fn expect_area(
+    rt: &impl Abort,
+    alloc: Global,
+    sheet: &mut Sheet,
+    area: Sides,
+    corners: &[Square],
+) -> Result<(), Fail> {
+    let found = sheet.area(alloc, area)?;
+    assert_eq!(rt; found.as_slice(), corners);
+    Ok(())
+}
+
+#[test]
+fn bar_has_five_tiles(rt: HostRuntime) -> Result<(), Fail> {
+    let mut sheet = bar(rt.alloc())?;
+    expect_rows(&rt, rt.alloc(), &mut sheet, &rows_of_bar())
+}
+
+/// Asserts what the tiles of a bar are when it is split and joined again.
+fn expect_split_in_y(rt: &impl Abort, alloc: Global, sheet: &mut Sheet) -> Result<(), Fail> {
+    sheet.split_y(0, 5)?;
+    expect_rows(rt, alloc, sheet, &rows_of_split_bar())?;
+    sheet.join_y(0, 5)?;
+    expect_rows(rt, alloc, sheet, &rows_of_bar())
+}
+
+#[test]
+fn bar_splits_and_joins_in_y(rt: HostRuntime) -> Result<(), Fail> {
+    let mut sheet = bar(rt.alloc())?;
+    expect_split_in_y(&rt, rt.alloc(), &mut sheet)
+}
+
+/// Asserts what the tiles are when the space beside a bar is split and joined again.
+fn expect_split_in_x(rt: &impl Abort, alloc: Global, sheet: &mut Sheet) -> Result<(), Fail> {
+    sheet.split_x(-9, 0)?;
+    expect_rows(rt, alloc, sheet, &rows_of_split_space())?;
+    sheet.join_x(-9, 0)?;
+    expect_rows(rt, alloc, sheet, &rows_of_bar())
+}
+
+#[test]
+fn space_splits_and_joins_in_x(rt: HostRuntime) -> Result<(), Fail> {
+    let mut sheet = bar(rt.alloc())?;
+    expect_split_in_x(&rt, rt.alloc(), &mut sheet)
 }
 
 #[test]
 fn area_of_bar_in_order(rt: HostRuntime) -> Result<(), Fail> {
     let mut sheet = bar(rt.alloc())?;
-    let found = sheet.area(rt.alloc(), (-1, 5, 2, 12))?;
-    assert_eq!(rt;
-        found.as_slice(),
-        [(-32768, 0), (0, 0), (1, 0), (-32768, 10)].as_slice()
-    );
+    let corners = [(-32768, 0), (0, 0), (1, 0), (-32768, 10)];
+    expect_area(&rt, rt.alloc(), &mut sheet, (-1, 5, 2, 12), &corners)
+}
+
+/// Builds planes in the pool of a bar, each of which is released before the next.
+fn build_beside(sheet: &mut Sheet) -> Result<(), Fail> {
+    let pieces = [piece(3, (-5, -5, 5, 5))?, piece(0, (-3, -3, 3, 3))?];
+    for _ in 0..300 {
+        sheet.build_beside(&pieces)?;
+    }
     Ok(())
 }
 
 #[test]
-fn plane_of_one_tile(rt: HostRuntime) -> Result<(), Fail> {
-    let mut sheet = Sheet::of(rt.alloc(), &[])?;
+fn planes_of_one_pool_leave_one_another(rt: HostRuntime) -> Result<(), Fail> {
+    let mut sheet = bar(rt.alloc())?;
+    build_beside(&mut sheet)?;
+    expect_rows(&rt, rt.alloc(), &mut sheet, &rows_of_bar())
+}
+
+/// Asserts that a plane has the world as its only tile.
+fn expect_world(rt: &impl Abort, alloc: Global, sheet: &mut Sheet) -> Result<(), Fail> {
     let world = (-32768, -32768, 32768, 32768);
-    let rows = [row(world, 0, [None; 4])];
-    assert_eq!(rt; sheet.rows(rt.alloc())?.as_slice(), rows.as_slice());
+    expect_rows(rt, alloc, sheet, &[row(world, 0, [None; 4])])?;
+    expect_area(rt, alloc, sheet, world, &[(-32768, -32768)])
+}
+
+/// Asserts that the only tile is found in the middle and in the corners of the world.
+fn expect_world_at_squares(rt: &impl Abort, sheet: &mut Sheet) {
     for (x, y) in [
         (0, 0),
         (-32768, -32768),
@@ -125,9 +172,13 @@ fn plane_of_one_tile(rt: HostRuntime) -> Result<(), Fail> {
     ] {
         assert_eq!(rt; sheet.find(x, y), B, "at {x}, {y}");
     }
-    let found = sheet.area(rt.alloc(), world)?;
-    assert_eq!(rt; found.as_slice(), [(-32768, -32768)].as_slice());
-    Ok(())
+}
+
+#[test]
+fn plane_of_one_tile(rt: HostRuntime) -> Result<(), Fail> {
+    let mut sheet = Sheet::of(rt.alloc(), &[])?;
+    expect_world_at_squares(&rt, &mut sheet);
+    expect_world(&rt, rt.alloc(), &mut sheet)
 }
 
 /// Returns bars of one column each, in every other column from 0 on, of 100 rows.
@@ -140,10 +191,14 @@ fn comb(alloc: Global, bars: i32) -> Result<Vec<Piece>, Fail> {
     Ok(pieces)
 }
 
-#[test]
-fn comb_of_400_bars(rt: HostRuntime) -> Result<(), Fail> {
-    let mut sheet = Sheet::of(rt.alloc(), &comb(rt.alloc(), 400)?)?;
-    assert_eq!(rt; sheet.rows(rt.alloc())?.len(), 803);
+/// Builds the plane of a comb.
+fn plane_of_comb(alloc: Global, bars: i32) -> Result<Sheet, Fail> {
+    let pieces = comb(alloc, bars)?;
+    Sheet::of(alloc, &pieces)
+}
+
+/// Asserts which tiles of a comb of 400 bars are found at squares.
+fn expect_tiles_of_comb(rt: &impl Abort, sheet: &mut Sheet) {
     for (x, y, corner) in [
         (797, 50, (797, 0)),
         (1, 50, (1, 0)),
@@ -156,7 +211,11 @@ fn comb_of_400_bars(rt: HostRuntime) -> Result<(), Fail> {
     ] {
         assert_eq!(rt; sheet.find(x, y), Some(corner), "at {x}, {y}");
     }
-    let found = sheet.area(rt.alloc(), (-1, 50, 800, 51))?;
+}
+
+/// Asserts that the tiles of a comb of 400 bars are found in a row from left to right.
+fn expect_row_of_comb(rt: &impl Abort, alloc: Global, sheet: &mut Sheet) -> Result<(), Fail> {
+    let found = sheet.area(alloc, (-1, 50, 800, 51))?;
     assert_eq!(rt; found.len(), 801);
     assert_eq!(rt; found.first().copied(), L);
     for (corner, x) in found.iter().skip(1).zip(0..800) {
@@ -165,19 +224,43 @@ fn comb_of_400_bars(rt: HostRuntime) -> Result<(), Fail> {
     Ok(())
 }
 
+/// Asserts how many tiles a plane has.
+fn expect_count(
+    rt: &impl Abort,
+    alloc: Global,
+    sheet: &mut Sheet,
+    count: usize,
+) -> Result<(), Fail> {
+    let rows = sheet.rows(alloc)?;
+    assert_eq!(rt; rows.len(), count);
+    Ok(())
+}
+
 #[test]
-fn tiles_in_all_corners_of_the_world(rt: HostRuntime) -> Result<(), Fail> {
-    let pieces = [
+fn comb_of_400_bars(rt: HostRuntime) -> Result<(), Fail> {
+    let mut sheet = plane_of_comb(rt.alloc(), 400)?;
+    expect_tiles_of_comb(&rt, &mut sheet);
+    expect_count(&rt, rt.alloc(), &mut sheet, 803)?;
+    expect_row_of_comb(&rt, rt.alloc(), &mut sheet)
+}
+
+/// Returns the squares in the corners of the world, each of a kind of its own.
+fn corner_pieces() -> Result<[Piece; 4], RectFault> {
+    Ok([
         piece(1, (-32768, -32768, -32767, -32767))?,
         piece(2, (32767, -32768, 32768, -32767))?,
         piece(3, (-32768, 32767, -32767, 32768))?,
         piece(4, (32767, 32767, 32768, 32768))?,
-    ];
+    ])
+}
+
+/// Returns the tiles of their plane.
+fn rows_of_corners() -> [Row; 7] {
     let below = Some((-32767, -32768));
     let middle = Some((-32768, -32767));
     let above = Some((-32767, 32767));
     let upper_right = Some((32767, 32767));
-    let rows = [
+    [
         row(
             (-32768, -32768, -32767, -32767),
             1,
@@ -209,8 +292,12 @@ fn tiles_in_all_corners_of_the_world(rt: HostRuntime) -> Result<(), Fail> {
             [middle, Some((-32768, 32767)), upper_right, None],
         ),
         row((32767, 32767, 32768, 32768), 4, [middle, above, None, None]),
-    ];
+    ]
+}
+
+#[test]
+fn tiles_in_all_corners_of_the_world(rt: HostRuntime) -> Result<(), Fail> {
+    let pieces = corner_pieces()?;
     let mut sheet = Sheet::of(rt.alloc(), &pieces)?;
-    assert_eq!(rt; sheet.rows(rt.alloc())?.as_slice(), rows.as_slice());
-    Ok(())
+    expect_rows(&rt, rt.alloc(), &mut sheet, &rows_of_corners())
 }

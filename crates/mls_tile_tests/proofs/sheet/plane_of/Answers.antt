@@ -1,6 +1,6 @@
 use Rattle.mls_stitch.proofs.OtherPlanes.{apart_from_new, HasPlane-ChangesOnly, HasPlane-Reserves}
 use Rattle.mls_tile_tests.proofs.PlaneStrips.{strips_read}
-use Rattle.mls_tile_tests.proofs.pools.plane_of.Goals as goal
+use Rattle.mls_tile_tests.proofs.sheet.plane_of.Goals as goal
 
 pub build-requires-clause-strips : goal.build-requires-clause-strips
 build-requires-clause-strips c = strips_read _ _ _ c.in_ok-strips.ensures.strips c.in_ok-strips.ensures.picture c.strips-2.ensures
