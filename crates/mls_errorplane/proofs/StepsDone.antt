@@ -1,5 +1,5 @@
 -- Check steps one after another: what they keep, and that they come to an end.
-use Rattle.std.proofs.Common.{◌≡◌, ◌≢◌, ℕ, zero, suc, ◌<◌, List, [], ◌∷◌, length, get_or, All, refl, sym, ap, subst, arith}
+use Rattle.std.proofs.Common.{◌≡◌, ◌≢◌, ℕ, zero, suc, ◌+◌, ◌*◌, ◌^◌, ◌<◌, ◌≤◌, List, [], ◌∷◌, length, get_or, All, refl, sym, ap, subst, arith, add-one}
 use Rattle.mls_edgerule.specs.declared.edge_rule.EdgeRule.{EdgeRule}
 use Rattle.mls_geom.specs.Layouts.{Layout}
 use Rattle.mls_geom.specs.Rects.{Rect}
@@ -18,14 +18,11 @@ use Rattle.mls_errorplane.proofs.AreaSizes.{area_of-dropped-less}
 use Rattle.mls_errorplane.proofs.CheckedSquares.{step-IsChecked}
 
 -- ---- states
-pub AfterSteps-none : (rules : List EdgeRule) (layout : Layout) (limit : ℕ) (old : Checking) → AfterSteps rules layout limit old old
-AfterSteps-none rules layout limit old = (zero, refl)
-
 -- one step more
-pub AfterSteps-more :
-    (rules : List EdgeRule) (layout : Layout) (limit : ℕ) (old mid new : Checking) → AfterSteps rules layout limit old mid
-    → HasStepped rules layout limit mid stepped.Done new → AfterSteps rules layout limit old new
-AfterSteps-more rules layout limit old mid new (count, steps) step = (suc count, (mid, steps, step))
+pub Steps-more :
+    (rules : List EdgeRule) (layout : Layout) (limit count : ℕ) (old mid new : Checking) → Steps rules layout limit count old mid
+    → HasStepped rules layout limit mid stepped.Done new → Steps rules layout limit (count + 1) old new
+Steps-more rules layout limit count old mid new steps step = rw add-one (mid, steps, step)
 
 Steps-IsChecked :
     (rules : List EdgeRule) (layout : Layout) (limit count : ℕ) (old new : Checking) → Steps rules layout limit count old new
@@ -52,6 +49,12 @@ pub area_of-Done :
 area_of-Done rules layout limit old new kept step =
     subst (λ (checking : Checking). area_of checking.dirty < area_of old.dirty) (sym step.2) (smaller old.dirty kept step.0)
 
+-- so a step more doesn't make too many to count
+pub few-Done :
+    (rules : List EdgeRule) (layout : Layout) (limit count : ℕ) (old new : Checking) → IsDirtyList old.dirty → (IsDirtyList old.dirty → count + area_of old.dirty ≤ 65 * 2 ^ 32)
+    → HasStepped rules layout limit old stepped.Done new → count + 1 + area_of new.dirty ≤ 65 * 2 ^ 32
+few-Done rules layout limit count old new kept few step = omega (arith, few kept, area_of-Done rules layout limit old new kept step)
+
 -- a list without areas is empty
 pub no_areas : (areas : List Rect) → (0 < length areas → ⊥) → areas ≡ []
 no_areas [] none = refl
@@ -74,19 +77,19 @@ layout_in-apart old new owner planes changed apart =
 -- ---- how catching up ends
 -- after the steps so far no area is left, or the next step isn't done
 pub HasCaughtUp-Idle :
-    (rules : List EdgeRule) (layout : Layout) (limit : ℕ) (old mid new : Checking) → AfterSteps rules layout limit old mid
+    (rules : List EdgeRule) (layout : Layout) (limit count : ℕ) (old mid new : Checking) → Steps rules layout limit count old mid
     → HasStepped rules layout limit mid stepped.Idle new → HasCaughtUp rules layout limit old caught_up.Done new
-HasCaughtUp-Idle rules layout limit old mid new after (none, same) =
-    subst (λ (now : Checking). HasCaughtUp rules layout limit old caught_up.Done now) (sym same) (after, none)
+HasCaughtUp-Idle rules layout limit count old mid new steps (none, same) =
+    subst (λ (now : Checking). HasCaughtUp rules layout limit old caught_up.Done now) (sym same) ((count, steps), none)
 
 pub HasCaughtUp-Full :
-    (rules : List EdgeRule) (layout : Layout) (limit : ℕ) (old mid new : Checking) → AfterSteps rules layout limit old mid
+    (rules : List EdgeRule) (layout : Layout) (limit count : ℕ) (old mid new : Checking) → Steps rules layout limit count old mid
     → HasStepped rules layout limit mid stepped.Full new → HasCaughtUp rules layout limit old caught_up.Full new
-HasCaughtUp-Full rules layout limit old mid new after (some, more, same) =
-    subst (λ (now : Checking). HasCaughtUp rules layout limit old caught_up.Full now) (sym same) (after, some, more)
+HasCaughtUp-Full rules layout limit count old mid new steps (some, more, same) =
+    subst (λ (now : Checking). HasCaughtUp rules layout limit old caught_up.Full now) (sym same) ((count, steps), some, more)
 
 pub HasCaughtUp-Memory :
-    (rules : List EdgeRule) (layout : Layout) (limit : ℕ) (old mid new : Checking) → AfterSteps rules layout limit old mid
-    → HasStepped rules layout limit mid stepped.Memory new → HasCaughtUp rules layout limit old caught_up.Memory new
-HasCaughtUp-Memory rules layout limit old mid new after (some, same) =
-    subst (λ (now : Checking). HasCaughtUp rules layout limit old caught_up.Memory now) (sym same) (after, some)
+    (rules : List EdgeRule) (layout : Layout) (limit count : ℕ) (old mid new : Checking) → Steps rules layout limit count old mid
+    → HasStepped rules layout limit mid stepped.Memory new → HasCaughtUp rules layout limit old (caught_up.Memory count) new
+HasCaughtUp-Memory rules layout limit count old mid new steps (some, same) =
+    subst (λ (now : Checking). HasCaughtUp rules layout limit old (caught_up.Memory count) now) (sym same) (steps, some)

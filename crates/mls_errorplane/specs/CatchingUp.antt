@@ -22,4 +22,4 @@ abbrev pub HasCaughtUp : List EdgeRule → Layout → ℕ → Checking → Caugh
 HasCaughtUp rules layout limit old caught_up.Done new = AfterSteps rules layout limit old new × (new.dirty ≡ [])
 HasCaughtUp rules layout limit old caught_up.Full new =
     AfterSteps rules layout limit old new × (new.dirty ≢ []) × (exceeds limit (check_step rules layout new).marks ≡ true)
-HasCaughtUp rules layout limit old caught_up.Memory new = AfterSteps rules layout limit old new × (new.dirty ≢ [])
+HasCaughtUp rules layout limit old (caught_up.Memory steps) new = Steps rules layout limit steps old new × (new.dirty ≢ [])

@@ -3,6 +3,7 @@ pub mod Checkings
 pub mod DirtyLists
 pub mod EmptyLayouts
 pub mod ErrorPlanes
+pub mod Jobs
 pub mod MarkPlanes
 pub mod Outcomes
 pub mod PaintedMarks

@@ -23,8 +23,8 @@ pub enum CaughtUp {
     Done,
     /// After the next step the error plane would have more tiles than the limit.
     Full,
-    /// Memory ran out.
-    Memory,
+    /// Memory ran out, after this many steps that were done.
+    Memory { steps: u64 },
 }
 
 impl ErrorPlane {
@@ -58,12 +58,13 @@ impl ErrorPlane {
         ensures pieces_room { vec_capacity pieces.new ≡ vec_capacity pieces.old }
         ensures rooms { KeepsRoom scratch.old scratch.new }
     {
+        let mut done = 0;
         'steps: while self.areas() > 0 {
             match self.step(alloc, pool, planes, rules, limit, pieces, scratch) {
-                Stepped::Done => {}
+                Stepped::Done => done += 1,
                 Stepped::Idle => return CaughtUp::Done,
                 Stepped::Full => return CaughtUp::Full,
-                Stepped::Memory => return CaughtUp::Memory,
+                Stepped::Memory => return CaughtUp::Memory { steps: done },
             }
         }
         CaughtUp::Done

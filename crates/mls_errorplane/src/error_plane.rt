@@ -1,14 +1,15 @@
 //! Checking a layout piece by piece, after it was edited.
-ghost use Rattle.std.specs.Prelude.{◌≡◌, ◌≤◌, ◌↔◌, ℕ, true, IfOk, IfSome, IsTrue, OnErr, OnOk, ◌+◌, length, vec_capacity};
+ghost use Rattle.std.specs.Prelude.{◌≡◌, ◌≤◌, ◌↔◌, ℕ, true, IfOk, IfSome, IsTrue, OnErr, OnOk, ◌+◌, [], ◌∷◌, length, vec_capacity};
 ghost use Rattle.std.specs.List.{All};
 ghost use Rattle.mls_checker.specs.Forbids.{forbidden};
 ghost use Rattle.mls_checker.specs.Marking.{marks, no_squares};
 ghost use Rattle.mls_geom.specs.Rects.{holds};
 ghost use Rattle.mls_geom.specs.World.{world};
+ghost use Rattle.mls_paint.specs.Owners.{RemovesOwners};
 ghost use Rattle.mls_paint.specs.Planes.{AddsOwner, HasStrips, layout_in, picture_in};
 ghost use Rattle.mls_paint.specs.Scratches.{HasRoomFor, KeepsRoom};
 ghost use Rattle.mls_stitch.specs.Tilings.{ChangesOnly, HasPlane};
-ghost use Rattle.mls_tilepool.specs.Pools.{Pool, room_of, unreserved};
+ghost use Rattle.mls_tilepool.specs.Pools.{IsOwner, Pool, room_of, unreserved};
 ghost use Rattle.mls_errorplane.specs.Checkings.{soiled};
 ghost use Rattle.mls_errorplane.specs.DirtyLists.{IsDirtyList};
 ghost use Rattle.mls_errorplane.specs.MarkPlanes.{marked_count, most_pieces};
@@ -17,7 +18,7 @@ use crate::{Dirty, MARK_ROOM, count, mark};
 use mls_checker::{Finding, Snapshot, check};
 use mls_edgerule::Rules;
 use mls_geom::{Piece, Rect};
-use mls_paint::{Scratch, space_plane};
+use mls_paint::{Scratch, release_plane, space_plane};
 use mls_stitch::Plane;
 use mls_tilepool::Pool;
 use std::alloc::{AllocError, Global};
@@ -50,8 +51,8 @@ pub enum Outcome {
 /// The marks of a layout, as tiles of a plane in a pool, and the areas of the layout that await checking.
 #[derive(Drop)]
 pub struct ErrorPlane {
-    plane: Plane,
-    dirty: Dirty,
+    pub(crate) plane: Plane,
+    pub(crate) dirty: Dirty,
 }
 
 impl Model for ErrorPlane {
@@ -212,6 +213,14 @@ impl ErrorPlane {
         ensures rooms { KeepsRoom scratch.old scratch.new }
     {
         count(pool, &self.plane, scratch)
+    }
+
+    /// Gives the tiles and the reserve back to the pool.
+    pub fn close(self, pool: &mut Pool)
+        requires live { IsOwner pool.old self.owner }
+        ensures removed { IfSome (room_of pool.old self.owner) (λ room. RemovesOwners pool.old pool.new (self.owner ∷ []) room) }
+    {
+        release_plane(pool, self.plane);
     }
 
     /// Returns how many areas await checking.

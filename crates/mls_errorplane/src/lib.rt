@@ -4,6 +4,7 @@
 mod catching_up;
 mod dirty;
 mod error_plane;
+mod job;
 pub mod laws;
 mod mark_pieces;
 mod marks;
@@ -13,6 +14,7 @@ mod violated;
 pub use catching_up::CaughtUp;
 pub use dirty::{Dirty, MARK_ROOM};
 pub use error_plane::{ErrorPlane, Outcome, Stepped};
+pub use job::Job;
 pub use marks::{count, mark};
 pub use opening::opening_areas;
 pub use violated::why;

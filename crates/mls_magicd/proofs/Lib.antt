@@ -1,9 +1,9 @@
 mod CellLoads
 mod CellWords
 mod MessageLemmas
+mod NumberLemmas
+mod NumberTexts
 mod OptionLemmas
-mod QuotaLemmas
-mod QuotaTexts
 mod Refusals
 mod Taken
 mod TechnologyLemmas

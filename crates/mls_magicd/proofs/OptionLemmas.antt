@@ -3,30 +3,41 @@ use Rattle.std.proofs.Common.{◌≡◌, ◌∙◌, ℕ, Bool, ◌||◌, List, [
 use Rattle.std.specs.List.{All}
 use Rattle.std.proofs.lemmas.List.Elements.{All-nil, All-push}
 use Rattle.clap.proofs.WalkLemmas.{first_value-rows, one_text-rows, raw_values-rows}
-use Rattle.clap.specs.Words.{App, Text, AddsArg, IsPlain, IsPlainArg, all_of, args_of, groups_of, HasKind, HasMatchesOf, IsAmong, Kinds, app_of, fault_of, first_of, first_value, found_of, is_simple, is_simple_and_free, kind_of, matches_of, new_app, one_of, one_text, rows_of, rule_of, with_rule}
+use Rattle.clap.specs.Words.{App, Text, AddsArg, IsPlain, IsPlainArg, all_of, args_of, groups_of, HasKind, HasMatchesOf, IsAmong, Kinds, Rule, app_of, fault_of, first_of, first_value, found_of, is_simple, is_simple_and_free, kind_of, matches_of, new_app, one_of, one_text, rows_of, rule_of, with_rule}
+use Rattle.clap.specs.Built.{IsParsedFrom}
 use Rattle.clap.specs.declared.builder.arg.Arg.{Arg}
 use Rattle.clap.specs.declared.builder.command.Command.{Command}
 use Rattle.clap.specs.declared.builder.command.Command.TheViews.{out-Command}
 use Rattle.clap.specs.declared.error.Error.{Error}
 use Rattle.clap.specs.declared.error.kind.ErrorKind.TheVariants.{OutOfMemory}
 use Rattle.clap.specs.declared.parser.matches.ArgMatches.{ArgMatches}
-use Rattle.mls_magicd.specs.CommandLines.{magicd, tech_rule, quota_rule, cells_rule, cell_words, bad_word, faults_in, words_found, IsBadWord, file_named, quota_named, number_in, IsParserFault, IsQuotaOf, IsRefusedBy}
+use Rattle.mls_magicd.proofs.NumberTexts.{StandsAt, number-text}
+use Rattle.mls_magicd.specs.CommandLines.{NumberOption, magicd, tech_rule, number_rule, cells_rule, quota_option, pool_option, journal_option, cell_words, bad_word, faults_in, words_found, IsBadWord, IsFoundNumber, IsNumberFor, IsNumberOf, IsNumberText, file_named, number_named, IsParserFault, IsRefusedBy}
 use Rattle.mls_magicd.specs.declared.options.OptionsFault.{OptionsFault}
 use Rattle.mls_magicd.specs.declared.options.OptionsFault.TheVariants.{Memory, Refused, BadCell}
 
+-- one argument more
+adds-rule : (old new : Command) (a : Arg) (app : App) (rule : Rule) → app_of old ≡ app → AddsArg old a new → rule_of a ≡ rule → a.global ≡ false
+    → app_of new ≡ with_rule app rule
+adds-rule old new a app rule before added is local = added.shape local ∙ ap₂ with_rule before is
+
 -- the command that is built is the one that the definitions speak of
-pub magicd-built : (bare named with_tech with_quota whole : Command) (tech quota cells : Arg)
+pub magicd-built : (bare named with_tech with_quota with_pool with_journal whole : Command) (tech quota pool journal cells : Arg)
     → app_of bare ≡ new_app (codes "magicd") → app_of named ≡ app_of bare
     → AddsArg named tech with_tech → rule_of tech ≡ tech_rule → tech.global ≡ false
-    → AddsArg with_tech quota with_quota → rule_of quota ≡ quota_rule → quota.global ≡ false
-    → AddsArg with_quota cells whole → rule_of cells ≡ cells_rule → cells.global ≡ false
+    → AddsArg with_tech quota with_quota → rule_of quota ≡ number_rule quota_option → quota.global ≡ false
+    → AddsArg with_quota pool with_pool → rule_of pool ≡ number_rule pool_option → pool.global ≡ false
+    → AddsArg with_pool journal with_journal → rule_of journal ≡ number_rule journal_option → journal.global ≡ false
+    → AddsArg with_journal cells whole → rule_of cells ≡ cells_rule → cells.global ≡ false
     → app_of whole ≡ magicd
 unfolding magicd
-magicd-built bare named with_tech with_quota whole tech quota cells new same tech_added tech_is tech_local quota_added quota_is quota_local cells_added cells_is cells_local =
-    let start : app_of named ≡ new_app (codes "magicd") = same ∙ new in
-    let first : app_of with_tech ≡ with_rule (new_app (codes "magicd")) tech_rule = tech_added.shape tech_local ∙ ap₂ with_rule start tech_is in
-    let second : app_of with_quota ≡ with_rule (with_rule (new_app (codes "magicd")) tech_rule) quota_rule = quota_added.shape quota_local ∙ ap₂ with_rule first quota_is in
-    cells_added.shape cells_local ∙ ap₂ with_rule second cells_is
+magicd-built bare named with_tech with_quota with_pool with_journal whole tech quota pool journal cells new same tech_added tech_is tech_local
+    quota_added quota_is quota_local pool_added pool_is pool_local journal_added journal_is journal_local cells_added cells_is cells_local =
+    let first = adds-rule named with_tech tech _ tech_rule (same ∙ new) tech_added tech_is tech_local in
+    let second = adds-rule with_tech with_quota quota _ (number_rule quota_option) first quota_added quota_is quota_local in
+    let third = adds-rule with_quota with_pool pool _ (number_rule pool_option) second pool_added pool_is pool_local in
+    let fourth = adds-rule with_pool with_journal journal _ (number_rule journal_option) third journal_added journal_is journal_local in
+    adds-rule with_journal whole cells _ cells_rule fourth cells_added cells_is cells_local
 
 pub magicd-simple : is_simple magicd ≡ true
 unfolding magicd
@@ -68,11 +79,11 @@ unfolding file_named
 file-named words command m built matches =
     first_value-rows (found_of m) (codes "tech") ∙ ap (first_of (codes "tech")) (rows-of_words words command m built matches)
 
-pub quota-named : (words : List Text) (command : Command) (m : ArgMatches) → app_of command ≡ magicd → HasMatchesOf (app_of command) words m
-    → one_text (found_of m) (codes "quota") ≡ quota_named words
-unfolding quota_named
-quota-named words command m built matches =
-    one_text-rows (found_of m) (codes "quota") ∙ ap (one_of (codes "quota")) (rows-of_words words command m built matches)
+number-named : (option : NumberOption) (words : List Text) (command : Command) (m : ArgMatches) → app_of command ≡ magicd → HasMatchesOf (app_of command) words m
+    → one_text (found_of m) option.name ≡ number_named option words
+unfolding number_named
+number-named option words command m built matches =
+    one_text-rows (found_of m) option.name ∙ ap (one_of option.name) (rows-of_words words command m built matches)
 
 pub cells-named : (words : List Text) (command : Command) (m : ArgMatches) → app_of command ≡ magicd → HasMatchesOf (app_of command) words m
     → words_found (found_of m) ≡ cell_words words
@@ -81,17 +92,24 @@ cells-named words command m built matches =
     ap (λ (o : Option (List Text)). unwrap_or o [])
     (raw_values-rows (found_of m) (codes "cells") ∙ ap (all_of (codes "cells")) (rows-of_words words command m built matches))
 
--- the quota is the one that the words name
-pub quota-of_words : (words : List Text) (m : ArgMatches) (quota : ℕ)
-    → one_text (found_of m) (codes "quota") ≡ quota_named words
-    → (one_text (found_of m) (codes "quota") ≡ None → quota ≡ 1024)
-    → ((text : Text) → one_text (found_of m) (codes "quota") ≡ Some text → quota ≡ number_in text)
-    → IsQuotaOf (quota_named words) quota
-quota-of_words words m quota read usual named = go (quota_named words) read
+-- the number is the one that the words name
+number-of_words : (option : NumberOption) (words : List Text) (m : ArgMatches) (number : ℕ)
+    → one_text (found_of m) option.name ≡ number_named option words
+    → IsFoundNumber option (found_of m) number
+    → ((text : Text) → one_text (found_of m) option.name ≡ Some text → IsNumberText option text)
+    → IsNumberFor option words number
+number-of_words option words m number read found is_text = go (number_named option words) read
   where
-    go : (o : Option Text) → one_text (found_of m) (codes "quota") ≡ o → IsQuotaOf o quota
-    go None e = usual e
-    go (Some text) e = named text e
+    go : (o : Option Text) → one_text (found_of m) option.name ≡ o → IsNumberOf option o number
+    go None e = found.usual e
+    go (Some text) e = found.named text e (is_text text e)
+
+-- the number that was found is the one that the words name
+pub number-parsed : (option : NumberOption) (place : ℕ) → StandsAt option place → (words : List Text) (command : Command) (m : ArgMatches) (number : ℕ)
+    → app_of command ≡ magicd → HasMatchesOf (app_of command) words m → IsParsedFrom command m → IsPlain command → (out-Command command).has_globals ≡ false
+    → IsFoundNumber option (found_of m) number → IsNumberFor option words number
+number-parsed option place stands words command m number built matches parsed plain local found =
+    number-of_words option words m number (number-named option words command m built matches) found (number-text option place stands command m parsed built plain local)
 
 -- a command with no arguments is plain
 pub empty-plain : (command : Command) → args_of command ≡ [] → groups_of command ≡ [] → IsPlain command

@@ -1,11 +1,13 @@
 -- The command line of `magicd`, and what its words mean. This project's own.
 use Rattle.std.specs.Prelude.{◌≡◌, ◌≢◌, ℕ, ◌==◌, not, Option, Some, None, is_some, List, [], ◌∷◌, Result, Ok, Err, pos, codes, find, if◌then◌else◌, map, option_map, unwrap_or, ⊤}
 use Rattle.std.specs.Str.Parse.{digits_value, without_leading_plus}
-use Rattle.clap.specs.Words.{App, IsSignedIn, Kinds, Rule, Text, without_minus, all_of, fault_of, first_of, matched_of, matches_of, new_app, new_rule, one_of, raw_values, with_rule}
+use Rattle.clap.specs.Words.{App, IsSignedIn, Kinds, Rule, Text, without_minus, all_of, fault_of, first_of, matched_of, matches_of, new_app, new_rule, one_of, one_text, raw_values, with_rule}
 use Rattle.clap.specs.declared.builder.action.ArgAction.TheVariants.{Append}
 use Rattle.clap.specs.declared.builder.value_parser.ValueParser.TheVariants.{Signed}
 use Rattle.clap.specs.declared.parser.matches.Found.{Found}
+use Rattle.mls_session.specs.JournalLimits.{most_entries, default_journal_limit}
 use Rattle.mls_session.specs.Quotas.{least_quota, most_quota, default_quota}
+use Rattle.mls_magicd.specs.Capacities.{most_tiles, default_capacity}
 use Rattle.mls_magicd.specs.declared.cell_argument.CellArgument.{CellArgument}
 use Rattle.mls_magicd.specs.declared.options.Options.{Options}
 use Rattle.mls_magicd.specs.declared.options.OptionsFault.{OptionsFault}
@@ -15,17 +17,33 @@ use Rattle.mls_magicd.specs.declared.options.OptionsFault.TheVariants.{Memory, R
 abbrev pub tech_rule : Rule
 tech_rule = record (new_rule (codes "tech")) { long = Some (codes "tech"); value_names = 1 }
 
--- `--quota N`, a number that is a quota
-abbrev pub quota_rule : Rule
-quota_rule = record (new_rule (codes "quota")) { long = Some (codes "quota"); value_names = 1; parser = Some (Signed (pos least_quota) (pos most_quota)) }
+-- an option `--NAME N`: its name, the least and the greatest number that it takes, and the number where it isn't given
+pub record NumberOption : Type 0 where
+  pub name : Text
+  pub least : ℕ
+  pub most : ℕ
+  pub default : ℕ
+
+abbrev pub quota_option : NumberOption
+quota_option = record { name = codes "quota"; least = least_quota; most = most_quota; default = default_quota }
+
+abbrev pub pool_option : NumberOption
+pool_option = record { name = codes "pool"; least = 1; most = most_tiles; default = default_capacity }
+
+abbrev pub journal_option : NumberOption
+journal_option = record { name = codes "journal"; least = 1; most = most_entries; default = default_journal_limit }
+
+abbrev pub number_rule : NumberOption → Rule
+number_rule option = record (new_rule option.name) { long = Some option.name; value_names = 1; parser = Some (Signed (pos option.least) (pos option.most)) }
 
 -- any number of `NAME=FILE`
 abbrev pub cells_rule : Rule
 cells_rule = record (new_rule (codes "cells")) { value_names = 1; action = Some Append }
 
--- the two options, the cells, and the parser's own `--help`
+-- the options, the cells, and the parser's own `--help`
 unfoldable pub magicd : App
-magicd = with_rule (with_rule (with_rule (new_app (codes "magicd")) tech_rule) quota_rule) cells_rule
+magicd =
+    with_rule (with_rule (with_rule (with_rule (with_rule (new_app (codes "magicd")) tech_rule) (number_rule quota_option)) (number_rule pool_option)) (number_rule journal_option)) cells_rule
 
 -- the faults that the parser finds in the words, of which asking for help is one; there are none where it takes them
 unfoldable pub faults_in : List Text → Kinds
@@ -35,9 +53,9 @@ faults_in words = fault_of magicd words
 unfoldable pub file_named : List Text → Option Text
 file_named words = first_of (codes "tech") (matches_of magicd words)
 
--- the number after `--quota`, as text
-unfoldable pub quota_named : List Text → Option Text
-quota_named words = one_of (codes "quota") (matches_of magicd words)
+-- the number after the option, as text
+unfoldable pub number_named : NumberOption → List Text → Option Text
+number_named option words = one_of option.name (matches_of magicd words)
 
 -- the words that are no options, and so name cells, in order
 unfoldable pub cell_words : List Text → List Text
@@ -47,20 +65,29 @@ cell_words words = unwrap_or (all_of (codes "cells") (matches_of magicd words)) 
 abbrev pub words_found : Found → List Text
 words_found found = unwrap_or (option_map raw_values (matched_of found (codes "cells"))) []
 
--- ---- the quota
+-- ---- numbers
 
 -- the number that the digits write, which a plus may precede
 unfoldable pub number_in : Text → ℕ
 number_in text = digits_value 10 (without_leading_plus text)
 
--- the parser takes the text for a quota
-abbrev pub IsQuotaText : Text → Type 0
-IsQuotaText text = (written : Text) × (text ≡ without_minus written) × IsSignedIn (pos least_quota) (pos most_quota) written
+-- the parser takes the text for a number of the option
+abbrev pub IsNumberText : NumberOption → Text → Type 0
+IsNumberText option text = (written : Text) × (text ≡ without_minus written) × IsSignedIn (pos option.least) (pos option.most) written
 
--- the quota is the number that is named, or else the default
-abbrev pub IsQuotaOf : Option Text → ℕ → Type 0
-IsQuotaOf None quota = quota ≡ default_quota
-IsQuotaOf (Some text) quota = quota ≡ number_in text
+-- the number is the one that the text names, or else the option's default
+abbrev pub IsNumberOf : NumberOption → Option Text → ℕ → Type 0
+IsNumberOf option None number = number ≡ option.default
+IsNumberOf option (Some text) number = number ≡ number_in text
+
+-- it is the one that the words name
+abbrev pub IsNumberFor : NumberOption → List Text → ℕ → Type 0
+IsNumberFor option words number = IsNumberOf option (number_named option words) number
+
+-- so it is by what a parse found, if the text after the option is one that the parser takes
+pub record IsFoundNumber (option : NumberOption) (found : Found) (number : ℕ) : Type 0 where
+  pub usual : one_text found option.name ≡ None → number ≡ option.default
+  pub named : (text : Text) → one_text found option.name ≡ Some text → IsNumberText option text → number ≡ number_in text
 
 -- ---- the cells
 
@@ -100,10 +127,13 @@ abbrev pub AreTaken : List Text → Type 0
 AreTaken words = (faults_in words ≡ []) × (bad_word (cell_words words) ≡ None)
 
 -- the words have no fault, and give these options
-abbrev pub ParsesAs : List Text → Options → Type 0
-ParsesAs words options =
-    AreTaken words × (option_map (λ path. path.now) options.tech ≡ file_named words) × IsQuotaOf (quota_named words) options.quota
-    × NamesFiles (cell_words words) (map file_of options.cells.items)
+pub record ParsesAs (words : List Text) (options : Options) : Type 0 where
+  pub taken : AreTaken words
+  pub tech : option_map (λ path. path.now) options.tech ≡ file_named words
+  pub quota : IsNumberFor quota_option words options.quota
+  pub pool : IsNumberFor pool_option words options.pool
+  pub journal : IsNumberFor journal_option words options.journal
+  pub cells : NamesFiles (cell_words words) (map file_of options.cells.items)
 
 -- the fault is one of the parser's
 abbrev pub IsParserFault : OptionsFault → Type 0

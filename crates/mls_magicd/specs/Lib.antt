@@ -1,3 +1,4 @@
+pub mod Capacities
 pub mod Cells
 pub mod CommandLines
 pub mod FileReads

@@ -2,13 +2,12 @@
 use Rattle.std.specs.Prelude.{◌≡◌, ◌≢◌, ◌⊎◌, ℕ, Option, Some, None, Ok, Err, List, [], ◌∷◌, ◌++◌, map}
 use Rattle.mls_edgerule.specs.Compiling.{compiled}
 use Rattle.mls_tech.specs.Readings.{Tech}
-use Rattle.mls_wire.specs.Runs.{MarksAreRight, OpenSession, Setting}
+use Rattle.mls_server.specs.Worlds.{MarksAreExact, MarksAreRight, World}
 use Rattle.mls_wire.specs.Serving.{HasReason, WritesRun, WritesCutRun}
 use Rattle.mls_wire.specs.Watches.{Watched}
 use Rattle.mls_wire.specs.declared.serving.ServeFault.{ServeFault}
-use Rattle.mls_wire.specs.Solos.{pool_tiles}
 use Rattle.mls_magicd.specs.Cells.{LoadsCells, StopsAtCell}
-use Rattle.mls_magicd.specs.CommandLines.{AreTaken, NamedFile, NamesFiles, bad_word, cell_words, faults_in, file_named, quota_named, IsQuotaOf, IsRefusedBy}
+use Rattle.mls_magicd.specs.CommandLines.{AreTaken, NamedFile, NamesFiles, bad_word, cell_words, faults_in, file_named, quota_option, pool_option, journal_option, IsNumberFor, IsRefusedBy}
 use Rattle.mls_magicd.specs.Messages.{Reports, ReportsAll, bad_cell_line, fault_text, serve_fault_line, skipped_line}
 use Rattle.mls_magicd.specs.Technologies.{HasReading, LacksTechnology}
 use Rattle.mls_magicd.specs.declared.cells.LoadFault.{LoadFault}
@@ -42,26 +41,29 @@ status_after (Serve fault) = failed
 
 -- ---- the start
 
--- the words have no fault, and the setting has the technology that they name and its compiled rules, the quota that they name, no cells, and the whole
--- pool; `reads_as` relates paths to the bytes that their files may be read as
-pub record IsBareFor (reads_as : List ℕ → List ℕ → Type 0) (words : List (List ℕ)) (setting : Setting) : Type 0 where
+-- the words have no fault, and the world has the technology that they name and its compiled rules, the quota, the journals' limit and the pool's capacity that
+-- they name, no cells, and no session, nor was any opened; `reads_as` relates paths to the bytes that their files may be read as
+pub record IsBareFor (reads_as : List ℕ → List ℕ → Type 0) (words : List (List ℕ)) (on : World) : Type 0 where
   pub taken : AreTaken words
-  pub tech : HasReading reads_as (file_named words) setting.tech
-  pub rules : compiled setting.tech ≡ Ok setting.rules
-  pub quota : IsQuotaOf (quota_named words) setting.quota
-  pub cells : setting.cells ≡ []
-  pub room : setting.room ≡ pool_tiles
+  pub tech : HasReading reads_as (file_named words) on.setting.tech
+  pub rules : compiled on.setting.tech ≡ Ok on.setting.rules
+  pub quota : IsNumberFor quota_option words on.setting.quota
+  pub journal : IsNumberFor journal_option words on.setting.journal
+  pub cells : on.setting.cells ≡ []
+  pub given : on.given ≡ 0
+  pub seats : on.seats ≡ []
+  pub room : IsNumberFor pool_option words on.room
 
--- the setting is that one with the cells that the words name, which were loaded in order
-pub record IsConfiguredBy (reads_as : List ℕ → List ℕ → Type 0) (words : List (List ℕ)) (setting : Setting) : Type 0 where
-  pub bare : Setting
+-- the world is that one with the cells that the words name, which were loaded in order
+pub record IsConfiguredBy (reads_as : List ℕ → List ℕ → Type 0) (words : List (List ℕ)) (on : World) : Type 0 where
+  pub bare : World
   pub is_bare : IsBareFor reads_as words bare
   pub files : List NamedFile
   pub named : NamesFiles (cell_words words) files
-  pub loaded : LoadsCells reads_as bare files setting
+  pub loaded : LoadsCells reads_as bare files on
 
--- one of the cells that the words name isn't loaded into the setting
-pub record IsStoppedBy (reads_as : List ℕ → List ℕ → Type 0) (may_fail : List ℕ → Type 0) (words : List (List ℕ)) (bare : Setting) (fault : LoadFault) : Type 0 where
+-- one of the cells that the words name isn't loaded into the world
+pub record IsStoppedBy (reads_as : List ℕ → List ℕ → Type 0) (may_fail : List ℕ → Type 0) (words : List (List ℕ)) (bare : World) (fault : LoadFault) : Type 0 where
   pub is_bare : IsBareFor reads_as words bare
   pub files : List NamedFile
   pub named : NamesFiles (cell_words words) files
@@ -81,9 +83,9 @@ FailsAtStart reads_as may_fail words contents old new (Rule fault) =
     (tech : Tech) × AreTaken words × HasReading reads_as (file_named words) tech × (compiled tech ≡ Err fault)
     × ReportsAll contents old new (skipped_lines tech)
 FailsAtStart reads_as may_fail words contents old new (Cell fault) =
-    (bare : Setting) × IsStoppedBy reads_as may_fail words bare fault × ReportsAll contents old new (skipped_lines bare.tech)
+    (bare : World) × IsStoppedBy reads_as may_fail words bare fault × ReportsAll contents old new (skipped_lines bare.setting.tech)
 FailsAtStart reads_as may_fail words contents old new Memory =
-    (bare : Setting) × IsBareFor reads_as words bare × ReportsAll contents old new (skipped_lines bare.tech)
+    (bare : World) × IsBareFor reads_as words bare × ReportsAll contents old new (skipped_lines bare.setting.tech)
 FailsAtStart reads_as may_fail words contents old new (Serve fault) = ⊥
 
 -- the start failed with the status 1, and the fault was reported
@@ -101,20 +103,26 @@ RefusesWords words contents old new =
 
 -- ---- the script
 
--- the output gained the reply texts of the script's run over sessions of this setting, none of which is open at first; after it the marks of the open one
--- are right outside the areas that await checking
-abbrev pub ServesScript : Setting → Option (List ℕ) → Option (List ℕ) → Option (List ℕ) → Type 0
-ServesScript setting script written now = (last : OpenSession) × WritesRun setting None script written now last × MarksAreRight setting last
+-- what a script leaves: the setting is the one that it began with, the marks of each open session are right outside the areas that await checking, and exact
+-- where there is none
+pub record IsLeftBy (old last : World) : Type 0 where
+  pub setting : last.setting ≡ old.setting
+  pub marks_right : MarksAreRight last
+  pub marks_exact : MarksAreExact last
+
+-- the output gained the reply texts of the script's run on this world
+abbrev pub ServesScript : World → Option (List ℕ) → Option (List ℕ) → Option (List ℕ) → Type 0
+ServesScript old script written now = (last : World) × WritesRun old script written now last × IsLeftBy old last
 
 -- it gained those of a run that was cut by this fault
-abbrev pub FailsInScript : {R W : Type 0} → Setting → Option (List ℕ) → Option (List ℕ) → Option (List ℕ) → Option (List ℕ)
+abbrev pub FailsInScript : {R W : Type 0} → World → Option (List ℕ) → Option (List ℕ) → Option (List ℕ) → Option (List ℕ)
     → Watched R → Watched W → ServeFault → Type 0
-FailsInScript setting script rest written now input output fault =
-    ((last : OpenSession) × WritesCutRun setting None fault script rest written now last × MarksAreRight setting last) × HasReason fault input output
+FailsInScript old script rest written now input output fault =
+    ((last : World) × WritesCutRun old fault script rest written now last × IsLeftBy old last) × HasReason fault input output
 
 -- so it did, and the fault was reported after the skipped lines
-abbrev pub EndsInScript : {R W E : Type 0} → Setting → Option (List ℕ) → Option (List ℕ) → Option (List ℕ) → Option (List ℕ)
+abbrev pub EndsInScript : {R W E : Type 0} → World → Option (List ℕ) → Option (List ℕ) → Option (List ℕ) → Option (List ℕ)
     → Watched R → Watched W → (E → Option (List ℕ)) → Watched E → Watched E → Type 0
-EndsInScript setting script rest written now input output contents old new =
-    (fault : ServeFault) × FailsInScript setting script rest written now input output fault
-    × ReportsAll contents old new (skipped_lines setting.tech ++ serve_fault_line fault ∷ [])
+EndsInScript old script rest written now input output contents before after =
+    (fault : ServeFault) × FailsInScript old script rest written now input output fault
+    × ReportsAll contents before after (skipped_lines old.setting.tech ++ serve_fault_line fault ∷ [])

@@ -1,13 +1,13 @@
 //! The cells that are loaded before the script.
-ghost use Rattle.std.specs.Prelude.{◌≡◌, None, IfErr, OnOk, map};
-ghost use Rattle.mls_wire.specs.Solos.{open_session_of, setting_of};
+ghost use Rattle.std.specs.Prelude.{◌≡◌, [], IfErr, OnOk, map};
+ghost use Rattle.mls_server.specs.Servers.{world_of};
 ghost use Rattle.mls_magicd.specs.Cells.{LoadsCells, LoadsUnlessFault, StopsAtCell};
 ghost use Rattle.mls_magicd.specs.CommandLines.{file_of};
 
 use crate::cell_argument::CellArgument;
 use crate::{FileFault, Files};
 use mls_library::CellFault;
-use mls_wire::Solo;
+use mls_server::Server;
 use std::alloc::Global;
 use thiserror::Error;
 
@@ -28,16 +28,16 @@ pub enum LoadFault<'a> {
 pub fn load_cells<'a, F: Files>(
     alloc: Global,
     files: &F,
-    solo: &mut Solo,
+    server: &mut Server,
     cells: &[CellArgument<'a>],
 ) -> Result<(), LoadFault<'a>>
-    requires none_open { open_session_of solo.old ≡ None }
-    ensures loads { OnOk result (LoadsCells (F.reads_as files.now) (setting_of solo.old) (map file_of cells.now) (setting_of solo.new)) }
-    ensures stops { IfErr result (StopsAtCell (F.reads_as files.now) (F.may_fail files.now) (setting_of solo.old) (map file_of cells.now)) }
-    ensures none_open { open_session_of solo.new ≡ None }
+    requires idle { (world_of server.old).seats ≡ [] }
+    ensures loads { OnOk result (LoadsCells (F.reads_as files.now) (world_of server.old) (map file_of cells.now) (world_of server.new)) }
+    ensures stops { IfErr result (StopsAtCell (F.reads_as files.now) (F.may_fail files.now) (world_of server.old) (map file_of cells.now)) }
+    ensures idle { (world_of server.new).seats ≡ [] }
 {
     for cell in cells {
-        load_cell(alloc, files, solo, *cell)?;
+        load_cell(alloc, files, server, *cell)?;
     }
     Ok(())
 }
@@ -46,12 +46,12 @@ pub fn load_cells<'a, F: Files>(
 fn load_cell<'a, F: Files>(
     alloc: Global,
     files: &F,
-    solo: &mut Solo,
+    server: &mut Server,
     cell: CellArgument<'a>,
 ) -> Result<(), LoadFault<'a>>
-    requires none_open { open_session_of solo.old ≡ None }
-    ensures loads { LoadsUnlessFault (F.reads_as files.now) (F.may_fail files.now) (setting_of solo.old) (file_of cell.entry) result (setting_of solo.new) }
-    ensures none_open { open_session_of solo.new ≡ None }
+    requires idle { (world_of server.old).seats ≡ [] }
+    ensures loads { LoadsUnlessFault (F.reads_as files.now) (F.may_fail files.now) (world_of server.old) (file_of cell.entry) result (world_of server.new) }
+    ensures idle { (world_of server.new).seats ≡ [] }
 {
     let CellArgument { name, path } = cell;
     let bytes = match files.read(alloc, path) {
@@ -59,7 +59,7 @@ fn load_cell<'a, F: Files>(
         Err(FileFault::Unreadable) => return Err(LoadFault::Unreadable(path)),
         Err(FileFault::Memory) => return Err(LoadFault::Memory),
     };
-    match solo.load(alloc, name.as_bytes(), &bytes) {
+    match server.load(alloc, name.as_bytes(), &bytes) {
         Ok(_) => Ok(()),
         Err(fault) => Err(LoadFault::Faulty { name, fault }),
     }

@@ -2,6 +2,7 @@
 //! streams.
 #![tactic(auto)]
 
+mod capacity;
 mod cell_argument;
 mod cells;
 mod fault;

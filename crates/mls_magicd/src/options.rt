@@ -1,15 +1,16 @@
 //! The options of the command line.
-ghost use Rattle.std.specs.Prelude.{◌≡◌, ℕ, List, IfOk, IfErr, map, codes, false};
+ghost use Rattle.std.specs.Prelude.{◌≡◌, IfOk, IfErr, map, false};
 ghost use Rattle.clap.specs.declared.builder.command.Command.TheViews.{out-Command as fields_of};
-ghost use Rattle.clap.specs.Words.{app_of, found_of, kind_of, one_text, rule_of, IsPlain, IsPlainArg};
+ghost use Rattle.clap.specs.Words.{app_of, found_of, kind_of, rule_of, IsPlain, IsPlainArg};
 ghost use Rattle.clap.specs.declared.error.kind.ErrorKind.TheVariants.{OutOfMemory};
-ghost use Rattle.mls_session.specs.Quotas.{default_quota};
-ghost use Rattle.mls_magicd.specs.CommandLines.{magicd, tech_rule, quota_rule, cells_rule, file_of, words_found, number_in, IsBadWord, IsParserFault, NamesFiles, IsQuotaText, ParsesWords};
+ghost use Rattle.mls_magicd.specs.CommandLines as spec;
+ghost use Rattle.mls_magicd.specs.CommandLines.{magicd, tech_rule, number_rule, cells_rule, file_of, words_found, IsBadWord, IsFoundNumber, IsParserFault, NamesFiles, ParsesWords};
 
+use crate::capacity::Capacity;
 use crate::cell_argument::CellArgument;
 use clap::error::ErrorKind;
 use clap::{Arg, ArgAction, ArgMatches, Command, Error as ParseError, value_parser};
-use mls_session::Quota;
+use mls_session::{JournalLimit, Quota};
 use std::alloc::{AllocError, AllocFailed, Global};
 use std::convert::AsStr;
 use thiserror::Error;
@@ -21,6 +22,10 @@ pub struct Options<'a> {
     pub tech: Option<&'a str>,
     /// The most tiles that a plane may have.
     pub quota: Quota,
+    /// How many tiles the pool has.
+    pub pool: Capacity,
+    /// The most entries that a journal may have.
+    pub journal: JournalLimit,
     /// The cells, in order.
     pub cells: Vec<CellArgument<'a>>,
 }
@@ -69,6 +74,8 @@ impl<'a> Options<'a> {
                 Ok(Options {
                     tech: matches.get_str("tech"),
                     quota: quota_given(&matches),
+                    pool: pool_given(&matches),
+                    journal: journal_given(&matches),
                     cells,
                 })
             }
@@ -87,7 +94,9 @@ fn command<'a>(alloc: Global) -> Result<Command<'a>, AllocError>
     let named = bare.about("Serves layout scripts from standard input to standard output");
     let with_tech = named.arg(tech_option(alloc))?;
     let with_quota = with_tech.arg(quota_option(alloc))?;
-    with_quota.arg(cells_argument(alloc))
+    let with_pool = with_quota.arg(pool_option(alloc))?;
+    let with_journal = with_pool.arg(journal_option(alloc))?;
+    with_journal.arg(cells_argument(alloc))
 }
 
 fn tech_option<'a>(alloc: Global) -> Arg<'a>
@@ -102,7 +111,7 @@ fn tech_option<'a>(alloc: Global) -> Arg<'a>
 }
 
 fn quota_option<'a>(alloc: Global) -> Arg<'a>
-    ensures rule { rule_of result ≡ quota_rule }
+    ensures rule { rule_of result ≡ number_rule spec.quota_option }
     ensures plain { IsPlainArg result }
     ensures local { result.global ≡ false }
 {
@@ -111,6 +120,30 @@ fn quota_option<'a>(alloc: Global) -> Arg<'a>
         .value_name("N")
         .value_parser(value_parser!(u32).range(5..=16_384))
         .help("Gives each plane N tiles, from 5 to 16384 [default: 1024]")
+}
+
+fn pool_option<'a>(alloc: Global) -> Arg<'a>
+    ensures rule { rule_of result ≡ number_rule spec.pool_option }
+    ensures plain { IsPlainArg result }
+    ensures local { result.global ≡ false }
+{
+    Arg::new(alloc, "pool")
+        .long("pool")
+        .value_name("N")
+        .value_parser(value_parser!(u32).range(1..=8_388_608))
+        .help("Gives all planes together N tiles, from 1 to 8388608 [default: 262144]")
+}
+
+fn journal_option<'a>(alloc: Global) -> Arg<'a>
+    ensures rule { rule_of result ≡ number_rule spec.journal_option }
+    ensures plain { IsPlainArg result }
+    ensures local { result.global ≡ false }
+{
+    Arg::new(alloc, "journal")
+        .long("journal")
+        .value_name("N")
+        .value_parser(value_parser!(u32).range(1..=65_536))
+        .help("Gives each journal N entries, from 1 to 65536 [default: 4096]")
 }
 
 fn cells_argument<'a>(alloc: Global) -> Arg<'a>
@@ -126,13 +159,31 @@ fn cells_argument<'a>(alloc: Global) -> Arg<'a>
 
 /// The quota that the matches name, or the default.
 fn quota_given(matches: &ArgMatches<'_>) -> Quota
-    ensures usual { one_text (found_of matches.now) (codes "quota") ≡ None → result ≡ default_quota }
-    ensures named { (text : List ℕ) → one_text (found_of matches.now) (codes "quota") ≡ Some text → IsQuotaText text
-        → result ≡ number_in text }
+    ensures { IsFoundNumber spec.quota_option (found_of matches.now) result }
 {
     matches
         .get_one::<u32>("quota")
         .and_then(Quota::new)
+        .unwrap_or_default()
+}
+
+/// The capacity of the pool that the matches name, or the default.
+fn pool_given(matches: &ArgMatches<'_>) -> Capacity
+    ensures { IsFoundNumber spec.pool_option (found_of matches.now) result }
+{
+    matches
+        .get_one::<u32>("pool")
+        .and_then(Capacity::new)
+        .unwrap_or_default()
+}
+
+/// The limit of a journal that the matches name, or the default.
+fn journal_given(matches: &ArgMatches<'_>) -> JournalLimit
+    ensures { IsFoundNumber spec.journal_option (found_of matches.now) result }
+{
+    matches
+        .get_one::<u32>("journal")
+        .and_then(JournalLimit::new)
         .unwrap_or_default()
 }
 

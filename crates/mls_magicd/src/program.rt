@@ -1,7 +1,7 @@
 //! The whole program, over any words, files and streams.
-ghost use Rattle.std.specs.Prelude.{◌≡◌, ◌≤◌, ◌⊎◌, ℕ, List, None, OnOk, IfOk, IfErr, false, map};
-ghost use Rattle.mls_wire.specs.Runs.{Setting};
-ghost use Rattle.mls_wire.specs.Solos.{open_session_of, setting_of};
+ghost use Rattle.std.specs.Prelude.{◌≡◌, ◌≤◌, ◌⊎◌, ℕ, List, [], OnOk, IfOk, IfErr, false, map};
+ghost use Rattle.mls_server.specs.Servers.{world_of};
+ghost use Rattle.mls_server.specs.Worlds.{World};
 ghost use Rattle.mls_wire.specs.declared.serving.ServeFault.{ServeFault};
 ghost use Rattle.mls_magicd.specs.CommandLines.{ParsesAs};
 ghost use Rattle.mls_magicd.specs.Messages.{Reports, ReportsAll, fault_text};
@@ -13,7 +13,8 @@ use crate::options::Options;
 use crate::technology::open_technology;
 use crate::{Fault, Files};
 use mls_edgerule::compile;
-use mls_wire::{Solo, Watched, serve};
+use mls_server::Server;
+use mls_wire::{Watched, serve};
 use std::alloc::Global;
 use std::convert::AsStr;
 use std::io::{Read, Write};
@@ -36,19 +37,19 @@ pub fn run<S: AsStr, F: Files, R: Read, W: Write, E: Write>(
     requires faults_sound { faults.old.failed ≡ false }
     ensures status { result ≤ spec.bad_command_line }
 
-    // The output is the reply text of the script's run over the technology, the quota and the cells that the words name, and the
+    // The output is the reply text of the script's run over the technology, the cells and the limits that the words name, and the
     // skipped lines of the technology were reported.
-    ensures served { result ≡ spec.done → (setting : Setting) × spec.IsConfiguredBy (F.reads_as files.now) (map S.text words.now) setting
-        × spec.ServesScript setting (R.remaining input.old.device) (W.contents output.old.device) (W.contents output.new.device)
-        × ReportsAll E.contents faults.old faults.new (spec.skipped_lines setting.tech) }
+    ensures served { result ≡ spec.done → (on : World) × spec.IsConfiguredBy (F.reads_as files.now) (map S.text words.now) on
+        × spec.ServesScript on (R.remaining input.old.device) (W.contents output.old.device) (W.contents output.new.device)
+        × ReportsAll E.contents faults.old faults.new (spec.skipped_lines on.setting.tech) }
 
     // Either the start failed, for a reason that was reported, and no line of the script was read; or the script
     // was left before its end, for a reason that was reported, and the output is that of a run that was cut.
     ensures failed { result ≡ spec.failed →
         (spec.EndsAtStart (F.reads_as files.now) (F.may_fail files.now) (map S.text words.now) E.contents faults.old faults.new
         × (input.new ≡ input.old) × (output.new ≡ output.old))
-        ⊎ ((setting : Setting) × spec.IsConfiguredBy (F.reads_as files.now) (map S.text words.now) setting
-        × spec.EndsInScript setting (R.remaining input.old.device) (R.remaining input.new.device) (W.contents output.old.device) (W.contents output.new.device)
+        ⊎ ((on : World) × spec.IsConfiguredBy (F.reads_as files.now) (map S.text words.now) on
+        × spec.EndsInScript on (R.remaining input.old.device) (R.remaining input.new.device) (W.contents output.old.device) (W.contents output.new.device)
         input.new output.new E.contents faults.old faults.new) }
 
     // The words have a fault, it was reported, and no line of the script was read.
@@ -81,20 +82,20 @@ fn serve_words<'a, S: AsStr, F: Files, R: Read, W: Write, E: Write>(
 ) -> Result<(), Fault<'a>>
     requires input_sound { input.old.failed ≡ false }
     requires output_sound { output.old.failed ≡ false }
-    ensures ok { OnOk result ((setting : Setting) × spec.IsConfiguredBy (F.reads_as files.now) (map S.text words.now) setting
-        × spec.ServesScript setting (R.remaining input.old.device) (W.contents output.old.device) (W.contents output.new.device)
-        × ReportsAll E.contents faults.old faults.new (spec.skipped_lines setting.tech)) }
+    ensures ok { OnOk result ((on : World) × spec.IsConfiguredBy (F.reads_as files.now) (map S.text words.now) on
+        × spec.ServesScript on (R.remaining input.old.device) (W.contents output.old.device) (W.contents output.new.device)
+        × ReportsAll E.contents faults.old faults.new (spec.skipped_lines on.setting.tech)) }
     ensures err { IfErr result (λ fault.
         (spec.FailsAtStart (F.reads_as files.now) (F.may_fail files.now) (map S.text words.now) E.contents faults.old faults.new fault
         × (input.new ≡ input.old) × (output.new ≡ output.old))
-        ⊎ ((setting : Setting) × (cause : ServeFault) × (fault ≡ Fault.Serve cause)
-        × spec.IsConfiguredBy (F.reads_as files.now) (map S.text words.now) setting
-        × spec.FailsInScript setting (R.remaining input.old.device) (R.remaining input.new.device) (W.contents output.old.device) (W.contents output.new.device)
+        ⊎ ((on : World) × (cause : ServeFault) × (fault ≡ Fault.Serve cause)
+        × spec.IsConfiguredBy (F.reads_as files.now) (map S.text words.now) on
+        × spec.FailsInScript on (R.remaining input.old.device) (R.remaining input.new.device) (W.contents output.old.device) (W.contents output.new.device)
         input.new output.new cause
-        × ReportsAll E.contents faults.old faults.new (spec.skipped_lines setting.tech))) }
+        × ReportsAll E.contents faults.old faults.new (spec.skipped_lines on.setting.tech))) }
 {
-    let mut solo = start(alloc, words, files, faults)?;
-    serve(alloc, &mut solo, input, output)?;
+    let mut server = start(alloc, words, files, faults)?;
+    serve(alloc, &mut server, input, output)?;
     Ok(())
 }
 
@@ -104,15 +105,15 @@ fn start<'a, S: AsStr, F: Files, E: Write>(
     words: &'a [S],
     files: &F,
     faults: &mut Watched<E>,
-) -> Result<Solo, Fault<'a>>
-    ensures ok { IfOk result (λ solo. spec.IsConfiguredBy (F.reads_as files.now) (map S.text words.now) (setting_of solo) × (open_session_of solo ≡ None)
-        × ReportsAll E.contents faults.old faults.new (spec.skipped_lines solo.tech)) }
+) -> Result<Server, Fault<'a>>
+    ensures ok { IfOk result (λ server. spec.IsConfiguredBy (F.reads_as files.now) (map S.text words.now) (world_of server)
+        × ReportsAll E.contents faults.old faults.new (spec.skipped_lines (world_of server).setting.tech)) }
     ensures err { IfErr result (spec.FailsAtStart (F.reads_as files.now) (F.may_fail files.now) (map S.text words.now) E.contents faults.old faults.new) }
 {
     let options = Options::parse(alloc, words)?;
-    let mut solo = bare_server(alloc, files, &options, faults)?;
-    load_cells(alloc, files, &mut solo, &options.cells)?;
-    Ok(solo)
+    let mut server = bare_server(alloc, files, &options, faults)?;
+    load_cells(alloc, files, &mut server, &options.cells)?;
+    Ok(server)
 }
 
 /// Reads the technology, reports its skipped lines, compiles its rules, and makes the server, which reserves its memory.
@@ -121,16 +122,17 @@ fn bare_server<'a, F: Files, E: Write>(
     files: &F,
     options: &Options<'a>,
     faults: &mut Watched<E>,
-) -> Result<Solo, Fault<'a>>
-    ensures bare { IfOk result (λ solo. (words : List (List ℕ)) → ParsesAs words options.now
-        → spec.IsBareFor (F.reads_as files.now) words (setting_of solo)) }
-    ensures none_open { IfOk result (λ solo. open_session_of solo ≡ None) }
-    ensures reported { IfOk result (λ solo. ReportsAll E.contents faults.old faults.new (spec.skipped_lines solo.tech)) }
+) -> Result<Server, Fault<'a>>
+    ensures bare { IfOk result (λ server. (words : List (List ℕ)) → ParsesAs words options.now
+        → spec.IsBareFor (F.reads_as files.now) words (world_of server)) }
+    ensures idle { IfOk result (λ server. (world_of server).seats ≡ []) }
+    ensures reported { IfOk result (λ server. ReportsAll E.contents faults.old faults.new (spec.skipped_lines (world_of server).setting.tech)) }
     ensures err { IfErr result (λ fault. (words : List (List ℕ)) → ParsesAs words options.now
         → spec.FailsAtStart (F.reads_as files.now) (F.may_fail files.now) words E.contents faults.old faults.new fault) }
 {
     let tech = open_technology(alloc, files, options.tech)?;
     report_skipped(faults, tech.skipped());
     let rules = compile(&tech)?;
-    Ok(Solo::new(alloc, tech, rules, options.quota)?)
+    let capacity = options.pool.tiles();
+    Ok(Server::new(alloc, tech, rules, capacity, options.quota, options.journal)?)
 }

@@ -1,13 +1,13 @@
 -- What stays of the planes of other owners, as the tiles of some owners change and as owners are added.
-use Rattle.std.proofs.Common.{◌≡◌, ◌≢◌, ℕ, zero, suc, ◌+◌, ◌<◌, List, [], ◌∷◌, ◌++◌, length, get_or, None, All, Contains, inl, inr, refl, sym, ap, subst, ◌∙◌, arith}
+use Rattle.std.proofs.Common.{◌≡◌, ◌≢◌, ℕ, zero, suc, ◌+◌, ◌<◌, List, [], ◌∷◌, ◌++◌, length, get_or, Option, Some, None, IfSome, All, Contains, inl, inr, refl, sym, ap, subst, ◌∙◌, arith}
 use Rattle.std.proofs.Math.Path.{fun_ext}
 use Rattle.std.proofs.lemmas.Bool.{cases_eq}
-use Rattle.std.proofs.lemmas.List.Elements.{All-contains, All-push, Contains-append_left, Contains-push}
+use Rattle.std.proofs.lemmas.List.Elements.{All-contains, All-push, Contains-append_left, Contains-append_right, Contains-push}
 use Rattle.std.proofs.lemmas.Option.{slice_get_read}
-use Rattle.mls_tilepool.specs.Pools.{Pool, reserved, room_of, tiles_of, unreserved}
+use Rattle.mls_tilepool.specs.Pools.{Pool, Reserves, reserved, room_of, tiles_of, unreserved}
 use Rattle.mls_stitch.specs.Tilings.{ChangesOnly, IsMaximal, IsPlane, shown}
 use Rattle.mls_stitch.proofs.OtherPlanes.{apart_from_new}
-use Rattle.mls_paint.specs.Owners.{AddsOwners, ChangesAmong}
+use Rattle.mls_paint.specs.Owners.{AddsOwners, ChangesAmong, RemovesOwners}
 use Rattle.mls_paint.specs.Planes.{AddsOwner, HasStrips, layout_in, picture_at, picture_in}
 
 -- what an owner's plane shows, by its place among the planes
@@ -144,6 +144,45 @@ AddsOwners-ChangesAmong old mid new owners tiles added changed = record {
   taken = omega (arith, added.taken, unreserved-ChangesAmong mid new owners changed);
   capacity = changed.capacity ∙ added.capacity;
 }
+
+-- owners are removed one after the other
+pub RemovesOwners-none : (pool : Pool) → RemovesOwners pool pool [] 0
+RemovesOwners-none pool = record {
+  rooms = λ other apart. refl;
+  others = λ other apart. refl;
+  given_back = omega arith;
+  capacity = refl;
+}
+
+pub RemovesOwners-one :
+    (old new : Pool) (owner : ℕ) (room : Option ℕ) → Reserves old new owner None → IfSome room (λ tiles. unreserved new ≡ unreserved old + tiles)
+    → IfSome room (λ tiles. RemovesOwners old new (owner ∷ []) tiles)
+RemovesOwners-one old new owner None released given_back = given_back
+RemovesOwners-one old new owner (Some tiles) released given_back = record {
+  rooms = λ other apart. released.rooms other (differs other apart);
+  others = λ other apart. released.others other (differs other apart);
+  given_back = given_back;
+  capacity = released.capacity;
+}
+  where
+    differs : (other : ℕ) → ¬ (Contains (owner ∷ []) other) → other ≢ owner
+    differs other apart same = apart (0, omega arith, sym same)
+
+pub RemovesOwners-append :
+    (old mid new : Pool) (some more : List ℕ) (before tiles : ℕ) → RemovesOwners old mid some before → RemovesOwners mid new more tiles
+    → RemovesOwners old new (some ++ more) (before + tiles)
+RemovesOwners-append old mid new some more before tiles first second = record {
+  rooms = λ other none. second.rooms other (not_more other none) ∙ first.rooms other (not_some other none);
+  others = λ other none. second.others other (not_more other none) ∙ first.others other (not_some other none);
+  given_back = omega (arith, first.given_back, second.given_back);
+  capacity = second.capacity ∙ first.capacity;
+}
+  where
+    not_some : (other : ℕ) → ¬ (Contains (some ++ more) other) → ¬ (Contains some other)
+    not_some other none found = none (Contains-append_left some more other found)
+
+    not_more : (other : ℕ) → ¬ (Contains (some ++ more) other) → ¬ (Contains more other)
+    not_more other none found = none (Contains-append_right some more other found)
 
 -- they leave what had a reserve before: the reserve, the plane and what it shows
 pub not_added : (old new : Pool) (owners : List ℕ) (other tiles : ℕ) → AddsOwners old new owners tiles → room_of old other ≢ None → ¬ (Contains owners other)

@@ -16,3 +16,10 @@ pub record AddsOwners (old new : Pool) (owners : List ℕ) (tiles : ℕ) : Type 
   pub others : (other : ℕ) → ¬ (Contains owners other) → tiles_of new other ≡ tiles_of old other
   pub taken : unreserved new + tiles ≡ unreserved old
   pub capacity : new.capacity ≡ old.capacity
+
+-- these owners are gone with all their tiles, have given back this many reserved tiles together, and everything else is as it was
+pub record RemovesOwners (old new : Pool) (owners : List ℕ) (tiles : ℕ) : Type 0 where
+  pub rooms : (other : ℕ) → ¬ (Contains owners other) → room_of new other ≡ room_of old other
+  pub others : (other : ℕ) → ¬ (Contains owners other) → tiles_of new other ≡ tiles_of old other
+  pub given_back : unreserved new ≡ unreserved old + tiles
+  pub capacity : new.capacity ≡ old.capacity

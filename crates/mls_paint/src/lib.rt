@@ -8,5 +8,5 @@ mod planes;
 mod scratch;
 
 pub use paint::{Painted, TooManyTiles, fits, overlay, overlay_within};
-pub use planes::{find_area, kinds, space_plane, strips_of, tile_count};
+pub use planes::{find_area, kinds, release_plane, space_plane, strips_of, tile_count};
 pub use scratch::Scratch;

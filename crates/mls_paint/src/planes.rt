@@ -1,13 +1,14 @@
 //! Planes of space, and what a plane shows.
-ghost use Rattle.std.specs.Prelude.{◌≡◌, ◌+◌, ◌<◌, ◌≤◌, ◌↔◌, IfOk, IsErr, OnErr, OnOk, length, map};
+ghost use Rattle.std.specs.Prelude.{◌≡◌, ◌+◌, ◌<◌, ◌≤◌, ◌↔◌, IfOk, IfSome, IsErr, OnErr, OnOk, [], ◌∷◌, length, map};
 ghost use Rattle.mls_geom.specs.Pictures.{empty_picture, kinds_in};
 ghost use Rattle.mls_geom.specs.StripLists.{strips_of};
 ghost use Rattle.mls_geom.specs.Strips.{AreStrips};
 ghost use Rattle.mls_geom.specs.TileCounts.{tile_count};
 ghost use Rattle.mls_geom.specs.World.{world};
-ghost use Rattle.mls_tilepool.specs.Pools.{count_of, tiles_of, unreserved};
+ghost use Rattle.mls_tilepool.specs.Pools.{IsOwner, count_of, room_of, tiles_of, unreserved};
 ghost use Rattle.mls_stitch.specs.Areas.{AreInArea};
 ghost use Rattle.mls_stitch.specs.Tilings.{HasPlane, block_at};
+ghost use Rattle.mls_paint.specs.Owners.{RemovesOwners};
 ghost use Rattle.mls_paint.specs.Planes.{AddsOwner, HasStrips, picture_in};
 ghost use Rattle.mls_paint.specs.Scratches.{HasRoomFor, KeepsRoom};
 
@@ -37,6 +38,14 @@ pub fn space_plane(pool: &mut Pool, tiles: u32, scratch: &mut Scratch) -> Result
         kind: 0,
     };
     Ok(Plane::build(pool, owner, &[space], &mut scratch.search))
+}
+
+/// Gives the plane's tiles and its reserve back to the pool.
+pub fn release_plane(pool: &mut Pool, plane: Plane)
+    requires live { IsOwner pool.old plane }
+    ensures removed { IfSome (room_of pool.old plane) (λ room. RemovesOwners pool.old pool.new (plane ∷ []) room) }
+{
+    pool.release(plane.into_owner());
 }
 
 /// Reads how many tiles the plane has, for which there is room.

@@ -8,6 +8,8 @@ mod checks;
 #[cfg(test)]
 mod devices;
 #[cfg(test)]
+mod findings;
+#[cfg(test)]
 mod programs;
 #[cfg(test)]
 mod real_files;
@@ -16,4 +18,8 @@ mod same_as_covers;
 #[cfg(test)]
 mod scripts;
 #[cfg(test)]
+mod sessions;
+#[cfg(test)]
 mod streams;
+#[cfg(test)]
+mod three_sessions;

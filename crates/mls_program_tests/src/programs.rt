@@ -146,7 +146,7 @@ fn scripts_that_are_served(rt: HostRuntime) -> Result<(), Fail> {
 }
 
 /// Words that are refused, or ask for help.
-const BAD_WORDS: [&[&str]; 12] = [
+const BAD_WORDS: [&[&str]; 17] = [
     &["magicd", "--quota", "4"],
     &["magicd", "--quota", "16385"],
     &["magicd", "--quota", "x"],
@@ -155,7 +155,12 @@ const BAD_WORDS: [&[&str]; 12] = [
     &["magicd", "--quota", "5", "--quota", "6"],
     &["magicd", "--tech"],
     &["magicd", "--tech", "m.tech", "--tech", "m.tech"],
-    &["magicd", "--pool", "3"],
+    &["magicd", "--pool", "0"],
+    &["magicd", "--pool", "8388609"],
+    &["magicd", "--pool"],
+    &["magicd", "--journal", "0"],
+    &["magicd", "--journal", "65537"],
+    &["magicd", "--threads", "3"],
     &["magicd", "--help"],
     &["magicd", "-h"],
     &["magicd", "--tech", "none.tech", "--quota", "4"],
@@ -256,7 +261,7 @@ fn files_that_cannot_be_read(rt: HostRuntime) -> Result<(), Fail> {
     assert!(rt; ending.output.is_empty());
     assert_eq!(rt; ending.messages.as_slice(), b"magicd: memory\n".as_slice());
     // The words are looked at first.
-    let words = ["magicd", "--tech", "m.tech", "--pool", "3"];
+    let words = ["magicd", "--tech", "m.tech", "--pool", "0"];
     let ending = ended(&rt, &words, &files, FIRST_RUN);
     assert_eq!(rt; ending.status, 2);
     Ok(())

@@ -212,7 +212,7 @@ a ok;a refused 5 quota;a what 2 poly m1;a refused 5 quota;a ok
 ";
 
 /// The text with its newlines.
-fn lines(alloc: Global, text: &[u8]) -> Result<Vec<u8>, AllocError> {
+pub fn lines(alloc: Global, text: &[u8]) -> Result<Vec<u8>, AllocError> {
     text.iter()
         .map(|byte| if *byte == b';' { b'\n' } else { *byte })
         .collect(alloc)

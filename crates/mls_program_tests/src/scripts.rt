@@ -1,9 +1,10 @@
 //! Scripts and their replies.
 use crate::devices::ByteReader;
 use mls_edgerule::compile;
-use mls_session::Quota;
+use mls_server::{OpenFault, Server};
+use mls_session::{JournalLimit, Quota};
 use mls_tech::{TECHNOLOGY_M, Tech};
-use mls_wire::{LineFault, OpenFault, ReadFault, ServeFault, Solo, Watched, WriteFault, serve};
+use mls_wire::{LineFault, ReadFault, ServeFault, Watched, WriteFault, serve};
 use std::alloc::Global;
 use std::io::{Read, Write};
 use std::test::Fail;
@@ -29,10 +30,11 @@ fn served_with<R: Read + Drop, W: Write + Drop>(
     let quota = Quota::new(quota).ok_or("no quota")?;
     let tech = Tech::read(rt.alloc(), file)?;
     let rules = compile(&tech)?;
-    let mut solo = Solo::new(rt.alloc(), tech, rules, quota)?;
+    let limit = JournalLimit::default();
+    let mut server = Server::new(rt.alloc(), tech, rules, 262_144, quota, limit)?;
     let mut input = Watched::new(input);
     let mut output = Watched::new(output);
-    let outcome = serve(rt.alloc(), &mut solo, &mut input, &mut output);
+    let outcome = serve(rt.alloc(), &mut server, &mut input, &mut output);
     Ok((outcome, output.into_inner()))
 }
 
@@ -64,11 +66,11 @@ const ROWS: [(u32, &str, &str); 9] = [
         "%open a\na box -32768 -32768 -32767 -32767\na paint poly\na what\na box 32767 -32768 32768 -32767\na paint ndiff\na what\na box -32768 32767 -32767 32768\na paint m1\na what\na box 32767 32767 32768 32768\na what\na paint poly\na box -32768 -32768 32768 32768\na what\n",
         "a opened\na ok\na ok\na what 1 poly\na ok\na ok\na what 1 ndiff\na ok\na ok\na what 1 m1\na ok\na what 0\na ok\na ok\na what 3 poly ndiff m1\n",
     ),
-    // Sessions that can't be opened.
+    // A session that is open already, and another one.
     (
         5,
         "%open a\n%open a\n%open b\nb what\na what\n",
-        "a opened\na refused open 1 open already\nb refused open 2 sessions full\nline 4 fault 4 not open\na refused 3 no box\n",
+        "a opened\na refused open 1 open already\nb opened\nb refused 3 no box\na refused 3 no box\n",
     ),
     // Lines without replies, carriage returns, and a last line without its end.
     (
@@ -80,7 +82,7 @@ const ROWS: [(u32, &str, &str); 9] = [
     (
         5,
         "%close a\n%OPEN a\n%open\n%open a b\n%open \u{e9} b\n # x\na\nb box 0 0 4 x\nb what\nb drc check\na what now\na box x 0 4\n",
-        "line 1 fault 1 unknown command\nline 2 fault 1 unknown command\nline 3 fault 3 name\nline 4 fault 1 unknown command\nline 5 fault 3 name\nline 6 fault 3 name\nline 7 fault 1 unknown command\nline 8 fault 2 bad number\nline 9 fault 4 not open\nline 10 fault 4 not open\nline 11 fault 1 unknown command\nline 12 fault 1 unknown command\n",
+        "line 1 fault 4 not open\nline 2 fault 1 unknown command\nline 3 fault 3 name\nline 4 fault 1 unknown command\nline 5 fault 3 name\nline 6 fault 3 name\nline 7 fault 1 unknown command\nline 8 fault 2 bad number\nline 9 fault 4 not open\nline 10 fault 4 not open\nline 11 fault 1 unknown command\nline 12 fault 1 unknown command\n",
     ),
     // Numbers.
     (

@@ -10,43 +10,50 @@ use Rattle.mls_errorplane.specs.Checkings.{Checking, soiled}
 use Rattle.mls_errorplane.specs.ErrorPlanes.{checking_of}
 use Rattle.mls_errorplane.specs.declared.catching_up.CaughtUp.{CaughtUp}
 use Rattle.mls_session.specs.Drawings.{Drawing, drawn_of}
-use Rattle.mls_session.specs.Own.{CatchesUp, Config, OwnState, caught_up_reply, check_in, edit_step}
-use Rattle.mls_session.specs.Sessions.{HasErrorPlane, Session, state_of}
+use Rattle.mls_session.specs.Inner.{CatchesUpWith, steps_of}
+use Rattle.mls_session.specs.Own.{CatchesUp, Config, Designed, caught_up_reply, check_in, edit_step}
+use Rattle.mls_session.specs.Designs.{HasErrorPlane, Design, designed_of}
+use Rattle.mls_session.specs.declared.executed.Executed.{Executed}
 use Rattle.mls_session.specs.declared.reply.Reply.{Reply}
 use Rattle.mls_session.specs.declared.reply.Reply.TheVariants.{Done}
 use Rattle.mls_session.proofs.ErrorPlanes.{drawn-kept}
 
-boxed : (config : Config) (own : OwnState) (box : Option Rect) (rect : Rect) → box ≡ Some rect
+boxed : (config : Config) (own : Designed) (box : Option Rect) (rect : Rect) → box ≡ Some rect
     → edit_step config own box (check_in own.drawn box) ≡ (record { drawn = own.drawn; checking = soiled config.rules rect own.checking }, Done)
 boxed config own box rect is =
     subst (λ b. edit_step config own b (check_in own.drawn b) ≡ (record { drawn = own.drawn; checking = soiled config.rules rect own.checking }, Done)) (sym is) refl
 
 -- the box is added to the areas that await checking
 pub check_in-soiled :
-    (config : Config) (pool : Pool) (old new : Session) (rect : Rect) (reply : Reply) → old.drawing.box ≡ Some rect → new.drawing ≡ old.drawing
+    (config : Config) (pool : Pool) (old new : Design) (rect : Rect) (reply : Reply) → old.drawing.box ≡ Some rect → new.drawing ≡ old.drawing
     → checking_of pool new.errors ≡ soiled config.rules rect (checking_of pool old.errors) → reply ≡ Done
-    → edit_step config (state_of pool old) old.drawing.box (check_in (drawn_of pool old.drawing) old.drawing.box) ≡ (state_of pool new, reply)
+    → edit_step config (designed_of pool old) old.drawing.box (check_in (drawn_of pool old.drawing) old.drawing.box) ≡ (designed_of pool new, reply)
 check_in-soiled config pool old new rect reply box same checking is =
-    let pair : Drawing → Checking → Reply → OwnState × Reply = λ d known r. (record { drawn = drawn_of pool d; checking = known }, r) in
-    boxed config (state_of pool old) old.drawing.box rect box
+    let pair : Drawing → Checking → Reply → Designed × Reply = λ d known r. (record { drawn = drawn_of pool d; checking = known }, r) in
+    boxed config (designed_of pool old) old.drawing.box rect box
     ∙ ap (λ d. pair d (soiled config.rules rect (checking_of pool old.errors)) Done) (sym same)
     ∙ ap (λ known. pair new.drawing known Done) (sym checking)
     ∙ ap (pair new.drawing (checking_of pool new.errors)) (sym is)
 
 -- the error plane catches up, and the drawing stays
-pub CatchesUp-errors :
-    (config : Config) (pool new : Pool) (before after : Session) (rules : List EdgeRule) (ended : CaughtUp) (pending : ℕ) (reply : Reply)
+pub CatchesUpWith-errors :
+    (config : Config) (pool new : Pool) (before after : Design) (rules : List EdgeRule) (ended : CaughtUp) (pending : ℕ) (executed : Executed)
     → config.rules ≡ rules → config.quota ≡ before.drawing.quota → HasErrorPlane pool before.drawing before.errors.owner
     → ChangesOnly pool new before.errors.owner → after.drawing ≡ before.drawing
     → HasCaughtUp rules (layout_in pool before.drawing.planes) before.drawing.quota (checking_of pool before.errors) ended (checking_of new after.errors)
-    → pending ≡ length after.errors.dirty → reply ≡ caught_up_reply pending ended
-    → CatchesUp config (state_of pool before) reply (state_of new after)
-CatchesUp-errors config pool new before after rules ended pending reply by quota errors changed same caught left is =
+    → pending ≡ length after.errors.dirty → executed.reply ≡ caught_up_reply pending ended → executed.steps ≡ steps_of ended
+    → CatchesUpWith config (designed_of pool before) executed (designed_of new after)
+CatchesUpWith-errors config pool new before after rules ended pending executed by quota errors changed same caught left is counted =
     let layout = layout_in pool before.drawing.planes in
     let old = checking_of pool before.errors in
     let now = checking_of new after.errors in (
       ended,
       subst (λ (r : List EdgeRule). HasCaughtUp r layout config.quota old ended now) (sym by) (subst (λ (q : ℕ). HasCaughtUp rules layout q old ended now) (sym quota) caught),
       is ∙ ap (λ n. caught_up_reply n ended) left,
+      counted,
       ap (drawn_of new) same ∙ drawn-kept pool new before.drawing before.errors.owner errors changed,
     )
+
+-- whatever the number of check steps that were done
+pub CatchesUp-with : (config : Config) (old new : Designed) (executed : Executed) → CatchesUpWith config old executed new → CatchesUp config old executed.reply new
+CatchesUp-with config old new executed (ended, caught, is, counted, same) = (ended, caught, is, same)

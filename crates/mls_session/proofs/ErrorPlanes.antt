@@ -1,4 +1,4 @@
--- A session's error plane lies in the pool beside the planes of its drawing, and stays there as one of them changes.
+-- A design's error plane lies in the pool beside the planes of its drawing, and stays there as one of them changes.
 use Rattle.std.proofs.Common.{◌≡◌, ◌≢◌, ℕ, ◌≤◌, List, [], ◌∷◌, get_or, Some, IfSome, All, Contains, sym, ap, ◌∙◌, subst, arith}
 use Rattle.std.proofs.lemmas.List.{get_or_default}
 use Rattle.std.proofs.lemmas.List.Elements.{Contains-append_left, Contains-push}
@@ -11,7 +11,7 @@ use Rattle.mls_paint.proofs.OwnerFrames.{ChangesAmong-ChangesOnly, ChangesAmong-
 use Rattle.mls_errorplane.specs.ErrorPlanes.{ErrorPlane, ShowsMarks, checking_of, marks_picture}
 use Rattle.mls_errorplane.specs.MarkPlanes.{is_marked}
 use Rattle.mls_session.specs.Drawings.{Drawing, IsHome as IsDrawingHome, KeepsPlanes as KeepsDrawing, drawn_of, plane_reserve}
-use Rattle.mls_session.specs.Sessions.{HasErrorPlane, IsHome, KeepsPlanes, Session, owners_of}
+use Rattle.mls_session.specs.Designs.{HasErrorPlane, IsHome, KeepsPlanes, Design, owners_of}
 use Rattle.mls_session.proofs.HomePlanes.{IsHome-ChangesOnly, differ_from_new}
 
 -- an owner that differs from each of the others is none of them
@@ -59,15 +59,15 @@ pub checking_of-kept :
     → checking_of new errors ≡ checking_of old errors
 checking_of-kept old new before after errors has kept = ap (λ p. record { marks = is_marked p; dirty = errors.dirty }) (picture-kept old new before after errors.owner has kept)
 
-among_owners : (session : Session) → All (Contains (owners_of session)) session.drawing.planes
-among_owners session k d within = Contains-append_left session.drawing.planes (session.errors.owner ∷ []) (get_or session.drawing.planes k d) (k, within, found)
+among_owners : (design : Design) → All (Contains (owners_of design)) design.drawing.planes
+among_owners design k d within = Contains-append_left design.drawing.planes (design.errors.owner ∷ []) (get_or design.drawing.planes k d) (k, within, found)
   where
-    found : get_or session.drawing.planes k (get_or session.drawing.planes k d) ≡ get_or session.drawing.planes k d
-    found = sym (get_or_default session.drawing.planes k d (get_or session.drawing.planes k d) within)
+    found : get_or design.drawing.planes k (get_or design.drawing.planes k d) ≡ get_or design.drawing.planes k d
+    found = sym (get_or_default design.drawing.planes k d (get_or design.drawing.planes k d) within)
 
--- so the session keeps its planes
+-- so the design keeps its planes
 pub KeepsPlanes-drawing :
-    (old new : Pool) (before after : Session) → IsHome old before → KeepsDrawing old new before.drawing after.drawing → after.errors.owner ≡ before.errors.owner
+    (old new : Pool) (before after : Design) → IsHome old before → KeepsDrawing old new before.drawing after.drawing → after.errors.owner ≡ before.errors.owner
     → KeepsPlanes old new before after
 KeepsPlanes-drawing old new before after home kept owner = record {
   home = record {
@@ -90,7 +90,7 @@ module _ (old new : Pool) (drawing : Drawing) (owner : ℕ) (errors : HasErrorPl
   drawn-kept = ap (λ layout. record { box = drawing.box; layout = layout }) layout-kept
 
 pub KeepsPlanes-errors :
-    (old new : Pool) (before after : Session) → IsHome old before → ChangesOnly old new before.errors.owner → ShowsMarks new before.errors.owner
+    (old new : Pool) (before after : Design) → IsHome old before → ChangesOnly old new before.errors.owner → ShowsMarks new before.errors.owner
     → after.drawing ≡ before.drawing → after.errors.owner ≡ before.errors.owner → KeepsPlanes old new before after
 KeepsPlanes-errors old new before after home changed shows same owner = record {
   home = record {
@@ -109,7 +109,7 @@ KeepsPlanes-errors old new before after home changed shows same owner = record {
 
 -- ---- as nothing changes
 pub KeepsPlanes-same :
-    (pool : Pool) (before after : Session) → IsHome pool before → after.drawing.planes ≡ before.drawing.planes → after.drawing.quota ≡ before.drawing.quota
+    (pool : Pool) (before after : Design) → IsHome pool before → after.drawing.planes ≡ before.drawing.planes → after.drawing.quota ≡ before.drawing.quota
     → after.errors.owner ≡ before.errors.owner → IsDrawingHome pool after.drawing → KeepsPlanes pool pool before after
 KeepsPlanes-same pool before after home planes quota owner drawing = record {
   home = record {

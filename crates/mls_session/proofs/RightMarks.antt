@@ -31,8 +31,8 @@ use Rattle.mls_errorplane.proofs.StepsDone.{AfterSteps-IsChecked}
 use Rattle.mls_session.specs.Bounds.{dumped_rect}
 use Rattle.mls_session.specs.Changes.{layout_leaves_world}
 use Rattle.mls_session.specs.Drawings.{cell_layouts}
-use Rattle.mls_session.specs.Own.{AnswersWhy, CatchesUp, Config, Drawn, OwnState, Step, are_types, box_step, cell_at, change_step, check_in, count_step, dump_step, dumped_in, dumped_layout, edit_step, erase_step, erased_layout, exceeds_quota, paint_on, paint_step, save_step, soiled_after, what_step, why_step, with_plane}
-use Rattle.mls_session.specs.Sessions.{HasRightMarks}
+use Rattle.mls_session.specs.Own.{AnswersWhy, CatchesUp, Config, Drawn, Designed, Step, are_types, box_step, cell_at, change_step, check_in, count_step, dump_step, dumped_in, dumped_layout, edit_step, erase_step, erased_layout, exceeds_quota, paint_on, paint_step, save_step, soiled_after, what_step, why_step, with_plane}
+use Rattle.mls_session.specs.Designs.{HasRightMarks}
 use Rattle.mls_session.specs.declared.command.Command.{Command}
 use Rattle.mls_session.specs.declared.command.Command.TheVariants.{Box, Paint, Erase, Dump, What, Save, Check, CatchUp, Why, Count}
 use Rattle.mls_session.specs.declared.refusal.Refusal.TheVariants.{CellOutside, Quota, UnknownType}
@@ -64,14 +64,14 @@ edited rules old new checking rect reply e is done agree right =
     (subst (λ (r : Reply). IsChecked rules new (soiled_after rules (Some e) r checking)) (sym done) (edit-IsChecked rules e old new checking agree right))
 
 after_edit :
-    (config : Config) (old new : OwnState) (rect : Option Rect) (step : Drawn × Reply) (reply : Reply) → IsEdit old.drawn.layout rect step
+    (config : Config) (old new : Designed) (rect : Option Rect) (step : Drawn × Reply) (reply : Reply) → IsEdit old.drawn.layout rect step
     → edit_step config old rect step ≡ (new, reply) → HasRightMarks config.rules old → HasRightMarks config.rules new
 after_edit config old new rect step reply (inl same) is right =
-    subst (HasRightMarks config.rules) (ap (λ (r : OwnState × Reply). r.0) is)
+    subst (HasRightMarks config.rules) (ap (λ (r : Designed × Reply). r.0) is)
     (subst (λ (layout : Layout). IsChecked config.rules layout (soiled_after config.rules rect step.1 old.checking)) (sym same)
     (kept config.rules old.drawn.layout old.checking rect step.1 right))
 after_edit config old new rect step reply (inr (e, at, done, agree)) is right =
-    subst (HasRightMarks config.rules) (ap (λ (r : OwnState × Reply). r.0) is)
+    subst (HasRightMarks config.rules) (ap (λ (r : Designed × Reply). r.0) is)
     (edited config.rules old.drawn.layout step.0.layout old.checking rect step.1 e at done agree right)
 
 -- ---- each command that edits
@@ -172,30 +172,30 @@ HasCaughtUp-IsChecked :
     → IsChecked rules layout old → IsChecked rules layout new
 HasCaughtUp-IsChecked rules layout limit old new caught_up.Done (steps, none) right = AfterSteps-IsChecked rules layout limit old new steps right
 HasCaughtUp-IsChecked rules layout limit old new caught_up.Full (steps, some, full) right = AfterSteps-IsChecked rules layout limit old new steps right
-HasCaughtUp-IsChecked rules layout limit old new caught_up.Memory (steps, some) right = AfterSteps-IsChecked rules layout limit old new steps right
+HasCaughtUp-IsChecked rules layout limit old new (caught_up.Memory count) (steps, some) right = AfterSteps-IsChecked rules layout limit old new (count, steps) right
 
-after_catching_up : (config : Config) (old new : OwnState) (reply : Reply) → CatchesUp config old reply new → HasRightMarks config.rules old → HasRightMarks config.rules new
+after_catching_up : (config : Config) (old new : Designed) (reply : Reply) → CatchesUp config old reply new → HasRightMarks config.rules old → HasRightMarks config.rules new
 after_catching_up config old new reply (ended, caught, is, same) right =
     subst (λ (drawn : Drawn). IsChecked config.rules drawn.layout new.checking) (sym same)
     (HasCaughtUp-IsChecked config.rules old.drawn.layout config.quota old.checking new.checking ended caught right)
 
 -- ---- commands that only look
 unchanged :
-    (config : Config) (old new : OwnState) (reply : Reply) (step : OwnState × Reply) → step.0 ≡ old → step ≡ (new, reply)
+    (config : Config) (old new : Designed) (reply : Reply) (step : Designed × Reply) → step.0 ≡ old → step ≡ (new, reply)
     → HasRightMarks config.rules old → HasRightMarks config.rules new
-unchanged config old new reply step same is right = subst (HasRightMarks config.rules) (sym same ∙ ap (λ (r : OwnState × Reply). r.0) is) right
+unchanged config old new reply step same is right = subst (HasRightMarks config.rules) (sym same ∙ ap (λ (r : Designed × Reply). r.0) is) right
 
-why_keeps : (config : Config) (old : OwnState) (box : Option Rect) → (why_step config old box).0 ≡ old
+why_keeps : (config : Config) (old : Designed) (box : Option Rect) → (why_step config old box).0 ≡ old
 why_keeps config old None = refl
 why_keeps config old (Some e) = refl
 
-after_why : (config : Config) (old new : OwnState) (reply : Reply) → AnswersWhy config old reply new → HasRightMarks config.rules old → HasRightMarks config.rules new
+after_why : (config : Config) (old new : Designed) (reply : Reply) → AnswersWhy config old reply new → HasRightMarks config.rules old → HasRightMarks config.rules new
 after_why config old new reply (inl is) right = unchanged config old new reply (why_step config old old.drawn.box) (why_keeps config old old.drawn.box) is right
 after_why config old new reply (inr (some, refused, same)) right = subst (HasRightMarks config.rules) (sym same) right
 
 -- ---- all commands
 pub HasRightMarks-Step :
-    (config : Config) (old new : OwnState) (command : Command) (reply : Reply)
+    (config : Config) (old new : Designed) (command : Command) (reply : Reply)
     → ((cell : Option ℕ) (layout : Layout) → cell_at config cell ≡ Some layout → IsCellLayout config.tech.plane_count layout)
     → Step config old command reply new → HasRightMarks config.rules old → HasRightMarks config.rules new
 unfolding Step

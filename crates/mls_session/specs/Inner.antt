@@ -1,5 +1,5 @@
 -- The words of private contracts. A caller needs none of them.
-use Rattle.std.specs.Prelude.{◌≡◌, ℕ, ◌<◌, ◌≤◌, false, min, max, Option, Some, None, List, IfSome, length, map}
+use Rattle.std.specs.Prelude.{◌≡◌, ℕ, ◌+◌, ◌*◌, ◌^◌, ◌++◌, ◌<◌, ◌≤◌, false, if◌then◌else◌, min, max, Option, Some, None, List, [], ◌∷◌, IfSome, length, map}
 use Rattle.std.specs.List.{All, Contains}
 use Rattle.mls_geom.specs.Layouts.{Layout}
 use Rattle.mls_geom.specs.Pictures.{Picture}
@@ -12,8 +12,23 @@ use Rattle.mls_paint.specs.Planes.{layout_in, picture_in}
 use Rattle.mls_stitch.specs.declared.laid_tile.LaidTile.{LaidTile}
 use Rattle.mls_tilepool.specs.Pools.{Pool, room_of}
 use Rattle.mls_session.specs.Changes.{dumped, erased, leaves_world}
+use Rattle.mls_errorplane.specs.CatchingUp.{HasCaughtUp}
+use Rattle.mls_errorplane.specs.DirtyLists.{IsDirtyList, area_of}
+use Rattle.mls_errorplane.specs.declared.catching_up.CaughtUp.{CaughtUp}
+use Rattle.mls_errorplane.specs.declared.catching_up.CaughtUp.TheVariants.{Done as AllChecked, Full as MarksFull, Memory as OutOfMemory}
+use Rattle.mls_errorplane.specs.declared.error_plane.Outcome.{Outcome}
+use Rattle.mls_errorplane.specs.declared.error_plane.Outcome.TheVariants.{Finished, Stale, Full as FinishFull}
+use Rattle.mls_errorplane.specs.declared.error_plane.Stepped.{Stepped}
+use Rattle.mls_errorplane.specs.declared.error_plane.Stepped.TheVariants.{Idle, Done as StepDone, Full as StepFull, Memory as StepMemory}
+use Rattle.mls_session.specs.Own.{Config, Designed, caught_up_reply}
+use Rattle.mls_session.specs.Journals.{is_memory, is_refusal, said_of}
 use Rattle.mls_session.specs.declared.change.Change.{Change}
-use Rattle.mls_session.specs.declared.change.Change.TheVariants.{Erase, Dump}
+use Rattle.mls_session.specs.declared.change.Change.TheVariants.{Erase as EraseChange, Dump as DumpChange}
+use Rattle.mls_session.specs.declared.command.Command.{Command}
+use Rattle.mls_session.specs.declared.command.Command.TheVariants.{Box, Paint, Erase, Dump, What, Save, Check, CatchUp, Why, Count}
+use Rattle.mls_session.specs.declared.executed.Executed.{Executed}
+use Rattle.mls_session.specs.declared.journal.Entry.{Entry}
+use Rattle.mls_session.specs.declared.journal.Said.{Said}
 
 -- the smallest rectangle round both, where there may be only one of them or none
 abbrev pub round_both : Option Rect → Option Rect → Option Rect
@@ -23,8 +38,8 @@ round_both (Some a) (Some b) = Some (record { left = min a.left b.left; bottom =
 
 -- what a change makes of what a plane shows
 abbrev pub changed : Pool → Change → ℕ → Picture → Picture
-changed pool (Erase rect kinds) plane below = erased below rect kinds
-changed pool (Dump planes dx dy) plane below = dumped below (layout_in pool planes.now plane) dx dy
+changed pool (EraseChange rect kinds) plane below = erased below rect kinds
+changed pool (DumpChange planes dx dy) plane below = dumped below (layout_in pool planes.now plane) dx dy
 
 -- what it makes of a layout
 abbrev pub changed_layout : Pool → Change → Layout → Layout
@@ -36,13 +51,13 @@ HasCapacityFor pool owner capacity = IfSome (room_of pool owner) (λ room. room 
 
 -- the planes that the change reads are frozen, and no square of them that isn't space leaves the world
 abbrev pub CanChange : Pool → Change → Type 0
-CanChange pool (Erase rect kinds) = Unit {0}
-CanChange pool (Dump planes dx dy) = All (IsFrozen pool) planes.now × All (λ owner. leaves_world (picture_in pool owner) dx dy ≡ false) planes.now
+CanChange pool (EraseChange rect kinds) = Unit {0}
+CanChange pool (DumpChange planes dx dy) = All (IsFrozen pool) planes.now × All (λ owner. leaves_world (picture_in pool owner) dx dy ≡ false) planes.now
 
 -- the change reads no plane of these owners, and at most as many planes as there are
 abbrev pub IsApartFrom : Change → List ℕ → Type 0
-IsApartFrom (Erase rect kinds) owners = Unit {0}
-IsApartFrom (Dump planes dx dy) owners = All (λ owner. ¬ (Contains owners owner)) planes.now × (length planes.now ≤ length owners)
+IsApartFrom (EraseChange rect kinds) owners = Unit {0}
+IsApartFrom (DumpChange planes dx dy) owners = All (λ owner. ¬ (Contains owners owner)) planes.now × (length planes.now ≤ length owners)
 
 -- none of the first planes of the layout has more tiles than the quota
 abbrev pub FitsQuota : ℕ → ℕ → Layout → Type 0
@@ -51,3 +66,70 @@ FitsQuota planes quota layout = (plane : ℕ) → plane < planes → tile_count 
 -- these tiles are the strips of a plane of the layout, by bottom and then left
 abbrev pub ListsPlane : Layout → List LaidTile → ℕ → Type 0
 ListsPlane layout tiles plane = map (λ tile. tile.piece) tiles ≡ strips_of world (layout plane)
+
+-- ---- journals
+-- the entries, how many there may be, and how many check steps were done since the last one
+pub record Journal : Type 0 where
+  pub entries : List Entry
+  pub limit : ℕ
+  pub checks : ℕ
+
+-- with one entry more
+abbrev pub after_note : Journal → Said → Journal
+after_note journal said = record journal { entries = journal.entries ++ record { checks_before = journal.checks; said = said } ∷ []; checks = 0 }
+
+-- with more check steps
+abbrev pub after_steps : Journal → ℕ → Journal
+after_steps journal steps = record journal { checks = journal.checks + steps }
+
+-- a command where memory ran out is no entry
+abbrev pub after_command : Journal → Command → Executed → Journal
+after_command journal command executed =
+    if is_refusal is_memory executed.reply then after_steps journal executed.steps else after_note journal (said_of command executed.reply)
+
+-- each check step leaves fewer squares in the areas, so the steps that were done since the last entry and those to come are no more than these
+abbrev pub most_checks : ℕ
+most_checks = 65 * 2 ^ 32
+
+-- the areas are legal and few, and so is the number of check steps since the last entry
+pub record IsCounted (dirty : List Rect) (checks : ℕ) : Type 0 where
+  pub areas : IsDirtyList dirty
+  pub few : checks + area_of dirty ≤ most_checks
+
+-- ---- check steps
+-- how many were done
+abbrev pub done_steps : Stepped → ℕ
+done_steps StepDone = 1
+done_steps Idle = 0
+done_steps StepFull = 0
+done_steps StepMemory = 0
+
+abbrev pub finished_steps : Outcome → ℕ
+finished_steps Finished = 1
+finished_steps Stale = 0
+finished_steps FinishFull = 0
+
+-- how many check steps were done before memory ran out
+abbrev pub steps_of : CaughtUp → ℕ
+steps_of AllChecked = 0
+steps_of MarksFull = 0
+steps_of (OutOfMemory steps) = steps
+
+-- some check steps are done, as the reply and the number of steps say
+abbrev pub CatchesUpWith : Config → Designed → Executed → Designed → Type 0
+CatchesUpWith config old executed new =
+    (ended : CaughtUp) × HasCaughtUp config.rules old.drawn.layout config.quota old.checking ended new.checking
+    × (executed.reply ≡ caught_up_reply (length new.checking.dirty) ended) × (executed.steps ≡ steps_of ended) × (new.drawn ≡ old.drawn)
+
+-- only catching up does check steps
+abbrev pub Counts : Config → Designed → Command → Executed → Designed → Type 0
+Counts config old CatchUp executed new = CatchesUpWith config old executed new
+Counts config old (Box left bottom right top) executed new = executed.steps ≡ 0
+Counts config old (Paint kind) executed new = executed.steps ≡ 0
+Counts config old (Erase kinds) executed new = executed.steps ≡ 0
+Counts config old (Dump cell dx dy) executed new = executed.steps ≡ 0
+Counts config old What executed new = executed.steps ≡ 0
+Counts config old Save executed new = executed.steps ≡ 0
+Counts config old Check executed new = executed.steps ≡ 0
+Counts config old Why executed new = executed.steps ≡ 0
+Counts config old Count executed new = executed.steps ≡ 0

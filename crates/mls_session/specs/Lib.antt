@@ -1,8 +1,12 @@
 pub mod Bounds
 pub mod Changes
+pub mod Designs
 pub mod Drawings
 pub mod Inner
+pub mod JournalLimits
+pub mod Journals
 pub mod Own
+pub mod OwnSteps
 pub mod Quotas
 pub mod Refusals
 pub mod Rooms

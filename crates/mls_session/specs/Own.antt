@@ -1,4 +1,4 @@
--- One session's machine: its own state, and what each command does to it. This project's own.
+-- A design's machine: what each command does to a box, a layout and what is known of it. This project's own.
 use Rattle.std.specs.Prelude.{◌≡◌, ℕ, ℤ, ◌==◌, nat_le, nat_lt, if◌then◌else◌, Bool, not, Option, Some, None, Result, Ok, Err, List, length, slice_get, ◌≢◌, ◌⊎◌}
 use Rattle.std.specs.List.{count_by, list_all, list_any, range_with_len, sum_by}
 use Rattle.std.specs.Option.{option_and_then}
@@ -44,12 +44,12 @@ abbrev pub blank : Drawn
 blank = record { box = None; layout = λ plane. empty_picture }
 
 -- what is drawn, and what is known of which squares of it the rules forbid: the marked squares, and the areas that await checking
-pub record OwnState : Type 0 where
+pub record Designed : Type 0 where
   pub drawn : Drawn
   pub checking : Checking
 
--- how a session begins
-abbrev pub opening : List EdgeRule → OwnState
+-- how a design begins
+abbrev pub opening : List EdgeRule → Designed
 opening rules = record { drawn = blank; checking = opening_checking rules }
 
 -- ---- the layout that commands make
@@ -144,7 +144,7 @@ abbrev pub soiled_after : List EdgeRule → Option Rect → Reply → Checking �
 soiled_after rules (Some rect) Done checking = soiled rules rect checking
 soiled_after rules _ _ checking = checking
 
-abbrev pub edit_step : Config → OwnState → Option Rect → Drawn × Reply → OwnState × Reply
+abbrev pub edit_step : Config → Designed → Option Rect → Drawn × Reply → Designed × Reply
 edit_step config own rect step = (record { drawn = step.0; checking = soiled_after config.rules rect step.1 own.checking }, step.1)
 
 -- the smallest rectangle round the squares other than space of the cell, moved
@@ -163,38 +163,38 @@ unfoldable pub marked_squares : SquareSet → ℕ
 marked_squares marks = sum_by (λ y. count_by (λ x. marks x y) (columns world)) (rows world)
 
 -- how many squares are marked, and how many areas await checking
-abbrev pub count_step : OwnState → OwnState × Reply
+abbrev pub count_step : Designed → Designed × Reply
 count_step own = (own, Counted (marked_squares own.checking.marks) (length own.checking.dirty))
 
 -- the rules that forbid a square of the box, in the layout as it is now
-abbrev pub why_step : Config → OwnState → Option Rect → OwnState × Reply
+abbrev pub why_step : Config → Designed → Option Rect → Designed × Reply
 why_step config own None = (own, Refused NoBox)
 why_step config own (Some e) = (own, WhyRules (violated_rules config.rules e own.drawn.layout))
 
 -- these rules, unless there is a box and memory runs out
-abbrev pub AnswersWhy : Config → OwnState → Reply → OwnState → Type 0
+abbrev pub AnswersWhy : Config → Designed → Reply → Designed → Type 0
 AnswersWhy config old reply new = (why_step config old old.drawn.box ≡ (new, reply)) ⊎ ((old.drawn.box ≢ None) × (reply ≡ Refused Memory) × (new ≡ old))
 
 -- the number of lines of the layout's text
-abbrev pub save_step : Config → OwnState → OwnState × Reply
+abbrev pub save_step : Config → Designed → Designed × Reply
 save_step config own = (own, Saved (saved_line_count config.tech own.drawn.layout))
 
 -- the reply where this number of areas is left
 abbrev pub caught_up_reply : ℕ → CaughtUp → Reply
 caught_up_reply pending AllChecked = Done
 caught_up_reply pending MarksFull = Stopped Quota pending
-caught_up_reply pending OutOfMemory = Stopped Memory pending
+caught_up_reply pending (OutOfMemory steps) = Stopped Memory pending
 
 -- some check steps are done, until no area awaits checking, or until the next one is refused: the error plane would have more tiles than the quota, or
 -- memory ran out
-abbrev pub CatchesUp : Config → OwnState → Reply → OwnState → Type 0
+abbrev pub CatchesUp : Config → Designed → Reply → Designed → Type 0
 CatchesUp config old reply new =
     (ended : CaughtUp) × HasCaughtUp config.rules old.drawn.layout config.quota old.checking ended new.checking
     × (reply ≡ caught_up_reply (length new.checking.dirty) ended) × (new.drawn ≡ old.drawn)
 
 -- ---- the commands
 -- from the old state the command has this reply and leads to the new one
-unfoldable pub Step : Config → OwnState → Command → Reply → OwnState → Type 0
+unfoldable pub Step : Config → Designed → Command → Reply → Designed → Type 0
 Step config old (Box left bottom right top) reply new = edit_step config old None (box_step old.drawn (rect_of left bottom right top)) ≡ (new, reply)
 Step config old (Paint kind) reply new = edit_step config old old.drawn.box (paint_step config old.drawn old.drawn.box kind) ≡ (new, reply)
 Step config old (Erase kinds) reply new = edit_step config old old.drawn.box (erase_step config old.drawn old.drawn.box kinds) ≡ (new, reply)

@@ -1,7 +1,7 @@
 -- The numbers and texts of refusals. This project's own.
 use Rattle.std.specs.Prelude.{ℕ, List, codes}
 use Rattle.mls_session.specs.declared.refusal.Refusal.{Refusal}
-use Rattle.mls_session.specs.declared.refusal.Refusal.TheVariants.{EmptyBox, OutsideWorld, NoBox, UnknownType, Quota, UnknownCell, CellOutside, Memory}
+use Rattle.mls_session.specs.declared.refusal.Refusal.TheVariants.{EmptyBox, OutsideWorld, NoBox, UnknownType, Quota, JournalFull, UnknownCell, CellOutside, Memory}
 
 abbrev pub refusal_number : Refusal → ℕ
 refusal_number EmptyBox = 1
@@ -9,6 +9,7 @@ refusal_number OutsideWorld = 2
 refusal_number NoBox = 3
 refusal_number UnknownType = 4
 refusal_number Quota = 5
+refusal_number JournalFull = 6
 refusal_number UnknownCell = 7
 refusal_number CellOutside = 8
 refusal_number Memory = 9
@@ -19,6 +20,7 @@ refusal_text OutsideWorld = codes "outside the world"
 refusal_text NoBox = codes "no box"
 refusal_text UnknownType = codes "unknown type"
 refusal_text Quota = codes "quota"
+refusal_text JournalFull = codes "journal full"
 refusal_text UnknownCell = codes "unknown cell"
 refusal_text CellOutside = codes "cell outside the world"
 refusal_text Memory = codes "memory"

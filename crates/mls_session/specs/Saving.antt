@@ -1,5 +1,5 @@
 -- What saving a layout returns. This project's own.
-use Rattle.std.specs.Prelude.{◌≡◌, ℕ, List, ◌++◌}
+use Rattle.std.specs.Prelude.{◌≡◌, ℕ, List, ◌++◌, ⊤}
 use Rattle.mls_geom.specs.Layouts.{Layout}
 use Rattle.mls_library.specs.SavedCells.{saved_line_count, saved_text}
 use Rattle.mls_tech.specs.Readings.{Tech}
@@ -16,3 +16,13 @@ SavesText tech layout (Kinds kinds) old new = ⊥
 SavesText tech layout (Count errors pending) old new = ⊥
 SavesText tech layout (Why violated) old new = ⊥
 SavesText tech layout (Stopped refusal pending) old new = ⊥
+
+-- the fact, if the layout was saved
+abbrev pub OnSaved : Reply → Type 0 → Type 0
+OnSaved (Saved lines) P = P
+OnSaved (Refused refusal) P = ⊤
+OnSaved (Stopped refusal pending) P = ⊤
+OnSaved Done P = ⊤
+OnSaved (Kinds kinds) P = ⊤
+OnSaved (Count errors pending) P = ⊤
+OnSaved (Why violated) P = ⊤

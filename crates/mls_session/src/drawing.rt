@@ -8,6 +8,7 @@ ghost use Rattle.mls_session.specs.Own.{Config, blank, box_step, paint_step, rep
 
 mod changing;
 mod checking;
+mod closing;
 mod saving;
 
 use crate::{Quota, Refusal, Reply};
@@ -20,7 +21,7 @@ use mls_tilepool::Pool;
 use std::alloc::{AllocError, Global};
 use std::marker::Model;
 
-/// What a session draws: its box, and the planes of its layout, whose tiles lie in a pool.
+/// What a design draws: its box, and the planes of its layout, whose tiles lie in a pool.
 ///
 /// The pool, the scratch and the list in which a command makes the pieces that it paints are lent by the caller. No command
 /// allocates.

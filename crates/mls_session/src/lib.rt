@@ -1,10 +1,14 @@
-//! One session over planes of stitched tiles: its box, its layout, its marks, and what each command does to them.
+//! Sessions over planes of stitched tiles: each has a design, which commands change and check, and a journal of what was said.
 #![tactic(auto)]
 
 mod bounds;
 mod change;
 mod command;
+mod design;
 mod drawing;
+mod executed;
+mod journal;
+mod journal_limit;
 mod moving;
 mod quota;
 mod refusal;
@@ -12,6 +16,9 @@ mod reply;
 mod session;
 
 pub use command::Command;
+pub use journal::{Entry, Said};
+pub use journal_limit::JournalLimit;
+pub use mls_errorplane::Job;
 pub use quota::Quota;
 pub use refusal::Refusal;
 pub use reply::Reply;

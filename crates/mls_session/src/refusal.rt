@@ -17,8 +17,10 @@ pub enum Refusal {
     UnknownType,
     /// A plane would have more tiles than the quota.
     Quota,
+    /// The journal is full.
+    JournalFull,
     /// No cell has the name.
-    UnknownCell = 7,
+    UnknownCell,
     /// A square of the cell that isn't space would lie outside the world.
     CellOutside,
     /// Memory ran out.
@@ -45,6 +47,7 @@ impl Refusal {
             Refusal::NoBox => "no box",
             Refusal::UnknownType => "unknown type",
             Refusal::Quota => "quota",
+            Refusal::JournalFull => "journal full",
             Refusal::UnknownCell => "unknown cell",
             Refusal::CellOutside => "cell outside the world",
             Refusal::Memory => "memory",

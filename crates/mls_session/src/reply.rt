@@ -1,4 +1,7 @@
 //! What a session replies.
+ghost use Rattle.std.specs.Prelude.{◌≡◌};
+ghost use Rattle.mls_session.specs.Journals.{is_memory, is_refusal};
+
 use crate::Refusal;
 use mls_kinds::KindSet;
 
@@ -20,4 +23,20 @@ pub enum Reply {
     /// Catching up stopped before all areas were checked: for each piece that was checked the marks are right, and this
     /// many areas still await checking.
     Stopped { refusal: Refusal, pending: usize },
+}
+
+impl Reply {
+    /// Returns whether memory ran out.
+    pub(crate) fn is_memory(self) -> bool
+        ensures { result ≡ is_refusal is_memory self }
+    {
+        matches!(
+            self,
+            Reply::Refused(Refusal::Memory)
+                | Reply::Stopped {
+                    refusal: Refusal::Memory,
+                    ..
+                }
+        )
+    }
 }

@@ -1,12 +1,9 @@
 pub mod Chunks
-pub mod CommandRuns
-pub mod Executing
-pub mod NameLemmas
 pub mod NextLineLemmas
+pub mod OpenLines
 pub mod Results
 pub mod RuleSets
 pub mod RunLemmas
 pub mod ScriptTexts
 pub mod ServingLemmas
-pub mod SettingLemmas
 pub mod TypeLists

@@ -8,16 +8,19 @@ use Rattle.std.specs.Prelude.{⊤}
 use Rattle.std.specs.Result.{IsErr, IsErrAnd}
 use Rattle.mls_text.proofs.LineLemmas.{lines_of-last}
 use Rattle.mls_text.specs.Lines.{IsUnbroken, lines_of}
+use Rattle.mls_server.specs.Worlds.{IsNumbered, World}
+use Rattle.mls_server.specs.declared.answer.Answer.{Answer}
+use Rattle.mls_server.specs.declared.event.Event.{Event}
 use Rattle.mls_wire.specs.Lines.{read_line, script_of}
 use Rattle.mls_wire.specs.NextLines.{BeginsKnownLine, TakesLine, TakesKnownLine}
-use Rattle.mls_wire.specs.Runs.{Setting, OpenSession, RunsLine, Runs}
+use Rattle.mls_wire.specs.Runs.{RunsLine, RunsLines, RunsScript}
 use Rattle.mls_wire.specs.Serving.{AppendsFront, Gains, StopsAtLine, WritesRun, WritesCutRun, WritesLine, WritesCutLine}
 use Rattle.mls_wire.specs.declared.reader.NextLine.{NextLine}
 use Rattle.mls_wire.specs.declared.reader.NextLine.TheVariants.{End, Line, LastLine}
 use Rattle.mls_wire.specs.declared.serving.ServeFault.{ServeFault}
 use Rattle.mls_wire.specs.declared.serving.ServeFault.TheVariants.{Read, Write, Memory}
 use Rattle.mls_wire.proofs.Results.{if_err, if_err-map, on_ok-map}
-use Rattle.mls_wire.proofs.RunLemmas.{Runs-snoc}
+use Rattle.mls_wire.proofs.RunLemmas.{RunsLines-alone, RunsLines-snoc}
 use Rattle.mls_wire.proofs.ScriptTexts.{fed, fed-snoc, lines_of-whole, whole_lines_of-begun}
 
 -- bytes that were all written before the device failed
@@ -26,51 +29,62 @@ AppendsFront-all a b c bytes h k = (bytes, [], sym (append-nil bytes), Appends-k
 
 -- ---- one line
 
-module _ (setting : Setting) (old new : OpenSession) (n : ℕ) (line : Option (List ℕ)) (text : List ℕ) (runs : RunsLine setting old n line text new) where
+module _ (old new : World) (n : ℕ) (line : Option (List ℕ)) (text : List ℕ)
+    (asked : List Event) (answered : List Answer) (runs : RunsLine old n line text asked answered new) where
   -- memory ran out, and no byte of the text was written
   pub cut_before : {T : Type 0} (r : Result T ServeFault) (known : Option (List ℕ)) → IsErr r × IsErrAnd r (λ fault. fault ≡ Memory)
-      → IfErr r (λ fault. WritesCutLine setting old n line fault known known new)
-  cut_before r known is = if_err r Memory (λ fault. WritesCutLine setting old n line fault known known new) is ([], ((text, runs), λ memory. refl), Appends-nil known)
+      → IfErr r (λ fault. WritesCutLine old n line fault known known new)
+  cut_before r known is = if_err r Memory (λ fault. WritesCutLine old n line fault known known new) is ([], ((text, asked, answered, runs), λ memory. refl), Appends-nil known)
 
   -- a beginning of it was written
   pub cut_within : {T : Type 0} (r : Result T ServeFault) (a b : Option (List ℕ)) (bytes : List ℕ) → IsErr r × IsErrAnd r (λ fault. fault ≡ Write) → bytes ≡ text → AppendsFront a b bytes
-      → IfErr r (λ fault. WritesCutLine setting old n line fault a b new)
+      → IfErr r (λ fault. WritesCutLine old n line fault a b new)
   cut_within r a b bytes is same h =
-      if_err r Write (λ fault. WritesCutLine setting old n line fault a b new) is
-      (h.0, ((h.1, subst (λ whole. RunsLine setting old n line whole new) (sym same ∙ h.2) runs), λ memory. absurd (cc)), h.3)
+      if_err r Write (λ fault. WritesCutLine old n line fault a b new) is
+      (h.0, ((h.1, asked, answered, subst (λ whole. RunsLine old n line whole asked answered new) (sym same ∙ h.2) runs), λ memory. absurd (cc)), h.3)
 
   -- all of it was written
-  pub done_line : (a b : Option (List ℕ)) (bytes : List ℕ) → bytes ≡ text → Appends a b bytes → WritesLine setting old n line a b new
-  done_line a b bytes same h = (text, runs, subst (Appends a b) same h)
+  pub done_line : (a b : Option (List ℕ)) (bytes : List ℕ) → bytes ≡ text → Appends a b bytes → WritesLine old n line a b new
+  done_line a b bytes same h = (text, (asked, answered, runs), subst (Appends a b) same h)
 
 -- ---- the lines of a script
 
 -- the whole lines up to line n were served, with this output, and this is left of the script
-pub record IsServed (setting : Setting) (old : OpenSession) (script : List ℕ) (n : ℕ) (left out : List ℕ) (session : OpenSession) : Type 0 where
+pub record IsServed (old : World) (script : List ℕ) (n : ℕ) (left out : List ℕ) (session : World) : Type 0 where
   pub lines : List (List ℕ)
   pub split : script ≡ fed lines ++ left
   pub unbroken : All IsUnbroken lines
   pub number : n ≡ length lines + 1
-  pub runs : Runs setting old 1 (map read_line lines) out session
+  pub events : List Event
+  pub answers : List Answer
+  pub runs : RunsLines old 1 (map read_line lines) out events answers session
+  pub ids : IsNumbered old
 
 -- the same where the script is known
-abbrev pub Serves : Setting → OpenSession → Option (List ℕ) → Option (List ℕ) → ℕ → Option (List ℕ) → Option (List ℕ) → OpenSession → Type 0
-Serves setting old None written n left now session = ⊤
-Serves setting old (Some script) written n None now session = ⊥
-Serves setting old (Some script) written n (Some left) now session = Gains written now (λ out. IsServed setting old script n left out session)
+abbrev pub Serves : World → Option (List ℕ) → Option (List ℕ) → ℕ → Option (List ℕ) → Option (List ℕ) → World → Type 0
+Serves old None written n left now session = ⊤
+Serves old (Some script) written n None now session = ⊥
+Serves old (Some script) written n (Some left) now session = Gains written now (λ out. IsServed old script n left out session)
 
-pub served_first : (setting : Setting) (old : OpenSession) (script written : Option (List ℕ)) → Serves setting old script written 1 script written old
-served_first setting old None written = tt
-served_first setting old (Some script) written =
-    ([], record { lines = []; split = refl; unbroken = All-nil IsUnbroken; number = refl; runs = (refl, refl) }, Appends-nil written)
+pub served_first : (old : World) (script written : Option (List ℕ)) → IsNumbered old → Serves old script written 1 script written old
+served_first old None written ids = tt
+served_first old (Some script) written ids =
+    ([], record { lines = []; split = refl; unbroken = All-nil IsUnbroken; number = refl; events = []; answers = []; runs = (refl, refl, refl, refl); ids = ids }, Appends-nil written)
 
 -- the run of the served lines and one more
-runs_more : (setting : Setting) (old session new : OpenSession) (script : List ℕ) (n : ℕ) (left out text : List ℕ) (line : Option (List ℕ))
-    → (served : IsServed setting old script n left out session) → RunsLine setting session n line text new
-    → Runs setting old 1 (map read_line served.lines ++ line ∷ []) (out ++ text) new
-runs_more setting old session new script n left out text line served run =
+runs_more : (old session new : World) (script : List ℕ) (n : ℕ) (left out text : List ℕ) (asked : List Event) (answered : List Answer) (line : Option (List ℕ))
+    → (served : IsServed old script n left out session) → RunsLine session n line text asked answered new
+    → RunsLines old 1 (map read_line served.lines ++ line ∷ []) (out ++ text) (served.events ++ asked) (served.answers ++ answered) new
+runs_more old session new script n left out text asked answered line served run =
     let number : n ≡ 1 + length (map read_line served.lines) = omega (arith, served.number, length-map served.lines read_line) in
-    Runs-snoc setting old session new 1 (map read_line served.lines) line out text served.runs (subst (λ k. RunsLine setting session k line text new) number run)
+    RunsLines-snoc old session new 1 (map read_line served.lines) line out text served.events asked served.answers answered served.runs
+    (subst (λ k. RunsLine session k line text asked answered new) number run)
+
+-- the run of all lines of a script, in whose events each session is told what it would be told alone
+whole_run : (old new : World) (lines : List (Option (List ℕ))) (out : List ℕ) (events : List Event) (answers : List Answer)
+    → IsNumbered old → RunsLines old 1 lines out events answers new → RunsScript old lines out new
+whole_run old new lines out events answers ids runs =
+    record { events = events; answers = answers; runs = runs; alone = RunsLines-alone old new 1 lines out events answers ids runs }
 
 -- a line was taken whose text ends the part of the script that was taken
 record HasTaken (script left : List ℕ) (before : List (List ℕ)) (line : Option (List ℕ)) : Type 0 where
@@ -118,13 +132,13 @@ taken_last script left next kept lines split unbroken taken =
     }
 
 -- a line with its line feed was served
-pub served_more : (setting : Setting) (old session new : OpenSession) (n : ℕ) (kept : List ℕ) (script written left next now then : Option (List ℕ))
-    → Serves setting old script written n left now session → TakesKnownLine left next Line kept → WritesLine setting session n (read_line kept) now then new
-    → Serves setting old script written (n + 1) next then new
-served_more setting old session new n kept None written left next now then s t w = tt
-served_more setting old session new n kept (Some script) written None next now then s t w = absurd s
-served_more setting old session new n kept (Some script) written (Some left) None now then s t w = absurd t
-served_more setting old session new n kept (Some script) written (Some left) (Some next) now then s t w =
+pub served_more : (old session new : World) (n : ℕ) (kept : List ℕ) (script written left next now then : Option (List ℕ))
+    → Serves old script written n left now session → TakesKnownLine left next Line kept → WritesLine session n (read_line kept) now then new
+    → Serves old script written (n + 1) next then new
+served_more old session new n kept None written left next now then s t w = tt
+served_more old session new n kept (Some script) written None next now then s t w = absurd s
+served_more old session new n kept (Some script) written (Some left) None now then s t w = absurd t
+served_more old session new n kept (Some script) written (Some left) (Some next) now then s t w =
     let served = s.1 in
     let line = t.0 in
     let lines : map read_line (served.lines ++ line ∷ []) ≡ map read_line served.lines ++ read_line kept ∷ [] =
@@ -135,67 +149,71 @@ served_more setting old session new n kept (Some script) written (Some left) (So
         split = served.split ∙ ap (λ l. fed served.lines ++ l) t.2 ∙ fed-snoc served.lines line next;
         unbroken = All-append IsUnbroken served.lines (line ∷ []) served.unbroken (All-cons IsUnbroken line [] t.1 (All-nil IsUnbroken));
         number = omega (arith, served.number, length-append served.lines (line ∷ []));
-        runs = subst (λ all. Runs setting old 1 all (s.0 ++ w.0) new) (sym lines)
-            (runs_more setting old session new script n left s.0 w.0 (read_line kept) served w.1);
+        events = served.events ++ w.1.0;
+        answers = served.answers ++ w.1.1;
+        runs = subst (λ all. RunsLines old 1 all (s.0 ++ w.0) (served.events ++ w.1.0) (served.answers ++ w.1.1) new) (sym lines)
+            (runs_more old session new script n left s.0 w.0 w.1.0 w.1.1 (read_line kept) served w.1.2);
+        ids = served.ids;
       },
       Appends-trans written now then s.0 w.0 s.2 w.2,
     )
 
 -- the last line was served, and the script ends with it
-pub served_last : (setting : Setting) (old session new : OpenSession) (n : ℕ) (kept : List ℕ) (script written left next now then : Option (List ℕ))
-    → Serves setting old script written n left now session → TakesKnownLine left next LastLine kept → WritesLine setting session n (read_line kept) now then new
-    → WritesRun setting old script written then new
-served_last setting old session new n kept None written left next now then s t w = tt
-served_last setting old session new n kept (Some script) written None next now then s t w = absurd s
-served_last setting old session new n kept (Some script) written (Some left) None now then s t w = absurd t
-served_last setting old session new n kept (Some script) written (Some left) (Some next) now then s t w =
+pub served_last : (old session new : World) (n : ℕ) (kept : List ℕ) (script written left next now then : Option (List ℕ))
+    → Serves old script written n left now session → TakesKnownLine left next LastLine kept → WritesLine session n (read_line kept) now then new
+    → WritesRun old script written then new
+served_last old session new n kept None written left next now then s t w = tt
+served_last old session new n kept (Some script) written None next now then s t w = absurd s
+served_last old session new n kept (Some script) written (Some left) None now then s t w = absurd t
+served_last old session new n kept (Some script) written (Some left) (Some next) now then s t w =
     let served = s.1 in
     let lines = script_of_last script left next kept served.lines served.split served.unbroken t in (
       s.0 ++ w.0,
-      subst (λ all. Runs setting old 1 all (s.0 ++ w.0) new) (sym lines) (runs_more setting old session new script n left s.0 w.0 (read_line kept) served w.1),
+      subst (λ all. RunsScript old all (s.0 ++ w.0) new) (sym lines)
+          (whole_run old new _ _ _ _ served.ids (runs_more old session new script n left s.0 w.0 w.1.0 w.1.1 (read_line kept) served w.1.2)),
       Appends-trans written now then s.0 w.0 s.2 w.2,
     )
 
 -- nothing was left of the script
-pub served_all : (setting : Setting) (old session : OpenSession) (n : ℕ) (kept : List ℕ) (script written left next now : Option (List ℕ))
-    → Serves setting old script written n left now session → TakesKnownLine left next End kept → WritesRun setting old script written now session
-served_all setting old session n kept None written left next now s t = tt
-served_all setting old session n kept (Some script) written None next now s t = absurd s
-served_all setting old session n kept (Some script) written (Some left) None now s t = absurd t
-served_all setting old session n kept (Some script) written (Some left) (Some next) now s t =
+pub served_all : (old session : World) (n : ℕ) (kept : List ℕ) (script written left next now : Option (List ℕ))
+    → Serves old script written n left now session → TakesKnownLine left next End kept → WritesRun old script written now session
+served_all old session n kept None written left next now s t = tt
+served_all old session n kept (Some script) written None next now s t = absurd s
+served_all old session n kept (Some script) written (Some left) None now s t = absurd t
+served_all old session n kept (Some script) written (Some left) (Some next) now s t =
     let served = s.1 in
     let lines : lines_of script ≡ served.lines = ap lines_of (served.split ∙ ap (λ l. fed served.lines ++ l) t.0) ∙ lines_of-whole served.lines [] served.unbroken ∙ append-nil served.lines in
-    (s.0, subst (λ all. Runs setting old 1 all s.0 session) (sym (ap (map read_line) lines)) served.runs, s.2)
+    (s.0, subst (λ all. RunsScript old all s.0 session) (sym (ap (map read_line) lines)) (whole_run old session _ _ _ _ served.ids served.runs), s.2)
 
 -- the input failed within a line
-served_begun : (setting : Setting) (old session : OpenSession) (n : ℕ) (script written left rest now : Option (List ℕ))
-    → Serves setting old script written n left now session → BeginsKnownLine left rest → WritesCutRun setting old Read script rest written now session
-served_begun setting old session n None written left rest now s t = tt
-served_begun setting old session n (Some script) written None rest now s t = absurd s
-served_begun setting old session n (Some script) written (Some left) None now s t = absurd t.2
-served_begun setting old session n (Some script) written (Some left) (Some rest) now s t =
+served_begun : (old session : World) (n : ℕ) (script written left rest now : Option (List ℕ))
+    → Serves old script written n left now session → BeginsKnownLine left rest → WritesCutRun old Read script rest written now session
+served_begun old session n None written left rest now s t = tt
+served_begun old session n (Some script) written None rest now s t = absurd s
+served_begun old session n (Some script) written (Some left) None now s t = absurd t.2
+served_begun old session n (Some script) written (Some left) (Some rest) now s t =
     let served = s.1 in
     let lines = whole_lines_of-begun served.lines t.0 served.unbroken t.1 in (
       s.0,
       record {
         consumed = fed served.lines ++ t.0;
         split = served.split ∙ ap (λ l. fed served.lines ++ l) t.2 ∙ sym (append_assoc (fed served.lines) t.0 rest);
-        runs = subst (λ all. Runs setting old 1 all s.0 session) (sym (ap (map read_line) lines)) served.runs;
+        runs = subst (λ all. RunsScript old all s.0 session) (sym (ap (map read_line) lines)) (whole_run old session _ _ _ _ served.ids served.runs);
       },
       s.2,
     )
 
-pub failed_within : {T : Type 0} (r : Result T ServeFault) (setting : Setting) (old session : OpenSession) (n : ℕ) (script written left rest now : Option (List ℕ))
-    → IsErr r × IsErrAnd r (λ fault. fault ≡ Read) → Serves setting old script written n left now session → BeginsKnownLine left rest
-    → IfErr r (λ fault. WritesCutRun setting old fault script rest written now session)
-failed_within r setting old session n script written left rest now is s t =
-    if_err r Read (λ fault. WritesCutRun setting old fault script rest written now session) is (served_begun setting old session n script written left rest now s t)
+pub failed_within : {T : Type 0} (r : Result T ServeFault) (old session : World) (n : ℕ) (script written left rest now : Option (List ℕ))
+    → IsErr r × IsErrAnd r (λ fault. fault ≡ Read) → Serves old script written n left now session → BeginsKnownLine left rest
+    → IfErr r (λ fault. WritesCutRun old fault script rest written now session)
+failed_within r old session n script written left rest now is s t =
+    if_err r Read (λ fault. WritesCutRun old fault script rest written now session) is (served_begun old session n script written left rest now s t)
 
 -- a line that was taken was run, and its reply text was not written whole
-cut_line : (setting : Setting) (old session new : OpenSession) (n : ℕ) (script left ahead rest out front missing : List ℕ) (line : Option (List ℕ))
-    → (served : IsServed setting old script n left out session) → HasTaken script (ahead ++ rest) served.lines line → length ahead ≤ 4096
-    → RunsLine setting session n line (front ++ missing) new → StopsAtLine setting old script rest front (out ++ front) new
-cut_line setting old session new n script left ahead rest out front missing line served has near run =
+cut_line : (old session new : World) (n : ℕ) (script left ahead rest out front missing : List ℕ) (asked : List Event) (answered : List Answer) (line : Option (List ℕ))
+    → (served : IsServed old script n left out session) → HasTaken script (ahead ++ rest) served.lines line → length ahead ≤ 4096
+    → RunsLine session n line (front ++ missing) asked answered new → StopsAtLine old script rest front (out ++ front) new
+cut_line old session new n script left ahead rest out front missing asked answered line served has near run =
     let before = map read_line served.lines in
     let number : n ≡ length before + 1 = omega (arith, served.number, length-map served.lines read_line) in
     record {
@@ -211,8 +229,13 @@ cut_line setting old session new n script left ahead rest out front missing line
         mid = session;
         replies = out;
         missing = missing;
+        events = served.events;
+        answers = served.answers;
+        asked = asked;
+        answered = answered;
         runs = served.runs;
-        cut = subst (λ k. RunsLine setting session k line (front ++ missing) new) number run;
+        cut = subst (λ k. RunsLine session k line (front ++ missing) asked answered new) number run;
+        alone = RunsLines-alone old new 1 _ _ _ _ served.ids (runs_more old session new script n left out (front ++ missing) asked answered line served run);
         written = refl;
       };
     }
@@ -227,61 +250,60 @@ has_taken script left rest kept lines End some split unbroken t = absurd (some r
 has_taken script left rest kept lines Line some split unbroken t = taken_line script left rest kept lines split unbroken t
 has_taken script left rest kept lines LastLine some split unbroken t = taken_last script left rest kept lines split unbroken t
 
-served_within : (setting : Setting) (old session new : OpenSession) (n : ℕ) (ahead kept : List ℕ) (script written left rest now then : Option (List ℕ))
-    (next : NextLine) (fault : ServeFault) → next ≢ End → fault ≢ Read → length ahead ≤ 4096 → Serves setting old script written n left now session
-    → TakesKnownLine left (prepend_known ahead rest) next kept → WritesCutLine setting session n (read_line kept) fault now then new
-    → WritesCutRun setting old fault script rest written then new
-served_within setting old session new n ahead kept None written left rest now then next fault some other near s t w = tt
-served_within setting old session new n ahead kept (Some script) written None rest now then next fault some other near s t w = absurd s
-served_within setting old session new n ahead kept (Some script) written (Some left) None now then next fault some other near s t w = absurd t
-served_within setting old session new n ahead kept (Some script) written (Some left) (Some rest) now then next Read some other near s t w = absurd (other refl)
-served_within setting old session new n ahead kept (Some script) written (Some left) (Some rest) now then next Write some other near s t w =
+served_within : (old session new : World) (n : ℕ) (ahead kept : List ℕ) (script written left rest now then : Option (List ℕ))
+    (next : NextLine) (fault : ServeFault) → next ≢ End → fault ≢ Read → length ahead ≤ 4096 → Serves old script written n left now session
+    → TakesKnownLine left (prepend_known ahead rest) next kept → WritesCutLine session n (read_line kept) fault now then new
+    → WritesCutRun old fault script rest written then new
+served_within old session new n ahead kept None written left rest now then next fault some other near s t w = tt
+served_within old session new n ahead kept (Some script) written None rest now then next fault some other near s t w = absurd s
+served_within old session new n ahead kept (Some script) written (Some left) None now then next fault some other near s t w = absurd t
+served_within old session new n ahead kept (Some script) written (Some left) (Some rest) now then next Read some other near s t w = absurd (other refl)
+served_within old session new n ahead kept (Some script) written (Some left) (Some rest) now then next Write some other near s t w =
     let has = has_taken script left (ahead ++ rest) kept s.1.lines next some s.1.split s.1.unbroken t in (
       s.0 ++ w.0,
-      (w.0, cut_line setting old session new n script left ahead rest s.0 w.0 w.1.0.0 (read_line kept) s.1 has near w.1.0.1),
+      (w.0, cut_line old session new n script left ahead rest s.0 w.0 w.1.0.0 w.1.0.1 w.1.0.2 (read_line kept) s.1 has near w.1.0.3),
       Appends-trans written now then s.0 w.0 s.2 w.2,
     )
-served_within setting old session new n ahead kept (Some script) written (Some left) (Some rest) now then next Memory some other near s t w =
+served_within old session new n ahead kept (Some script) written (Some left) (Some rest) now then next Memory some other near s t w =
     let has = has_taken script left (ahead ++ rest) kept s.1.lines next some s.1.split s.1.unbroken t in
     let none : w.0 ≡ [] = w.1.1 refl in (
       s.0 ++ w.0,
-      subst (λ front. StopsAtLine setting old script rest front (s.0 ++ w.0) new) none
-          (cut_line setting old session new n script left ahead rest s.0 w.0 w.1.0.0 (read_line kept) s.1 has near w.1.0.1),
+      subst (λ front. StopsAtLine old script rest front (s.0 ++ w.0) new) none
+          (cut_line old session new n script left ahead rest s.0 w.0 w.1.0.0 w.1.0.1 w.1.0.2 (read_line kept) s.1 has near w.1.0.3),
       Appends-trans written now then s.0 w.0 s.2 w.2,
     )
 
--- ---- the results of a line, which was run in an equal setting
+-- ---- the results of a line
 
-module _ (setting other : Setting) (equal : other ≡ setting) (old session new : OpenSession) (n : ℕ) (kept : List ℕ) (line : Option (List ℕ)) (same : line ≡ read_line kept)
-    (script written left now then : Option (List ℕ)) (served : Serves setting old script written n left now session) where
-  in_setting : WritesLine other session n line now then new → WritesLine setting session n (read_line kept) now then new
-  in_setting w = subst (λ a. WritesLine a session n (read_line kept) now then new) equal (subst (λ l. WritesLine other session n l now then new) same w)
+module _ (old session new : World) (n : ℕ) (kept : List ℕ) (line : Option (List ℕ)) (same : line ≡ read_line kept)
+    (script written left now then : Option (List ℕ)) (served : Serves old script written n left now session) where
+  read_whole : WritesLine session n line now then new → WritesLine session n (read_line kept) now then new
+  read_whole w = subst (λ l. WritesLine session n l now then new) same w
 
-  cut_in_setting : (fault : ServeFault) → WritesCutLine other session n line fault now then new → WritesCutLine setting session n (read_line kept) fault now then new
-  cut_in_setting fault w =
-      subst (λ a. WritesCutLine a session n (read_line kept) fault now then new) equal (subst (λ l. WritesCutLine other session n l fault now then new) same w)
+  read_cut : (fault : ServeFault) → WritesCutLine session n line fault now then new → WritesCutLine session n (read_line kept) fault now then new
+  read_cut fault w = subst (λ l. WritesCutLine session n l fault now then new) same w
 
   -- a line with its line feed
-  pub line_done : (next : Option (List ℕ)) → TakesKnownLine left next Line kept → WritesLine other session n line now then new → Serves setting old script written (n + 1) next then new
-  line_done next t w = served_more setting old session new n kept script written left next now then served t (in_setting w)
+  pub line_done : (next : Option (List ℕ)) → TakesKnownLine left next Line kept → WritesLine session n line now then new → Serves old script written (n + 1) next then new
+  line_done next t w = served_more old session new n kept script written left next now then served t (read_whole w)
 
   -- the last line
-  pub last_done : {T : Type 0} (r : Result T ServeFault) (next : Option (List ℕ)) → TakesKnownLine left next LastLine kept → OnOk r (WritesLine other session n line now then new)
-      → OnOk r (WritesRun setting old script written then new)
-  last_done r next t = on_ok-map r _ _ (λ w. served_last setting old session new n kept script written left next now then served t (in_setting w))
+  pub last_done : {T : Type 0} (r : Result T ServeFault) (next : Option (List ℕ)) → TakesKnownLine left next LastLine kept → OnOk r (WritesLine session n line now then new)
+      → OnOk r (WritesRun old script written then new)
+  last_done r next t = on_ok-map r _ _ (λ w. served_last old session new n kept script written left next now then served t (read_whole w))
 
   module _ (ahead : List ℕ) (rest : Option (List ℕ)) (near : length ahead ≤ 4096) where
     -- a line whose reply text was not written whole
     pub line_cut : {T : Type 0} (r : Result T ServeFault) (fault : ServeFault) → IsErr r × IsErrAnd r (λ given. given ≡ fault) → fault ≢ Read
-        → TakesKnownLine left (prepend_known ahead rest) Line kept → WritesCutLine other session n line fault now then new
-        → IfErr r (λ given. WritesCutRun setting old given script rest written then new)
+        → TakesKnownLine left (prepend_known ahead rest) Line kept → WritesCutLine session n line fault now then new
+        → IfErr r (λ given. WritesCutRun old given script rest written then new)
     line_cut r fault is write t w =
-        if_err r fault (λ given. WritesCutRun setting old given script rest written then new) is
-        (served_within setting old session new n ahead kept script written left rest now then Line fault (λ e. absurd (cc)) write near served t (cut_in_setting fault w))
+        if_err r fault (λ given. WritesCutRun old given script rest written then new) is
+        (served_within old session new n ahead kept script written left rest now then Line fault (λ e. absurd (cc)) write near served t (read_cut fault w))
 
     pub last_cut : {T : Type 0} (r : Result T ServeFault) → TakesKnownLine left (prepend_known ahead rest) LastLine kept
-        → IfErr r (λ fault. fault ≢ Read) → IfErr r (λ fault. WritesCutLine other session n line fault now then new)
-        → IfErr r (λ fault. WritesCutRun setting old fault script rest written then new)
+        → IfErr r (λ fault. fault ≢ Read) → IfErr r (λ fault. WritesCutLine session n line fault now then new)
+        → IfErr r (λ fault. WritesCutRun old fault script rest written then new)
     last_cut r t =
-        if_err-map r (λ fault. fault ≢ Read) (λ fault. WritesCutLine other session n line fault now then new) (λ fault. WritesCutRun setting old fault script rest written then new)
-        (λ fault write w. served_within setting old session new n ahead kept script written left rest now then LastLine fault (λ e. absurd (cc)) write near served t (cut_in_setting fault w))
+        if_err-map r (λ fault. fault ≢ Read) (λ fault. WritesCutLine session n line fault now then new) (λ fault. WritesCutRun old fault script rest written then new)
+        (λ fault write w. served_within old session new n ahead kept script written left rest now then LastLine fault (λ e. absurd (cc)) write near served t (read_cut fault w))

@@ -1,7 +1,6 @@
 pub mod LineReaders
 pub mod Lines
 pub mod NameBooks
-pub mod NameBytes
 pub mod NextLines
 pub mod Numbers
 pub mod Replies
@@ -9,6 +8,4 @@ pub mod Runs
 pub mod Says
 pub mod ScriptLines
 pub mod Serving
-pub mod SessionNames
-pub mod Solos
 pub mod Watches

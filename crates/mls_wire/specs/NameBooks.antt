@@ -1,5 +1,8 @@
 -- What names mean to a reader of lines, and what numbers are called in replies.
-use Rattle.std.specs.Prelude.{ℕ, Bool, Option, List}
+use Rattle.std.specs.Prelude.{ℕ, Option, List, position}
+use Rattle.mls_server.specs.Worlds.{World, session_named}
+use Rattle.mls_tech.specs.Readings.{number_named, name_of, why_of}
+use Rattle.mls_text.specs.Words.{same_word}
 
 pub record Names : Type 0 where
   -- the type of a name
@@ -10,5 +13,16 @@ pub record Names : Type 0 where
   pub type_name : ℕ → Option (List ℕ)
   -- why a rule is there, by its number from 1
   pub why_text : ℕ → Option (List ℕ)
-  -- a session of this name is open
-  pub is_open : List ℕ → Bool
+  -- the id of the open session of a name
+  pub session : List ℕ → Option ℕ
+
+-- what names mean in a world
+abbrev pub book_of : World → Names
+book_of on =
+    record {
+      type_of = number_named on.setting.tech.types;
+      cell_of = λ name. position (λ cell. same_word name cell.name) on.setting.cells;
+      type_name = name_of on.setting.tech.types;
+      why_text = why_of on.setting.tech.rules;
+      session = session_named on;
+    }

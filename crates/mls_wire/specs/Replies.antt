@@ -1,5 +1,5 @@
 -- The text of a line's response. Each reply ends with a line feed. This project's own.
-use Rattle.std.specs.Prelude.{ℕ, ◌-◌, ◌==◌, List, [], ◌∷◌, ◌++◌, length, codes}
+use Rattle.std.specs.Prelude.{ℕ, ◌-◌, ◌==◌, List, [], ◌∷◌, ◌++◌, Ok, Err, length, codes}
 use Rattle.std.specs.Int.{bit_at}
 use Rattle.std.specs.List.{filter, flat_map, range_with_len}
 use Rattle.std.specs.Option.{unwrap_or}
@@ -13,25 +13,14 @@ use Rattle.mls_wire.specs.NameBooks.{Names}
 use Rattle.mls_wire.specs.Says.{line_fault_number, line_fault_text}
 use Rattle.std.specs.Fmt.{decimal}
 use Rattle.mls_wire.specs.declared.response.Response.{Response}
-use Rattle.mls_wire.specs.declared.response.Response.TheVariants.{Silent, Fault, Opened, NotOpened, Stepped, Replied, Saved as SavedText}
-use Rattle.mls_wire.specs.declared.response.OpenFault.{OpenFault}
-use Rattle.mls_wire.specs.declared.response.OpenFault.TheVariants.{OpenAlready, SessionsFull, PoolFull, Memory}
+use Rattle.mls_wire.specs.declared.response.Response.TheVariants.{Silent, Fault, Answered, Audited}
+use Rattle.mls_server.specs.Faults.{open_fault_number, open_fault_text}
+use Rattle.mls_server.specs.declared.answer.Answer.{Answer}
+use Rattle.mls_server.specs.declared.answer.Answer.TheVariants.{Opened, Closed, Commanded, Saved as SavedAs, Grabbed, Finished, Stepped}
 
 -- a number and its text, with a space between
 abbrev pub numbered : ℕ → List ℕ → List ℕ
 numbered n text = decimal n ++ 32 ∷ text
-
-abbrev pub open_fault_number : OpenFault → ℕ
-open_fault_number OpenAlready = 1
-open_fault_number SessionsFull = 2
-open_fault_number PoolFull = 3
-open_fault_number Memory = 4
-
-abbrev pub open_fault_text : OpenFault → List ℕ
-open_fault_text OpenAlready = codes "open already"
-open_fault_text SessionsFull = codes "sessions full"
-open_fault_text PoolFull = codes "pool full"
-open_fault_text Memory = codes "memory"
 
 -- the kinds other than space
 unfoldable pub without_space : ℕ → ℕ
@@ -70,12 +59,24 @@ reply_text book (Why rules) = codes "why " ++ decimal (length (rules_in rules)) 
 reply_text book (Refused refusal) = codes "refused " ++ numbered (refusal_number refusal) (refusal_text refusal)
 reply_text book (Stopped refusal pending) = codes "refused " ++ numbered (refusal_number refusal) (refusal_text refusal) ++ pending_text pending
 
+-- the reply text of an answer by the session's name; answers that no line has are of no text
+unfoldable pub answer_text : Names → List ℕ → Answer → List ℕ
+answer_text book name (Opened (Ok id)) = name ++ codes " opened" ++ 10 ∷ []
+answer_text book name (Opened (Err fault)) = name ++ codes " refused open " ++ numbered (open_fault_number fault) (open_fault_text fault) ++ 10 ∷ []
+answer_text book name (Closed (Ok done)) = name ++ codes " closed" ++ 10 ∷ []
+answer_text book name (Closed (Err fault)) = []
+answer_text book name (Commanded (Ok reply)) = name ++ 32 ∷ reply_text book reply ++ 10 ∷ []
+answer_text book name (Commanded (Err fault)) = []
+answer_text book name (SavedAs (Ok reply) text) = name ++ 32 ∷ reply_text book reply ++ 10 ∷ text
+answer_text book name (SavedAs (Err fault) text) = []
+answer_text book name (Grabbed result) = []
+answer_text book name (Finished result) = []
+answer_text book name (Stepped (Ok end)) = name ++ codes " step " ++ stepped_text end ++ 10 ∷ []
+answer_text book name (Stepped (Err fault)) = []
+
 -- the reply text of the response to line n
 unfoldable pub response_text : Names → ℕ → Response → List ℕ
 response_text book n Silent = []
 response_text book n (Fault fault) = codes "line " ++ decimal n ++ codes " fault " ++ numbered (line_fault_number fault) (line_fault_text fault) ++ 10 ∷ []
-response_text book n (Opened name) = name ++ codes " opened" ++ 10 ∷ []
-response_text book n (NotOpened name fault) = name ++ codes " refused open " ++ numbered (open_fault_number fault) (open_fault_text fault) ++ 10 ∷ []
-response_text book n (Stepped name end) = name ++ codes " step " ++ stepped_text end ++ 10 ∷ []
-response_text book n (Replied name reply) = name ++ 32 ∷ reply_text book reply ++ 10 ∷ []
-response_text book n (SavedText name lines text) = name ++ 32 ∷ reply_text book (Saved lines) ++ 10 ∷ text
+response_text book n (Answered name answer) = answer_text book name answer
+response_text book n (Audited name entries) = name ++ codes " audited " ++ decimal entries ++ 10 ∷ []

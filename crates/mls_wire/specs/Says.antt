@@ -9,10 +9,12 @@ use Rattle.mls_wire.specs.NameBooks.{Names}
 use Rattle.mls_wire.specs.Numbers.{number_of}
 use Rattle.mls_text.specs.Fields.{fields_of}
 use Rattle.mls_text.specs.Words.{begins_with, words_of, same_word}
-use Rattle.mls_wire.specs.SessionNames.{is_session_name}
+use Rattle.mls_server.specs.SessionNames.{is_session_name}
 use Rattle.mls_wire.specs.declared.line.Line.{Line}
-use Rattle.mls_wire.specs.declared.line.Line.TheVariants.{Silent, Open, Step, Run}
+use Rattle.mls_wire.specs.declared.line.Line.TheVariants.{Silent, Open, Close, Step, Audit, Run}
 use Rattle.mls_wire.specs.declared.line.LineFault.{LineFault}
+use Rattle.mls_wire.specs.declared.parse.Asked.{Asked}
+use Rattle.mls_wire.specs.declared.parse.Asked.TheVariants.{Close as AsksClose, Step as AsksStep, Audit as AsksAudit}
 use Rattle.mls_wire.specs.declared.line.LineFault.TheVariants.{UnknownCommand, BadNumber, BadName, NotOpen}
 
 -- the four lines of a box
@@ -88,8 +90,12 @@ command_of book (verb ∷ words) =
     else (if same_word verb (codes "drc") then drc_says words else edit_of book verb words)))
 
 -- a command for a session: a fault of its name's form comes first, then one of the command's, and last that no session of the name is open
+abbrev pub run_by : List ℕ → Command → Option ℕ → Result Line LineFault
+run_by name command (Some id) = Ok (Run name id command)
+run_by name command None = Err NotOpen
+
 abbrev pub line_with : Names → List ℕ → Result Command LineFault → Result Line LineFault
-line_with book name (Ok command) = if book.is_open name then Ok (Run name command) else Err NotOpen
+line_with book name (Ok command) = run_by name command (book.session name)
 line_with book name (Err fault) = Err fault
 
 unfoldable pub session_says : Names → List ℕ → List (List ℕ) → Result Line LineFault
@@ -101,18 +107,32 @@ open_says [] = Err BadName
 open_says (name ∷ []) = if is_session_name name then Ok (Open name) else Err BadName
 open_says (name ∷ more ∷ words) = if is_session_name name then Err UnknownCommand else Err BadName
 
--- the words after `%step`: here too a fault of the name's form comes first, then one of the number of words, and last that no session of the name is open
-unfoldable pub step_says : Names → List (List ℕ) → Result Line LineFault
-step_says book [] = Err BadName
-step_says book (name ∷ []) = if is_session_name name then (if book.is_open name then Ok (Step name) else Err NotOpen) else Err BadName
-step_says book (name ∷ more ∷ words) = if is_session_name name then Err UnknownCommand else Err BadName
+-- what is asked of the open session of a name
+abbrev pub asked_of : (List ℕ → ℕ → Line) → List ℕ → Option ℕ → Result Line LineFault
+asked_of make name (Some id) = Ok (make name id)
+asked_of make name None = Err NotOpen
+
+-- the words after `%close`, `%step` or `%audit`: here too a fault of the name's form comes first, then one of the number of words, and last that no
+-- session of the name is open
+unfoldable pub asks_says : Names → (List ℕ → ℕ → Line) → List (List ℕ) → Result Line LineFault
+asks_says book make [] = Err BadName
+asks_says book make (name ∷ []) = if is_session_name name then asked_of make name (book.session name) else Err BadName
+asks_says book make (name ∷ more ∷ words) = if is_session_name name then Err UnknownCommand else Err BadName
+
+-- the line that asks this
+abbrev pub asked_line : Asked → List ℕ → ℕ → Line
+asked_line AsksClose name id = Close name id
+asked_line AsksStep name id = Step name id
+asked_line AsksAudit name id = Audit name id
 
 unfoldable pub words_say : Names → List (List ℕ) → Result Line LineFault
 words_say book [] = Ok Silent
 words_say book (word ∷ words) =
     if same_word word (codes "%open") then open_says words
-    else (if same_word word (codes "%step") then step_says book words
-    else (if begins_with 37 word then Err UnknownCommand else session_says book word words))
+    else (if same_word word (codes "%close") then asks_says book Close words
+    else (if same_word word (codes "%step") then asks_says book Step words
+    else (if same_word word (codes "%audit") then asks_says book Audit words
+    else (if begins_with 37 word then Err UnknownCommand else session_says book word words))))
 
 -- a line as it was read: one that is too long is a fault whatever it holds, and a comment begins with `#` in its very first byte
 unfoldable pub line_says : Names → Option (List ℕ) → Result Line LineFault

@@ -3,7 +3,10 @@ use Rattle.std.specs.Prelude.{◌≡◌, ℕ, ◌≤◌, Option, Some, None, Lis
 use Rattle.std.specs.Io.KnownBytes.{Appends}
 use Rattle.mls_text.specs.Lines.{lines_of}
 use Rattle.mls_wire.specs.Lines.{script_of, whole_script_of}
-use Rattle.mls_wire.specs.Runs.{Setting, OpenSession, RunsLine, Runs, RunsUpTo}
+use Rattle.mls_server.specs.Worlds.{World}
+use Rattle.mls_server.specs.declared.answer.Answer.{Answer}
+use Rattle.mls_server.specs.declared.event.Event.{Event}
+use Rattle.mls_wire.specs.Runs.{RunsLine, RunsScript, RunsUpTo}
 use Rattle.mls_wire.specs.Watches.{Watched, HasCause}
 use Rattle.mls_wire.specs.declared.serving.ServeFault.{ServeFault}
 use Rattle.mls_wire.specs.declared.serving.ServeFault.TheVariants.{Read, Write, Memory}
@@ -24,51 +27,51 @@ Gains old new P = (out : List ℕ) × P out × Appends old new out
 
 -- ---- a script that was read to its end
 
--- the output gained the reply texts of the script's lines, and the run led to the new session
-abbrev pub WritesRun : Setting → OpenSession → Option (List ℕ) → Option (List ℕ) → Option (List ℕ) → OpenSession → Type 0
-WritesRun setting old None written now new = ⊤
-WritesRun setting old (Some script) written now new = Gains written now (λ out. Runs setting old 1 (script_of script) out new)
+-- the output gained the reply texts of the script's lines, and the run led to the new world
+abbrev pub WritesRun : World → Option (List ℕ) → Option (List ℕ) → Option (List ℕ) → World → Type 0
+WritesRun old None written now new = ⊤
+WritesRun old (Some script) written now new = Gains written now (λ out. RunsScript old (script_of script) out new)
 
 -- ---- a script that was left before
 
 -- the device was read up to `rest`, and the run is that of exactly the whole lines among the bytes that were read
-pub record StopsAtRead (setting : Setting) (old : OpenSession) (script rest out : List ℕ) (new : OpenSession) : Type 0 where
+pub record StopsAtRead (old : World) (script rest out : List ℕ) (new : World) : Type 0 where
   pub consumed : List ℕ
   pub split : script ≡ consumed ++ rest
-  pub runs : Runs setting old 1 (whole_script_of consumed) out new
+  pub runs : RunsScript old (whole_script_of consumed) out new
 
 -- the device was read up to `rest`, and at most 4096 of these bytes lie ahead of the lines that were taken; the last of these lines is
 -- the one whose reply text was not written whole
-pub record StopsAtLine (setting : Setting) (old : OpenSession) (script rest front out : List ℕ) (new : OpenSession) : Type 0 where
+pub record StopsAtLine (old : World) (script rest front out : List ℕ) (new : World) : Type 0 where
   pub taken : List ℕ
   pub ahead : List ℕ
   pub split : script ≡ taken ++ (ahead ++ rest)
   pub near : length ahead ≤ 4096
   pub whole : lines_of script ≡ lines_of taken ++ lines_of (ahead ++ rest)
-  pub runs : RunsUpTo setting old (script_of taken) front out new
+  pub runs : RunsUpTo old (script_of taken) front out new
 
 -- the output of a run that this fault cut; where memory ran out, nothing of the last line's reply text was written
-abbrev pub IsCut : Setting → OpenSession → ServeFault → List ℕ → List ℕ → List ℕ → OpenSession → Type 0
-IsCut setting old Read script rest out new = StopsAtRead setting old script rest out new
-IsCut setting old Write script rest out new = (front : List ℕ) × StopsAtLine setting old script rest front out new
-IsCut setting old Memory script rest out new = StopsAtLine setting old script rest [] out new
+abbrev pub IsCut : World → ServeFault → List ℕ → List ℕ → List ℕ → World → Type 0
+IsCut old Read script rest out new = StopsAtRead old script rest out new
+IsCut old Write script rest out new = (front : List ℕ) × StopsAtLine old script rest front out new
+IsCut old Memory script rest out new = StopsAtLine old script rest [] out new
 
--- the output gained that of a run that this fault cut, and the run led to the new session
-abbrev pub WritesCutRun : Setting → OpenSession → ServeFault → Option (List ℕ) → Option (List ℕ) → Option (List ℕ) → Option (List ℕ) → OpenSession → Type 0
-WritesCutRun setting old fault None rest written now new = ⊤
-WritesCutRun setting old fault (Some script) None written now new = ⊥
-WritesCutRun setting old fault (Some script) (Some rest) written now new = Gains written now (λ out. IsCut setting old fault script rest out new)
+-- the output gained that of a run that this fault cut, and the run led to the new world
+abbrev pub WritesCutRun : World → ServeFault → Option (List ℕ) → Option (List ℕ) → Option (List ℕ) → Option (List ℕ) → World → Type 0
+WritesCutRun old fault None rest written now new = ⊤
+WritesCutRun old fault (Some script) None written now new = ⊥
+WritesCutRun old fault (Some script) (Some rest) written now new = Gains written now (λ out. IsCut old fault script rest out new)
 
 -- ---- a line
 
 -- line n was run, and its reply text was written
-abbrev pub WritesLine : Setting → OpenSession → ℕ → Option (List ℕ) → Option (List ℕ) → Option (List ℕ) → OpenSession → Type 0
-WritesLine setting old n line written now new = Gains written now (λ text. RunsLine setting old n line text new)
+abbrev pub WritesLine : World → ℕ → Option (List ℕ) → Option (List ℕ) → Option (List ℕ) → World → Type 0
+WritesLine old n line written now new = Gains written now (λ text. (asked : List Event) × (answered : List Answer) × RunsLine old n line text asked answered new)
 
 -- line n was run, and of its reply text a beginning was written, or nothing where memory ran out
-abbrev pub WritesCutLine : Setting → OpenSession → ℕ → Option (List ℕ) → ServeFault → Option (List ℕ) → Option (List ℕ) → OpenSession → Type 0
-WritesCutLine setting old n line fault written now new =
-    Gains written now (λ front. ((missing : List ℕ) × RunsLine setting old n line (front ++ missing) new) × (fault ≡ Memory → front ≡ []))
+abbrev pub WritesCutLine : World → ℕ → Option (List ℕ) → ServeFault → Option (List ℕ) → Option (List ℕ) → World → Type 0
+WritesCutLine old n line fault written now new =
+    Gains written now (λ front. ((missing : List ℕ) × (asked : List Event) × (answered : List Answer) × RunsLine old n line (front ++ missing) asked answered new) × (fault ≡ Memory → front ≡ []))
 
 -- a fault of a device comes only where one of its calls failed, or all that can be counted were made
 abbrev pub HasReason : {R W : Type 0} → ServeFault → Watched R → Watched W → Type 0

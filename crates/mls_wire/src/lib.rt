@@ -1,8 +1,8 @@
 //! Script lines in, reply lines out.
 #![tactic(auto)]
 
+mod executing;
 mod line;
-mod name;
 mod names;
 mod number;
 mod parse;
@@ -11,16 +11,15 @@ mod reply;
 mod response;
 mod script_line;
 mod serving;
-mod solo;
 mod watched;
 
+pub use executing::respond;
 pub use line::{Line, LineFault};
-pub use name::Name;
+pub use mls_server::Name;
 pub use names::Names;
 pub use parse::parse_line;
 pub use reply::push_response;
-pub use response::{OpenFault, Response, SavedText};
+pub use response::Response;
 pub use script_line::ScriptLine;
 pub use serving::{ServeFault, serve};
-pub use solo::Solo;
 pub use watched::{ReadFault, Watched, WriteFault};

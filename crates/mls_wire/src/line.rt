@@ -1,19 +1,23 @@
 //! What lines of a script say.
-use crate::Name;
+use mls_server::{Name, SessionId};
 use mls_session::Command;
 use thiserror::Error;
 
-/// What a line says.
+/// What a line says. A session that must be open has its id beside its name.
 #[derive(Clone, Copy, Debug, PartialEq, Eq)]
 pub enum Line {
     /// Nothing: the line has no words, or is a comment.
     Silent,
     /// Opens a session.
     Open(Name),
-    /// Runs one check step in an open session.
-    Step(Name),
-    /// Runs a command in an open session.
-    Run(Name, Command),
+    /// Closes a session.
+    Close(Name, SessionId),
+    /// Does a check step in a session.
+    Step(Name, SessionId),
+    /// Asks for the number of entries of a session's journal.
+    Audit(Name, SessionId),
+    /// Carries out a command in a session.
+    Run(Name, SessionId, Command),
 }
 
 /// Why a line can't be read.

@@ -2,8 +2,8 @@
 ghost use Rattle.std.specs.Prelude.{◌≡◌, ◌<◌, IfSome};
 ghost use Rattle.std.specs.Option.{option_map};
 
-use crate::Name;
 use mls_library::CellId;
+use mls_server::{Name, Server, SessionId};
 
 /// What names mean to a reader of lines, and what types are called in replies.
 pub trait Names {
@@ -29,7 +29,34 @@ pub trait Names {
     fn why_text(&self, n: usize) -> Option<&[u8]>
         ensures { option_map (λ text. text.now) result ≡ (book self.now).why_text n };
 
-    /// Returns whether a session of this name is open.
-    fn is_open(&self, name: &Name) -> bool
-        ensures { result ≡ (book self.now).is_open name.now };
+    /// Returns the id of the open session of this name.
+    fn session(&self, name: &Name) -> Option<SessionId>
+        ensures { result ≡ (book self.now).session name.now };
+}
+
+impl Names for Server {
+    ghost use Rattle.mls_server.specs.Servers.{world_of};
+    ghost use Rattle.mls_wire.specs.NameBooks.{book_of};
+
+    ghost book = { λ server. book_of (world_of server) };
+
+    fn type_of(&self, word: &[u8]) -> Option<u8> {
+        self.tech().type_of(word)
+    }
+
+    fn cell_of(&self, word: &[u8]) -> Option<CellId> {
+        self.cell(word)
+    }
+
+    fn type_name(&self, kind: u8) -> Option<&[u8]> {
+        self.tech().type_name(kind)
+    }
+
+    fn why_text(&self, n: usize) -> Option<&[u8]> {
+        self.tech().why(n)
+    }
+
+    fn session(&self, name: &Name) -> Option<SessionId> {
+        Server::session(self, name)
+    }
 }

@@ -1,14 +1,36 @@
 //! From a line to what it says.
 ghost use Rattle.std.specs.Prelude.{◌≡◌};
 ghost use Rattle.mls_text.specs.Fields.{fields_of};
-ghost use Rattle.mls_wire.specs.Says.{box_says, command_of, drc_says, dump_says, edit_of, erase_says, line_says, open_says, paint_says, save_says, session_says, step_says, types_named, what_says, words_say};
+ghost use Rattle.mls_wire.specs.Says.{asked_line, asks_says, box_says, command_of, drc_says, dump_says, edit_of, erase_says, line_says, open_says, paint_says, save_says, session_says, types_named, what_says, words_say};
 ghost use Rattle.mls_wire.specs.ScriptLines.{text_of};
 
 use crate::number::number_of;
-use crate::{Line, LineFault, Name, Names, ScriptLine};
+use crate::{Line, LineFault, Names, ScriptLine};
 use mls_kinds::KindSet;
+use mls_server::{Name, SessionId};
 use mls_session::Command;
 use mls_text::{Fields, Words};
+
+/// What a line asks of an open session by the session's name alone.
+#[derive(Clone, Copy, Debug, PartialEq, Eq)]
+enum Asked {
+    Close,
+    Step,
+    Audit,
+}
+
+impl Asked {
+    /// Returns the line that asks this of a session.
+    fn line(self, name: Name, id: SessionId) -> Line
+        ensures { result ≡ asked_line self name id }
+    {
+        match self {
+            Asked::Close => Line::Close(name, id),
+            Asked::Step => Line::Step(name, id),
+            Asked::Audit => Line::Audit(name, id),
+        }
+    }
+}
 
 /// Returns what a line says, or its first fault.
 #[tactic(auto, unfolding(crate::specs::Says::line_says))]
@@ -30,7 +52,9 @@ fn parse_words<N: Names>(names: &N, mut words: Words) -> Result<Line, LineFault>
     match words.next() {
         None => Ok(Line::Silent),
         Some(b"%open") => parse_open(words),
-        Some(b"%step") => parse_step(names, words),
+        Some(b"%close") => parse_asked(names, words, Asked::Close),
+        Some(b"%step") => parse_asked(names, words, Asked::Step),
+        Some(b"%audit") => parse_asked(names, words, Asked::Audit),
         Some([b'%', ..]) => Err(LineFault::UnknownCommand),
         Some(name) => parse_session(names, name, words),
     }
@@ -48,19 +72,17 @@ fn parse_open(mut words: Words) -> Result<Line, LineFault>
     }
 }
 
-/// Returns what the words after `%step` say.
-#[tactic(auto, unfolding(crate::specs::Says::step_says))]
-fn parse_step<N: Names>(names: &N, mut words: Words) -> Result<Line, LineFault>
-    ensures { result ≡ step_says (N.book names.now) words.entry }
+/// Returns what the words after `%close`, `%step` or `%audit` say.
+#[tactic(auto, unfolding(crate::specs::Says::asks_says))]
+fn parse_asked<N: Names>(names: &N, mut words: Words, asked: Asked) -> Result<Line, LineFault>
+    ensures { result ≡ asks_says (N.book names.now) (asked_line asked) words.entry }
 {
     let name = words.next().and_then(Name::new).ok_or(LineFault::BadName)?;
     if words.next().is_some() {
         return Err(LineFault::UnknownCommand);
     }
-    if !names.is_open(&name) {
-        return Err(LineFault::NotOpen);
-    }
-    Ok(Line::Step(name))
+    let id = names.session(&name).ok_or(LineFault::NotOpen)?;
+    Ok(asked.line(name, id))
 }
 
 /// Returns what a session's name and the words after it say.
@@ -70,10 +92,8 @@ fn parse_session<N: Names>(names: &N, name: &[u8], words: Words) -> Result<Line,
 {
     let name = Name::new(name).ok_or(LineFault::BadName)?;
     let command = parse_command(names, words)?;
-    if !names.is_open(&name) {
-        return Err(LineFault::NotOpen);
-    }
-    Ok(Line::Run(name, command))
+    let id = names.session(&name).ok_or(LineFault::NotOpen)?;
+    Ok(Line::Run(name, id, command))
 }
 
 /// Returns the command of the words after a session's name.

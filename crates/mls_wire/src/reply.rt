@@ -1,8 +1,9 @@
 //! The text of replies.
-ghost use Rattle.std.specs.Prelude.{◌≡◌, ◌+◌, ◌++◌, ◌∷◌, ◌<◌, ◌==◌, ◌≤◌, ◌-◌, OnOk, length, decimal, codes};
+ghost use Rattle.std.specs.Prelude.{◌≡◌, ◌+◌, ◌++◌, ◌∷◌, ◌<◌, ◌==◌, ◌≤◌, ◌-◌, OnOk, [], length, decimal, codes};
 ghost use Rattle.std.specs.Int.{bit_at};
 ghost use Rattle.std.specs.List.{flat_map};
 ghost use Rattle.mls_kinds.specs.KindSets.{members};
+ghost use Rattle.mls_server.specs.Faults.{open_fault_number, open_fault_text};
 ghost use Rattle.mls_session.specs.Refusals.{refusal_number, refusal_text};
 ghost use Rattle.mls_wire.specs.Replies as spec;
 
@@ -10,6 +11,7 @@ use crate::{Names, Response};
 use itoa::{Buffer, Integer};
 use mls_errorplane::Stepped;
 use mls_kinds::KindSet;
+use mls_server::{Answer, Name, OpenFault};
 use mls_session::{Refusal, Reply};
 use std::alloc::AllocError;
 
@@ -24,42 +26,86 @@ pub fn push_response<N: Names>(
     ensures { OnOk result (out.new.items ≡ out.old.items ++ spec.response_text (N.book names.now) n response.now) }
 {
     match response {
-        Response::Silent => return Ok(()),
+        Response::Silent => Ok(()),
         Response::Fault(fault) => {
             out.extend_from_slice(b"line ")?;
             push_decimal(n, out)?;
             out.extend_from_slice(b" fault ")?;
             push_numbered(fault.number(), fault.text().as_bytes(), out)?;
+            out.extend_from_slice(b"\n")
         }
-        Response::Opened(name) => {
+        Response::Answered(name, answer) => push_answer(names, name, answer, out),
+        Response::Audited(name, entries) => {
             out.extend_from_slice(name.as_bytes())?;
-            out.extend_from_slice(b" opened")?;
-        }
-        Response::NotOpened(name, fault) => {
-            out.extend_from_slice(name.as_bytes())?;
-            out.extend_from_slice(b" refused open ")?;
-            push_numbered(fault.number(), fault.text().as_bytes(), out)?;
-        }
-        Response::Stepped(name, end) => {
-            out.extend_from_slice(name.as_bytes())?;
-            out.extend_from_slice(b" step ")?;
-            out.extend_from_slice(stepped_text(*end).as_bytes())?;
-        }
-        Response::Replied(name, reply) => {
-            out.extend_from_slice(name.as_bytes())?;
-            out.push(b' ')?;
-            push_reply(names, *reply, out)?;
-        }
-        Response::Saved(name, lines, text) => {
-            out.extend_from_slice(name.as_bytes())?;
-            out.push(b' ')?;
-            push_reply(names, Reply::Saved(*lines), out)?;
-            out.push(b'\n')?;
-            return out.extend_from_slice(text.as_bytes());
+            out.extend_from_slice(b" audited ")?;
+            push_decimal(*entries as u64, out)?;
+            out.extend_from_slice(b"\n")
         }
     }
+}
+
+/// Appends the reply text of an answer. Answers that no line has are of no text.
+#[tactic(auto, unfolding(crate::specs::Replies::answer_text))]
+fn push_answer<N: Names>(
+    names: &N,
+    name: &Name,
+    answer: &Answer,
+    out: &mut Vec<u8>,
+) -> Result<(), AllocError>
+    ensures { OnOk result (out.new.items ≡ out.old.items ++ spec.answer_text (N.book names.now) name.now answer.now) }
+{
+    match answer {
+        Answer::Opened(Ok(_)) => push_words(name, b" opened\n", out),
+        Answer::Opened(Err(fault)) => push_not_opened(name, *fault, out),
+        Answer::Closed(Ok(_)) => push_words(name, b" closed\n", out),
+        Answer::Commanded(Ok(reply)) => push_replied(names, name, *reply, b"", out),
+        Answer::Saved(Ok(reply), text) => push_replied(names, name, *reply, text.as_bytes(), out),
+        Answer::Stepped(Ok(end)) => {
+            push_words(name, b" step ", out)?;
+            out.extend_from_slice(stepped_text(*end).as_bytes())?;
+            out.extend_from_slice(b"\n")
+        }
+        Answer::Closed(Err(_))
+        | Answer::Commanded(Err(_))
+        | Answer::Saved(Err(_), _)
+        | Answer::Stepped(Err(_))
+        | Answer::Grabbed(_)
+        | Answer::Finished(_) => Ok(()),
+    }
+}
+
+/// Appends a session's name and the bytes after it.
+fn push_words(name: &Name, bytes: &[u8], out: &mut Vec<u8>) -> Result<(), AllocError>
+    ensures { OnOk result (out.new.items ≡ out.old.items ++ name.now ++ bytes.now) }
+{
+    out.extend_from_slice(name.as_bytes())?;
+    out.extend_from_slice(bytes)
+}
+
+/// Appends why a session of this name can't be opened.
+fn push_not_opened(name: &Name, fault: OpenFault, out: &mut Vec<u8>) -> Result<(), AllocError>
+    ensures { OnOk result (out.new.items ≡ out.old.items ++ name.now ++ codes " refused open "
+        ++ spec.numbered (open_fault_number fault) (open_fault_text fault) ++ 10 ∷ []) }
+{
+    push_words(name, b" refused open ", out)?;
+    push_numbered(fault.number(), fault.text().as_bytes(), out)?;
+    out.extend_from_slice(b"\n")
+}
+
+/// Appends a session's name, its reply, and the text that follows it.
+fn push_replied<N: Names>(
+    names: &N,
+    name: &Name,
+    reply: Reply,
+    text: &[u8],
+    out: &mut Vec<u8>,
+) -> Result<(), AllocError>
+    ensures { OnOk result (out.new.items ≡ out.old.items ++ name.now ++ 32 ∷ spec.reply_text (N.book names.now) reply ++ 10 ∷ text.now) }
+{
+    push_words(name, b" ", out)?;
+    push_reply(names, reply, out)?;
     out.push(b'\n')?;
-    Ok(())
+    out.extend_from_slice(text)
 }
 
 /// Appends a number.

@@ -1,14 +1,15 @@
 //! Serving a script.
 ghost use Rattle.std.specs.Prelude.{◌≡◌, ◌≢◌, false, OnOk, OnErr, IfErr};
 ghost use Rattle.std.specs.Io.KnownBytes.{Appends};
-ghost use Rattle.mls_wire.specs.Runs.{MarksAreExact, MarksAreRight};
+ghost use Rattle.mls_server.specs.Servers.{world_of};
+ghost use Rattle.mls_server.specs.Worlds.{MarksAreExact, MarksAreRight};
 ghost use Rattle.mls_wire.specs.ScriptLines.{text_of};
 ghost use Rattle.mls_wire.specs.Serving.{AppendsFront, WritesRun, WritesCutRun, WritesLine, WritesCutLine, HasReason};
-ghost use Rattle.mls_wire.specs.Solos.{open_session_of, setting_of};
 ghost use Rattle.mls_wire.specs.Watches.{HasCause};
 
 use crate::reader::{LineReader, NextLine};
-use crate::{ReadFault, ScriptLine, Solo, Watched, WriteFault, push_response};
+use crate::{ReadFault, ScriptLine, Watched, WriteFault, push_response, respond};
+use mls_server::Server;
 use std::alloc::{AllocError, Global};
 use std::io::{Read, Write};
 use thiserror::Error;
@@ -76,24 +77,24 @@ impl From<AllocError> for ServeFault {
 /// At the other faults the last line was run too, and a beginning of its reply was written, or nothing where memory ran out.
 pub fn serve<R: Read, W: Write>(
     alloc: Global,
-    solo: &mut Solo,
+    server: &mut Server,
     input: &mut Watched<R>,
     output: &mut Watched<W>,
 ) -> Result<(), ServeFault>
     requires input_sound { input.old.failed ≡ false }
     requires output_sound { output.old.failed ≡ false }
-    ensures run { OnOk result (WritesRun (setting_of solo.old) (open_session_of solo.old) (R.remaining input.old.device)
-        (W.contents output.old.device) (W.contents output.new.device) (open_session_of solo.new)) }
-    ensures cut { IfErr result (λ fault. WritesCutRun (setting_of solo.old) (open_session_of solo.old) fault
+    ensures run { OnOk result (WritesRun (world_of server.old) (R.remaining input.old.device)
+        (W.contents output.old.device) (W.contents output.new.device) (world_of server.new)) }
+    ensures cut { IfErr result (λ fault. WritesCutRun (world_of server.old) fault
         (R.remaining input.old.device) (R.remaining input.new.device)
-        (W.contents output.old.device) (W.contents output.new.device) (open_session_of solo.new)) }
+        (W.contents output.old.device) (W.contents output.new.device) (world_of server.new)) }
     ensures cause { IfErr result (λ fault. HasReason fault input.new output.new) }
-    ensures marks_right { MarksAreRight (setting_of solo.new) (open_session_of solo.new) }
-    ensures marks_exact { MarksAreExact (setting_of solo.new) (open_session_of solo.new) }
-    ensures setting { setting_of solo.new ≡ setting_of solo.old }
+    ensures marks_right { MarksAreRight (world_of server.new) }
+    ensures marks_exact { MarksAreExact (world_of server.new) }
+    ensures setting { (world_of server.new).setting ≡ (world_of server.old).setting }
 {
     prove!(!input.failed() && !output.failed());
-    solo.marks_are_right();
+    server.is_sound();
     let mut reader = LineReader::new();
     let mut text = Vec::new(alloc);
     let mut n: u128 = 1;
@@ -102,13 +103,13 @@ pub fn serve<R: Read, W: Write>(
             NextLine::End => return Ok(()),
             NextLine::LastLine => return serve_line(
                 alloc,
-                solo,
+                server,
                 n,
                 reader.line(),
                 &mut text,
                 output,
             ),
-            NextLine::Line => serve_line(alloc, solo, n, reader.line(), &mut text, output)?,
+            NextLine::Line => serve_line(alloc, server, n, reader.line(), &mut text, output)?,
         }
         n += 1;
     }
@@ -117,25 +118,26 @@ pub fn serve<R: Read, W: Write>(
 /// Runs line `n`, and writes and flushes its reply.
 fn serve_line<W: Write>(
     alloc: Global,
-    solo: &mut Solo,
+    server: &mut Server,
     n: u128,
     line: ScriptLine<'_>,
     text: &mut Vec<u8>,
     output: &mut Watched<W>,
 ) -> Result<(), ServeFault>
-    ensures done { OnOk result (WritesLine (setting_of solo.old) (open_session_of solo.old) n (text_of line.entry)
-        (W.contents output.old.device) (W.contents output.new.device) (open_session_of solo.new)) }
-    ensures cut { IfErr result (λ fault. WritesCutLine (setting_of solo.old) (open_session_of solo.old) n (text_of line.entry) fault
-        (W.contents output.old.device) (W.contents output.new.device) (open_session_of solo.new)) }
-    ensures marks_right { MarksAreRight (setting_of solo.new) (open_session_of solo.new) }
-    ensures marks_exact { MarksAreExact (setting_of solo.new) (open_session_of solo.new) }
-    ensures setting { setting_of solo.new ≡ setting_of solo.old }
+    ensures done { OnOk result (WritesLine (world_of server.old) n (text_of line.entry)
+        (W.contents output.old.device) (W.contents output.new.device) (world_of server.new)) }
+    ensures cut { IfErr result (λ fault. WritesCutLine (world_of server.old) n (text_of line.entry) fault
+        (W.contents output.old.device) (W.contents output.new.device) (world_of server.new)) }
+    ensures marks_right { MarksAreRight (world_of server.new) }
+    ensures marks_exact { MarksAreExact (world_of server.new) }
+    ensures setting { (world_of server.new).setting ≡ (world_of server.old).setting }
     ensures kind { IfErr result (λ fault. fault ≢ ServeFault.Read) }
     ensures cause { IfErr result (λ fault. fault ≡ ServeFault.Write → HasCause output.new) }
 {
-    let response = solo.respond(alloc, line);
+    let response = respond(alloc, server, line);
+    server.is_sound();
     text.clear();
-    push_response(solo, n, &response, text)?;
+    push_response(server, n, &response, text)?;
     send(text, output)?;
     Ok(())
 }

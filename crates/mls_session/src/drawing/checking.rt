@@ -3,17 +3,18 @@ ghost use Rattle.std.specs.Prelude.{◌≡◌, ◌≤◌, IfOk, length, vec_capa
 ghost use Rattle.mls_checker.specs.Findings.{violated_rules};
 ghost use Rattle.mls_errorplane.specs.CatchingUp.{HasCaughtUp};
 ghost use Rattle.mls_errorplane.specs.ErrorPlanes.{HasStepped, ShowsMarks, UnlessDone, checking_of};
+ghost use Rattle.mls_errorplane.specs.Jobs.{HasGrabbed};
 ghost use Rattle.mls_errorplane.specs.Outcomes.{HasFinished, UnlessFinished};
 ghost use Rattle.mls_paint.specs.Planes.{layout_in};
 ghost use Rattle.mls_paint.specs.Scratches.{KeepsRoom};
 ghost use Rattle.mls_session.specs.Rooms.{HasRooms};
-ghost use Rattle.mls_session.specs.Sessions.{HasErrorPlane};
+ghost use Rattle.mls_session.specs.Designs.{HasErrorPlane};
 ghost use Rattle.mls_stitch.specs.Tilings.{ChangesOnly};
 
 use super::Drawing;
 use mls_checker::Finding;
 use mls_edgerule::Rules;
-use mls_errorplane::{CaughtUp, ErrorPlane, Outcome, Stepped, why};
+use mls_errorplane::{CaughtUp, ErrorPlane, Job, Outcome, Stepped, why};
 use mls_geom::{Piece, Rect};
 use mls_paint::Scratch;
 use mls_tilepool::Pool;
@@ -73,6 +74,24 @@ impl Drawing {
         let limit = self.quota.tiles();
         let planes = &mut self.planes;
         errors.catch_up(alloc, pool, planes, rules, limit, pieces, scratch)
+    }
+
+    /// Copies what a check of an error plane's first piece needs, in the layout, or returns `None` if no area awaits checking.
+    pub fn grab(
+        &mut self,
+        alloc: Global,
+        pool: &Pool,
+        rules: &Rules,
+        errors: &ErrorPlane,
+        scratch: &mut Scratch,
+    ) -> Result<Option<Job>, AllocError>
+        requires home { IsHome pool.now self.old }
+        requires tiles_fit { plane_reserve self.old.quota ≤ scratch.old.room }
+        ensures grabbed { HasGrabbed rules.now (length self.old.planes) (layout_in pool.now self.old.planes) (checking_of pool.now errors.now) result }
+        ensures same { self.new ≡ self.old }
+        ensures rooms { KeepsRoom scratch.old scratch.new }
+    {
+        errors.grab(alloc, pool, &mut self.planes, rules, scratch)
     }
 
     /// Finishes a finding in an error plane: a check step, unless the finding is stale.

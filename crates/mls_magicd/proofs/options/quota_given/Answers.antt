@@ -1,10 +1,15 @@
-use Rattle.std.proofs.Common.{◌≡◌}
+use Rattle.std.proofs.Common.{◌≡◌, arith, rules}
 use Rattle.std.specs.Str.Parse.{ParsesUnsigned, ExplainsUnsignedError, HasUnsignedDigitsIfOk}
-use Rattle.mls_magicd.proofs.QuotaLemmas.{quota-number}
+use Rattle.mls_session.specs.Quotas.{IsQuota}
+use Rattle.mls_magicd.proofs.NumberLemmas.{number-given}
+use Rattle.mls_magicd.specs.CommandLines.{quota_option}
 use Rattle.mls_magicd.proofs.options.quota_given.Goals as goal
 
-pub returns-clause-named : goal.returns-clause-named
-returns-clause-named c text named is_text =
-    quota-number _ (λ bs r. ParsesUnsigned 32 10 bs r × ExplainsUnsignedError 10 bs r × HasUnsignedDigitsIfOk bs r) text
-    c.get_one.result c.and_then.result c.unwrap_or_default.result (λ quota. quota ≡ 1024)
-    (λ u x g. g.0) is_text (c.get_one.ensures.value text named) c.and_then.ensures c.unwrap_or_default.ensures
+pub returns : goal.returns
+returns c = record {
+  usual = search rules;
+  named = λ text named is_text.
+      number-given IsQuota (λ value. value ≡ 1024) _ (λ bs r. ParsesUnsigned 32 10 bs r × ExplainsUnsignedError 10 bs r × HasUnsignedDigitsIfOk bs r) text
+      c.get_one.result c.and_then.result c.unwrap_or_default.result (λ u x g. g.0) (c.get_one.ensures.value text named) c.and_then.ensures c.unwrap_or_default.ensures
+      quota_option (omega arith) (λ n enough bounded. record { enough = enough; bounded = bounded }) is_text;
+}

@@ -18,7 +18,7 @@ returns-in-Err-clause-failed g c is = elim c.in-Err.ensures.err [
           script.1,
           script.4,
           ReportsAll-more g.E.Write.contents c.args.faults.now c.serve_words.new.faults c.fail.new.faults
-              (skipped_lines script.0.tech) (serve_fault_line script.1) script.5 message,
+              (skipped_lines script.0.setting.tech) (serve_fault_line script.1) script.5 message,
         ),
       )
 ]

@@ -1,7 +1,7 @@
 use Rattle.std.proofs.Common.{List, map, sym, subst}
 use Rattle.std.proofs.lemmas.Result.{err_from_is_err_and}
 use Rattle.mls_tech.specs.Readings.{Tech}
-use Rattle.mls_wire.specs.Solos.{setting_of}
+use Rattle.mls_server.specs.Servers.{world_of}
 use Rattle.mls_magicd.specs.Cells.{LoadsCells, StopsAtCell}
 use Rattle.mls_magicd.specs.CommandLines.{file_of}
 use Rattle.mls_magicd.specs.Messages.{ReportsAll}
@@ -17,30 +17,29 @@ returns-in_err-load_cells-clause-err g c =
     let reads_as = g.F.Files.reads_as c.args.files.now in
     let may_fail = g.F.Files.may_fail c.args.files.now in
     let parsed = c.in_ok-options.ensures in
-    let bare = setting_of c.in_ok-solo.solo in
+    let bare = world_of c.in_ok-server.server in
     let stopped : IsStoppedBy reads_as may_fail words bare c.in_err-load_cells.field-0.0 = record {
-      is_bare = c.in_ok-solo.ensures.bare words parsed;
+      is_bare = c.in_ok-server.ensures.bare words parsed;
       files = map file_of c.in_ok-options.options.cells.items;
-      named = parsed.3;
+      named = parsed.cells;
       stops = subst (λ (cells : List CellArgument). StopsAtCell reads_as may_fail bare (map file_of cells) c.in_err-load_cells.field-0.0) c.deref.ensures.value c.in_err-load_cells.ensures.stops;
     } in
     let fault = err_from_is_err_and c.from_residual-in_err-load_cells.result c.from_residual-in_err-load_cells.ensures.1 in
     rw fault.1
     (subst (λ (f : Fault). FailsAtStart reads_as may_fail words g.E.Write.contents c.args.faults.now c.bare_server.new.faults f)
-    (sym fault.2) (bare, stopped, c.in_ok-solo.ensures.reported))
+    (sym fault.2) (bare, stopped, c.in_ok-server.ensures.reported))
 
 pub returns-clause-ok : goal.returns-clause-ok
 returns-clause-ok g c =
     let words = map g.S.AsStr.text c.args.words.now in
     let reads_as = g.F.Files.reads_as c.args.files.now in
     let parsed = c.in_ok-options.ensures in
-    let bare = setting_of c.in_ok-solo.solo in
-    let now = setting_of c.load_cells.new.solo in
+    let bare = world_of c.in_ok-server.server in
+    let now = world_of c.load_cells.new.server in
     let files = map file_of c.in_ok-options.options.cells.items in
     let loaded : LoadsCells reads_as bare files now =
     subst (λ (cells : List CellArgument). LoadsCells reads_as bare (map file_of cells) now) c.deref.ensures.value c.in_ok-load_cells.ensures.loads in (
-      record { bare = bare; is_bare = c.in_ok-solo.ensures.bare words parsed; files = files; named = parsed.3; loaded = loaded },
-      c.in_ok-load_cells.ensures.none_open,
+      record { bare = bare; is_bare = c.in_ok-server.ensures.bare words parsed; files = files; named = parsed.cells; loaded = loaded },
       subst (λ (tech : Tech). ReportsAll g.E.Write.contents c.args.faults.now c.bare_server.new.faults (skipped_lines tech))
-          (sym (LoadsCells-tech reads_as bare now files loaded)) c.in_ok-solo.ensures.reported,
+          (sym (LoadsCells-tech reads_as bare now files loaded)) c.in_ok-server.ensures.reported,
     )

@@ -1,36 +1,36 @@
 use Rattle.std.proofs.Common.{arith, ◌∙◌}
+use Rattle.mls_server.specs.Servers.{world_of}
 use Rattle.mls_wire.proofs.ServingLemmas.{served_all, failed_within, line_done, last_done, line_cut, last_cut}
-use Rattle.mls_wire.specs.Solos.{open_session_of, setting_of}
 use Rattle.mls_wire.proofs.serving.serve.Goals as goal
 
 pub returns-in_err-next_line-clause-cut : goal.returns-in_err-next_line-clause-cut
 returns-in_err-next_line-clause-cut g c =
-    failed_within c.from_residual.result _ _ (open_session_of c.lines.solo) c.lines.n _ _ _ _ _ c.from_residual.ensures c.lines.invariant.served c.in_err-next_line.ensures.begun
+    failed_within c.from_residual.result _ (world_of c.lines.server) c.lines.n _ _ _ _ _ c.from_residual.ensures c.lines.invariant.served c.in_err-next_line.ensures.begun
 
 pub returns-in-End-clause-run : goal.returns-in-End-clause-run
 returns-in-End-clause-run g c =
-    served_all _ _ (open_session_of c.lines.solo) c.lines.n _ _ _ _ _ _ c.lines.invariant.served (rw c.in-End.is at c.in_ok-next_line.ensures.taken)
+    served_all _ (world_of c.lines.server) c.lines.n _ _ _ _ _ _ c.lines.invariant.served (rw c.in-End.is at c.in_ok-next_line.ensures.taken)
 
 pub returns-in-LastLine-clause-run : goal.returns-in-LastLine-clause-run
 returns-in-LastLine-clause-run g c =
-    last_done (setting_of c.args.solo.now) (setting_of c.lines.solo) c.lines.invariant.setting _ (open_session_of c.lines.solo) (open_session_of c.serve_line.new.solo) c.lines.n _ _ c.line.ensures
+    last_done _ (world_of c.lines.server) (world_of c.serve_line.new.server) c.lines.n _ _ c.line.ensures
     _ _ _ _ _ c.lines.invariant.served c.serve_line.result _ (rw c.in-LastLine.is at c.in_ok-next_line.ensures.taken) c.serve_line.ensures.done
 
 pub returns-in-LastLine-clause-cut : goal.returns-in-LastLine-clause-cut
 returns-in-LastLine-clause-cut g c =
-    last_cut (setting_of c.args.solo.now) (setting_of c.lines.solo) c.lines.invariant.setting _ (open_session_of c.lines.solo) (open_session_of c.serve_line.new.solo) c.lines.n _ _ c.line.ensures
+    last_cut _ (world_of c.lines.server) (world_of c.serve_line.new.server) c.lines.n _ _ c.line.ensures
     _ _ _ _ _ c.lines.invariant.served _ _ c.in_ok-next_line.ensures.within c.serve_line.result (rw c.in-LastLine.is at c.in_ok-next_line.ensures.taken) c.serve_line.ensures.kind c.serve_line.ensures.cut
 
 pub returns-in_err-serve_line-in-Line-clause-cut : goal.returns-in_err-serve_line-in-Line-clause-cut
 returns-in_err-serve_line-in-Line-clause-cut g c =
     let cut = c.in_err-serve_line-in-Line.ensures in
-    line_cut (setting_of c.args.solo.now) (setting_of c.lines.solo) c.lines.invariant.setting _ (open_session_of c.lines.solo) (open_session_of c.serve_line-in-Line.new.solo) c.lines.n _ _ c.line-in-Line.ensures
+    line_cut _ (world_of c.lines.server) (world_of c.serve_line-in-Line.new.server) c.lines.n _ _ c.line-in-Line.ensures
     _ _ _ _ _ c.lines.invariant.served _ _ c.in_ok-next_line.ensures.within c.from_residual-in_err-serve_line-in-Line.result c.in_err-serve_line-in-Line.field-0.0
     c.from_residual-in_err-serve_line-in-Line.ensures cut.kind (rw c.in-Line.is at c.in_ok-next_line.ensures.taken) cut.cut
 
 pub lines-preserved : goal.lines-preserved
 lines-preserved g c = record {
-  served = line_done (setting_of c.args.solo.now) (setting_of c.lines.solo) c.lines.invariant.setting _ (open_session_of c.lines.solo) (open_session_of c.serve_line-in-Line.new.solo) c.lines.n _ _ c.line-in-Line.ensures
+  served = line_done _ (world_of c.lines.server) (world_of c.serve_line-in-Line.new.server) c.lines.n _ _ c.line-in-Line.ensures
       _ _ _ _ _ c.lines.invariant.served _ (rw c.in-Line.is at c.in_ok-next_line.ensures.taken) c.in_ok-serve_line-in-Line.ensures.done;
   marks_right = c.serve_line-in-Line.ensures.marks_right;
   marks_exact = c.serve_line-in-Line.ensures.marks_exact;

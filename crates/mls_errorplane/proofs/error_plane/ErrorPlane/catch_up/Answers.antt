@@ -1,11 +1,12 @@
-use Rattle.std.proofs.Common.{ℕ, List, All, sym, ap, subst, ◌∙◌}
+use Rattle.std.proofs.Common.{ℕ, List, All, refl, sym, ap, subst, ◌∙◌, arith}
 use Rattle.mls_geom.specs.Layouts.{Layout}
 use Rattle.mls_stitch.specs.Tilings.{ChangesOnly, HasPlane}
-use Rattle.mls_stitch.proofs.PoolChanges.{ChangesOnly-trans}
+use Rattle.mls_stitch.proofs.PoolChanges.{ChangesOnly-refl, ChangesOnly-trans}
 use Rattle.mls_paint.specs.Planes.{layout_in}
 use Rattle.mls_errorplane.specs.ErrorPlanes.{HasStepped, checking_of}
-use Rattle.mls_errorplane.specs.declared.error_plane.Stepped.TheVariants.{Done, Full, Idle}
-use Rattle.mls_errorplane.proofs.StepsDone.{AfterSteps-more, HasCaughtUp-Full, HasCaughtUp-Idle, HasPlane-apart, area_of-Done, layout_in-apart}
+use Rattle.mls_errorplane.specs.declared.error_plane.Stepped.TheVariants.{Done, Full, Idle, Memory}
+use Rattle.mls_errorplane.proofs.AreaSizes.{area_of-le}
+use Rattle.mls_errorplane.proofs.StepsDone.{HasCaughtUp-Full, HasCaughtUp-Idle, HasCaughtUp-Memory, HasPlane-apart, Steps-more, area_of-Done, few-Done, layout_in-apart, no_areas}
 use Rattle.mls_errorplane.proofs.error_plane.ErrorPlane.catch_up.Goals as goal
 
 pub step-requires-clause-planes : goal.step-requires-clause-planes
@@ -29,7 +30,8 @@ steps-preserved c =
     let here = ap (layout_in c.steps.pool) so_far.owners ∙ layout_in-apart c.args.pool.now c.steps.pool c.args.self.now.owner c.args.planes.now so_far.only c.requires.apart in
     let step = subst (λ (layout : Layout). HasStepped rules layout c.args.limit mid Done new) here c.in-Done.ensures.stepped in
     record {
-      after = AfterSteps-more rules (layout_in c.args.pool.now c.args.planes.now) c.args.limit old mid new so_far.after step;
+      after = Steps-more rules (layout_in c.args.pool.now c.args.planes.now) c.args.limit c.steps.done old mid new so_far.after step;
+      few = λ kept. few-Done rules (layout_in c.steps.pool c.steps.planes) c.args.limit c.steps.done mid new c.areas.ensures.kept so_far.few c.in-Done.ensures.stepped;
       marks = c.step.ensures.marks;
       only = ChangesOnly-trans so_far.only (subst (ChangesOnly c.steps.pool c.step.new.pool) so_far.owner c.step.ensures.only);
       owner = c.step.ensures.owner ∙ so_far.owner;
@@ -45,7 +47,7 @@ returns-in-Idle-clause-caught_up c =
     let mid = checking_of c.steps.pool c.steps.self in
     let new = checking_of c.step.new.pool c.step.new.self in
     let here = ap (layout_in c.steps.pool) so_far.owners ∙ layout_in-apart c.args.pool.now c.steps.pool c.args.self.now.owner c.args.planes.now so_far.only c.requires.apart in
-    HasCaughtUp-Idle rules (layout_in c.args.pool.now c.args.planes.now) c.args.limit (checking_of c.args.pool.now c.args.self.now) mid new so_far.after
+    HasCaughtUp-Idle rules (layout_in c.args.pool.now c.args.planes.now) c.args.limit c.steps.done (checking_of c.args.pool.now c.args.self.now) mid new so_far.after
     (subst (λ (layout : Layout). HasStepped rules layout c.args.limit mid Idle new) here c.in-Idle.ensures.stepped)
 
 pub returns-in-Full-clause-caught_up : goal.returns-in-Full-clause-caught_up
@@ -55,5 +57,31 @@ returns-in-Full-clause-caught_up c =
     let mid = checking_of c.steps.pool c.steps.self in
     let new = checking_of c.step.new.pool c.step.new.self in
     let here = ap (layout_in c.steps.pool) so_far.owners ∙ layout_in-apart c.args.pool.now c.steps.pool c.args.self.now.owner c.args.planes.now so_far.only c.requires.apart in
-    HasCaughtUp-Full rules (layout_in c.args.pool.now c.args.planes.now) c.args.limit (checking_of c.args.pool.now c.args.self.now) mid new so_far.after
+    HasCaughtUp-Full rules (layout_in c.args.pool.now c.args.planes.now) c.args.limit c.steps.done (checking_of c.args.pool.now c.args.self.now) mid new so_far.after
     (subst (λ (layout : Layout). HasStepped rules layout c.args.limit mid Full new) here c.in-Full.ensures.stepped)
+
+pub returns-in-Memory-clause-caught_up : goal.returns-in-Memory-clause-caught_up
+returns-in-Memory-clause-caught_up c =
+    let so_far = c.steps.invariant in
+    let rules = c.args.rules.now in
+    let mid = checking_of c.steps.pool c.steps.self in
+    let new = checking_of c.step.new.pool c.step.new.self in
+    let here = ap (layout_in c.steps.pool) so_far.owners ∙ layout_in-apart c.args.pool.now c.steps.pool c.args.self.now.owner c.args.planes.now so_far.only c.requires.apart in
+    HasCaughtUp-Memory rules (layout_in c.args.pool.now c.args.planes.now) c.args.limit c.steps.done (checking_of c.args.pool.now c.args.self.now) mid new so_far.after
+    (subst (λ (layout : Layout). HasStepped rules layout c.args.limit mid Memory new) here c.in-Memory.ensures.stepped)
+
+pub steps-init : goal.steps-init
+steps-init c = record {
+  after = refl;
+  few = λ kept. omega (arith, area_of-le c.args.self.now.dirty kept);
+  marks = c.requires.marks;
+  only = ChangesOnly-refl c.args.pool.now c.args.self.now.owner;
+  owner = refl;
+  owners = refl;
+  pieces_room = refl;
+  rooms = record { room = refl; pieces = refl };
+}
+
+pub returns-clause-caught_up : goal.returns-clause-caught_up
+returns-clause-caught_up c =
+    ((c.steps.done, c.steps.invariant.after), no_areas c.steps.self.dirty (λ some. omega (arith, some, c.areas.ensures.value, c.steps-test.false)))

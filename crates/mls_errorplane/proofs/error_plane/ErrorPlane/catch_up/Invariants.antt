@@ -1,16 +1,17 @@
-use Rattle.std.proofs.Common.{◌≡◌, vec_capacity}
+use Rattle.std.proofs.Common.{◌≡◌, ◌+◌, ◌*◌, ◌^◌, ◌≤◌, vec_capacity}
 use Rattle.mls_stitch.specs.Tilings.{ChangesOnly}
 use Rattle.mls_paint.specs.Planes.{layout_in}
 use Rattle.mls_paint.specs.Scratches.{KeepsRoom}
-use Rattle.mls_errorplane.specs.CatchingUp.{AfterSteps}
-use Rattle.mls_errorplane.specs.DirtyLists.{area_of}
+use Rattle.mls_errorplane.specs.CatchingUp.{Steps}
+use Rattle.mls_errorplane.specs.DirtyLists.{IsDirtyList, area_of}
 use Rattle.mls_errorplane.specs.ErrorPlanes.{ShowsMarks, checking_of}
 use Rattle.mls_errorplane.proofs.error_plane.ErrorPlane.catch_up.Given as goal
 
--- all steps so far were done, in the layout as it was
+-- all steps so far were done, in the layout as it was, and their number and the squares that still await checking aren't too many to count
 abbrev pub invariant-steps : goal.invariant-steps
 invariant-steps l = record {
-  after : AfterSteps l.rules (layout_in l.fn.pool l.fn.planes) l.limit (checking_of l.fn.pool l.fn.self) (checking_of l.pool l.self);
+  after : Steps l.rules (layout_in l.fn.pool l.fn.planes) l.limit l.done (checking_of l.fn.pool l.fn.self) (checking_of l.pool l.self);
+  few : IsDirtyList l.self.dirty → l.done + area_of l.self.dirty ≤ 65 * 2 ^ 32;
   marks : ShowsMarks l.pool l.self.owner;
   only : ChangesOnly l.fn.pool l.pool l.fn.self.owner;
   owner : l.self.owner ≡ l.fn.self.owner;

@@ -1,27 +1,31 @@
-use Rattle.std.proofs.Common.{◌∙◌, List, map, subst}
+use Rattle.std.proofs.Common.{◌∙◌, ℕ, List, map, subst}
 use Rattle.std.proofs.lemmas.Result.{err_from_is_err_and}
-use Rattle.clap.specs.Words.{Text}
+use Rattle.clap.specs.Words.{Text, found_of}
 use Rattle.mls_magicd.proofs.CellWords.{named-not_bad}
-use Rattle.mls_magicd.proofs.OptionLemmas.{cells-named, file-named, quota-named, quota-of_words, refused-for_fault, refused-for_word, taken-no_fault}
-use Rattle.mls_magicd.proofs.QuotaTexts.{quota-text}
-use Rattle.mls_magicd.specs.CommandLines.{NamesFiles, file_of}
+use Rattle.mls_magicd.proofs.OptionLemmas.{cells-named, file-named, number-parsed, refused-for_fault, refused-for_word, taken-no_fault}
+use Rattle.mls_magicd.proofs.NumberTexts.{StandsAt, journal_stands, pool_stands, quota_stands}
+use Rattle.mls_magicd.specs.CommandLines.{IsFoundNumber, NamesFiles, NumberOption, file_of, journal_option, pool_option, quota_option}
 use Rattle.mls_magicd.proofs.options.Options.parse.Goals as goal
 
 pub returns-in_ok-cells-in-Ok : goal.returns-in_ok-cells-in-Ok
 returns-in_ok-cells-in-Ok g c =
+    let words = map g.S.AsStr.text c.args.words.now in
     let command = c.in_ok-command.field-0 in
     let built = c.in_ok-command.ensures.app in
     let m = c.in-Ok.matches in
     let taken = c.in-Ok.ensures in
+    let number = λ (option : NumberOption) (place value : ℕ) (stands : StandsAt option place) (found : IsFoundNumber option (found_of m) value).
+    number-parsed option place stands words command m value built taken.matches taken.parsed c.in_ok-command.ensures.plain c.in_ok-command.ensures.local found in
     let files = map file_of c.in_ok-cells-in-Ok.cells.items in
-    let named = subst (λ (words : List Text). NamesFiles words files) (cells-named _ command m built taken.matches) c.in_ok-cells-in-Ok.ensures.ok in (
-      (taken-no_fault _ command built taken.kinds, named-not_bad _ files named),
-      c.get_str.ensures ∙ file-named _ command m built taken.matches,
-      quota-of_words _ m c.quota_given.result (quota-named _ command m built taken.matches) c.quota_given.ensures.usual
-          (λ text given. c.quota_given.ensures.named text given
-          (quota-text command m taken.parsed built c.in_ok-command.ensures.plain c.in_ok-command.ensures.local text given)),
-      named,
-    )
+    let named = subst (λ (words : List Text). NamesFiles words files) (cells-named _ command m built taken.matches) c.in_ok-cells-in-Ok.ensures.ok in
+    record {
+      taken = (taken-no_fault _ command built taken.kinds, named-not_bad _ files named);
+      tech = c.get_str.ensures ∙ file-named _ command m built taken.matches;
+      quota = number quota_option 1 c.quota_given.result quota_stands c.quota_given.ensures;
+      pool = number pool_option 2 c.pool_given.result pool_stands c.pool_given.ensures;
+      journal = number journal_option 3 c.journal_given.result journal_stands c.journal_given.ensures;
+      cells = named;
+    }
 
 pub returns-in_err-cells-in-Ok : goal.returns-in_err-cells-in-Ok
 returns-in_err-cells-in-Ok g c =

@@ -1,35 +1,55 @@
-use Rattle.std.proofs.Common.{length, subst, sym}
-use Rattle.mls_geom.specs.Layouts.{Layout}
-use Rattle.mls_errorplane.specs.Checkings.{IsChecked}
+use Rattle.std.proofs.Common.{◌≡◌, ◌+◌, length, ap, ◌∙◌, subst, sym}
 use Rattle.mls_errorplane.specs.ErrorPlanes.{checking_of}
-use Rattle.mls_paint.specs.Planes.{layout_in}
-use Rattle.mls_session.specs.Drawings.{Drawing}
-use Rattle.mls_session.specs.Sessions.{HasRightMarks, IsHome, KeepsPlanes, Session, state_of}
-use Rattle.mls_session.proofs.ErrorPlanes.{KeepsPlanes-errors, layout-kept}
-use Rattle.mls_session.proofs.RightMarks.{HasFinished-IsChecked}
+use Rattle.mls_session.specs.Designs.{HasRightMarks, designed_of}
+use Rattle.mls_session.specs.Inner.{IsCounted, Journal, after_steps, finished_steps}
+use Rattle.mls_session.specs.Journals.{Finishes}
+use Rattle.mls_session.specs.OwnSteps.{Terms}
+use Rattle.mls_session.specs.Sessions.{Session, kept_of}
+use Rattle.mls_session.proofs.CountedSteps.{IsCounted-finished}
+use Rattle.mls_session.proofs.JournalledSteps.{Finishes-finished}
+use Rattle.mls_session.proofs.LegalJournals.{Finishes-legal}
+use Rattle.mls_session.proofs.PartialFacts.{UnlessFinished-second}
 use Rattle.mls_session.proofs.session.Session.finish.Goals as goal
+
+counted : (c : goal.After-count) → IsCounted c.finish-outcome.new.self.errors.dirty (c.self.inside.journal.checks + finished_steps c.finish-outcome.result)
+counted c =
+    let design = c.self.inside.design in
+    IsCounted-finished c.args.rules.now (length design.drawing.planes) (designed_of c.args.pool.now design).drawn.layout design.drawing.quota c.self.inside.journal.checks
+    (checking_of c.args.pool.now design.errors) (checking_of c.finish-outcome.new.pool c.finish-outcome.new.self.errors) c.args.finding.now c.finish-outcome.result c.self.invariant
+    c.finish-outcome.ensures.finished
+
+after : (c : goal.After-count) → c.count.new.self ≡ after_steps c.self.inside.journal (finished_steps c.finish-outcome.result)
+after c = c.count.ensures ∙ ap (after_steps c.self.inside.journal) c.finished_steps.ensures
+
+pub invariant_of-self : goal.invariant_of-self
+invariant_of-self c = subst (λ (j : Journal). IsCounted c.finish-outcome.new.self.errors.dirty j.checks) (sym (after c)) (counted c)
+
+pub returns-clause-finished : goal.returns-clause-finished
+returns-clause-finished c =
+    let pool = c.args.pool.now in
+    let new = c.finish-outcome.new.pool in
+    let inside = c.self.inside in
+    let later : Session =
+    record { design = c.finish-outcome.new.self; journal = c.count.new.self.entries; limit = c.count.new.self.limit; checks = c.count.new.self.checks } in
+    subst (λ (s : Session). (terms : Terms) → terms.config.tech.plane_count ≡ length s.design.drawing.planes → terms.config.rules ≡ c.args.rules.now → terms.config.quota ≡ s.design.drawing.quota → Finishes terms (kept_of pool s) c.args.finding.now c.finish-outcome.result (kept_of new later))
+    c.self.view_is
+    (λ terms count by limit.
+    Finishes-finished terms c.args.rules.now (length inside.design.drawing.planes) inside.design.drawing.quota (designed_of pool inside.design) (designed_of new c.finish-outcome.new.self) inside.journal c.count.new.self
+    c.args.finding.now c.finish-outcome.result count by limit c.finish-outcome.ensures.finished c.finish-outcome.ensures.drawn (after c))
+
+pub returns-clause-legal : goal.returns-clause-legal
+returns-clause-legal c =
+    let pool = c.args.pool.now in
+    let new = c.finish-outcome.new in
+    let later : Session = record { design = new.self; journal = c.count.new.self.entries; limit = c.count.new.self.limit; checks = c.count.new.self.checks } in
+    λ terms count by limit.
+    Finishes-legal terms (kept_of pool c.args.self.now) (kept_of new.pool later) c.args.finding.now c.finish-outcome.result
+    (returns-clause-finished c terms count by limit)
 
 pub returns-clause-marks_right : goal.returns-clause-marks_right
 returns-clause-marks_right c =
-    let pool = c.args.pool.now in
-    let new = c.finish.new.pool in
-    let before : Session = record { drawing = c.self.inside.drawing; errors = c.self.inside.errors } in
-    let after : Session = record { drawing = c.finish.new.self; errors = c.finish.new.errors } in
-    let home = subst (IsHome pool) (sym c.self.view_is) c.requires.home in
-    let done = c.finish.ensures in
-    let layout = layout-kept pool new before.drawing before.errors.owner home.errors done.only in
-    λ right.
-    subst (λ (d : Drawing). IsChecked c.args.rules.now (layout_in new d.planes) (checking_of new after.errors)) (sym done.same)
-    (subst (λ (l : Layout). IsChecked c.args.rules.now l (checking_of new after.errors)) (sym layout)
-    (HasFinished-IsChecked c.args.rules.now (length before.drawing.planes) (layout_in pool before.drawing.planes) before.drawing.quota (checking_of pool before.errors) (checking_of new after.errors) c.args.finding.now c.finish.result done.finished
-    (subst (λ (s : Session). HasRightMarks c.args.rules.now (state_of pool s)) (sym c.self.view_is) right)))
+    subst (λ (s : Session). HasRightMarks c.args.rules.now (designed_of c.args.pool.now s.design) → HasRightMarks c.args.rules.now (designed_of c.finish-outcome.new.pool c.finish-outcome.new.self))
+    c.self.view_is c.finish-outcome.ensures.marks_right
 
-pub returns-clause-keeps : goal.returns-clause-keeps
-returns-clause-keeps c =
-    let pool = c.args.pool.now in
-    let new = c.finish.new.pool in
-    let before : Session = record { drawing = c.self.inside.drawing; errors = c.self.inside.errors } in
-    let after : Session = record { drawing = c.finish.new.self; errors = c.finish.new.errors } in
-    let home = subst (IsHome pool) (sym c.self.view_is) c.requires.home in
-    let done = c.finish.ensures in
-    subst (λ (s : Session). KeepsPlanes pool new s after) c.self.view_is (KeepsPlanes-errors pool new before after home done.only done.marks done.same done.owner)
+pub returns-clause-unless_finished : goal.returns-clause-unless_finished
+returns-clause-unless_finished c = UnlessFinished-second c.finish-outcome.result _ _ c.finish-outcome.ensures.same

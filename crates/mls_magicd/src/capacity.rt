@@ -1,0 +1,60 @@
+//! How many tiles the pool may have.
+ghost use Rattle.std.specs.Prelude.{◌≡◌};
+ghost use Rattle.std.specs.Option.{SomeIff};
+ghost use Rattle.mls_magicd.specs.Capacities.{IsCapacity, default_capacity};
+
+use std::marker::Model;
+
+/// The most tiles that the pool may be given.
+const MOST: u32 = 8_388_608;
+
+/// The capacity of the pool if the user gives none.
+const DEFAULT: u32 = 262_144;
+
+/// How many tiles the pool of the server has, from 1 to 8388608.
+#[derive(Clone, Copy, Debug, PartialEq, Eq)]
+pub struct Capacity {
+    tiles: u32,
+}
+
+impl Model for Capacity {
+    ghost use Rattle.std.specs.Prelude.{ℕ};
+    ghost use Rattle.mls_magicd.specs.Capacities.{IsCapacity};
+
+    ghost Value = { ℕ };
+
+    ghost view = { λ capacity. capacity.tiles };
+
+    ghost invariant = { λ capacity. IsCapacity capacity.tiles };
+
+    ghost inverse = { λ tiles. record { tiles = tiles } };
+}
+
+impl Capacity {
+    /// Returns the capacity of this many tiles, or `None` if there is no such capacity.
+    pub fn new(tiles: u32) -> Option<Capacity>
+        ensures { SomeIff result (IsCapacity tiles) tiles }
+    {
+        if tiles < 1 || tiles > MOST {
+            return None;
+        }
+        Some(Capacity { tiles })
+    }
+
+    /// Returns the number of tiles.
+    pub fn tiles(self) -> u32
+        ensures value { result ≡ self }
+        ensures legal { IsCapacity self }
+    {
+        self.tiles
+    }
+}
+
+impl Default for Capacity {
+    ghost is_default = { λ capacity. capacity ≡ default_capacity };
+
+    /// Returns the capacity of 262144 tiles.
+    fn default() -> Capacity {
+        Capacity { tiles: DEFAULT }
+    }
+}

@@ -1,0 +1,144 @@
+-- A server on which no session is open, and the cells that are loaded then.
+use Rattle.std.proofs.Common.{◌≡◌, ◌↔◌, ℕ, ◌+◌, ◌-◌, not, cond, List, [], ◌∷◌, ◌++◌, length, map, get_or, Ok, Err, Result, OnErr, refl, sym, ap, subst, ◌∙◌, arith}
+use Rattle.std.specs.List.{position, position_or_len}
+use Rattle.std.specs.Result.{IsOkAnd}
+use Rattle.std.proofs.lemmas.List.{length-map, map-append}
+use Rattle.std.proofs.lemmas.Simd.{map-map}
+use Rattle.mls_edgerule.specs.declared.edge_rule.EdgeRule.{EdgeRule}
+use Rattle.mls_geom.specs.Layouts.{Layout}
+use Rattle.mls_library.specs.Faults.{UnlessMemory}
+use Rattle.mls_library.specs.Libraries.{HavePlanes, Library, LoadsUnlessMemory, NamedCell, cell_layout, cell_named, loading_of, names_of}
+use Rattle.mls_library.specs.Libraries.{IsHome as AreCellsHome}
+use Rattle.mls_library.specs.declared.fault.CellFault.{CellFault}
+use Rattle.mls_paint.specs.Owners.{AddsOwners}
+use Rattle.mls_paint.proofs.OwnerFrames.{has_room-HasStrips}
+use Rattle.mls_tech.specs.Readings.{Tech}
+use Rattle.mls_text.specs.Words.{same_word}
+use Rattle.mls_tilepool.specs.Pools.{Pool, unreserved}
+use Rattle.mls_server.specs.Events.{LoadsCell, with_cell}
+use Rattle.mls_server.specs.Servers.{AreOpen, OpenSession, Server, seat_for, world_of}
+use Rattle.mls_server.specs.Settings.{NamedLayout, cell_names, named_layout, named_layouts}
+use Rattle.mls_server.specs.Worlds.{Seat}
+use Rattle.mls_server.proofs.OtherSessions.{AreCellsKept, kept-AddsOwners, named_layouts-kept}
+
+-- ---- no open session
+module _ (pool : Pool) where
+  no_session : (entries : List (List ℕ × OpenSession)) → map (seat_for pool) entries ≡ [] → entries ≡ []
+  no_session [] none = refl
+  no_session (entry ∷ entries) none = absurd cc
+
+  no_seat : (entries : List (List ℕ × OpenSession)) → length entries ≡ 0 → map (seat_for pool) entries ≡ []
+  no_seat [] none = refl
+  no_seat (entry ∷ entries) none = absurd (omega (arith, none))
+
+  pub idle-length : (entries : List (List ℕ × OpenSession)) → (length entries ≡ 0) ↔ (map (seat_for pool) entries ≡ [])
+  idle-length entries = (no_seat entries, λ none. ap length (no_session entries none))
+
+-- then only the cells need be at home
+pub AreOpen-none :
+    (tech : Tech) (rules : List EdgeRule) (quota limit : ℕ) (pool : Pool) (cells : Library) (given : ℕ) → AreCellsHome pool cells → HavePlanes tech.plane_count cells
+    → AreOpen tech rules quota limit pool cells given []
+AreOpen-none tech rules quota limit pool cells given home planes = record {
+  cells_home = record {
+    home = home;
+    apart = λ k d within i o below found. let inside = found.1 in omega (arith, inside);
+    planes = planes;
+  };
+  made = λ k d within. absurd (omega (arith, within));
+  apart = λ a b d less within. absurd (omega (arith, within));
+  rising = λ a b d less within. absurd (omega (arith, within));
+  within = λ k d within. absurd (omega (arith, within));
+  few = omega arith;
+}
+
+-- a library without cells is at home in any pool
+pub home-none : (pool : Pool) → AreCellsHome pool []
+home-none pool = record {
+  each = λ k d within. absurd (omega (arith, within));
+  apart = λ a b d less within. absurd (omega (arith, within));
+}
+
+-- ---- the cell of a name
+module _ (pool : Pool) (name : List ℕ) where
+  place_in-layouts : (cells : Library) → position_or_len (λ cell. same_word name cell.name) (named_layouts pool cells) ≡ position_or_len (λ cell. same_word name cell.name) cells
+  place_in-layouts [] = refl
+  place_in-layouts (cell ∷ cells) = ap (λ n. cond (not (same_word name cell.name)) (1 + n) 0) (place_in-layouts cells)
+
+  pub position-layouts : (cells : Library) → position (λ cell. same_word name cell.name) (named_layouts pool cells) ≡ cell_named cells name
+  position-layouts cells = rw (place_in-layouts cells, length-map cells (named_layout pool)) refl
+
+-- ---- loading a cell
+-- what holds of a value, where the result is that value
+is_ok_and : {T E : Type 0} (r : Result T E) (x : T) (P : T → Type 0) → r ≡ Ok x → P x → IsOkAnd r P
+is_ok_and r x P e p = subst (λ found. IsOkAnd found P) (sym e) p
+
+module _ (server : Server) (are : AreOpen server.tech server.rules server.quota server.limit server.pool server.library server.given server.sessions)
+    (idle : (world_of server).seats ≡ []) where
+  none : server.sessions ≡ []
+  none = no_session server.pool server.sessions idle
+
+  -- the server with this pool and this library
+  abbrev pub loaded : Pool → Library → Server
+  loaded pool library = record server { pool = pool; library = library }
+
+  pub AreOpen-loaded :
+      (pool : Pool) (library : Library) → AreCellsHome pool library → (HavePlanes server.tech.plane_count server.library → HavePlanes server.tech.plane_count library)
+      → AreOpen server.tech server.rules server.quota server.limit pool library server.given server.sessions
+  AreOpen-loaded pool library home planes =
+      subst (AreOpen server.tech server.rules server.quota server.limit pool library server.given) (sym none)
+      (AreOpen-none server.tech server.rules server.quota server.limit pool library server.given home (planes are.cells_home.planes))
+
+  names-layouts : cell_names (world_of server).setting ≡ names_of server.library
+  names-layouts = map-map (λ cell. cell.name) (named_layout server.pool) server.library
+
+  loading-world : (name bytes : List ℕ)
+      → loading_of server.tech (cell_names (world_of server).setting) (unreserved server.pool) name bytes ≡ loading_of server.tech (names_of server.library) (unreserved server.pool) name bytes
+  loading-world name bytes = ap (λ names. loading_of server.tech names (unreserved server.pool) name bytes) names-layouts
+
+  -- one cell more
+  module _ (pool : Pool) (library : Library) (tiles : ℕ) (cell : NamedCell) (added : AddsOwners server.pool pool cell.planes tiles) where
+    cells_kept : AreCellsKept server.pool pool server.library
+    cells_kept k d within =
+        kept-AddsOwners server.pool pool cell.planes tiles added (get_or server.library k d).planes
+        (λ i o below. has_room-HasStrips server.pool (get_or (get_or server.library k d).planes i o) ((are.cells_home.home.each k d within).frozen i o below).strips)
+
+    cells-loaded :
+        (name : List ℕ) (layout : Layout) → cell.name ≡ name → library ≡ server.library ++ cell ∷ [] → cell_layout pool cell ≡ layout
+        → named_layouts pool library ≡ named_layouts server.pool server.library ++ record { name = name; layout = layout } ∷ []
+    cells-loaded name layout named more shows =
+        ap (named_layouts pool) more ∙ map-append (named_layout pool) server.library (cell ∷ [])
+        ∙ ap (λ (front : List NamedLayout). front ++ named_layout pool cell ∷ []) (named_layouts-kept server.pool pool server.library cells_kept)
+        ∙ ap (λ (called : List ℕ). named_layouts server.pool server.library ++ record { name = called; layout = cell_layout pool cell } ∷ []) named
+        ∙ ap (λ (shown : Layout). named_layouts server.pool server.library ++ record { name = name; layout = shown } ∷ []) shows
+
+    with_cell-loaded :
+        (name : List ℕ) (layout : Layout) → cell.name ≡ name → library ≡ server.library ++ cell ∷ [] → cell_layout pool cell ≡ layout
+        → world_of (loaded pool library) ≡ with_cell (world_of server) (record { name = name; layout = layout }) tiles
+    with_cell-loaded name layout named more shows =
+        ap (λ (cells : List NamedLayout). record {
+          setting = record { tech = server.tech; rules = server.rules; quota = server.quota; journal = server.limit; cells = cells };
+          given = server.given;
+          seats = map (seat_for pool) server.sessions;
+          room = unreserved pool;
+        }) (cells-loaded name layout named more shows)
+        ∙ ap (λ (seats : List Seat). record (with_cell (world_of server) (record { name = name; layout = layout }) tiles) { seats = seats; room = unreserved pool })
+        (ap (map (seat_for pool)) none ∙ sym (ap (map (seat_for server.pool)) none))
+        ∙ ap (λ (room : ℕ). record (with_cell (world_of server) (record { name = name; layout = layout }) tiles) { room = room }) left
+      where
+        left : unreserved pool ≡ unreserved server.pool - tiles
+        left = let taken = added.taken in omega (arith, taken)
+
+  pub LoadsCell-loaded :
+      (pool : Pool) (library : Library) (name bytes : List ℕ) (result : Result ℕ CellFault)
+      → LoadsUnlessMemory server.tech server.pool pool server.library library name bytes result → OnErr result (library ≡ server.library) → OnErr result (pool ≡ server.pool)
+      → LoadsCell (world_of server) name bytes result (world_of (loaded pool library))
+  LoadsCell-loaded pool library name bytes (Ok id) loads same_library same_pool =
+      let added = loads.2 in
+      is_ok_and _ loads.0 _ (loading-world name bytes ∙ loads.1) (
+        added.number ∙ sym (length-map server.library (named_layout server.pool)),
+        with_cell-loaded pool library _ added.cell added.reserves name _ added.named added.added added.shows,
+      )
+  LoadsCell-loaded pool library name bytes (Err fault) loads same_library same_pool = (
+    subst (λ loading. UnlessMemory fault.kind fault.line (loading ≡ Err fault)) (sym (loading-world name bytes)) loads,
+    ap (λ (cells : Library). world_of (loaded pool cells)) same_library ∙ ap (λ (tiles : Pool). world_of (loaded tiles server.library)) same_pool,
+  )

@@ -1,0 +1,23 @@
+//! What a server answers.
+use crate::{GrabFault, NotOpen, OpenFault, SavedText, SessionId};
+use mls_errorplane::{Outcome, Stepped};
+use mls_session::{Job, Reply};
+
+/// The answer to an event.
+#[derive(Drop)]
+pub enum Answer {
+    /// The id of the opened session.
+    Opened(Result<SessionId, OpenFault>),
+    /// Whether a session was closed.
+    Closed(Result<(), NotOpen>),
+    /// The reply to a command.
+    Commanded(Result<Reply, NotOpen>),
+    /// The reply to saving, and the text of the layout, which is empty unless it was saved.
+    Saved(Result<Reply, NotOpen>, SavedText),
+    /// What a check of the first piece needs, if an area awaits checking.
+    Grabbed(Result<Option<Job>, GrabFault>),
+    /// How finishing ended.
+    Finished(Result<Outcome, NotOpen>),
+    /// How the check step ended.
+    Stepped(Result<Stepped, NotOpen>),
+}

@@ -1,0 +1,23 @@
+//! What a server is asked for.
+use crate::{Name, SessionId};
+use mls_checker::Finding;
+use mls_session::Command;
+
+/// An event on a server.
+#[derive(Drop)]
+pub enum Event {
+    /// Opens a session of this name.
+    Open(Name),
+    /// Closes a session.
+    Close(SessionId),
+    /// Carries out a command in a session.
+    Command(SessionId, Command),
+    /// Saves the layout of a session.
+    Save(SessionId),
+    /// Asks for what a check of a session's first piece needs.
+    Grab(SessionId),
+    /// Marks what a check found in a session, whoever made it.
+    Finish(SessionId, Finding),
+    /// Does a check step in a session.
+    Step(SessionId),
+}

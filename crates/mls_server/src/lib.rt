@@ -1,0 +1,18 @@
+//! A server of many sessions over one pool of tiles, none of which notices another.
+#![tactic(auto)]
+
+mod answer;
+mod event;
+mod fault;
+mod name;
+mod saved_text;
+mod server;
+mod session_id;
+
+pub use answer::Answer;
+pub use event::Event;
+pub use fault::{GrabFault, NotOpen, OpenFault};
+pub use name::Name;
+pub use saved_text::SavedText;
+pub use server::Server;
+pub use session_id::SessionId;

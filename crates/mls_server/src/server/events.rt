@@ -1,0 +1,49 @@
+//! Events one by one, and in a list.
+ghost use Rattle.std.specs.Prelude.{◌≡◌, ℕ, IfOk, OnErr};
+ghost use Rattle.mls_server.specs.Events.{Happens, Runs};
+ghost use Rattle.mls_server.specs.OwnLists.{IsToldAlone};
+ghost use Rattle.mls_server.specs.Servers.{world_of};
+ghost use Rattle.mls_server.specs.Worlds.{MarksAreExact};
+
+use super::Server;
+use crate::{Answer, Event, SavedText};
+use std::alloc::{AllocError, Global};
+
+impl Server {
+    /// Does what an event asks for, and returns the answer.
+    pub fn act(&mut self, alloc: Global, event: &Event) -> Answer
+        ensures happens { Happens (world_of self.old) event.now result (world_of self.new) }
+    {
+        match event {
+            Event::Open(name) => Answer::Opened(self.open(alloc, *name)),
+            Event::Close(id) => Answer::Closed(self.close(*id)),
+            Event::Command(id, command) => Answer::Commanded(self.command(alloc, *id, *command)),
+            Event::Save(id) => {
+                let mut text = Vec::new(alloc);
+                let result = self.save(*id, &mut text);
+                Answer::Saved(result, SavedText::new(text))
+            }
+            Event::Grab(id) => Answer::Grabbed(self.grab(alloc, *id)),
+            Event::Finish(id, finding) => Answer::Finished(self.finish_ref(*id, finding)),
+            Event::Step(id) => Answer::Stepped(self.step(alloc, *id)),
+        }
+    }
+
+    /// Does what events ask for, one after another, and returns their answers.
+    ///
+    /// Out of memory for the list of answers, nothing is done.
+    pub fn run(&mut self, alloc: Global, events: &[Event]) -> Result<Vec<Answer>, AllocError>
+        ensures runs { IfOk result (λ answers. Runs (world_of self.old) events.now answers.items (world_of self.new)) }
+        ensures alone { IfOk result (λ answers. (id : ℕ) → IsToldAlone (world_of self.old) id events.now answers.items (world_of self.new)) }
+        ensures marks_exact { MarksAreExact (world_of self.new) }
+        ensures refused { OnErr result (self.new ≡ self.old) }
+    {
+        self.is_sound();
+        let mut answers = Vec::with_capacity(alloc, events.len())?;
+        for event in events {
+            answers.push_reserved(self.act(alloc, event));
+        }
+        self.is_sound();
+        Ok(answers)
+    }
+}

@@ -1,0 +1,170 @@
+//! What an open session is asked.
+ghost use Rattle.std.specs.Prelude.{◌≡◌, ◌++◌, ◌==◌, ℕ, List, map};
+ghost use Rattle.std.specs.List.{position};
+ghost use Rattle.std.specs.Option.{option_map};
+ghost use Rattle.mls_paint.specs.Owners.{ChangesAmong};
+ghost use Rattle.mls_server.specs.Events.{DoesCommand, DoesFinish, DoesGrab, DoesStep, SavesText};
+ghost use Rattle.mls_server.specs.Servers.{owners_under, place_in, world_of};
+ghost use Rattle.mls_server.specs.Worlds.{kept_in};
+
+use super::Server;
+use crate::{GrabFault, NotOpen, SessionId};
+use mls_checker::Finding;
+use mls_errorplane::{Outcome, Stepped};
+use mls_session::{Command, Entry, Job, Reply};
+use std::alloc::Global;
+
+impl Server {
+    /// Carries out a command in a session.
+    pub fn command(
+        &mut self,
+        alloc: Global,
+        id: SessionId,
+        command: Command,
+    ) -> Result<Reply, NotOpen>
+        ensures does { DoesCommand (world_of self.old) id command result (world_of self.new) }
+        ensures frame { ChangesAmong self.old.pool self.new.pool (owners_under self.old id) }
+    {
+        let place = self.place_of(id);
+        let Server {
+            tech,
+            rules,
+            pool,
+            library,
+            scratch,
+            pieces,
+            sessions,
+            ..
+        } = self;
+        let Some(asked) = sessions.get_index_mut(place) else {
+            return Err(NotOpen);
+        };
+        let session = &mut asked.session;
+        Ok(session.command(alloc, pool, tech, rules, library, command, pieces, scratch))
+    }
+
+    /// Saves the layout of a session: appends its text, as a cell file, and returns the number of its lines. Nothing is
+    /// appended where it is refused.
+    pub fn save(&mut self, id: SessionId, out: &mut Vec<u8>) -> Result<Reply, NotOpen>
+        ensures saves { (text : List ℕ) × SavesText (world_of self.old) id result text (world_of self.new) × (out.new.items ≡ out.old.items ++ text) }
+        ensures frame { self.new.pool ≡ self.old.pool }
+    {
+        let place = self.place_of(id);
+        let Server {
+            tech,
+            pool,
+            scratch,
+            sessions,
+            ..
+        } = self;
+        let Some(asked) = sessions.get_index_mut(place) else {
+            return Err(NotOpen);
+        };
+        Ok(asked.session.save(pool, tech, out, scratch))
+    }
+
+    /// Returns what a check of a session's first piece needs, if an area awaits checking. Nothing changes.
+    pub fn grab(&mut self, alloc: Global, id: SessionId) -> Result<Option<Job>, GrabFault>
+        ensures grabs { DoesGrab (world_of self.old) id result (world_of self.new) }
+        ensures frame { self.new.pool ≡ self.old.pool }
+    {
+        let place = self.place_of(id);
+        let Server {
+            rules,
+            pool,
+            scratch,
+            sessions,
+            ..
+        } = self;
+        let Some(asked) = sessions.get_index_mut(place) else {
+            return Err(GrabFault::NotOpen);
+        };
+        match asked.session.grab(alloc, pool, rules, scratch) {
+            Ok(job) => Ok(job),
+            Err(_) => Err(GrabFault::Memory),
+        }
+    }
+
+    /// Does a check step in a session: a grab, a check and a finish at once.
+    pub fn step(&mut self, alloc: Global, id: SessionId) -> Result<Stepped, NotOpen>
+        ensures steps { DoesStep (world_of self.old) id result (world_of self.new) }
+        ensures frame { ChangesAmong self.old.pool self.new.pool (owners_under self.old id) }
+    {
+        let place = self.place_of(id);
+        let Server {
+            rules,
+            pool,
+            scratch,
+            pieces,
+            sessions,
+            ..
+        } = self;
+        let Some(asked) = sessions.get_index_mut(place) else {
+            return Err(NotOpen);
+        };
+        Ok(asked.session.step(alloc, pool, rules, pieces, scratch))
+    }
+
+    /// Marks what a check found in a session, whoever made it. No memory is taken.
+    pub fn finish(&mut self, id: SessionId, finding: Finding) -> Result<Outcome, NotOpen>
+        ensures finishes { DoesFinish (world_of self.old) id finding result (world_of self.new) }
+        ensures frame { ChangesAmong self.old.pool self.new.pool (owners_under self.old id) }
+    {
+        self.finish_ref(id, &finding)
+    }
+
+    /// As [`Server::finish`], with a finding that stays the caller's.
+    pub fn finish_ref(&mut self, id: SessionId, finding: &Finding) -> Result<Outcome, NotOpen>
+        ensures finishes { DoesFinish (world_of self.old) id finding.now result (world_of self.new) }
+        ensures frame { ChangesAmong self.old.pool self.new.pool (owners_under self.old id) }
+    {
+        let place = self.place_of(id);
+        let Server {
+            rules,
+            pool,
+            scratch,
+            pieces,
+            sessions,
+            ..
+        } = self;
+        let Some(asked) = sessions.get_index_mut(place) else {
+            return Err(NotOpen);
+        };
+        Ok(asked.session.finish(pool, rules, finding, pieces, scratch))
+    }
+
+    /// Returns the journal of a session, if it is open.
+    pub fn journal(&self, id: SessionId) -> Option<&[Entry]>
+        ensures value { option_map (λ entries. entries.now) result ≡ option_map (λ kept. kept.journal) (kept_in (world_of self.now) id) }
+    {
+        let (_, asked) = self.sessions.get_index(self.place_of(id))?;
+        Some(asked.session.journal())
+    }
+
+    /// Returns how many entries the journal of a session has, if it is open.
+    pub fn journal_len(&self, id: SessionId) -> Option<usize>
+        ensures value { result ≡ option_map (λ kept. kept.own.entries) (kept_in (world_of self.now) id) }
+    {
+        match self.journal(id) {
+            Some(journal) => Some(journal.len()),
+            None => None,
+        }
+    }
+
+    /// Returns the place of the session among the open ones, or their number if it is not open.
+    pub(super) fn place_of(&self, id: SessionId) -> usize
+        ensures { result ≡ place_in self.now.sessions id }
+    {
+        match self.index_of(id) {
+            Some(place) => place,
+            None => self.sessions.len(),
+        }
+    }
+
+    /// Returns the place of the session among the open ones, if it is open.
+    fn index_of(&self, id: SessionId) -> Option<usize>
+        ensures { result ≡ position (λ asked. asked.id == id) (map (λ entry. entry.1) self.now.sessions) }
+    {
+        self.sessions.values().position(|asked| asked.id == id)
+    }
+}

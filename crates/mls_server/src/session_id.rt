@@ -1,0 +1,36 @@
+//! Ids of sessions.
+ghost use Rattle.std.specs.Prelude.{◌≡◌};
+
+use std::marker::Model;
+
+/// The id of a session. The n-th session that a server opens has the id n, and no id is given twice.
+#[derive(Clone, Copy, Debug, PartialEq, Eq)]
+pub struct SessionId {
+    number: u64,
+}
+
+impl Model for SessionId {
+    ghost use Rattle.std.specs.Prelude.{ℕ};
+
+    ghost Value = { ℕ };
+
+    ghost view = { λ id. id.number };
+
+    ghost inverse = { λ number. record { number = number } };
+}
+
+impl SessionId {
+    /// Returns the id of this number, whether it was given or not.
+    pub fn of(number: u64) -> SessionId
+        ensures { result ≡ number }
+    {
+        SessionId { number }
+    }
+
+    /// Returns the id's number.
+    pub fn number(self) -> u64
+        ensures { result ≡ self }
+    {
+        self.number
+    }
+}

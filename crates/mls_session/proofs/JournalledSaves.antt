@@ -1,0 +1,68 @@
+-- What a session keeps after the text of its layout was saved.
+use Rattle.std.proofs.Common.{◌≡◌, ◌≢◌, inl, inr, ◌+◌, ◌++◌, [], ℕ, List, length, refl, sym, ap, ◌∙◌, subst, arith}
+use Rattle.std.proofs.lemmas.List.{append-nil}
+use Rattle.mls_library.specs.SavedCells.{saved_text}
+use Rattle.mls_tech.specs.Readings.{Tech}
+use Rattle.mls_session.specs.Inner.{Journal, after_command}
+use Rattle.mls_session.specs.Journals.{Kept, Saves, is_memory}
+use Rattle.mls_session.specs.Own.{Designed, save_step}
+use Rattle.mls_session.specs.OwnSteps.{Terms, design_step}
+use Rattle.mls_session.specs.Saving.{SavesText}
+use Rattle.mls_session.specs.declared.command.Command.TheVariants.{Save}
+use Rattle.mls_session.specs.declared.executed.Executed.{Executed}
+use Rattle.mls_session.specs.declared.refusal.Refusal.{Refusal}
+use Rattle.mls_session.specs.declared.refusal.Refusal.TheVariants.{JournalFull}
+use Rattle.mls_session.specs.declared.reply.Reply.{Reply}
+use Rattle.mls_session.specs.declared.reply.Reply.TheVariants.{Done, Kinds, Saved, Count as Counted, Why as WhyRules, Refused, Stopped}
+use Rattle.mls_session.proofs.JournalledCommands.{Does-executed, Does-full, counted, kept_with}
+
+-- the text that was appended, and what is kept
+abbrev pub SavesMore : Terms → Kept → Reply → List ℕ → List ℕ → Kept → Type 0
+SavesMore terms old reply out longer new = (text : List ℕ) × Saves terms old reply text new × (longer ≡ out ++ text)
+
+-- a full journal refuses, and nothing is appended
+pub Saves-full : (terms : Terms) (kept : Kept) (out : List ℕ) → kept.own.entries ≡ terms.journal → SavesMore terms kept (Refused JournalFull) out out kept
+Saves-full terms kept out full = ([], inl (Does-full terms kept Save full, refl), sym (append-nil out))
+
+module _ (terms : Terms) (own : Designed) (journal : Journal) (steps : ℕ) (out longer : List ℕ) (room : length journal.entries ≢ terms.journal) (none : steps ≡ 0) where
+  saved :
+      (lines : ℕ) → SavesText terms.config.tech own.drawn.layout (Saved lines) out longer
+      → SavesMore terms (kept_with own journal) (Saved lines) out longer (kept_with own (after_command journal Save (record { reply = Saved lines; steps = steps })))
+  unfolding design_step
+  saved lines (count, appended) =
+      let taken : save_step terms.config own ≡ (own, Saved lines) = ap (λ (n : ℕ). (own, Saved n)) (sym count) in (
+        saved_text terms.config.tech own.drawn.layout,
+        inl (Does-executed terms own own journal Save (record { reply = Saved lines; steps = steps }) room taken, refl),
+        appended,
+      )
+
+  refused :
+      (refusal : Refusal) → SavesText terms.config.tech own.drawn.layout (Refused refusal) out longer
+      → SavesMore terms (kept_with own journal) (Refused refusal) out longer (kept_with own (after_command journal Save (record { reply = Refused refusal; steps = steps })))
+  refused refusal (memory, same) =
+      let with_checks : ℕ → Kept = λ n. kept_with own (record journal { checks = n }) in
+      let no_more : journal.checks + steps ≡ journal.checks = omega (arith, none) in
+      let executed : Executed = record { reply = Refused refusal; steps = steps } in
+      let kept = counted terms own own journal Save executed room (ap (λ (r : Refusal). is_memory r) memory) ∙ ap with_checks no_more in
+      ([], inr (room, ap Refused memory, refl, kept), same ∙ sym (append-nil out))
+
+  saves :
+      (reply : Reply) → SavesText terms.config.tech own.drawn.layout reply out longer
+      → SavesMore terms (kept_with own journal) reply out longer (kept_with own (after_command journal Save (record { reply = reply; steps = steps })))
+  saves (Saved lines) text = saved lines text
+  saves (Refused refusal) text = refused refusal text
+  saves Done text = absurd text
+  saves (Kinds kinds) text = absurd text
+  saves (Counted errors pending) text = absurd text
+  saves (WhyRules rules) text = absurd text
+  saves (Stopped refusal pending) text = absurd text
+
+-- where the journal has room
+pub Saves-saved :
+    (terms : Terms) (tech : Tech) (own : Designed) (journal after : Journal) (executed : Executed) (out longer : List ℕ) → terms.config.tech ≡ tech
+    → length journal.entries ≢ terms.journal → SavesText tech own.drawn.layout executed.reply out longer → executed.steps ≡ 0
+    → after ≡ after_command journal Save executed → SavesMore terms (kept_with own journal) executed.reply out longer (kept_with own after)
+Saves-saved terms tech own journal after executed out longer by room text none is =
+    let here = subst (λ (t : Tech). SavesText t own.drawn.layout executed.reply out longer) (sym by) text in
+    subst (λ (j : Journal). SavesMore terms (kept_with own journal) executed.reply out longer (kept_with own j)) (sym is)
+    (saves terms own journal executed.steps out longer room none executed.reply here)
