@@ -77,7 +77,7 @@ run_timed() {
     local i=$1 script=$2 start took
     shift 2
     start=$(date +%s%N)
-    "$program" --quota 16384 "$@" < "$script" > "$work/out"
+    "$program" --quota 16384 --journal 65536 "$@" < "$script" > "$work/out"
     took=$(($(date +%s%N) - start))
     if grep -q refused "$work/out"; then echo "a line was refused" >&2; exit 1; fi
     if [ -z "${least[i]:-}" ] || [ "$took" -lt "${least[i]}" ]; then least[i]=$took; fi
@@ -111,8 +111,8 @@ cp "$work/paint" "$work/more"
 row 'paint one square' "$squares squares" "$squares"
 for k in 7 22 44; do
     erase "$k" 0 > "$work/less"
-    erase "$k" 30000 > "$work/more"
-    row 'erase and paint one square' "$((2 * k * k + 2 * k + 1)) tiles" 30000
+    erase "$k" 15000 > "$work/more"
+    row 'erase and paint one square' "$((2 * k * k + 2 * k + 1)) tiles" 15000
 done
 save 70 0 > "$work/less"
 save 70 60 > "$work/more"

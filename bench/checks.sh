@@ -83,7 +83,7 @@ empty() {
 run_timed() {
     local start took
     start=$(date +%s%N)
-    "$program" --quota 16384 < "$2" > "$work/out"
+    "$program" --quota 16384 --journal 65536 < "$2" > "$work/out"
     took=$(($(date +%s%N) - start))
     if grep -qE 'refused|fault' "$work/out"; then echo "a line was refused" >&2; exit 1; fi
     if [ -z "${least[$1]:-}" ] || [ "$took" -lt "${least[$1]}" ]; then least[$1]=$took; fi
@@ -124,9 +124,9 @@ for size in 540:1014 2200:3937 8900:14373; do
     cp "$work/more" "$work/less"
     scatter "$n" 1160 catchup 5000 > "$work/more"
     row 'catch up' "${size#*:} tiles of poly" 5000
-    scatter "$n" 1160 look 20000 > "$work/less"
-    scatter "$n" 1160 why 20000 > "$work/more"
-    row why "${size#*:} tiles of poly" 20000
+    scatter "$n" 1160 look 15000 > "$work/less"
+    scatter "$n" 1160 why 15000 > "$work/more"
+    row why "${size#*:} tiles of poly" 15000
 done
 world 'a drc why' 0 > "$work/less"
 world 'a drc why' 10 > "$work/more"

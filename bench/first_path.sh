@@ -72,7 +72,7 @@ seconds() {
     local best= start end took
     for _ in 1 2 3; do
         start=$(date +%s%N)
-        "$here/magicd" --quota 16384 < "$1" > "$scripts/out"
+        "$here/magicd" --quota 16384 --journal 65536 < "$1" > "$scripts/out"
         end=$(date +%s%N)
         took=$((end - start))
         if [ -z "$best" ] || [ "$took" -lt "$best" ]; then best=$took; fi
