@@ -17,6 +17,7 @@ pub mod DumpedRects
 pub mod EditedSquares
 pub mod ErasedTiles
 pub mod ErrorPlanes
+pub mod ExactEntries
 pub mod FirstPlanes
 pub mod FoundTiles
 pub mod HomePlanes
