@@ -3,13 +3,9 @@ use Rattle.std.proofs.Common.{◌≡◌, ◌≢◌, ◌==◌, ℕ, zero, suc, Bo
 use Rattle.std.specs.Option.{option_and_then, option_map}
 use Rattle.std.proofs.lemmas.Bool.{cond-false, cond-true, ne_eqb, or_from, or_left, or_parts, or_right, true≢false}
 use Rattle.std.proofs.lemmas.Option.{same_Some}
-use Rattle.mls_checker.specs.Findings.{Finding}
 use Rattle.mls_errorplane.specs.CatchingUp.{Steps}
 use Rattle.mls_errorplane.specs.Checkings.{Checking}
-use Rattle.mls_errorplane.specs.DirtyLists.{first_piece_of}
 use Rattle.mls_errorplane.specs.ErrorPlanes.{HasStepped, exceeds}
-use Rattle.mls_errorplane.specs.Outcomes.{HasFinished}
-use Rattle.mls_errorplane.specs.declared.error_plane.Outcome.TheVariants as outcome
 use Rattle.mls_errorplane.specs.declared.error_plane.Stepped.TheVariants as stepped
 use Rattle.mls_geom.specs.Rects.{Rect}
 use Rattle.mls_session.specs.Own.{Config, Designed}
@@ -19,10 +15,6 @@ use Rattle.mls_session.specs.OwnSteps.{OwnState, Terms, checked, checked_times, 
 pub some_left : (areas : List Rect) → areas ≢ [] → (length areas == 0) ≡ false
 some_left [] some = absurd (some refl)
 some_left (first ∷ rest) some = ne_eqb (length (first ∷ rest)) 0 (λ none. omega (arith, none))
-
-fresh_some : (areas : List Rect) (piece : Rect) → first_piece_of areas ≡ Some piece → areas ≢ []
-fresh_some [] piece is = absurd cc
-fresh_some (first ∷ rest) piece is = λ none. absurd cc
 
 module _ (config : Config) (own : Designed) where
   -- it is refused where no area is left
@@ -64,43 +56,11 @@ module _ (config : Config) (own : Designed) where
         tests.1,
       )
 
-  -- and a refused one has no area left or doesn't fit
-  refused_left :
-      (none full : Bool) → cond {A = Option Designed} (none || full) None (Some (record own { checking = next_checking config own })) ≡ None → none ≡ false
-      → full ≡ true
-  refused_left true full is some = absurd (true≢false some)
-  refused_left false true is some = refl
-  refused_left false false is some = absurd cc
-
-  pub checked_refused : checked config own ≡ None → own.checking.dirty ≢ [] → exceeds config.quota (next_checking config own).marks ≡ true
-  unfolding checked
-  checked_refused is some = refused_left (length own.checking.dirty == 0) (exceeds config.quota (next_checking config own).marks) is (some_left own.checking.dirty some)
-
   -- ---- the error plane's steps
   pub checked-Done :
       (after : Checking) → HasStepped config.rules own.drawn.layout config.quota own.checking stepped.Done after
       → checked config own ≡ Some (record own { checking = after })
   checked-Done after (some, fits, is) = checked-done some fits ∙ ap (λ (known : Checking). Some (record own { checking = known })) (sym is)
-
-  pub checked-Full :
-      (after : Checking) → HasStepped config.rules own.drawn.layout config.quota own.checking stepped.Full after → checked config own ≡ None
-  checked-Full after (some, full, is) = checked-full full
-
-  pub checked-Idle :
-      (after : Checking) → HasStepped config.rules own.drawn.layout config.quota own.checking stepped.Idle after → checked config own ≡ None
-  checked-Idle after (none, is) = checked-none none
-
-  pub checked-Finished :
-      (planes : ℕ) (after : Checking) (finding : Finding)
-      → HasFinished config.rules planes own.drawn.layout config.quota own.checking finding outcome.Finished after
-      → checked config own ≡ Some (record own { checking = after })
-  checked-Finished planes after finding (fresh, fits, is) =
-      checked-done (fresh_some own.checking.dirty finding.piece fresh.piece) fits ∙ ap (λ (known : Checking). Some (record own { checking = known })) (sym is)
-
-  pub checked-FinishFull :
-      (planes : ℕ) (after : Checking) (finding : Finding)
-      → HasFinished config.rules planes own.drawn.layout config.quota own.checking finding outcome.Full after → checked config own ≡ None
-  checked-FinishFull planes after finding (fresh, full, is) = checked-full full
 
 -- ---- steps one after another
 module _ (config : Config) (mid new : Designed) where
@@ -147,11 +107,3 @@ module _ (terms : Terms) where
       (count : ℕ) (old : OwnState) (new : Designed) → checked_times count terms.config old.design ≡ Some new → checks terms count old ≡ Some (record old { design = new })
   checks-Some count old new is =
       checks-checked_times count old.entries old.design ∙ ap (option_map (λ design. record { design = design; entries = old.entries })) is
-
-  pub own_check-Some : (old : OwnState) (new : Designed) → checked terms.config old.design ≡ Some new → own_check terms old ≡ Some (record old { design = new })
-  unfolding own_check
-  own_check-Some old new is = ap (option_map (λ design. record old { design = design })) is
-
-  pub own_check-None : (old : OwnState) → checked terms.config old.design ≡ None → own_check terms old ≡ None
-  unfolding own_check
-  own_check-None old is = ap (option_map (λ design. record old { design = design })) is

@@ -1,8 +1,7 @@
 -- The check steps that are counted: there are never more than squares that awaited checking.
-use Rattle.std.proofs.Common.{◌≡◌, ◌≢◌, ℕ, zero, suc, ◌+◌, ◌^◌, ◌≤◌, ◌<◌, Some, List, [], ◌∷◌, sym, subst, arith}
+use Rattle.std.proofs.Common.{◌≡◌, ◌≢◌, ℕ, ◌+◌, ◌^◌, ◌≤◌, ◌<◌, Some, List, [], ◌∷◌, sym, subst, arith}
 use Rattle.mls_checker.specs.Findings.{Finding}
 use Rattle.mls_edgerule.specs.declared.edge_rule.EdgeRule.{EdgeRule}
-use Rattle.mls_errorplane.specs.CatchingUp.{Steps}
 use Rattle.mls_errorplane.specs.Checkings.{Checking}
 use Rattle.mls_errorplane.specs.DirtyLists.{IsDirtyList, area_of, first_piece_of}
 use Rattle.mls_errorplane.specs.ErrorPlanes.{HasStepped}
@@ -68,15 +67,6 @@ IsCounted-finished rules planes layout limit count old new finding outcome.Finis
     IsCounted-Done rules layout limit count old new counted (HasStepped-Finished rules planes layout limit old new finding done)
 IsCounted-finished rules planes layout limit count old new finding outcome.Stale counted (stale, same) = IsCounted-same count old new same counted
 IsCounted-finished rules planes layout limit count old new finding outcome.Full counted (fresh, full, same) = IsCounted-same count old new same counted
-
--- many more
-pub IsCounted-Steps :
-    (rules : List EdgeRule) (layout : Layout) (limit count more : ℕ) (old new : Checking) → IsCounted old.dirty count
-    → Steps rules layout limit more old new → IsCounted new.dirty (count + more)
-IsCounted-Steps rules layout limit count zero old new counted same = IsCounted-same count old new same counted
-IsCounted-Steps rules layout limit count (suc more) old new counted (mid, steps, step) =
-    subst (IsCounted new.dirty) (omega arith)
-    (IsCounted-Done rules layout limit (count + more) mid new (IsCounted-Steps rules layout limit count more old mid counted steps) step)
 
 -- ---- numbers that fit
 pub fits_of : (dirty : List Rect) (count : ℕ) → IsCounted dirty count → count < 2 ^ 64

@@ -1,8 +1,8 @@
 -- Marks that are right outside the areas that await checking stay so, whatever a command does.
-use Rattle.std.proofs.Common.{◌≡◌, ℕ, ℤ, ◌≤◌, Bool, true, false, if◌then◌else◌, not, nat_lt, ◌⊎◌, inl, inr, Option, Some, None, Result, Ok, Err, List, All, get_or, slice_get, refl, sym, ap, ◌∙◌, subst}
-use Rattle.std.specs.Option.{option_and_then}
+use Rattle.std.proofs.Common.{◌≡◌, ℕ, zero, suc, ℤ, ◌≤◌, Bool, true, false, if◌then◌else◌, not, nat_lt, ◌⊎◌, inl, inr, Option, Some, None, Result, Ok, Err, List, All, get_or, slice_get, refl, sym, ap, ◌∙◌, subst}
+use Rattle.std.specs.Option.{option_and_then, option_map_or}
 use Rattle.std.proofs.lemmas.List.Elements.{All-map}
-use Rattle.std.proofs.lemmas.Option.{get_or_from_slice_get, slice_get_within}
+use Rattle.std.proofs.lemmas.Option.{get_or_from_slice_get, same_Some, slice_get_within}
 use Rattle.mls_edgerule.specs.declared.edge_rule.EdgeRule.{EdgeRule}
 use Rattle.mls_geom.specs.Layouts.{Layout}
 use Rattle.mls_geom.specs.Pictures.{empty_picture, painted}
@@ -17,27 +17,26 @@ use Rattle.mls_checker.specs.Findings.{Finding}
 use Rattle.mls_checker.specs.ZoneLayouts.{AgreeOutside}
 use Rattle.mls_library.specs.Libraries.{HavePlanes, IsHome as AreCellsHome, Library, cell_layout}
 use Rattle.mls_errorplane.specs.Checkings.{Checking, IsChecked}
-use Rattle.mls_errorplane.specs.CatchingUp.{HasCaughtUp}
+use Rattle.mls_errorplane.specs.DirtyLists.{area_of}
 use Rattle.mls_errorplane.specs.ErrorPlanes.{HasStepped}
 use Rattle.mls_errorplane.specs.Outcomes.{HasFinished}
-use Rattle.mls_errorplane.specs.declared.catching_up.CaughtUp.{CaughtUp}
-use Rattle.mls_errorplane.specs.declared.catching_up.CaughtUp.TheVariants as caught_up
 use Rattle.mls_errorplane.specs.declared.error_plane.Outcome.{Outcome}
 use Rattle.mls_errorplane.specs.declared.error_plane.Outcome.TheVariants as outcome
 use Rattle.mls_errorplane.specs.declared.error_plane.Stepped.{Stepped}
 use Rattle.mls_errorplane.specs.declared.error_plane.Stepped.TheVariants as stepped
 use Rattle.mls_errorplane.proofs.CheckedSquares.{edit-IsChecked, step-IsChecked}
-use Rattle.mls_errorplane.proofs.StepsDone.{AfterSteps-IsChecked}
 use Rattle.mls_session.specs.Bounds.{dumped_rect}
 use Rattle.mls_session.specs.Changes.{layout_leaves_world}
 use Rattle.mls_session.specs.Drawings.{cell_layouts}
-use Rattle.mls_session.specs.Own.{AnswersWhy, CatchesUp, Config, Drawn, Designed, Step, are_types, box_step, cell_at, change_step, check_in, count_step, dump_step, dumped_in, dumped_layout, edit_step, erase_step, erased_layout, exceeds_quota, paint_on, paint_step, save_step, soiled_after, what_step, why_step, with_plane}
+use Rattle.mls_session.specs.Own.{Config, Drawn, Designed, are_types, box_step, cell_at, change_step, check_in, count_step, dump_step, dumped_in, dumped_layout, edit_step, erase_step, erased_layout, exceeds_quota, paint_on, paint_step, save_step, soiled_after, what_step, why_step, with_plane}
+use Rattle.mls_session.specs.OwnSteps.{DesignRunsOut, DesignSteps, catch_up_step, caught_up, checked, checked_times, design_step, ending}
 use Rattle.mls_session.specs.Designs.{HasRightMarks}
 use Rattle.mls_session.specs.declared.command.Command.{Command}
 use Rattle.mls_session.specs.declared.command.Command.TheVariants.{Box, Paint, Erase, Dump, What, Save, Check, CatchUp, Why, Count}
 use Rattle.mls_session.specs.declared.refusal.Refusal.TheVariants.{CellOutside, Quota, UnknownType}
 use Rattle.mls_session.specs.declared.reply.Reply.{Reply}
 use Rattle.mls_session.specs.declared.reply.Reply.TheVariants.{Done, Kinds, Saved, Count as Counted, Why as WhyRules, Refused, Stopped}
+use Rattle.mls_session.proofs.CheckedDesigns.{checked_some}
 use Rattle.mls_session.proofs.DumpedRects.{layout_in-beyond, layout_in-outside}
 use Rattle.mls_session.proofs.EditedSquares.{AgreeOutside-dumped, AgreeOutside-erased, AgreeOutside-painted, dumped-None}
 
@@ -167,17 +166,37 @@ HasFinished-IsChecked rules planes layout limit old new finding outcome.Finished
 HasFinished-IsChecked rules planes layout limit old new finding outcome.Stale (stale, same) right = subst (IsChecked rules layout) (sym same) right
 HasFinished-IsChecked rules planes layout limit old new finding outcome.Full (fresh, full, same) right = subst (IsChecked rules layout) (sym same) right
 
-HasCaughtUp-IsChecked :
-    (rules : List EdgeRule) (layout : Layout) (limit : ℕ) (old new : Checking) (ended : CaughtUp) → HasCaughtUp rules layout limit old ended new
-    → IsChecked rules layout old → IsChecked rules layout new
-HasCaughtUp-IsChecked rules layout limit old new caught_up.Done (steps, none) right = AfterSteps-IsChecked rules layout limit old new steps right
-HasCaughtUp-IsChecked rules layout limit old new caught_up.Full (steps, some, full) right = AfterSteps-IsChecked rules layout limit old new steps right
-HasCaughtUp-IsChecked rules layout limit old new (caught_up.Memory count) (steps, some) right = AfterSteps-IsChecked rules layout limit old new (count, steps) right
+-- so does a check step of the design that is accepted, and any number of them
+module _ (config : Config) where
+  checked-right : (old new : Designed) → checked config old ≡ Some new → HasRightMarks config.rules old → HasRightMarks config.rules new
+  checked-right old new is right =
+      let (some, fits, same) = checked_some config old new is in
+      subst (HasRightMarks config.rules) (sym same) (step-IsChecked config.rules old.drawn.layout old.checking right)
 
-after_catching_up : (config : Config) (old new : Designed) (reply : Reply) → CatchesUp config old reply new → HasRightMarks config.rules old → HasRightMarks config.rules new
-after_catching_up config old new reply (ended, caught, is, same) right =
-    subst (λ (drawn : Drawn). IsChecked config.rules drawn.layout new.checking) (sym same)
-    (HasCaughtUp-IsChecked config.rules old.drawn.layout config.quota old.checking new.checking ended caught right)
+  times_next :
+      (count : ℕ) (old new : Designed) (next : Option Designed) → checked config old ≡ next
+      → ((mid : Designed) → checked_times count config mid ≡ Some new → HasRightMarks config.rules mid → HasRightMarks config.rules new)
+      → option_and_then (checked_times count config) next ≡ Some new → HasRightMarks config.rules old → HasRightMarks config.rules new
+  times_next count old new None at more is right = absurd cc
+  times_next count old new (Some mid) at more is right = more mid is (checked-right old mid at right)
+
+  checked_times-right :
+      (count : ℕ) (old new : Designed) → checked_times count config old ≡ Some new → HasRightMarks config.rules old → HasRightMarks config.rules new
+  checked_times-right zero old new is right = subst (HasRightMarks config.rules) (same_Some old new is) right
+  checked_times-right (suc count) old new is right =
+      times_next count old new (checked config old) refl (λ mid. checked_times-right count mid new) is right
+
+  -- and catching up
+  caught_up_next :
+      (count : ℕ) (old : Designed) (next : Option Designed) → checked config old ≡ next
+      → ((mid : Designed) → HasRightMarks config.rules mid → HasRightMarks config.rules (caught_up count config mid).0) → HasRightMarks config.rules old
+      → HasRightMarks config.rules (option_map_or (caught_up count config) next (old, ending old)).0
+  caught_up_next count old None at more right = right
+  caught_up_next count old (Some mid) at more right = more mid (checked-right old mid at right)
+
+  caught_up-right : (count : ℕ) (old : Designed) → HasRightMarks config.rules old → HasRightMarks config.rules (caught_up count config old).0
+  caught_up-right zero old right = right
+  caught_up-right (suc count) old right = caught_up_next count old (checked config old) refl (caught_up-right count) right
 
 -- ---- commands that only look
 unchanged :
@@ -189,27 +208,39 @@ why_keeps : (config : Config) (old : Designed) (box : Option Rect) → (why_step
 why_keeps config old None = refl
 why_keeps config old (Some e) = refl
 
-after_why : (config : Config) (old new : Designed) (reply : Reply) → AnswersWhy config old reply new → HasRightMarks config.rules old → HasRightMarks config.rules new
-after_why config old new reply (inl is) right = unchanged config old new reply (why_step config old old.drawn.box) (why_keeps config old old.drawn.box) is right
-after_why config old new reply (inr (some, refused, same)) right = subst (HasRightMarks config.rules) (sym same) right
-
 -- ---- all commands
-pub HasRightMarks-Step :
-    (config : Config) (old new : Designed) (command : Command) (reply : Reply)
-    → ((cell : Option ℕ) (layout : Layout) → cell_at config cell ≡ Some layout → IsCellLayout config.tech.plane_count layout)
-    → Step config old command reply new → HasRightMarks config.rules old → HasRightMarks config.rules new
-unfolding Step
-HasRightMarks-Step config old new (Box left bottom right top) reply cells step = after_edit config old new None _ reply (box_edit old.drawn (rect_of left bottom right top)) step
-HasRightMarks-Step config old new (Paint kind) reply cells step = after_edit config old new old.drawn.box _ reply (paint_edit config old.drawn old.drawn.box kind) step
-HasRightMarks-Step config old new (Erase kinds) reply cells step = after_edit config old new old.drawn.box _ reply (erase_edit config old.drawn old.drawn.box kinds) step
-HasRightMarks-Step config old new (Dump cell dx dy) reply cells step =
-    after_edit config old new (dumped_in config (cell_at config cell) dx dy) _ reply (dump_edit config old.drawn (cell_at config cell) dx dy (cells cell)) step
-HasRightMarks-Step config old new What reply cells step = after_edit config old new None _ reply (what_edit config old.drawn old.drawn.box) step
-HasRightMarks-Step config old new Save reply cells step = unchanged config old new reply (save_step config old) refl step
-HasRightMarks-Step config old new Check reply cells step = after_edit config old new old.drawn.box _ reply (check_edit old.drawn old.drawn.box) step
-HasRightMarks-Step config old new CatchUp reply cells step = after_catching_up config old new reply step
-HasRightMarks-Step config old new Why reply cells step = after_why config old new reply step
-HasRightMarks-Step config old new Count reply cells step = unchanged config old new reply (count_step old) refl step
+module _ (config : Config) (old new : Designed) (reply : Reply) where
+  after_catching_up : catch_up_step config old ≡ (new, reply) → HasRightMarks config.rules old → HasRightMarks config.rules new
+  after_catching_up is right =
+      subst (HasRightMarks config.rules) (ap (λ (r : Designed × Reply). r.0) is) (caught_up-right config (area_of old.checking.dirty) old right)
+
+  after_step :
+      (command : Command) → ((cell : Option ℕ) (layout : Layout) → cell_at config cell ≡ Some layout → IsCellLayout config.tech.plane_count layout)
+      → design_step config old command ≡ (new, reply) → HasRightMarks config.rules old → HasRightMarks config.rules new
+  unfolding design_step
+  after_step (Box left bottom right top) cells step = after_edit config old new None _ reply (box_edit old.drawn (rect_of left bottom right top)) step
+  after_step (Paint kind) cells step = after_edit config old new old.drawn.box _ reply (paint_edit config old.drawn old.drawn.box kind) step
+  after_step (Erase kinds) cells step = after_edit config old new old.drawn.box _ reply (erase_edit config old.drawn old.drawn.box kinds) step
+  after_step (Dump cell dx dy) cells step =
+      after_edit config old new (dumped_in config (cell_at config cell) dx dy) _ reply (dump_edit config old.drawn (cell_at config cell) dx dy (cells cell)) step
+  after_step What cells step = after_edit config old new None _ reply (what_edit config old.drawn old.drawn.box) step
+  after_step Save cells step = unchanged config old new reply (save_step config old) refl step
+  after_step Check cells step = after_edit config old new old.drawn.box _ reply (check_edit old.drawn old.drawn.box) step
+  after_step CatchUp cells step = after_catching_up step
+  after_step Why cells step = unchanged config old new reply (why_step config old old.drawn.box) (why_keeps config old old.drawn.box) step
+  after_step Count cells step = unchanged config old new reply (count_step old) refl step
+
+  -- where memory runs out
+  after_running_out : (command : Command) → DesignRunsOut config old command reply new → HasRightMarks config.rules old → HasRightMarks config.rules new
+  after_running_out CatchUp (count, done, left, stopped) right = checked_times-right config count old new done right
+  after_running_out Why (boxed, refused, same) right = subst (HasRightMarks config.rules) (sym same) right
+  after_running_out _ out right = absurd out
+
+  pub HasRightMarks-DesignSteps :
+      (command : Command) → ((cell : Option ℕ) (layout : Layout) → cell_at config cell ≡ Some layout → IsCellLayout config.tech.plane_count layout)
+      → DesignSteps config old command reply new → HasRightMarks config.rules old → HasRightMarks config.rules new
+  HasRightMarks-DesignSteps command cells (inl taken) right = after_step command cells taken right
+  HasRightMarks-DesignSteps command cells (inr out) right = after_running_out command out right
 
 -- ---- the cells of a library
 at_number : (P : Layout → Type 0) (cells : List Layout) (cell : Option ℕ) (layout : Layout) → All P cells → option_and_then (slice_get cells) cell ≡ Some layout → P layout

@@ -1,5 +1,5 @@
 -- The words of private contracts. A caller needs none of them.
-use Rattle.std.specs.Prelude.{◌≡◌, ℕ, ◌+◌, ◌*◌, ◌^◌, ◌++◌, ◌<◌, ◌≤◌, false, if◌then◌else◌, min, max, Option, Some, None, List, [], ◌∷◌, IfSome, length, map}
+use Rattle.std.specs.Prelude.{◌≡◌, ℕ, ◌+◌, ◌*◌, ◌^◌, ◌++◌, ◌<◌, ◌≤◌, false, true, if◌then◌else◌, min, max, Option, Some, None, List, [], ◌∷◌, IfSome, length, map}
 use Rattle.std.specs.List.{All, Contains}
 use Rattle.mls_geom.specs.Layouts.{Layout}
 use Rattle.mls_geom.specs.Pictures.{Picture}
@@ -12,7 +12,6 @@ use Rattle.mls_paint.specs.Planes.{layout_in, picture_in}
 use Rattle.mls_stitch.specs.declared.laid_tile.LaidTile.{LaidTile}
 use Rattle.mls_tilepool.specs.Pools.{Pool, room_of}
 use Rattle.mls_session.specs.Changes.{dumped, erased, leaves_world}
-use Rattle.mls_errorplane.specs.CatchingUp.{HasCaughtUp}
 use Rattle.mls_errorplane.specs.DirtyLists.{IsDirtyList, area_of}
 use Rattle.mls_errorplane.specs.declared.catching_up.CaughtUp.{CaughtUp}
 use Rattle.mls_errorplane.specs.declared.catching_up.CaughtUp.TheVariants.{Done as AllChecked, Full as MarksFull, Memory as OutOfMemory}
@@ -20,15 +19,19 @@ use Rattle.mls_errorplane.specs.declared.error_plane.Outcome.{Outcome}
 use Rattle.mls_errorplane.specs.declared.error_plane.Outcome.TheVariants.{Finished, Stale, Full as FinishFull}
 use Rattle.mls_errorplane.specs.declared.error_plane.Stepped.{Stepped}
 use Rattle.mls_errorplane.specs.declared.error_plane.Stepped.TheVariants.{Idle, Done as StepDone, Full as StepFull, Memory as StepMemory}
-use Rattle.mls_session.specs.Own.{Config, Designed, caught_up_reply}
+use Rattle.mls_session.specs.Own.{Config, Designed}
+use Rattle.mls_session.specs.OwnSteps.{checked_times}
 use Rattle.mls_session.specs.Journals.{is_memory, is_refusal, said_of}
 use Rattle.mls_session.specs.declared.change.Change.{Change}
 use Rattle.mls_session.specs.declared.change.Change.TheVariants.{Erase as EraseChange, Dump as DumpChange}
 use Rattle.mls_session.specs.declared.command.Command.{Command}
-use Rattle.mls_session.specs.declared.command.Command.TheVariants.{Box, Paint, Erase, Dump, What, Save, Check, CatchUp, Why, Count}
+use Rattle.mls_session.specs.declared.command.Command.TheVariants.{CatchUp}
 use Rattle.mls_session.specs.declared.executed.Executed.{Executed}
 use Rattle.mls_session.specs.declared.journal.Entry.{Entry}
 use Rattle.mls_session.specs.declared.journal.Said.{Said}
+use Rattle.mls_session.specs.declared.refusal.Refusal.TheVariants.{Memory, Quota}
+use Rattle.mls_session.specs.declared.reply.Reply.{Reply}
+use Rattle.mls_session.specs.declared.reply.Reply.TheVariants.{Done, Stopped}
 
 -- the smallest rectangle round both, where there may be only one of them or none
 abbrev pub round_both : Option Rect → Option Rect → Option Rect
@@ -109,27 +112,20 @@ finished_steps Finished = 1
 finished_steps Stale = 0
 finished_steps FinishFull = 0
 
+-- ---- catching up
+-- the reply where this number of areas is left
+abbrev pub caught_up_reply : ℕ → CaughtUp → Reply
+caught_up_reply pending AllChecked = Done
+caught_up_reply pending MarksFull = Stopped Quota pending
+caught_up_reply pending (OutOfMemory steps) = Stopped Memory pending
+
 -- how many check steps were done before memory ran out
 abbrev pub steps_of : CaughtUp → ℕ
 steps_of AllChecked = 0
 steps_of MarksFull = 0
 steps_of (OutOfMemory steps) = steps
 
--- some check steps are done, as the reply and the number of steps say
-abbrev pub CatchesUpWith : Config → Designed → Executed → Designed → Type 0
-CatchesUpWith config old executed new =
-    (ended : CaughtUp) × HasCaughtUp config.rules old.drawn.layout config.quota old.checking ended new.checking
-    × (executed.reply ≡ caught_up_reply (length new.checking.dirty) ended) × (executed.steps ≡ steps_of ended) × (new.drawn ≡ old.drawn)
-
--- only catching up does check steps
+-- where memory ran out while catching up, the check steps that were done are counted, and lead to the new state; other commands do none
 abbrev pub Counts : Config → Designed → Command → Executed → Designed → Type 0
-Counts config old CatchUp executed new = CatchesUpWith config old executed new
-Counts config old (Box left bottom right top) executed new = executed.steps ≡ 0
-Counts config old (Paint kind) executed new = executed.steps ≡ 0
-Counts config old (Erase kinds) executed new = executed.steps ≡ 0
-Counts config old (Dump cell dx dy) executed new = executed.steps ≡ 0
-Counts config old What executed new = executed.steps ≡ 0
-Counts config old Save executed new = executed.steps ≡ 0
-Counts config old Check executed new = executed.steps ≡ 0
-Counts config old Why executed new = executed.steps ≡ 0
-Counts config old Count executed new = executed.steps ≡ 0
+Counts config old CatchUp executed new = is_refusal is_memory executed.reply ≡ true → checked_times executed.steps config old ≡ Some new
+Counts config old _ executed new = executed.steps ≡ 0

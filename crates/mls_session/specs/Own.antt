@@ -1,19 +1,16 @@
--- A design's machine: what each command does to a box, a layout and what is known of it. This project's own.
-use Rattle.std.specs.Prelude.{◌≡◌, ℕ, ℤ, ◌==◌, nat_le, nat_lt, if◌then◌else◌, Bool, not, Option, Some, None, Result, Ok, Err, List, length, slice_get, ◌≢◌, ◌⊎◌}
+-- What a design's commands do to a box, a layout and what is known of it. This project's own.
+use Rattle.std.specs.Prelude.{ℕ, ℤ, ◌==◌, nat_le, nat_lt, if◌then◌else◌, Bool, not, Option, Some, None, Result, Ok, Err, List, length, slice_get}
 use Rattle.std.specs.List.{count_by, list_all, list_any, range_with_len, sum_by}
 use Rattle.std.specs.Option.{option_and_then}
 use Rattle.mls_edgerule.specs.declared.edge_rule.EdgeRule.{EdgeRule}
 use Rattle.mls_checker.specs.Findings.{violated_rules}
 use Rattle.mls_checker.specs.Marking.{SquareSet}
-use Rattle.mls_errorplane.specs.CatchingUp.{HasCaughtUp}
 use Rattle.mls_errorplane.specs.Checkings.{Checking, opening_checking, soiled}
-use Rattle.mls_errorplane.specs.declared.catching_up.CaughtUp.{CaughtUp}
-use Rattle.mls_errorplane.specs.declared.catching_up.CaughtUp.TheVariants.{Done as AllChecked, Full as MarksFull, Memory as OutOfMemory}
 use Rattle.mls_geom.specs.Rects.{Rect}
 use Rattle.mls_geom.specs.Layouts.{Layout}
 use Rattle.mls_geom.specs.Pictures.{Picture, columns, empty_picture, painted, rows, shows}
 use Rattle.mls_geom.specs.TileCounts.{tile_count}
-use Rattle.mls_geom.specs.World.{world, rect_of}
+use Rattle.mls_geom.specs.World.{world}
 use Rattle.mls_geom.specs.declared.rect.RectFault.{RectFault}
 use Rattle.mls_geom.specs.declared.rect.RectFault.TheVariants.{Empty, Outside}
 use Rattle.mls_kinds.specs.KindSets.{members, set_of}
@@ -21,11 +18,9 @@ use Rattle.mls_library.specs.SavedCells.{saved_line_count}
 use Rattle.mls_tech.specs.Readings.{Tech, plane_of_type}
 use Rattle.mls_session.specs.Bounds.{dumped_rect}
 use Rattle.mls_session.specs.Changes.{dumped, erased, layout_leaves_world}
-use Rattle.mls_session.specs.declared.command.Command.{Command}
-use Rattle.mls_session.specs.declared.command.Command.TheVariants.{Box, Paint, Erase, Dump, What, Save, Check, CatchUp, Why, Count}
 use Rattle.mls_session.specs.declared.reply.Reply.{Reply}
-use Rattle.mls_session.specs.declared.reply.Reply.TheVariants.{Done, Kinds, Saved, Count as Counted, Why as WhyRules, Refused, Stopped}
-use Rattle.mls_session.specs.declared.refusal.Refusal.TheVariants.{EmptyBox, OutsideWorld, NoBox, UnknownType, Quota, UnknownCell, CellOutside, Memory}
+use Rattle.mls_session.specs.declared.reply.Reply.TheVariants.{Done, Kinds, Saved, Count as Counted, Why as WhyRules, Refused}
+use Rattle.mls_session.specs.declared.refusal.Refusal.TheVariants.{EmptyBox, OutsideWorld, NoBox, UnknownType, Quota, UnknownCell, CellOutside}
 
 -- what no command changes: the technology, its compiled rules, the layouts of the library's cells, and the most tiles that a plane may have
 pub record Config : Type 0 where
@@ -171,38 +166,6 @@ abbrev pub why_step : Config → Designed → Option Rect → Designed × Reply
 why_step config own None = (own, Refused NoBox)
 why_step config own (Some e) = (own, WhyRules (violated_rules config.rules e own.drawn.layout))
 
--- these rules, unless there is a box and memory runs out
-abbrev pub AnswersWhy : Config → Designed → Reply → Designed → Type 0
-AnswersWhy config old reply new = (why_step config old old.drawn.box ≡ (new, reply)) ⊎ ((old.drawn.box ≢ None) × (reply ≡ Refused Memory) × (new ≡ old))
-
 -- the number of lines of the layout's text
 abbrev pub save_step : Config → Designed → Designed × Reply
 save_step config own = (own, Saved (saved_line_count config.tech own.drawn.layout))
-
--- the reply where this number of areas is left
-abbrev pub caught_up_reply : ℕ → CaughtUp → Reply
-caught_up_reply pending AllChecked = Done
-caught_up_reply pending MarksFull = Stopped Quota pending
-caught_up_reply pending (OutOfMemory steps) = Stopped Memory pending
-
--- some check steps are done, until no area awaits checking, or until the next one is refused: the error plane would have more tiles than the quota, or
--- memory ran out
-abbrev pub CatchesUp : Config → Designed → Reply → Designed → Type 0
-CatchesUp config old reply new =
-    (ended : CaughtUp) × HasCaughtUp config.rules old.drawn.layout config.quota old.checking ended new.checking
-    × (reply ≡ caught_up_reply (length new.checking.dirty) ended) × (new.drawn ≡ old.drawn)
-
--- ---- the commands
--- from the old state the command has this reply and leads to the new one
-unfoldable pub Step : Config → Designed → Command → Reply → Designed → Type 0
-Step config old (Box left bottom right top) reply new = edit_step config old None (box_step old.drawn (rect_of left bottom right top)) ≡ (new, reply)
-Step config old (Paint kind) reply new = edit_step config old old.drawn.box (paint_step config old.drawn old.drawn.box kind) ≡ (new, reply)
-Step config old (Erase kinds) reply new = edit_step config old old.drawn.box (erase_step config old.drawn old.drawn.box kinds) ≡ (new, reply)
-Step config old (Dump cell dx dy) reply new =
-    edit_step config old (dumped_in config (cell_at config cell) dx dy) (dump_step config old.drawn (cell_at config cell) dx dy) ≡ (new, reply)
-Step config old What reply new = edit_step config old None (what_step config old.drawn old.drawn.box) ≡ (new, reply)
-Step config old Save reply new = save_step config old ≡ (new, reply)
-Step config old Check reply new = edit_step config old old.drawn.box (check_in old.drawn old.drawn.box) ≡ (new, reply)
-Step config old CatchUp reply new = CatchesUp config old reply new
-Step config old Why reply new = AnswersWhy config old reply new
-Step config old Count reply new = count_step old ≡ (new, reply)

@@ -1,6 +1,6 @@
--- A session's own machine: what each command and each check step does to its own state, as total functions of that state alone. Want of memory is not
--- part of it. This project's own.
-use Rattle.std.specs.Prelude.{◌≡◌, ◌≢◌, ℕ, zero, suc, ◌+◌, ◌==◌, ◌||◌, if◌then◌else◌, Option, Some, None, List, [], length}
+-- A session's own machine: what each command and each check step does to its own state, as total functions of that state alone. Running out of
+-- memory is not part of it, and stands beside it. This project's own.
+use Rattle.std.specs.Prelude.{◌≡◌, ◌≢◌, ℕ, zero, suc, ◌+◌, ◌==◌, ◌||◌, if◌then◌else◌, ◌⊎◌, Option, Some, None, List, [], length}
 use Rattle.std.specs.Option.{option_and_then, option_map, option_map_or}
 use Rattle.mls_edgerule.specs.declared.edge_rule.EdgeRule.{EdgeRule}
 use Rattle.mls_errorplane.specs.Checkings.{Checking, check_step}
@@ -58,6 +58,7 @@ abbrev pub catch_up_step : Config → Designed → Designed × Reply
 catch_up_step config own = caught_up (area_of own.checking.dirty) config own
 
 -- ---- commands
+-- the state to which a command leads, and its reply
 unfoldable pub design_step : Config → Designed → Command → Designed × Reply
 design_step config own (Box left bottom right top) = edit_step config own None (box_step own.drawn (rect_of left bottom right top))
 design_step config own (Paint kind) = edit_step config own own.drawn.box (paint_step config own.drawn own.drawn.box kind)
@@ -83,6 +84,10 @@ DesignRunsOut config old What reply new = ⊥
 DesignRunsOut config old Save reply new = ⊥
 DesignRunsOut config old Check reply new = ⊥
 DesignRunsOut config old Count reply new = ⊥
+
+-- the command has this reply and leads from the old state to the new one, by its step or because memory ran out
+abbrev pub DesignSteps : Config → Designed → Command → Reply → Designed → Type 0
+DesignSteps config old command reply new = (design_step config old command ≡ (new, reply)) ⊎ DesignRunsOut config old command reply new
 
 -- a command that is not refused for a full journal adds an entry to it
 unfoldable pub own_step : Terms → OwnState → Command → OwnState × Reply

@@ -11,7 +11,8 @@ ghost use Rattle.mls_paint.specs.Planes.{layout_in};
 ghost use Rattle.mls_paint.specs.Scratches.{KeepsRoom};
 ghost use Rattle.mls_session.specs.Drawings.{CanDump, OnRefused, cell_layouts, drawn_of, plane_reserve};
 ghost use Rattle.mls_session.specs.Inner.{Counts};
-ghost use Rattle.mls_session.specs.Own.{Step, opening};
+ghost use Rattle.mls_session.specs.Own.{opening};
+ghost use Rattle.mls_session.specs.OwnSteps.{DesignSteps};
 ghost use Rattle.mls_session.specs.Rooms.{HasRooms};
 ghost use Rattle.mls_session.specs.Saving.{SavesText};
 ghost use Rattle.mls_tilepool.specs.Pools.{Pool, unreserved};
@@ -107,7 +108,8 @@ impl Design {
         requires made_for { length self.old.drawing.planes ≡ tech.now.plane_count }
         requires can_dump { CanDump tech.now pool.old library.now (owners_of self.old) }
         requires has_rooms { HasRooms self.old.drawing.quota scratch.old (vec_capacity pieces.old) }
-        ensures step { Step (config_of tech.now rules.now pool.old library.now self.old) (designed_of pool.old self.old) command result.reply (designed_of pool.new self.new) }
+        requires areas { IsDirtyList self.old.errors.dirty }
+        ensures step { DesignSteps (config_of tech.now rules.now pool.old library.now self.old) (designed_of pool.old self.old) command result.reply (designed_of pool.new self.new) }
         ensures counts { Counts (config_of tech.now rules.now pool.old library.now self.old) (designed_of pool.old self.old) command result (designed_of pool.new self.new) }
         ensures marks_right { HasRightMarks rules.now (designed_of pool.old self.old) → HasRightMarks rules.now (designed_of pool.new self.new) }
         ensures areas { IsDirtyList self.new.errors.dirty }

@@ -1,6 +1,7 @@
 //! What a session keeps of what was said to it.
-ghost use Rattle.std.specs.Prelude.{◌≡◌, ◌≢◌, ◌+◌, ◌==◌, ◌≤◌, ◌^◌, ◌<◌, IfOk, [], length};
+ghost use Rattle.std.specs.Prelude.{◌≡◌, ◌≢◌, ◌+◌, ◌==◌, ◌≤◌, ◌^◌, ◌<◌, IfOk, [], length, true};
 ghost use Rattle.mls_session.specs.Inner.{after_command, after_note, after_steps};
+ghost use Rattle.mls_session.specs.Journals.{is_memory, is_refusal};
 
 use crate::executed::Executed;
 use crate::{Command, JournalLimit, Reply};
@@ -68,7 +69,7 @@ impl Journal {
     /// The journal must not be full. No memory is taken.
     pub fn keep(&mut self, command: &Command, executed: &Executed)
         requires room { length self.old.entries ≢ self.old.limit }
-        requires fits { self.old.checks + executed.now.steps < 2 ^ 64 }
+        requires fits { is_refusal is_memory executed.now.reply ≡ true → self.old.checks + executed.now.steps < 2 ^ 64 }
         ensures { self.new ≡ after_command self.old command.now executed.now }
     {
         if executed.reply.is_memory() {

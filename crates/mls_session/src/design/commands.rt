@@ -1,12 +1,14 @@
 //! The commands of a design, one by one.
 ghost use Rattle.std.specs.Prelude.{◌≡◌, ◌≤◌, length, vec_capacity};
 ghost use Rattle.std.specs.List.{All, Contains};
+ghost use Rattle.mls_errorplane.specs.DirtyLists.{IsDirtyList};
 ghost use Rattle.mls_errorplane.specs.ErrorPlanes.{checking_of};
 ghost use Rattle.mls_library.specs.Libraries as library_spec;
 ghost use Rattle.mls_paint.specs.Scratches.{KeepsRoom};
 ghost use Rattle.mls_session.specs.Drawings.{CanDump, OnRefused, cell_layouts, drawn_of, plane_reserve};
-ghost use Rattle.mls_session.specs.Own.{AnswersWhy, Config, Step, caught_up_reply, cell_at, check_in, count_step, dump_step, dumped_in, edit_step, erase_step, paint_step, soiled_after};
-ghost use Rattle.mls_session.specs.Inner.{CatchesUpWith, Counts, steps_of};
+ghost use Rattle.mls_session.specs.Own.{Config, cell_at, check_in, count_step, dump_step, dumped_in, edit_step, erase_step, paint_step, soiled_after};
+ghost use Rattle.mls_session.specs.OwnSteps.{DesignSteps};
+ghost use Rattle.mls_session.specs.Inner.{Counts, caught_up_reply, steps_of};
 ghost use Rattle.mls_session.specs.Rooms.{HasRooms};
 ghost use Rattle.mls_tilepool.specs.Pools.{Pool};
 
@@ -28,7 +30,7 @@ impl Design {
     ghost use Rattle.mls_session.specs.Designs.{HasRightMarks, IsHome, KeepsPlanes, config_of, owners_of, designed_of};
 
     /// Carries out a command, or refuses it and changes nothing.
-    #[tactic(auto, unfolding(crate::specs::Own::Step))]
+    #[tactic(auto, unfolding(crate::specs::OwnSteps::design_step))]
     pub(super) fn execute(
         &mut self,
         alloc: Global,
@@ -44,7 +46,8 @@ impl Design {
         requires made_for { length self.old.drawing.planes ≡ tech.now.plane_count }
         requires can_dump { CanDump tech.now pool.old library.now (owners_of self.old) }
         requires has_rooms { HasRooms self.old.drawing.quota scratch.old (vec_capacity pieces.old) }
-        ensures step { Step (config_of tech.now rules.now pool.old library.now self.old) (designed_of pool.old self.old) command result.reply (designed_of pool.new self.new) }
+        requires areas { IsDirtyList self.old.errors.dirty }
+        ensures step { DesignSteps (config_of tech.now rules.now pool.old library.now self.old) (designed_of pool.old self.old) command result.reply (designed_of pool.new self.new) }
         ensures counts { Counts (config_of tech.now rules.now pool.old library.now self.old) (designed_of pool.old self.old) command result (designed_of pool.new self.new) }
         ensures keeps { KeepsPlanes pool.old pool.new self.old self.new }
         ensures refused { OnRefused result.reply ((self.new ≡ self.old) × (pool.new ≡ pool.old)) }
@@ -203,9 +206,12 @@ impl Design {
     ) -> Executed
         requires home { IsHome pool.old self.old }
         requires has_rooms { HasRooms self.old.drawing.quota scratch.old (vec_capacity pieces.old) }
-        // It depends on the rules and the quota alone of what no command changes.
-        ensures step { (config : Config) → config.rules ≡ rules.now → config.quota ≡ self.old.drawing.quota
-            → CatchesUpWith config (designed_of pool.old self.old) result (designed_of pool.new self.new) }
+        requires areas { IsDirtyList self.old.errors.dirty }
+        // They depend on the rules and the quota alone of what no command changes.
+        ensures caught { (config : Config) → config.rules ≡ rules.now → config.quota ≡ self.old.drawing.quota
+            → DesignSteps config (designed_of pool.old self.old) Command.CatchUp result.reply (designed_of pool.new self.new) }
+        ensures counts { (config : Config) → config.rules ≡ rules.now → config.quota ≡ self.old.drawing.quota
+            → Counts config (designed_of pool.old self.old) Command.CatchUp result (designed_of pool.new self.new) }
         ensures keeps { KeepsPlanes pool.old pool.new self.old self.new }
         ensures not_refused { OnRefused result.reply ((self.new ≡ self.old) × (pool.new ≡ pool.old)) }
         ensures pieces_room { vec_capacity pieces.new ≡ vec_capacity pieces.old }
@@ -223,11 +229,12 @@ impl Design {
     }
 
     /// Returns the rules that forbid some square of the box.
+    #[tactic(auto, unfolding(crate::specs::OwnSteps::design_step))]
     fn why(&mut self, alloc: Global, pool: &Pool, rules: &Rules, scratch: &mut Scratch) -> Reply
         requires home { IsHome pool.now self.old }
         requires tiles_fit { plane_reserve self.old.drawing.quota ≤ scratch.old.room }
         // It depends on the rules alone of what no command changes.
-        ensures step { (config : Config) → config.rules ≡ rules.now → AnswersWhy config (designed_of pool.now self.old) result (designed_of pool.now self.new) }
+        ensures why { (config : Config) → config.rules ≡ rules.now → DesignSteps config (designed_of pool.now self.old) Command.Why result (designed_of pool.now self.new) }
         ensures same { self.new ≡ self.old }
         ensures rooms { KeepsRoom scratch.old scratch.new }
     {

@@ -25,9 +25,10 @@ pub keep-requires-clause-fits : goal.keep-requires-clause-fits
 keep-requires-clause-fits c =
     let pool = c.args.pool.now in
     let design = c.self.inside.design in
+    let done = c.command-executed.ensures in
     Counts-fits (config_of c.args.tech.now c.args.rules.now pool c.args.library.now design) (designed_of pool design)
-    (designed_of c.command-executed.new.pool c.command-executed.new.self) c.self.inside.journal.checks c.args.command c.command-executed.result c.self.invariant
-    c.command-executed.ensures.counts
+    (designed_of c.command-executed.new.pool c.command-executed.new.self) c.self.inside.journal c.args.command c.command-executed.result c.self.invariant done.step
+    done.counts
 
 pub invariant_of-self : goal.invariant_of-self
 invariant_of-self c =
@@ -36,8 +37,8 @@ invariant_of-self c =
     let done = c.command-executed.ensures in
     subst (λ (j : Journal). IsCounted c.command-executed.new.self.errors.dirty j.checks) (sym c.keep.ensures)
     (IsCounted-executed (config_of c.args.tech.now c.args.rules.now pool c.args.library.now design) (designed_of pool design)
-    (designed_of c.command-executed.new.pool c.command-executed.new.self) c.self.inside.journal c.args.command c.command-executed.result c.self.invariant done.areas
-    done.step done.counts)
+    (designed_of c.command-executed.new.pool c.command-executed.new.self) c.self.inside.journal c.args.command c.command-executed.result c.self.invariant done.step
+    done.counts done.areas)
 
 pub returns-clause-step : goal.returns-clause-step
 returns-clause-step c =
@@ -53,8 +54,8 @@ returns-clause-step c =
     subst (λ (s : Session). Commands (terms s) (kept_of pool s) c.args.command c.command-executed.result.reply (kept_of new.pool later)) c.self.view_is
     (subst (λ (j : Journal). Commands (terms before) (kept_of pool before) c.args.command c.command-executed.result.reply (kept_with (designed_of new.pool new.self) j))
     (sym c.keep.ensures)
-    (Commands-executed (terms before) (designed_of pool inside.design) (designed_of new.pool new.self) inside.journal c.args.command c.command-executed.result room
-    c.self.invariant.areas done.step done.counts))
+    (Commands-executed (terms before) (designed_of pool inside.design) (designed_of new.pool new.self) inside.journal c.command-executed.result room c.args.command
+    done.step done.counts))
 
 pub returns-clause-legal : goal.returns-clause-legal
 returns-clause-legal c =
