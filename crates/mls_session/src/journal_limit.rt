@@ -35,7 +35,7 @@ impl JournalLimit {
     pub fn new(entries: u32) -> Option<JournalLimit>
         ensures { SomeIff result (IsJournalLimit entries) entries }
     {
-        if entries < 1 || entries > MOST {
+        if !(1..=MOST).contains(&entries) {
             return None;
         }
         Some(JournalLimit { entries })

@@ -42,7 +42,7 @@ impl Quota {
     pub fn new(tiles: u32) -> Option<Quota>
         ensures { SomeIff result (IsQuota tiles) tiles }
     {
-        if tiles < LEAST || tiles > MOST {
+        if !(LEAST..=MOST).contains(&tiles) {
             return None;
         }
         Some(Quota { tiles })
