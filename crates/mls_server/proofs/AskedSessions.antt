@@ -1,140 +1,156 @@
 -- One open session is asked for something: what it keeps, and what the server and its world are afterwards.
-use Rattle.std.proofs.Common.{◌≡◌, ◌≢◌, ℕ, ◌<◌, ◌≤◌, ◌==◌, Bool, true, false, cond, List, [], ◌∷◌, length, map, get_or, slice_get, Option, Some, None, Ok, All, inl, inr, refl, sym, ap, subst, ◌∙◌, arith}
+use Rattle.std.proofs.Common.{◌≡◌, ℕ, ◌<◌, ◌≤◌, ◌==◌, Bool, true, false, cond, List, [], ◌∷◌, length, map, get_or, slice_get, Option, Some, None, Ok, inl, inr, refl, sym, ap, subst, subst₂, ◌∙◌, arith}
 use Rattle.std.specs.Option.{option_map}
 use Rattle.std.proofs.lemmas.Bool.{cases_lt}
 use Rattle.indexmap.specs.Layout.{length-set_value_at, set_value_at}
-use Rattle.mls_library.specs.Libraries.{Library}
-use Rattle.mls_library.proofs.KeptCells.{IsHome-ChangesAmong}
 use Rattle.mls_paint.specs.Owners.{ChangesAmong}
 use Rattle.mls_paint.proofs.OwnerFrames.{unreserved-ChangesAmong}
 use Rattle.mls_session.specs.Designs.{HasRightMarks}
+use Rattle.mls_session.specs.Drawings.{CanDump}
 use Rattle.mls_session.specs.Journals.{IsLegal, Kept}
 use Rattle.mls_session.specs.OwnSteps.{Terms}
 use Rattle.mls_session.specs.declared.journal.Entry.{Entry as JournalEntry}
 use Rattle.mls_session.specs.Sessions.{KeepsPlanes, Session, kept_of, owners_of, state_of, terms_of}
-use Rattle.mls_tilepool.specs.Pools.{Pool, unreserved}
+use Rattle.mls_tilepool.specs.Pools.{Pool}
 use Rattle.mls_server.specs.Events.{OnSeat}
-use Rattle.mls_server.specs.Servers.{AreApart, AreOpen, IsMadeFor, OpenSession, Server, owners_under, place_in, seat_for, setting_of, world_of}
-use Rattle.mls_server.specs.Settings.{NamedLayout, named_layouts, terms_for}
-use Rattle.mls_server.specs.Worlds.{Seat, World, kept_in, seat_in, with_kept}
-use Rattle.mls_server.proofs.KeptSessions.{AreApart-sym, IsMadeFor-apart, IsMadeFor-kept, kept_of-apart, owners_of-kept}
-use Rattle.mls_server.proofs.ReplacedSessions.{All-replaced, AllBut, AllPairs-replaced, Entry, HasOtherId, IsAt, IsAt-values, StaysApart, at-get_or, at-within, found-id, missing-id, others-differ, owners_in-at, same-replaced, seat_in-at, seat_in-none, seats-replaced}
-use Rattle.mls_server.proofs.SettingLayouts.{named_layouts-ChangesAmong, terms_of-setting}
+use Rattle.mls_server.specs.Servers.{AreApart, OpenSession, Server, owners_under, place_in, seat_for, setting_of, world_of}
+use Rattle.mls_server.specs.Settings.{terms_for}
+use Rattle.mls_server.specs.Worlds.{Seat, kept_in, seat_in, with_kept}
+use Rattle.mls_server.proofs.KeptSessions.{IsMadeFor-kept, KeepsPlanes-same, others-kept, owners_of-kept}
+use Rattle.mls_server.proofs.OtherSessions.{AreOpenIn, CanDump-apart, IsMadeFor-apart, IsMadeIn, KeepsOthers, seat_for-apart, world_of-apart}
+use Rattle.mls_server.proofs.ReplacedSessions.{All-at, All-replaced, AllBut, AllPairs-replaced, Entry, HasOtherId, IsAt, IsAt-values, StaysApart, at-get_or, at-within, found-id, missing-id, others-differ, owners_in-at, same-replaced, seat_in-at, seat_in-none, seats-replaced}
+use Rattle.mls_server.proofs.SessionTerms.{terms_of-setting}
 
--- the server's open sessions
-abbrev pub AreOpenIn : Server → Type 0
-AreOpenIn server = AreOpen server.tech server.rules server.quota server.limit server.pool server.library server.given server.sessions
-
--- where the scan finds no session of the id, none is open
-pub not_open : (server : Server) (id place : ℕ) → place ≡ place_in server.sessions id → slice_get (map (λ entry. entry.1) server.sessions) place ≡ None → kept_in (world_of server) id ≡ None
-not_open server id place is none =
-    let missing = missing-id server.sessions id (ap (slice_get (map (λ entry. entry.1) server.sessions)) (sym is) ∙ none) in
-    ap (option_map (λ seat. seat.kept)) (seat_in-none id server.pool server.sessions missing)
-
--- where it finds one
-module _
-    (server : Server) (are : AreOpenIn server) (id i : ℕ) (before : OpenSession) (place : i ≡ place_in server.sessions id)
-    (found : slice_get (map (λ entry. entry.1) server.sessions) i ≡ Some before) where
-  at : IsAt server.sessions i before
-  at = IsAt-values server.sessions i before found
-
-  is : before.id ≡ id
-  is = found-id server.sessions id before (subst (λ (n : ℕ). IsAt server.sessions n before) place at)
-
-  -- where the session stays, so do the open sessions
-  pub sessions-same : (after : OpenSession) → after ≡ before → set_value_at server.sessions i after ≡ server.sessions
-  sessions-same after same = same-replaced server.sessions i before after at same
-
-  abbrev default : Entry
-  default = ([], before)
-
-  pub others : AllBut (HasOtherId id) server.sessions i
-  others = others-differ server.sessions i id before are.rising at is
-
-  pub made-at : IsMadeFor server.tech server.rules server.quota server.limit server.pool server.library before.session
-  made-at =
-      subst (λ (found : OpenSession). IsMadeFor server.tech server.rules server.quota server.limit server.pool server.library found.session) (at-get_or server.sessions i before default at)
-      (are.made i default (at-within server.sessions i before at))
-
-  pub kept_in-at : kept_in (world_of server) id ≡ Some (kept_of server.pool before.session)
-  kept_in-at = seat_in-at id server.pool server.sessions i before at is others
-
-  pub owners_under-at : owners_under server id ≡ owners_of before.session
-  owners_under-at = owners_in-at id server.pool server.sessions i before at is others
-
-  pub terms-at : terms_of server.tech server.rules server.pool server.library before.session ≡ terms_for (setting_of server)
-  terms-at = terms_of-setting server before.session made-at.quota_match made-at.limit_match
-
-  -- no owner of another session is one of its own
-  pub apart-at : AllBut (λ entry. AreApart (owners_of entry.1.session) (owners_of before.session)) server.sessions i
-  apart-at k d within differ =
-      let here = ap (λ (found : OpenSession). owners_of found.session) (at-get_or server.sessions i before d at) in
-      subst (AreApart (owners_of (get_or server.sessions k d).1.session)) here
-      (elim (cases_lt k i) [
-        | inl less ↦ are.apart k i d less (at-within server.sessions i before at)
-        | inr more ↦ AreApart-sym _ _ (are.apart i k d (omega (arith, more, differ)) within)
-      ])
-
-  module _ (new : Pool) (after : OpenSession) (same_id : after.id ≡ before.id) (keeps : KeepsPlanes server.pool new before.session after.session) where
-    abbrev pub changed : Server
-    changed = record server { pool = new; sessions = set_value_at server.sessions i after }
-
-    abbrev only : ChangesAmong server.pool new (owners_of before.session)
-    only = keeps.planes.only
-
-    pub frame-at : ChangesAmong server.pool new (owners_under server id)
-    frame-at = subst (ChangesAmong server.pool new) (sym owners_under-at) only
-
-    pub AreOpen-changed :
-        (HasRightMarks server.rules (state_of server.pool before.session).design → HasRightMarks server.rules (state_of new after.session).design)
-        → (IsLegal (terms_of server.tech server.rules server.pool server.library before.session) (kept_of server.pool before.session)
-        → IsLegal (terms_of server.tech server.rules server.pool server.library before.session) (kept_of new after.session))
-        → AreOpenIn changed
-    AreOpen-changed right legal = record {
-      cells_home = record {
-        home = IsHome-ChangesAmong server.pool new (owners_of before.session) only server.library made-at.can_dump.apart are.cells_home.home;
-        apart = are.cells_home.apart;
-        planes = are.cells_home.planes;
-      };
-      made =
-          All-replaced (λ entry. IsMadeFor server.tech server.rules server.quota server.limit new server.library entry.1.session) after server.sessions i
-          (λ k d within differ. IsMadeFor-apart server.pool new (owners_of before.session) only _ (apart-at k d within differ) server.tech server.rules server.quota server.limit server.library made-at.can_dump (are.made k d within))
-          (λ name. IsMadeFor-kept server.pool new before.session after.session keeps server.tech server.rules server.quota server.limit server.library made-at right legal);
-      apart =
-          AllPairs-replaced (λ entry. owners_of entry.1.session) before after (λ name. owners_of-kept server.pool new before.session after.session keeps) AreApart
-          server.sessions i at are.apart;
-      rising = AllPairs-replaced (λ entry. entry.1.id) before after (λ name. same_id) (λ a b. a < b) server.sessions i at are.rising;
-      within =
-          All-replaced (λ entry. (1 ≤ entry.1.id) × (entry.1.id ≤ server.given)) after server.sessions i (λ k d within differ. are.within k d within)
-          (λ name. subst (λ (number : ℕ). (1 ≤ number) × (number ≤ server.given)) (ap (λ (found : OpenSession). found.id) (at-get_or server.sessions i before default at) ∙ sym same_id)
-          (are.within i default (at-within server.sessions i before at)));
-      few = subst (λ (count : ℕ). count ≤ 64) (sym (length-set_value_at server.sessions i after)) are.few;
-    }
-
-    stays : AllBut (StaysApart id (kept_of new after.session) server.pool new) server.sessions i
-    stays k d within differ = (
-      others k d within differ,
-      kept_of-apart server.pool new (owners_of before.session) only (get_or server.sessions k d).1.session (apart-at k d within differ),
+-- where the scan finds no session of the id, none is open, and nothing changes
+pub not_open :
+    {now server : Server} → server ≡ now → (id place : ℕ) → place ≡ place_in now.sessions id → slice_get (map (λ entry. entry.1) server.sessions) place ≡ None
+    → (kept_in (world_of now) id ≡ None) × (world_of server ≡ world_of now)
+not_open {now} {server} shows id place first none =
+    let missing = missing-id server.sessions id (ap (slice_get (map (λ entry. entry.1) server.sessions)) (sym (first ∙ ap (λ (on : Server). place_in on.sessions id) (sym shows))) ∙ none) in (
+      subst (λ (on : Server). kept_in (world_of on) id ≡ None) shows (ap (option_map (λ seat. seat.kept)) (seat_in-none id server.pool server.sessions missing)),
+      ap world_of shows,
     )
 
-    pub world_of-changed : world_of changed ≡ with_kept (world_of server) id (kept_of new after.session)
+-- what no call of the session changes
+abbrev pub own_terms : Server → OpenSession → Terms
+own_terms server member = terms_of server.tech server.rules server.pool server.library member.session
+
+-- the server's session at this place is the one of this id, and no other has its id or one of its owners
+pub record IsAsked (now server : Server) (id place : ℕ) (before : OpenSession) : Type 0 where
+  pub shows : server ≡ now
+  pub are : AreOpenIn server
+  pub found : IsAt server.sessions place before
+  pub has_id : before.id ≡ id
+  pub made : IsMadeIn server server.pool before.session
+  pub terms : own_terms server before ≡ terms_for (setting_of now)
+  pub kept : kept_in (world_of now) id ≡ Some (kept_of server.pool before.session)
+  pub owners : owners_under now id ≡ owners_of before.session
+  pub others : AllBut (HasOtherId id) server.sessions place
+  pub apart : AllBut (λ entry. AreApart (owners_of entry.1.session) (owners_of before.session)) server.sessions place
+
+-- where the scan finds one, it is so
+pub is_asked :
+    {now server : Server} → server ≡ now → AreOpenIn server → (id place : ℕ) → place ≡ place_in now.sessions id → (before : OpenSession)
+    → slice_get (map (λ entry. entry.1) server.sessions) place ≡ Some before → IsAsked now server id place before
+is_asked {now} {server} shows are id place first before scanned = record {
+  shows = shows;
+  are = are;
+  found = at;
+  has_id = is;
+  made = made;
+  terms = terms_of-setting server before.session made.quota_match made.limit_match ∙ ap (λ (on : Server). terms_for (setting_of on)) shows;
+  kept = ap (λ (on : Server). kept_in (world_of on) id) (sym shows) ∙ seat_in-at id server.pool server.sessions place before at is differ;
+  owners = ap (λ (on : Server). owners_under on id) (sym shows) ∙ owners_in-at id server.pool server.sessions place before at is differ;
+  others = differ;
+  apart = λ k d within other.
+      let here = ap (λ (member : OpenSession). owners_of member.session) (at-get_or server.sessions place before d at) in
+      subst (AreApart (owners_of (get_or server.sessions k d).1.session)) here
+      (elim (cases_lt k place) [
+        | inl less ↦ are.apart k place d less (at-within server.sessions place before at)
+        | inr more ↦ (λ owner one two. are.apart place k d (omega (arith, more, other)) within owner two one)
+      ]);
+}
+  where
+    at : IsAt server.sessions place before
+    at = IsAt-values server.sessions place before scanned
+
+    is : before.id ≡ id
+    is = found-id server.sessions id before (subst (λ (n : ℕ). IsAt server.sessions n before) (first ∙ ap (λ (on : Server). place_in on.sessions id) (sym shows)) at)
+
+    differ : AllBut (HasOtherId id) server.sessions place
+    differ = others-differ server.sessions place id before are.rising at is
+
+    made : IsMadeIn server server.pool before.session
+    made = All-at (λ (member : OpenSession). IsMadeIn server server.pool member.session) server.sessions place before are.made at
+
+module _ {now server : Server} {id place : ℕ} {before : OpenSession} (asked : IsAsked now server id place before) where
+  -- ---- what stays beside it, as only its own owners change
+  module _ {new : Pool} (others : KeepsOthers server.pool new (owners_of before.session)) where
+    pub cells-beside : CanDump server.tech new server.library []
+    cells-beside = CanDump-apart others server.library asked.made.can_dump.apart asked.are.cells_home
+
+    pub made-beside : AllBut (λ entry. IsMadeIn server new entry.1.session) server.sessions place
+    made-beside k d within differ =
+        IsMadeFor-apart others (get_or server.sessions k d).1.session (asked.apart k d within differ) asked.made.can_dump.apart (asked.are.made k d within)
+
+    pub stays-beside : AllBut (StaysApart id server.pool new) server.sessions place
+    stays-beside k d within differ = (asked.others k d within differ, seat_for-apart others (get_or server.sessions k d) (asked.apart k d within differ))
+
+  -- ---- it stays
+  pub sessions-same : (after : Session) → after ≡ before.session → set_value_at server.sessions place (record before { session = after }) ≡ server.sessions
+  sessions-same after same =
+      same-replaced server.sessions place before (record before { session = after }) asked.found (ap (λ (session : Session). record before { session = session }) same)
+
+  pub keeps-same :
+      (after : Session) → after.design ≡ before.session.design → after.limit ≡ before.session.limit → KeepsPlanes server.pool server.pool before.session after
+  keeps-same after same limit = KeepsPlanes-same server.pool before.session after asked.made.home same limit
+
+  -- ---- it changes tiles of its own owners alone
+  module _ {new : Pool} {after : Session} (keeps : KeepsPlanes server.pool new before.session after) where
+    abbrev member : OpenSession
+    member = record before { session = after }
+
+    abbrev pub changed : Server
+    changed = record server { pool = new; sessions = set_value_at server.sessions place member }
+
+    pub frame-changed : ChangesAmong now.pool new (owners_under now id)
+    frame-changed =
+        subst₂ (λ (pool : Pool) (owners : List ℕ). ChangesAmong pool new owners) (ap (λ (on : Server). on.pool) asked.shows) (sym asked.owners) keeps.planes.only
+
+    pub AreOpen-changed :
+        (HasRightMarks server.rules (state_of server.pool before.session).design → HasRightMarks server.rules (state_of new after).design)
+        → (IsLegal (own_terms server before) (kept_of server.pool before.session) → IsLegal (own_terms server before) (kept_of new after)) → AreOpenIn changed
+    AreOpen-changed right legal = record {
+      cells_home = cells-beside (others-kept keeps);
+      made =
+          All-replaced (λ entry. IsMadeIn server new entry.1.session) member server.sessions place (made-beside (others-kept keeps))
+          (λ name. IsMadeFor-kept keeps asked.made right legal);
+      apart =
+          AllPairs-replaced (λ entry. owners_of entry.1.session) before member (λ name. owners_of-kept keeps) AreApart server.sessions place asked.found asked.are.apart;
+      rising = AllPairs-replaced (λ entry. entry.1.id) before member (λ name. refl) (λ a b. a < b) server.sessions place asked.found asked.are.rising;
+      within =
+          All-replaced (λ entry. (1 ≤ entry.1.id) × (entry.1.id ≤ server.given)) member server.sessions place (λ k d within differ. asked.are.within k d within)
+          (λ name. All-at (λ (each : OpenSession). (1 ≤ each.id) × (each.id ≤ server.given)) server.sessions place before asked.are.within asked.found);
+      few = subst (λ (count : ℕ). count ≤ 64) (sym (length-set_value_at server.sessions place member)) asked.are.few;
+    }
+
+    world_of-changed : world_of changed ≡ with_kept (world_of server) id (kept_of new after)
     world_of-changed =
-        ap (λ (layouts : List NamedLayout). record {
-          setting = record { tech = server.tech; rules = server.rules; quota = server.quota; journal = server.limit; cells = layouts };
-          given = server.given;
-          seats = (world_of changed).seats;
-          room = unreserved new;
-        }) (named_layouts-ChangesAmong server.pool new (owners_of before.session) only server.library made-at.can_dump.apart)
-        ∙ ap (λ (seats : List Seat). record { setting = setting_of server; given = server.given; seats = seats; room = unreserved new })
-        (seats-replaced id (kept_of new after.session) server.pool new server.sessions i before after at is (same_id ∙ is) refl stays)
-        ∙ ap (λ (room : ℕ). record (with_kept (world_of server) id (kept_of new after.session)) { room = room })
-        (unreserved-ChangesAmong server.pool new (owners_of before.session) only)
+        world_of-apart server (others-kept keeps) asked.made.can_dump.apart server.given (set_value_at server.sessions place member) _ _
+        (seats-replaced id server.pool new server.sessions place before asked.found asked.has_id (stays-beside (others-kept keeps)) member refl)
+        (unreserved-ChangesAmong server.pool new (owners_of before.session) keeps.planes.only)
 
     -- whatever the session did
     pub OnSeat-changed :
-        {A : Type 0} (Does : Kept → A → Kept → Type 0) (answer : A) → Does (kept_of server.pool before.session) answer (kept_of new after.session)
-        → OnSeat (world_of server) id Does (Ok answer) (world_of changed)
-    OnSeat-changed Does answer does = (kept_of server.pool before.session, kept_of new after.session, kept_in-at, does, world_of-changed)
+        {A : Type 0} (Does : Terms → Kept → A → Kept → Type 0) (answer : A) → Does (own_terms server before) (kept_of server.pool before.session) answer (kept_of new after)
+        → OnSeat (world_of now) id (Does (terms_for (setting_of now))) (Ok answer) (world_of changed)
+    OnSeat-changed Does answer does = (
+      kept_of server.pool before.session,
+      kept_of new after,
+      asked.kept,
+      subst (λ (terms : Terms). Does terms (kept_of server.pool before.session) answer (kept_of new after)) asked.terms does,
+      world_of-changed ∙ ap (λ (on : Server). with_kept (world_of on) id (kept_of new after)) asked.shows,
+    )
 
 -- ---- how many entries a journal has
 module _ (pool : Pool) (id : ℕ) where

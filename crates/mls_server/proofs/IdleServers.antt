@@ -1,5 +1,5 @@
 -- A server on which no session is open, and the cells that are loaded then.
-use Rattle.std.proofs.Common.{◌≡◌, ◌↔◌, ℕ, ◌+◌, ◌-◌, not, cond, List, [], ◌∷◌, ◌++◌, length, map, get_or, Ok, Err, Result, OnErr, refl, sym, ap, subst, ◌∙◌, arith}
+use Rattle.std.proofs.Common.{◌≡◌, ◌↔◌, ℕ, ◌+◌, ◌-◌, not, cond, List, [], ◌∷◌, ◌++◌, length, map, Ok, Err, Result, OnErr, refl, sym, ap, subst, ◌∙◌, arith}
 use Rattle.std.specs.List.{position, position_or_len}
 use Rattle.std.specs.Result.{IsOkAnd}
 use Rattle.std.proofs.lemmas.List.{length-map, map-append}
@@ -11,7 +11,6 @@ use Rattle.mls_library.specs.Libraries.{HavePlanes, Library, LoadsUnlessMemory, 
 use Rattle.mls_library.specs.Libraries.{IsHome as AreCellsHome}
 use Rattle.mls_library.specs.declared.fault.CellFault.{CellFault}
 use Rattle.mls_paint.specs.Owners.{AddsOwners}
-use Rattle.mls_paint.proofs.OwnerFrames.{has_room-HasStrips}
 use Rattle.mls_tech.specs.Readings.{Tech}
 use Rattle.mls_text.specs.Words.{same_word}
 use Rattle.mls_tilepool.specs.Pools.{Pool, unreserved}
@@ -19,7 +18,7 @@ use Rattle.mls_server.specs.Events.{LoadsCell, with_cell}
 use Rattle.mls_server.specs.Servers.{AreOpen, OpenSession, Server, seat_for, world_of}
 use Rattle.mls_server.specs.Settings.{NamedLayout, cell_names, named_layout, named_layouts}
 use Rattle.mls_server.specs.Worlds.{Seat}
-use Rattle.mls_server.proofs.OtherSessions.{AreCellsKept, kept-AddsOwners, named_layouts-kept}
+use Rattle.mls_server.proofs.OtherSessions.{AreOpenIn, cells_apart-AddsOwners, named_layouts-apart, others-AddsOwners}
 
 -- ---- no open session
 module _ (pool : Pool) where
@@ -72,7 +71,7 @@ module _ (pool : Pool) (name : List ℕ) where
 is_ok_and : {T E : Type 0} (r : Result T E) (x : T) (P : T → Type 0) → r ≡ Ok x → P x → IsOkAnd r P
 is_ok_and r x P e p = subst (λ found. IsOkAnd found P) (sym e) p
 
-module _ (server : Server) (are : AreOpen server.tech server.rules server.quota server.limit server.pool server.library server.given server.sessions)
+module _ (server : Server) (are : AreOpenIn server)
     (idle : (world_of server).seats ≡ []) where
   none : server.sessions ≡ []
   none = no_session server.pool server.sessions idle
@@ -83,7 +82,7 @@ module _ (server : Server) (are : AreOpen server.tech server.rules server.quota 
 
   pub AreOpen-loaded :
       (pool : Pool) (library : Library) → AreCellsHome pool library → (HavePlanes server.tech.plane_count server.library → HavePlanes server.tech.plane_count library)
-      → AreOpen server.tech server.rules server.quota server.limit pool library server.given server.sessions
+      → AreOpenIn (loaded pool library)
   AreOpen-loaded pool library home planes =
       subst (AreOpen server.tech server.rules server.quota server.limit pool library server.given) (sym none)
       (AreOpen-none server.tech server.rules server.quota server.limit pool library server.given home (planes are.cells_home.planes))
@@ -97,17 +96,12 @@ module _ (server : Server) (are : AreOpen server.tech server.rules server.quota 
 
   -- one cell more
   module _ (pool : Pool) (library : Library) (tiles : ℕ) (cell : NamedCell) (added : AddsOwners server.pool pool cell.planes tiles) where
-    cells_kept : AreCellsKept server.pool pool server.library
-    cells_kept k d within =
-        kept-AddsOwners server.pool pool cell.planes tiles added (get_or server.library k d).planes
-        (λ i o below. has_room-HasStrips server.pool (get_or (get_or server.library k d).planes i o) ((are.cells_home.home.each k d within).frozen i o below).strips)
-
     cells-loaded :
         (name : List ℕ) (layout : Layout) → cell.name ≡ name → library ≡ server.library ++ cell ∷ [] → cell_layout pool cell ≡ layout
         → named_layouts pool library ≡ named_layouts server.pool server.library ++ record { name = name; layout = layout } ∷ []
     cells-loaded name layout named more shows =
         ap (named_layouts pool) more ∙ map-append (named_layout pool) server.library (cell ∷ [])
-        ∙ ap (λ (front : List NamedLayout). front ++ named_layout pool cell ∷ []) (named_layouts-kept server.pool pool server.library cells_kept)
+        ∙ ap (λ (front : List NamedLayout). front ++ named_layout pool cell ∷ []) (named_layouts-apart (others-AddsOwners added) server.library (cells_apart-AddsOwners added server.library are.cells_home.home))
         ∙ ap (λ (called : List ℕ). named_layouts server.pool server.library ++ record { name = called; layout = cell_layout pool cell } ∷ []) named
         ∙ ap (λ (shown : Layout). named_layouts server.pool server.library ++ record { name = name; layout = shown } ∷ []) shows
 

@@ -1,7 +1,6 @@
 -- The rooms of the lists that every session is lent.
-use Rattle.std.proofs.Common.{◌≡◌, ℕ, ◌≤◌, sym, subst}
+use Rattle.std.proofs.Common.{◌≡◌, ℕ, sym, subst}
 use Rattle.mls_paint.specs.Scratches.{KeepsRoom, Scratch}
-use Rattle.mls_session.specs.Drawings.{plane_reserve}
 use Rattle.mls_session.specs.Rooms.{HasRooms}
 
 -- a call leaves them

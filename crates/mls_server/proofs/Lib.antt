@@ -14,6 +14,6 @@ pub mod OwnEffects
 pub mod ReplacedSessions
 pub mod RunLaws
 pub mod Seats
-pub mod SettingLayouts
+pub mod SessionTerms
 pub mod SoundWorlds
 pub mod ToldAlone

@@ -1,42 +1,93 @@
--- What stays of a session, and of the cells, as all their owners keep their tiles and their reserves.
-use Rattle.std.proofs.Common.{◌≡◌, ◌≢◌, ℕ, suc, List, [], ◌∷◌, length, map, get_or, None, All, Contains, refl, sym, ap, subst, ◌∙◌, arith}
+-- What stays of sessions, of the cells and of the world, as only tiles and reserves of other owners change.
+use Rattle.std.proofs.Common.{◌≡◌, ◌≢◌, ℕ, List, [], ◌∷◌, length, map, get_or, None, All, Contains, refl, sym, ap, subst, subst₂, ◌∙◌, arith}
 use Rattle.std.proofs.lemmas.List.Elements.{All-contains, All-push, Contains-append_left, Contains-get_or, Contains-push}
 use Rattle.mls_edgerule.specs.declared.edge_rule.EdgeRule.{EdgeRule}
 use Rattle.mls_errorplane.specs.ErrorPlanes.{ShowsMarks, marks_picture}
 use Rattle.mls_errorplane.specs.MarkPlanes.{is_marked}
 use Rattle.mls_geom.specs.Layouts.{Layout}
 use Rattle.mls_geom.specs.Pictures.{Picture}
-use Rattle.mls_library.specs.Libraries.{Library}
-use Rattle.mls_library.proofs.KeptCells.{IsHome-kept, IsKept, cell_layout-kept}
-use Rattle.mls_paint.specs.Owners.{AddsOwners, RemovesOwners}
+use Rattle.mls_library.specs.Libraries.{Library, cell_layout}
+use Rattle.mls_library.specs.Libraries.{IsHome as AreCellsHome}
+use Rattle.mls_library.proofs.KeptCells.{IsCellApart, IsCellApart-AddsOwners, IsHome-kept, IsKept, cell_layout-kept}
+use Rattle.mls_paint.specs.Owners.{AddsOwners, ChangesAmong, RemovesOwners}
 use Rattle.mls_paint.specs.Planes.{HasStrips, layout_in, picture_in}
-use Rattle.mls_paint.proofs.OwnerFrames.{HasStrips-kept, has_room-HasStrips, not_added}
+use Rattle.mls_paint.proofs.OwnerFrames.{HasStrips-kept, has_room-HasStrips, not_added, room_of-ChangesAmong}
 use Rattle.mls_session.specs.Designs.{HasRightMarks}
-use Rattle.mls_session.specs.Drawings.{cell_layouts}
+use Rattle.mls_session.specs.Drawings.{CanDump, cell_layouts}
 use Rattle.mls_session.specs.Journals.{IsLegal, Kept}
+use Rattle.mls_session.specs.OwnSteps.{Terms}
 use Rattle.mls_session.specs.Sessions.{IsHome, Session, kept_of, owners_of, terms_of}
 use Rattle.mls_tech.specs.Readings.{Tech}
-use Rattle.mls_tilepool.specs.Pools.{Pool, room_of}
-use Rattle.mls_server.specs.Servers.{AreApart, IsMadeFor}
-use Rattle.mls_server.specs.Settings.{named_layout, named_layouts}
-use Rattle.mls_server.proofs.SettingLayouts.{layouts-layouts}
+use Rattle.mls_tilepool.specs.Pools.{Pool, room_of, unreserved}
+use Rattle.mls_server.specs.Servers.{AreApart, AreOpen, IsMadeFor, Server, seat_for, setting_of, world_of}
+use Rattle.mls_server.specs.Settings.{NamedLayout, named_layout, named_layouts}
+use Rattle.mls_server.specs.Worlds.{Seat}
+use Rattle.mls_server.proofs.ReplacedSessions.{Entry, map_same}
+use Rattle.mls_server.proofs.SessionTerms.{terms-same}
 
-module _ (old new : Pool) where
-  -- ---- cells
-  abbrev pub AreCellsKept : Library → Type 0
-  AreCellsKept cells = All (λ cell. All (IsKept old new) cell.planes) cells
+-- ---- what every server keeps
+abbrev pub AreOpenIn : Server → Type 0
+AreOpenIn server = AreOpen server.tech server.rules server.quota server.limit server.pool server.library server.given server.sessions
 
-  pub named_layouts-kept : (cells : Library) → AreCellsKept cells → named_layouts new cells ≡ named_layouts old cells
-  named_layouts-kept [] kept = refl
-  named_layouts-kept (cell ∷ cells) kept =
-      ap (λ (layout : Layout). record { name = cell.name; layout = layout } ∷ named_layouts new cells) (cell_layout-kept old new cell (kept 0 cell (omega arith)))
-      ∙ ap (λ rest. named_layout old cell ∷ rest) (named_layouts-kept cells (λ k d within. kept (suc k) d (omega (arith, within))))
+-- the session was made for this server, over this pool
+abbrev pub IsMadeIn : Server → Pool → Session → Type 0
+IsMadeIn server pool session = IsMadeFor server.tech server.rules server.quota server.limit pool server.library session
 
-  pub cell_layouts-kept : (cells : Library) → AreCellsKept cells → cell_layouts new cells ≡ cell_layouts old cells
-  cell_layouts-kept cells kept = sym (layouts-layouts new cells) ∙ ap (map (λ cell. cell.layout)) (named_layouts-kept cells kept) ∙ layouts-layouts old cells
+-- ---- owners that are kept
+-- all owners but these have the tiles and the reserves that they had
+pub record KeepsOthers (old new : Pool) (owners : List ℕ) : Type 0 where
+  pub kept : (other : ℕ) → ¬ (Contains owners other) → IsKept old new other
 
-  -- ---- a session
-  module _ (session : Session) (kept : All (IsKept old new) (owners_of session)) where
+pub others-ChangesAmong : {old new : Pool} {owners : List ℕ} → ChangesAmong old new owners → KeepsOthers old new owners
+others-ChangesAmong {old} {new} {owners} changed = record {
+  kept = λ other apart. record { tiles = changed.others other apart; room = room_of-ChangesAmong old new owners other changed };
+}
+
+pub others-AddsOwners : {old new : Pool} {owners : List ℕ} {tiles : ℕ} → AddsOwners old new owners tiles → KeepsOthers old new owners
+others-AddsOwners added = record { kept = λ other apart. record { tiles = added.others other apart; room = added.rooms other apart } }
+
+pub others-RemovesOwners : {old new : Pool} {owners : List ℕ} {tiles : ℕ} → RemovesOwners old new owners tiles → KeepsOthers old new owners
+others-RemovesOwners removed = record { kept = λ other apart. record { tiles = removed.others other apart; room = removed.rooms other apart } }
+
+-- owners that are added are no cell's, and no session's that is at home
+pub cells_apart-AddsOwners :
+    {old new : Pool} {owners : List ℕ} {tiles : ℕ} → AddsOwners old new owners tiles → (cells : Library) → AreCellsHome old cells → All (IsCellApart owners) cells
+cells_apart-AddsOwners {old} {new} {owners} {tiles} added cells home k d within =
+    IsCellApart-AddsOwners old new owners tiles added (get_or cells k d) (home.each k d within)
+
+pub apart-AddsOwners :
+    {old new : Pool} {owners : List ℕ} {tiles : ℕ} → AddsOwners old new owners tiles → (session : Session) → IsHome old session → AreApart (owners_of session) owners
+apart-AddsOwners {old} {new} {owners} {tiles} added session home owner among =
+    not_added old new owners owner tiles added (All-contains (λ o. room_of old o ≢ None) (owners_of session) owner live among)
+  where
+    live : All (λ o. room_of old o ≢ None) (owners_of session)
+    live =
+        All-push (λ o. room_of old o ≢ None) session.design.drawing.planes session.design.errors.owner
+        (λ k d within. has_room-HasStrips old (get_or session.design.drawing.planes k d) (home.drawing.strips k d within))
+        (has_room-HasStrips old session.design.errors.owner home.errors.marks.strips)
+
+module _ {old new : Pool} {owners : List ℕ} (others : KeepsOthers old new owners) where
+  -- ---- cells none of whose owners is among these
+  module _ (cells : Library) (apart : All (IsCellApart owners) cells) where
+    cells_kept : All (λ cell. All (IsKept old new) cell.planes) cells
+    cells_kept k d within i o below = others.kept (get_or (get_or cells k d).planes i o) (apart k d within i o below)
+
+    layouts_kept : All (λ cell. cell_layout new cell ≡ cell_layout old cell) cells
+    layouts_kept k d within = cell_layout-kept old new (get_or cells k d) (cells_kept k d within)
+
+    pub named_layouts-apart : named_layouts new cells ≡ named_layouts old cells
+    named_layouts-apart =
+        map_same (named_layout new) (named_layout old) cells
+        (λ k d within. ap (λ (layout : Layout). record { name = (get_or cells k d).name; layout = layout }) (layouts_kept k d within))
+
+    pub cell_layouts-apart : cell_layouts new cells ≡ cell_layouts old cells
+    cell_layouts-apart = map_same (cell_layout new) (cell_layout old) cells layouts_kept
+
+    pub CanDump-apart : {tech : Tech} {list : List ℕ} → CanDump tech old cells list → CanDump tech new cells list
+    CanDump-apart can = record { home = IsHome-kept old new cells cells_kept can.home; apart = can.apart; planes = can.planes }
+
+  -- ---- a session none of whose owners is among these
+  module _ (session : Session) (apart : AreApart (owners_of session) owners) where
     abbrev planes_of : List ℕ
     planes_of = session.design.drawing.planes
 
@@ -45,121 +96,89 @@ module _ (old new : Pool) where
 
     planes_kept : All (IsKept old new) planes_of
     planes_kept k d within =
-        All-contains (IsKept old new) (owners_of session) _ kept (Contains-append_left planes_of (errors_of ∷ []) _ (Contains-get_or planes_of k d within))
+        others.kept (get_or planes_of k d) (apart (get_or planes_of k d) (Contains-append_left planes_of (errors_of ∷ []) _ (Contains-get_or planes_of k d within)))
 
     errors_kept : IsKept old new errors_of
-    errors_kept = All-contains (IsKept old new) (owners_of session) errors_of kept (Contains-push planes_of errors_of)
+    errors_kept = others.kept errors_of (apart errors_of (Contains-push planes_of errors_of))
 
     errors_shown : picture_in new errors_of ≡ picture_in old errors_of
-    errors_shown = ap (λ (layout : Layout). layout 0) (cell_layout-kept old new (record { name = []; planes = errors_of ∷ [] }) each)
-      where
-        each : All (IsKept old new) (errors_of ∷ [])
-        each = All-push (IsKept old new) [] errors_of (λ k d within. absurd (omega (arith, within))) errors_kept
+    errors_shown =
+        ap (λ (layout : Layout). layout 0)
+        (cell_layout-kept old new (record { name = []; planes = errors_of ∷ [] }) (All-push (IsKept old new) [] errors_of (λ k d within. absurd (omega (arith, within))) errors_kept))
 
-    -- what it keeps
-    pub kept_of-other : kept_of new session ≡ kept_of old session
-    kept_of-other =
-        ap (λ (layout : Layout). record {
-          own = record {
-            design = record {
-              drawn = record { box = session.design.drawing.box; layout = layout };
-              checking = record { marks = is_marked (picture_in new errors_of); dirty = session.design.errors.dirty };
-            };
-            entries = length session.journal;
-          };
-          journal = session.journal;
-          checks = session.checks;
-        })
-        (cell_layout-kept old new (record { name = []; planes = planes_of }) planes_kept)
-        ∙ ap (λ (picture : Picture). record {
-          own = record {
-            design = record {
-              drawn = record { box = session.design.drawing.box; layout = layout_in old planes_of };
-              checking = record { marks = is_marked picture; dirty = session.design.errors.dirty };
-            };
-            entries = length session.journal;
-          };
-          journal = session.journal;
-          checks = session.checks;
-        })
-        errors_shown
+    abbrev kept_with : Layout → Picture → Kept
+    kept_with layout picture = record {
+      own = record {
+        design = record {
+          drawn = record { box = session.design.drawing.box; layout = layout };
+          checking = record { marks = is_marked picture; dirty = session.design.errors.dirty };
+        };
+        entries = length session.journal;
+      };
+      journal = session.journal;
+      checks = session.checks;
+    }
 
-    strips-other : (owner : ℕ) → IsKept old new owner → HasStrips old owner → HasStrips new owner
-    strips-other owner is = HasStrips-kept old new owner is.tiles is.room
+    -- it keeps what it kept
+    kept_of-apart : kept_of new session ≡ kept_of old session
+    kept_of-apart =
+        ap (λ (layout : Layout). kept_with layout (picture_in new errors_of)) (cell_layout-kept old new (record { name = []; planes = planes_of }) planes_kept)
+        ∙ ap (λ (picture : Picture). kept_with (layout_in old planes_of) picture) errors_shown
 
-    ShowsMarks-other : ShowsMarks old errors_of → ShowsMarks new errors_of
-    ShowsMarks-other shows = record {
-      strips = strips-other errors_of errors_kept shows.strips;
+    strips-apart : (owner : ℕ) → IsKept old new owner → HasStrips old owner → HasStrips new owner
+    strips-apart owner is = HasStrips-kept old new owner is.tiles is.room
+
+    ShowsMarks-apart : ShowsMarks old errors_of → ShowsMarks new errors_of
+    ShowsMarks-apart shows = record {
+      strips = strips-apart errors_of errors_kept shows.strips;
       marks = subst (λ (picture : Picture). picture ≡ marks_picture (is_marked picture)) (sym errors_shown) shows.marks;
     }
 
-    pub IsHome-other : IsHome old session → IsHome new session
-    IsHome-other home = record {
+    IsHome-apart : IsHome old session → IsHome new session
+    IsHome-apart home = record {
       drawing = record {
-        strips = λ k d within. strips-other (get_or planes_of k d) (planes_kept k d within) (home.drawing.strips k d within);
+        strips = λ k d within. strips-apart (get_or planes_of k d) (planes_kept k d within) (home.drawing.strips k d within);
         reserves = λ k d within. (planes_kept k d within).room ∙ home.drawing.reserves k d within;
         apart = home.drawing.apart;
       };
       errors = record {
-        marks = ShowsMarks-other home.errors.marks;
+        marks = ShowsMarks-apart home.errors.marks;
         reserve = errors_kept.room ∙ home.errors.reserve;
         apart = home.errors.apart;
       };
     }
 
-    -- so it is still made for the technology, beside cells that are kept
-    pub IsMadeFor-other :
-        (tech : Tech) (rules : List EdgeRule) (quota limit : ℕ) (cells : Library) → AreCellsKept cells → IsMadeFor tech rules quota limit old cells session
-        → IsMadeFor tech rules quota limit new cells session
-    IsMadeFor-other tech rules quota limit cells cells_kept made = record {
-      planes_match = made.planes_match;
-      quota_match = made.quota_match;
-      limit_match = made.limit_match;
-      home = IsHome-other made.home;
-      can_dump = record {
-        home = IsHome-kept old new cells cells_kept made.can_dump.home;
-        apart = made.can_dump.apart;
-        planes = made.can_dump.planes;
-      };
-      marks_right = subst (λ (own : Kept). HasRightMarks rules own.own.design) (sym kept_of-other) made.marks_right;
-      legal =
-          subst (λ (layouts : List Layout). IsLegal (record {
-            config = record { tech = tech; rules = rules; cells = layouts; quota = session.design.drawing.quota };
-            journal = session.limit;
-          }) (kept_of new session)) (sym (cell_layouts-kept cells cells_kept))
-          (subst (IsLegal (terms_of tech rules old cells session)) (sym kept_of-other) made.legal);
-    }
+    -- so it is still made for the technology
+    module _ {tech : Tech} {rules : List EdgeRule} {quota limit : ℕ} {cells : Library} (cells_apart : All (IsCellApart owners) cells)
+        (made : IsMadeFor tech rules quota limit old cells session) where
+      terms_of-apart : terms_of tech rules new cells session ≡ terms_of tech rules old cells session
+      terms_of-apart = terms-same tech rules (cell_layouts-apart cells cells_apart) refl refl
 
--- ---- owners that are kept
--- the owners of a session at home have reserves
-pub has_room-IsHome : (pool : Pool) (session : Session) → IsHome pool session → All (λ owner. room_of pool owner ≢ None) (owners_of session)
-has_room-IsHome pool session home =
-    All-push (λ owner. room_of pool owner ≢ None) session.design.drawing.planes session.design.errors.owner
-    (λ k d within. has_room-HasStrips pool (get_or session.design.drawing.planes k d) (home.drawing.strips k d within))
-    (has_room-HasStrips pool session.design.errors.owner home.errors.marks.strips)
+      pub IsMadeFor-apart : IsMadeFor tech rules quota limit new cells session
+      IsMadeFor-apart = record {
+        planes_match = made.planes_match;
+        quota_match = made.quota_match;
+        limit_match = made.limit_match;
+        home = IsHome-apart made.home;
+        can_dump = CanDump-apart cells cells_apart made.can_dump;
+        marks_right = subst (λ (kept : Kept). HasRightMarks rules kept.own.design) (sym kept_of-apart) made.marks_right;
+        legal = subst₂ (λ (terms : Terms) (kept : Kept). IsLegal terms kept) (sym terms_of-apart) (sym kept_of-apart) made.legal;
+      }
 
--- as owners are added, all that have reserves are kept
-pub kept-AddsOwners :
-    (old new : Pool) (owners : List ℕ) (tiles : ℕ) → AddsOwners old new owners tiles → (others : List ℕ) → All (λ owner. room_of old owner ≢ None) others
-    → All (IsKept old new) others
-kept-AddsOwners old new owners tiles added others live k d within =
-    let apart = not_added old new owners (get_or others k d) tiles added (live k d within) in
-    record {
-      tiles = added.others (get_or others k d) apart;
-      room = added.rooms (get_or others k d) apart;
-    }
+  pub seat_for-apart : (entry : Entry) → AreApart (owners_of entry.1.session) owners → seat_for new entry ≡ seat_for old entry
+  seat_for-apart entry apart = ap (λ (kept : Kept). record { id = entry.1.id; name = entry.0; kept = kept }) (kept_of-apart entry.1.session apart)
 
--- as owners are removed, all others are kept
-pub kept-RemovesOwners :
-    (old new : Pool) (owners : List ℕ) (tiles : ℕ) → RemovesOwners old new owners tiles → (others : List ℕ) → All (λ owner. ¬ (Contains owners owner)) others
-    → All (IsKept old new) others
-kept-RemovesOwners old new owners tiles removed others apart k d within = record {
-  tiles = removed.others (get_or others k d) (apart k d within);
-  room = removed.rooms (get_or others k d) (apart k d within);
-}
-
--- owners that are added are apart from those that have reserves
-pub AreApart-added :
-    (old new : Pool) (owners : List ℕ) (tiles : ℕ) → AddsOwners old new owners tiles → (others : List ℕ) → All (λ owner. room_of old owner ≢ None) others
-    → AreApart others owners
-AreApart-added old new owners tiles added others live owner among = not_added old new owners owner tiles added (All-contains (λ o. room_of old o ≢ None) others owner live among)
+-- ---- a server's world, by its seats and what is left of the pool
+pub world_of-apart :
+    (server : Server) {new : Pool} {owners : List ℕ} → KeepsOthers server.pool new owners → All (IsCellApart owners) server.library → (given : ℕ) (entries : List Entry)
+    (seats : List Seat) (room : ℕ) → map (seat_for new) entries ≡ seats → unreserved new ≡ room
+    → world_of (record server { pool = new; given = given; sessions = entries }) ≡ record { setting = setting_of server; given = given; seats = seats; room = room }
+world_of-apart server {new} others apart given entries seats room seated left =
+    ap (λ (cells : List NamedLayout). record {
+      setting = record { tech = server.tech; rules = server.rules; quota = server.quota; journal = server.limit; cells = cells };
+      given = given;
+      seats = map (seat_for new) entries;
+      room = unreserved new;
+    }) (named_layouts-apart others server.library apart)
+    ∙ ap (λ (on : List Seat). record { setting = setting_of server; given = given; seats = on; room = unreserved new }) seated
+    ∙ ap (λ (n : ℕ). record { setting = setting_of server; given = given; seats = seats; room = n }) left

@@ -1,14 +1,15 @@
--- One of the open sessions changes: the server's other sessions stay, and so does all else of its world.
-use Rattle.std.proofs.Common.{◌≡◌, ◌≢◌, ℕ, zero, suc, ◌+◌, ◌<◌, ◌≤◌, ◌==◌, Bool, true, false, not, cond, List, [], ◌∷◌, length, map, get_or, nat_lt, slice_get, position, Option, Some, None, All, AllPairs, inl, inr, refl, sym, ap, subst, subst₂, ◌∙◌, arith}
-use Rattle.std.specs.List.{position_or_len}
+-- The open sessions in a list, and their seats: one of them, that of an id, and what the list is where one is replaced or removed.
+use Rattle.std.proofs.Common.{◌≡◌, ◌≢◌, ℕ, zero, suc, ◌+◌, ◌<◌, ◌≤◌, ◌==◌, Bool, true, false, not, cond, filter, List, [], ◌∷◌, length, map, get_or, nat_lt, slice_get, position, Some, None, All, AllPairs, inl, inr, refl, sym, ap, subst, subst₂, ◌∙◌, arith}
+use Rattle.std.specs.List.{position_or_len, remove}
 use Rattle.std.specs.Option.{option_map, unwrap_or}
 use Rattle.std.proofs.lemmas.Bool.{cases_lt, eq-eqb, eqb-true, ne_eqb}
 use Rattle.std.proofs.lemmas.Bool.Decides.{nat_tests}
 use Rattle.std.proofs.lemmas.List.{length-map}
+use Rattle.std.proofs.lemmas.List.Edits.{get_or-remove_above, get_or-remove_below, length-remove}
 use Rattle.std.proofs.lemmas.List.Sums.{fails_before_first, passes_at_first}
 use Rattle.std.proofs.lemmas.Option.{slice_get-get_or}
+use Rattle.std.proofs.lemmas.Simd.{map-map}
 use Rattle.indexmap.specs.Layout.{length-set_value_at, set_value_at}
-use Rattle.mls_session.specs.Journals.{Kept}
 use Rattle.mls_session.specs.Sessions.{kept_of, owners_of}
 use Rattle.mls_tilepool.specs.Pools.{Pool}
 use Rattle.mls_server.specs.Servers.{OpenSession, owners_in, place_in, seat_for}
@@ -28,11 +29,6 @@ IsAt [] i member = ⊥
 IsAt (entry ∷ entries) zero member = entry.1 ≡ member
 IsAt (entry ∷ entries) (suc i) member = IsAt entries i member
 
-pub slice_get-values : (entries : List Entry) (i : ℕ) → slice_get (map (λ entry. entry.1) entries) i ≡ option_map (λ entry. entry.1) (slice_get entries i)
-slice_get-values [] i = refl
-slice_get-values (entry ∷ entries) zero = refl
-slice_get-values (entry ∷ entries) (suc i) = slice_get-values entries i
-
 pub IsAt-values : (entries : List Entry) (i : ℕ) (member : OpenSession) → slice_get (map (λ entry. entry.1) entries) i ≡ Some member → IsAt entries i member
 IsAt-values [] i member found = absurd cc
 IsAt-values (entry ∷ entries) zero member found = ap (λ value. unwrap_or value member) found
@@ -48,11 +44,21 @@ at-get_or [] i member d at = absurd at
 at-get_or (entry ∷ entries) zero member d at = at
 at-get_or (entry ∷ entries) (suc i) member d at = at-get_or entries i member d at
 
+pub All-at :
+    (P : OpenSession → Type 0) (entries : List Entry) (i : ℕ) (member : OpenSession) → All (λ entry. P entry.1) entries → IsAt entries i member → P member
+All-at P entries i member all at = subst P (at-get_or entries i member ([], member) at) (all i ([], member) (at-within entries i member at))
+
 but-tail : (P : Entry → Type 0) (entry : Entry) (entries : List Entry) (i : ℕ) → AllBut P (entry ∷ entries) (suc i) → AllBut P entries i
 but-tail P entry entries i all k d within differ = all (suc k) d (omega (arith, within)) (omega (arith, differ))
 
 but-rest : (P : Entry → Type 0) (entry : Entry) (entries : List Entry) → AllBut P (entry ∷ entries) 0 → All P entries
 but-rest P entry entries all k d within = all (suc k) d (omega (arith, within)) (omega arith)
+
+-- functions that agree on each element agree on the list
+pub map_same : {X Y : Type 0} (f g : X → Y) (xs : List X) → All (λ x. f x ≡ g x) xs → map f xs ≡ map g xs
+map_same f g [] same = refl
+map_same f g (x ∷ xs) same =
+    ap (λ y. y ∷ map f xs) (same 0 x (omega arith)) ∙ ap (λ ys. g x ∷ ys) (map_same f g xs (λ k d within. same (suc k) d (omega (arith, within))))
 
 -- ---- one value of a list of entries is replaced
 module _ (P : Entry → Type 0) (after : OpenSession) where
@@ -80,10 +86,31 @@ module _ {X : Type 0} (part : Entry → X) (before after : OpenSession) (same : 
       subst₂ R (sym (part-replaced entries i a d at)) (sym (part-replaced entries i b d at))
       (pairs a b d less (subst (λ (count : ℕ). b < count) (length-set_value_at entries i after) within))
 
+module _ {X : Type 0} (f g : Entry → X) (before after : OpenSession) (here : (name : List ℕ) → f (name, after) ≡ g (name, before)) where
+  pub map-replaced :
+      (entries : List Entry) (i : ℕ) → IsAt entries i before → AllBut (λ entry. f entry ≡ g entry) entries i → map f (set_value_at entries i after) ≡ map g entries
+  map-replaced [] i at others = absurd at
+  map-replaced (entry ∷ entries) zero at others =
+      ap (λ x. x ∷ map f entries) (here entry.0 ∙ ap (λ (member : OpenSession). g (entry.0, member)) (sym at))
+      ∙ ap (λ xs. g entry ∷ xs) (map_same f g entries (but-rest (λ entry. f entry ≡ g entry) entry entries others))
+  map-replaced (entry ∷ entries) (suc i) at others =
+      ap (λ x. x ∷ map f (set_value_at entries i after)) (others 0 entry (omega arith) (omega arith))
+      ∙ ap (λ xs. g entry ∷ xs) (map-replaced entries i at (but-tail (λ entry. f entry ≡ g entry) entry entries i others))
+
 pub same-replaced : (entries : List Entry) (i : ℕ) (before after : OpenSession) → IsAt entries i before → after ≡ before → set_value_at entries i after ≡ entries
 same-replaced [] i before after at same = absurd at
 same-replaced (entry ∷ entries) zero before after at same = ap (λ member. (entry.0, member) ∷ entries) (same ∙ sym at)
 same-replaced (entry ∷ entries) (suc i) before after at same = ap (λ rest. entry ∷ rest) (same-replaced entries i before after at same)
+
+-- ---- one of them is removed
+-- what holds of all entries but one holds where that one is removed
+pub All-removed : (P : Entry → Type 0) (entries : List Entry) (i : ℕ) → i < length entries → AllBut P entries i → All P (remove entries i)
+All-removed P entries i within others k d below =
+    let shorter = length-remove entries i within in
+    elim (cases_lt k i) [
+      | inl less ↦ subst P (sym (get_or-remove_below entries i d k less within)) (others k d (omega (arith, below, shorter)) (omega (arith, less)))
+      | inr more ↦ subst P (sym (get_or-remove_above entries i d k more within)) (others (k + 1) d (omega (arith, below, shorter)) (omega (arith, more)))
+    ]
 
 -- ---- the entry of an id
 abbrev pub HasOtherId : ℕ → Entry → Type 0
@@ -147,33 +174,50 @@ module _ (id : ℕ) (pool : Pool) where
       rw (ne_eqb entry.1.id id (others 0 entry (omega arith))) (seat_in-none entries (λ k d within. others (suc k) d (omega (arith, within))))
 
 -- ---- seats
-module _ (id : ℕ) (kept : Kept) (old new : Pool) where
-  abbrev pub StaysApart : Entry → Type 0
-  StaysApart entry = (entry.1.id ≢ id) × (kept_of new entry.1.session ≡ kept_of old entry.1.session)
+-- it has another id, and the seat that it had
+abbrev pub StaysApart : ℕ → Pool → Pool → Entry → Type 0
+StaysApart id old new entry = (entry.1.id ≢ id) × (seat_for new entry ≡ seat_for old entry)
 
-  seat-stays : (entry : Entry) → StaysApart entry → seat_for new entry ≡ keeping id kept (seat_for old entry)
-  seat-stays entry stays = rw (ne_eqb entry.1.id id stays.0) (ap (λ (kept : Kept). record { id = entry.1.id; name = entry.0; kept = kept }) stays.1)
-
-  seats-stay : (entries : List Entry) → All StaysApart entries → map (seat_for new) entries ≡ map (keeping id kept) (map (seat_for old) entries)
-  seats-stay [] stay = refl
-  seats-stay (entry ∷ entries) stay =
-      ap (λ (seat : Seat). seat ∷ map (seat_for new) entries) (seat-stays entry (stay 0 entry (omega arith)))
-      ∙ ap (λ (seats : List Seat). keeping id kept (seat_for old entry) ∷ seats) (seats-stay entries (λ k d within. stay (suc k) d (omega (arith, within))))
-
+module _ (id : ℕ) (old new : Pool) (entries : List Entry) (i : ℕ) (before : OpenSession) (at : IsAt entries i before) (is : before.id ≡ id)
+    (others : AllBut (StaysApart id old new) entries i) where
+  -- one is replaced
   pub seats-replaced :
-      (entries : List Entry) (i : ℕ) (before after : OpenSession) → IsAt entries i before → before.id ≡ id → after.id ≡ id → kept_of new after.session ≡ kept
-      → AllBut StaysApart entries i → map (seat_for new) (set_value_at entries i after) ≡ map (keeping id kept) (map (seat_for old) entries)
-  seats-replaced [] i before after at is same shows others = absurd at
-  seats-replaced (entry ∷ entries) zero before after at is same shows others =
-      let here : entry.1.id ≡ id = ap (λ (found : OpenSession). found.id) at ∙ is in
-      rw (eq-eqb entry.1.id id here)
-      (ap (λ (number : ℕ). record { id = number; name = entry.0; kept = kept_of new after.session } ∷ map (seat_for new) entries) (same ∙ sym here)
-      ∙ ap (λ (shown : Kept). record { id = entry.1.id; name = entry.0; kept = shown } ∷ map (seat_for new) entries) shows
-      ∙ ap (λ (seats : List Seat). record { id = entry.1.id; name = entry.0; kept = kept } ∷ seats) (seats-stay entries (but-rest StaysApart entry entries others)))
-  seats-replaced (entry ∷ entries) (suc i) before after at is same shows others =
-      ap (λ (seat : Seat). seat ∷ map (seat_for new) (set_value_at entries i after)) (seat-stays entry (others 0 entry (omega arith) (omega arith)))
-      ∙ ap (λ (seats : List Seat). keeping id kept (seat_for old entry) ∷ seats)
-      (seats-replaced entries i before after at is same shows (but-tail StaysApart entry entries i others))
+      (after : OpenSession) → after.id ≡ before.id
+      → map (seat_for new) (set_value_at entries i after) ≡ map (keeping id (kept_of new after.session)) (map (seat_for old) entries)
+  seats-replaced after same =
+      map-replaced (seat_for new) (λ entry. keeping id (kept_of new after.session) (seat_for old entry)) before after here entries i at
+      (λ k d within differ. there (get_or entries k d) (others k d within differ))
+      ∙ sym (map-map (keeping id (kept_of new after.session)) (seat_for old) entries)
+    where
+      here : (name : List ℕ) → seat_for new (name, after) ≡ keeping id (kept_of new after.session) (seat_for old (name, before))
+      here name = rw (eq-eqb before.id id is) (ap (λ (number : ℕ). record { id = number; name = name; kept = kept_of new after.session }) same)
+
+      there : (entry : Entry) → StaysApart id old new entry → seat_for new entry ≡ keeping id (kept_of new after.session) (seat_for old entry)
+      there entry stays = rw (ne_eqb entry.1.id id stays.0) stays.1
+
+  -- one is removed
+  abbrev others_in : List Entry → List Seat
+  others_in list = filter (λ seat. not (seat.id == id)) (map (seat_for old) list)
+
+  all_others : (list : List Entry) → All (HasOtherId id) list → map (seat_for old) list ≡ others_in list
+  all_others [] differ = refl
+  all_others (entry ∷ list) differ =
+      rw (ne_eqb entry.1.id id (differ 0 entry (omega arith)))
+      (ap (λ (seats : List Seat). seat_for old entry ∷ seats) (all_others list (λ k d within. differ (suc k) d (omega (arith, within)))))
+
+  others_left : (list : List Entry) (n : ℕ) → IsAt list n before → AllBut (HasOtherId id) list n → map (seat_for old) (remove list n) ≡ others_in list
+  others_left [] n here differ = absurd here
+  others_left (entry ∷ list) zero here differ =
+      rw (eq-eqb entry.1.id id (ap (λ (found : OpenSession). found.id) here ∙ is)) (all_others list (but-rest (HasOtherId id) entry list differ))
+  others_left (entry ∷ list) (suc n) here differ =
+      rw (ne_eqb entry.1.id id (differ 0 entry (omega arith) (omega arith)))
+      (ap (λ (seats : List Seat). seat_for old entry ∷ seats) (others_left list n here (but-tail (HasOtherId id) entry list n differ)))
+
+  pub seats-removed : map (seat_for new) (remove entries i) ≡ others_in entries
+  seats-removed =
+      map_same (seat_for new) (seat_for old) (remove entries i)
+      (All-removed (λ entry. seat_for new entry ≡ seat_for old entry) entries i (at-within entries i before at) (λ k d within differ. (others k d within differ).1))
+      ∙ others_left entries i at (λ k d within differ. (others k d within differ).0)
 
 -- ---- where a scan of the sessions ends
 scan-found : (within : Bool) (n place : ℕ) → cond within (Some n) None ≡ Some place → n ≡ place

@@ -1,7 +1,7 @@
 -- What changes of a world's open sessions leave: each session's own record, and how they are numbered.
-use Rattle.std.proofs.Common.{◌≡◌, ◌≢◌, ℕ, ◌+◌, ◌<◌, ◌≤◌, ◌==◌, ◌++◌, Bool, true, false, not, cond, map, filter, get_or, All, Option, Some, None, List, [], ◌∷◌, refl, sym, ◌∙◌, subst, subst₂, arith}
+use Rattle.std.proofs.Common.{◌≡◌, ◌≢◌, ℕ, ◌+◌, ◌<◌, ◌≤◌, ◌==◌, ◌++◌, Bool, true, false, not, cond, inl, inr, map, filter, get_or, All, Option, Some, None, List, [], ◌∷◌, refl, sym, ap, ◌∙◌, subst, subst₂, arith}
 use Rattle.std.specs.Option.{option_map}
-use Rattle.std.proofs.lemmas.Bool.{eq-eqb, eqb-true, ne_eqb}
+use Rattle.std.proofs.lemmas.Bool.{cases_eq, eq-eqb, ne_eqb}
 use Rattle.std.proofs.lemmas.List.Elements.{All-filter, All-head, All-map, All-push, All-tail, All-weaker}
 use Rattle.std.proofs.lemmas.List.Kept.{AllPairs-filter}
 use Rattle.std.proofs.lemmas.List.Quantifiers.{all_pairs_push}
@@ -9,9 +9,24 @@ use Rattle.mls_geom.proofs.Ascending.{AllPairs-map}
 use Rattle.mls_session.specs.Journals.{Kept, kept_at_opening}
 use Rattle.mls_server.specs.Worlds.{IsNumbered, Seat, World, keeping, kept_in, seat_in, with_kept, with_session, without_session}
 
--- what the session of this id keeps, if it is among the seats
+-- what the session of this id keeps, if it is among the seats: the first that has the id
 abbrev kept_at : List Seat → ℕ → Option Kept
 kept_at seats id = option_map (λ seat. seat.kept) (seat_in seats id)
+
+kept_at-here : (seat : Seat) (seats : List Seat) (id : ℕ) → seat.id ≡ id → kept_at (seat ∷ seats) id ≡ Some seat.kept
+kept_at-here seat seats id is = rw (eq-eqb seat.id id is) refl
+
+kept_at-past : (seat : Seat) (seats : List Seat) (id : ℕ) → seat.id ≢ id → kept_at (seat ∷ seats) id ≡ kept_at seats id
+kept_at-past seat seats id differ = rw (ne_eqb seat.id id differ) refl
+
+-- it is the same of two lists whose first seats have one id, and the same where it is this
+kept_at-each :
+    (a b : Seat) (left right : List Seat) (id : ℕ) → a.id ≡ b.id → (b.id ≡ id → a.kept ≡ b.kept) → kept_at left id ≡ kept_at right id
+    → kept_at (a ∷ left) id ≡ kept_at (b ∷ right) id
+kept_at-each a b left right id same kept rest = elim (cases_eq b.id id) [
+  | inl is ↦ kept_at-here a left id (same ∙ is) ∙ ap Some (kept is) ∙ sym (kept_at-here b right id is)
+  | inr differ ↦ kept_at-past a left id (λ is. differ (sym same ∙ is)) ∙ rest ∙ sym (kept_at-past b right id differ)
+]
 
 -- ---- a session keeps something else
 -- no id changes
@@ -22,64 +37,47 @@ keeping_by false kept seat = refl
 pub keeping-id : (id : ℕ) (kept : Kept) (seat : Seat) → (keeping id kept seat).id ≡ seat.id
 keeping-id id kept seat = keeping_by (seat.id == id) kept seat
 
-module _ (id : ℕ) (kept before : Kept) where
-  here_kept :
-      (same : Bool) (seat : Seat) (seats : List Seat) → (seat.id == id) ≡ same → (kept_at seats id ≡ Some before → kept_at (map (keeping id kept) seats) id ≡ Some kept)
-      → option_map (λ seat. seat.kept) (cond same (Some seat) (seat_in seats id)) ≡ Some before
-      → option_map (λ seat. seat.kept) (cond ((cond same (record seat { kept = kept }) seat).id == id) (Some (cond same (record seat { kept = kept }) seat)) (seat_in (map (keeping id kept) seats) id)) ≡ Some kept
-  here_kept true seat seats is rest found = rw is refl
-  here_kept false seat seats is rest found = rw is (rest found)
-
-  kept_at-same : (seats : List Seat) → kept_at seats id ≡ Some before → kept_at (map (keeping id kept) seats) id ≡ Some kept
-  kept_at-same [] found = absurd cc
-  kept_at-same (seat ∷ seats) found = here_kept (seat.id == id) seat seats refl (kept_at-same seats) found
-
 module _ (id : ℕ) (kept : Kept) where
-  here_none :
-      (same : Bool) (seat : Seat) (seats : List Seat) → (seat.id == id) ≡ same → (kept_at seats id ≡ None → kept_at (map (keeping id kept) seats) id ≡ None)
-      → option_map (λ seat. seat.kept) (cond same (Some seat) (seat_in seats id)) ≡ None
-      → option_map (λ seat. seat.kept) (cond ((cond same (record seat { kept = kept }) seat).id == id) (Some (cond same (record seat { kept = kept }) seat)) (seat_in (map (keeping id kept) seats) id)) ≡ None
-  here_none true seat seats is rest none = absurd cc
-  here_none false seat seats is rest none = rw is (rest none)
+  abbrev all_keeping : List Seat → List Seat
+  all_keeping seats = map (keeping id kept) seats
 
-  kept_at-none_kept : (seats : List Seat) → kept_at seats id ≡ None → kept_at (map (keeping id kept) seats) id ≡ None
-  kept_at-none_kept [] none = refl
-  kept_at-none_kept (seat ∷ seats) none = here_none (seat.id == id) seat seats refl (kept_at-none_kept seats) none
+  keeping-here : (seat : Seat) → seat.id ≡ id → (keeping id kept seat).kept ≡ kept
+  keeping-here seat is = rw (eq-eqb seat.id id is) refl
 
-module _ (id other : ℕ) (kept : Kept) (apart : other ≢ id) where
-  there_kept :
-      (same : Bool) (seat : Seat) (seats : List Seat) → (seat.id == id) ≡ same → kept_at (map (keeping id kept) seats) other ≡ kept_at seats other
-      → option_map (λ seat. seat.kept) (cond ((cond same (record seat { kept = kept }) seat).id == other) (Some (cond same (record seat { kept = kept }) seat)) (seat_in (map (keeping id kept) seats) other))
-      ≡ option_map (λ seat. seat.kept) (cond (seat.id == other) (Some seat) (seat_in seats other))
-  there_kept true seat seats is rest =
-      let at : seat.id ≡ id = eqb-true seat.id id is in
-      let no : seat.id ≢ other = λ same. apart (sym same ∙ at) in
-      rw (ne_eqb seat.id other no) rest
-  there_kept false seat seats is rest = passed (seat.id == other) seat seats rest
-    where
-      passed :
-          (found : Bool) (seat : Seat) (seats : List Seat) → kept_at (map (keeping id kept) seats) other ≡ kept_at seats other
-          → option_map (λ seat. seat.kept) (cond found (Some seat) (seat_in (map (keeping id kept) seats) other))
-          ≡ option_map (λ seat. seat.kept) (cond found (Some seat) (seat_in seats other))
-      passed true seat seats rest = refl
-      passed false seat seats rest = rest
+  keeping-past : (seat : Seat) → seat.id ≢ id → (keeping id kept seat).kept ≡ seat.kept
+  keeping-past seat differ = rw (ne_eqb seat.id id differ) refl
 
-  kept_at-other : (seats : List Seat) → kept_at (map (keeping id kept) seats) other ≡ kept_at seats other
-  kept_at-other [] = refl
-  kept_at-other (seat ∷ seats) = there_kept (seat.id == id) seat seats refl (kept_at-other seats)
+  -- it keeps this, if it is open
+  kept_at-keeping : (seats : List Seat) → kept_at (all_keeping seats) id ≡ option_map (λ (before : Kept). kept) (kept_at seats id)
+  kept_at-keeping [] = refl
+  kept_at-keeping (seat ∷ seats) = elim (cases_eq seat.id id) [
+    | inl is ↦
+        kept_at-here (keeping id kept seat) (all_keeping seats) id (keeping-id id kept seat ∙ is) ∙ ap Some (keeping-here seat is)
+        ∙ ap (option_map (λ (before : Kept). kept)) (sym (kept_at-here seat seats id is))
+    | inr differ ↦
+        kept_at-past (keeping id kept seat) (all_keeping seats) id (λ is. differ (sym (keeping-id id kept seat) ∙ is)) ∙ kept_at-keeping seats
+        ∙ ap (option_map (λ (before : Kept). kept)) (sym (kept_at-past seat seats id differ))
+  ]
+
+  -- and all others what they kept
+  kept_at-other : (other : ℕ) → other ≢ id → (seats : List Seat) → kept_at (all_keeping seats) other ≡ kept_at seats other
+  kept_at-other other apart [] = refl
+  kept_at-other other apart (seat ∷ seats) =
+      kept_at-each (keeping id kept seat) seat (all_keeping seats) seats other (keeping-id id kept seat) (λ is. keeping-past seat (λ here. apart (sym is ∙ here)))
+      (kept_at-other other apart seats)
 
 module _ (on : World) (id : ℕ) (kept : Kept) where
   -- it keeps this
   pub with_kept-same : (before : Kept) → kept_in on id ≡ Some before → kept_in (with_kept on id kept) id ≡ Some kept
-  with_kept-same before is = kept_at-same id kept before on.seats is
+  with_kept-same before is = kept_at-keeping id kept on.seats ∙ ap (option_map (λ (before : Kept). kept)) is
 
   -- if it is open
   pub with_kept-none : kept_in on id ≡ None → kept_in (with_kept on id kept) id ≡ None
-  with_kept-none none = kept_at-none_kept id kept on.seats none
+  with_kept-none none = kept_at-keeping id kept on.seats ∙ ap (option_map (λ (before : Kept). kept)) none
 
   -- and all others what they kept
   pub with_kept-other : (other : ℕ) → other ≢ id → kept_in (with_kept on id kept) other ≡ kept_in on other
-  with_kept-other other apart = kept_at-other id other kept apart on.seats
+  with_kept-other other apart = kept_at-other id kept other apart on.seats
 
   pub with_kept-numbered : IsNumbered on → IsNumbered (with_kept on id kept)
   with_kept-numbered numbered =
@@ -95,38 +93,33 @@ module _ (on : World) (id : ℕ) (kept : Kept) where
 
 -- ---- a session is closed
 module _ (id : ℕ) where
-  closed_here :
-      (same : Bool) (seat : Seat) (seats : List Seat) → (seat.id == id) ≡ same → kept_at (filter (λ seat. not (seat.id == id)) seats) id ≡ None
-      → kept_at (cond (not same) (seat ∷ filter (λ seat. not (seat.id == id)) seats) (filter (λ seat. not (seat.id == id)) seats)) id ≡ None
-  closed_here true seat seats is rest = rest
-  closed_here false seat seats is rest = rw is rest
+  abbrev others_in : List Seat → List Seat
+  others_in seats = filter (λ seat. not (seat.id == id)) seats
 
-  kept_at-closed : (seats : List Seat) → kept_at (filter (λ seat. not (seat.id == id)) seats) id ≡ None
+  closed_here : (seat : Seat) (seats : List Seat) → seat.id ≡ id → others_in (seat ∷ seats) ≡ others_in seats
+  closed_here seat seats is = rw (eq-eqb seat.id id is) refl
+
+  left_open : (seat : Seat) (seats : List Seat) → seat.id ≢ id → others_in (seat ∷ seats) ≡ seat ∷ others_in seats
+  left_open seat seats differ = rw (ne_eqb seat.id id differ) refl
+
+  kept_at-closed : (seats : List Seat) → kept_at (others_in seats) id ≡ None
   kept_at-closed [] = refl
-  kept_at-closed (seat ∷ seats) = closed_here (seat.id == id) seat seats refl (kept_at-closed seats)
+  kept_at-closed (seat ∷ seats) = elim (cases_eq seat.id id) [
+    | inl is ↦ ap (λ (list : List Seat). kept_at list id) (closed_here seat seats is) ∙ kept_at-closed seats
+    | inr differ ↦
+        ap (λ (list : List Seat). kept_at list id) (left_open seat seats differ) ∙ kept_at-past seat (others_in seats) id differ ∙ kept_at-closed seats
+  ]
 
-  module _ (other : ℕ) (apart : other ≢ id) where
-    left_open :
-        (found : Bool) (seat : Seat) (seats : List Seat) → kept_at (filter (λ seat. not (seat.id == id)) seats) other ≡ kept_at seats other
-        → option_map (λ seat. seat.kept) (cond found (Some seat) (seat_in (filter (λ seat. not (seat.id == id)) seats) other))
-        ≡ option_map (λ seat. seat.kept) (cond found (Some seat) (seat_in seats other))
-    left_open true seat seats rest = refl
-    left_open false seat seats rest = rest
-
-    closed_there :
-        (same : Bool) (seat : Seat) (seats : List Seat) → (seat.id == id) ≡ same
-        → kept_at (filter (λ seat. not (seat.id == id)) seats) other ≡ kept_at seats other
-        → kept_at (cond (not same) (seat ∷ filter (λ seat. not (seat.id == id)) seats) (filter (λ seat. not (seat.id == id)) seats)) other
-        ≡ option_map (λ seat. seat.kept) (cond (seat.id == other) (Some seat) (seat_in seats other))
-    closed_there true seat seats is rest =
-        let at : seat.id ≡ id = eqb-true seat.id id is in
-        let no : seat.id ≢ other = λ same. apart (sym same ∙ at) in
-        rw (ne_eqb seat.id other no) rest
-    closed_there false seat seats is rest = left_open (seat.id == other) seat seats rest
-
-    kept_at-left : (seats : List Seat) → kept_at (filter (λ seat. not (seat.id == id)) seats) other ≡ kept_at seats other
-    kept_at-left [] = refl
-    kept_at-left (seat ∷ seats) = closed_there (seat.id == id) seat seats refl (kept_at-left seats)
+  kept_at-left : (other : ℕ) → other ≢ id → (seats : List Seat) → kept_at (others_in seats) other ≡ kept_at seats other
+  kept_at-left other apart [] = refl
+  kept_at-left other apart (seat ∷ seats) = elim (cases_eq seat.id id) [
+    | inl here ↦
+        ap (λ (list : List Seat). kept_at list other) (closed_here seat seats here) ∙ kept_at-left other apart seats
+        ∙ sym (kept_at-past seat seats other (λ is. apart (sym is ∙ here)))
+    | inr differ ↦
+        ap (λ (list : List Seat). kept_at list other) (left_open seat seats differ)
+        ∙ kept_at-each seat seat (others_in seats) seats other refl (λ is. refl) (kept_at-left other apart seats)
+  ]
 
 module _ (on : World) (id : ℕ) where
   pub without_session-same : kept_in (without_session on id) id ≡ None
@@ -154,27 +147,16 @@ pub not_open-beyond : (on : World) (id : ℕ) → IsNumbered on → on.given < i
 not_open-beyond on id numbered beyond = kept_at-none on.given on.seats id numbered.given beyond
 
 -- a seat at the end is found where no other is
-last_found :
-    (found : Bool) (seat last : Seat) (seats : List Seat) (id : ℕ) → (kept_at seats id ≡ None → kept_at (seats ++ last ∷ []) id ≡ kept_at (last ∷ []) id)
-    → option_map (λ seat. seat.kept) (cond found (Some seat) (seat_in seats id)) ≡ None
-    → option_map (λ seat. seat.kept) (cond found (Some seat) (seat_in (seats ++ last ∷ []) id)) ≡ kept_at (last ∷ []) id
-last_found true seat last seats id rest none = absurd cc
-last_found false seat last seats id rest none = rest none
-
 kept_at-last : (seats : List Seat) (last : Seat) (id : ℕ) → kept_at seats id ≡ None → kept_at (seats ++ last ∷ []) id ≡ kept_at (last ∷ []) id
 kept_at-last [] last id none = refl
-kept_at-last (seat ∷ seats) last id none = last_found (seat.id == id) seat last seats id (kept_at-last seats last id) none
-
-first_found :
-    (found : Bool) (seat last : Seat) (seats : List Seat) (id : ℕ) → kept_at (seats ++ last ∷ []) id ≡ kept_at seats id
-    → option_map (λ seat. seat.kept) (cond found (Some seat) (seat_in (seats ++ last ∷ []) id))
-    ≡ option_map (λ seat. seat.kept) (cond found (Some seat) (seat_in seats id))
-first_found true seat last seats id rest = refl
-first_found false seat last seats id rest = rest
+kept_at-last (seat ∷ seats) last id none = elim (cases_eq seat.id id) [
+  | inl is ↦ let never = sym (kept_at-here seat seats id is) ∙ none in absurd cc
+  | inr differ ↦ kept_at-past seat (seats ++ last ∷ []) id differ ∙ kept_at-last seats last id (sym (kept_at-past seat seats id differ) ∙ none)
+]
 
 kept_at-first : (seats : List Seat) (last : Seat) (id : ℕ) → last.id ≢ id → kept_at (seats ++ last ∷ []) id ≡ kept_at seats id
-kept_at-first [] last id apart = rw (ne_eqb last.id id apart) refl
-kept_at-first (seat ∷ seats) last id apart = first_found (seat.id == id) seat last seats id (kept_at-first seats last id apart)
+kept_at-first [] last id apart = kept_at-past last [] id apart
+kept_at-first (seat ∷ seats) last id apart = kept_at-each seat seat (seats ++ last ∷ []) seats id refl (λ is. refl) (kept_at-first seats last id apart)
 
 module _ (on : World) (name : List ℕ) where
   pub with_session-same : IsNumbered on → kept_in (with_session on name) (on.given + 1) ≡ Some (kept_at_opening on.setting.rules)

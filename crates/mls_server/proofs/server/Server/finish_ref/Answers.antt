@@ -1,81 +1,41 @@
-use Rattle.std.proofs.Common.{◌≡◌, ℕ, Ok, Some, None, refl, sym, ap, subst, ◌∙◌}
+use Rattle.std.proofs.Common.{Some, refl, sym, ap, ◌∙◌}
 use Rattle.std.specs.Option.{option_copied_mut}
-use Rattle.indexmap.specs.Layout.{set_value_at}
-use Rattle.mls_paint.specs.Owners.{ChangesAmong}
 use Rattle.mls_session.specs.Journals.{Finishes}
-use Rattle.mls_session.specs.Sessions.{terms_of}
 use Rattle.mls_server.specs.contracts.server.OpenSession.{the_view as session_view}
 use Rattle.mls_server.specs.contracts.server.Server.{the_view}
-use Rattle.mls_server.specs.Events.{DoesFinish}
-use Rattle.mls_server.specs.Servers.{OpenSession, owners_under, place_in, setting_of, world_of}
-use Rattle.mls_server.specs.Settings.{terms_for}
-use Rattle.mls_server.specs.Worlds.{kept_in}
-use Rattle.mls_server.proofs.AskedSessions.{AreOpen-changed, OnSeat-changed, frame-at, made-at, not_open}
+use Rattle.mls_server.proofs.AskedSessions.{AreOpen-changed, IsAsked, OnSeat-changed, frame-changed, is_asked, not_open, own_terms}
 use Rattle.mls_server.proofs.KeptRooms.{HasRooms-kept, HasRooms-quota}
 use Rattle.mls_server.proofs.server.Server.finish_ref.Goals as goal
+use Rattle.mls_server.proofs.server.Server.finish_ref.Goals.{After-asked}
+
+-- the session that is asked
+asked : (c : After-asked) → IsAsked c.args.self.now (the_view c.self.inside) c.args.id c.place_of-place.result (session_view c.asked.inside)
+asked c =
+    is_asked c.self.view_is c.self.invariant.0 c.args.id c.place_of-place.result c.place_of-place.ensures (session_view c.asked.inside)
+    (sym c.get_index_mut.ensures.value ∙ ap option_copied_mut c.in-Some.is ∙ ap Some (sym c.asked.view_is))
 
 pub returns-in_default-clause-finishes : goal.returns-in_default-clause-finishes
 returns-in_default-clause-finishes c =
-    let place = c.place_of-place.ensures ∙ ap (λ server. place_in server.sessions c.args.id) (sym c.self.view_is) in
-    let none = sym c.get_index_mut.ensures.value ∙ ap option_copied_mut c.in_default.is in (
-      subst (λ server. kept_in (world_of server) c.args.id ≡ None) c.self.view_is (not_open (the_view c.self.inside) c.args.id c.place_of-place.result place none),
-      ap world_of c.self.view_is,
-    )
+    not_open c.self.view_is c.args.id c.place_of-place.result c.place_of-place.ensures (sym c.get_index_mut.ensures.value ∙ ap option_copied_mut c.in_default.is)
 
-pub finish-requires-clause-home : goal.finish-requires-clause-home
-finish-requires-clause-home c =
-    let server = the_view c.self.inside in
-    let place = c.place_of-place.ensures ∙ ap (λ server. place_in server.sessions c.args.id) (sym c.self.view_is) in
-    let found = sym c.get_index_mut.ensures.value ∙ ap option_copied_mut c.in-Some.is ∙ ap Some (sym c.asked.view_is) in
-    let before = session_view c.asked.inside in
-    let made = made-at server c.self.invariant.0 c.args.id c.place_of-place.result before place found in
-    made.home
-
-pub finish-requires-clause-has_rooms : goal.finish-requires-clause-has_rooms
-finish-requires-clause-has_rooms c =
-    let server = the_view c.self.inside in
-    let place = c.place_of-place.ensures ∙ ap (λ server. place_in server.sessions c.args.id) (sym c.self.view_is) in
-    let found = sym c.get_index_mut.ensures.value ∙ ap option_copied_mut c.in-Some.is ∙ ap Some (sym c.asked.view_is) in
-    let before = session_view c.asked.inside in
-    let made = made-at server c.self.invariant.0 c.args.id c.place_of-place.result before place found in
-    HasRooms-quota c.self.inside.quota _ c.self.inside.scratch _ made.quota_match c.self.invariant.1
+pub finish-requires : goal.finish-requires
+finish-requires c =
+    let is = asked (goal.at.finish-requires c).After-asked in
+    record { home = is.made.home; has_rooms = HasRooms-quota c.self.inside.quota _ c.self.inside.scratch _ is.made.quota_match c.self.invariant.1 }
 
 pub invariant_of-self-2 : goal.invariant_of-self-2
 invariant_of-self-2 c =
-    let server = the_view c.self.inside in
-    let place = c.place_of-place.ensures ∙ ap (λ server. place_in server.sessions c.args.id) (sym c.self.view_is) in
-    let found = sym c.get_index_mut.ensures.value ∙ ap option_copied_mut c.in-Some.is ∙ ap Some (sym c.asked.view_is) in
-    let before = session_view c.asked.inside in
-    let made = made-at server c.self.invariant.0 c.args.id c.place_of-place.result before place found in
-    let done = c.finish.ensures in
-    let after : OpenSession = record before { session = c.finish.new.self } in
-    let terms = terms_of server.tech server.rules server.pool server.library before.session in (
-      AreOpen-changed server c.self.invariant.0 c.args.id c.place_of-place.result before place found c.finish.new.pool after refl done.keeps done.marks_right
-          (done.legal terms (sym made.planes_match) refl refl),
+    let is = asked (goal.at.invariant_of-self-2 c).After-asked in
+    let done = c.finish.ensures in (
+      AreOpen-changed is done.keeps done.marks_right (done.legal (own_terms (the_view c.self.inside) (session_view c.asked.inside)) (sym is.made.planes_match) refl refl),
       HasRooms-kept c.self.inside.quota c.self.inside.scratch c.finish.new.scratch _ _ done.rooms done.pieces_room c.self.invariant.1,
     )
 
-pub returns-clause-finishes : goal.returns-clause-finishes
-returns-clause-finishes c =
-    let server = the_view c.self.inside in
-    let place = c.place_of-place.ensures ∙ ap (λ server. place_in server.sessions c.args.id) (sym c.self.view_is) in
-    let found = sym c.get_index_mut.ensures.value ∙ ap option_copied_mut c.in-Some.is ∙ ap Some (sym c.asked.view_is) in
-    let before = session_view c.asked.inside in
-    let made = made-at server c.self.invariant.0 c.args.id c.place_of-place.result before place found in
-    let after : OpenSession = record before { session = c.finish.new.self } in
-    let terms = terms_for (setting_of server) in
-    let new = record server { pool = c.finish.new.pool; sessions = set_value_at server.sessions c.place_of-place.result after } in
-    subst (λ old. DoesFinish (world_of old) c.args.id c.args.finding.now (Ok c.finish.result) (world_of new)) c.self.view_is
-    (OnSeat-changed server c.self.invariant.0 c.args.id c.place_of-place.result before place found c.finish.new.pool after refl c.finish.ensures.keeps
-    (λ kept outcome new. Finishes terms kept c.args.finding.now outcome new) c.finish.result
-    (c.finish.ensures.finished terms (sym made.planes_match) refl (sym made.quota_match)))
-
-pub returns-clause-frame : goal.returns-clause-frame
-returns-clause-frame c =
-    let server = the_view c.self.inside in
-    let place = c.place_of-place.ensures ∙ ap (λ server. place_in server.sessions c.args.id) (sym c.self.view_is) in
-    let found = sym c.get_index_mut.ensures.value ∙ ap option_copied_mut c.in-Some.is ∙ ap Some (sym c.asked.view_is) in
-    let before = session_view c.asked.inside in
-    let after : OpenSession = record before { session = c.finish.new.self } in
-    subst (λ old. ChangesAmong old.pool c.finish.new.pool (owners_under old c.args.id)) c.self.view_is
-    (frame-at server c.self.invariant.0 c.args.id c.place_of-place.result before place found c.finish.new.pool after refl c.finish.ensures.keeps)
+pub returns : goal.returns
+returns c =
+    let is = asked (goal.at.returns c).After-asked in
+    let done = c.finish.ensures in
+    record {
+      finishes = OnSeat-changed is done.keeps (λ terms before outcome after. Finishes terms before c.args.finding.now outcome after) c.finish.result (done.finished (own_terms (the_view c.self.inside) (session_view c.asked.inside)) (sym is.made.planes_match) refl refl);
+      frame = frame-changed is done.keeps;
+    }

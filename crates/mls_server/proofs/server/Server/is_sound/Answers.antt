@@ -1,26 +1,15 @@
 use Rattle.std.proofs.Common.{subst}
 use Rattle.mls_server.proofs.RunLaws.{MarksAreExact-from_right}
 use Rattle.mls_server.proofs.SoundWorlds.{IsNumbered-of, JournalsAreLegal-of, MarksAreRight-of}
+use Rattle.mls_server.specs.contracts.server.Server.{the_view}
 use Rattle.mls_server.specs.Servers.{Server, world_of}
 use Rattle.mls_server.specs.Worlds.{IsNumbered, JournalsAreLegal, MarksAreRight}
 use Rattle.mls_server.proofs.server.Server.is_sound.Goals as goal
 
 pub returns : goal.returns
 returns c =
-    let own = c.self.inside in
-    let server : Server = record {
-      tech = own.tech;
-      rules = own.rules;
-      quota = own.quota;
-      limit = own.limit;
-      pool = own.pool;
-      library = own.library;
-      given = own.given;
-      sessions = own.sessions.entries;
-    } in
-    let right : MarksAreRight (world_of c.args.self.now) =
-    subst (λ (now : Server). MarksAreRight (world_of now)) c.self.view_is (MarksAreRight-of server c.self.invariant.0)
-    in
+    let server = the_view c.self.inside in
+    let right = subst (λ (now : Server). MarksAreRight (world_of now)) c.self.view_is (MarksAreRight-of server c.self.invariant.0) in
     record {
       right = right;
       exact = MarksAreExact-from_right (world_of c.args.self.now) right;

@@ -1,43 +1,22 @@
-use Rattle.std.proofs.Common.{◌≡◌, [], ap, subst, ◌∙◌}
+use Rattle.std.proofs.Common.{ap, subst, ◌∙◌}
 use Rattle.mls_server.proofs.IdleServers.{AreOpen-loaded, LoadsCell-loaded}
+use Rattle.mls_server.specs.contracts.server.Server.{the_view}
 use Rattle.mls_server.specs.Events.{LoadsCell}
 use Rattle.mls_server.specs.Servers.{Server, world_of}
 use Rattle.mls_server.proofs.server.Server.load.Goals as goal
 
 pub invariant_of-self : goal.invariant_of-self
 invariant_of-self c =
-    let own = c.self.inside in
-    let server : Server = record {
-      tech = own.tech;
-      rules = own.rules;
-      quota = own.quota;
-      limit = own.limit;
-      pool = own.pool;
-      library = own.library;
-      given = own.given;
-      sessions = own.sessions.entries;
-    } in
-    let idle : (world_of server).seats ≡ [] = ap (λ (now : Server). (world_of now).seats) c.self.view_is ∙ c.requires.idle in
-    (AreOpen-loaded server c.self.invariant.0 idle c.load.new.pool c.load.new.self c.load.ensures.home c.load.ensures.planes, c.self.invariant.1)
+    let idle = ap (λ (now : Server). (world_of now).seats) c.self.view_is ∙ c.requires.idle in
+    (AreOpen-loaded (the_view c.self.inside) c.self.invariant.0 idle c.load.new.pool c.load.new.self c.load.ensures.home c.load.ensures.planes, c.self.invariant.1)
 
 pub returns : goal.returns
 returns c =
-    let own = c.self.inside in
-    let server : Server = record {
-      tech = own.tech;
-      rules = own.rules;
-      quota = own.quota;
-      limit = own.limit;
-      pool = own.pool;
-      library = own.library;
-      given = own.given;
-      sessions = own.sessions.entries;
-    } in
-    let idle : (world_of server).seats ≡ [] = ap (λ (now : Server). (world_of now).seats) c.self.view_is ∙ c.requires.idle in
-    let after : Server = record server { pool = c.load.new.pool; library = c.load.new.self } in
+    let server = the_view c.self.inside in
+    let idle = ap (λ (now : Server). (world_of now).seats) c.self.view_is ∙ c.requires.idle in
     record {
       loads =
-          subst (λ (old : Server). LoadsCell (world_of old) c.args.name.now c.args.bytes.now c.load.result (world_of after)) c.self.view_is
+          subst (λ (old : Server). LoadsCell (world_of old) c.args.name.now c.args.bytes.now c.load.result (world_of (record server { pool = c.load.new.pool; library = c.load.new.self }))) c.self.view_is
           (LoadsCell-loaded server c.self.invariant.0 idle c.load.new.pool c.load.new.self c.args.name.now c.args.bytes.now c.load.result c.load.ensures.loads
           c.load.ensures.library_kept c.load.ensures.pool_kept);
     }
