@@ -2,7 +2,7 @@
 use Rattle.std.proofs.Common.{◌≡◌, ◌≢◌, ℕ, Bool, true, false, cond, Some, List, [], ◌∷◌, length, replicate, inl, inr, refl, sym, ap, ◌∙◌, subst, arith}
 use Rattle.std.specs.Option.{option_and_then, option_map}
 use Rattle.mls_session.proofs.OwnReplies.{own_step-not_memory}
-use Rattle.mls_session.specs.Journals.{ChecksOnce, Commands, Does, Kept, RunsOut, Saves, is_journalled, is_memory, is_refusal, noted}
+use Rattle.mls_session.specs.Journals.{ChecksOnce, Commands, Does, Kept, RunsOut, Saves, is_journalled, is_memory, is_refusal, noted, text_with}
 use Rattle.mls_session.specs.OwnSteps.{OwnState, Terms, checks, own_step}
 use Rattle.mls_session.specs.declared.command.Command.{Command as OwnCommand}
 use Rattle.mls_session.specs.declared.command.Command.TheVariants.{Box, Paint, Erase, Dump, What, Save as SaveCommand, Check, CatchUp, Why as AskWhy, Count as AskCount}
@@ -116,6 +116,14 @@ module _ (terms : Terms) where
       → Leads terms (AddsCommand SaveCommand reply) (told_by reply) before.own after.own
   Saves-leads before reply text after (inl saves) = Does-leads before SaveCommand reply after saves.0
   Saves-leads before reply text after (inr (room, refused, empty, kept)) = none_led SaveCommand before after reply refused kept
+
+  -- a save has the text of the layout as it was
+  pub Saves-text :
+      (before : Kept) (reply : Reply) (text : List ℕ) (after : Kept) → Saves terms before reply text after
+      → text ≡ text_with terms.config.tech before.own.design.drawn.layout reply
+  Saves-text before reply text after (inl saves) = saves.1
+  Saves-text before reply text after (inr (room, refused, empty, kept)) =
+      empty ∙ ap (text_with terms.config.tech before.own.design.drawn.layout) (sym refused)
 
   -- ---- check steps
   -- one that was accepted

@@ -1,5 +1,5 @@
 -- The open sessions in a list, and their seats: one of them, that of an id, and what the list is where one is replaced or removed.
-use Rattle.std.proofs.Common.{◌≡◌, ◌≢◌, ℕ, zero, suc, ◌+◌, ◌<◌, ◌≤◌, ◌==◌, Bool, true, false, not, cond, filter, List, [], ◌∷◌, length, map, get_or, nat_lt, slice_get, position, Some, None, All, AllPairs, inl, inr, refl, sym, ap, subst, subst₂, ◌∙◌, arith}
+use Rattle.std.proofs.Common.{◌≡◌, ◌≢◌, ℕ, zero, suc, ◌+◌, ◌<◌, ◌≤◌, ◌==◌, Bool, true, false, not, cond, filter, List, [], ◌∷◌, length, map, get_or, nat_lt, Option, slice_get, position, Some, None, All, AllPairs, inl, inr, refl, sym, ap, subst, subst₂, ◌∙◌, arith}
 use Rattle.std.specs.List.{position_or_len, remove}
 use Rattle.std.specs.Option.{option_map, unwrap_or}
 use Rattle.std.proofs.lemmas.Bool.{cases_lt, eq-eqb, eqb-true, ne_eqb}
@@ -235,10 +235,10 @@ module _ (entries : List Entry) (id : ℕ) where
   abbrev first : ℕ
   first = position_or_len (λ member. member.id == id) members
 
-  pub place-found : (place : ℕ) → position (λ member. member.id == id) members ≡ Some place → place ≡ place_in entries id
+  place-found : (place : ℕ) → position (λ member. member.id == id) members ≡ Some place → place ≡ place_in entries id
   place-found place found = sym (scan-found (nat_lt first (length members)) first place found) ∙ place-values entries id
 
-  pub place-missing : position (λ member. member.id == id) members ≡ None → length entries ≡ place_in entries id
+  place-missing : position (λ member. member.id == id) members ≡ None → length entries ≡ place_in entries id
   place-missing none =
       let fails : nat_lt first (length members) ≡ false = scan-missing (nat_lt first (length members)) first none in
       let past : length members ≤ first = grind (arith, nat_tests) in
@@ -253,3 +253,7 @@ module _ (entries : List Entry) (id : ℕ) where
           next : (passes : Bool) (n count : ℕ) → n ≤ count → cond (not passes) (1 + n) 0 ≤ suc count
           next true n count within = omega arith
           next false n count within = omega (arith, within)
+
+  pub place-or : (found : Option ℕ) → position (λ member. member.id == id) members ≡ found → unwrap_or found (length entries) ≡ place_in entries id
+  place-or None none = place-missing none
+  place-or (Some place) found = place-found place found

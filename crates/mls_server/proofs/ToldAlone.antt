@@ -15,10 +15,10 @@ use Rattle.mls_session.specs.declared.command.Command.{Command as OwnCommand}
 use Rattle.mls_session.specs.declared.reply.Reply.{Reply}
 use Rattle.mls_server.proofs.AloneRuns.{alone-both}
 use Rattle.mls_server.proofs.EventFrames.{Happens-keeps, Happens-leaves, Keeps, Leaves}
-use Rattle.mls_server.proofs.OwnEffects.{ChecksOnce-leads, Commands-leads, Leads, Saves-leads, none-leads}
+use Rattle.mls_server.proofs.OwnEffects.{ChecksOnce-leads, Commands-leads, Leads, Saves-leads, Saves-text, none-leads}
 use Rattle.mls_server.proofs.Seats.{not_open-beyond, with_kept-same, without_session-same}
 use Rattle.mls_server.specs.Events.{Closes, DoesCommand, DoesFinish, DoesGrab, DoesStep, Happens, Runs, SavesText}
-use Rattle.mls_server.specs.OwnLists.{Adds, AddsIf, IsToldAlone, Item, OwnList, alone, at, is_of, started, told, told_to}
+use Rattle.mls_server.specs.OwnLists.{Adds, AddsIf, HasText, IsToldAlone, Item, OwnList, alone, at, is_of, started, told, told_to}
 use Rattle.mls_server.specs.Settings.{Setting, terms_for}
 use Rattle.mls_server.specs.Worlds.{IsNumbered, World, kept_in, with_kept, without_session}
 use Rattle.mls_server.specs.declared.answer.Answer.{Answer}
@@ -40,6 +40,7 @@ record Adds-here (own_event : Bool) (terms : Terms) (event : Event) (answer : An
   items : List Item
   after : OwnState
   adds : AddsIf own_event event answer items after
+  text : own_event ≡ true → HasText terms answer before
   leads : alone terms (at before) items ≡ Some (record { own = after; replies = cond own_event (told answer) [] })
   stands : Stands new id after
 
@@ -48,11 +49,13 @@ module _ (old : World) (numbered : IsNumbered old) (id : ℕ) (own : OwnState) (
   -- the session keeps something else
   changed :
       (event : Event) (answer : Answer) (before after : Kept) (new : World) → kept_in old id ≡ Some before → new ≡ with_kept old id after
-      → Leads (terms_for old.setting) (Adds event answer) (told answer) before.own after.own → Adds-here true (terms_for old.setting) event answer id own new
-  changed event answer before after new is_open is led = record {
+      → HasText (terms_for old.setting) answer before.own → Leads (terms_for old.setting) (Adds event answer) (told answer) before.own after.own
+      → Adds-here true (terms_for old.setting) event answer id own new
+  changed event answer before after new is_open is text led = record {
     items = led.items;
     after = after.own;
     adds = led.adds;
+    text = λ of. subst (HasText (terms_for old.setting) answer) (stood.open_at before is_open) text;
     leads = ap (λ (first : OwnState). alone (terms_for old.setting) (at first) led.items) (sym (stood.open_at before is_open)) ∙ led.leads;
     stands = subst (λ (on : World). Stands on id after.own) (sym is) (record {
       open_at = λ kept found. ap (λ (last : Kept). last.own) (same_Some kept after (sym found ∙ with_kept-same old id after before is_open));
@@ -62,12 +65,13 @@ module _ (old : World) (numbered : IsNumbered old) (id : ℕ) (own : OwnState) (
 
   -- nothing changes
   unchanged :
-      (event : Event) (answer : Answer) (new : World) → new ≡ old → Adds event answer [] own → told answer ≡ []
+      (event : Event) (answer : Answer) (new : World) → new ≡ old → Adds event answer [] own → HasText (terms_for old.setting) answer own → told answer ≡ []
       → Adds-here true (terms_for old.setting) event answer id own new
-  unchanged event answer new is adds nothing = record {
+  unchanged event answer new is adds text nothing = record {
     items = [];
     after = own;
     adds = adds;
+    text = λ of. text;
     leads = ap (λ (said : List Reply). Some (record { own = own; replies = said })) (sym nothing);
     stands = subst (λ (on : World). Stands on id own) (sym is) stood;
   }
@@ -81,29 +85,37 @@ module _ (old : World) (numbered : IsNumbered old) (id : ℕ) (own : OwnState) (
 
   of_close : (result : Result (Unit {0}) NotOpen) (new : World) → Closes old id result new → Adds-here true (terms_for old.setting) (Close id) (Closed result) id own new
   of_close (Ok done) new (was_open, is) =
-      record { items = []; after = own; adds = refl; leads = refl; stands = subst (λ (on : World). Stands on id own) (sym is) (closed was_open) }
-  of_close (Err fault) new (none, is) = unchanged (Close id) (Closed (Err fault)) new is refl refl
+      record {
+        items = [];
+        after = own;
+        adds = refl;
+        text = λ of. tt;
+        leads = refl;
+        stands = subst (λ (on : World). Stands on id own) (sym is) (closed was_open);
+      }
+  of_close (Err fault) new (none, is) = unchanged (Close id) (Closed (Err fault)) new is refl tt refl
 
   of_command :
       (command : OwnCommand) (result : Result Reply NotOpen) (new : World) → DoesCommand old id command result new
       → Adds-here true (terms_for old.setting) (Command id command) (Commanded result) id own new
   of_command command (Ok reply) new (before, after, is_open, does, is) =
-      changed (Command id command) (Commanded (Ok reply)) before after new is_open is (Commands-leads (terms_for old.setting) before command reply after does)
-  of_command command (Err fault) new (none, is) = unchanged (Command id command) (Commanded (Err fault)) new is refl refl
+      changed (Command id command) (Commanded (Ok reply)) before after new is_open is tt (Commands-leads (terms_for old.setting) before command reply after does)
+  of_command command (Err fault) new (none, is) = unchanged (Command id command) (Commanded (Err fault)) new is refl tt refl
 
   of_save :
       (result : Result Reply NotOpen) (text : List ℕ) (new : World) → SavesText old id result text new
       → Adds-here true (terms_for old.setting) (Save id) (Saved result text) id own new
   of_save (Ok reply) text new (before, after, is_open, saves, is) =
-      changed (Save id) (Saved (Ok reply) text) before after new is_open is (Saves-leads (terms_for old.setting) before reply text after saves)
-  of_save (Err fault) text new (none, empty, is) = unchanged (Save id) (Saved (Err fault) text) new is refl refl
+      changed (Save id) (Saved (Ok reply) text) before after new is_open is (Saves-text (terms_for old.setting) before reply text after saves)
+      (Saves-leads (terms_for old.setting) before reply text after saves)
+  of_save (Err fault) text new (none, empty, is) = unchanged (Save id) (Saved (Err fault) text) new is refl empty refl
 
   of_grab :
       (result : Result (Option Job) GrabFault) (new : World) → DoesGrab old id result new
       → Adds-here true (terms_for old.setting) (Grab id) (Grabbed result) id own new
-  of_grab (Ok job) new (kept, is_open, next, is) = unchanged (Grab id) (Grabbed (Ok job)) new is refl refl
-  of_grab (Err NoSession) new (none, is) = unchanged (Grab id) (Grabbed (Err NoSession)) new is refl refl
-  of_grab (Err OutOfMemory) new (kept, is_open, some, is) = unchanged (Grab id) (Grabbed (Err OutOfMemory)) new is refl refl
+  of_grab (Ok job) new (kept, is_open, next, is) = unchanged (Grab id) (Grabbed (Ok job)) new is refl tt refl
+  of_grab (Err NoSession) new (none, is) = unchanged (Grab id) (Grabbed (Err NoSession)) new is refl tt refl
+  of_grab (Err OutOfMemory) new (kept, is_open, some, is) = unchanged (Grab id) (Grabbed (Err OutOfMemory)) new is refl tt refl
 
   Finishes-leads :
       (finding : Finding) (before : Kept) (outcome : Outcome) (after : Kept) → Finishes (terms_for old.setting) before finding outcome after
@@ -116,8 +128,8 @@ module _ (old : World) (numbered : IsNumbered old) (id : ℕ) (own : OwnState) (
       (finding : Finding) (result : Result Outcome NotOpen) (new : World) → DoesFinish old id finding result new
       → Adds-here true (terms_for old.setting) (Finish id finding) (Finished result) id own new
   of_finish finding (Ok outcome) new (before, after, is_open, finishes, is) =
-      changed (Finish id finding) (Finished (Ok outcome)) before after new is_open is (Finishes-leads finding before outcome after finishes)
-  of_finish finding (Err fault) new (none, is) = unchanged (Finish id finding) (Finished (Err fault)) new is refl refl
+      changed (Finish id finding) (Finished (Ok outcome)) before after new is_open is tt (Finishes-leads finding before outcome after finishes)
+  of_finish finding (Err fault) new (none, is) = unchanged (Finish id finding) (Finished (Err fault)) new is refl tt refl
 
   StepsOnce-leads :
       (before : Kept) (end : StepEnd) (after : Kept) → StepsOnce (terms_for old.setting) before end after
@@ -130,8 +142,8 @@ module _ (old : World) (numbered : IsNumbered old) (id : ℕ) (own : OwnState) (
   of_step :
       (result : Result StepEnd NotOpen) (new : World) → DoesStep old id result new → Adds-here true (terms_for old.setting) (Step id) (Stepped result) id own new
   of_step (Ok end) new (before, after, is_open, steps, is) =
-      changed (Step id) (Stepped (Ok end)) before after new is_open is (StepsOnce-leads before end after steps)
-  of_step (Err fault) new (none, is) = unchanged (Step id) (Stepped (Err fault)) new is refl refl
+      changed (Step id) (Stepped (Ok end)) before after new is_open is tt (StepsOnce-leads before end after steps)
+  of_step (Err fault) new (none, is) = unchanged (Step id) (Stepped (Err fault)) new is refl tt refl
 
   -- an event of this session, which is of this id
   module _ (answer : Answer) (new : World) where
@@ -187,6 +199,7 @@ module _ (old : World) (numbered : IsNumbered old) (id : ℕ) (own : OwnState) (
         items = [];
         after = own;
         adds = refl;
+        text = λ of. absurd cc;
         leads = refl;
         stands = left new (Happens-keeps old event answer new happens) (Happens-leaves old numbered id event answer new not_of happens);
       }
@@ -199,7 +212,7 @@ pub OwnList-alone :
 OwnList-alone terms id own [] answers items last (none, same) =
     ap (alone terms (at own)) none ∙ ap (λ (reached : OwnState). Some (at reached)) (sym same)
 OwnList-alone terms id own (event ∷ events) [] items last never = absurd never
-OwnList-alone terms id own (event ∷ events) (answer ∷ answers) items last (first, rest, mid, adds, ran, list, joined) =
+OwnList-alone terms id own (event ∷ events) (answer ∷ answers) items last (first, rest, mid, adds, text, ran, list, joined) =
     ap (alone terms (at own)) joined
     ∙ alone-both terms own mid last first rest (cond (is_of id event) (told answer) []) (told_to id events answers) ran
     (OwnList-alone terms id mid events answers rest last list)
@@ -231,6 +244,7 @@ Runs-told id old new own (event ∷ events) (answer ∷ answers) numbered stood 
         later.items,
         here.after,
         here.adds,
+        here.text,
         here.leads,
         subst (λ (setting : Setting). OwnList (terms_for setting) id here.after events answers later.items later.last) keeps.setting later.own_list,
         refl,

@@ -4,7 +4,7 @@ use Rattle.std.specs.Prelude.{◌≡◌, ◌≢◌, ℕ, ◌==◌, Bool, true, f
 use Rattle.std.specs.Option.{option_and_then, option_map, unwrap_or}
 use Rattle.mls_errorplane.specs.declared.error_plane.Outcome.TheVariants.{Finished as FindingFinished}
 use Rattle.mls_errorplane.specs.declared.error_plane.Stepped.TheVariants.{Done as StepDone}
-use Rattle.mls_session.specs.Journals.{Run, is_memory, is_refusal, said_next}
+use Rattle.mls_session.specs.Journals.{Run, is_memory, is_refusal, said_next, text_with}
 use Rattle.mls_session.specs.OwnSteps.{OwnState, Terms, beginning, own_check}
 use Rattle.mls_session.specs.declared.command.Command.{Command as OwnCommand}
 use Rattle.mls_session.specs.declared.command.Command.TheVariants.{Save as SaveCommand}
@@ -79,6 +79,12 @@ told (Grabbed result) = []
 told (Finished result) = []
 told (Stepped result) = []
 
+-- the text that comes with the reply to a save is that of the session's layout, as it is in this own state, or empty where it isn't saved
+abbrev pub HasText : Terms → Answer → OwnState → Type 0
+HasText terms (Saved (Ok reply) text) own = text ≡ text_with terms.config.tech own.design.drawn.layout reply
+HasText terms (Saved (Err fault) text) own = text ≡ []
+HasText terms answer own = Unit
+
 abbrev pub is_of : ℕ → Event → Bool
 is_of id event = unwrap_or (option_map (λ session. session == id) (session_of event)) false
 
@@ -97,13 +103,14 @@ alone terms run (checked ∷ items) = option_and_then (λ own. alone terms (reco
 abbrev pub at : OwnState → Run
 at own = record { own = own; replies = [] }
 
--- from this own state the session's own list, event by event, is these items, and its alone run leads to the last state
+-- from this own state the session's own list, event by event, is these items, and its alone run leads to the last state; each save has the text of the
+-- layout that this run has then reached
 abbrev pub OwnList : Terms → ℕ → OwnState → List Event → List Answer → List Item → OwnState → Type 0
 OwnList terms id own [] answers items last = (items ≡ []) × (last ≡ own)
 OwnList terms id own (event ∷ events) [] items last = ⊥
 OwnList terms id own (event ∷ events) (answer ∷ answers) items last =
     (first : List Item) × (rest : List Item) × (mid : OwnState) × AddsIf (is_of id event) event answer first mid
-    × (alone terms (at own) first ≡ Some (record { own = mid; replies = if is_of id event then told answer else [] }))
+    × (is_of id event ≡ true → HasText terms answer own) × (alone terms (at own) first ≡ Some (record { own = mid; replies = if is_of id event then told answer else [] }))
     × OwnList terms id mid events answers rest last × (items ≡ first ++ rest)
 
 -- ---- the headline
@@ -111,8 +118,8 @@ OwnList terms id own (event ∷ events) (answer ∷ answers) items last =
 abbrev pub started : World → ℕ → OwnState
 started on id = unwrap_or (option_map (λ kept. kept.own) (kept_in on id)) (beginning on.setting.rules)
 
--- what the session of this id is told in these events is what the alone run of its own list says, and if it is open at the end, its own state is where
--- that run leads
+-- what the session of this id is told in these events is what the alone run of its own list says, texts of saves among it, and if it is open at the end,
+-- its own state is where that run leads
 pub record IsToldAlone (old : World) (id : ℕ) (events : List Event) (answers : List Answer) (new : World) : Type 0 where
   pub items : List Item
   pub last : OwnState

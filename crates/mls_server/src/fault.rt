@@ -10,22 +10,13 @@ pub struct NotOpen;
 
 /// Why there is no answer to whether a session has a job.
 #[derive(Clone, Copy, Debug, PartialEq, Eq, Error)]
-#[error("{}", self.text())]
 pub enum GrabFault {
     /// No session of this id is open.
+    #[error("not open")]
     NotOpen,
     /// Memory ran out.
+    #[error("memory")]
     Memory,
-}
-
-impl GrabFault {
-    /// Returns the fault's text.
-    pub fn text(self) -> &'static str {
-        match self {
-            GrabFault::NotOpen => "not open",
-            GrabFault::Memory => "memory",
-        }
-    }
 }
 
 /// Why a session can't be opened.

@@ -145,20 +145,15 @@ impl Server {
     pub fn journal_len(&self, id: SessionId) -> Option<usize>
         ensures value { result ≡ option_map (λ kept. kept.own.entries) (kept_in (world_of self.now) id) }
     {
-        match self.journal(id) {
-            Some(journal) => Some(journal.len()),
-            None => None,
-        }
+        let journal = self.journal(id)?;
+        Some(journal.len())
     }
 
     /// Returns the place of the session among the open ones, or their number if it is not open.
     pub(super) fn place_of(&self, id: SessionId) -> usize
         ensures { result ≡ place_in self.now.sessions id }
     {
-        match self.index_of(id) {
-            Some(place) => place,
-            None => self.sessions.len(),
-        }
+        self.index_of(id).unwrap_or(self.sessions.len())
     }
 
     /// Returns the place of the session among the open ones, if it is open.
