@@ -12,10 +12,20 @@ const SIDE: i32 = 10;
 /// The side of a square that a step paints.
 const PAINTED_SIDE: i32 = 4;
 
+/// Returns the line this many squares after another.
+fn line_after(line: i32, squares: i32) -> i32 {
+    line.saturating_add(squares)
+}
+
+/// Returns the line where this row or column of cells begins.
+fn line_of(index: u8, side: i32) -> i32 {
+    side.saturating_mul(i32::from(index))
+}
+
 /// Returns a square of this side by its lower-left corner.
 fn square(left: i32, bottom: i32, side: i32) -> Result<Rect, RectFault> {
-    let right = left.saturating_add(side);
-    let top = bottom.saturating_add(side);
+    let right = line_after(left, side);
+    let top = line_after(bottom, side);
     Rect::new(left, bottom, right, top)
 }
 
@@ -91,11 +101,11 @@ pub fn cells(alloc: Global, grid: CellGrid, kinds: [u8; 2]) -> Result<Vec<Piece>
     let width = PIECE_SIDE / i32::from(grid.columns.max(1));
     let mut pieces = Vec::new(alloc);
     for row in 0..grid.rows {
-        let bottom = height.saturating_mul(i32::from(row));
-        let top = bottom.saturating_add(height * 6 / 10);
+        let bottom = line_of(row, height);
+        let top = line_after(bottom, height * 6 / 10);
         for column in 0..grid.columns {
-            let left = width.saturating_mul(i32::from(column));
-            let right = left.saturating_add(width * 6 / 10);
+            let left = line_of(column, width);
+            let right = line_after(left, width * 6 / 10);
             pieces.push(Piece {
                 rect: Rect::new(left, bottom, right, top)?,
                 kind: kinds[usize::from((row ^ column) % 2)],
