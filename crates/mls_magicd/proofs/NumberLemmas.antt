@@ -1,29 +1,55 @@
 -- The number that is named is the one that is given.
-use Rattle.std.proofs.Common.{◌≡◌, ◌∙◌, ◌<◌, ◌≤◌, ◌^◌, ℕ, List, Option, Some, None, Result, Ok, subst}
+use Rattle.std.proofs.Common.{◌≡◌, ◌∙◌, ◌<◌, ◌≤◌, ◌^◌, ℕ, List, Option, Some, None, Result, subst}
+use Rattle.std.specs.Prelude.{pos}
 use Rattle.std.specs.Option.{MatchOption, SomeIff, UnwrapsOrElse}
-use Rattle.std.specs.Str.Parse.{ParsesUnsigned}
-use Rattle.clap.specs.Words.{ReadsOne}
+use Rattle.std.specs.Str.Parse.{ParsesUnsigned, ExplainsUnsignedError, HasUnsignedDigitsIfOk}
+use Rattle.std.specs.declared.num.ParseIntError.{ParseIntError}
+use Rattle.clap.specs.Words.{IsSignedIn, ReadsOne, Text, one_text, without_minus}
 use Rattle.clap.proofs.CallerReads.{signed_reads}
-use Rattle.mls_magicd.specs.CommandLines.{IsNumberText, NumberOption, number_in}
+use Rattle.clap.specs.declared.parser.matches.Found.{Found}
+use Rattle.mls_magicd.specs.CommandLines.{NumberOption, number_in}
 
--- a value is made of a number where that is legal, or else a default
-module _ (IsLegal : ℕ → Type 0) (P : ℕ → Type 0) where
-  -- a legal number makes the value
-  made : (n : ℕ) (made_of : Option ℕ) (value : ℕ) → IsLegal n → SomeIff made_of (IsLegal n) n → UnwrapsOrElse made_of P value → value ≡ n
-  made n None value legal not_made unwrapped = absurd (not_made legal)
-  made n (Some m) value legal is_made unwrapped = unwrapped ∙ is_made.1
+-- the parser takes the text for a number of the option
+abbrev pub IsNumberText : NumberOption → Text → Type 0
+IsNumberText option text = (written : Text) × (text ≡ without_minus written) × IsSignedIn (pos option.least) (pos option.most) written
 
-  module _ (E : Type 0) (G : List ℕ → Result ℕ E → Type 0) (text : List ℕ) (read made_of : Option ℕ) (value : ℕ)
-      (only : (u : List ℕ) (x : Result ℕ E) → G u x → ParsesUnsigned 32 10 u x) (reads : ReadsOne G text read)
-      (makes : MatchOption read (made_of ≡ None) (λ m. SomeIff made_of (IsLegal m) m)) (unwrapped : UnwrapsOrElse made_of P value) where
-    value_of : (n : ℕ) → read ≡ Some n → IsLegal n → value ≡ number_in text
-    unfolding number_in
-    value_of n is legal =
-        let parsed = only text (Ok n) (subst (λ (o : Option ℕ). ReadsOne G text o) is reads) in
-        made n made_of value legal (subst (λ (o : Option ℕ). MatchOption o (made_of ≡ None) (λ m. SomeIff made_of (IsLegal m) m)) is makes) unwrapped ∙ parsed.1
+-- the number is the one that a parse found, if the text after the option is one that the parser takes, or else the default
+pub record IsFoundNumber (option : NumberOption) (found : Found) (number : ℕ) : Type 0 where
+  pub usual : one_text found option.name ≡ None → number ≡ option.default
+  pub named : (text : Text) → one_text found option.name ≡ Some text → IsNumberText option text → number ≡ number_in text
 
-    -- a text that the parser takes for a number of the option gives that number, if all numbers of its range are legal
-    pub number-given : (option : NumberOption) → option.most < 2 ^ 32 → ((n : ℕ) → option.least ≤ n → n ≤ option.most → IsLegal n) → IsNumberText option text → value ≡ number_in text
-    number-given option fits legal is_text =
-        let in_range = signed_reads E G 32 option.least option.most is_text.0 read (subst (λ (t : List ℕ). ReadsOne G t read) is_text.1 reads) only fits is_text.2 in
-        value_of in_range.0 in_range.1 (legal in_range.0 in_range.2 in_range.3)
+-- what a text gives that is read as a `u32`
+abbrev GivesNumber : List ℕ → Result ℕ ParseIntError → Type 0
+GivesNumber text given = ParsesUnsigned 32 10 text given × ExplainsUnsignedError 10 text given × HasUnsignedDigitsIfOk text given
+
+-- a legal number makes the value
+made : (IsLegal P : ℕ → Type 0) (n : ℕ) (made_of : Option ℕ) (value : ℕ) → IsLegal n → SomeIff made_of (IsLegal n) n → UnwrapsOrElse made_of P value → value ≡ n
+made IsLegal P n None value legal not_made unwrapped = absurd (not_made legal)
+made IsLegal P n (Some m) value legal is_made unwrapped = unwrapped ∙ is_made.1
+
+-- a value is made of the number that is read where that is legal, or else it is the option's default
+module _ (option : NumberOption) (IsLegal : ℕ → Type 0) (read made_of : Option ℕ) (value : ℕ)
+    (makes : MatchOption read (made_of ≡ None) (λ m. SomeIff made_of (IsLegal m) m)) (unwrapped : UnwrapsOrElse made_of (λ n. n ≡ option.default) value) where
+  value_of_none : read ≡ None → value ≡ option.default
+  value_of_none none =
+      let not_made = subst (λ (o : Option ℕ). MatchOption o (made_of ≡ None) (λ m. SomeIff made_of (IsLegal m) m)) none makes in
+      subst (λ (o : Option ℕ). UnwrapsOrElse o (λ n. n ≡ option.default) value) not_made unwrapped
+
+  value_of_text : (text : List ℕ) (n : ℕ) → ReadsOne GivesNumber text read → read ≡ Some n → IsLegal n → value ≡ number_in text
+  unfolding number_in
+  value_of_text text n reads is legal =
+      let parsed = subst (λ (o : Option ℕ). ReadsOne GivesNumber text o) is reads in
+      made IsLegal _ n made_of value legal (subst (λ (o : Option ℕ). MatchOption o (made_of ≡ None) (λ m. SomeIff made_of (IsLegal m) m)) is makes) unwrapped ∙ parsed.0.1
+
+  -- the value is the number that a parse found, if all numbers of the option's range are legal
+  pub found-number : (found : Found) → (one_text found option.name ≡ None → read ≡ None)
+      → ((text : List ℕ) → one_text found option.name ≡ Some text → ReadsOne GivesNumber text read)
+      → option.most < 2 ^ 32 → ((n : ℕ) → option.least ≤ n → n ≤ option.most → IsLegal n) → IsFoundNumber option found value
+  found-number found none some fits legal = record {
+    usual = λ absent. value_of_none (none absent);
+    named = λ text present is_text.
+        let reads = some text present in
+        let in_range = signed_reads ParseIntError GivesNumber 32 option.least option.most is_text.0 read (subst (λ (t : List ℕ). ReadsOne GivesNumber t read) is_text.1 reads)
+        (λ u x given. given.0) fits is_text.2 in
+        value_of_text text in_range.0 reads in_range.1 (legal in_range.0 in_range.2 in_range.3);
+  }

@@ -11,8 +11,9 @@ use Rattle.clap.specs.declared.builder.command.Command.TheViews.{out-Command}
 use Rattle.clap.specs.declared.error.Error.{Error}
 use Rattle.clap.specs.declared.error.kind.ErrorKind.TheVariants.{OutOfMemory}
 use Rattle.clap.specs.declared.parser.matches.ArgMatches.{ArgMatches}
+use Rattle.mls_magicd.proofs.NumberLemmas.{IsFoundNumber, IsNumberText}
 use Rattle.mls_magicd.proofs.NumberTexts.{StandsAt, number-text}
-use Rattle.mls_magicd.specs.CommandLines.{NumberOption, magicd, tech_rule, number_rule, cells_rule, quota_option, pool_option, journal_option, cell_words, bad_word, faults_in, words_found, IsBadWord, IsFoundNumber, IsNumberFor, IsNumberOf, IsNumberText, file_named, number_named, IsParserFault, IsRefusedBy}
+use Rattle.mls_magicd.specs.CommandLines.{NumberOption, magicd, tech_rule, number_rule, cells_rule, quota_option, pool_option, journal_option, cell_words, bad_word, faults_in, words_found, IsBadWord, IsNumberFor, IsNumberOf, file_named, number_named, IsParserFault, IsRefusedBy}
 use Rattle.mls_magicd.specs.declared.options.OptionsFault.{OptionsFault}
 use Rattle.mls_magicd.specs.declared.options.OptionsFault.TheVariants.{Memory, Refused, BadCell}
 

@@ -1,7 +1,7 @@
 -- The command line of `magicd`, and what its words mean. This project's own.
 use Rattle.std.specs.Prelude.{◌≡◌, ◌≢◌, ℕ, ◌==◌, not, Option, Some, None, is_some, List, [], ◌∷◌, Result, Ok, Err, pos, codes, find, if◌then◌else◌, map, option_map, unwrap_or, ⊤}
 use Rattle.std.specs.Str.Parse.{digits_value, without_leading_plus}
-use Rattle.clap.specs.Words.{App, IsSignedIn, Kinds, Rule, Text, without_minus, all_of, fault_of, first_of, matched_of, matches_of, new_app, new_rule, one_of, one_text, raw_values, with_rule}
+use Rattle.clap.specs.Words.{App, Kinds, Rule, Text, all_of, fault_of, first_of, matched_of, matches_of, new_app, new_rule, one_of, raw_values, with_rule}
 use Rattle.clap.specs.declared.builder.action.ArgAction.TheVariants.{Append}
 use Rattle.clap.specs.declared.builder.value_parser.ValueParser.TheVariants.{Signed}
 use Rattle.clap.specs.declared.parser.matches.Found.{Found}
@@ -71,10 +71,6 @@ words_found found = unwrap_or (option_map raw_values (matched_of found (codes "c
 unfoldable pub number_in : Text → ℕ
 number_in text = digits_value 10 (without_leading_plus text)
 
--- the parser takes the text for a number of the option
-abbrev pub IsNumberText : NumberOption → Text → Type 0
-IsNumberText option text = (written : Text) × (text ≡ without_minus written) × IsSignedIn (pos option.least) (pos option.most) written
-
 -- the number is the one that the text names, or else the option's default
 abbrev pub IsNumberOf : NumberOption → Option Text → ℕ → Type 0
 IsNumberOf option None number = number ≡ option.default
@@ -83,11 +79,6 @@ IsNumberOf option (Some text) number = number ≡ number_in text
 -- it is the one that the words name
 abbrev pub IsNumberFor : NumberOption → List Text → ℕ → Type 0
 IsNumberFor option words number = IsNumberOf option (number_named option words) number
-
--- so it is by what a parse found, if the text after the option is one that the parser takes
-pub record IsFoundNumber (option : NumberOption) (found : Found) (number : ℕ) : Type 0 where
-  pub usual : one_text found option.name ≡ None → number ≡ option.default
-  pub named : (text : Text) → one_text found option.name ≡ Some text → IsNumberText option text → number ≡ number_in text
 
 -- ---- the cells
 

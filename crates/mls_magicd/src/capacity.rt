@@ -35,7 +35,7 @@ impl Capacity {
     pub fn new(tiles: u32) -> Option<Capacity>
         ensures { SomeIff result (IsCapacity tiles) tiles }
     {
-        if tiles < 1 || tiles > MOST {
+        if !(1..=MOST).contains(&tiles) {
             return None;
         }
         Some(Capacity { tiles })

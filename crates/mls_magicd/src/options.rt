@@ -1,10 +1,10 @@
 //! The options of the command line.
 ghost use Rattle.std.specs.Prelude.{◌≡◌, IfOk, IfErr, map, false};
+ghost use Rattle.std.specs.Range.{range_inclusive_start, range_inclusive_end};
 ghost use Rattle.clap.specs.declared.builder.command.Command.TheViews.{out-Command as fields_of};
 ghost use Rattle.clap.specs.Words.{app_of, found_of, kind_of, rule_of, IsPlain, IsPlainArg};
 ghost use Rattle.clap.specs.declared.error.kind.ErrorKind.TheVariants.{OutOfMemory};
-ghost use Rattle.mls_magicd.specs.CommandLines as spec;
-ghost use Rattle.mls_magicd.specs.CommandLines.{magicd, tech_rule, number_rule, cells_rule, file_of, words_found, IsBadWord, IsFoundNumber, IsParserFault, NamesFiles, ParsesWords};
+ghost use Rattle.mls_magicd.specs.CommandLines.{NumberOption, magicd, tech_rule, number_rule, cells_rule, file_of, words_found, IsBadWord, IsParserFault, NamesFiles, ParsesWords};
 
 use crate::capacity::Capacity;
 use crate::cell_argument::CellArgument;
@@ -13,6 +13,7 @@ use clap::{Arg, ArgAction, ArgMatches, Command, Error as ParseError, value_parse
 use mls_session::{JournalLimit, Quota};
 use std::alloc::{AllocError, AllocFailed, Global};
 use std::convert::AsStr;
+use std::ops::RangeInclusive;
 use thiserror::Error;
 
 /// What the words of the command line ask for.
@@ -73,9 +74,18 @@ impl<'a> Options<'a> {
                 let cells = cells_given(alloc, &matches)?;
                 Ok(Options {
                     tech: matches.get_str("tech"),
-                    quota: quota_given(&matches),
-                    pool: pool_given(&matches),
-                    journal: journal_given(&matches),
+                    quota: matches
+                        .get_one::<u32>("quota")
+                        .and_then(Quota::new)
+                        .unwrap_or_default(),
+                    pool: matches
+                        .get_one::<u32>("pool")
+                        .and_then(Capacity::new)
+                        .unwrap_or_default(),
+                    journal: matches
+                        .get_one::<u32>("journal")
+                        .and_then(JournalLimit::new)
+                        .unwrap_or_default(),
                     cells,
                 })
             }
@@ -90,13 +100,28 @@ fn command<'a>(alloc: Global) -> Result<Command<'a>, AllocError>
     ensures plain { IfOk result IsPlain }
     ensures local { IfOk result (λ c. (fields_of c).has_globals ≡ false) }
 {
-    let bare = Command::new(alloc, "magicd");
-    let named = bare.about("Serves layout scripts from standard input to standard output");
-    let with_tech = named.arg(tech_option(alloc))?;
-    let with_quota = with_tech.arg(quota_option(alloc))?;
-    let with_pool = with_quota.arg(pool_option(alloc))?;
-    let with_journal = with_pool.arg(journal_option(alloc))?;
-    with_journal.arg(cells_argument(alloc))
+    Command::new(alloc, "magicd")
+        .about("Serves layout scripts from standard input to standard output")
+        .arg(tech_option(alloc))?
+        .arg(number_option(
+            alloc,
+            "quota",
+            5..=16_384,
+            "Gives each plane N tiles, from 5 to 16384 [default: 1024]",
+        ))?
+        .arg(number_option(
+            alloc,
+            "pool",
+            1..=8_388_608,
+            "Gives all planes together N tiles, from 1 to 8388608 [default: 262144]",
+        ))?
+        .arg(number_option(
+            alloc,
+            "journal",
+            1..=65_536,
+            "Gives each journal N entries, from 1 to 65536 [default: 4096]",
+        ))?
+        .arg(cells_argument(alloc))
 }
 
 fn tech_option<'a>(alloc: Global) -> Arg<'a>
@@ -110,40 +135,24 @@ fn tech_option<'a>(alloc: Global) -> Arg<'a>
         .help("Reads the technology from a file")
 }
 
-fn quota_option<'a>(alloc: Global) -> Arg<'a>
-    ensures rule { rule_of result ≡ number_rule spec.quota_option }
+/// Returns the option `--NAME N`, where `N` is a number of the range.
+fn number_option<'a>(
+    alloc: Global,
+    name: &'a str,
+    range: RangeInclusive<u32>,
+    help: &'a str,
+) -> Arg<'a>
+    ensures rule { (option : NumberOption) → name.entry.now ≡ option.name → range_inclusive_start range ≡ option.least → range_inclusive_end range ≡ option.most
+        → rule_of result ≡ number_rule option }
     ensures plain { IsPlainArg result }
     ensures local { result.global ≡ false }
 {
-    Arg::new(alloc, "quota")
-        .long("quota")
+    let numbers = i64::from(*range.start())..=i64::from(*range.end());
+    Arg::new(alloc, name)
+        .long(name)
         .value_name("N")
-        .value_parser(value_parser!(u32).range(5..=16_384))
-        .help("Gives each plane N tiles, from 5 to 16384 [default: 1024]")
-}
-
-fn pool_option<'a>(alloc: Global) -> Arg<'a>
-    ensures rule { rule_of result ≡ number_rule spec.pool_option }
-    ensures plain { IsPlainArg result }
-    ensures local { result.global ≡ false }
-{
-    Arg::new(alloc, "pool")
-        .long("pool")
-        .value_name("N")
-        .value_parser(value_parser!(u32).range(1..=8_388_608))
-        .help("Gives all planes together N tiles, from 1 to 8388608 [default: 262144]")
-}
-
-fn journal_option<'a>(alloc: Global) -> Arg<'a>
-    ensures rule { rule_of result ≡ number_rule spec.journal_option }
-    ensures plain { IsPlainArg result }
-    ensures local { result.global ≡ false }
-{
-    Arg::new(alloc, "journal")
-        .long("journal")
-        .value_name("N")
-        .value_parser(value_parser!(u32).range(1..=65_536))
-        .help("Gives each journal N entries, from 1 to 65536 [default: 4096]")
+        .value_parser(value_parser!(u32).range(numbers))
+        .help(help)
 }
 
 fn cells_argument<'a>(alloc: Global) -> Arg<'a>
@@ -155,36 +164,6 @@ fn cells_argument<'a>(alloc: Global) -> Arg<'a>
         .action(ArgAction::Append)
         .value_name("NAME=FILE")
         .help("Loads a library cell from a file")
-}
-
-/// The quota that the matches name, or the default.
-fn quota_given(matches: &ArgMatches<'_>) -> Quota
-    ensures { IsFoundNumber spec.quota_option (found_of matches.now) result }
-{
-    matches
-        .get_one::<u32>("quota")
-        .and_then(Quota::new)
-        .unwrap_or_default()
-}
-
-/// The capacity of the pool that the matches name, or the default.
-fn pool_given(matches: &ArgMatches<'_>) -> Capacity
-    ensures { IsFoundNumber spec.pool_option (found_of matches.now) result }
-{
-    matches
-        .get_one::<u32>("pool")
-        .and_then(Capacity::new)
-        .unwrap_or_default()
-}
-
-/// The limit of a journal that the matches name, or the default.
-fn journal_given(matches: &ArgMatches<'_>) -> JournalLimit
-    ensures { IsFoundNumber spec.journal_option (found_of matches.now) result }
-{
-    matches
-        .get_one::<u32>("journal")
-        .and_then(JournalLimit::new)
-        .unwrap_or_default()
 }
 
 /// The cells that the matches name, in order.

@@ -1,10 +1,14 @@
-use Rattle.std.proofs.Common.{◌∙◌, ℕ, List, map, subst}
+use Rattle.std.proofs.Common.{◌∙◌, ℕ, List, map, subst, arith}
 use Rattle.std.proofs.lemmas.Result.{err_from_is_err_and}
 use Rattle.clap.specs.Words.{Text, found_of}
 use Rattle.mls_magicd.proofs.CellWords.{named-not_bad}
 use Rattle.mls_magicd.proofs.OptionLemmas.{cells-named, file-named, number-parsed, refused-for_fault, refused-for_word, taken-no_fault}
+use Rattle.mls_magicd.proofs.NumberLemmas.{IsFoundNumber, found-number}
 use Rattle.mls_magicd.proofs.NumberTexts.{StandsAt, journal_stands, pool_stands, quota_stands}
-use Rattle.mls_magicd.specs.CommandLines.{IsFoundNumber, NamesFiles, NumberOption, file_of, journal_option, pool_option, quota_option}
+use Rattle.mls_session.specs.JournalLimits.{IsJournalLimit}
+use Rattle.mls_session.specs.Quotas.{IsQuota}
+use Rattle.mls_magicd.specs.Capacities.{IsCapacity}
+use Rattle.mls_magicd.specs.CommandLines.{NamesFiles, NumberOption, file_of, journal_option, pool_option, quota_option}
 use Rattle.mls_magicd.proofs.options.Options.parse.Goals as goal
 
 pub returns-in_ok-cells-in-Ok : goal.returns-in_ok-cells-in-Ok
@@ -21,9 +25,15 @@ returns-in_ok-cells-in-Ok g c =
     record {
       taken = (taken-no_fault _ command built taken.kinds, named-not_bad _ files named);
       tech = c.get_str.ensures ∙ file-named _ command m built taken.matches;
-      quota = number quota_option 1 c.quota_given.result quota_stands c.quota_given.ensures;
-      pool = number pool_option 2 c.pool_given.result pool_stands c.pool_given.ensures;
-      journal = number journal_option 3 c.journal_given.result journal_stands c.journal_given.ensures;
+      quota = number quota_option 1 c.unwrap_or_default.result quota_stands
+          (found-number quota_option IsQuota c.get_one.result c.and_then.result _ c.and_then.ensures c.unwrap_or_default.ensures (found_of m)
+          c.get_one.ensures.none c.get_one.ensures.value (omega arith) (λ n enough bounded. record { enough = enough; bounded = bounded }));
+      pool = number pool_option 2 c.unwrap_or_default-in-Ok.result pool_stands
+          (found-number pool_option IsCapacity c.get_one-in-Ok.result c.and_then-in-Ok.result _ c.and_then-in-Ok.ensures c.unwrap_or_default-in-Ok.ensures (found_of m)
+          c.get_one-in-Ok.ensures.none c.get_one-in-Ok.ensures.value (omega arith) (λ n enough bounded. record { enough = enough; bounded = bounded }));
+      journal = number journal_option 3 c.unwrap_or_default-in-Ok-2.result journal_stands
+          (found-number journal_option IsJournalLimit c.get_one-in-Ok-2.result c.and_then-in-Ok-2.result _ c.and_then-in-Ok-2.ensures c.unwrap_or_default-in-Ok-2.ensures (found_of m)
+          c.get_one-in-Ok-2.ensures.none c.get_one-in-Ok-2.ensures.value (omega arith) (λ n enough bounded. record { enough = enough; bounded = bounded }));
       cells = named;
     }
 
