@@ -59,8 +59,8 @@ fn load_cell<'a, F: Files>(
         Err(FileFault::Unreadable) => return Err(LoadFault::Unreadable(path)),
         Err(FileFault::Memory) => return Err(LoadFault::Memory),
     };
-    match server.load(alloc, name.as_bytes(), &bytes) {
-        Ok(_) => Ok(()),
-        Err(fault) => Err(LoadFault::Faulty { name, fault }),
-    }
+    server
+        .load(alloc, name.as_bytes(), &bytes)
+        .map_err(|fault| LoadFault::Faulty { name, fault })?;
+    Ok(())
 }
