@@ -1,5 +1,5 @@
 -- What the program does with its words, its technology and its script. This project's own.
-use Rattle.std.specs.Prelude.{◌≡◌, ◌≢◌, ◌⊎◌, ℕ, Option, Some, None, Ok, Err, List, [], ◌∷◌, ◌++◌, map}
+use Rattle.std.specs.Prelude.{◌≡◌, ◌≢◌, ◌⊎◌, ℕ, Option, Some, Ok, Err, List, [], ◌∷◌, ◌++◌, map}
 use Rattle.mls_edgerule.specs.Compiling.{compiled}
 use Rattle.mls_tech.specs.Readings.{Tech}
 use Rattle.mls_server.specs.Worlds.{MarksAreExact, MarksAreRight, World}
