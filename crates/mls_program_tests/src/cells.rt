@@ -1,7 +1,8 @@
 //! The whole program with library cells: erase, save and dump.
-use crate::programs::ended;
+use crate::programs::{Ending, ended, expect_ended, expect_row};
 use mls_magicd::{FileFault, Files};
-use std::alloc::Global;
+use std::alloc::{AllocError, Global};
+use std::process::Abort;
 use std::test::Fail;
 
 /// Files by their paths.
@@ -120,13 +121,7 @@ const SERVED: [(&[&str], &str, &str); 8] = [
 fn scripts_with_cells(rt: HostRuntime) -> Result<(), Fail> {
     for (words, script, replies) in SERVED {
         let ending = ended(&rt, words, &FILES, script.as_bytes());
-        assert_eq!(rt;
-            ending.output.as_slice(),
-            replies.as_bytes(),
-            "after {script}"
-        );
-        assert_eq!(rt; ending.status, 0);
-        assert!(rt; ending.messages.is_empty());
+        expect_row(&rt, &ending, script, replies);
     }
     Ok(())
 }
@@ -140,6 +135,19 @@ const SAVED: [(&str, &str); 2] = [
     ),
 ];
 
+/// Asserts that a layout was saved as this text.
+fn expect_saved(
+    rt: &impl Abort,
+    alloc: Global,
+    ending: &Ending,
+    lines: &str,
+    text: &str,
+) -> Result<(), Fail> {
+    let replies = format!(in alloc; "a opened\na ok\na saved {lines}\n{text}")?;
+    assert_eq!(rt; ending.output.as_slice(), replies.as_bytes());
+    Ok(())
+}
+
 #[test]
 fn a_saved_text_is_the_layout_again(rt: HostRuntime) -> Result<(), Fail> {
     for (text, lines) in SAVED {
@@ -148,8 +156,7 @@ fn a_saved_text_is_the_layout_again(rt: HostRuntime) -> Result<(), Fail> {
         };
         let script = b"%open a\na dump s 0 0\na save\n";
         let ending = ended(&rt, &["magicd", "s=s.mag"], &files, script);
-        let replies = format!(in rt.alloc(); "a opened\na ok\na saved {lines}\n{text}")?;
-        assert_eq!(rt; ending.output.as_slice(), replies.as_bytes());
+        expect_saved(&rt, rt.alloc(), &ending, lines, text)?;
     }
     Ok(())
 }
@@ -213,9 +220,7 @@ const BAD_CELLS: [(&[&str], &[u8], u8); 11] = [
 fn cells_that_end_the_program(rt: HostRuntime) -> Result<(), Fail> {
     for (words, message, status) in BAD_CELLS {
         let ending = ended(&rt, words, &FILES, b"%open a\n");
-        assert_eq!(rt; ending.messages.as_slice(), message);
-        assert_eq!(rt; ending.status, status);
-        assert!(rt; ending.output.is_empty());
+        expect_ended(&rt, &ending, status, b"", message);
     }
     Ok(())
 }
@@ -274,6 +279,27 @@ const CELL_FILES: [(&[u8], &str); 28] = [
     ),
 ];
 
+/// The message for a fault, if there is one.
+fn message_of(alloc: Global, fault: &str) -> Result<String, Fail> {
+    if fault.is_empty() {
+        return Ok(String::new(alloc));
+    }
+    Ok(format!(in alloc; "magicd: cell c line {fault}\n")?)
+}
+
+/// Asserts the message for a whole file.
+fn expect_message(
+    rt: &impl Abort,
+    alloc: Global,
+    ending: &Ending,
+    bytes: &[u8],
+    fault: &str,
+) -> Result<(), Fail> {
+    let message = message_of(alloc, fault)?;
+    assert_eq!(rt; ending.messages.as_slice(), message.as_bytes(), "{bytes:?}");
+    Ok(())
+}
+
 #[test]
 fn whole_cell_files(rt: HostRuntime) -> Result<(), Fail> {
     for (bytes, fault) in CELL_FILES {
@@ -281,11 +307,7 @@ fn whole_cell_files(rt: HostRuntime) -> Result<(), Fail> {
             files: &[("c.mag", bytes)],
         };
         let ending = ended(&rt, &["magicd", "c=c.mag"], &files, b"%open a\n");
-        let mut message = String::new(rt.alloc());
-        if !fault.is_empty() {
-            message.push_str(&format!(in rt.alloc(); "magicd: cell c line {fault}\n")?)?;
-        }
-        assert_eq!(rt; ending.messages.as_slice(), message.as_bytes(), "{bytes:?}");
+        expect_message(&rt, rt.alloc(), &ending, bytes, fault)?;
     }
     Ok(())
 }
@@ -301,15 +323,31 @@ fn words_for(alloc: Global, cells: u8, path: &str) -> Result<Vec<String>, Fail> 
     Ok(words)
 }
 
+/// Runs the program with a file as this many cells.
+fn ended_with_cells<F: Files>(
+    rt: &HostRuntime,
+    cells: u8,
+    path: &str,
+    files: &F,
+    script: &[u8],
+) -> Result<Ending, Fail> {
+    let words = words_for(rt.alloc(), cells, path)?;
+    Ok(ended(rt, words.as_slice(), files, script))
+}
+
 #[test]
 fn as_many_cells_as_a_library_has(rt: HostRuntime) -> Result<(), Fail> {
-    let words = words_for(rt.alloc(), 64, "c.mag")?;
     let script = b"%open a\na dump c63 5 5\na dump c64 0 0\n";
-    let ending = ended(&rt, words.as_slice(), &FILES, script);
+    let ending = ended_with_cells(&rt, 64, "c.mag", &FILES, script)?;
     let replies = b"a opened\na ok\na refused 7 unknown cell\n".as_slice();
     assert_eq!(rt; ending.output.as_slice(), replies);
-    let words = words_for(rt.alloc(), 65, "c.mag")?;
-    let ending = ended(&rt, words.as_slice(), &FILES, script);
+    Ok(())
+}
+
+#[test]
+fn more_cells_than_a_library_has(rt: HostRuntime) -> Result<(), Fail> {
+    let script = b"%open a\na dump c63 5 5\na dump c64 0 0\n";
+    let ending = ended_with_cells(&rt, 65, "c.mag", &FILES, script)?;
     let message = b"magicd: cell c64 line 0 fault 11 library full\n".as_slice();
     assert_eq!(rt; ending.messages.as_slice(), message);
     Ok(())
@@ -330,24 +368,33 @@ fn wide_cell(alloc: Global, first: i32, squares: i32) -> Result<String, Fail> {
     Ok(text)
 }
 
-#[test]
-fn a_pool_full_of_cells(rt: HostRuntime) -> Result<(), Fail> {
-    let text = wide_cell(rt.alloc(), 0, 2046)?;
+/// Runs the program with this many cells of this text.
+fn ended_with_wide_cells(rt: &HostRuntime, cells: u8, text: &str) -> Result<Ending, Fail> {
     let files = NamedFiles {
         files: &[("wide.mag", text.as_bytes())],
     };
+    ended_with_cells(rt, cells, "wide.mag", &files, b"%open a\n")
+}
+
+#[test]
+fn a_pool_full_of_cells(rt: HostRuntime) -> Result<(), Fail> {
+    let text = wide_cell(rt.alloc(), 0, 2046)?;
     // A session's two planes and its error plane take 49344 tiles of the pool's 262144, and each cell takes 8190.
     for (cells, reply) in [
         (25, b"a opened\n".as_slice()),
         (26, b"a refused open 3 pool full\n".as_slice()),
         (32, b"a refused open 3 pool full\n".as_slice()),
     ] {
-        let words = words_for(rt.alloc(), cells, "wide.mag")?;
-        let ending = ended(&rt, words.as_slice(), &files, b"%open a\n");
+        let ending = ended_with_wide_cells(&rt, cells, &text)?;
         assert_eq!(rt; ending.output.as_slice(), reply, "with {cells} cells");
     }
-    let words = words_for(rt.alloc(), 33, "wide.mag")?;
-    let ending = ended(&rt, words.as_slice(), &files, b"%open a\n");
+    Ok(())
+}
+
+#[test]
+fn a_pool_too_full_for_a_cell(rt: HostRuntime) -> Result<(), Fail> {
+    let text = wide_cell(rt.alloc(), 0, 2046)?;
+    let ending = ended_with_wide_cells(&rt, 33, &text)?;
     let message = b"magicd: cell c32 line 0 fault 8 pool full\n".as_slice();
     assert_eq!(rt; ending.messages.as_slice(), message);
     Ok(())
@@ -373,14 +420,20 @@ fn planes_of_4096_and_4097_tiles(rt: HostRuntime) -> Result<(), Fail> {
     Ok(())
 }
 
-#[test]
-fn twenty_thousand_rectangles(rt: HostRuntime) -> Result<(), Fail> {
-    let mut text = String::from_str(rt.alloc(), "magic\n")?;
+/// A cell of 20,000 rectangles that lie over each other.
+fn tall_cell(alloc: Global) -> Result<String, AllocError> {
+    let mut text = String::from_str(alloc, "magic\n")?;
     for _round in 0..5000 {
         text.push_str("<< poly >>\nrect 0 0 2 2\nrect 1 0 2 1\n")?;
         text.push_str("<< ndiff >>\nrect 0 1 1 2\nrect 0 0 1 1\n")?;
     }
     text.push_str("<< end >>\n")?;
+    Ok(text)
+}
+
+#[test]
+fn twenty_thousand_rectangles(rt: HostRuntime) -> Result<(), Fail> {
+    let text = tall_cell(rt.alloc())?;
     let files = NamedFiles {
         files: &[("c.mag", text.as_bytes())],
     };

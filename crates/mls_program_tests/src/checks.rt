@@ -1,6 +1,6 @@
 //! The whole program with design rule checks: areas that await checking, marks, check steps and violated rules.
 use crate::cells::{CELL, EMPTY, NamedFiles};
-use crate::programs::ended;
+use crate::programs::{ended, expect_row};
 use std::alloc::Global;
 use std::test::Fail;
 
@@ -132,13 +132,7 @@ const CAUGHT_UP: [(&[&str], &str, &str); 18] = [
 fn scripts_with_checks(rt: HostRuntime) -> Result<(), Fail> {
     for (words, script, replies) in CAUGHT_UP {
         let ending = ended(&rt, words, &FILES, script.as_bytes());
-        assert_eq!(rt;
-            ending.output.as_slice(),
-            replies.as_bytes(),
-            "after {script}"
-        );
-        assert_eq!(rt; ending.status, 0);
-        assert!(rt; ending.messages.is_empty());
+        expect_row(&rt, &ending, script, replies);
     }
     Ok(())
 }
@@ -247,13 +241,7 @@ const STEPPED: [(&[&str], &str, &str); 16] = [
 fn scripts_with_check_steps(rt: HostRuntime) -> Result<(), Fail> {
     for (words, script, replies) in STEPPED {
         let ending = ended(&rt, words, &FILES, script.as_bytes());
-        assert_eq!(rt;
-            ending.output.as_slice(),
-            replies.as_bytes(),
-            "after {script}"
-        );
-        assert_eq!(rt; ending.status, 0);
-        assert!(rt; ending.messages.is_empty());
+        expect_row(&rt, &ending, script, replies);
     }
     Ok(())
 }

@@ -1,11 +1,14 @@
 //! Findings that come back to a server after its sessions have changed.
-use mls_checker::{Finding, check};
-use mls_edgerule::compile;
+use crate::servers::{
+    close, command, finish, finish_ref, found, grab_fault, has_journal, journal_len, new_server,
+    open, run, save, step,
+};
+use mls_checker::Finding;
 use mls_errorplane::Outcome;
 use mls_geom::Rect;
 use mls_server::{Answer, Event, GrabFault, Name, NotOpen, Server, SessionId};
-use mls_session::{Command, Job, JournalLimit, Quota, Reply};
-use mls_tech::{TECHNOLOGY_M, Tech};
+use mls_session::{Command, Quota, Reply};
+use mls_tech::TECHNOLOGY_M;
 use std::alloc::Global;
 use std::process::Abort;
 use std::test::Fail;
@@ -14,22 +17,6 @@ use std::test::Fail;
 const POLY: u8 = 1;
 
 const METAL: u8 = 3;
-
-/// A server with technology M.
-fn new_server(alloc: Global) -> Result<Server, Fail> {
-    let tech = Tech::read(alloc, TECHNOLOGY_M)?;
-    let rules = compile(&tech)?;
-    let (quota, limit) = (Quota::default(), JournalLimit::default());
-    Ok(Server::new(alloc, tech, rules, 262_144, quota, limit)?)
-}
-
-/// Opens a session.
-fn open(alloc: Global, server: &mut Server, name: &[u8]) -> SessionId {
-    let Some(name) = Name::new(name) else {
-        return SessionId::of(0);
-    };
-    server.open(alloc, name).unwrap_or(SessionId::of(0))
-}
 
 /// Paints a rectangle of poly or metal, and returns the last reply.
 fn paint(
@@ -47,21 +34,18 @@ fn paint(
         right,
         top,
     };
-    server.command(alloc, id, set)?;
-    server.command(alloc, id, Command::Paint(Some(kind)))
+    command(alloc, server, id, set)?;
+    command(alloc, server, id, Command::Paint(Some(kind)))
 }
 
-/// Checks the first piece of a session.
-fn found(alloc: Global, server: &mut Server, id: SessionId) -> Option<Finding> {
-    let Ok(Some(job)) = server.grab(alloc, id) else {
-        return None;
-    };
-    let Job {
-        piece,
-        snapshot,
-        rules,
-    } = job;
-    check(alloc, &rules, snapshot, piece).ok()
+/// Asserts that a command was carried out.
+fn expect_done(rt: &impl Abort, replied: Result<Reply, NotOpen>) {
+    assert_eq!(rt; replied, Ok(Reply::Done));
+}
+
+/// Asserts how finishing ended.
+fn expect_outcome(rt: &impl Abort, finished: Result<Outcome, NotOpen>, outcome: Outcome) {
+    assert_eq!(rt; finished, Ok(outcome));
 }
 
 /// Asserts what a session counts.
@@ -73,100 +57,145 @@ fn expect_count(
     errors: u64,
     pending: usize,
 ) {
-    let counted = server.command(alloc, id, Command::Count);
+    let counted = command(alloc, server, id, Command::Count);
     assert_eq!(rt; counted, Ok(Reply::Count { errors, pending }));
 }
 
-/// The layout changes in the zone of the finding.
-fn expect_stale(rt: &impl Abort, alloc: Global, server: &mut Server) {
-    let id = open(alloc, server, b"a");
-    assert_eq!(rt; paint(alloc, server, id, 0, 1, 10, POLY), Ok(Reply::Done));
-    let Some(finding) = found(alloc, server, id) else {
-        panic!(rt; "no finding")
-    };
-    assert_eq!(rt; Ok(finding.piece()), Rect::new(-4, -4, 5, 14));
-    assert_eq!(rt; paint(alloc, server, id, 1, 2, 10, POLY), Ok(Reply::Done));
-    assert_eq!(rt; server.finish(id, finding), Ok(Outcome::Stale));
-    expect_count(rt, alloc, server, id, 0, 2);
-    let caught_up = server.command(alloc, id, Command::CatchUp);
-    assert_eq!(rt; caught_up, Ok(Reply::Done));
+/// Opens a session, and paints a bar in it.
+fn open_with_bar(
+    rt: &impl Abort,
+    alloc: Global,
+    server: &mut Server,
+    name: &[u8],
+    kind: u8,
+) -> SessionId {
+    let id = open(alloc, server, name);
+    expect_done(rt, paint(alloc, server, id, 0, 1, 10, kind));
+    id
+}
+
+/// Opens a session, paints a bar of poly in it, and checks its first piece.
+fn found_in_bar(
+    rt: &impl Abort,
+    alloc: Global,
+    server: &mut Server,
+    name: &[u8],
+) -> Result<(SessionId, Finding), Fail> {
+    let id = open_with_bar(rt, alloc, server, name, POLY);
+    let finding = found(alloc, server, id).ok_or("no finding")?;
+    Ok((id, finding))
+}
+
+/// Asserts that a session's areas are checked with no square marked.
+fn expect_caught_up(rt: &impl Abort, alloc: Global, server: &mut Server, id: SessionId) {
+    expect_done(rt, command(alloc, server, id, Command::CatchUp));
     expect_count(rt, alloc, server, id, 0, 0);
 }
 
+/// The layout changes in the zone of the finding.
+fn expect_stale(rt: &impl Abort, alloc: Global, server: &mut Server) -> Result<(), Fail> {
+    let (id, finding) = found_in_bar(rt, alloc, server, b"a")?;
+    assert_eq!(rt; Ok(finding.piece()), Rect::new(-4, -4, 5, 14));
+    expect_done(rt, paint(alloc, server, id, 1, 2, 10, POLY));
+    expect_outcome(rt, finish(server, id, finding), Outcome::Stale);
+    expect_count(rt, alloc, server, id, 0, 2);
+    expect_caught_up(rt, alloc, server, id);
+    Ok(())
+}
+
+/// Asserts that a finding is marked once.
+fn expect_finished_once(
+    rt: &impl Abort,
+    alloc: Global,
+    server: &mut Server,
+    id: SessionId,
+    finding: &Finding,
+) {
+    expect_outcome(rt, finish_ref(server, id, finding), Outcome::Finished);
+    expect_count(rt, alloc, server, id, 10, 1);
+    expect_outcome(rt, finish_ref(server, id, finding), Outcome::Stale);
+    expect_count(rt, alloc, server, id, 10, 1);
+}
+
 /// It changes elsewhere, and the finding comes back three times.
-fn expect_finished(rt: &impl Abort, alloc: Global, server: &mut Server) {
-    let id = open(alloc, server, b"b");
-    assert_eq!(rt; paint(alloc, server, id, 0, 1, 10, POLY), Ok(Reply::Done));
-    let Some(finding) = found(alloc, server, id) else {
-        panic!(rt; "no finding")
-    };
-    assert_eq!(rt;
-        paint(alloc, server, id, 1000, 1002, 2, POLY),
-        Ok(Reply::Done)
-    );
-    assert_eq!(rt; server.finish_ref(id, &finding), Ok(Outcome::Finished));
-    expect_count(rt, alloc, server, id, 10, 1);
-    assert_eq!(rt; server.finish_ref(id, &finding), Ok(Outcome::Stale));
-    expect_count(rt, alloc, server, id, 10, 1);
-    assert_eq!(rt; server.close(id), Ok(()));
-    assert_eq!(rt; server.finish(id, finding), Err(NotOpen));
+fn expect_finished(rt: &impl Abort, alloc: Global, server: &mut Server) -> Result<(), Fail> {
+    let (id, finding) = found_in_bar(rt, alloc, server, b"b")?;
+    expect_done(rt, paint(alloc, server, id, 1000, 1002, 2, POLY));
+    expect_finished_once(rt, alloc, server, id, &finding);
+    assert_eq!(rt; close(server, id), Ok(()));
+    assert_eq!(rt; finish(server, id, finding), Err(NotOpen));
+    Ok(())
+}
+
+/// A server with technology M.
+fn usual_server(alloc: Global) -> Result<Server, Fail> {
+    new_server(alloc, TECHNOLOGY_M, Quota::default())
 }
 
 #[test]
 fn findings_of_a_layout_that_changes(rt: HostRuntime) -> Result<(), Fail> {
-    let mut server = new_server(rt.alloc())?;
-    expect_stale(&rt, rt.alloc(), &mut server);
-    expect_finished(&rt, rt.alloc(), &mut server);
-    Ok(())
+    let mut server = usual_server(rt.alloc())?;
+    expect_stale(&rt, rt.alloc(), &mut server)?;
+    expect_finished(&rt, rt.alloc(), &mut server)
+}
+
+/// Asserts that a finding is stale in an empty layout, and in one of metal.
+fn expect_stale_in_others(rt: &impl Abort, alloc: Global, server: &mut Server, finding: &Finding) {
+    let empty = open(alloc, server, b"empty");
+    expect_outcome(rt, finish_ref(server, empty, finding), Outcome::Stale);
+    let metal = open_with_bar(rt, alloc, server, b"metal", METAL);
+    expect_outcome(rt, finish_ref(server, metal, finding), Outcome::Stale);
+    expect_count(rt, alloc, server, metal, 0, 1);
+}
+
+/// Asserts that a finding is marked in a session with the same layout.
+fn expect_finished_in_same(rt: &impl Abort, alloc: Global, server: &mut Server, finding: Finding) {
+    let same = open_with_bar(rt, alloc, server, b"same", POLY);
+    expect_outcome(rt, finish(server, same, finding), Outcome::Finished);
+    expect_count(rt, alloc, server, same, 10, 0);
 }
 
 /// A finding of one session is judged in another by what that one shows.
-fn expect_strangers(rt: &impl Abort, alloc: Global, server: &mut Server) {
-    let own = open(alloc, server, b"own");
-    assert_eq!(rt; paint(alloc, server, own, 0, 1, 10, POLY), Ok(Reply::Done));
-    let Some(finding) = found(alloc, server, own) else {
-        panic!(rt; "no finding")
-    };
-    let empty = open(alloc, server, b"empty");
-    assert_eq!(rt; server.finish_ref(empty, &finding), Ok(Outcome::Stale));
-    let metal = open(alloc, server, b"metal");
-    assert_eq!(rt;
-        paint(alloc, server, metal, 0, 1, 10, METAL),
-        Ok(Reply::Done)
-    );
-    assert_eq!(rt; server.finish_ref(metal, &finding), Ok(Outcome::Stale));
-    expect_count(rt, alloc, server, metal, 0, 1);
-    let same = open(alloc, server, b"same");
-    assert_eq!(rt; paint(alloc, server, same, 0, 1, 10, POLY), Ok(Reply::Done));
-    assert_eq!(rt; server.finish(same, finding), Ok(Outcome::Finished));
-    expect_count(rt, alloc, server, same, 10, 0);
+fn expect_strangers(rt: &impl Abort, alloc: Global, server: &mut Server) -> Result<(), Fail> {
+    let (own, finding) = found_in_bar(rt, alloc, server, b"own")?;
+    expect_stale_in_others(rt, alloc, server, &finding);
+    expect_finished_in_same(rt, alloc, server, finding);
     expect_count(rt, alloc, server, own, 0, 1);
-}
-
-/// An id that was never given is open nowhere.
-fn expect_not_open(rt: &impl Abort, alloc: Global, server: &mut Server, id: SessionId) {
-    let mut text = Vec::new(alloc);
-    assert_eq!(rt; server.command(alloc, id, Command::Count), Err(NotOpen));
-    assert_eq!(rt; server.save(id, &mut text), Err(NotOpen));
-    assert!(rt; matches!(server.grab(alloc, id), Err(GrabFault::NotOpen)));
-    assert_eq!(rt; server.step(alloc, id), Err(NotOpen));
-    assert_eq!(rt; server.journal_len(id), None);
-    assert!(rt; server.journal(id).is_none());
-    assert_eq!(rt; server.close(id), Err(NotOpen));
+    Ok(())
 }
 
 #[test]
 fn findings_of_other_sessions(rt: HostRuntime) -> Result<(), Fail> {
-    let mut server = new_server(rt.alloc())?;
-    expect_strangers(&rt, rt.alloc(), &mut server);
+    let mut server = usual_server(rt.alloc())?;
+    expect_strangers(&rt, rt.alloc(), &mut server)?;
     expect_not_open(&rt, rt.alloc(), &mut server, SessionId::of(0));
     expect_not_open(&rt, rt.alloc(), &mut server, SessionId::of(5));
     Ok(())
 }
 
-#[test]
-fn events_with_ids_that_were_never_given(rt: HostRuntime) -> Result<(), Fail> {
-    let mut server = new_server(rt.alloc())?;
+/// Asserts that an id that was never given is open nowhere.
+fn expect_not_open(rt: &impl Abort, alloc: Global, server: &mut Server, id: SessionId) {
+    expect_no_reply(rt, command(alloc, server, id, Command::Count));
+    expect_no_reply(rt, save(alloc, server, id));
+    assert_eq!(rt; grab_fault(alloc, server, id), Some(GrabFault::NotOpen));
+    assert_eq!(rt; step(alloc, server, id), Err(NotOpen));
+    expect_no_journal(rt, server, id);
+    assert_eq!(rt; close(server, id), Err(NotOpen));
+}
+
+/// Asserts that a command had no session.
+fn expect_no_reply(rt: &impl Abort, replied: Result<Reply, NotOpen>) {
+    assert_eq!(rt; replied, Err(NotOpen));
+}
+
+/// Asserts that a session has no journal.
+fn expect_no_journal(rt: &impl Abort, server: &Server, id: SessionId) {
+    assert_eq!(rt; journal_len(server, id), None);
+    assert!(rt; !has_journal(server, id));
+}
+
+/// What a server without sessions answers to events of which some name a session by an id that was never given.
+fn answers(alloc: Global, server: &mut Server) -> Result<Vec<Answer>, Fail> {
     let name = Name::new(b"a").ok_or("no name")?;
     let events = [
         Event::Command(SessionId::of(1), Command::Count),
@@ -177,8 +206,12 @@ fn events_with_ids_that_were_never_given(rt: HostRuntime) -> Result<(), Fail> {
         Event::Close(SessionId::of(1)),
         Event::Close(SessionId::of(1)),
     ];
-    let answers = server.run(rt.alloc(), &events)?;
-    let [first, opened, command, step, saved, closed, again] = answers.as_slice() else {
+    Ok(run(alloc, server, &events)?)
+}
+
+/// Asserts that the opening and the first closing alone were answered.
+fn expect_answers(rt: &impl Abort, answers: &[Answer]) -> Result<(), Fail> {
+    let [first, opened, command, step, saved, closed, again] = answers else {
         return Err("other answers".into());
     };
     assert!(rt; matches!(first, Answer::Commanded(Err(NotOpen))));
@@ -189,4 +222,11 @@ fn events_with_ids_that_were_never_given(rt: HostRuntime) -> Result<(), Fail> {
     assert!(rt; matches!(closed, Answer::Closed(Ok(()))));
     assert!(rt; matches!(again, Answer::Closed(Err(NotOpen))));
     Ok(())
+}
+
+#[test]
+fn events_with_ids_that_were_never_given(rt: HostRuntime) -> Result<(), Fail> {
+    let mut server = usual_server(rt.alloc())?;
+    let answers = answers(rt.alloc(), &mut server)?;
+    expect_answers(&rt, &answers)
 }

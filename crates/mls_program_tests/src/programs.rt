@@ -2,9 +2,10 @@
 use crate::devices::{BROKEN, TroubledReader, TroubledWriter};
 use mls_magicd::{FileFault, Files, run};
 use mls_wire::Watched;
-use std::alloc::Global;
+use std::alloc::{AllocError, Global};
 use std::convert::AsStr;
 use std::io::{Read, Write};
+use std::process::Abort;
 use std::test::Fail;
 
 /// How a run ended.
@@ -22,8 +23,18 @@ pub fn ended<S: AsStr, F: Files>(
     files: &F,
     script: &[u8],
 ) -> Ending {
+    ended_on(rt, words, files, script)
+}
+
+/// Runs the program on any input.
+fn ended_on<S: AsStr, F: Files, R: Read + Drop>(
+    rt: &HostRuntime,
+    words: &[S],
+    files: &F,
+    input: R,
+) -> Ending {
     let (output, messages) = (Vec::new(rt.alloc()), Vec::new(rt.alloc()));
-    let (status, output, messages) = ended_with(rt, words, files, script, output, messages);
+    let (status, output, messages) = ended_with(rt, words, files, input, output, messages);
     Ending {
         status,
         output,
@@ -52,6 +63,24 @@ fn ended_with<S: AsStr, F: Files, R: Read + Drop, W: Write + Drop, E: Write + Dr
         &mut faults,
     );
     (status, output.into_inner(), faults.into_inner())
+}
+
+/// Asserts how a run ended.
+pub fn expect_ended(rt: &impl Abort, ending: &Ending, status: u8, output: &[u8], messages: &[u8]) {
+    assert_eq!(rt; ending.output.as_slice(), output);
+    assert_eq!(rt; ending.messages.as_slice(), messages);
+    assert_eq!(rt; ending.status, status);
+}
+
+/// Asserts the replies of a row to its script, and that there is no message.
+pub fn expect_row(rt: &impl Abort, ending: &Ending, script: &str, replies: &str) {
+    assert_eq!(rt;
+        ending.output.as_slice(),
+        replies.as_bytes(),
+        "after {script}"
+    );
+    assert_eq!(rt; ending.status, 0);
+    assert!(rt; ending.messages.is_empty());
 }
 
 /// The file `m.tech` alone.
@@ -138,9 +167,7 @@ fn scripts_that_are_served(rt: HostRuntime) -> Result<(), Fail> {
     let files = OneFile { bytes: ONE_TYPE };
     for (words, script, replies) in SERVED {
         let ending = ended(&rt, words, &files, script);
-        assert_eq!(rt; ending.status, 0);
-        assert_eq!(rt; ending.output.as_slice(), replies);
-        assert!(rt; ending.messages.is_empty());
+        expect_ended(&rt, &ending, 0, replies, b"");
     }
     Ok(())
 }
@@ -166,16 +193,27 @@ const BAD_WORDS: [&[&str]; 17] = [
     &["magicd", "--tech", "none.tech", "--quota", "4"],
 ];
 
+/// Asserts that words were refused.
+fn expect_refused(rt: &impl Abort, ending: &Ending) {
+    assert_eq!(rt; ending.status, 2);
+    assert!(rt; ending.output.is_empty());
+    assert!(rt; !ending.messages.is_empty());
+    assert!(rt; !ending.messages.starts_with(b"magicd: "));
+}
+
 #[test]
 fn words_that_are_refused(rt: HostRuntime) -> Result<(), Fail> {
     let files = OneFile { bytes: ONE_TYPE };
     for words in BAD_WORDS {
         let ending = ended(&rt, words, &files, FIRST_RUN);
-        assert_eq!(rt; ending.status, 2);
-        assert!(rt; ending.output.is_empty());
-        assert!(rt; !ending.messages.is_empty());
-        assert!(rt; !ending.messages.starts_with(b"magicd: "));
+        expect_refused(&rt, &ending);
     }
+    Ok(())
+}
+
+#[test]
+fn a_refused_value_is_named(rt: HostRuntime) -> Result<(), Fail> {
+    let files = OneFile { bytes: ONE_TYPE };
     let ending = ended(&rt, &["magicd", "--quota", "4"], &files, FIRST_RUN);
     let start = b"error: invalid value '4' for '--quota <N>'";
     assert!(rt; ending.messages.starts_with(start));
@@ -239,9 +277,7 @@ const BAD_FILES: [(&[u8], &[u8]); 12] = [
 fn files_that_end_the_program(rt: HostRuntime) -> Result<(), Fail> {
     for (bytes, messages) in BAD_FILES {
         let ending = ended(&rt, FROM_FILE, &OneFile { bytes }, FIRST_RUN);
-        assert_eq!(rt; ending.messages.as_slice(), messages);
-        assert_eq!(rt; ending.status, 1);
-        assert!(rt; ending.output.is_empty());
+        expect_ended(&rt, &ending, 1, b"", messages);
     }
     Ok(())
 }
@@ -250,57 +286,67 @@ fn files_that_end_the_program(rt: HostRuntime) -> Result<(), Fail> {
 fn files_that_cannot_be_read(rt: HostRuntime) -> Result<(), Fail> {
     let files = OneFile { bytes: FAULTY };
     let ending = ended(&rt, &["magicd", "--tech", "no ne.tech"], &files, FIRST_RUN);
-    assert_eq!(rt; ending.status, 1);
-    assert!(rt; ending.output.is_empty());
-    assert_eq!(rt;
-        ending.messages.as_slice(),
-        b"magicd: cannot read no ne.tech\n".as_slice()
-    );
+    expect_ended(&rt, &ending, 1, b"", b"magicd: cannot read no ne.tech\n");
+    Ok(())
+}
+
+#[test]
+fn files_that_memory_has_no_room_for(rt: HostRuntime) -> Result<(), Fail> {
     let ending = ended(&rt, FROM_FILE, &HugeFiles, FIRST_RUN);
-    assert_eq!(rt; ending.status, 1);
-    assert!(rt; ending.output.is_empty());
-    assert_eq!(rt; ending.messages.as_slice(), b"magicd: memory\n".as_slice());
-    // The words are looked at first.
+    expect_ended(&rt, &ending, 1, b"", b"magicd: memory\n");
+    Ok(())
+}
+
+#[test]
+fn words_are_looked_at_before_files(rt: HostRuntime) -> Result<(), Fail> {
+    let files = OneFile { bytes: FAULTY };
     let words = ["magicd", "--tech", "m.tech", "--pool", "0"];
     let ending = ended(&rt, &words, &files, FIRST_RUN);
     assert_eq!(rt; ending.status, 2);
     Ok(())
 }
 
-#[test]
-fn too_many_rules(rt: HostRuntime) -> Result<(), Fail> {
-    let mut file = Vec::from_slice(rt.alloc(), b"planes\np\nend\ntypes\np q\nend\ndrc\n")?;
+/// A technology file with one rule more than there may be.
+fn rules_past_the_limit(alloc: Global) -> Result<Vec<u8>, AllocError> {
+    let mut file = Vec::from_slice(alloc, b"planes\np\nend\ntypes\np q\nend\ndrc\n")?;
     for _rule in 0..129 {
         file.extend_from_slice(b"width q 3 \"more\"\n")?;
     }
     file.extend_from_slice(b"end\n")?;
+    Ok(file)
+}
+
+#[test]
+fn too_many_rules(rt: HostRuntime) -> Result<(), Fail> {
+    let file = rules_past_the_limit(rt.alloc())?;
     let ending = ended(&rt, FROM_FILE, &OneFile { bytes: &file }, FIRST_RUN);
-    assert_eq!(rt; ending.status, 1);
-    assert_eq!(rt;
-        ending.messages.as_slice(),
-        b"magicd: tech line 136 rule fault 2 too many rules\n".as_slice()
-    );
+    let message = b"magicd: tech line 136 rule fault 2 too many rules\n";
+    expect_ended(&rt, &ending, 1, b"", message);
     Ok(())
 }
 
 #[test]
-fn streams_that_fail(rt: HostRuntime) -> Result<(), Fail> {
+fn skipped_lines_are_reported(rt: HostRuntime) -> Result<(), Fail> {
     let files = OneFile { bytes: OVERHANGING };
     let ending = ended(&rt, FROM_FILE, &files, FIRST_RUN);
-    assert_eq!(rt; ending.status, 0);
-    assert_eq!(rt; ending.output.as_slice(), FIRST_REPLIES);
-    let skipped = b"magicd: tech line 18 skipped overhang\n".as_slice();
-    assert_eq!(rt; ending.messages.as_slice(), skipped);
+    let skipped = b"magicd: tech line 18 skipped overhang\n";
+    expect_ended(&rt, &ending, 0, FIRST_REPLIES, skipped);
+    Ok(())
+}
+
+#[test]
+fn input_that_fails(rt: HostRuntime) -> Result<(), Fail> {
+    let files = OneFile { bytes: OVERHANGING };
     let input = TroubledReader::new(FIRST_RUN, 8, BROKEN);
-    let output = Vec::new(rt.alloc());
-    let messages = Vec::new(rt.alloc());
-    let (status, output, messages) = ended_with(&rt, FROM_FILE, &files, input, output, messages);
-    assert_eq!(rt; status, 1);
-    assert_eq!(rt; output.as_slice(), b"a opened\n".as_slice());
-    assert_eq!(rt;
-        messages.as_slice(),
-        b"magicd: tech line 18 skipped overhang\nmagicd: input failed\n".as_slice()
-    );
+    let ending = ended_on(&rt, FROM_FILE, &files, input);
+    let messages = b"magicd: tech line 18 skipped overhang\nmagicd: input failed\n";
+    expect_ended(&rt, &ending, 1, b"a opened\n", messages);
+    Ok(())
+}
+
+#[test]
+fn output_that_fails(rt: HostRuntime) -> Result<(), Fail> {
+    let files = OneFile { bytes: OVERHANGING };
     let output = TroubledWriter::new(rt.alloc(), 4, 1, BROKEN);
     let messages = Vec::new(rt.alloc());
     let (status, output, messages) = ended_with(&rt, BUILT_IN, &files, FIRST_RUN, output, messages);
@@ -327,16 +373,31 @@ fn a_message_is_one_write(rt: HostRuntime) -> Result<(), Fail> {
     Ok(())
 }
 
-#[test]
-fn a_long_path_is_written_whole(rt: HostRuntime) -> Result<(), Fail> {
-    let mut path = String::new(rt.alloc());
+/// A path of 600 bytes.
+fn long_path(alloc: Global) -> Result<String, AllocError> {
+    let mut path = String::new(alloc);
     for _part in 0..100 {
         path.push_str("a/file")?;
     }
+    Ok(path)
+}
+
+/// Asserts the message for a technology file that cannot be read.
+pub fn expect_unreadable(
+    rt: &impl Abort,
+    alloc: Global,
+    ending: &Ending,
+    path: &str,
+) -> Result<(), Fail> {
+    let message = format!(in alloc; "magicd: cannot read {path}\n")?;
+    expect_ended(rt, ending, 1, b"", message.as_bytes());
+    Ok(())
+}
+
+#[test]
+fn a_long_path_is_written_whole(rt: HostRuntime) -> Result<(), Fail> {
+    let path = long_path(rt.alloc())?;
     let words = ["magicd", "--tech", path.as_str()];
     let ending = ended(&rt, &words, &OneFile { bytes: FAULTY }, FIRST_RUN);
-    assert_eq!(rt; ending.status, 1);
-    let message = format!(in rt.alloc(); "magicd: cannot read {path}\n")?;
-    assert_eq!(rt; ending.messages.as_slice(), message.as_bytes());
-    Ok(())
+    expect_unreadable(&rt, rt.alloc(), &ending, path.as_str())
 }

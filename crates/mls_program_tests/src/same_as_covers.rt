@@ -1,5 +1,5 @@
 //! 500 commands whose replies were stored when planes were lists of strips in the place of tiles in a pool.
-use crate::scripts::served;
+use crate::scripts::expect_replies;
 use std::alloc::{AllocError, Global};
 use std::test::Fail;
 
@@ -221,8 +221,6 @@ pub fn lines(alloc: Global, text: &[u8]) -> Result<Vec<u8>, AllocError> {
 #[test]
 fn same_as_covers(rt: HostRuntime) -> Result<(), Fail> {
     let script = lines(rt.alloc(), SCRIPT)?;
-    let (outcome, out) = served(&rt, 120, script.as_slice(), Vec::new(rt.alloc()))?;
-    assert_eq!(rt; outcome, Ok(()));
-    assert_eq!(rt; out.as_slice(), lines(rt.alloc(), REPLIES)?.as_slice());
-    Ok(())
+    let replies = lines(rt.alloc(), REPLIES)?;
+    expect_replies(&rt, rt.alloc(), 120, script.as_slice(), &replies)
 }

@@ -1,41 +1,62 @@
 //! Scripts and their replies.
 use crate::devices::ByteReader;
-use mls_edgerule::compile;
-use mls_server::{OpenFault, Server};
-use mls_session::{JournalLimit, Quota};
-use mls_tech::{TECHNOLOGY_M, Tech};
-use mls_wire::{LineFault, ReadFault, ServeFault, Watched, WriteFault, serve};
+use crate::servers::{new_server, serve_script};
+use mls_server::OpenFault;
+use mls_session::Quota;
+use mls_tech::TECHNOLOGY_M;
+use mls_wire::{LineFault, ReadFault, ServeFault, WriteFault};
 use std::alloc::Global;
+use std::fmt::Display;
 use std::io::{Read, Write};
+use std::process::Abort;
 use std::test::Fail;
 
 /// Serves a script with technology M, and returns the outcome and the output.
 pub fn served<R: Read + Drop, W: Write + Drop>(
-    rt: &HostRuntime,
+    alloc: Global,
     quota: u32,
     input: R,
     output: W,
 ) -> Result<(Result<(), ServeFault>, W), Fail> {
-    served_with(rt, TECHNOLOGY_M, quota, input, output)
+    served_with(alloc, TECHNOLOGY_M, quota, input, output)
 }
 
 /// Serves a script with the technology of a file.
 fn served_with<R: Read + Drop, W: Write + Drop>(
-    rt: &HostRuntime,
+    alloc: Global,
     file: &[u8],
     quota: u32,
     input: R,
     output: W,
 ) -> Result<(Result<(), ServeFault>, W), Fail> {
     let quota = Quota::new(quota).ok_or("no quota")?;
-    let tech = Tech::read(rt.alloc(), file)?;
-    let rules = compile(&tech)?;
-    let limit = JournalLimit::default();
-    let mut server = Server::new(rt.alloc(), tech, rules, 262_144, quota, limit)?;
-    let mut input = Watched::new(input);
-    let mut output = Watched::new(output);
-    let outcome = serve(rt.alloc(), &mut server, &mut input, &mut output);
-    Ok((outcome, output.into_inner()))
+    let mut server = new_server(alloc, file, quota)?;
+    Ok(serve_script(alloc, &mut server, input, output))
+}
+
+/// Asserts that a script is served to its end with technology M, and returns the output.
+fn whole_output<R: Read + Drop>(
+    rt: &impl Abort,
+    alloc: Global,
+    quota: u32,
+    input: R,
+) -> Result<Vec<u8>, Fail> {
+    let (outcome, out) = served(alloc, quota, input, Vec::new(alloc))?;
+    assert_eq!(rt; outcome, Ok(()));
+    Ok(out)
+}
+
+/// Asserts the replies to a script with technology M.
+pub fn expect_replies<R: Read + Drop>(
+    rt: &impl Abort,
+    alloc: Global,
+    quota: u32,
+    input: R,
+    replies: &[u8],
+) -> Result<(), Fail> {
+    let out = whole_output(rt, alloc, quota, input)?;
+    assert_eq!(rt; out.as_slice(), replies);
+    Ok(())
 }
 
 /// Quotas, scripts and their replies.
@@ -92,20 +113,33 @@ const ROWS: [(u32, &str, &str); 9] = [
     ),
 ];
 
+/// Asserts the replies of a row to its script.
+fn expect_row<R: Read + Drop>(
+    rt: &impl Abort,
+    alloc: Global,
+    quota: u32,
+    input: R,
+    script: &str,
+    replies: &str,
+) -> Result<(), Fail> {
+    let out = whole_output(rt, alloc, quota, input)?;
+    assert_eq!(rt; out.as_slice(), replies.as_bytes(), "after {script}");
+    Ok(())
+}
+
 #[test]
 fn rows(rt: HostRuntime) -> Result<(), Fail> {
     for (quota, script, replies) in ROWS {
-        let (outcome, out) = served(&rt, quota, script.as_bytes(), Vec::new(rt.alloc()))?;
-        assert_eq!(rt; outcome, Ok(()));
-        assert_eq!(rt; out.as_slice(), replies.as_bytes(), "after {script}");
+        expect_row(&rt, rt.alloc(), quota, script.as_bytes(), script, replies)?;
+    }
+    Ok(())
+}
+
+#[test]
+fn rows_by_bytes(rt: HostRuntime) -> Result<(), Fail> {
+    for (quota, script, replies) in ROWS {
         let bytes = ByteReader::new(script.as_bytes());
-        let (outcome, out) = served(&rt, quota, bytes, Vec::new(rt.alloc()))?;
-        assert_eq!(rt; outcome, Ok(()));
-        assert_eq!(rt;
-            out.as_slice(),
-            replies.as_bytes(),
-            "by bytes after {script}"
-        );
+        expect_row(&rt, rt.alloc(), quota, bytes, script, replies)?;
     }
     Ok(())
 }
@@ -123,6 +157,17 @@ const LENGTHS: [(usize, &[u8], u8); 9] = [
     (1024, b"\r", b'\t'),
 ];
 
+/// The lines of those lengths.
+fn lines_by_length(alloc: Global) -> Result<Vec<u8>, Fail> {
+    let mut script = Vec::new(alloc);
+    for (length, end, byte) in LENGTHS {
+        let line = vec![in alloc; byte; length]?;
+        script.extend_from_slice(&line)?;
+        script.extend_from_slice(end)?;
+    }
+    Ok(script)
+}
+
 #[test]
 fn lines_of_many_lengths(rt: HostRuntime) -> Result<(), Fail> {
     let replies = b"line 3 fault 1 unknown command
@@ -132,19 +177,9 @@ line 6 fault 1 unknown command
 line 7 fault 1 unknown command
 "
         .as_slice();
-    let mut script = Vec::new(rt.alloc());
-    for (length, end, byte) in LENGTHS {
-        let line = vec![in rt.alloc(); byte; length]?;
-        script.extend_from_slice(&line)?;
-        script.extend_from_slice(end)?;
-    }
-    let (outcome, out) = served(&rt, 5, script.as_slice(), Vec::new(rt.alloc()))?;
-    assert_eq!(rt; outcome, Ok(()));
-    assert_eq!(rt; out.as_slice(), replies);
-    let (outcome, out) = served(&rt, 5, ByteReader::new(&script), Vec::new(rt.alloc()))?;
-    assert_eq!(rt; outcome, Ok(()));
-    assert_eq!(rt; out.as_slice(), replies);
-    Ok(())
+    let script = lines_by_length(rt.alloc())?;
+    expect_replies(&rt, rt.alloc(), 5, script.as_slice(), replies)?;
+    expect_replies(&rt, rt.alloc(), 5, ByteReader::new(&script), replies)
 }
 
 #[test]
@@ -163,10 +198,7 @@ line 4 fault 4 not open
 line 5 fault 3 name
 "
         .as_slice();
-    let (outcome, out) = served(&rt, 5, script, Vec::new(rt.alloc()))?;
-    assert_eq!(rt; outcome, Ok(()));
-    assert_eq!(rt; out.as_slice(), replies);
-    Ok(())
+    expect_replies(&rt, rt.alloc(), 5, script, replies)
 }
 
 /// A technology of four planes and 63 types with long names, and a script that looks at all types at once.
@@ -192,7 +224,7 @@ fn all_types(alloc: Global) -> Result<(String, String, String), Fail> {
 fn look_at_63_types(rt: HostRuntime) -> Result<(), Fail> {
     let (tech, script, reply) = all_types(rt.alloc())?;
     let out = Vec::new(rt.alloc());
-    let (outcome, out) = served_with(&rt, tech.as_bytes(), 16384, script.as_bytes(), out)?;
+    let (outcome, out) = served_with(rt.alloc(), tech.as_bytes(), 16384, script.as_bytes(), out)?;
     assert_eq!(rt; outcome, Ok(()));
     assert!(rt; out.starts_with(b"a opened\na ok\n"));
     assert!(rt; out.ends_with(reply.as_bytes()));
@@ -220,11 +252,21 @@ fn thousands_of_tiles(alloc: Global) -> Result<String, Fail> {
 #[test]
 fn plane_of_thousands_of_tiles(rt: HostRuntime) -> Result<(), Fail> {
     let script = thousands_of_tiles(rt.alloc())?;
-    let out = Vec::new(rt.alloc());
-    let (outcome, out) = served(&rt, 16384, script.as_bytes(), out)?;
-    assert_eq!(rt; outcome, Ok(()));
+    let out = whole_output(&rt, rt.alloc(), 16384, script.as_bytes())?;
     assert_eq!(rt; out.len(), 9 + 162 * 5 + 20 + 14);
     assert!(rt; out.ends_with(b"a ok\na what 2 poly ndiff\na ok\na what 1 poly\n"));
+    Ok(())
+}
+
+/// Asserts the text of a fault.
+fn expect_text<T: Display + Drop>(
+    rt: &impl Abort,
+    alloc: Global,
+    fault: T,
+    text: &str,
+) -> Result<(), Fail> {
+    let shown = format!(in alloc; "{fault}")?;
+    assert_eq!(rt; shown.as_str(), text);
     Ok(())
 }
 
@@ -236,30 +278,33 @@ fn faults_in_words(rt: HostRuntime) -> Result<(), Fail> {
         (LineFault::BadName, "name"),
         (LineFault::NotOpen, "not open"),
     ] {
-        assert_eq!(rt; format!(in rt.alloc(); "{fault}")?.as_str(), text);
+        expect_text(&rt, rt.alloc(), fault, text)?;
     }
+    Ok(())
+}
+
+#[test]
+fn faults_of_opening_in_words(rt: HostRuntime) -> Result<(), Fail> {
     for (fault, text) in [
         (OpenFault::OpenAlready, "open already"),
         (OpenFault::SessionsFull, "sessions full"),
         (OpenFault::PoolFull, "pool full"),
         (OpenFault::Memory, "memory"),
     ] {
-        assert_eq!(rt; format!(in rt.alloc(); "{fault}")?.as_str(), text);
+        expect_text(&rt, rt.alloc(), fault, text)?;
     }
+    Ok(())
+}
+
+#[test]
+fn faults_of_serving_in_words(rt: HostRuntime) -> Result<(), Fail> {
     for (fault, text) in [
         (ServeFault::Read, "input failed"),
         (ServeFault::Write, "output failed"),
         (ServeFault::Memory, "memory"),
     ] {
-        assert_eq!(rt; format!(in rt.alloc(); "{fault}")?.as_str(), text);
+        expect_text(&rt, rt.alloc(), fault, text)?;
     }
-    assert_eq!(rt;
-        format!(in rt.alloc(); "{ReadFault}")?.as_str(),
-        "input failed"
-    );
-    assert_eq!(rt;
-        format!(in rt.alloc(); "{WriteFault}")?.as_str(),
-        "output failed"
-    );
-    Ok(())
+    expect_text(&rt, rt.alloc(), ReadFault, "input failed")?;
+    expect_text(&rt, rt.alloc(), WriteFault, "output failed")
 }

@@ -2,8 +2,9 @@
 use crate::devices::{
     BROKEN, ByteReader, FlushedWriter, INTERRUPTED, Trouble, TroubledReader, TroubledWriter,
 };
-use crate::scripts::served;
+use crate::scripts::{expect_replies, served};
 use mls_wire::ServeFault;
+use std::alloc::Global;
 use std::process::Abort;
 use std::test::Fail;
 
@@ -29,17 +30,14 @@ fn expect_first(rt: &impl Abort, written: &[u8], lines: usize) {
 
 #[test]
 fn bytes_one_at_a_time(rt: HostRuntime) -> Result<(), Fail> {
-    let (outcome, out) = served(&rt, 5, ByteReader::new(SCRIPT), Vec::new(rt.alloc()))?;
-    assert_eq!(rt; outcome, Ok(()));
-    assert_eq!(rt; out.as_slice(), REPLIES);
-    Ok(())
+    expect_replies(&rt, rt.alloc(), 5, ByteReader::new(SCRIPT), REPLIES)
 }
 
 #[test]
 fn each_read_fails_in_turn(rt: HostRuntime) -> Result<(), Fail> {
     for calls in 0..SCRIPT.len() + 1 {
         let input = TroubledReader::new(SCRIPT, calls, BROKEN);
-        let (outcome, out) = served(&rt, 5, input, Vec::new(rt.alloc()))?;
+        let (outcome, out) = served(rt.alloc(), 5, input, Vec::new(rt.alloc()))?;
         assert_eq!(rt; outcome, Err(ServeFault::Read));
         expect_first(&rt, &out, count_lines(&SCRIPT[..calls]));
     }
@@ -50,10 +48,47 @@ fn each_read_fails_in_turn(rt: HostRuntime) -> Result<(), Fail> {
 fn each_read_is_interrupted_in_turn(rt: HostRuntime) -> Result<(), Fail> {
     for calls in 0..SCRIPT.len() + 1 {
         let input = TroubledReader::new(SCRIPT, calls, INTERRUPTED);
-        let (outcome, out) = served(&rt, 5, input, Vec::new(rt.alloc()))?;
+        let (outcome, out) = served(rt.alloc(), 5, input, Vec::new(rt.alloc()))?;
         assert_eq!(rt; outcome, Ok(()), "after {calls} calls");
         assert_eq!(rt; out.as_slice(), REPLIES);
     }
+    Ok(())
+}
+
+/// Serves the script to an output of at most `most` bytes a call, whose call after `calls` others has trouble.
+fn served_to(
+    alloc: Global,
+    most: usize,
+    calls: usize,
+    trouble: Trouble,
+) -> Result<(Result<(), ServeFault>, TroubledWriter), Fail> {
+    let output = TroubledWriter::new(alloc, most, calls, trouble);
+    served(alloc, 5, SCRIPT, output)
+}
+
+/// Asserts that the output has failed at a call, with a beginning of the replies, and no call was made after it.
+fn expect_cut(rt: &impl Abort, alloc: Global, most: usize, calls: usize) -> Result<(), Fail> {
+    let (outcome, device) = served_to(alloc, most, calls, BROKEN)?;
+    assert_eq!(rt; outcome, Err(ServeFault::Write), "after {calls} calls");
+    assert_eq!(rt; device.calls_after, 0);
+    assert!(rt; REPLIES.starts_with(&device.held), "after {calls} calls");
+    if most == 100 {
+        expect_first(rt, &device.held, calls.div_ceil(2));
+    }
+    Ok(())
+}
+
+/// Asserts that the output has all replies.
+fn expect_whole(
+    rt: &impl Abort,
+    alloc: Global,
+    most: usize,
+    calls: usize,
+    trouble: Trouble,
+) -> Result<(), Fail> {
+    let (outcome, device) = served_to(alloc, most, calls, trouble)?;
+    assert_eq!(rt; outcome, Ok(()), "after {calls} calls");
+    assert_eq!(rt; device.held.as_slice(), REPLIES);
     Ok(())
 }
 
@@ -62,19 +97,9 @@ fn each_write_fails_in_turn(rt: HostRuntime) -> Result<(), Fail> {
     // A reply of 9, 5, 5, 14, 24 and 25 bytes, each with its flush: 88 calls of one byte, or 12 of a whole reply.
     for (most, last) in [(1, 88), (9, 17), (100, 12)] {
         for calls in 0..last {
-            let output = TroubledWriter::new(rt.alloc(), most, calls, BROKEN);
-            let (outcome, device) = served(&rt, 5, SCRIPT, output)?;
-            assert_eq!(rt; outcome, Err(ServeFault::Write), "after {calls} calls");
-            assert_eq!(rt; device.calls_after, 0);
-            assert!(rt; REPLIES.starts_with(&device.held), "after {calls} calls");
-            if most == 100 {
-                expect_first(&rt, &device.held, calls.div_ceil(2));
-            }
+            expect_cut(&rt, rt.alloc(), most, calls)?;
         }
-        let output = TroubledWriter::new(rt.alloc(), most, last, BROKEN);
-        let (outcome, device) = served(&rt, 5, SCRIPT, output)?;
-        assert_eq!(rt; outcome, Ok(()));
-        assert_eq!(rt; device.held.as_slice(), REPLIES);
+        expect_whole(&rt, rt.alloc(), most, last, BROKEN)?;
     }
     Ok(())
 }
@@ -83,10 +108,7 @@ fn each_write_fails_in_turn(rt: HostRuntime) -> Result<(), Fail> {
 fn each_write_is_interrupted_in_turn(rt: HostRuntime) -> Result<(), Fail> {
     for (most, last) in [(1, 88), (9, 17), (100, 12)] {
         for calls in 0..last {
-            let output = TroubledWriter::new(rt.alloc(), most, calls, INTERRUPTED);
-            let (outcome, device) = served(&rt, 5, SCRIPT, output)?;
-            assert_eq!(rt; outcome, Ok(()), "after {calls} calls");
-            assert_eq!(rt; device.held.as_slice(), REPLIES);
+            expect_whole(&rt, rt.alloc(), most, calls, INTERRUPTED)?;
         }
     }
     Ok(())
@@ -94,8 +116,7 @@ fn each_write_is_interrupted_in_turn(rt: HostRuntime) -> Result<(), Fail> {
 
 #[test]
 fn output_that_takes_nothing_has_failed(rt: HostRuntime) -> Result<(), Fail> {
-    let output = TroubledWriter::new(rt.alloc(), 1, 3, Trouble::Nothing);
-    let (outcome, device) = served(&rt, 5, SCRIPT, output)?;
+    let (outcome, device) = served_to(rt.alloc(), 1, 3, Trouble::Nothing)?;
     assert_eq!(rt; outcome, Err(ServeFault::Write));
     assert_eq!(rt; device.held.as_slice(), b"a o".as_slice());
     Ok(())
@@ -103,7 +124,7 @@ fn output_that_takes_nothing_has_failed(rt: HostRuntime) -> Result<(), Fail> {
 
 #[test]
 fn each_reply_is_flushed(rt: HostRuntime) -> Result<(), Fail> {
-    let (outcome, device) = served(&rt, 5, SCRIPT, FlushedWriter::new(rt.alloc()))?;
+    let (outcome, device) = served(rt.alloc(), 5, SCRIPT, FlushedWriter::new(rt.alloc()))?;
     assert_eq!(rt; outcome, Ok(()));
     assert_eq!(rt; device.shown.as_slice(), REPLIES);
     Ok(())

@@ -1,0 +1,121 @@
+//! Servers, and what a test asks of them.
+//!
+//! What a call of a server ensures speaks of all its sessions, and a proof carries it to the end of the function that
+//! makes the call. So each call stands apart, in a function that returns a plain value and ensures nothing, and what
+//! asserts such values is proved with no fact on the server.
+use mls_checker::{Finding, check};
+use mls_edgerule::compile;
+use mls_errorplane::{Outcome, Stepped};
+use mls_server::{Answer, Event, GrabFault, Name, NotOpen, Server, SessionId};
+use mls_session::{Command, Job, JournalLimit, Quota, Reply};
+use mls_tech::Tech;
+use mls_wire::{ServeFault, Watched, serve};
+use std::alloc::{AllocError, Global};
+use std::io::{Read, Write};
+use std::test::Fail;
+
+/// A server with the technology of a file.
+pub fn new_server(alloc: Global, file: &[u8], quota: Quota) -> Result<Server, Fail> {
+    let tech = Tech::read(alloc, file)?;
+    let rules = compile(&tech)?;
+    let limit = JournalLimit::default();
+    Ok(Server::new(alloc, tech, rules, 262_144, quota, limit)?)
+}
+
+/// Opens a session.
+pub fn open(alloc: Global, server: &mut Server, name: &[u8]) -> SessionId {
+    let Some(name) = Name::new(name) else {
+        return SessionId::of(0);
+    };
+    server.open(alloc, name).unwrap_or(SessionId::of(0))
+}
+
+/// Closes a session.
+pub fn close(server: &mut Server, id: SessionId) -> Result<(), NotOpen> {
+    server.close(id)
+}
+
+/// Carries out a command in a session.
+pub fn command(
+    alloc: Global,
+    server: &mut Server,
+    id: SessionId,
+    command: Command,
+) -> Result<Reply, NotOpen> {
+    server.command(alloc, id, command)
+}
+
+/// Saves the layout of a session, and returns the reply.
+pub fn save(alloc: Global, server: &mut Server, id: SessionId) -> Result<Reply, NotOpen> {
+    let mut text = Vec::new(alloc);
+    server.save(id, &mut text)
+}
+
+/// Does a check step in a session.
+pub fn step(alloc: Global, server: &mut Server, id: SessionId) -> Result<Stepped, NotOpen> {
+    server.step(alloc, id)
+}
+
+/// Why a session has no answer to whether it has a job.
+pub fn grab_fault(alloc: Global, server: &mut Server, id: SessionId) -> Option<GrabFault> {
+    server.grab(alloc, id).err()
+}
+
+/// Checks the first piece of a session.
+pub fn found(alloc: Global, server: &mut Server, id: SessionId) -> Option<Finding> {
+    let Ok(Some(job)) = server.grab(alloc, id) else {
+        return None;
+    };
+    let Job {
+        piece,
+        snapshot,
+        rules,
+    } = job;
+    check(alloc, &rules, snapshot, piece).ok()
+}
+
+/// Finishes a check with what it found.
+pub fn finish(server: &mut Server, id: SessionId, finding: Finding) -> Result<Outcome, NotOpen> {
+    server.finish(id, finding)
+}
+
+/// Finishes a check, and keeps what it found.
+pub fn finish_ref(
+    server: &mut Server,
+    id: SessionId,
+    finding: &Finding,
+) -> Result<Outcome, NotOpen> {
+    server.finish_ref(id, finding)
+}
+
+/// How many entries the journal of a session has.
+pub fn journal_len(server: &Server, id: SessionId) -> Option<usize> {
+    server.journal_len(id)
+}
+
+/// Whether a session has a journal.
+pub fn has_journal(server: &Server, id: SessionId) -> bool {
+    server.journal(id).is_some()
+}
+
+/// Answers events.
+pub fn run(
+    alloc: Global,
+    server: &mut Server,
+    events: &[Event],
+) -> Result<Vec<Answer>, AllocError> {
+    server.run(alloc, events)
+}
+
+/// Serves a script, and returns the outcome and the output.
+pub fn serve_script<R: Read + Drop, W: Write + Drop>(
+    alloc: Global,
+    server: &mut Server,
+    input: R,
+    output: W,
+) -> (Result<(), ServeFault>, W) {
+    let mut input = Watched::new(input);
+    let mut output = Watched::new(output);
+    let outcome = serve(alloc, server, &mut input, &mut output);
+    (outcome, output.into_inner())
+}
