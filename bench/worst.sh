@@ -14,7 +14,7 @@
 #
 #   comb, turned comb     2,700 bars 2 wide and 10,800 high, 4 from one to the next, beside 2,700 rungs 4 from one to the
 #                         next; and x and y exchanged
-#   bars, turned bars     8,000 bars 2 wide and 100 high beside each other, 4 from one to the next; 4,000 with x and y exchanged
+#   bars, turned bars     8,000 bars 2 wide and 1,300 high beside each other, 4 from one to the next; 4,000 with x and y exchanged
 #   shelves               64 rows of 120 bars 2 wide and 40 high, each row 2 to the right of the one below
 #   chequer               1 by 1 squares of poly in 126 by 126, every second one
 #   two kinds             the same with ndiff on the others
@@ -53,9 +53,9 @@ rectangles() {
                 for (i = 0; i < n; i++) turn("poly", 0, 4 * i, 10, 4 * i + 2)
                 for (i = 1; i <= n; i++) turn("poly", -4 * i, 0, 2 - 4 * i, 4 * n - 2)
             } else if (shape == "bars") {
-                for (i = 0; i < n; i++) put("poly", 4 * i - 16000, 0, 4 * i - 15998, 100)
+                for (i = 0; i < n; i++) put("poly", 4 * i - 16000, 0, 4 * i - 15998, 1300)
             } else if (shape == "turned bars") {
-                for (i = 0; i < n; i++) turn("poly", 4 * i - 16000, 0, 4 * i - 15998, 100)
+                for (i = 0; i < n; i++) turn("poly", 4 * i - 16000, 0, 4 * i - 15998, 1300)
             } else if (shape == "shelves") {
                 for (j = 0; j < 64; j++) for (i = 0; i < 120; i++)
                     put("poly", 4 * i + 2 * j, 40 * j, 4 * i + 2 * j + 2, 40 * j + 40)
@@ -82,7 +82,7 @@ rectangles() {
             } else if (shape == "far apart") {
                 for (i = 0; i < n; i++) {
                     x = i % 2 == 0 ? -20000 : 20000
-                    put("poly", x, 2 * i, x + 1, 2 * i + 1)
+                    put("poly", x, i, x + 1, i + 1)
                 }
             } else if (shape == "nested, largest last") {
                 for (i = n; i > 0; i--) put("poly", i - 1 - n, i - 1 - n, n + 1 - i, n + 1 - i)
@@ -292,7 +292,7 @@ for shape in 'comb 2700' 'turned comb 2700' 'bars 8000' 'turned bars 4000' 'shel
     done
 done
 dumped 60 bars 4000 'far apart' 1280
-dumped 60 'turned bars' 4000 'far apart' 1280
+dumped 60 'turned bars' 2000 'far apart' 1280
 dumped 60 nothing '' 'far apart' 1000
 dumped 60 squares 60 squares 40
 dumped 60 columns 4000 'turned bars' 1000
