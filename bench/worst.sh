@@ -121,7 +121,7 @@ rectangles() {
             } else if (shape == "grid") {
                 for (j = 0; j < n; j++) for (i = 0; i < n; i++)
                     put("poly", 20 * i, 20 * j, 20 * i + 10, 20 * j + 10)
-            } else { print "no such shape: " shape > "/dev/stderr"; exit 1 }
+            } else if (shape != "nothing") { print "no such shape: " shape > "/dev/stderr"; exit 1 }
         }'
 }
 
@@ -242,7 +242,7 @@ line() {
     if [ "$#" -gt 1 ]; then before=("${@:1:$#-1}"); fi
     technology "$tech"
     less_words=("${words[@]}")
-    if [ "$shape" = nothing ]; then echo '%open a'; else layout "$shape" "$n"; fi > "$work/less"
+    layout "$shape" "$n" > "$work/less"
     if [ "${#before[@]}" -gt 0 ]; then printf '%s\n' "${before[@]}" >> "$work/less"; fi
     { cat "$work/less"; echo "${*: -1}"; } > "$work/more"
     row "$text" "$aim"
@@ -321,7 +321,7 @@ loaded 100 'nested, largest first' 8000
 loaded 500 'nested, largest last' 32000
 loaded 500 'nested, largest first' 32000
 loaded 100 'nested, two kinds' 1000
-loaded 100 shifted 2000
+loaded 100 shifted 600
 loaded 100 'shifted and covered' 16000
 loaded 100 'shifted back and covered' 16000
 loaded 100 'columns, then rows' 8000
