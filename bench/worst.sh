@@ -14,7 +14,8 @@
 #
 #   comb, turned comb     2,700 bars 2 wide and 10,800 high, 4 from one to the next, beside 2,700 rungs 4 from one to the
 #                         next; and x and y exchanged
-#   bars, turned bars     8,000 bars 2 wide and 1,300 high beside each other, 4 from one to the next; 4,000 with x and y exchanged
+#   bars, turned bars     8,000 bars 2 wide and 1,300 high beside each other, 4 from one to the next; 4,000 with x and y
+#                         exchanged
 #   shelves               64 rows of 120 bars 2 wide and 40 high, each row 2 to the right of the one below
 #   chequer               1 by 1 squares of poly in 126 by 126, every second one
 #   two kinds             the same with ndiff on the others
@@ -25,20 +26,24 @@
 #   squares K             K by K squares of 2, 4 from one to the next
 #   scatter               8,900 rectangles of 4 to 16 squares a side, half of them of poly and half of m1, strewn over
 #                         1,160 by 1,160 squares by a fixed generator (Park and Miller 1988)
+#   cells                 rows and columns of rectangles in 256 by 256 squares, apart from each other, as in bench/check.sh: 1,
+#                         81, 353 and 1,001 strips of each of two planes
 #   far apart             4,000 bars, and a cell of 1,280 squares by turns far to the left and far to the right of them
 #
 # Rules: M is the technology that is built in; D N is the rule `spacing poly poly N touching_illegal` alone, W N the rule
 # `width poly N` alone, X N the rule `spacing poly ndiff N touching_illegal` alone; R 128 has 128 rules of distances from 1 to
-# 100. A `step` checks one piece; `world` is a line with the box round the world; cells are loaded at the start.
+# 100, F 40 those of bench/check.sh. A `step` checks one piece; `world` is a line with the box round the world; cells are loaded
+# at the start. The last rows are usual lines, each taken 300 times: a step of a piece of 256 by 256 with `drc check` before it,
+# and `drc why` of a box of 20 by 20.
 set -eu
 TIMEFORMAT='%U %S'
 here=$(cd "$(dirname "${BASH_SOURCE[0]}")/.." && pwd)
 work=$(mktemp -d)
 trap 'rm -rf "$work"' EXIT
 
-# rectangles SHAPE N [LIMIT]: the rectangles of a shape, a line each: its kind, left, bottom, right and top
+# rectangles SHAPE N [COLUMNS]: the rectangles of a shape, a line each: its kind, left, bottom, right and top
 rectangles() {
-    awk -v shape="$1" -v n="${2:-0}" '
+    awk -v shape="$1" -v n="${2:-0}" -v columns="${3:-0}" '
         function roll(limit) { seed = seed * 16807 % 2147483647; return seed % limit }
         function put(kind, l, b, r, t) { print kind, l, b, r, t }
         function turn(kind, l, b, r, t) { print kind, b, l, t, r }
@@ -78,6 +83,13 @@ rectangles() {
                 for (i = 0; i < n; i++) {
                     l = roll(1160); b = roll(1160); w = 4 + roll(13); h = 4 + roll(13)
                     put(i % 2 == 0 ? "poly" : "m1", l, b, l + w, b + h)
+                }
+            } else if (shape == "cells") {
+                for (j = 0; j < n; j++) for (i = 0; i < columns; i++) {
+                    l = int(256 / columns) * i; r = l + int(int(256 / columns) * 6 / 10)
+                    b = int(256 / n) * j; t = b + int(int(256 / n) * 6 / 10)
+                    put(kind_of(i + j), l, b, r, t)
+                    put("m1", l, b, r, t)
                 }
             } else if (shape == "far apart") {
                 for (i = 0; i < n; i++) {
@@ -161,6 +173,18 @@ many_rules() {
     rules "${lines[@]}"
 }
 
+# forty_rules: the technology of 40 rules, ten lines with each distance from 1 to 4
+forty_rules() {
+    local lines=() d
+    for d in 1 2 3 4; do
+        lines+=("width poly $d \"\"" "width ndiff $d \"\"" "width poly,ndiff $d \"\"" "width m1 $d \"\"")
+        lines+=("spacing poly poly $d touching_ok \"\"" "spacing ndiff ndiff $d touching_ok \"\"")
+        lines+=("spacing poly ndiff $d touching_illegal \"\"" "spacing ndiff poly $d touching_illegal \"\"")
+        lines+=("spacing m1 m1 $d touching_ok \"\"" "edge4way space m1 $d space,poly,ndiff 0 0 \"\" active")
+    done
+    rules "${lines[@]}"
+}
+
 # technology NAME: sets the words of the command line for these rules
 technology() {
     local distance=${1#* }
@@ -170,6 +194,7 @@ technology() {
         W*) rules "width poly $distance \"w\"" ;;
         X*) rules "spacing poly ndiff $distance touching_illegal \"x\"" ;;
         R*) many_rules ;;
+        F*) forty_rules ;;
     esac > "$work/tech"
     words=(--tech "$work/tech")
 }
@@ -197,28 +222,30 @@ takes() {
     [[ $1 =~ ${ROWS:-} ]]
 }
 
-# print_row TEXT AIM: a row of what was taken with 2 P and 2 P + 1 for the P-th program; a line that was refused, or cut off
-# after 120 seconds, is said to be
+# print_row TEXT AIM [TIMES]: a row of what was taken with 2 P and 2 P + 1 for the P-th program, one of so many times; a line
+# that was refused, or cut off after 120 seconds, is said to be
 print_row() {
-    awk -v text="$1" -v aim="$2" -v least="${least[*]}" '
+    awk -v text="$1" -v aim="$2" -v times="${3:-1}" -v least="${least[*]}" '
         function ms(p) {
+            if (us[p] == "refused" || us[p + 1] == "refused") return 0
             if (us[p + 1] == "over") return 120000
-            return us[p + 1] > us[p] ? (us[p + 1] - us[p]) / 1000 : 0
+            return us[p + 1] > us[p] ? (us[p + 1] - us[p]) / 1000 / times : 0
         }
         BEGIN {
+            form = times > 1 ? "\t%s%.4f" : "\t%s%.0f"
             printf "%s\t%s", text, aim
             n = split(least, us, " ")
             for (p = 1; p < n; p += 2) {
                 if (us[p] == "refused" || us[p + 1] == "refused") printf "\trefused"
-                else printf "\t%s%.0f", us[p + 1] == "over" ? "over " : "", ms(p)
+                else printf form, us[p + 1] == "over" ? "over " : "", ms(p)
             }
-            if (n > 2) printf "\t%.2f", ms(1) / (ms(n - 1) > 1 ? ms(n - 1) : 1)
+            if (n > 2) printf "\t%.2f", ms(1) / (ms(n - 1) * times > 1 ? ms(n - 1) : 1 / times)
             print ""
         }'
 }
 
-# row TEXT AIM: the row of what the script "more" with the words "words" takes longer than the script "less" with those of
-# "less_words"
+# row TEXT AIM [TIMES]: the row of what the script "more" with the words "words" takes longer than the script "less" with
+# those of "less_words", where the script has lines so many times
 row() {
     local p
     least=()
@@ -229,7 +256,7 @@ row() {
             took "$((2 * p + 1))" "${programs[p]}" "$work/more" "${words[@]}"
         done
     done
-    print_row "$1" "$2"
+    print_row "$1" "$2" "${3:-1}"
 }
 
 # line AIM RULES SHAPE N LINE..: the row of the last line, on a shape and after the other lines
@@ -272,6 +299,21 @@ dumped() {
     row "$text" "$1"
 }
 
+# often AIM RULES ROWS COLUMNS TIMES LEFT SIDE LINE..: the row of lines for the box that begins at this line and has this
+# side, on the cells of a piece
+often() {
+    local aim=$1 tech=$2 rows=$3 columns=$4 times=$5 side=$7 box="a box $6 $6 $(($6 + $7)) $(($6 + $7))" text
+    shift 7
+    text="$tech: cells $rows by $columns, box of $side: ${*: -1}"
+    if ! takes "$text"; then return 0; fi
+    technology "$tech"
+    less_words=("${words[@]}")
+    { layout cells "$rows" "$columns"; echo 'a drc catchup'; echo "$box"; } > "$work/less"
+    cp "$work/less" "$work/more"
+    for ((i = 0; i < times; i++)); do printf '%s\n' "$@"; done >> "$work/more"
+    row "$text" "$aim" "$times"
+}
+
 world='a box -32768 -32768 32768 32768'
 programs=("$@")
 if [ "${#programs[@]}" -eq 0 ]; then
@@ -285,8 +327,8 @@ if [ "${#programs[@]}" -gt 1 ]; then printf '\ttimes'; fi
 echo
 
 # Painting, erasing and dumping
-for shape in 'comb 2700' 'turned comb 2700' 'bars 8000' 'turned bars 4000' 'shelves ' 'chequer 126' 'two kinds 126' 'steps 8000' \
-    'stairs 5400' 'rings 4000' 'columns 8000' 'squares 88' 'scatter 8900'; do
+for shape in 'comb 2700' 'turned comb 2700' 'bars 8000' 'turned bars 4000' 'shelves ' 'chequer 126' 'two kinds 126' \
+    'steps 8000' 'stairs 5400' 'rings 4000' 'columns 8000' 'squares 88' 'scatter 8900'; do
     for command in 'erase poly' 'paint poly' 'paint ndiff' what save; do
         line 60 M "${shape% *}" "${shape##* }" "$world" "a $command"
     done
@@ -308,8 +350,8 @@ done
 # Catching up, and why
 line - M nothing '' "$world" 'a drc check' 'a drc catchup'
 line - M nothing '' "$world" 'a drc why'
-for shape in 'squares 60' 'squares 88' 'two kinds 126' 'scatter 8900' 'columns 8000' 'bars 8000' 'comb 2700' 'turned comb 2700' \
-    'shelves ' 'steps 8000'; do
+for shape in 'squares 60' 'squares 88' 'two kinds 126' 'scatter 8900' 'columns 8000' 'bars 8000' 'comb 2700' \
+    'turned comb 2700' 'shelves ' 'steps 8000'; do
     line 60 M "${shape% *}" "${shape##* }" 'a drc catchup'
     line 'e + 100' M "${shape% *}" "${shape##* }" "$world" 'a drc check' 'a drc catchup'
     line 'e + 100' M "${shape% *}" "${shape##* }" "$world" 'a drc why'
@@ -330,3 +372,13 @@ loaded 100 'rows of the world over columns' 8000
 loaded 100 'lattice and covered' 8000
 loaded 100 'strewn and covered' 16000
 loaded 100 grid 44
+
+# Usual lines, of a piece with its halo
+for cells in '0 0 0.001' '5 7 0.04' '11 15 -' '20 24 0.6'; do
+    read -r rows columns aim <<< "$cells"
+    often "$aim" M "$rows" "$columns" 300 4 248 'a drc check' '%step a'
+    if [ "$rows" = 20 ]; then aim=4; else aim=-; fi
+    often "$aim" 'F 40' "$rows" "$columns" 300 5 246 'a drc check' '%step a'
+done
+often 0.025 M 20 24 300 118 20 'a drc why'
+often - 'F 40' 20 24 300 118 20 'a drc why'
