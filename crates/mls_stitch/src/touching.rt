@@ -1,13 +1,13 @@
 //! The tiles that pieces touch.
 ghost use Rattle.std.specs.Prelude.{◌≡◌, ◌+◌, ◌++◌, ◌≤◌, IsTrue, length, vec_len, vec_capacity};
 ghost use Rattle.mls_tilepool.specs.Pools.{count_of, tiles_of};
-ghost use Rattle.mls_stitch.specs.Areas.{AreTouchedBy};
+ghost use Rattle.mls_stitch.specs.Areas.{ListTouched};
 ghost use Rattle.mls_stitch.specs.Tilings.{HasPlane, block_at};
 
 use crate::around::{free_room, sort_dedup};
 use crate::enumeration::area_into;
 use crate::{LaidTile, Plane, Scratch};
-use mls_geom::Piece;
+use mls_geom::{Piece, Rect};
 use mls_tilepool::{Owner, Pool, TileId};
 
 /// Adds tiles to a list.
@@ -37,7 +37,7 @@ fn list_touched(
     requires found_fit { count_of pool.now owner.now ≤ vec_capacity found.old }
     requires entries_fit { count_of pool.now owner.now + count_of pool.now owner.now
         ≤ vec_capacity entries.old }
-    ensures touched { IsTrue result → AreTouchedBy (block_at (tiles_of pool.now owner.now)) over.now entries.new.items }
+    ensures touched { IsTrue result → ListTouched (block_at (tiles_of pool.now owner.now)) over.now entries.new.items }
     ensures found_room { vec_capacity found.new ≡ vec_capacity found.old }
     ensures entries_room { vec_capacity entries.new ≡ vec_capacity entries.old }
 {
@@ -59,21 +59,16 @@ fn list_touched(
 }
 
 impl Plane {
-    /// Finds the tiles that one of the pieces touches, by a square, a side or a corner, each once, and leaves them in the
-    /// scratch.
+    /// Finds tiles of the plane, each once, and among them all that one of the pieces touches, by a square, a side or a
+    /// corner, and leaves them in the scratch.
     ///
-    /// Searches the area round each piece. Each search takes a turn, and so does each tile that it finds. Returns `false`
+    /// Searches the area round each piece. Each search takes a turn, and so does each tile that it finds. Finds all tiles
     /// if more than `turns` would be needed.
-    pub fn touching(
-        &mut self,
-        pool: &Pool,
-        over: &[Piece],
-        turns: usize,
-        scratch: &mut Scratch,
-    ) -> bool
+    pub fn touching(&mut self, pool: &Pool, over: &[Piece], turns: usize, scratch: &mut Scratch)
         requires plane { HasPlane pool.now self.old }
         requires room { count_of pool.now self.old ≤ scratch.old.room }
-        ensures touched { IsTrue result → AreTouchedBy (block_at (tiles_of pool.now self.old)) over.now scratch.new.tiles }
+        ensures touched { ListTouched (block_at (tiles_of pool.now self.old)) over.now scratch.new.tiles }
+        ensures few { length scratch.new.tiles ≤ count_of pool.now self.old }
         ensures plane { self.new ≡ self.old }
         ensures scratch_room { scratch.new.room ≡ scratch.old.room }
     {
@@ -86,12 +81,13 @@ impl Plane {
             &mut scratch.tiles,
             &mut scratch.entries,
         );
-        if !listed {
-            return false;
+        if listed {
+            scratch.tiles.clear();
+            list_all(&scratch.entries, &mut scratch.tiles);
+        } else {
+            let world = Rect::world();
+            area_into(pool, &self.owner, self.hint, world, &mut scratch.tiles);
         }
-        scratch.tiles.clear();
-        list_all(&scratch.entries, &mut scratch.tiles);
         self.hint = scratch.tiles.first().map_or(self.hint, |tile| tile.id);
-        true
     }
 }

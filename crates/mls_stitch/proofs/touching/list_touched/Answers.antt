@@ -4,7 +4,8 @@ use Rattle.std.proofs.lemmas.List.{take_all, take_more}
 use Rattle.mls_tilepool.specs.Pools.{tiles_of}
 use Rattle.mls_stitch.specs.Tilings.{block_at}
 use Rattle.mls_stitch.proofs.AroundTiles.{found_few}
-use Rattle.mls_stitch.proofs.TouchedTiles.{AreTouchedBy-passed, length-le-IsTouchedBy, touched_keeps, touched_more}
+use Rattle.mls_stitch.proofs.ListedTiles.{length-le-AreLaid}
+use Rattle.mls_stitch.proofs.TouchedTiles.{ListTouched-passed, touched_keeps, touched_more}
 use Rattle.mls_stitch.proofs.touching.list_touched.Goals as goal
 
 pub list_all-requires : goal.list_all-requires
@@ -17,7 +18,7 @@ list_all-requires c =
       room = elim c.free_room.ensures.free [
         | inl free ↦ omega (arith, free, c.len-in-loop-piece.ensures, ap length c.deref-in-loop-piece.ensures.value, c.area_into.new.list.ok.0)
         | inr once ↦
-            let few = length-le-IsTouchedBy tiles passed c.free_room.new.entries.items kept.each once in
+            let few = length-le-AreLaid tiles c.free_room.new.entries.items kept.each once in
             omega (arith, few, found, ap length c.deref-in-loop-piece.ensures.value, c.free_room.new.entries.ok.0, c.free_room.ensures.room, c.loop-piece.invariant.entries_room, c.requires.entries_fit, c.clear.ensures.capacity)
       ];
     }
@@ -44,5 +45,5 @@ returns-clause-touched c reports =
     let over = c.args.over.now in
     let all : take c.loop-piece.piece-index over ≡ over = take_all c.loop-piece.piece-index over (omega arith) in
     let passed = rw all at c.loop-piece.invariant.touched in
-    AreTouchedBy-passed (block_at tiles) over c.sort_dedup.new.entries.items
+    ListTouched-passed (block_at tiles) over c.sort_dedup.new.entries.items
     (touched_keeps (block_at tiles) over c.loop-piece.entries.items c.sort_dedup.new.entries.items passed c.sort_dedup.ensures.keeps) c.sort_dedup.ensures.once
