@@ -5,7 +5,7 @@ use Rattle.std.specs.List.{AllZip, list_any}
 use Rattle.std.specs.Option.{option_map}
 use Rattle.std.proofs.lemmas.Bool.{both_ways, cases_Bool, false_from_ne_true, not-true, not_from_false}
 use Rattle.std.proofs.lemmas.List.{length-append, length-map}
-use Rattle.std.proofs.lemmas.List.Elements.{All-append, All-contains, All-contains_itself, All-filter, All-map, Contains-get_or, filter_passes}
+use Rattle.std.proofs.lemmas.List.Elements.{All-append, All-contains, All-contains_itself, All-filter, All-map, Contains-append_cases, Contains-get_or, filter_passes}
 use Rattle.std.proofs.lemmas.List.Folds.{Any-from_list_any, list_any_at}
 use Rattle.std.proofs.lemmas.List.Kept.{AllPairs-filter}
 use Rattle.std.proofs.lemmas.Option.{same_Some}
@@ -25,8 +25,9 @@ use Rattle.mls_geom.proofs.Overlays.{overlaid_outside}
 use Rattle.mls_geom.proofs.PiecePictures.{holds_outer}
 use Rattle.mls_geom.proofs.StripPictures.{kind-IsStrip}
 use Rattle.mls_geom.proofs.CoveredCounts.{fresh_strips_number}
-use Rattle.mls_geom.proofs.TouchedStrips.{touched_strips_give_way}
+use Rattle.mls_geom.proofs.TouchedStrips.{one_strip, touched_strips_give_way}
 use Rattle.mls_geom.proofs.UnorderedStrips.{unordered_strips_number}
+use Rattle.mls_geom.proofs.UntouchedStrips.{untouched_strips_stay}
 use Rattle.mls_tilepool.specs.declared.tile.Tile.{Tile}
 use Rattle.mls_stitch.specs.Areas.{AreInArea}
 use Rattle.mls_stitch.specs.Pending.{keys_of}
@@ -177,6 +178,32 @@ tile_count-painted tiles touched over plane differ maximal under all legal =
       length-map touched (λ (t : LaidTile). t.piece),
       length-map tiles (λ (e : ℕ × Tile). block_of tiles e.1),
     )
+
+-- a listed tile that no piece touches is one of the strips that take the place of the listed tiles
+pub fresh-untouched :
+    (tiles : List (ℕ × Tile)) (touched : List LaidTile) (over fresh : List Piece) (tile : LaidTile) → IsPlane tiles → KeysDiffer tiles → IsMaximal tiles
+    → AreTouched (block_at tiles) touched over → AreAllTouched tiles touched over → AreLegal over → AreCoveredStrips world (laid (pieces_of touched ++ over)) fresh
+    → Contains touched tile → is_touched over tile.piece ≡ false → Contains fresh tile.piece
+fresh-untouched tiles touched over fresh tile plane differ maximal under all legal covered listed apart =
+    let picture = overlaid (shown tiles) over in
+    let kept = kept_of tiles touched in
+    let block = tile.piece in
+    let here : block_at tiles tile.id ≡ Some block = All-contains (λ t. block_at tiles t.id ≡ Some t.piece) touched tile under.each listed in
+    let strips = touched_strips_give_way world (shown tiles) over kept (pieces_of touched) fresh (strips_parted tiles touched over plane differ maximal under) under.kinds
+    legal (kept_untouched tiles touched over plane differ under all) covered in
+    let stays = untouched_strips_stay world (shown tiles) over block (strip-IsMaximal tiles tile.id block maximal here) apart in
+    let in_world = legal-AreBlocks (block_at tiles) tile.id block plane.tiling here in
+    let corner = holds_corner world block.rect in_world in
+    let (k, piece, within, is, inside) = strips.whole block.rect.left block.rect.bottom (holds_outer world block.rect block.rect.left block.rect.bottom in_world corner) in
+    let strip = All-contains (IsStrip world picture) (kept ++ fresh) piece strips.each (k, within, is) in
+    let same = one_strip world picture piece block block.rect.left block.rect.bottom strip stays inside corner in
+    elim (Contains-append_cases kept fresh block (subst (Contains (kept ++ fresh)) same (k, within, is))) [
+      | inl remains ↦
+          absurd (both_ways _
+          (not-true _ (All-contains (λ b. not (is_listed touched b) ≡ true) kept block (filter_passes (λ b. not (is_listed touched b)) (blocks_of tiles)) remains))
+          (block_listed tiles touched over tile.id block plane under here (Contains-map (λ t. t.id) touched tile listed)))
+      | inr fresh_there ↦ fresh_there
+    ]
 
 -- the block under the key of a fresh piece is that piece
 in_fresh :
