@@ -1,28 +1,24 @@
--- The tiles that pieces touch, gathered from the search round one piece after another.
-use Rattle.std.proofs.Common.{◌≡◌, ◌≢◌, ℕ, true, List, [], ◌∷◌, ◌++◌, length, map, ◌≤◌, All, AllPairs, Contains, Option, Some, inl, inr, sym, ◌∙◌, subst}
+-- The tiles that pieces touch, gathered from the search round one piece after another, or round all.
+use Rattle.std.proofs.Common.{◌≢◌, ℕ, List, [], ◌∷◌, ◌++◌, length, ◌≤◌, AllPairs, Contains, Option, inl, inr, sym, ◌∙◌, subst, arith}
 use Rattle.std.proofs.lemmas.Bool.{or_cases}
-use Rattle.std.proofs.lemmas.List.Elements.{All-append, All-contains, Contains-append_left, Contains-append_right}
-use Rattle.std.proofs.lemmas.List.Folds.{list_any-append}
+use Rattle.std.proofs.lemmas.List.Elements.{All-append, All-contains, All-nil, All-push, Contains-append_left, Contains-append_right}
+use Rattle.std.proofs.lemmas.List.Folds.{Any-from_list_any, list_any-append}
 use Rattle.mls_geom.specs.Locality.{is_touched, touches}
-use Rattle.mls_geom.specs.Rects.{common, grown}
-use Rattle.mls_geom.specs.World.{world}
+use Rattle.mls_geom.specs.Rects.{Rect}
 use Rattle.mls_geom.specs.declared.piece.Piece.{Piece}
 use Rattle.mls_geom.proofs.Ascending.{Contains-map}
 use Rattle.mls_tilepool.specs.declared.tile.Tile.{Tile}
-use Rattle.mls_stitch.specs.Areas.{AreInArea, ListTouched}
+use Rattle.mls_stitch.specs.Areas.{ListTouched}
+use Rattle.mls_stitch.specs.Gathering.{AreMet, EnclosePieces, HasTouched, IsWithin}
 use Rattle.mls_stitch.specs.Pending.{keys_of}
 use Rattle.mls_stitch.specs.Placing.{KeepsKeys}
 use Rattle.mls_stitch.specs.Tilings.{IsPlane, block_at}
 use Rattle.mls_stitch.specs.Walks.{IsLaid}
 use Rattle.mls_stitch.specs.declared.laid_tile.LaidTile.{LaidTile}
 use Rattle.mls_stitch.proofs.FreshTiles.{Contains-from_map}
-use Rattle.mls_stitch.proofs.ListedTiles.{keys-AreInArea, length-le-AreLaid, listed_there}
-use Rattle.mls_stitch.proofs.PaintedTiles.{AreAllTouched-area}
-
--- the list has laid tiles, and among them those that one of the passed pieces touches; it may have a tile more than once
-pub record HasTouched (blocks : ℕ → Option Piece) (passed : List Piece) (list : List LaidTile) : Type 0 where
-  pub each : All (IsLaid blocks) list
-  pub whole : (key : ℕ) (block : Piece) → blocks key ≡ Some block → is_touched passed block ≡ true → Contains (keys_of list) key
+use Rattle.mls_stitch.proofs.Gathered.{IsRound, both_true, touched_met}
+use Rattle.mls_stitch.proofs.ListedTiles.{length-le-AreLaid}
+use Rattle.mls_stitch.proofs.Sides.{legal-AreBlocks}
 
 -- a longer list has the keys of a shorter one
 more_keys : (list more : List LaidTile) (key : ℕ) → ((tile : LaidTile) → Contains list tile → Contains more tile) → Contains (keys_of list) key → Contains (keys_of more) key
@@ -39,18 +35,35 @@ touched_keeps blocks passed before after so_far keeps = record {
       subst (Contains (keys_of after)) is (All-contains (λ t. Contains (keys_of after) t.id) before tile keeps.keys there);
 }
 
+-- a search round bounds finds the tiles that the pieces in them touch
+pub HasTouched-met :
+    (tiles : List (ℕ × Tile)) (over : List Piece) (bounds area : Rect) (found : List LaidTile) → IsPlane tiles → EnclosePieces bounds over → IsRound bounds area
+    → AreMet (block_at tiles) area found → HasTouched (block_at tiles) over found
+HasTouched-met tiles over bounds area found plane inside squares met = record {
+  each = λ k d within. (met.each k d within).laid;
+  whole = λ key block here near.
+      let (k, piece, within, is, touched) = Any-from_list_any (λ (p : Piece). touches p.rect block.rect) over near in
+      let legal = legal-AreBlocks (block_at tiles) key block plane.tiling here in
+      let in_bounds = All-contains (λ (p : Piece). IsWithin bounds p.rect) over piece inside (k, within, is) in
+      met.whole key block here (touched_met bounds piece block area in_bounds legal (λ x y g w. squares x y ∙ both_true g w) touched);
+}
+
+itself : (piece : Piece) → EnclosePieces piece.rect (piece ∷ [])
+itself piece = All-push (λ (p : Piece). IsWithin piece.rect p.rect) [] piece (All-nil _) (record { left = omega arith; bottom = omega arith; right = omega arith; top = omega arith })
+
 -- one more piece was passed, round which these were found
 pub touched_more :
-    (tiles : List (ℕ × Tile)) (passed : List Piece) (piece : Piece) (found list : List LaidTile) → IsPlane tiles → AreInArea (block_at tiles) (common (grown 1 piece.rect) world) found
+    (tiles : List (ℕ × Tile)) (passed : List Piece) (piece : Piece) (area : Rect) (found list : List LaidTile) → IsPlane tiles → IsRound piece.rect area → AreMet (block_at tiles) area found
     → HasTouched (block_at tiles) passed list → HasTouched (block_at tiles) (passed ++ piece ∷ []) (list ++ found)
-touched_more tiles passed piece found list plane in_area so_far =
+touched_more tiles passed piece area found list plane squares met so_far =
+    let last = HasTouched-met tiles (piece ∷ []) piece.rect area found plane (itself piece) squares met in
     record {
-      each = All-append (IsLaid (block_at tiles)) list found so_far.each (λ k d within. (in_area.each k d within).laid);
+      each = All-append (IsLaid (block_at tiles)) list found so_far.each last.each;
       whole = λ key block here near.
           let parts = sym (list_any-append (λ p. touches p.rect block.rect) passed (piece ∷ [])) ∙ near in
           elim (or_cases (is_touched passed block) (is_touched (piece ∷ []) block) parts) [
             | inl earlier ↦ more_keys list (list ++ found) key (λ t. Contains-append_left list found t) (so_far.whole key block here earlier)
-            | inr now ↦ more_keys found (list ++ found) key (λ t. Contains-append_right list found t) (AreAllTouched-area tiles piece found plane in_area key block here now)
+            | inr now ↦ more_keys found (list ++ found) key (λ t. Contains-append_right list found t) (last.whole key block here now)
           ];
     }
 
@@ -58,17 +71,6 @@ touched_more tiles passed piece found list plane in_area so_far =
 pub ListTouched-passed :
     (blocks : ℕ → Option Piece) (over : List Piece) (list : List LaidTile) → HasTouched blocks over list → AllPairs (λ p q. p.id ≢ q.id) list → ListTouched blocks over list
 ListTouched-passed blocks over list passed once = record { each = passed.each; whole = passed.whole; once = once }
-
--- all tiles are one too
-pub ListTouched-AreInArea :
-    (tiles : List (ℕ × Tile)) (over : List Piece) (list : List LaidTile) → IsPlane tiles → AreInArea (block_at tiles) world list → ListTouched (block_at tiles) over list
-ListTouched-AreInArea tiles over list plane found = record {
-  each = λ k d within. (found.each k d within).laid;
-  whole = λ key block here near.
-      let (tile, listed, is_key, is_block) = listed_there tiles list key block plane (λ k d within. (found.each k d within).laid) found.whole here in
-      subst (Contains (map (λ t. t.id) list)) is_key (Contains-map (λ t. t.id) list tile listed);
-  once = keys-AreInArea (block_at tiles) world list found;
-}
 
 -- the listed tiles are at most all
 pub length-ListTouched : (tiles : List (ℕ × Tile)) (over : List Piece) (list : List LaidTile) → ListTouched (block_at tiles) over list → length list ≤ length tiles

@@ -1,8 +1,8 @@
 use Rattle.std.proofs.Common.{◌≡◌, take, vec_capacity}
 use Rattle.mls_tilepool.specs.Pools.{tiles_of}
 use Rattle.mls_stitch.specs.Tilings.{block_at}
-use Rattle.mls_stitch.proofs.AroundTiles.{SurroundPassed}
-use Rattle.mls_stitch.proofs.around.list_around.Given as goal
+use Rattle.mls_stitch.specs.Gathering.{SurroundPassed}
+use Rattle.mls_stitch.proofs.around.list_round_each.Given as goal
 
 abbrev pub invariant-loop-id : goal.invariant-loop-id
 invariant-loop-id l = record {

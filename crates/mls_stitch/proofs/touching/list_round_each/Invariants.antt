@@ -1,8 +1,8 @@
 use Rattle.std.proofs.Common.{◌≡◌, take, vec_capacity}
 use Rattle.mls_tilepool.specs.Pools.{tiles_of}
 use Rattle.mls_stitch.specs.Tilings.{block_at}
-use Rattle.mls_stitch.proofs.TouchedTiles.{HasTouched}
-use Rattle.mls_stitch.proofs.touching.list_touched.Given as goal
+use Rattle.mls_stitch.specs.Gathering.{HasTouched}
+use Rattle.mls_stitch.proofs.touching.list_round_each.Given as goal
 
 abbrev pub invariant-loop-piece : goal.invariant-loop-piece
 invariant-loop-piece l = record {
