@@ -19,8 +19,8 @@ use mls_stitch::{LaidTile, Plane};
 use mls_tilepool::Pool;
 use thiserror::Error;
 
-/// How many turns the searches of one call take, as [`Plane::touching`] counts them.
-const TURNS: u32 = 1 << 20;
+/// How many steps the searches round single pieces take in one call, before one look at each tile serves.
+const TURNS: u32 = 1 << 14;
 
 /// How a plane was painted.
 #[derive(Clone, Copy, Debug, PartialEq, Eq)]

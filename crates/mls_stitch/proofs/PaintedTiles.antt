@@ -1,6 +1,6 @@
 -- Painting keeps a plane maximal: where all tiles that painted pieces touch give way to the strips of what they and the pieces cover, every tile is a
 -- strip of the painted picture. Touched tiles that are such strips themselves may stay.
-use Rattle.std.proofs.Common.{◌≡◌, ◌≢◌, ℕ, zero, suc, ◌+◌, true, not, Bool, List, [], ◌∷◌, filter, ◌++◌, length, get_or, AllPairs, Contains, Option, Some, inl, inr, ap, subst, ◌∙◌, sym, suc-le-suc, le_of_suc-le-suc, arith}
+use Rattle.std.proofs.Common.{◌≡◌, ◌≢◌, ℕ, zero, suc, ◌+◌, true, false, not, Bool, List, [], ◌∷◌, filter, ◌++◌, length, get_or, AllPairs, Contains, Option, Some, inl, inr, ap, subst, ◌∙◌, sym, suc-le-suc, le_of_suc-le-suc, arith}
 use Rattle.std.specs.List.{AllZip, list_any}
 use Rattle.std.specs.Option.{option_map}
 use Rattle.std.proofs.lemmas.Bool.{both_ways, cases_Bool, false_from_ne_true, not-true, not_from_false}

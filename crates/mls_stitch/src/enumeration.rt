@@ -1,5 +1,5 @@
 //! The enumeration of an area's tiles (Ousterhout 1984), each of which has one parent.
-ghost use Rattle.std.specs.Prelude.{◌≡◌, ◌+◌, ◌-◌, ◌<◌, ◌≤◌, ◌&&◌, false, slice_index_or, vec_len, vec_capacity};
+ghost use Rattle.std.specs.Prelude.{◌≡◌, ◌+◌, ◌-◌, ◌<◌, ◌≤◌, ◌&&◌, if◌then◌else◌, nat_le, false, slice_index_or, vec_len, vec_capacity};
 ghost use Rattle.mls_geom.specs.Rects.{IsRectangleIn, holds, meets};
 ghost use Rattle.mls_geom.specs.World.{world};
 ghost use Rattle.mls_tilepool.specs.Pools.{count_of, tiles_of};
@@ -95,6 +95,18 @@ fn push_children(
     }
 }
 
+/// Returns the tile from which to go on up the area's left side: the one found last, or the one before where that reaches
+/// beyond the area and may have many more neighbours there.
+fn next_start(area: Rect, from: TileId, tile: &LaidTile) -> TileId
+    ensures { result ≡ (if nat_le tile.now.piece.rect.right area.right then tile.now.id else from) }
+{
+    if tile.sides().right <= area.area().right {
+        tile.id
+    } else {
+        from
+    }
+}
+
 /// Makes `list` the tiles on the area's left side, from the bottom up.
 fn list_left_side(
     pool: &Pool,
@@ -118,7 +130,7 @@ fn list_left_side(
         let tile = find_tile(pool, owner, from, Point::at(bounds.left, line), steps);
         list.push_reserved(tile);
         line = tile.sides().top;
-        from = tile.id;
+        from = next_start(area, from, &tile);
     }
 }
 

@@ -1,6 +1,6 @@
--- All tiles are those that the pieces touch, and others.
+-- All tiles are such a list, too.
 use Rattle.mls_tilepool.specs.Pools.{tiles_of}
-use Rattle.mls_stitch.proofs.TouchedTiles.{ListTouched-AreInArea}
+use Rattle.mls_paint.proofs.ListedTouched.{ListTouched-AreInArea}
 use Rattle.mls_paint.proofs.paint.find_touched.Goals as goal
 
 pub returns-then-turns-eq0-clause-found : goal.returns-then-turns-eq0-clause-found

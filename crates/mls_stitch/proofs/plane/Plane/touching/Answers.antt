@@ -1,1 +1,0 @@
--- The listed tiles are no more than all, so there is room for them.
