@@ -13,3 +13,5 @@ mod grid;
 mod layouts;
 #[cfg(test)]
 mod random_checks;
+#[cfg(test)]
+mod strips;
