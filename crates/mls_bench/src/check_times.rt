@@ -2,7 +2,7 @@
 ghost use Rattle.std.specs.Prelude.{◌≡◌};
 ghost use Rattle.mls_checker.specs.Halos.{zone_of};
 
-use crate::places::{CellGrid, checked_piece};
+use crate::places::{CellGrid, checked_piece, looked_box};
 use crate::scene::Scene;
 use anyhow::{Result, ensure};
 use mls_checker::{Finding, check, why};
@@ -16,6 +16,9 @@ use std::time::Instant;
 const PLAIN_ROUNDS: u32 = 30;
 
 const ROUNDS: u32 = 10;
+
+/// How often a box is looked at.
+const LOOKS: u32 = 300;
 
 /// The least nanoseconds that each step took.
 #[derive(Clone, Copy)]
@@ -112,6 +115,31 @@ pub fn time_checks(rt: &HostRuntime, rules: &Rules, grid: CellGrid) -> Result<(u
         check_by_both(rt, &mut scene, rules, piece, &mut times)?;
     }
     Ok((scene.strips(), times))
+}
+
+/// Reads what a box needs and finds the rules that are violated in it, and returns how many nanoseconds that takes. Fails
+/// where one is violated.
+fn look(rt: &HostRuntime, scene: &mut Scene, rules: &Rules, looked: Rect) -> Result<u128>
+    requires { scene.old ≡ zone_of rules.now looked }
+    ensures { scene.new ≡ scene.old }
+{
+    let start = Instant::now(rt)?;
+    let snapshot = scene.read(rt.alloc())?;
+    let violated = why(rules, &snapshot, looked);
+    let nanos = start.elapsed(rt)?.as_nanos();
+    ensure!(violated == 0, "a rule is violated");
+    Ok(nanos)
+}
+
+/// Looks at a box in a grid of cells. Returns how many strips a plane has in the zone, and the least nanoseconds.
+pub fn time_look(rt: &HostRuntime, rules: &Rules, grid: CellGrid) -> Result<(usize, u128)> {
+    let looked = looked_box()?;
+    let mut scene = Scene::new(rt.alloc(), grid, looked.grow(rules.halo()))?;
+    let mut nanos = u128::MAX;
+    for _ in 0..LOOKS {
+        nanos = nanos.min(look(rt, &mut scene, rules, looked)?);
+    }
+    Ok((scene.strips(), nanos))
 }
 
 /// Checks a piece of a grid of cells once. Returns how many strips a plane has in the zone, and how many sides were looked at.

@@ -14,7 +14,7 @@ mod sheet;
 mod steps;
 
 use anyhow::Result;
-use check_times::{Times, count_sides, time_checks};
+use check_times::{Times, count_sides, time_checks, time_look};
 use mls_tech::TECHNOLOGY_M;
 use places::CellGrid;
 use rule_files::{forty_rules, rules_of};
@@ -27,6 +27,12 @@ const GRIDS: [u8; 3] = [22, 44, 89];
 
 /// The rows and columns of cells with which a plane has 1, 81, 353 and 1,001 strips.
 const CELLS: [(u8, u8); 4] = [(0, 0), (5, 7), (11, 15), (20, 24)];
+
+/// The rows and columns of the most cells.
+const DENSE: CellGrid = CellGrid {
+    rows: 20,
+    columns: 24,
+};
 
 /// What is printed.
 #[derive(Clone, Copy)]
@@ -104,7 +110,7 @@ fn print_times(rt: &HostRuntime, k: u8) -> Result<()> {
 }
 
 /// Prints rows for each grid of cells: how many nanoseconds each step takes to check a piece by the rules of a file, and
-/// how many times as long the plain program takes.
+/// how many times as long the plain program takes; and then a row of a look at a box.
 fn print_checks(rt: &HostRuntime, file: &[u8]) -> Result<()> {
     let rules = rules_of(rt.alloc(), file)?;
     let count = rules.as_slice().len();
@@ -123,5 +129,7 @@ fn print_checks(rt: &HostRuntime, file: &[u8]) -> Result<()> {
             println!(rt; "{step}\t{count}\t{strips}\t{nanos}\t{whole}.{tenth}")?;
         }
     }
+    let (strips, nanos) = time_look(rt, &rules, DENSE)?;
+    println!(rt; "look\t{count}\t{strips}\t{nanos}")?;
     Ok(())
 }

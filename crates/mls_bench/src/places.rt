@@ -94,6 +94,16 @@ pub fn checked_piece() -> Result<Rect, RectFault> {
     square(0, 0, PIECE_SIDE)
 }
 
+/// Where the box lies that is looked at, and its side.
+const LOOKED_LINE: i32 = 118;
+
+const LOOKED_SIDE: i32 = 20;
+
+/// Returns the box that is looked at, in the middle of the piece.
+pub fn looked_box() -> Result<Rect, RectFault> {
+    square(LOOKED_LINE, LOOKED_LINE, LOOKED_SIDE)
+}
+
 /// Makes a rectangle in each cell, of two kinds in turn. Where there are 24 columns, rectangles are 6 squares wide and 4
 /// apart.
 pub fn cells(alloc: Global, grid: CellGrid, kinds: [u8; 2]) -> Result<Vec<Piece>> {

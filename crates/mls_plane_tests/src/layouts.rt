@@ -14,10 +14,10 @@ use std::marker::Model;
 use std::test::Fail;
 
 /// How many tiles each plane may have.
-const ROOM: u32 = 100;
+const ROOM: u32 = 1_024;
 
 /// How many pieces each plane may be made of.
-const PIECES: u32 = 16;
+const PIECES: u32 = 512;
 
 /// Adds a plane to those of a layout, over which pieces are painted.
 fn add_plane(
@@ -27,13 +27,13 @@ fn add_plane(
     pieces: &[Piece],
 ) -> Result<(), Fail>
     requires strips { All (λ owner. HasStrips pool.old owner) planes.old.items }
-    requires rooms { All (λ owner. room_of pool.old owner ≡ Some 100) planes.old.items }
-    requires scratch_room { scratch.old.room ≡ 100 }
-    requires scratch_pieces { scratch.old.pieces ≡ 16 }
+    requires rooms { All (λ owner. room_of pool.old owner ≡ Some 1024) planes.old.items }
+    requires scratch_room { scratch.old.room ≡ 1024 }
+    requires scratch_pieces { scratch.old.pieces ≡ 512 }
     ensures strips { OnOk result (All (λ owner. HasStrips pool.new owner) planes.new.items) }
-    ensures rooms { OnOk result (All (λ owner. room_of pool.new owner ≡ Some 100) planes.new.items) }
-    ensures scratch_room { OnOk result (scratch.new.room ≡ 100) }
-    ensures scratch_pieces { OnOk result (scratch.new.pieces ≡ 16) }
+    ensures rooms { OnOk result (All (λ owner. room_of pool.new owner ≡ Some 1024) planes.new.items) }
+    ensures scratch_room { OnOk result (scratch.new.room ≡ 1024) }
+    ensures scratch_pieces { OnOk result (scratch.new.pieces ≡ 512) }
 {
     if pieces.len() > scratch.pieces() {
         return Err(Fail::new("too many pieces"));
@@ -63,8 +63,8 @@ impl Model for Layout {
     ghost view = { λ l. l.pool };
 
     ghost invariant = { λ l. All (λ owner. HasStrips l.pool owner) l.planes.items
-        × All (λ owner. room_of l.pool owner ≡ Some 100) l.planes.items
-        × (l.scratch.room ≡ 100) × (l.scratch.pieces ≡ 16) };
+        × All (λ owner. room_of l.pool owner ≡ Some 1024) l.planes.items
+        × (l.scratch.room ≡ 1024) × (l.scratch.pieces ≡ 512) };
 }
 
 impl Layout {

@@ -10,6 +10,8 @@ mod dice;
 #[cfg(test)]
 mod grid;
 #[cfg(test)]
+mod lattices;
+#[cfg(test)]
 mod layouts;
 #[cfg(test)]
 mod random_checks;

@@ -368,6 +368,65 @@ fn overlay_of_4000_pieces(rt: HostRuntime) -> Result<(), Fail> {
     expect_limit(&rt, rt.alloc(), &pieces)
 }
 
+/// How many bars stand in the middle, and how many squares lie far to the left and to the right of them.
+const FAR_PIECES: i32 = 1000;
+
+/// Returns bars of 2 by 4,000 squares beside each other, each apart from the next.
+fn bars(alloc: Global, kind: u8) -> Result<Vec<Piece>, Fail> {
+    let mut bars = Vec::new(alloc);
+    for index in 0..FAR_PIECES {
+        let left = index.saturating_mul(4);
+        bars.push(piece(kind, (left, 0, left.saturating_add(2), 4000))?)?;
+    }
+    Ok(bars)
+}
+
+/// Returns squares of 2 by 2, by turns far to the left and far to the right of the bars.
+fn squares_far_apart(alloc: Global, kind: u8) -> Result<Vec<Piece>, Fail> {
+    let mut squares = Vec::new(alloc);
+    for index in 0..FAR_PIECES {
+        let left = if index % 2 == 0 { -20_000 } else { 20_000i32 };
+        let bottom = index.saturating_mul(4);
+        let (right, top) = (left.saturating_add(2), bottom.saturating_add(2));
+        squares.push(piece(kind, (left, bottom, right, top))?)?;
+    }
+    Ok(squares)
+}
+
+/// Asserts that pieces are painted at once without building the plane anew, and how many tiles it then has.
+fn expect_not_rebuilt(
+    rt: &impl Abort,
+    canvas: &mut Canvas,
+    pieces: &[Piece],
+    tiles: u32,
+) -> Result<(), Fail> {
+    if pieces.len() > 4000 {
+        return Err(Fail::new("too many pieces"));
+    }
+    assert!(rt; canvas.fits(pieces, 16_448));
+    let rebuilt = canvas.paint(pieces, 16_448)?;
+    assert!(rt; !rebuilt);
+    assert_eq!(rt; canvas.tile_count(), tiles);
+    Ok(())
+}
+
+/// Asserts that bars, then squares to both sides of them, then space over these, and last space over the bars are each
+/// painted at once without building the plane anew.
+fn expect_far_apart(rt: &impl Abort, alloc: Global, canvas: &mut Canvas) -> Result<(), Fail> {
+    expect_not_rebuilt(rt, canvas, &bars(alloc, 1)?, 2003)?;
+    // 500 squares on each side, with space to the left and to the right of each; below, between and above them there are 500
+    // strips of space on the left side, where a square stands as low as the bars, and 501 on the right.
+    expect_not_rebuilt(rt, canvas, &squares_far_apart(alloc, 2)?, 6002)?;
+    expect_not_rebuilt(rt, canvas, &squares_far_apart(alloc, 0)?, 2003)?;
+    expect_not_rebuilt(rt, canvas, &bars(alloc, 0)?, 1)
+}
+
+#[test]
+fn pieces_far_apart(rt: HostRuntime) -> Result<(), Fail> {
+    let mut canvas = Canvas::new(rt.alloc())?;
+    expect_far_apart(&rt, rt.alloc(), &mut canvas)
+}
+
 #[test]
 fn text_of_too_many_tiles(rt: HostRuntime) -> Result<(), Fail> {
     assert_eq!(rt;

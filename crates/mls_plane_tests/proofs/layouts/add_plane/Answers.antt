@@ -13,7 +13,7 @@ returns-clause-strips c =
     let owner = c.in_ok-plane.plane in
     let pushed : c.push.new.self.items ≡ owners ++ owner ∷ [] = c.in_ok-push.ensures.items ∙ ap (λ other. owners ++ other ∷ []) c.overlay.ensures.plane in
     subst (All (λ other. HasStrips new other)) (sym pushed)
-    (HasStrips-added old mid new owners owner 100 c.requires.strips c.in_ok-plane.ensures.added c.overlay.ensures.only c.overlay.ensures.strips)
+    (HasStrips-added old mid new owners owner 1024 c.requires.strips c.in_ok-plane.ensures.added c.overlay.ensures.only c.overlay.ensures.strips)
 
 pub returns-clause-rooms : goal.returns-clause-rooms
 returns-clause-rooms c =
@@ -23,5 +23,5 @@ returns-clause-rooms c =
     let owners = c.args.planes.now.items in
     let owner = c.in_ok-plane.plane in
     let pushed : c.push.new.self.items ≡ owners ++ owner ∷ [] = c.in_ok-push.ensures.items ∙ ap (λ other. owners ++ other ∷ []) c.overlay.ensures.plane in
-    subst (All (λ other. room_of new other ≡ Some 100)) (sym pushed)
-    (rooms-added old mid new owners owner 100 c.requires.strips c.requires.rooms c.in_ok-plane.ensures.added c.overlay.ensures.only)
+    subst (All (λ other. room_of new other ≡ Some 1024)) (sym pushed)
+    (rooms-added old mid new owners owner 1024 c.requires.strips c.requires.rooms c.in_ok-plane.ensures.added c.overlay.ensures.only)
