@@ -6,9 +6,8 @@ pub mod EmptyLayouts
 pub mod FinishedFindings
 pub mod KeptLists
 pub mod MarkCounts
-pub mod MarkedRuns
+pub mod PaintedAreas
 pub mod PaintedPieces
-pub mod PaintedRuns
 pub mod RangeSums
 pub mod SquareCounts
 pub mod StepsDone

@@ -1,11 +1,11 @@
 -- Error planes (Taylor and Ousterhout 1984: errors are kept with the layout, as tiles of a plane of their own). A square of kind 0 isn't marked, and one
 -- of any other kind is.
-use Rattle.std.specs.Prelude.{ℕ, ◌+◌, ◌-◌, ◌*◌, ◌/◌, Bool, not, ◌==◌, if◌then◌else◌}
+use Rattle.std.specs.Prelude.{ℕ, ◌+◌, Bool, not, ◌==◌, if◌then◌else◌}
 use Rattle.std.specs.List.{count_by, sum_by}
 use Rattle.mls_geom.specs.Rects.{Rect, holds}
 use Rattle.mls_geom.specs.Pictures.{Picture, columns, rows}
 use Rattle.mls_geom.specs.declared.piece.Piece.{Piece}
-use Rattle.mls_checker.specs.Marking.{SquareSet}
+use Rattle.mls_checker.specs.Marking.{SquareSet, runs_of_rows}
 use Rattle.mls_errorplane.specs.Sizes.{size_of}
 
 -- the square is marked
@@ -16,15 +16,9 @@ is_marked picture x y = not (picture x y == 0)
 abbrev pub remarked : Picture → Rect → SquareSet → Picture
 remarked below rect set x y = if holds rect x y then (if set x y then 1 else 0) else below x y
 
--- how many pieces it takes at most to paint marks in the squares of a rectangle: in each row one for every second square, and one of kind 0
-abbrev pub pieces_of_row : Rect → ℕ
-pieces_of_row rect = (rect.right - rect.left + 1) / 2
-
-abbrev pub pieces_of_rows : Rect → ℕ
-pieces_of_rows rect = (rect.top - rect.bottom) * pieces_of_row rect
-
+-- how many pieces it takes at most to paint marks in the squares of a rectangle: one for each run of its rows, and one of kind 0
 abbrev pub most_pieces : Rect → ℕ
-most_pieces rect = 1 + pieces_of_rows rect
+most_pieces rect = 1 + runs_of_rows rect
 
 -- the number of marked squares, counted square by square
 unfoldable pub marked_count : Rect → Picture → ℕ

@@ -1,5 +1,5 @@
 -- The list that is made from the squares of a picture has its strips.
-use Rattle.std.proofs.Common.{◌≡◌, ◌≢◌, ℕ, zero, suc, ◌+◌, ◌-◌, ◌<◌, ◌≤◌, ◌==◌, Bool, true, false, not, IsTrue, List, map, length, get_or, All, AllPairs, Any, Contains, refl, sym, ap, subst, ⊎_elim, ◌∙◌, le_refl, arith}
+use Rattle.std.proofs.Common.{◌≡◌, ℕ, zero, suc, ◌+◌, ◌-◌, ◌<◌, ◌≤◌, ◌==◌, true, false, not, IsTrue, get_or, Any, Contains, sym, ap, subst, ⊎_elim, ◌∙◌, le_refl, arith}
 use Rattle.std.proofs.lemmas.Bool.{and_from, and_parts, both_ways, cases_Bool, cases_lt, eq-eqb, eqb-true, false_from_ne_true, not_from_false, not-false, not-true, or_left, or_parts}
 use Rattle.std.proofs.lemmas.List.Elements.{All-map}
 use Rattle.mls_geom.specs.Rects.{Rect, holds}

@@ -11,7 +11,7 @@ use Rattle.mls_geom.proofs.Ascending.{Contains-map}
 use Rattle.mls_geom.proofs.KindsShown.{meets_by_square}
 use Rattle.mls_geom.proofs.PiecePictures.{holds_outer}
 use Rattle.mls_tilepool.specs.declared.tile.Tile.{Tile}
-use Rattle.mls_stitch.specs.Areas.{AreInArea, AreTouchedBy}
+use Rattle.mls_stitch.specs.Areas.{AreInArea, ListTouched}
 use Rattle.mls_stitch.specs.Tilings.{AreBlocks, IsPlane, block_at}
 use Rattle.mls_stitch.specs.declared.laid_tile.LaidTile.{LaidTile}
 use Rattle.mls_stitch.proofs.CloseSquares.{close_in_grown}
@@ -19,13 +19,8 @@ use Rattle.mls_stitch.proofs.FreshStrips.{AreTouched, IsInside, pieces_of}
 use Rattle.mls_stitch.proofs.FreshTiles.{entry-keys_of}
 use Rattle.mls_stitch.proofs.ListedTiles.{keys-AreInArea, listed_there}
 use Rattle.mls_stitch.proofs.Sides.{legal-AreBlocks, there-IsSomeAnd}
-use Rattle.mls_paint.specs.TouchedTiles.{ListTouched}
 
--- the tiles that the pieces touch are such a list
-pub ListTouched-AreTouchedBy : (blocks : ℕ → Option Piece) (over : List Piece) (list : List LaidTile) → AreTouchedBy blocks over list → ListTouched blocks over list
-ListTouched-AreTouchedBy blocks over list found = record { each = λ k d within. (found.each k d within).laid; whole = found.whole; once = found.once }
-
--- and so are all tiles
+-- all tiles are such a list
 pub ListTouched-AreInArea :
     (tiles : List (ℕ × Tile)) (over : List Piece) (list : List LaidTile) → IsPlane tiles → AreInArea (block_at tiles) world list → ListTouched (block_at tiles) over list
 ListTouched-AreInArea tiles over list plane found = record {

@@ -12,6 +12,7 @@ use Rattle.mls_geom.specs.World.{AreLegal, world}
 use Rattle.mls_geom.specs.declared.piece.Piece.{Piece}
 use Rattle.mls_tilepool.specs.Pools.{Pool, count_of, tiles_of}
 use Rattle.mls_tilepool.specs.declared.tile.Tile.{Tile}
+use Rattle.mls_stitch.specs.Areas.{ListTouched}
 use Rattle.mls_stitch.specs.Pending.{keys_of}
 use Rattle.mls_stitch.specs.Replacements.{Replaces, TakePlace}
 use Rattle.mls_stitch.specs.Tilings.{HasPlane, block_at, block_of}
@@ -19,12 +20,11 @@ use Rattle.mls_stitch.specs.declared.laid_tile.LaidTile.{LaidTile}
 use Rattle.mls_stitch.proofs.FreshStrips.{AreTouched, TakePlace-strips, pieces_of}
 use Rattle.mls_stitch.proofs.FreshTiles.{entry-keys_of}
 use Rattle.mls_stitch.proofs.ListedTiles.{length-le-AreLaid}
-use Rattle.mls_stitch.proofs.PaintedTiles.{IsMaximal-painted, IsPainted, shown-painted, tile_count-painted}
+use Rattle.mls_stitch.proofs.PaintedTiles.{IsMaximal-painted, IsPainted, fresh-untouched, shown-painted, tile_count-painted}
 use Rattle.mls_stitch.proofs.ShownTiles.{KeysDiffer-tiles_of}
 use Rattle.mls_paint.specs.Changes.{CornersDiffer, gone_of, put_of}
 use Rattle.mls_paint.specs.Painting.{KeepsUntouched}
 use Rattle.mls_paint.specs.Planes.{HasStrips, picture_in}
-use Rattle.mls_paint.specs.TouchedTiles.{AreNear, ListTouched}
 use Rattle.mls_paint.proofs.ChangedTiles.{Contains-gone_of, Contains-put_of, CornersDiffer-touched, TakePlace-changes, stays_among}
 use Rattle.mls_paint.proofs.ListedTouched.{AreTouched-ListTouched}
 
@@ -132,18 +132,20 @@ HasStrips-painted old new owner over list fresh gives covered replaced home = re
       (KeysDiffer-tiles_of old owner) (KeysDiffer-tiles_of new owner) (IsPainted-GivesWay old new owner over list fresh gives covered replaced);
 }
 
--- where a piece touches each listed tile, the tiles that no piece touches stay
+-- a tile that no piece touches stays: if it is listed, it is a strip of the painted plane as it is
 pub KeepsUntouched-IsChanged :
-    (old new : List (ℕ × Tile)) (over : List Piece) (list : List LaidTile) (fresh : List Piece) → ListTouched (block_at old) over list → AreNear over list
-    → IsChanged old new list fresh → KeepsUntouched old new over
-KeepsUntouched-IsChanged old new over list fresh listed near replaced key tile here apart =
-    let block_here : block_at old key ≡ Some (block_of old tile) = ap (option_map (block_of old)) here in
+    (old : Pool) (new : List (ℕ × Tile)) (owner : ℕ) (over : List Piece) (list : List LaidTile) (fresh : List Piece) → GivesWay old owner over list
+    → AreCoveredStrips world (laid (pieces_of list ++ over)) fresh → IsChanged (tiles_of old owner) new list fresh → KeepsUntouched (tiles_of old owner) new over
+KeepsUntouched-IsChanged old new owner over list fresh gives covered replaced key tile here apart =
+    let tiles = tiles_of old owner in
+    let block_here : block_at tiles key ≡ Some (block_of tiles tile) = ap (option_map (block_of tiles)) here in
     let unlisted : ¬ (Contains (keys_of (gone_of list fresh)) key) = λ held.
     let (entry, away, is_key) = entry-keys_of (gone_of list fresh) key held in
-    let there = (Contains-gone_of list fresh entry away).0 in
-    let laid_there = All-contains (λ t. block_at old t.id ≡ Some t.piece) list entry listed.each there in
-    let same : entry.piece ≡ block_of old tile = same_Some entry.piece (block_of old tile) (sym laid_there ∙ ap (block_at old) is_key ∙ block_here) in
-    both_ways (is_touched over (block_of old tile)) apart
-    (subst (λ p. is_touched over p ≡ true) same (All-contains (λ t. is_touched over t.piece ≡ true) list entry near there)) in
+    let (there, no_strip) = Contains-gone_of list fresh entry away in
+    let laid_there = All-contains (λ t. block_at tiles t.id ≡ Some t.piece) list entry gives.listed.each there in
+    let same : entry.piece ≡ block_of tiles tile = same_Some entry.piece (block_of tiles tile) (sym laid_there ∙ ap (block_at tiles) is_key ∙ block_here) in
+    no_strip
+    (fresh-untouched tiles list over fresh entry gives.strips.plane.plane (KeysDiffer-tiles_of old owner) gives.strips.maximal (AreTouched-GivesWay old owner over list gives)
+    gives.listed.whole gives.legal covered there (subst (λ p. is_touched over p ≡ false) (sym same) apart)) in
     let (after, at, kept) = replaced.kept key tile here unlisted in
     (after, at, kept.corner, kept.kind)

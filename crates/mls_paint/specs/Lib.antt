@@ -3,4 +3,3 @@ pub mod Owners
 pub mod Painting
 pub mod Planes
 pub mod Scratches
-pub mod TouchedTiles

@@ -5,11 +5,11 @@ ghost use Rattle.mls_geom.specs.Pictures.{overlaid};
 ghost use Rattle.mls_geom.specs.TileCounts.{tile_count};
 ghost use Rattle.mls_geom.specs.World.{AreLegal, world};
 ghost use Rattle.mls_tilepool.specs.Pools.{count_of, room_of, tiles_of};
+ghost use Rattle.mls_stitch.specs.Areas.{ListTouched};
 ghost use Rattle.mls_stitch.specs.Tilings.{ChangesOnly, HasPlane, block_at};
 ghost use Rattle.mls_paint.specs.Painting.{KeepsUntouched};
 ghost use Rattle.mls_paint.specs.Planes.{HasStrips, picture_in};
 ghost use Rattle.mls_paint.specs.Scratches.{HasRoomFor, KeepsRoom};
-ghost use Rattle.mls_paint.specs.TouchedTiles.{AreNear, ListTouched};
 
 use crate::Scratch;
 use crate::changes::list_changes;
@@ -19,13 +19,13 @@ use mls_stitch::{LaidTile, Plane};
 use mls_tilepool::Pool;
 use thiserror::Error;
 
-/// How many searches, and tiles that they find, one call takes before it takes all tiles as touched instead.
-const TURNS: u32 = 1 << 20;
+/// How many steps the searches round single pieces take in one call, before one look at each tile serves.
+const TURNS: u32 = 1 << 14;
 
 /// How a plane was painted.
 #[derive(Clone, Copy, Debug, PartialEq, Eq)]
 pub struct Painted {
-    /// Whether all tiles were taken as touched, where otherwise those that no piece touches stayed.
+    /// Whether all tiles were taken as touched, so that nothing is promised of those that no piece touches.
     pub rebuilt: bool,
 }
 
@@ -67,8 +67,8 @@ pub fn overlay(
     overlay_within(pool, plane, over, limit, TURNS, scratch)
 }
 
-/// Paints pieces over a plane as [`overlay`] does, and takes all tiles as touched where more than `turns` searches, and
-/// tiles that they find, would be needed.
+/// Paints pieces over a plane as [`overlay`] does, with at most this many turns for its searches; with none, takes all tiles as
+/// touched.
 pub fn overlay_within(
     pool: &mut Pool,
     plane: &mut Plane,
@@ -92,7 +92,7 @@ pub fn overlay_within(
     ensures rooms { KeepsRoom scratch.old scratch.new }
 {
     let count = read_count(pool, plane, scratch);
-    let rebuilt = find_touched(pool, plane, over, turns, scratch);
+    find_touched(pool, plane, over, turns, scratch);
     let Scratch {
         search,
         sweep,
@@ -104,7 +104,9 @@ pub fn overlay_within(
     find_fresh(search.tiles(), over, count, limit, touched, sweep)?;
     list_changes(search.tiles(), sweep.strips(), touched, names, fresh);
     plane.replace(pool, names, fresh, search).unwrap();
-    Ok(Painted { rebuilt })
+    Ok(Painted {
+        rebuilt: turns == 0,
+    })
 }
 
 /// Returns whether [`overlay`] would succeed.
@@ -134,29 +136,21 @@ pub fn fits(
     find_fresh(search.tiles(), over, count, limit, touched, sweep).is_ok()
 }
 
-/// Finds the tiles that the pieces touch, or all tiles where that takes more than `turns`, and leaves them in the
-/// scratch. Returns whether it found all.
-fn find_touched(
-    pool: &Pool,
-    plane: &mut Plane,
-    over: &[Piece],
-    turns: u32,
-    scratch: &mut Scratch,
-) -> bool
+/// Finds tiles of the plane, and among them all that the pieces touch, and leaves them in the scratch: all tiles where there are
+/// no turns, and else those that [`Plane::touching`] finds.
+fn find_touched(pool: &Pool, plane: &mut Plane, over: &[Piece], turns: u32, scratch: &mut Scratch)
     requires plane { HasPlane pool.now plane.old }
     requires room { count_of pool.now plane.old ≤ scratch.old.room }
     ensures found { ListTouched (block_at (tiles_of pool.now plane.old)) over.now scratch.new.tiles }
-    ensures near { result ≡ false → AreNear over.now scratch.new.tiles }
     ensures few { length scratch.new.tiles ≤ count_of pool.now plane.old }
-    ensures no_turns { turns ≡ 0 → result ≡ true }
     ensures plane { plane.new ≡ plane.old }
     ensures rooms { KeepsRoom scratch.old scratch.new }
 {
-    if turns > 0 && plane.touching(pool, over, turns as usize, &mut scratch.search) {
-        return false;
+    if turns == 0 {
+        plane.strips_of(pool, &mut scratch.search);
+    } else {
+        plane.touching(pool, over, turns as usize, &mut scratch.search);
     }
-    plane.strips_of(pool, &mut scratch.search);
-    true
 }
 
 /// Makes `pieces` the rectangles and kinds of the tiles.

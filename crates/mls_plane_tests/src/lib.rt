@@ -15,3 +15,5 @@ mod lattices;
 mod layouts;
 #[cfg(test)]
 mod random_checks;
+#[cfg(test)]
+mod strips;

@@ -1,27 +1,25 @@
--- The tiles round the touched ones, gathered from one search after another.
-use Rattle.std.proofs.Common.{◌≡◌, ◌≢◌, ◌⊎◌, ℕ, ◌+◌, ◌<◌, ◌≤◌, ◌==◌, ◌&&◌, Bool, true, false, not, cond, IsTrue, List, [], ◌∷◌, ◌++◌, length, take, get_or, Option, Some, All, AllPairs, Any, Contains, inl, inr, refl, sym, ap, ◌∙◌, subst, append-nil, append_assoc}
+-- The tiles round the touched ones, gathered from one search after another, or from one round all.
+use Rattle.std.proofs.Common.{◌≡◌, ◌≢◌, ◌⊎◌, ◌↔◌, ℕ, ◌+◌, ◌<◌, ◌==◌, Bool, true, false, not, cond, IsTrue, List, [], ◌∷◌, ◌++◌, length, take, get_or, Option, Some, AllPairs, Any, Contains, inl, inr, sym, ap, ◌∙◌, subst, append-nil, append_assoc, arith}
 use Rattle.std.specs.List.{list_any}
-use Rattle.std.specs.Option.{IsSomeAnd}
-use Rattle.std.proofs.lemmas.List.Elements.{All-append, All-contains, All-filter, All-nil, Contains-push_cases, filter_more, filter_passes}
+use Rattle.std.specs.Option.{IfSome}
+use Rattle.std.proofs.lemmas.List.Elements.{All-append, All-contains, All-filter, All-nil, All-push, Contains-push_cases, filter_more, filter_passes}
 use Rattle.mls_geom.specs.Rects.{Rect, Point, grown, holds}
-use Rattle.mls_geom.specs.World.{world}
 use Rattle.mls_geom.specs.declared.piece.Piece.{Piece}
-use Rattle.mls_geom.proofs.Ascending.{Contains-filter}
+use Rattle.mls_geom.proofs.Ascending.{Contains-filter, Contains-first}
 use Rattle.mls_geom.proofs.JoinedLists.{Any-append_left, Any-append_right}
-use Rattle.mls_tilepool.specs.declared.tile.Tile.{Tile}
-use Rattle.mls_stitch.specs.Areas.{AreInArea, IsFound}
+use Rattle.mls_stitch.specs.Gathering.{AreMet, EncloseBlocks, IsWithin, SurroundPassed}
 use Rattle.mls_stitch.specs.Pending.{keys_of}
 use Rattle.mls_stitch.specs.Placing.{KeepsKeys, Surround, unlisted_of}
 use Rattle.mls_stitch.specs.Replacements.{IsHeld}
 use Rattle.mls_stitch.specs.Stitches.{HoldsAt}
-use Rattle.mls_stitch.specs.Tilings.{block_at}
+use Rattle.mls_stitch.specs.Tilings.{AreBlocks}
 use Rattle.mls_stitch.specs.declared.laid_tile.LaidTile.{LaidTile}
 use Rattle.mls_stitch.proofs.DistinctNumbers.{cases_Contains}
 use Rattle.mls_stitch.proofs.FreshTiles.{entry-keys_of, list_any-Contains, list_any-absent, nothing_in_nil}
-use Rattle.mls_stitch.proofs.ListedTiles.{keys-AreInArea, length-le-AreLaid}
+use Rattle.mls_stitch.proofs.Gathered.{IsRound, both_true, grown_outer, met_square}
 use Rattle.mls_stitch.proofs.Listings.{same_tile}
 use Rattle.mls_stitch.proofs.ReplacedStitches.{Any-contained}
-use Rattle.mls_stitch.proofs.Sides.{HoldsAt-block}
+use Rattle.mls_stitch.proofs.Sides.{HoldsAt-block, there-IsSomeAnd}
 
 -- no listed tile has this key
 abbrev pub is_unlisted : List ℕ → LaidTile → Bool
@@ -49,13 +47,6 @@ unlisted_skip keys found i tile before entries within is there so_far =
     ∙ append-nil (unlisted_of keys (take i found)) in
     so_far ∙ ap (λ l. before ++ l) (sym more)
 
--- the list has tiles other than the touched ones, among them all around those of the keys that were passed
-pub record SurroundPassed (blocks : ℕ → Option Piece) (touched passed : List ℕ) (list : List LaidTile) : Type 0 where
-  pub each : All (λ tile. blocks tile.id ≡ Some tile.piece) list
-  pub apart : All (λ tile. ¬ (Contains touched tile.id)) list
-  pub whole : (key : ℕ) (at : Point) → Contains passed key → IsSomeAnd (blocks key) (λ block. IsTrue (holds (grown 1 block.rect) at.x at.y))
-      → IsTrue (holds world at.x at.y) → IsHeld blocks touched at ⊎ Any (λ tile. IsTrue (holds tile.piece.rect at.x at.y)) list
-
 pub passed_none : (blocks : ℕ → Option Piece) (touched : List ℕ) → SurroundPassed blocks touched [] []
 passed_none blocks touched = record { each = All-nil _; apart = All-nil _; whole = λ key at passed. absurd (nothing_in_nil key passed) }
 
@@ -80,43 +71,68 @@ not_both : (b : Bool) → not b ≡ true → b ≡ true → ⊥
 not_both true e f = let h : false ≡ true = e in cc
 not_both false e f = cc
 
-both_true : {a b : Bool} → a ≡ true → b ≡ true → (a && b) ≡ true
-both_true {a} {b} p q = rw (p, q) refl
+-- the keys are those of the touched tiles
+abbrev pub AreKeys : List ℕ → List ℕ → Type 0
+AreKeys keys touched = (key : ℕ) → Contains keys key ↔ Contains touched key
+
+-- a found tile is touched, or is kept
+held_or_kept :
+    (blocks : ℕ → Option Piece) (touched keys : List ℕ) (found : List LaidTile) (tile : LaidTile) (at : Point) → AreKeys keys touched → Contains found tile
+    → blocks tile.id ≡ Some tile.piece → holds tile.piece.rect at.x at.y ≡ true
+    → IsHeld blocks touched at ⊎ Any (λ t. IsTrue (holds t.piece.rect at.x at.y)) (unlisted_of keys found)
+held_or_kept blocks touched keys found tile at members listed laid holding =
+    elim (cases_Contains touched tile.id) [
+      | inl touches ↦ inl (Any-contained (λ j. HoldsAt blocks j at) touched tile.id touches (HoldsAt-block blocks tile.id tile.piece at laid holding))
+      | inr untouched ↦
+          let unlisted : is_unlisted keys tile ≡ true = ap not (list_any-absent keys tile.id (λ found_key. untouched ((members tile.id).0 found_key))) in
+          inr (Any-contained (λ (t : LaidTile). IsTrue (holds t.piece.rect at.x at.y)) (unlisted_of keys found) tile (Contains-filter (is_unlisted keys) found tile listed unlisted) holding)
+    ]
+
+-- round bounds with all touched tiles these were found
+pub SurroundPassed-met :
+    (blocks : ℕ → Option Piece) (touched keys passed : List ℕ) (bounds area : Rect) (found : List LaidTile) → AreBlocks blocks → AreKeys keys touched → EncloseBlocks blocks bounds passed
+    → IsRound bounds area → AreMet blocks area found → SurroundPassed blocks touched passed (unlisted_of keys found)
+SurroundPassed-met blocks touched keys passed bounds area found tiling members inside squares met = record {
+  each = All-filter (is_unlisted keys) (λ (t : LaidTile). blocks t.id ≡ Some t.piece) found (λ k d within. (met.each k d within).laid);
+  apart =
+      λ k d within. λ touches.
+      not_both (list_any (λ j. j == (get_or (unlisted_of keys found) k d).id) keys) (filter_passes (is_unlisted keys) found k d within) (list_any-Contains keys _ ((members _).1 touches));
+  whole = λ key at passes near in_world.
+      let (block, here, around) = there-IsSomeAnd (blocks key) (λ b. holds (grown 1 b.rect) at.x at.y ≡ true) near in
+      let reached : IsWithin bounds block.rect = subst (λ o. IfSome o (λ b. IsWithin bounds b.rect)) here (All-contains (λ k. IfSome (blocks k) (λ b. IsWithin bounds b.rect)) passed key inside passes) in
+      let in_area = squares at.x at.y ∙ both_true (grown_outer bounds block.rect at.x at.y reached around) in_world in
+      let (tile, listed, laid, holding) = met_square blocks area found at tiling met in_area in_world in
+      held_or_kept blocks touched keys found tile at members listed laid holding;
+}
+
+itself : (blocks : ℕ → Option Piece) (key : ℕ) (block : Piece) → blocks key ≡ Some block → EncloseBlocks blocks block.rect (key ∷ [])
+itself blocks key block here =
+    All-push (λ k. IfSome (blocks k) (λ b. IsWithin block.rect b.rect)) [] key (All-nil _)
+    (subst (λ o. IfSome o (λ b. IsWithin block.rect b.rect)) (sym here) (record { left = omega arith; bottom = omega arith; right = omega arith; top = omega arith }))
 
 -- one more touched tile was passed, round which these were found
 pub passed_more :
-    (blocks : ℕ → Option Piece) (touched keys passed : List ℕ) (key : ℕ) (block : Piece) (area : Rect) (found list after : List LaidTile) → ((k : ℕ) → Contains keys k → Contains touched k)
-    → ((k : ℕ) → Contains touched k → Contains keys k) → blocks key ≡ Some block
-    → ((x y : ℕ) → holds area x y ≡ (holds (grown 1 block.rect) x y && holds world x y)) → AreInArea blocks area found → SurroundPassed blocks touched passed list → after ≡ list ++ unlisted_of keys found
-    → SurroundPassed blocks touched (passed ++ key ∷ []) after
-passed_more blocks touched keys passed key block area found list after listed listed' here squares in_area so_far is = rw is (record {
-  each = All-append (λ (t : LaidTile). blocks t.id ≡ Some t.piece) list (unlisted_of keys found) so_far.each
-      (All-filter (is_unlisted keys) (λ (t : LaidTile). blocks t.id ≡ Some t.piece) found (λ k d within. (in_area.each k d within).laid));
-  apart = All-append (λ (t : LaidTile). ¬ (Contains touched t.id)) list (unlisted_of keys found) so_far.apart
-      (λ k d within. λ touches. not_both (list_any (λ j. j == (get_or (unlisted_of keys found) k d).id) keys) (filter_passes (is_unlisted keys) found k d within) (list_any-Contains keys _ (listed' _ touches)));
-  whole = λ other at passes inside inside'. elim (Contains-push_cases passed key other passes) [
-    | inl earlier ↦ elim (so_far.whole other at earlier inside inside') [
-      | inl held ↦ inl held
-      | inr some ↦ inr (Any-append_left (λ (t : LaidTile). IsTrue (holds t.piece.rect at.x at.y)) list (unlisted_of keys found) some)
-    ]
-    | inr now ↦
-        let around : holds (grown 1 block.rect) at.x at.y ≡ true = subst (λ o. IsSomeAnd o (λ b. IsTrue (holds (grown 1 b.rect) at.x at.y))) (ap blocks (sym now) ∙ here) inside in
-        let (k, tile, within, is_tile, holding) = in_area.whole at.x at.y (squares at.x at.y ∙ both_true around inside') in
-        let laid = (All-contains (IsFound blocks area) found tile in_area.each (k, within, is_tile)).laid in
-        elim (cases_Contains touched tile.id) [
-          | inl touches ↦ inl (Any-contained (λ j. HoldsAt blocks j at) touched tile.id touches (HoldsAt-block blocks tile.id tile.piece at laid holding))
-          | inr untouched ↦
-              let unlisted : is_unlisted keys tile ≡ true = ap not (list_any-absent keys tile.id (λ found_key. untouched (listed tile.id found_key))) in
-              inr (Any-append_right (λ (t : LaidTile). IsTrue (holds t.piece.rect at.x at.y)) list (unlisted_of keys found)
-              (Any-contained (λ (t : LaidTile). IsTrue (holds t.piece.rect at.x at.y)) (unlisted_of keys found) tile (Contains-filter (is_unlisted keys) found tile (k, within, is_tile) unlisted) holding))
+    (blocks : ℕ → Option Piece) (touched keys passed : List ℕ) (key : ℕ) (block : Piece) (area : Rect) (found list : List LaidTile) → AreBlocks blocks → AreKeys keys touched
+    → blocks key ≡ Some block → IsRound block.rect area → AreMet blocks area found → SurroundPassed blocks touched passed list
+    → SurroundPassed blocks touched (passed ++ key ∷ []) (list ++ unlisted_of keys found)
+passed_more blocks touched keys passed key block area found list tiling members here squares met so_far =
+    let kept = unlisted_of keys found in
+    let last = SurroundPassed-met blocks touched keys (key ∷ []) block.rect area found tiling members (itself blocks key block here) squares met in
+    record {
+      each = All-append (λ (t : LaidTile). blocks t.id ≡ Some t.piece) list kept so_far.each last.each;
+      apart = All-append (λ (t : LaidTile). ¬ (Contains touched t.id)) list kept so_far.apart last.apart;
+      whole = λ other at passes near in_world. elim (Contains-push_cases passed key other passes) [
+        | inl earlier ↦ elim (so_far.whole other at earlier near in_world) [
+          | inl held ↦ inl held
+          | inr some ↦ inr (Any-append_left (λ (t : LaidTile). IsTrue (holds t.piece.rect at.x at.y)) list kept some)
         ]
-  ];
-})
+        | inr now ↦ elim (last.whole other at (Contains-first key other [] now) near in_world) [
+          | inl held ↦ inl held
+          | inr some ↦ inr (Any-append_right (λ (t : LaidTile). IsTrue (holds t.piece.rect at.x at.y)) list kept some)
+        ]
+      ];
+    }
 
 -- without duplicates, all round the touched ones
 pub Surround-passed : (blocks : ℕ → Option Piece) (touched : List ℕ) (list : List LaidTile) → SurroundPassed blocks touched touched list → AllPairs (λ p q. p.id ≢ q.id) list → Surround blocks touched list
 Surround-passed blocks touched list passed once = record { each = passed.each; apart = passed.apart; once = once; whole = passed.whole }
-
--- a search finds at most all tiles
-pub found_few : (tiles : List (ℕ × Tile)) (area : Rect) (found : List LaidTile) → AreInArea (block_at tiles) area found → length found ≤ length tiles
-found_few tiles area found in_area = length-le-AreLaid tiles found (λ k d within. (in_area.each k d within).laid) (keys-AreInArea (block_at tiles) area found in_area)

@@ -7,6 +7,7 @@ pub mod DistinctNumbers
 pub mod FoundTiles
 pub mod FreshStrips
 pub mod FreshTiles
+pub mod Gathered
 pub mod KeptStitches
 pub mod Laying
 pub mod ListedTiles

@@ -1,34 +1,32 @@
 -- Painting keeps a plane maximal: where all tiles that painted pieces touch give way to the strips of what they and the pieces cover, every tile is a
 -- strip of the painted picture. Touched tiles that are such strips themselves may stay.
-use Rattle.std.proofs.Common.{◌≡◌, ◌≢◌, ℕ, zero, suc, ◌+◌, true, false, not, Bool, ◌||◌, List, [], ◌∷◌, filter, ◌++◌, length, get_or, AllPairs, Contains, Option, Some, inl, inr, ap, subst, ◌∙◌, sym, suc-le-suc, le_of_suc-le-suc, arith}
+use Rattle.std.proofs.Common.{◌≡◌, ◌≢◌, ℕ, zero, suc, ◌+◌, true, false, not, Bool, List, [], ◌∷◌, filter, ◌++◌, length, get_or, AllPairs, Contains, Option, Some, inl, inr, ap, subst, ◌∙◌, sym, suc-le-suc, le_of_suc-le-suc, arith}
 use Rattle.std.specs.List.{AllZip, list_any}
 use Rattle.std.specs.Option.{option_map}
 use Rattle.std.proofs.lemmas.Bool.{both_ways, cases_Bool, false_from_ne_true, not-true, not_from_false}
 use Rattle.std.proofs.lemmas.List.{length-append, length-map}
-use Rattle.std.proofs.lemmas.List.Elements.{All-append, All-contains, All-contains_itself, All-filter, All-map, Contains-get_or, filter_passes}
+use Rattle.std.proofs.lemmas.List.Elements.{All-append, All-contains, All-contains_itself, All-filter, All-map, Contains-append_cases, Contains-get_or, filter_passes}
 use Rattle.std.proofs.lemmas.List.Folds.{Any-from_list_any, list_any_at}
 use Rattle.std.proofs.lemmas.List.Kept.{AllPairs-filter}
 use Rattle.std.proofs.lemmas.Option.{same_Some}
-use Rattle.mls_geom.specs.Locality.{AreCoveredStrips, AreUnorderedStrips, AreUntouched, covered_count, is_touched, laid, touches}
+use Rattle.mls_geom.specs.Locality.{AreCoveredStrips, AreUnorderedStrips, AreUntouched, covered_count, is_touched, laid}
 use Rattle.mls_geom.specs.Pictures.{overlaid}
-use Rattle.mls_geom.specs.Rects.{common, grown, holds}
+use Rattle.mls_geom.specs.Rects.{holds}
 use Rattle.mls_geom.specs.Strips.{IsStrip}
 use Rattle.mls_geom.specs.TileCounts.{tile_count}
 use Rattle.mls_geom.specs.World.{AreLegal, world}
 use Rattle.mls_geom.specs.declared.piece.Piece.{Piece}
 use Rattle.mls_geom.proofs.Ascending.{AllPairs-append, AllPairs-map, Contains-filter, Contains-map}
-use Rattle.mls_geom.proofs.Holds.{holds_between, between_holds}
 use Rattle.mls_geom.proofs.JoinedLists.{Any-append_left, Any-append_right}
-use Rattle.mls_geom.proofs.KindsShown.{common_square}
 use Rattle.mls_geom.proofs.ListLemmas.{All-append_left, All-append_right}
 use Rattle.mls_geom.proofs.Overlays.{overlaid_outside}
 use Rattle.mls_geom.proofs.PiecePictures.{holds_outer}
 use Rattle.mls_geom.proofs.StripPictures.{kind-IsStrip}
 use Rattle.mls_geom.proofs.CoveredCounts.{fresh_strips_number}
-use Rattle.mls_geom.proofs.TouchedStrips.{touched_strips_give_way}
+use Rattle.mls_geom.proofs.TouchedStrips.{one_strip, touched_strips_give_way}
 use Rattle.mls_geom.proofs.UnorderedStrips.{unordered_strips_number}
+use Rattle.mls_geom.proofs.UntouchedStrips.{untouched_strips_stay}
 use Rattle.mls_tilepool.specs.declared.tile.Tile.{Tile}
-use Rattle.mls_stitch.specs.Areas.{AreInArea}
 use Rattle.mls_stitch.specs.Pending.{keys_of}
 use Rattle.mls_stitch.specs.Replacements.{Replaces}
 use Rattle.mls_stitch.specs.Tilings.{AreBlocks, IsMaximal, IsPlane, block_at, block_of, blocks_of, shown}
@@ -178,6 +176,32 @@ tile_count-painted tiles touched over plane differ maximal under all legal =
       length-map tiles (λ (e : ℕ × Tile). block_of tiles e.1),
     )
 
+-- a listed tile that no piece touches is one of the strips that take the place of the listed tiles
+pub fresh-untouched :
+    (tiles : List (ℕ × Tile)) (touched : List LaidTile) (over fresh : List Piece) (tile : LaidTile) → IsPlane tiles → KeysDiffer tiles → IsMaximal tiles
+    → AreTouched (block_at tiles) touched over → AreAllTouched tiles touched over → AreLegal over → AreCoveredStrips world (laid (pieces_of touched ++ over)) fresh
+    → Contains touched tile → is_touched over tile.piece ≡ false → Contains fresh tile.piece
+fresh-untouched tiles touched over fresh tile plane differ maximal under all legal covered listed apart =
+    let picture = overlaid (shown tiles) over in
+    let kept = kept_of tiles touched in
+    let block = tile.piece in
+    let here : block_at tiles tile.id ≡ Some block = All-contains (λ t. block_at tiles t.id ≡ Some t.piece) touched tile under.each listed in
+    let strips = touched_strips_give_way world (shown tiles) over kept (pieces_of touched) fresh (strips_parted tiles touched over plane differ maximal under) under.kinds
+    legal (kept_untouched tiles touched over plane differ under all) covered in
+    let stays = untouched_strips_stay world (shown tiles) over block (strip-IsMaximal tiles tile.id block maximal here) apart in
+    let in_world = legal-AreBlocks (block_at tiles) tile.id block plane.tiling here in
+    let corner = holds_corner world block.rect in_world in
+    let (k, piece, within, is, inside) = strips.whole block.rect.left block.rect.bottom (holds_outer world block.rect block.rect.left block.rect.bottom in_world corner) in
+    let strip = All-contains (IsStrip world picture) (kept ++ fresh) piece strips.each (k, within, is) in
+    let same = one_strip world picture piece block block.rect.left block.rect.bottom strip stays inside corner in
+    elim (Contains-append_cases kept fresh block (subst (Contains (kept ++ fresh)) same (k, within, is))) [
+      | inl remains ↦
+          absurd (both_ways _
+          (not-true _ (All-contains (λ b. not (is_listed touched b) ≡ true) kept block (filter_passes (λ b. not (is_listed touched b)) (blocks_of tiles)) remains))
+          (block_listed tiles touched over tile.id block plane under here (Contains-map (λ t. t.id) touched tile listed)))
+      | inr fresh_there ↦ fresh_there
+    ]
+
 -- the block under the key of a fresh piece is that piece
 in_fresh :
     (new : List (ℕ × Tile)) (keys : List ℕ) (fresh : List Piece) (key : ℕ) (block : Piece) → AllZip (λ key piece. block_at new key ≡ Some piece) keys fresh
@@ -265,24 +289,3 @@ IsMaximal-painted old new touched over fresh gone put differ differ' painted =
     (λ key block here.
     subst (λ picture. IsStrip world picture block) (sym (shown-painted old new touched over fresh gone put differ differ' painted))
     (painted_strip old new touched over fresh gone put key block differ painted here))
-
--- the tiles of the area round a piece are all that it touches
-pub AreAllTouched-area :
-    (tiles : List (ℕ × Tile)) (piece : Piece) (found : List LaidTile) → IsPlane tiles → AreInArea (block_at tiles) (common (grown 1 piece.rect) world) found
-    → AreAllTouched tiles found (piece ∷ [])
-AreAllTouched-area tiles piece found plane in_area key block here near =
-    let area = common (grown 1 piece.rect) world in
-    let met : touches piece.rect block.rect ≡ true = elim (cases_Bool (touches piece.rect block.rect)) [
-      | inl near' ↦ near'
-      | inr apart ↦ absurd (both_ways (is_touched (piece ∷ []) block) (ap (λ b. b || false) apart) near)
-    ] in
-    let (x, y, in_grown, in_block) = common_square (grown 1 piece.rect) block.rect met in
-    let in_world = holds_outer world block.rect x y (legal-AreBlocks (block_at tiles) key block plane.tiling here) in_block in
-    let lines = holds_between (grown 1 piece.rect) x y in_grown in
-    let bounds = holds_between world x y in_world in
-    let in_common : holds area x y ≡ true =
-    between_holds area x y (omega (arith, lines.0, bounds.0)) (omega (arith, lines.1, bounds.1)) (omega (arith, lines.2, bounds.2)) (omega (arith, lines.3, bounds.3)) in
-    let (k, tile, within, is, inside) = in_area.whole x y in_common in
-    let there : block_at tiles tile.id ≡ Some tile.piece = rw is at (in_area.each k tile within).laid in
-    let one : tile.id ≡ key = plane.tiling.apart tile.id key (record { x = x; y = y }) (rw there inside) (rw here in_block) in
-    subst (Contains (keys_of found)) one (Contains-map (λ t. t.id) found tile (k, within, is))

@@ -1,29 +1,24 @@
--- The tiles that pieces touch, gathered from the search round one piece after another.
-use Rattle.std.proofs.Common.{◌≡◌, ◌≢◌, ℕ, true, false, ◌||◌, List, [], ◌∷◌, ◌++◌, get_or, length, ◌≤◌, All, AllPairs, Contains, Option, Some, inl, inr, ap, sym, ◌∙◌, subst, arith}
-use Rattle.std.proofs.Math.Bool.{or-true}
+-- The tiles that pieces touch, gathered from the search round one piece after another, or round all.
+use Rattle.std.proofs.Common.{◌≢◌, ℕ, List, [], ◌∷◌, ◌++◌, length, ◌≤◌, AllPairs, Contains, Option, inl, inr, sym, ◌∙◌, subst, arith}
 use Rattle.std.proofs.lemmas.Bool.{or_cases}
-use Rattle.std.proofs.lemmas.Bool.Decides.{nat_tests}
-use Rattle.std.proofs.lemmas.List.Elements.{All-append, All-contains, Contains-append_left, Contains-append_right}
-use Rattle.std.proofs.lemmas.List.Folds.{list_any-append}
+use Rattle.std.proofs.lemmas.List.Elements.{All-append, All-contains, All-nil, All-push, Contains-append_left, Contains-append_right}
+use Rattle.std.proofs.lemmas.List.Folds.{Any-from_list_any, list_any-append}
 use Rattle.mls_geom.specs.Locality.{is_touched, touches}
-use Rattle.mls_geom.specs.Rects.{Rect, common, grown, meets}
-use Rattle.mls_geom.specs.World.{world}
+use Rattle.mls_geom.specs.Rects.{Rect}
 use Rattle.mls_geom.specs.declared.piece.Piece.{Piece}
 use Rattle.mls_geom.proofs.Ascending.{Contains-map}
 use Rattle.mls_tilepool.specs.declared.tile.Tile.{Tile}
-use Rattle.mls_stitch.specs.Areas.{AreInArea, AreTouchedBy, IsTouchedBy}
+use Rattle.mls_stitch.specs.Areas.{ListTouched}
+use Rattle.mls_stitch.specs.Gathering.{AreMet, EnclosePieces, HasTouched, IsWithin}
 use Rattle.mls_stitch.specs.Pending.{keys_of}
 use Rattle.mls_stitch.specs.Placing.{KeepsKeys}
 use Rattle.mls_stitch.specs.Tilings.{IsPlane, block_at}
+use Rattle.mls_stitch.specs.Walks.{IsLaid}
 use Rattle.mls_stitch.specs.declared.laid_tile.LaidTile.{LaidTile}
 use Rattle.mls_stitch.proofs.FreshTiles.{Contains-from_map}
+use Rattle.mls_stitch.proofs.Gathered.{IsRound, both_true, touched_met}
 use Rattle.mls_stitch.proofs.ListedTiles.{length-le-AreLaid}
-use Rattle.mls_stitch.proofs.PaintedTiles.{AreAllTouched-area}
-
--- the list has the tiles that one of the passed pieces touches, and may have a tile more than once
-pub record HasTouched (blocks : ℕ → Option Piece) (passed : List Piece) (list : List LaidTile) : Type 0 where
-  pub each : All (IsTouchedBy blocks passed) list
-  pub whole : (key : ℕ) (block : Piece) → blocks key ≡ Some block → is_touched passed block ≡ true → Contains (keys_of list) key
+use Rattle.mls_stitch.proofs.Sides.{legal-AreBlocks}
 
 -- a longer list has the keys of a shorter one
 more_keys : (list more : List LaidTile) (key : ℕ) → ((tile : LaidTile) → Contains list tile → Contains more tile) → Contains (keys_of list) key → Contains (keys_of more) key
@@ -34,53 +29,49 @@ more_keys list more key kept held =
 -- duplicates don't matter
 pub touched_keeps : (blocks : ℕ → Option Piece) (passed : List Piece) (before after : List LaidTile) → HasTouched blocks passed before → KeepsKeys before after → HasTouched blocks passed after
 touched_keeps blocks passed before after so_far keeps = record {
-  each = λ k d within. All-contains (IsTouchedBy blocks passed) before _ so_far.each (keeps.tiles k d within);
+  each = λ k d within. All-contains (IsLaid blocks) before _ so_far.each (keeps.tiles k d within);
   whole = λ key block here near.
       let (tile, there, is) = Contains-from_map (λ t. t.id) before key (so_far.whole key block here near) in
       subst (Contains (keys_of after)) is (All-contains (λ t. Contains (keys_of after) t.id) before tile keeps.keys there);
 }
 
--- what has a square of the area round a rectangle is touched by it
-met_touches : (a b : Rect) → meets b (common (grown 1 a) world) ≡ true → touches a b ≡ true
-met_touches a b met = grind (arith, nat_tests)
+-- a search round bounds finds the tiles that the pieces in them touch
+pub HasTouched-met :
+    (tiles : List (ℕ × Tile)) (over : List Piece) (bounds area : Rect) (found : List LaidTile) → IsPlane tiles → EnclosePieces bounds over → IsRound bounds area
+    → AreMet (block_at tiles) area found → HasTouched (block_at tiles) over found
+HasTouched-met tiles over bounds area found plane inside squares met = record {
+  each = λ k d within. (met.each k d within).laid;
+  whole = λ key block here near.
+      let (k, piece, within, is, touched) = Any-from_list_any (λ (p : Piece). touches p.rect block.rect) over near in
+      let legal = legal-AreBlocks (block_at tiles) key block plane.tiling here in
+      let in_bounds = All-contains (λ (p : Piece). IsWithin bounds p.rect) over piece inside (k, within, is) in
+      met.whole key block here (touched_met bounds piece block area in_bounds legal (λ x y g w. squares x y ∙ both_true g w) touched);
+}
 
--- a passed piece is one of more, and so is the last
-still_touched : (passed : List Piece) (piece block : Piece) → is_touched passed block ≡ true → is_touched (passed ++ piece ∷ []) block ≡ true
-still_touched passed piece block near = list_any-append (λ p. touches p.rect block.rect) passed (piece ∷ []) ∙ ap (λ b. b || is_touched (piece ∷ []) block) near
-
-last_touched : (passed : List Piece) (piece block : Piece) → touches piece.rect block.rect ≡ true → is_touched (passed ++ piece ∷ []) block ≡ true
-last_touched passed piece block near =
-    list_any-append (λ p. touches p.rect block.rect) passed (piece ∷ []) ∙ ap (λ b. is_touched passed block || (b || false)) near ∙ or-true (is_touched passed block)
+itself : (piece : Piece) → EnclosePieces piece.rect (piece ∷ [])
+itself piece = All-push (λ (p : Piece). IsWithin piece.rect p.rect) [] piece (All-nil _) (record { left = omega arith; bottom = omega arith; right = omega arith; top = omega arith })
 
 -- one more piece was passed, round which these were found
 pub touched_more :
-    (tiles : List (ℕ × Tile)) (passed : List Piece) (piece : Piece) (found list : List LaidTile) → IsPlane tiles → AreInArea (block_at tiles) (common (grown 1 piece.rect) world) found
+    (tiles : List (ℕ × Tile)) (passed : List Piece) (piece : Piece) (area : Rect) (found list : List LaidTile) → IsPlane tiles → IsRound piece.rect area → AreMet (block_at tiles) area found
     → HasTouched (block_at tiles) passed list → HasTouched (block_at tiles) (passed ++ piece ∷ []) (list ++ found)
-touched_more tiles passed piece found list plane in_area so_far =
-    let touched = IsTouchedBy (block_at tiles) (passed ++ piece ∷ []) in
+touched_more tiles passed piece area found list plane squares met so_far =
+    let last = HasTouched-met tiles (piece ∷ []) piece.rect area found plane (itself piece) squares met in
     record {
-      each =
-          All-append touched list found
-          (λ k d within.
-          let is = so_far.each k d within in
-          record { laid = is.laid; touched = still_touched passed piece (get_or list k d).piece is.touched })
-          (λ k d within.
-          let is = in_area.each k d within in
-          record { laid = is.laid; touched = last_touched passed piece (get_or found k d).piece (met_touches piece.rect (get_or found k d).piece.rect is.met) });
+      each = All-append (IsLaid (block_at tiles)) list found so_far.each last.each;
       whole = λ key block here near.
           let parts = sym (list_any-append (λ p. touches p.rect block.rect) passed (piece ∷ [])) ∙ near in
           elim (or_cases (is_touched passed block) (is_touched (piece ∷ []) block) parts) [
             | inl earlier ↦ more_keys list (list ++ found) key (λ t. Contains-append_left list found t) (so_far.whole key block here earlier)
-            | inr now ↦ more_keys found (list ++ found) key (λ t. Contains-append_right list found t) (AreAllTouched-area tiles piece found plane in_area key block here now)
+            | inr now ↦ more_keys found (list ++ found) key (λ t. Contains-append_right list found t) (last.whole key block here now)
           ];
     }
 
--- without duplicates, the tiles that the pieces touch
-pub AreTouchedBy-passed :
-    (blocks : ℕ → Option Piece) (over : List Piece) (list : List LaidTile) → HasTouched blocks over list → AllPairs (λ p q. p.id ≢ q.id) list → AreTouchedBy blocks over list
-AreTouchedBy-passed blocks over list passed once = record { each = passed.each; whole = passed.whole; once = once }
+-- without duplicates, a list of the tiles that the pieces touch
+pub ListTouched-passed :
+    (blocks : ℕ → Option Piece) (over : List Piece) (list : List LaidTile) → HasTouched blocks over list → AllPairs (λ p q. p.id ≢ q.id) list → ListTouched blocks over list
+ListTouched-passed blocks over list passed once = record { each = passed.each; whole = passed.whole; once = once }
 
--- they are at most all tiles
-pub length-le-IsTouchedBy :
-    (tiles : List (ℕ × Tile)) (over : List Piece) (list : List LaidTile) → All (IsTouchedBy (block_at tiles) over) list → AllPairs (λ p q. p.id ≢ q.id) list → length list ≤ length tiles
-length-le-IsTouchedBy tiles over list each once = length-le-AreLaid tiles list (λ k d within. (each k d within).laid) once
+-- the listed tiles are at most all
+pub length-ListTouched : (tiles : List (ℕ × Tile)) (over : List Piece) (list : List LaidTile) → ListTouched (block_at tiles) over list → length list ≤ length tiles
+length-ListTouched tiles over list touched = length-le-AreLaid tiles list touched.each touched.once

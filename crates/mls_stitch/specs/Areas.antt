@@ -4,6 +4,7 @@ use Rattle.std.specs.List.{All, Any, AllPairs, Contains}
 use Rattle.mls_geom.specs.Locality.{is_touched}
 use Rattle.mls_geom.specs.Rects.{Rect, holds, meets}
 use Rattle.mls_geom.specs.declared.piece.Piece.{Piece}
+use Rattle.mls_stitch.specs.Walks.{IsLaid}
 use Rattle.mls_stitch.specs.declared.laid_tile.LaidTile.{LaidTile}
 
 -- what a caller sees of a scratch: the tiles that the last search found, and how many tiles there is room for
@@ -28,13 +29,8 @@ pub record AreInArea (blocks : ℕ → Option Piece) (area : Rect) (list : List 
   pub whole : (x y : ℕ) → IsTrue (holds area x y) → Any (λ tile. IsTrue (holds tile.piece.rect x y)) list
   pub ordered : AllPairs (λ p q. IsTrue (comes_first area p q)) list
 
--- one of the pieces touches the tile, which is laid as this block under its key
-pub record IsTouchedBy (blocks : ℕ → Option Piece) (over : List Piece) (tile : LaidTile) : Type 0 where
-  pub laid : blocks tile.id ≡ Some tile.piece
-  pub touched : is_touched over tile.piece ≡ true
-
--- the list has the tiles that one of the pieces touches, by a square, a side or a corner, each once
-pub record AreTouchedBy (blocks : ℕ → Option Piece) (over : List Piece) (list : List LaidTile) : Type 0 where
-  pub each : All (IsTouchedBy blocks over) list
+-- the list has tiles that are laid as these blocks, each once, and among them each that one of the pieces touches, by a square, a side or a corner
+pub record ListTouched (blocks : ℕ → Option Piece) (over : List Piece) (list : List LaidTile) : Type 0 where
+  pub each : All (IsLaid blocks) list
   pub whole : (key : ℕ) (block : Piece) → blocks key ≡ Some block → is_touched over block ≡ true → Contains (map (λ tile. tile.id) list) key
   pub once : AllPairs (λ p q. p.id ≢ q.id) list

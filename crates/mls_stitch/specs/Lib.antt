@@ -1,6 +1,7 @@
 pub mod Areas
 pub mod Enumerations
 pub mod Fresh
+pub mod Gathering
 pub mod Lookups
 pub mod Pending
 pub mod Placing

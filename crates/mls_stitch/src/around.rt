@@ -1,15 +1,22 @@
 //! The tiles around touched ones.
-ghost use Rattle.std.specs.Prelude.{◌≡◌, ◌≢◌, ◌==◌, ◌↔◌, ◌⊎◌, ◌++◌, ℕ, ◌+◌, ◌≤◌, IsSome, length, vec_len, vec_capacity};
+ghost use Rattle.std.specs.Prelude.{◌≡◌, ◌≢◌, ◌==◌, ◌↔◌, ◌⊎◌, ◌++◌, ℕ, ◌+◌, ◌≤◌, IsSome, IsTrue, length, vec_len, vec_capacity};
 ghost use Rattle.std.specs.List.{All, AllPairs, Contains, list_any};
 ghost use Rattle.std.specs.List.Sorted.{IsNonDecreasing};
 ghost use Rattle.mls_tilepool.specs.Pools.{count_of, tile_at, tiles_of};
+ghost use Rattle.mls_stitch.specs.Gathering.{SurroundPassed};
 ghost use Rattle.mls_stitch.specs.Placing.{KeepsKeys, Surround, unlisted_of};
 ghost use Rattle.mls_stitch.specs.Tilings.{HasPlane, block_at};
 
 use crate::LaidTile;
-use crate::enumeration::area_into;
+use crate::bounds::bounds_of_tiles;
+use crate::enumeration::list_tiles;
 use crate::laid_tile::laid;
+use crate::scan::scan_area;
+use crate::steps::Steps;
 use mls_tilepool::{Owner, Pool, TileId};
+
+/// How many steps the searches round single tiles take at most for each tile of the plane.
+const STEPS_FOR_EACH: usize = 4;
 
 /// Lists the keys of the touched tiles in ascending order.
 fn list_keys(touched: &[TileId], keys: &mut Vec<usize>)
@@ -69,7 +76,70 @@ fn list_kept(found: &[LaidTile], keys: &[usize], entries: &mut Vec<LaidTile>)
     }
 }
 
-/// Lists the tiles that share a square, a side or a corner with a touched one, other than the touched ones.
+/// Lists the tiles round each touched one in turn, other than the touched ones. A tile may be listed more than once.
+///
+/// Returns `false` if that takes more than a few steps for each tile of the plane.
+fn list_round_each(
+    pool: &Pool,
+    owner: &Owner,
+    touched: &[TileId],
+    keys: &[usize],
+    found: &mut Vec<LaidTile>,
+    entries: &mut Vec<LaidTile>,
+) -> bool
+    requires plane { HasPlane pool.now owner.now }
+    requires there { All (λ key. IsSome (tile_at pool.now owner.now key)) touched.now }
+    requires ascending { IsNonDecreasing keys.now }
+    requires members { (key : ℕ) → Contains keys.now key ↔ Contains touched.now key }
+    requires found_fit { count_of pool.now owner.now ≤ vec_capacity found.old }
+    requires entries_fit { count_of pool.now owner.now + count_of pool.now owner.now
+        ≤ vec_capacity entries.old }
+    ensures around { IsTrue result → SurroundPassed (block_at (tiles_of pool.now owner.now)) touched.now touched.now entries.new.items }
+    ensures found_room { vec_capacity found.new ≡ vec_capacity found.old }
+    ensures entries_room { vec_capacity entries.new ≡ vec_capacity entries.old }
+{
+    let mut steps = Steps::up_to(STEPS_FOR_EACH * pool.count(owner) as usize);
+    entries.clear();
+    for id in touched {
+        let area = laid(pool, owner, *id).unwrap().piece.rect.grow(1);
+        list_tiles(pool, owner, *id, area, found, &mut steps);
+        if steps.are_spent() {
+            return false;
+        }
+        free_room(entries, found.len());
+        list_kept(found, keys, entries);
+    }
+    true
+}
+
+/// Lists the tiles in the bounds of the touched ones and next to them, other than the touched ones.
+fn list_round_all(
+    pool: &Pool,
+    owner: &Owner,
+    touched: &[TileId],
+    keys: &[usize],
+    found: &mut Vec<LaidTile>,
+    entries: &mut Vec<LaidTile>,
+)
+    requires plane { HasPlane pool.now owner.now }
+    requires there { All (λ key. IsSome (tile_at pool.now owner.now key)) touched.now }
+    requires ascending { IsNonDecreasing keys.now }
+    requires members { (key : ℕ) → Contains keys.now key ↔ Contains touched.now key }
+    requires found_fit { count_of pool.now owner.now ≤ vec_capacity found.old }
+    requires entries_fit { count_of pool.now owner.now ≤ vec_capacity entries.old }
+    ensures around { SurroundPassed (block_at (tiles_of pool.now owner.now)) touched.now touched.now entries.new.items }
+    ensures found_room { vec_capacity found.new ≡ vec_capacity found.old }
+    ensures entries_room { vec_capacity entries.new ≡ vec_capacity entries.old }
+{
+    entries.clear();
+    if let Some(bounds) = bounds_of_tiles(pool, owner, touched) {
+        scan_area(pool, owner, bounds.grow(1), found);
+        list_kept(found, keys, entries);
+    }
+}
+
+/// Lists tiles other than the touched ones, each once, and among them all that share a square, a side or a corner with a
+/// touched one.
 pub(crate) fn list_around(
     pool: &Pool,
     owner: &Owner,
@@ -91,12 +161,8 @@ pub(crate) fn list_around(
     ensures entries_room { vec_capacity entries.new ≡ vec_capacity entries.old }
 {
     list_keys(touched, keys);
-    entries.clear();
-    for id in touched {
-        let area = laid(pool, owner, *id).unwrap().piece.rect.grow(1);
-        area_into(pool, owner, *id, area, found);
-        free_room(entries, found.len());
-        list_kept(found, keys, entries);
+    if !list_round_each(pool, owner, touched, keys, found, entries) {
+        list_round_all(pool, owner, touched, keys, found, entries);
     }
     sort_dedup(entries);
 }

@@ -1,5 +1,5 @@
 //! The enumeration of an area's tiles (Ousterhout 1984), each of which has one parent.
-ghost use Rattle.std.specs.Prelude.{◌≡◌, ◌+◌, ◌-◌, ◌<◌, ◌≤◌, ◌&&◌, false, slice_index_or, vec_len, vec_capacity};
+ghost use Rattle.std.specs.Prelude.{◌≡◌, ◌+◌, ◌-◌, ◌<◌, ◌≤◌, ◌&&◌, if◌then◌else◌, nat_le, false, slice_index_or, vec_len, vec_capacity};
 ghost use Rattle.mls_geom.specs.Rects.{IsRectangleIn, holds, meets};
 ghost use Rattle.mls_geom.specs.World.{world};
 ghost use Rattle.mls_tilepool.specs.Pools.{count_of, tiles_of};
@@ -10,6 +10,7 @@ ghost use Rattle.mls_stitch.specs.Enumerations.{IsBeside, IsListedTo, first_row}
 ghost use Rattle.mls_stitch.specs.Tilings.{HasPlane, block_at};
 ghost use Rattle.mls_stitch.specs.declared.laid_tile.LaidTile.{LaidTile};
 
+use crate::steps::Steps;
 use crate::walk::{find_tile, neighbour};
 use crate::{LaidTile, Stitch};
 use mls_geom::{Point, Rect};
@@ -33,7 +34,7 @@ fn is_child(area: Rect, parent: &LaidTile, tile: &LaidTile) -> bool
         && left < sides.right
         && sides.bottom <= row
         && row < sides.top
-        && tile.piece.rect.meets(area)
+        && tile.meets(area)
 }
 
 /// Lists the right neighbour of the tile at the index, where it is the tile's child.
@@ -61,7 +62,14 @@ fn push_child(
 }
 
 /// Lists the right neighbours of the tile at the index of which it is the parent.
-fn push_children(pool: &Pool, owner: &Owner, area: Rect, index: usize, list: &mut Vec<LaidTile>)
+fn push_children(
+    pool: &Pool,
+    owner: &Owner,
+    area: Rect,
+    index: usize,
+    list: &mut Vec<LaidTile>,
+    steps: &mut Steps,
+)
     requires plane { HasPlane pool.now owner.now }
     requires legal { IsRectangleIn world area }
     requires room { count_of pool.now owner.now ≤ vec_capacity list.old }
@@ -78,6 +86,7 @@ fn push_children(pool: &Pool, owner: &Owner, area: Rect, index: usize, list: &mu
     let last_row = first_row(area, &parent);
     let mut tile = neighbour(pool, owner, &parent, Stitch::Tr);
     'neighbours: loop {
+        steps.take();
         push_child(pool, owner, area, &parent, &tile, index, list);
         if tile.sides().bottom <= last_row {
             return;
@@ -86,8 +95,27 @@ fn push_children(pool: &Pool, owner: &Owner, area: Rect, index: usize, list: &mu
     }
 }
 
+/// Returns the tile from which to go on up the area's left side: the one found last, or the one before where that reaches
+/// beyond the area and may have many more neighbours there.
+fn next_start(area: Rect, from: TileId, tile: &LaidTile) -> TileId
+    ensures { result ≡ (if nat_le tile.now.piece.rect.right area.right then tile.now.id else from) }
+{
+    if tile.sides().right <= area.area().right {
+        tile.id
+    } else {
+        from
+    }
+}
+
 /// Makes `list` the tiles on the area's left side, from the bottom up.
-fn list_left_side(pool: &Pool, owner: &Owner, from: TileId, area: Rect, list: &mut Vec<LaidTile>)
+fn list_left_side(
+    pool: &Pool,
+    owner: &Owner,
+    from: TileId,
+    area: Rect,
+    list: &mut Vec<LaidTile>,
+    steps: &mut Steps,
+)
     requires plane { HasPlane pool.now owner.now }
     requires room { count_of pool.now owner.now ≤ vec_capacity list.old }
     ensures legal { IsRectangleIn world area }
@@ -99,25 +127,32 @@ fn list_left_side(pool: &Pool, owner: &Owner, from: TileId, area: Rect, list: &m
     let mut line = bounds.bottom;
     let mut from = from;
     'side: while line < bounds.top {
-        let tile = find_tile(pool, owner, from, Point::at(bounds.left, line));
+        let tile = find_tile(pool, owner, from, Point::at(bounds.left, line), steps);
         list.push_reserved(tile);
         line = tile.sides().top;
-        from = tile.id;
+        from = next_start(area, from, &tile);
     }
 }
 
 /// Makes `list` the tiles that have a square of the area, each once, in any order.
-fn list_tiles(pool: &Pool, owner: &Owner, from: TileId, area: Rect, list: &mut Vec<LaidTile>)
+pub(crate) fn list_tiles(
+    pool: &Pool,
+    owner: &Owner,
+    from: TileId,
+    area: Rect,
+    list: &mut Vec<LaidTile>,
+    steps: &mut Steps,
+)
     requires plane { HasPlane pool.now owner.now }
     requires room { count_of pool.now owner.now ≤ vec_capacity list.old }
     ensures legal { IsRectangleIn world area }
     ensures listed { IsListedTo (block_at (tiles_of pool.now owner.now)) area list.new.items (vec_len list.new) world.top }
     ensures room { vec_capacity list.new ≡ vec_capacity list.old }
 {
-    list_left_side(pool, owner, from, area, list);
+    list_left_side(pool, owner, from, area, list, steps);
     let mut index = 0;
     'tiles: while index < list.len() {
-        push_children(pool, owner, area, index, list);
+        push_children(pool, owner, area, index, list, steps);
         index += 1;
     }
 }
@@ -145,6 +180,7 @@ pub(crate) fn area_into(
     ensures found { AreInArea (block_at (tiles_of pool.now owner.now)) area list.new.items }
     ensures room { vec_capacity list.new ≡ vec_capacity list.old }
 {
-    list_tiles(pool, owner, from, area, list);
+    let mut steps = Steps::up_to(usize::MAX);
+    list_tiles(pool, owner, from, area, list, &mut steps);
     sort_rows(area, list);
 }

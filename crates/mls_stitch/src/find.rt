@@ -5,6 +5,7 @@ ghost use Rattle.mls_stitch.specs.Tilings.{HasPlane, block_at};
 ghost use Rattle.mls_stitch.specs.Stitches.{HoldsAt};
 
 use crate::Plane;
+use crate::steps::Steps;
 use crate::walk::find_tile;
 use mls_geom::Point;
 use mls_tilepool::{Pool, TileId};
@@ -18,7 +19,8 @@ impl Plane {
         ensures holds { HoldsAt (block_at (tiles_of pool.now self.old)) result at }
         ensures plane { self.new ≡ self.old }
     {
-        let tile = find_tile(pool, &self.owner, self.hint, at);
+        let mut steps = Steps::up_to(usize::MAX);
+        let tile = find_tile(pool, &self.owner, self.hint, at, &mut steps);
         self.hint = tile.id;
         tile.id
     }

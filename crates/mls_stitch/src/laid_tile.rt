@@ -15,7 +15,7 @@ pub struct LaidTile {
 }
 
 impl LaidTile {
-    ghost use Rattle.mls_geom.specs.Rects.{IsRectangleIn, holds};
+    ghost use Rattle.mls_geom.specs.Rects.{IsRectangleIn, holds, meets};
     ghost use Rattle.mls_geom.specs.World.{world};
 
     /// Returns whether the square lies in the tile.
@@ -23,6 +23,13 @@ impl LaidTile {
         ensures { result ≡ holds self.now.piece.rect at.x at.y }
     {
         self.piece.rect.holds(at)
+    }
+
+    /// Returns whether the tile has a square of the area.
+    pub(crate) fn meets(&self, area: Rect) -> bool
+        ensures { result ≡ meets self.now.piece.rect area }
+    {
+        self.piece.rect.meets(area)
     }
 
     /// Returns the four sides of the tile.

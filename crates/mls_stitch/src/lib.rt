@@ -3,6 +3,7 @@
 
 mod area;
 mod around;
+mod bounds;
 mod build;
 mod enumeration;
 mod find;
@@ -11,8 +12,10 @@ mod lookup;
 mod place;
 mod plane;
 mod replace;
+mod scan;
 mod scratch;
 mod split;
+mod steps;
 mod stitch;
 mod stitching;
 mod touching;

@@ -1,11 +1,15 @@
 //! The tiles that pieces touch.
 ghost use Rattle.std.specs.Prelude.{◌≡◌, ◌+◌, ◌++◌, ◌≤◌, IsTrue, length, vec_len, vec_capacity};
 ghost use Rattle.mls_tilepool.specs.Pools.{count_of, tiles_of};
-ghost use Rattle.mls_stitch.specs.Areas.{AreTouchedBy};
+ghost use Rattle.mls_stitch.specs.Areas.{ListTouched};
+ghost use Rattle.mls_stitch.specs.Gathering.{HasTouched};
 ghost use Rattle.mls_stitch.specs.Tilings.{HasPlane, block_at};
 
 use crate::around::{free_room, sort_dedup};
-use crate::enumeration::area_into;
+use crate::bounds::bounds_of_pieces;
+use crate::enumeration::list_tiles;
+use crate::scan::scan_area;
+use crate::steps::Steps;
 use crate::{LaidTile, Plane, Scratch};
 use mls_geom::Piece;
 use mls_tilepool::{Owner, Pool, TileId};
@@ -21,10 +25,11 @@ fn list_all(found: &[LaidTile], list: &mut Vec<LaidTile>)
     }
 }
 
-/// Lists the tiles that one of the pieces touches, each once. The search starts at the tile `from`, if the owner has it.
+/// Lists the tiles round each piece in turn. A tile may be listed more than once. The search starts at the tile `from`, if
+/// the owner has it.
 ///
-/// Returns `false` if more than `turns` would be needed.
-fn list_touched(
+/// Returns `false` if that takes more than the `turns`.
+fn list_round_each(
     pool: &Pool,
     owner: &Owner,
     from: TileId,
@@ -37,47 +42,80 @@ fn list_touched(
     requires found_fit { count_of pool.now owner.now ≤ vec_capacity found.old }
     requires entries_fit { count_of pool.now owner.now + count_of pool.now owner.now
         ≤ vec_capacity entries.old }
-    ensures touched { IsTrue result → AreTouchedBy (block_at (tiles_of pool.now owner.now)) over.now entries.new.items }
+    ensures touched { IsTrue result → HasTouched (block_at (tiles_of pool.now owner.now)) over.now entries.new.items }
     ensures found_room { vec_capacity found.new ≡ vec_capacity found.old }
     ensures entries_room { vec_capacity entries.new ≡ vec_capacity entries.old }
 {
     let mut from = from;
-    let mut left = turns;
+    let mut steps = Steps::up_to(turns);
     entries.clear();
     for piece in over {
-        area_into(pool, owner, from, piece.rect.grow(1), found);
-        let Some(rest) = left.checked_sub(found.len() + 1) else {
+        list_tiles(pool, owner, from, piece.rect.grow(1), found, &mut steps);
+        if steps.are_spent() {
             return false;
-        };
-        left = rest;
+        }
         from = found.first().map_or(from, |tile| tile.id);
         free_room(entries, found.len());
         list_all(found, entries);
     }
-    sort_dedup(entries);
     true
 }
 
+/// Lists the tiles in the bounds of the pieces and next to them.
+fn list_round_all(pool: &Pool, owner: &Owner, over: &[Piece], entries: &mut Vec<LaidTile>)
+    requires plane { HasPlane pool.now owner.now }
+    requires entries_fit { count_of pool.now owner.now ≤ vec_capacity entries.old }
+    ensures touched { HasTouched (block_at (tiles_of pool.now owner.now)) over.now entries.new.items }
+    ensures entries_room { vec_capacity entries.new ≡ vec_capacity entries.old }
+{
+    entries.clear();
+    if let Some(bounds) = bounds_of_pieces(over) {
+        scan_area(pool, owner, bounds.grow(1), entries);
+    }
+}
+
+/// Lists tiles, each once, and among them those that one of the pieces touches. The search starts at the tile `from`, if the
+/// owner has it.
+fn list_touched(
+    pool: &Pool,
+    owner: &Owner,
+    from: TileId,
+    over: &[Piece],
+    turns: usize,
+    found: &mut Vec<LaidTile>,
+    entries: &mut Vec<LaidTile>,
+)
+    requires plane { HasPlane pool.now owner.now }
+    requires found_fit { count_of pool.now owner.now ≤ vec_capacity found.old }
+    requires entries_fit { count_of pool.now owner.now + count_of pool.now owner.now
+        ≤ vec_capacity entries.old }
+    ensures touched { ListTouched (block_at (tiles_of pool.now owner.now)) over.now entries.new.items }
+    ensures few { vec_len entries.new ≤ count_of pool.now owner.now }
+    ensures found_room { vec_capacity found.new ≡ vec_capacity found.old }
+    ensures entries_room { vec_capacity entries.new ≡ vec_capacity entries.old }
+{
+    if !list_round_each(pool, owner, from, over, turns, found, entries) {
+        list_round_all(pool, owner, over, entries);
+    }
+    sort_dedup(entries);
+}
+
 impl Plane {
-    /// Finds the tiles that one of the pieces touches, by a square, a side or a corner, each once, and leaves them in the
-    /// scratch.
+    /// Finds tiles of the plane, each once, and among them all that one of the pieces touches, by a square, a side or a
+    /// corner, and leaves them in the scratch.
     ///
-    /// Searches the area round each piece. Each search takes a turn, and so does each tile that it finds. Returns `false`
-    /// if more than `turns` would be needed.
-    pub fn touching(
-        &mut self,
-        pool: &Pool,
-        over: &[Piece],
-        turns: usize,
-        scratch: &mut Scratch,
-    ) -> bool
+    /// Searches round each piece, and finds what these touch. Where the searches would take more than `turns`, looks at
+    /// each tile of the plane instead, and finds those in the bounds of all pieces and next to them. A search takes a turn
+    /// for each tile that it goes through or looks at.
+    pub fn touching(&mut self, pool: &Pool, over: &[Piece], turns: usize, scratch: &mut Scratch)
         requires plane { HasPlane pool.now self.old }
         requires room { count_of pool.now self.old ≤ scratch.old.room }
-        ensures touched { IsTrue result → AreTouchedBy (block_at (tiles_of pool.now self.old)) over.now scratch.new.tiles }
+        ensures touched { ListTouched (block_at (tiles_of pool.now self.old)) over.now scratch.new.tiles }
+        ensures few { length scratch.new.tiles ≤ count_of pool.now self.old }
         ensures plane { self.new ≡ self.old }
         ensures scratch_room { scratch.new.room ≡ scratch.old.room }
     {
-        let listed = list_touched(
+        list_touched(
             pool,
             &self.owner,
             self.hint,
@@ -86,12 +124,8 @@ impl Plane {
             &mut scratch.tiles,
             &mut scratch.entries,
         );
-        if !listed {
-            return false;
-        }
         scratch.tiles.clear();
         list_all(&scratch.entries, &mut scratch.tiles);
         self.hint = scratch.tiles.first().map_or(self.hint, |tile| tile.id);
-        true
     }
 }

@@ -8,6 +8,7 @@ ghost use Rattle.mls_stitch.specs.Tilings.{HasPlane, block_at};
 ghost use Rattle.mls_stitch.specs.Walks.{IsLaid, IsLaidAt};
 
 use crate::laid_tile::laid;
+use crate::steps::Steps;
 use crate::{LaidTile, Stitch};
 use mls_geom::Point;
 use mls_tilepool::{Owner, Pool, TileId};
@@ -48,12 +49,13 @@ fn step_towards(pool: &Pool, owner: &Owner, tile: &LaidTile, at: Point) -> Optio
 
 /// Walks from a tile to the one that holds the square (Ousterhout 1984, point finding). Gives up after a number of steps, and where
 /// the owner has no such tile to start from.
-fn walk(pool: &Pool, owner: &Owner, from: TileId, at: Point) -> Option<LaidTile>
+fn walk(pool: &Pool, owner: &Owner, from: TileId, at: Point, steps: &mut Steps) -> Option<LaidTile>
     requires { HasPlane pool.now owner.now }
     ensures { IfSome result (λ tile. IsLaidAt (block_at (tiles_of pool.now owner.now)) at tile) }
 {
     let mut tile = laid(pool, owner, from)?;
     for _ in 0..MOST_STEPS {
+        steps.take();
         if tile.holds(at) {
             return Some(tile);
         }
@@ -72,11 +74,12 @@ fn laid_with(pool: &Pool, owner: &Owner, id: TileId, at: Point) -> Option<LaidTi
 }
 
 /// Looks at each tile of the owner for the one that holds the square.
-fn scan(pool: &Pool, owner: &Owner, at: Point) -> LaidTile
+fn scan(pool: &Pool, owner: &Owner, at: Point, steps: &mut Steps) -> LaidTile
     requires { HasPlane pool.now owner.now }
     ensures { IsLaidAt (block_at (tiles_of pool.now owner.now)) at result }
 {
     for (id, _) in pool.tiles(owner) {
+        steps.take();
         if let Some(tile) = laid_with(pool, owner, id, at) {
             return tile;
         }
@@ -85,12 +88,18 @@ fn scan(pool: &Pool, owner: &Owner, at: Point) -> LaidTile
 }
 
 /// Returns the tile that holds the square. The search starts at the tile `from`, if the owner has it.
-pub(crate) fn find_tile(pool: &Pool, owner: &Owner, from: TileId, at: Point) -> LaidTile
+pub(crate) fn find_tile(
+    pool: &Pool,
+    owner: &Owner,
+    from: TileId,
+    at: Point,
+    steps: &mut Steps,
+) -> LaidTile
     requires { HasPlane pool.now owner.now }
     ensures { IsLaidAt (block_at (tiles_of pool.now owner.now)) at result }
 {
-    match walk(pool, owner, from, at) {
+    match walk(pool, owner, from, at, steps) {
         Some(tile) => tile,
-        None => scan(pool, owner, at),
+        None => scan(pool, owner, at, steps),
     }
 }

@@ -1,6 +1,6 @@
 use Rattle.std.proofs.Common.{subst, sym, ◌∙◌, arith}
 use Rattle.mls_geom.specs.Rects.{IsRectangleIn}
-use Rattle.mls_errorplane.proofs.PaintedRuns.{Paints-area, length-pushed}
+use Rattle.mls_errorplane.proofs.PaintedAreas.{Paints-area, length-pushed}
 use Rattle.mls_errorplane.proofs.mark_pieces.list_areas.Goals as goal
 
 pub loop-area-preserved : goal.loop-area-preserved

@@ -14,11 +14,11 @@ returns-in_err-find_fresh-clause-too_many c =
     let pool = c.args.pool.now in
     let owner = c.args.plane.now in
     let over = c.args.over.now in
-    let list = c.find_touched-rebuilt.new.scratch.tiles in
+    let list = c.find_touched.new.scratch.tiles in
     let tiles : c.tiles.result.now ≡ list = c.tiles.ensures ∙ ap (λ s. s.tiles) c.scratch.view_is in
     let gives : GivesWay pool owner over list = record {
       strips = c.requires.strips;
-      listed = c.find_touched-rebuilt.ensures.found;
+      listed = c.find_touched.ensures.found;
       kinds = subst (λ listed. HaveKinds (pieces_of listed ++ over)) tiles c.find_fresh.ensures.kinds;
       legal = c.find_fresh.ensures.legal;
     } in
@@ -27,11 +27,11 @@ returns-in_err-find_fresh-clause-too_many c =
 
 pub list_changes-requires-clause-corners : goal.list_changes-requires-clause-corners
 list_changes-requires-clause-corners c =
-    let list = c.find_touched-rebuilt.new.scratch.tiles in
+    let list = c.find_touched.new.scratch.tiles in
     let tiles : c.tiles.result.now ≡ list = c.tiles.ensures ∙ ap (λ s. s.tiles) c.scratch.view_is in
     let gives : GivesWay c.args.pool.now c.args.plane.now c.args.over.now list = record {
       strips = c.requires.strips;
-      listed = c.find_touched-rebuilt.ensures.found;
+      listed = c.find_touched.ensures.found;
       kinds = subst (λ listed. HaveKinds (pieces_of listed ++ c.args.over.now)) tiles c.find_fresh.ensures.kinds;
       legal = c.find_fresh.ensures.legal;
     } in
@@ -42,7 +42,7 @@ replace-requires-clause-pieces c =
     let pool = c.args.pool.now in
     let owner = c.args.plane.now in
     let over = c.args.over.now in
-    let list = c.find_touched-rebuilt.new.scratch.tiles in
+    let list = c.find_touched.new.scratch.tiles in
     let fresh = c.find_fresh.new.sweep.strips in
     let tiles : c.tiles.result.now ≡ list = c.tiles.ensures ∙ ap (λ s. s.tiles) c.scratch.view_is in
     let tiles' : c.tiles-2.result.now ≡ list = c.tiles-2.ensures ∙ ap (λ s. s.tiles) c.scratch.view_is in
@@ -52,12 +52,12 @@ replace-requires-clause-pieces c =
     c.deref-2.ensures.value ∙ c.list_changes.ensures.fresh ∙ ap (λ l. put_of c.strips.result.now (pieces_of l)) tiles' ∙ ap (λ f. put_of f (pieces_of list)) c.strips.ensures in
     let gives : GivesWay pool owner over list = record {
       strips = c.requires.strips;
-      listed = c.find_touched-rebuilt.ensures.found;
+      listed = c.find_touched.ensures.found;
       kinds = subst (λ listed. HaveKinds (pieces_of listed ++ over)) tiles c.find_fresh.ensures.kinds;
       legal = c.find_fresh.ensures.legal;
     } in
     let covered = subst (λ listed. AreCoveredStrips world (laid (pieces_of listed ++ over)) fresh) tiles c.in_ok-find_fresh.ensures.strips in
-    rw put (rw names (rw c.find_touched-rebuilt.ensures.plane (TakePlace-GivesWay pool owner over list fresh gives covered)))
+    rw put (rw names (rw c.find_touched.ensures.plane (TakePlace-GivesWay pool owner over list fresh gives covered)))
 
 pub returns : goal.returns
 returns c =
@@ -65,9 +65,9 @@ returns c =
     let new = c.replace.new.pool in
     let owner = c.args.plane.now in
     let over = c.args.over.now in
-    let list = c.find_touched-rebuilt.new.scratch.tiles in
+    let list = c.find_touched.new.scratch.tiles in
     let fresh = c.find_fresh.new.sweep.strips in
-    let found = c.find_touched-rebuilt.ensures in
+    let found = c.find_touched.ensures in
     let tiles : c.tiles.result.now ≡ list = c.tiles.ensures ∙ ap (λ s. s.tiles) c.scratch.view_is in
     let tiles' : c.tiles-2.result.now ≡ list = c.tiles-2.ensures ∙ ap (λ s. s.tiles) c.scratch.view_is in
     let names : c.deref.result.now ≡ keys_of (gone_of list fresh) =
@@ -89,7 +89,7 @@ returns c =
       strips = HasStrips-painted old new owner over list fresh gives covered replaced (rw found.plane at c.replace.ensures.home);
       too_many = (λ err. exactly.0 (refused.0 err), λ more. refused.1 (exactly.1 more));
       refused = search rules;
-      kept = λ stayed. KeepsUntouched-IsChanged (tiles_of old owner) (tiles_of new owner) over list fresh found.found (found.near stayed) replaced;
+      kept = λ _. KeepsUntouched-IsChanged old (tiles_of new owner) owner over list fresh gives covered replaced;
       rebuilt = search rules;
       only = rw found.plane at c.replace.ensures.only;
       plane = search rules;

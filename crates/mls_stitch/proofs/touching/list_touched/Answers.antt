@@ -1,48 +1,28 @@
--- Round each piece in turn.
-use Rattle.std.proofs.Common.{◌≡◌, ◌+◌, ◌++◌, ◌∷◌, [], length, take, inl, inr, ap, sym, ◌∙◌, arith}
-use Rattle.std.proofs.lemmas.List.{take_all, take_more}
+-- Round each piece, or round all.
+use Rattle.std.proofs.Common.{arith}
 use Rattle.mls_tilepool.specs.Pools.{tiles_of}
+use Rattle.mls_stitch.specs.Gathering.{HasTouched}
 use Rattle.mls_stitch.specs.Tilings.{block_at}
-use Rattle.mls_stitch.proofs.AroundTiles.{found_few}
-use Rattle.mls_stitch.proofs.TouchedTiles.{AreTouchedBy-passed, length-le-IsTouchedBy, touched_keeps, touched_more}
+use Rattle.mls_stitch.proofs.ListedTiles.{length-le-AreLaid}
+use Rattle.mls_stitch.proofs.TouchedTiles.{ListTouched-passed, touched_keeps}
 use Rattle.mls_stitch.proofs.touching.list_touched.Goals as goal
+use Rattle.mls_stitch.proofs.touching.list_touched.Goals.{else-not-list_round_each, then-not-list_round_each}
 
-pub list_all-requires : goal.list_all-requires
-list_all-requires c =
-    let tiles = tiles_of c.args.pool.now c.args.owner.now in
-    let passed = take c.loop-piece.piece-index c.args.over.now in
-    let found = found_few tiles c.grow.result c.area_into.new.list.items c.area_into.ensures.found in
-    let kept = touched_keeps (block_at tiles) passed c.loop-piece.entries.items c.free_room.new.entries.items c.loop-piece.invariant.touched c.free_room.ensures.keeps in
-    record {
-      room = elim c.free_room.ensures.free [
-        | inl free ↦ omega (arith, free, c.len-in-loop-piece.ensures, ap length c.deref-in-loop-piece.ensures.value, c.area_into.new.list.ok.0)
-        | inr once ↦
-            let few = length-le-IsTouchedBy tiles passed c.free_room.new.entries.items kept.each once in
-            omega (arith, few, found, ap length c.deref-in-loop-piece.ensures.value, c.free_room.new.entries.ok.0, c.free_room.ensures.room, c.loop-piece.invariant.entries_room, c.requires.entries_fit, c.clear.ensures.capacity)
-      ];
-    }
-
-pub loop-piece-preserved : goal.loop-piece-preserved
-loop-piece-preserved c =
-    let tiles = tiles_of c.args.pool.now c.args.owner.now in
+-- however they were gathered, all touched tiles are listed
+gathered : (c : goal.After-sort_dedup) → HasTouched (block_at (tiles_of c.args.pool.now c.args.owner.now)) c.args.over.now c.sort_dedup.new.entries.items
+gathered c =
+    let blocks = block_at (tiles_of c.args.pool.now c.args.owner.now) in
     let over = c.args.over.now in
-    let i = c.loop-piece.piece-index in
-    let piece = c.piece-item.result in
-    let more : take (i + 1) over ≡ take i over ++ piece ∷ [] = take_more over i piece c.loop-piece-test.true ∙ ap (λ p. take i over ++ p ∷ []) (sym c.piece-item.is) in
-    let kept = touched_keeps (block_at tiles) (take i over) c.loop-piece.entries.items c.free_room.new.entries.items c.loop-piece.invariant.touched c.free_room.ensures.keeps in
-    let found = rw c.grow.ensures.value at c.area_into.ensures.found in
-    let listed = rw c.deref-in-loop-piece.ensures.value at c.list_all.ensures.listed in
-    record {
-      touched = rw (more, listed) (touched_more tiles (take i over) piece c.area_into.new.list.items c.free_room.new.entries.items c.requires.plane.plane found kept);
-      found_room = c.area_into.ensures.room ∙ c.loop-piece.invariant.found_room;
-      entries_room = c.list_all.ensures.room ∙ c.free_room.ensures.room ∙ c.loop-piece.invariant.entries_room;
-    }
+    let before : HasTouched blocks over c.if-not-list_round_each.entries.items = elim c.if-not-list_round_each.branch [
+      | then-not-list_round_each w ↦ rw w.entries-is w.list_round_all.ensures.touched
+      | else-not-list_round_each w ↦ rw w.entries-is (c.list_round_each.ensures.touched w.if-not-list_round_each.false)
+    ] in
+    touched_keeps blocks over c.if-not-list_round_each.entries.items c.sort_dedup.new.entries.items before c.sort_dedup.ensures.keeps
 
 pub returns-clause-touched : goal.returns-clause-touched
-returns-clause-touched c reports =
-    let tiles = tiles_of c.args.pool.now c.args.owner.now in
-    let over = c.args.over.now in
-    let all : take c.loop-piece.piece-index over ≡ over = take_all c.loop-piece.piece-index over (omega arith) in
-    let passed = rw all at c.loop-piece.invariant.touched in
-    AreTouchedBy-passed (block_at tiles) over c.sort_dedup.new.entries.items
-    (touched_keeps (block_at tiles) over c.loop-piece.entries.items c.sort_dedup.new.entries.items passed c.sort_dedup.ensures.keeps) c.sort_dedup.ensures.once
+returns-clause-touched c =
+    ListTouched-passed (block_at (tiles_of c.args.pool.now c.args.owner.now)) c.args.over.now c.sort_dedup.new.entries.items (gathered c) c.sort_dedup.ensures.once
+
+pub returns-clause-few : goal.returns-clause-few
+returns-clause-few c =
+    omega (arith, length-le-AreLaid (tiles_of c.args.pool.now c.args.owner.now) c.sort_dedup.new.entries.items (gathered c).each c.sort_dedup.ensures.once, c.sort_dedup.new.entries.ok.0)

@@ -1,0 +1,155 @@
+-- Bounds, and the tiles that a search or a scan of an area found.
+use Rattle.std.proofs.Common.{◌≡◌, ◌⊎◌, ℕ, Bool, ◌&&◌, true, false, IsTrue, List, [], ◌∷◌, ◌++◌, length, get_or, Option, Some, None, All, Any, Contains, inl, inr, refl, sym, ap, ◌∙◌, subst, arith}
+use Rattle.std.specs.Option.{IfNone, IfSome, IsSome, option_map_or}
+use Rattle.std.proofs.lemmas.Bool.{both_ways, cases_eq, cond-false, ne_eqb}
+use Rattle.std.proofs.lemmas.List.Elements.{All-contains, All-push, All-nil, Contains-append_left, Contains-append_right}
+use Rattle.std.proofs.lemmas.Option.{same_Some}
+use Rattle.mls_geom.specs.Locality.{touches}
+use Rattle.mls_geom.specs.Rects.{Rect, Point, IsRectangleIn, grown, holds, meets}
+use Rattle.mls_geom.specs.World.{world}
+use Rattle.mls_geom.specs.declared.piece.Piece.{Piece}
+use Rattle.mls_geom.proofs.Ascending.{Contains-first, Contains-map}
+use Rattle.mls_geom.proofs.Holds.{between_holds, holds_between}
+use Rattle.mls_geom.proofs.KindsShown.{common_square, meets_by_square}
+use Rattle.mls_geom.proofs.PiecePictures.{holds_outer}
+use Rattle.mls_tilepool.specs.Pools.{tile_in}
+use Rattle.mls_tilepool.specs.declared.tile.Tile.{Tile}
+use Rattle.mls_stitch.specs.Areas.{IsFound}
+use Rattle.mls_stitch.specs.Enumerations.{IsListedTo}
+use Rattle.mls_stitch.specs.Gathering.{AreMet, IsWithin, enclosing}
+use Rattle.mls_stitch.specs.Pending.{keys_of}
+use Rattle.mls_stitch.specs.Tilings.{AreBlocks}
+use Rattle.mls_stitch.specs.Walks.{IsLaid}
+use Rattle.mls_stitch.specs.declared.laid_tile.LaidTile.{LaidTile}
+use Rattle.mls_stitch.proofs.FreshTiles.{entry-keys_of}
+use Rattle.mls_stitch.proofs.Listings.{listed_whole}
+use Rattle.mls_stitch.proofs.Sides.{HoldsAt-block, there-IsSomeAnd}
+
+-- the smallest rectangle round both has in it what the first has, and the second
+within_first : (a b e : Rect) → IsWithin a e → IsWithin (enclosing a b) e
+within_first a b e inside = record { left = omega (arith, inside.left); bottom = omega (arith, inside.bottom); right = omega (arith, inside.right); top = omega (arith, inside.top) }
+
+within_second : (a b : Rect) → IsWithin (enclosing a b) b
+within_second a b = record { left = omega arith; bottom = omega arith; right = omega arith; top = omega arith }
+
+-- so it has more and more within it
+pub within_more : {X : Type 0} (P : Rect → X → Type 0) (bounds : Option Rect) (rect result : Rect) (passed : List X) (x : X) →
+    ((a b : Rect) (y : X) → P a y → P (enclosing a b) y) → ((a : Rect) → IsWithin a rect → P a x) → IfSome bounds (λ b. All (P b) passed) → IfNone bounds (passed ≡ [])
+    → result ≡ option_map_or (λ b. enclosing b rect) bounds rect → All (P result) (passed ++ x ∷ [])
+within_more P None rect result passed x grows here so_far none is =
+    rw (is, none) (All-push (P rect) [] x (All-nil _) (here rect (record { left = omega arith; bottom = omega arith; right = omega arith; top = omega arith })))
+within_more P (Some b) rect result passed x grows here so_far none is =
+    rw is (All-push (P (enclosing b rect)) passed x (λ k d within. grows b rect (get_or passed k d) (so_far k d within)) (here (enclosing b rect) (within_second b rect)))
+
+pub grows_pieces : (a b : Rect) (piece : Piece) → IsWithin a piece.rect → IsWithin (enclosing a b) piece.rect
+grows_pieces a b piece inside = within_first a b piece.rect inside
+
+pub grows_blocks : (blocks : ℕ → Option Piece) (a b : Rect) (key : ℕ) → IfSome (blocks key) (λ block. IsWithin a block.rect) → IfSome (blocks key) (λ block. IsWithin (enclosing a b) block.rect)
+grows_blocks blocks a b key inside = go (blocks key) inside where
+  go : (block : Option Piece) → IfSome block (λ p. IsWithin a p.rect) → IfSome block (λ p. IsWithin (enclosing a b) p.rect)
+  go None none = none
+  go (Some p) within = within_first a b p.rect within
+
+-- two laid tiles with one square have one key
+met_key :
+    (blocks : ℕ → Option Piece) (key : ℕ) (block : Piece) (list : List LaidTile) (x y : ℕ) → AreBlocks blocks → blocks key ≡ Some block → holds block.rect x y ≡ true
+    → All (IsLaid blocks) list → Any (λ tile. IsTrue (holds tile.piece.rect x y)) list → Contains (keys_of list) key
+met_key blocks key block list x y tiling here inside laid (k, tile, within, is, held) =
+    let there : blocks tile.id ≡ Some tile.piece = All-contains (IsLaid blocks) list tile laid (k, within, is) in
+    let one : tile.id ≡ key = tiling.apart tile.id key (record { x = x; y = y }) (HoldsAt-block blocks tile.id tile.piece (record { x = x; y = y }) there held) (HoldsAt-block blocks key block (record { x = x; y = y }) here inside) in
+    subst (Contains (keys_of list)) one (Contains-map (λ t. t.id) list tile (k, within, is))
+
+-- once all parents are passed, area search has found the tiles of the area
+pub AreMet-listed :
+    (blocks : ℕ → Option Piece) (area : Rect) (list : List LaidTile) → AreBlocks blocks → IsRectangleIn world area → IsListedTo blocks area list (length list) world.top
+    → AreMet blocks area list
+AreMet-listed blocks area list tiling inside listed = record {
+  each = listed.each;
+  whole = λ key block here met.
+      let (x, y, in_block, in_area) = common_square block.rect area met in
+      met_key blocks key block list x y tiling here in_block (λ k d within. (listed.each k d within).laid) (listed_whole blocks area list tiling inside listed x y in_area);
+}
+
+-- a listed tile has each square of the world that lies in the area
+pub met_square :
+    (blocks : ℕ → Option Piece) (area : Rect) (list : List LaidTile) (at : Point) → AreBlocks blocks → AreMet blocks area list → holds area at.x at.y ≡ true → holds world at.x at.y ≡ true
+    → (tile : LaidTile) × Contains list tile × (blocks tile.id ≡ Some tile.piece) × (holds tile.piece.rect at.x at.y ≡ true)
+met_square blocks area list at tiling met in_area in_world =
+    let (key, held) = tiling.whole at in_world in
+    let (block, here, inside) = there-IsSomeAnd (blocks key) (λ b. holds b.rect at.x at.y ≡ true) held in
+    let (tile, listed, is_key) = entry-keys_of list key (met.whole key block here (meets_by_square block.rect area at.x at.y inside in_area)) in
+    let there : blocks tile.id ≡ Some tile.piece = (All-contains (IsFound blocks area) list tile met.each listed).laid in
+    let same : block ≡ tile.piece = same_Some block tile.piece (sym here ∙ ap blocks (sym is_key) ∙ there) in
+    (tile, listed, there, subst (λ p. holds p.rect at.x at.y ≡ true) same inside)
+
+-- the area has the squares of the world in the bounds and next to them
+abbrev pub IsRound : Rect → Rect → Type 0
+IsRound bounds area = (x y : ℕ) → holds area x y ≡ (holds (grown 1 bounds) x y && holds world x y)
+
+-- grown by one, a rectangle has the squares of those in it, grown by one
+pub grown_outer : (outer e : Rect) (x y : ℕ) → IsWithin outer e → holds (grown 1 e) x y ≡ true → holds (grown 1 outer) x y ≡ true
+grown_outer outer e x y inside held =
+    let lines = holds_between (grown 1 e) x y held in
+    between_holds (grown 1 outer) x y (omega (arith, inside.left, lines.0)) (omega (arith, inside.right, lines.1)) (omega (arith, inside.bottom, lines.2)) (omega (arith, inside.top, lines.3))
+
+-- a block that a piece touches has a square of the area round the bounds of the piece
+pub touched_met :
+    (outer : Rect) (piece block : Piece) (area : Rect) → IsWithin outer piece.rect → IsRectangleIn world block.rect
+    → ((x y : ℕ) → holds (grown 1 outer) x y ≡ true → holds world x y ≡ true → holds area x y ≡ true) → touches piece.rect block.rect ≡ true → meets block.rect area ≡ true
+touched_met outer piece block area inside legal squares near =
+    let (x, y, in_grown, in_block) = common_square (grown 1 piece.rect) block.rect near in
+    let in_area = squares x y (grown_outer outer piece.rect x y inside in_grown) (holds_outer world block.rect x y legal in_block) in
+    meets_by_square block.rect area x y in_block in_area
+
+-- each tile of the area is listed, or is yet to be looked at
+abbrev pub AreMetBefore : (ℕ → Option Piece) → Rect → List LaidTile → List (ℕ × Tile) → Type 0
+AreMetBefore blocks area list rest = (key : ℕ) (block : Piece) → blocks key ≡ Some block → meets block.rect area ≡ true → Contains (keys_of list) key ⊎ IsSome (tile_in rest key)
+
+next_or_rest : (id key : ℕ) (tile : Tile) (rest : List (ℕ × Tile)) → IsSome (tile_in ((id, tile) ∷ rest) key) → (id ≡ key) ⊎ IsSome (tile_in rest key)
+next_or_rest id key tile rest there = elim (cases_eq id key) [
+  | inl same ↦ inl same
+  | inr differs ↦ inr (subst IsSome (cond-false _ (Some tile) (tile_in rest key) (ne_eqb id key differs)) there)
+]
+
+-- one more tile was looked at, and listed
+pub scan_listed :
+    (blocks : ℕ → Option Piece) (area : Rect) (list : List LaidTile) (id : ℕ) (held : Tile) (rest : List (ℕ × Tile)) (tile : LaidTile) → AreMetBefore blocks area list ((id, held) ∷ rest)
+    → tile.id ≡ id → AreMetBefore blocks area (list ++ tile ∷ []) rest
+scan_listed blocks area list id held rest tile before is key block here met = elim (before key block here met) [
+  | inl listed ↦
+      let (t, there, is_key) = entry-keys_of list key listed in
+      inl (subst (Contains (keys_of (list ++ tile ∷ []))) is_key (Contains-map (λ t. t.id) (list ++ tile ∷ []) t (Contains-append_left list (tile ∷ []) t there)))
+  | inr later ↦ elim (next_or_rest id key held rest later) [
+    | inl now ↦
+        inl (subst (Contains (keys_of (list ++ tile ∷ []))) (is ∙ now)
+        (Contains-map (λ t. t.id) (list ++ tile ∷ []) tile (Contains-append_right list (tile ∷ []) tile (Contains-first tile tile [] refl))))
+    | inr rest_has ↦ inr rest_has
+  ]
+]
+
+-- one more was looked at that is not in the area
+pub scan_skipped :
+    (blocks : ℕ → Option Piece) (area : Rect) (list : List LaidTile) (id : ℕ) (held : Tile) (rest : List (ℕ × Tile)) → AreMetBefore blocks area list ((id, held) ∷ rest)
+    → ((block : Piece) → blocks id ≡ Some block → meets block.rect area ≡ false) → AreMetBefore blocks area list rest
+scan_skipped blocks area list id held rest before outside key block here met = elim (before key block here met) [
+  | inl listed ↦ inl listed
+  | inr later ↦ elim (next_or_rest id key held rest later) [
+    | inl now ↦ absurd (both_ways _ (outside block (ap blocks now ∙ here)) met)
+    | inr rest_has ↦ inr rest_has
+  ]
+]
+
+-- once all were looked at
+pub AreMet-scanned :
+    (blocks : ℕ → Option Piece) (area : Rect) (list : List LaidTile) → All (IsFound blocks area) list → AreMetBefore blocks area list [] → AreMet blocks area list
+AreMet-scanned blocks area list each before = record {
+  each = each;
+  whole = λ key block here met. elim (before key block here met) [
+    | inl listed ↦ listed
+    | inr later ↦ cc
+  ];
+}
+
+-- in both
+pub both_true : {a b : Bool} → a ≡ true → b ≡ true → (a && b) ≡ true
+both_true {a} {b} p q = rw (p, q) refl

@@ -1,0 +1,48 @@
+-- Tiles gathered by one search or by many; a tile may be listed more than once. No public contract names these.
+use Rattle.std.specs.Prelude.{◌≡◌, ◌⊎◌, ℕ, ◌≤◌, max, min, true, IsTrue, IsSomeAnd, IfSome, List, Option, Some}
+use Rattle.std.specs.List.{All, Any, Contains}
+use Rattle.mls_geom.specs.Locality.{is_touched}
+use Rattle.mls_geom.specs.Rects.{Rect, Point, grown, holds, meets}
+use Rattle.mls_geom.specs.World.{world}
+use Rattle.mls_geom.specs.declared.piece.Piece.{Piece}
+use Rattle.mls_stitch.specs.Areas.{IsFound}
+use Rattle.mls_stitch.specs.Pending.{keys_of}
+use Rattle.mls_stitch.specs.Replacements.{IsHeld}
+use Rattle.mls_stitch.specs.Walks.{IsLaid}
+use Rattle.mls_stitch.specs.declared.laid_tile.LaidTile.{LaidTile}
+
+-- the smallest rectangle round both
+abbrev pub enclosing : Rect → Rect → Rect
+enclosing a b = record { left = min a.left b.left; bottom = min a.bottom b.bottom; right = max a.right b.right; top = max a.top b.top }
+
+-- the rectangle reaches no further than the bounds
+pub record IsWithin (bounds e : Rect) : Type 0 where
+  pub left : bounds.left ≤ e.left
+  pub bottom : bounds.bottom ≤ e.bottom
+  pub right : e.right ≤ bounds.right
+  pub top : e.top ≤ bounds.top
+
+-- the bounds have each piece within them
+abbrev pub EnclosePieces : Rect → List Piece → Type 0
+EnclosePieces bounds pieces = All (λ piece. IsWithin bounds piece.rect) pieces
+
+-- the bounds have the block of each key within them
+abbrev pub EncloseBlocks : (ℕ → Option Piece) → Rect → List ℕ → Type 0
+EncloseBlocks blocks bounds keys = All (λ key. IfSome (blocks key) (λ block. IsWithin bounds block.rect)) keys
+
+-- the list has the tiles that have a square of the area
+pub record AreMet (blocks : ℕ → Option Piece) (area : Rect) (list : List LaidTile) : Type 0 where
+  pub each : All (IsFound blocks area) list
+  pub whole : (key : ℕ) (block : Piece) → blocks key ≡ Some block → meets block.rect area ≡ true → Contains (keys_of list) key
+
+-- the list has laid tiles, and among them those that one of the passed pieces touches
+pub record HasTouched (blocks : ℕ → Option Piece) (passed : List Piece) (list : List LaidTile) : Type 0 where
+  pub each : All (IsLaid blocks) list
+  pub whole : (key : ℕ) (block : Piece) → blocks key ≡ Some block → is_touched passed block ≡ true → Contains (keys_of list) key
+
+-- the list has tiles other than the touched ones, among them all around those of the keys that were passed
+pub record SurroundPassed (blocks : ℕ → Option Piece) (touched passed : List ℕ) (list : List LaidTile) : Type 0 where
+  pub each : All (λ tile. blocks tile.id ≡ Some tile.piece) list
+  pub apart : All (λ tile. ¬ (Contains touched tile.id)) list
+  pub whole : (key : ℕ) (at : Point) → Contains passed key → IsSomeAnd (blocks key) (λ block. IsTrue (holds (grown 1 block.rect) at.x at.y))
+      → IsTrue (holds world at.x at.y) → IsHeld blocks touched at ⊎ Any (λ tile. IsTrue (holds tile.piece.rect at.x at.y)) list

@@ -1,0 +1,60 @@
+//! The bounds of pieces and of tiles.
+ghost use Rattle.std.specs.Prelude.{◌≡◌, [], IfNone, IfSome, IsSome};
+ghost use Rattle.std.specs.List.{All};
+ghost use Rattle.std.specs.Option.{option_map_or};
+ghost use Rattle.mls_tilepool.specs.Pools.{tile_at, tiles_of};
+ghost use Rattle.mls_stitch.specs.Gathering.{EncloseBlocks, EnclosePieces, enclosing};
+ghost use Rattle.mls_stitch.specs.Tilings.{HasPlane, block_at};
+
+use crate::laid_tile::laid;
+use mls_geom::{Piece, Rect};
+use mls_tilepool::{Owner, Pool, TileId};
+
+/// Returns the smallest rectangle round both.
+fn enclosing(a: Rect, b: Rect) -> Rect
+    ensures { result ≡ enclosing a b }
+{
+    let (a, b) = (a.area(), b.area());
+    Rect::between(
+        a.left.min(b.left),
+        a.bottom.min(b.bottom),
+        a.right.max(b.right),
+        a.top.max(b.top),
+    )
+}
+
+/// Returns the smallest rectangle round the bounds, if there are any yet, and one more.
+fn enclose(bounds: Option<Rect>, rect: Rect) -> Rect
+    ensures { result ≡ option_map_or (λ b. enclosing b rect) bounds rect }
+{
+    match bounds {
+        Some(bounds) => enclosing(bounds, rect),
+        None => rect,
+    }
+}
+
+/// Returns the bounds of the pieces, or `None` if there are none.
+pub(crate) fn bounds_of_pieces(pieces: &[Piece]) -> Option<Rect>
+    ensures round { IfSome result (λ bounds. EnclosePieces bounds pieces.now) }
+    ensures none { IfNone result (pieces.now ≡ []) }
+{
+    let mut bounds = None;
+    for piece in pieces {
+        bounds = Some(enclose(bounds, piece.rect));
+    }
+    bounds
+}
+
+/// Returns the bounds of the tiles, or `None` if there are none.
+pub(crate) fn bounds_of_tiles(pool: &Pool, owner: &Owner, ids: &[TileId]) -> Option<Rect>
+    requires plane { HasPlane pool.now owner.now }
+    requires there { All (λ key. IsSome (tile_at pool.now owner.now key)) ids.now }
+    ensures round { IfSome result (λ bounds. EncloseBlocks (block_at (tiles_of pool.now owner.now)) bounds ids.now) }
+    ensures none { IfNone result (ids.now ≡ []) }
+{
+    let mut bounds = None;
+    for id in ids {
+        bounds = Some(enclose(bounds, laid(pool, owner, *id).unwrap().piece.rect));
+    }
+    bounds
+}
