@@ -1,5 +1,6 @@
 pub mod Events
 pub mod Faults
+pub mod LegalLists
 pub mod NameBytes
 pub mod OwnLists
 pub mod Servers

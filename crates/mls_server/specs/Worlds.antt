@@ -1,6 +1,6 @@
 -- A server as its users see it: the sessions that are open, each with what it keeps, and how much of the pool is left. No tile, no owner, no buffer.
 -- This project's own.
-use Rattle.std.specs.Prelude.{◌≡◌, ℕ, ◌<◌, ◌≤◌, ◌+◌, ◌-◌, ◌==◌, true, not, if◌then◌else◌, Option, Some, None, List, [], ◌∷◌, ◌++◌, map}
+use Rattle.std.specs.Prelude.{◌≡◌, ℕ, ◌<◌, ◌≤◌, ◌+◌, ◌-◌, ◌==◌, true, not, if◌then◌else◌, Option, Some, None, List, [], ◌∷◌, ◌++◌, length, map}
 use Rattle.std.specs.List.{All, AllPairs, filter}
 use Rattle.std.specs.Option.{option_map}
 use Rattle.mls_checker.specs.Forbids.{forbidden}
@@ -77,6 +77,10 @@ MarksAreExact on = All
 -- the journal of each open session is legal
 abbrev pub JournalsAreLegal : World → Type 0
 JournalsAreLegal on = All (λ seat. IsLegal (terms_for on.setting) seat.kept) on.seats
+
+-- the journal of each open session has as many entries as its own state says, and no more than it may have
+abbrev pub JournalsHaveRoom : World → Type 0
+JournalsHaveRoom on = All (λ seat. (length seat.kept.journal ≡ seat.kept.own.entries) × (seat.kept.own.entries ≤ on.setting.journal)) on.seats
 
 -- no two open sessions have the same id, and none has one that wasn't given
 pub record IsNumbered (on : World) : Type 0 where

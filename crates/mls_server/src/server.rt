@@ -1,9 +1,9 @@
 //! A server: sessions by name over one pool.
-ghost use Rattle.std.specs.Prelude.{◌≡◌, ◌↔◌, ◌≤◌, [], IfOk, IsTrue};
+ghost use Rattle.std.specs.Prelude.{◌≡◌, ◌↔◌, ◌≤◌, ◌<◌, ◌^◌, [], IfOk, IsTrue};
 ghost use Rattle.std.specs.List.{position};
 ghost use Rattle.mls_server.specs.Events.{LoadsCell};
 ghost use Rattle.mls_server.specs.Servers.{world_of};
-ghost use Rattle.mls_server.specs.Worlds.{IsNumbered, JournalsAreLegal, MarksAreExact, MarksAreRight, session_named};
+ghost use Rattle.mls_server.specs.Worlds.{IsNumbered, JournalsAreLegal, JournalsHaveRoom, MarksAreExact, MarksAreRight, session_named};
 ghost use Rattle.mls_text.specs.Words.{same_word};
 
 mod events;
@@ -161,14 +161,32 @@ impl Server {
         &self.tech
     }
 
+    /// Returns how many entries the journal of a session may have.
+    pub fn journal_limit(&self) -> JournalLimit
+        ensures value { result ≡ (world_of self.now).setting.journal }
+    {
+        self.limit
+    }
+
+    /// Returns how many ids were given.
+    pub fn ids_given(&self) -> u64
+        ensures value { result ≡ (world_of self.now).given }
+        ensures fits { result < 2 ^ 64 }
+    {
+        self.given
+    }
+
     /// Does nothing. Its contract is what every server keeps: the marks of each open session are right outside the areas that
-    /// await checking, and exact where there is none, and its journal is legal.
+    /// await checking, and exact where there is none, and its journal is legal, counted by its own state and within the limit.
     pub fn is_sound(&self)
         ensures right { MarksAreRight (world_of self.now) }
         ensures exact { MarksAreExact (world_of self.now) }
         ensures legal { JournalsAreLegal (world_of self.now) }
         ensures numbered { IsNumbered (world_of self.now) }
+        ensures room { JournalsHaveRoom (world_of self.now) }
+        ensures given { (world_of self.now).given < 2 ^ 64 }
     {
+        self.ids_given();
         let _sessions = &self.sessions;
     }
 }

@@ -21,6 +21,7 @@ pub mod ExactEntries
 pub mod FirstPlanes
 pub mod FoundTiles
 pub mod HomePlanes
+pub mod JournalRooms
 pub mod JournalRuns
 pub mod JournalledCommands
 pub mod JournalledSaves

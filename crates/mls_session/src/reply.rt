@@ -1,6 +1,6 @@
 //! What a session replies.
 ghost use Rattle.std.specs.Prelude.{◌≡◌};
-ghost use Rattle.mls_session.specs.Journals.{is_memory, is_refusal};
+ghost use Rattle.mls_session.specs.Journals.{is_journalled, is_memory, is_refusal};
 
 use crate::Refusal;
 use mls_kinds::KindSet;
@@ -26,6 +26,21 @@ pub enum Reply {
 }
 
 impl Reply {
+    /// Returns whether a command with this reply goes into the journal: any, unless it is refused because the journal is
+    /// full or because memory ran out.
+    pub fn is_journalled(self) -> bool
+        ensures { result ≡ is_journalled self }
+    {
+        !matches!(
+            self,
+            Reply::Refused(Refusal::JournalFull | Refusal::Memory)
+                | Reply::Stopped {
+                    refusal: Refusal::JournalFull | Refusal::Memory,
+                    ..
+                }
+        )
+    }
+
     /// Returns whether memory ran out.
     pub(crate) fn is_memory(self) -> bool
         ensures { result ≡ is_refusal is_memory self }

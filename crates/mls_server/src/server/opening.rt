@@ -54,7 +54,7 @@ impl Server {
 
     /// Returns why a session of this name can't be opened, memory aside.
     #[tactic(auto, unfolding(crate::specs::Events::open_fault))]
-    fn open_fault(&self, name: &Name) -> Option<OpenFault>
+    pub fn open_fault(&self, name: &Name) -> Option<OpenFault>
         ensures fault { result ≡ spec.open_fault (world_of self.now) name.now }
     {
         if self.session(name).is_some() {
