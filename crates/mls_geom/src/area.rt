@@ -1,5 +1,5 @@
 //! Squares between four coordinates, in the world or outside it.
-ghost use Rattle.std.specs.Prelude.{◌≡◌, ◌≤◌, max, min};
+ghost use Rattle.std.specs.Prelude.{◌≡◌, ◌≤◌, ◌↔◌, IsTrue, max, min};
 ghost use Rattle.mls_geom.specs.Locality.{touches};
 ghost use Rattle.mls_geom.specs.Rects.{common, grown};
 ghost use Rattle.mls_geom.specs.World.{IsNearWorld};
@@ -56,6 +56,27 @@ impl Area {
             right: self.right.min(area.right),
             top: self.top.min(area.top),
         }
+    }
+
+    /// Returns an area without squares, which joined with another area is that one.
+    pub(crate) fn nowhere() -> Area {
+        Area {
+            left: u32::MAX,
+            bottom: u32::MAX,
+            right: 0,
+            top: 0,
+        }
+    }
+
+    /// Returns whether no side of the other area lies outside this one.
+    pub(crate) fn encloses(self, other: Area) -> bool
+        ensures { IsTrue result ↔ (self.left ≤ other.left) × (self.bottom ≤ other.bottom)
+            × (other.right ≤ self.right) × (other.top ≤ self.top) }
+    {
+        self.left <= other.left
+            && self.bottom <= other.bottom
+            && other.right <= self.right
+            && other.top <= self.top
     }
 
     /// Returns the least area that has the squares of both.

@@ -14,12 +14,7 @@ pub(crate) fn bounds(pieces: &[Piece]) -> Area
     ensures legal { AreLegal pieces.now }
     ensures kinds { HaveKinds pieces.now }
 {
-    let mut bounds = Area {
-        left: u32::MAX,
-        bottom: u32::MAX,
-        right: 0,
-        top: 0,
-    };
+    let mut bounds = Area::nowhere();
     for piece in pieces {
         bounds = bounds.joined(piece.area());
     }
