@@ -1,6 +1,7 @@
 pub mod AreaSizes
 pub mod CheckedMarks
 pub mod CheckedSquares
+pub mod CoveredOnce
 pub mod DirtySquares
 pub mod EmptyLayouts
 pub mod FinishedFindings
@@ -9,6 +10,7 @@ pub mod MarkCounts
 pub mod PaintedAreas
 pub mod PaintedPieces
 pub mod RangeSums
+pub mod ShownMarks
 pub mod SquareCounts
 pub mod StepsDone
 pub mod ViolatedNear

@@ -1,11 +1,27 @@
--- What pieces paint on an error plane. No public contract names these.
-use Rattle.std.specs.Prelude.{◌≡◌, ℕ, List}
+-- What pieces paint on an error plane, and what its tiles show already. No public contract names these.
+use Rattle.std.specs.Prelude.{◌≡◌, ◌≢◌, ℕ, ◌==◌, true, if◌then◌else◌, List}
 use Rattle.mls_checker.specs.Marking.{SquareSet}
 use Rattle.mls_geom.specs.Pictures.{Picture, overlaid}
-use Rattle.mls_geom.specs.Rects.{Rect}
+use Rattle.mls_geom.specs.Rects.{Rect, common, holds}
 use Rattle.mls_geom.specs.declared.piece.Piece.{Piece}
+use Rattle.mls_stitch.specs.declared.laid_tile.LaidTile.{LaidTile}
 use Rattle.mls_errorplane.specs.MarkPlanes.{remarked}
+use Rattle.mls_errorplane.specs.Sizes.{size_of}
 
 -- painted over any picture, the pieces mark the squares of the rectangle as the set says, and change no others
 abbrev pub Paints : List Piece → Rect → SquareSet → Type 0
 Paints pieces rect set = (below : Picture) (x y : ℕ) → overlaid below pieces x y ≡ remarked below rect set x y
+
+-- of the tile's squares in the rectangle those of the set have kind 1, and the others kind 0
+abbrev pub ShowsSet : Rect → SquareSet → LaidTile → Type 0
+ShowsSet rect set tile =
+    (x y : ℕ) → holds rect x y ≡ true → holds tile.piece.rect x y ≡ true → tile.piece.kind ≡ (if set x y then 1 else 0)
+
+-- the tile is space, or of kind 1 with all its squares of the rectangle in the set
+abbrev pub IsSettled : Rect → SquareSet → LaidTile → Type 0
+IsSettled rect set tile =
+    (x y : ℕ) → holds rect x y ≡ true → holds tile.piece.rect x y ≡ true → tile.piece.kind ≢ 0 → (tile.piece.kind ≡ 1) × (set x y ≡ true)
+
+-- how many squares of the rectangle a tile of space has, and none any other
+abbrev pub space_size : Rect → LaidTile → ℕ
+space_size rect tile = if tile.piece.kind == 0 then size_of (common tile.piece.rect rect) else 0

@@ -52,6 +52,12 @@ pub fn remarking_replaces_marks()
         → is_marked (remarked below rect set) x y ≡ (if holds rect x y then set x y else is_marked below x y) }
 {}
 
+/// Where a rectangle has the marks of the set already, marking it anew changes nothing.
+pub fn remarking_the_same_changes_nothing()
+    ensures { (below : Picture) (rect : Rect) (set : SquareSet)
+        → ((x y : ℕ) → holds rect x y ≡ true → below x y ≡ (if set x y then 1 else 0)) → remarked below rect set ≡ below }
+{}
+
 /// Where checking begins, with an empty layout, the marks are right outside the areas.
 pub fn openings_are_checked()
     ensures { (rules : List EdgeRule) → IsChecked rules (λ plane. empty_picture) (opening_checking rules) }

@@ -9,6 +9,8 @@ pub mod laws;
 mod mark_pieces;
 mod marks;
 mod opening;
+mod shown_marks;
+mod sizes;
 mod violated;
 
 pub use catching_up::CaughtUp;

@@ -6,6 +6,7 @@ ghost use Rattle.mls_errorplane.specs.PaintedMarks.{Paints};
 ghost use Rattle.mls_geom.specs.Rects.{IsRectangleIn};
 ghost use Rattle.mls_geom.specs.World.{world};
 
+use crate::dirty::lies_in_world;
 use mls_checker::Marks;
 use mls_geom::{Area, Piece, Rect};
 
@@ -18,7 +19,8 @@ pub(crate) fn list_pieces(found: &Marks, pieces: &mut Vec<Piece>)
     ensures room { vec_capacity pieces.new ≡ vec_capacity pieces.old }
 {
     let rect = found.rect();
-    rect.area();
+    // Where the areas lie in the rectangle, they lie in the world, too.
+    lies_in_world(rect);
     pieces.clear();
     pieces.push_reserved(Piece { rect, kind: 0 });
     list_areas(rect, found.areas(), pieces);

@@ -11,16 +11,19 @@ ghost use Rattle.mls_tilepool.specs.Pools.{room_of};
 ghost use Rattle.mls_errorplane.specs.MarkPlanes.{marked_count, marked_size, most_pieces, remarked};
 
 use crate::mark_pieces::list_pieces;
+use crate::shown_marks::show;
+use crate::sizes::size_of;
 use mls_checker::Finding;
 use mls_geom::Piece;
-use mls_paint::{Scratch, TooManyTiles, overlay, strips_of};
+use mls_paint::{Scratch, TooManyTiles, find_area, overlay, strips_of, tile_count};
 use mls_stitch::Plane;
 use mls_tilepool::Pool;
 
 /// Marks the squares of a finding's piece as the finding says, and leaves all other squares as they are.
 ///
 /// The pieces that this takes are made in `pieces`, which like the scratch must have room for one for every second square
-/// of the finding's piece, and for one more. So no memory is taken, however many areas the finding has.
+/// of the finding's piece, and for one more. So no memory is taken, however many areas the finding has. Where the plane shows
+/// the finding's marks already, nothing is painted.
 ///
 /// Fails if the plane would then have more than `limit` tiles, and leaves it as it was.
 pub fn mark(
@@ -47,8 +50,24 @@ pub fn mark(
     ensures pieces_room { vec_capacity pieces.new ≡ vec_capacity pieces.old }
     ensures rooms { KeepsRoom scratch.old scratch.new }
 {
-    list_pieces(finding.marks(), pieces);
+    let found = finding.marks();
+    find_area(pool, plane, found.rect(), scratch);
+    if show(scratch.tiles(), found) {
+        return keep(pool, plane, limit);
+    }
+    list_pieces(found, pieces);
     overlay(pool, plane, pieces, limit, scratch)?;
+    Ok(())
+}
+
+/// Fails if the plane has more than `limit` tiles.
+fn keep(pool: &Pool, plane: &Plane, limit: u32) -> Result<(), TooManyTiles>
+    requires { HasStrips pool.now plane.now }
+    ensures { IsErr result ↔ (limit < tile_count world (picture_in pool.now plane.now)) }
+{
+    if tile_count(pool, plane) > limit {
+        return Err(TooManyTiles);
+    }
     Ok(())
 }
 
@@ -74,6 +93,5 @@ fn marked_size(piece: Piece) -> u64
     if piece.kind == 0 {
         return 0;
     }
-    let area = piece.rect.area();
-    u64::from(area.right - area.left) * u64::from(area.top - area.bottom)
+    size_of(&piece.rect.area())
 }

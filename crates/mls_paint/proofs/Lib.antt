@@ -1,5 +1,6 @@
 pub mod AreaKinds
 pub mod ChangedTiles
+pub mod KeptSweeps
 pub mod ListedTouched
 pub mod OwnerFrames
 pub mod PaintedPlanes

@@ -3,3 +3,4 @@ pub mod Owners
 pub mod Painting
 pub mod Planes
 pub mod Scratches
+pub mod Sweeps

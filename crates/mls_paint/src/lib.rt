@@ -6,6 +6,8 @@ mod changes;
 mod paint;
 mod planes;
 mod scratch;
+mod sweeps;
+mod swept;
 
 pub use paint::{Painted, TooManyTiles, fits, overlay, overlay_within};
 pub use planes::{find_area, kinds, release_plane, space_plane, strips_of, tile_count};

@@ -14,7 +14,8 @@ ghost use Rattle.mls_paint.specs.Scratches.{HasRoomFor, KeepsRoom};
 use crate::Scratch;
 use crate::changes::list_changes;
 use crate::planes::read_count;
-use mls_geom::{Piece, Scratch as Sweep, TooMany, fresh_strips};
+use crate::sweeps::Sweeps;
+use mls_geom::{Piece, TooMany};
 use mls_stitch::{LaidTile, Plane};
 use mls_tilepool::Pool;
 use thiserror::Error;
@@ -174,7 +175,7 @@ fn find_fresh(
     count: usize,
     limit: u32,
     touched: &mut Vec<Piece>,
-    sweep: &mut Sweep,
+    sweep: &mut Sweeps,
 ) -> Result<(), TooManyTiles>
     requires some { length tiles.now ≤ count }
     requires tiles_fit { length tiles.now ≤ vec_capacity touched.old }
@@ -191,7 +192,7 @@ fn find_fresh(
 {
     list_pieces(tiles, touched);
     let limit = limit as usize;
-    let fresh = fresh_strips(touched, over, limit, sweep)?;
+    let fresh = sweep.find(touched, over, limit)?;
     let kept = count - tiles.len();
     if limit - fresh < kept {
         return Err(TooManyTiles);

@@ -1,7 +1,8 @@
 //! Lists in which planes are painted and searched.
 ghost use Rattle.std.specs.Prelude.{◌≡◌, ◌+◌, ◌≤◌, [], IfOk};
 
-use mls_geom::{Piece, Scratch as Sweep};
+use crate::sweeps::Sweeps;
+use mls_geom::Piece;
 use mls_stitch::{LaidTile, Scratch as Search};
 use mls_tilepool::TileId;
 use std::alloc::{AllocError, Global};
@@ -15,7 +16,7 @@ pub struct Scratch {
     room: usize,
     pieces: usize,
     pub(crate) search: Search,
-    pub(crate) sweep: Sweep,
+    pub(crate) sweep: Sweeps,
     pub(crate) touched: Vec<Piece>,
     // The tiles that are to give way, and the strips that are to take their place.
     pub(crate) names: Vec<TileId>,
@@ -48,7 +49,7 @@ impl Scratch {
             room,
             pieces,
             search,
-            sweep: Sweep::new(alloc, room + pieces)?,
+            sweep: Sweeps::new(alloc, room + pieces)?,
             touched: Vec::with_capacity(alloc, room)?,
             names: Vec::with_capacity(alloc, room)?,
             fresh: Vec::with_capacity(alloc, room)?,

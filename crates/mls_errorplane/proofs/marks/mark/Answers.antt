@@ -1,14 +1,47 @@
-use Rattle.std.proofs.Common.{◌≡◌, ℕ, ◌<◌, false, true, ap, subst}
+use Rattle.std.proofs.Common.{◌≡◌, ℕ, ◌<◌, ◌↔◌, IsErr, false, true, sym, ap, subst, ◌∙◌}
+use Rattle.mls_geom.specs.Pictures.{Picture, overlaid}
 use Rattle.mls_geom.specs.TileCounts.{tile_count}
 use Rattle.mls_geom.specs.World.{world}
 use Rattle.mls_paint.specs.Planes.{picture_in}
 use Rattle.mls_errorplane.proofs.PaintedPieces.{overlaid-Paints}
+use Rattle.mls_errorplane.proofs.ShownMarks.{on_ok, remarked-found}
 use Rattle.mls_errorplane.proofs.marks.mark.Goals as goal
+
+pub returns-then-show-clause-marks : goal.returns-then-show-clause-marks
+returns-then-show-clause-marks c =
+    let same =
+    remarked-found c.args.pool.now c.args.plane.now c.marks-found.result.now c.args.finding.now c.rect.result c.find_area.new.scratch.tiles c.tiles.result.now c.requires.strips.plane
+    c.find_area.ensures.found c.rect.ensures c.tiles.ensures (c.show.ensures c.if-show.true) c.marks-found.ensures.value c.marks-found.ensures.exact.rect in
+    on_ok c.keep.result (sym same)
+
+pub returns-then-show-clause-too_many : goal.returns-then-show-clause-too_many
+returns-then-show-clause-too_many c =
+    let same =
+    remarked-found c.args.pool.now c.args.plane.now c.marks-found.result.now c.args.finding.now c.rect.result c.find_area.new.scratch.tiles c.tiles.result.now c.requires.strips.plane
+    c.find_area.ensures.found c.rect.ensures c.tiles.ensures (c.show.ensures c.if-show.true) c.marks-found.ensures.value c.marks-found.ensures.exact.rect in
+    let full =
+    subst (λ (owner : ℕ). IsErr c.keep.result ↔ (c.args.limit < tile_count world (picture_in c.args.pool.now owner))) c.find_area.ensures.plane c.keep.ensures in
+    subst (λ (picture : Picture). IsErr c.keep.result ↔ (c.args.limit < tile_count world picture)) (sym same) full
+
+pub returns-clause-marks : goal.returns-clause-marks
+returns-clause-marks c =
+    let below = picture_in c.args.pool.now c.args.plane.now in
+    let painted =
+    overlaid-Paints c.list_pieces.new.pieces.items c.deref.result.now c.marks-found.result.now c.args.finding.now below c.list_pieces.ensures.painted c.deref.ensures.value
+    c.marks-found.ensures.value c.marks-found.ensures.exact.rect in
+    subst (λ (owner : ℕ). picture_in c.overlay.new.pool owner ≡ overlaid (picture_in c.args.pool.now owner) c.deref.result.now) c.find_area.ensures.plane
+    c.in_ok-overlay.ensures.picture
+    ∙ painted
 
 pub returns-clause-too_many : goal.returns-clause-too_many
 returns-clause-too_many c =
     let below = picture_in c.args.pool.now c.args.plane.now in
     let painted =
-    overlaid-Paints c.list_pieces.new.pieces.items c.deref.result.now c.marks.result.now c.args.finding.now below c.list_pieces.ensures.painted c.deref.ensures.value
-    c.marks.ensures.value c.marks.ensures.exact.rect in
-    subst (λ (count : ℕ). (false ≡ true → c.args.limit < count) × (c.args.limit < count → false ≡ true)) (ap (tile_count world) painted) c.in_ok-overlay.ensures.too_many
+    overlaid-Paints c.list_pieces.new.pieces.items c.deref.result.now c.marks-found.result.now c.args.finding.now below c.list_pieces.ensures.painted c.deref.ensures.value
+    c.marks-found.ensures.value c.marks-found.ensures.exact.rect in
+    let full =
+    subst (λ (owner : ℕ).
+    (false ≡ true → c.args.limit < tile_count world (overlaid (picture_in c.args.pool.now owner) c.deref.result.now))
+    × (c.args.limit < tile_count world (overlaid (picture_in c.args.pool.now owner) c.deref.result.now) → false ≡ true)) c.find_area.ensures.plane
+    c.in_ok-overlay.ensures.too_many in
+    subst (λ (count : ℕ). (false ≡ true → c.args.limit < count) × (c.args.limit < count → false ≡ true)) (ap (tile_count world) painted) full

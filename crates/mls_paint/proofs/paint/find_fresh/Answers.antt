@@ -10,10 +10,10 @@ AreLegal-over : (touched over : List Piece) → AreLegal (touched ++ over) → A
 AreLegal-over = All-append_right (λ piece. IsRectangleIn world piece.rect)
 
 pub returns-in_err-fresh-clause-legal : goal.returns-in_err-fresh-clause-legal
-returns-in_err-fresh-clause-legal c = AreLegal-over c.deref.result.now c.args.over.now c.fresh_strips.ensures.pieces_legal
+returns-in_err-fresh-clause-legal c = AreLegal-over c.deref.result.now c.args.over.now c.find.ensures.legal
 
 pub returns-then-limit-fresh-clause-legal : goal.returns-then-limit-fresh-clause-legal
-returns-then-limit-fresh-clause-legal c = AreLegal-over c.deref.result.now c.args.over.now c.fresh_strips.ensures.pieces_legal
+returns-then-limit-fresh-clause-legal c = AreLegal-over c.deref.result.now c.args.over.now c.find.ensures.legal
 
 pub returns-clause-legal : goal.returns-clause-legal
-returns-clause-legal c = AreLegal-over c.deref.result.now c.args.over.now c.fresh_strips.ensures.pieces_legal
+returns-clause-legal c = AreLegal-over c.deref.result.now c.args.over.now c.find.ensures.legal

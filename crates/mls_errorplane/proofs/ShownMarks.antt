@@ -1,0 +1,126 @@
+-- Tiles that show a set of squares already.
+use Rattle.std.proofs.Common.{◌≡◌, ◌≢◌, ℕ, ◌+◌, ◌≤◌, ◌==◌, Bool, ◌||◌, ◌&&◌, true, false, cond, if◌then◌else◌, true≢false, inl, inr, List, get_or, All, Any, IsTrue, Result, Ok, Err, OnOk, eq-eqb, eqb-true, refl, sym, ap, subst, ◌∙◌, arith}
+use Rattle.std.specs.List.{list_any, sum_by}
+use Rattle.std.proofs.Math.Path.{fun_ext}
+use Rattle.std.proofs.lemmas.Bool.{and_from, cases_Bool, cond-false, cond-true, or_left, or_right}
+use Rattle.std.proofs.lemmas.List.Elements.{All-contains}
+use Rattle.std.proofs.lemmas.List.Folds.{list_any_at, list_any-from_Any}
+use Rattle.mls_geom.specs.Pictures.{Picture}
+use Rattle.mls_geom.specs.Rects.{Rect, common, holds}
+use Rattle.mls_tilepool.specs.Pools.{Pool, tiles_of}
+use Rattle.mls_stitch.specs.Areas.{AreInArea}
+use Rattle.mls_stitch.specs.Tilings.{HasPlane, block_at}
+use Rattle.mls_stitch.specs.declared.laid_tile.LaidTile.{LaidTile}
+use Rattle.mls_paint.specs.Planes.{picture_in}
+use Rattle.mls_checker.specs.Findings.{Finding}
+use Rattle.mls_checker.specs.Marking.{AreInside, Marks, SquareSet, marks, squares_of}
+use Rattle.mls_checker.proofs.Copying.{found-HasPiece}
+use Rattle.mls_errorplane.specs.MarkPlanes.{remarked}
+use Rattle.mls_errorplane.specs.PaintedMarks.{IsSettled, ShowsSet, space_size}
+use Rattle.mls_errorplane.specs.Sizes.{size_of}
+use Rattle.mls_errorplane.proofs.CoveredOnce.{apart-from_counts, count_in-common, count_in-list}
+use Rattle.mls_errorplane.proofs.SquareCounts.{count_in, count_in-none, count_in-rect}
+
+-- the squares of a tile of space
+abbrev in_space : LaidTile → ℕ → ℕ → Bool
+in_space tile x y = (tile.piece.kind == 0) && holds tile.piece.rect x y
+
+-- ---- numbers of squares
+kind-le : (extent r : Rect) (is_space : Bool) → count_in extent (λ x y. is_space && holds r x y) ≤ cond is_space (size_of (common r extent)) 0
+kind-le e r true = count_in-common e r
+kind-le e r false = let none : count_in e (λ x y. false) ≡ 0 = count_in-none e in omega (arith, none)
+
+space-le : (rect : Rect) (tiles : List LaidTile) → count_in rect (λ x y. list_any (λ tile. in_space tile x y) tiles) ≤ sum_by (space_size rect) tiles
+space-le rect tiles = count_in-list rect in_space (space_size rect) tiles (λ k tile within. kind-le rect (get_or tiles k tile).piece.rect ((get_or tiles k tile).piece.kind == 0))
+
+areas-le : (rect : Rect) (areas : List Rect) → AreInside rect areas → count_in rect (squares_of areas) ≤ sum_by size_of areas
+areas-le rect areas inside =
+    count_in-list rect (λ (area : Rect). holds area) size_of areas
+    (λ k area within. let size : count_in rect (holds (get_or areas k area)) ≡ size_of (get_or areas k area) = count_in-rect rect (get_or areas k area) (inside k area within) in omega (arith, size))
+
+-- ---- the tiles
+not_zero : (n : ℕ) → (n == 0) ≡ false → n ≢ 0
+not_zero n other is = true≢false (sym (eq-eqb n 0 is) ∙ other)
+
+and_true_out : (a : Bool) → (a && true) ≡ false → a ≡ false
+and_true_out true none = absurd (true≢false none)
+and_true_out false none = refl
+
+left_out : (a b : Bool) → (a && b) ≡ false → b ≡ true → a ≡ false
+left_out a true none here = and_true_out a none
+left_out a false none here = absurd (true≢false (sym here))
+
+sum-le : (a b c d e : ℕ) → a ≤ c → b ≤ d → d + c ≤ e → a + b ≤ e
+sum-le a b c d e one other both = omega (arith, one, other, both)
+
+-- settled tiles show the set, if the set and the space among them have no more squares than the rectangle
+pub ShowsSet-settled :
+    (tiles : List LaidTile) (rect : Rect) (areas : List Rect) → AreInside rect areas
+    → ((x y : ℕ) → holds rect x y ≡ true → Any (λ tile. IsTrue (holds tile.piece.rect x y)) tiles) → All (IsSettled rect (squares_of areas)) tiles
+    → sum_by (space_size rect) tiles + sum_by size_of areas ≤ size_of rect → All (ShowsSet rect (squares_of areas)) tiles
+ShowsSet-settled tiles rect areas inside whole settled few k d within x y here held =
+    let tile = get_or tiles k d in
+    let space : ℕ → ℕ → Bool = λ x y. list_any (λ t. in_space t x y) tiles in
+    let covered : (x y : ℕ) → holds rect x y ≡ true → (squares_of areas x y || space x y) ≡ true = λ x y inside.
+    (let (i, t, at, is, holding) = whole x y inside in
+    elim (cases_Bool (t.piece.kind == 0)) [
+      | inl is_space ↦ or_right (squares_of areas x y) (space x y) (list_any-from_Any (λ (u : LaidTile). in_space u x y) tiles (i, t, at, is, and_from _ _ is_space holding))
+      | inr marked ↦ or_left (squares_of areas x y) (space x y)
+          ((All-contains (IsSettled rect (squares_of areas)) tiles t settled (i, at, is) x y inside holding (not_zero t.piece.kind marked)).1)
+    ]) in
+    let apart =
+    apart-from_counts rect (squares_of areas) space covered (sum-le _ _ _ _ _ (areas-le rect areas inside) (space-le rect tiles) few) x y here in
+    elim (cases_Bool (tile.piece.kind == 0)) [
+      | inl is_space ↦ (let there = list_any_at (λ (t : LaidTile). in_space t x y) tiles k d within (and_from _ _ is_space held) in
+          eqb-true tile.piece.kind 0 is_space ∙ sym (cond-false (squares_of areas x y) 1 0 (left_out (squares_of areas x y) (space x y) apart there)))
+      | inr marked ↦ (let both = settled k d within x y here held (not_zero tile.piece.kind marked) in
+          both.0 ∙ sym (cond-true (squares_of areas x y) 1 0 both.1))
+    ]
+
+-- a picture in which a rectangle has the marks of a set already is as it is when the rectangle is marked anew
+pub remarked-same :
+    (below : Picture) (rect : Rect) (set : SquareSet) → ((x y : ℕ) → holds rect x y ≡ true → below x y ≡ (if set x y then 1 else 0)) → remarked below rect set ≡ below
+remarked-same below rect set same = fun_ext (λ x. fun_ext (λ y. elim (cases_Bool (holds rect x y)) [
+  | inl here ↦ cond-true (holds rect x y) (if set x y then 1 else 0) (below x y) here ∙ sym (same x y here)
+  | inr outside ↦ cond-false (holds rect x y) (if set x y then 1 else 0) (below x y) outside
+]))
+
+-- where each tile found in a rectangle shows a set, marking it anew changes nothing
+pub remarked-shown :
+    (pool : Pool) (owner : ℕ) (rect : Rect) (found : List LaidTile) (set : SquareSet) → HasPlane pool owner → AreInArea (block_at (tiles_of pool owner)) rect found
+    → All (ShowsSet rect set) found → remarked (picture_in pool owner) rect set ≡ picture_in pool owner
+remarked-shown pool owner rect found set plane are shows =
+    remarked-same (picture_in pool owner) rect set (λ x y here.
+    let (k, tile, within, is, held) = are.whole x y here in
+    found-HasPiece pool owner rect found found k tile plane are refl within (sym is) x y held
+    ∙ All-contains (ShowsSet rect set) found tile shows (k, within, is) x y here held)
+
+-- ---- a finding
+-- settled tiles show the marks
+pub ShowsSet-found :
+    (tiles : List LaidTile) (rect : Rect) (areas : List Rect) (found : Marks) → rect ≡ found.rect → areas ≡ found.areas → AreInside found.rect found.areas
+    → ((x y : ℕ) → holds found.rect x y ≡ true → Any (λ tile. IsTrue (holds tile.piece.rect x y)) tiles) → All (IsSettled rect (squares_of areas)) tiles
+    → sum_by (space_size rect) tiles + sum_by size_of areas ≤ size_of rect → All (ShowsSet found.rect (marks found)) tiles
+ShowsSet-found tiles rect areas found of_marks listed inside whole settled few =
+    ShowsSet-settled tiles found.rect found.areas inside whole
+    (subst (λ (e : Rect). All (IsSettled e (squares_of found.areas)) tiles) of_marks (subst (λ (list : List Rect). All (IsSettled rect (squares_of list)) tiles) listed settled))
+    (subst (λ (e : Rect). sum_by (space_size e) tiles + sum_by size_of found.areas ≤ size_of e) of_marks
+    (subst (λ (list : List Rect). sum_by (space_size rect) tiles + sum_by size_of list ≤ size_of rect) listed few))
+
+-- where each of them shows the marks, marking the finding changes nothing
+pub remarked-found :
+    (pool : Pool) (owner : ℕ) (found : Marks) (finding : Finding) (area : Rect) (tiles listed : List LaidTile) → HasPlane pool owner
+    → AreInArea (block_at (tiles_of pool owner)) area tiles → area ≡ found.rect → listed ≡ tiles → All (ShowsSet found.rect (marks found)) listed → found ≡ finding.marks
+    → finding.marks.rect ≡ finding.piece → remarked (picture_in pool owner) finding.piece (marks finding.marks) ≡ picture_in pool owner
+remarked-found pool owner found finding area tiles listed plane are of_marks same shows is of_piece =
+    let below = picture_in pool owner in
+    let here : AreInArea (block_at (tiles_of pool owner)) found.rect listed =
+    subst (λ (list : List LaidTile). AreInArea (block_at (tiles_of pool owner)) found.rect list) (sym same)
+    (subst (λ (e : Rect). AreInArea (block_at (tiles_of pool owner)) e tiles) of_marks are) in
+    sym (ap (λ (m : Marks). remarked below m.rect (marks m)) is ∙ ap (λ (e : Rect). remarked below e (marks finding.marks)) of_piece)
+    ∙ remarked-shown pool owner found.rect listed (marks found) plane here shows
+
+-- a fact for an `Ok` that holds anyway
+pub on_ok : {A E P : Type 0} → (r : Result A E) → P → OnOk r P
+on_ok (Ok value) fact = fact
+on_ok (Err fault) fact = tt
