@@ -1,3 +1,4 @@
+pub mod AheadLemmas
 pub mod Chunks
 pub mod NextLineLemmas
 pub mod OpenLines

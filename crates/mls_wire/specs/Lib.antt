@@ -1,3 +1,4 @@
+pub mod Ahead
 pub mod LineReaders
 pub mod Lines
 pub mod NameBooks
@@ -7,5 +8,6 @@ pub mod Replies
 pub mod Runs
 pub mod Says
 pub mod ScriptLines
+pub mod SeatTexts
 pub mod Serving
 pub mod Watches

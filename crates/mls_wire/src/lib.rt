@@ -1,6 +1,7 @@
 //! Script lines in, reply lines out.
 #![tactic(auto)]
 
+mod ahead;
 mod executing;
 mod line;
 mod names;
@@ -13,13 +14,14 @@ mod script_line;
 mod serving;
 mod watched;
 
+pub use ahead::read_script;
 pub use executing::respond;
 pub use line::{Line, LineFault};
 pub use mls_server::Name;
 pub use names::Names;
 pub use parse::parse_line;
-pub use reply::push_response;
+pub use reply::{push_differs, push_response, push_saved};
 pub use response::Response;
 pub use script_line::ScriptLine;
-pub use serving::{ServeFault, serve};
+pub use serving::{ServeFault, send, serve};
 pub use watched::{ReadFault, Watched, WriteFault};

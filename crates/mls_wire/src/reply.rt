@@ -6,12 +6,13 @@ ghost use Rattle.mls_kinds.specs.KindSets.{members};
 ghost use Rattle.mls_server.specs.Faults.{open_fault_number, open_fault_text};
 ghost use Rattle.mls_session.specs.Refusals.{refusal_number, refusal_text};
 ghost use Rattle.mls_wire.specs.Replies as spec;
+ghost use Rattle.mls_wire.specs.SeatTexts.{differs_text};
 
 use crate::{Names, Response};
 use itoa::{Buffer, Integer};
 use mls_errorplane::Stepped;
 use mls_kinds::KindSet;
-use mls_server::{Answer, Name, OpenFault};
+use mls_server::{Answer, Name, NotOpen, OpenFault};
 use mls_session::{Refusal, Reply};
 use std::alloc::AllocError;
 
@@ -42,6 +43,30 @@ pub fn push_response<N: Names>(
             out.extend_from_slice(b"\n")
         }
     }
+}
+
+/// Appends the reply text to a save, and the text that was saved.
+#[tactic(auto, unfolding(crate::specs::Replies::answer_text))]
+pub fn push_saved<N: Names>(
+    names: &N,
+    name: &Name,
+    saved: Result<Reply, NotOpen>,
+    text: &[u8],
+    out: &mut Vec<u8>,
+) -> Result<(), AllocError>
+    ensures { OnOk result (out.new.items ≡ out.old.items ++ spec.answer_text (N.book names.now) name.now (Answer.Saved saved text.now)) }
+{
+    match saved {
+        Ok(reply) => push_replied(names, name, reply, text, out),
+        Err(_) => Ok(()),
+    }
+}
+
+/// Appends that the list of the session's seat isn't that of its journal.
+pub fn push_differs(name: &Name, out: &mut Vec<u8>) -> Result<(), AllocError>
+    ensures { OnOk result (out.new.items ≡ out.old.items ++ differs_text name.now) }
+{
+    push_words(name, b" differs\n", out)
 }
 
 /// Appends the reply text of an answer. Answers that no line has are of no text.

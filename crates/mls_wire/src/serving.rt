@@ -143,7 +143,11 @@ fn serve_line<W: Write>(
 }
 
 /// Writes bytes and flushes them.
-fn send<W: Write>(bytes: &[u8], output: &mut Watched<W>) -> Result<(), WriteFault>
+///
+/// # Errors
+///
+/// The output failed. A beginning of the bytes was written then.
+pub fn send<W: Write>(bytes: &[u8], output: &mut Watched<W>) -> Result<(), WriteFault>
     ensures ok { OnOk result (Appends (W.contents output.old.device) (W.contents output.new.device) bytes.now) }
     ensures err { OnErr result (AppendsFront (W.contents output.old.device) (W.contents output.new.device) bytes.now) }
     ensures cause { OnErr result (HasCause output.new) }
