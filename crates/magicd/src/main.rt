@@ -1,26 +1,22 @@
 //! `magicd`: a layout server on standard input and output.
 #![tactic(auto)]
 
-use mls_magicd::{HostFiles, OptionsFault, fail, run};
-use mls_wire::Watched;
+use mls_magicd::{HostFiles, OptionsFault, Streams, fail, run};
 use std::env;
 use std::io::ErrorKind;
 use std::process::ExitCode;
 
 fn main(rt: HostRuntime) -> ExitCode {
-    let mut input = Watched::new(rt.stdin());
-    let mut output = Watched::new(rt.stdout());
-    let mut faults = Watched::new(rt.stderr());
+    let mut streams = Streams::new(rt.stdin(), rt.stdout(), rt.stderr());
     let status = match command_line(&rt) {
         Ok(words) => run(
+            &rt,
             rt.alloc(),
             words.as_slice(),
             &HostFiles::new(&rt),
-            &mut input,
-            &mut output,
-            &mut faults,
+            &mut streams,
         ),
-        Err(fault) => fail(&mut faults, &fault.into()),
+        Err(fault) => fail(&mut streams.faults, &fault.into()),
     };
     ExitCode::from(status)
 }

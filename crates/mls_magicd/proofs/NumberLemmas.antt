@@ -1,5 +1,5 @@
 -- The number that is named is the one that is given.
-use Rattle.std.proofs.Common.{◌≡◌, ◌∙◌, ◌<◌, ◌≤◌, ◌^◌, ℕ, List, Option, Some, None, Result, subst}
+use Rattle.std.proofs.Common.{◌≡◌, ◌∙◌, ◌<◌, ◌≤◌, ◌^◌, ℕ, List, Option, Some, None, Result, sym, subst}
 use Rattle.std.specs.Prelude.{pos}
 use Rattle.std.specs.Option.{MatchOption, SomeIff, UnwrapsOrElse}
 use Rattle.std.specs.Str.Parse.{ParsesUnsigned, ExplainsUnsignedError, HasUnsignedDigitsIfOk}
@@ -7,7 +7,7 @@ use Rattle.std.specs.declared.num.ParseIntError.{ParseIntError}
 use Rattle.clap.specs.Words.{IsSignedIn, ReadsOne, Text, one_text, without_minus}
 use Rattle.clap.proofs.CallerReads.{signed_reads}
 use Rattle.clap.specs.declared.parser.matches.Found.{Found}
-use Rattle.mls_magicd.specs.CommandLines.{NumberOption, number_in}
+use Rattle.mls_magicd.specs.CommandLines.{IsNumberFor, IsNumberOf, NumberOption, number_in, number_named}
 
 -- the parser takes the text for a number of the option
 abbrev pub IsNumberText : NumberOption → Text → Type 0
@@ -53,3 +53,11 @@ module _ (option : NumberOption) (IsLegal : ℕ → Type 0) (read made_of : Opti
         (λ u x given. given.0) fits is_text.2 in
         value_of_text text in_range.0 reads in_range.1 (legal in_range.0 in_range.2 in_range.3);
   }
+
+-- the words name one number
+pub number-unique : (option : NumberOption) (words : List Text) (n m : ℕ) → IsNumberFor option words n → IsNumberFor option words m → n ≡ m
+number-unique option words n m = go (number_named option words)
+  where
+    go : (o : Option Text) → IsNumberOf option o n → IsNumberOf option o m → n ≡ m
+    go None is also = is ∙ sym also
+    go (Some text) is also = is ∙ sym also

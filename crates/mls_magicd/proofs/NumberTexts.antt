@@ -22,17 +22,17 @@ use Rattle.clap.specs.declared.builder.value_parser.ValueParser.TheVariants.{Sig
 use Rattle.clap.specs.declared.parser.matches.ArgMatches.{ArgMatches}
 use Rattle.clap.specs.declared.parser.matches.MatchedArg.{MatchedArg}
 use Rattle.mls_magicd.proofs.NumberLemmas.{IsNumberText}
-use Rattle.mls_magicd.specs.CommandLines.{NumberOption, magicd, tech_rule, number_rule, cells_rule, quota_option, pool_option, journal_option}
+use Rattle.mls_magicd.specs.CommandLines.{NumberOption, magicd, tech_rule, number_rule, cells_rule, quota_option, pool_option, journal_option, workers_option}
 
 -- the rules of the command's arguments
 abbrev pub own_rules : List Rule
-own_rules = tech_rule ∷ number_rule quota_option ∷ number_rule pool_option ∷ number_rule journal_option ∷ cells_rule ∷ []
+own_rules = tech_rule ∷ number_rule quota_option ∷ number_rule pool_option ∷ number_rule journal_option ∷ number_rule workers_option ∷ cells_rule ∷ []
 
 -- at this place stands the rule of the option, at no other one that has its name, which is not empty, and the parser adds none of that name
 pub record StandsAt (option : NumberOption) (place : ℕ) : Type 0 where
-  pub within : place < 5
+  pub within : place < 6
   pub rule : get_or own_rules place tech_rule ≡ number_rule option
-  pub alone : (j : ℕ) → j < 5 → bytes_eq (get_or own_rules j tech_rule).id option.name ≡ true → j ≡ place
+  pub alone : (j : ℕ) → j < 6 → bytes_eq (get_or own_rules j tech_rule).id option.name ≡ true → j ≡ place
   pub named : option.name ≡ [] → ⊥
   pub own : (option.name ≡ codes "help") ⊎ (option.name ≡ codes "version") → ⊥
 
@@ -42,29 +42,41 @@ not_added : (name : Text) (first : ℕ) → get_or name 0 0 ≡ first → (first
 not_added name first is no_h no_v (inl help) = no_h (sym is ∙ ap (λ (t : Text). get_or t 0 0) help)
 not_added name first is no_h no_v (inr version) = no_v (sym is ∙ ap (λ (t : Text). get_or t 0 0) version)
 
-quota-alone : (j : ℕ) → j < 5 → bytes_eq (get_or own_rules j tech_rule).id (codes "quota") ≡ true → j ≡ 1
+quota-alone : (j : ℕ) → j < 6 → bytes_eq (get_or own_rules j tech_rule).id (codes "quota") ≡ true → j ≡ 1
 quota-alone zero low same = let bad : false ≡ true = same in cc
 quota-alone (suc zero) low same = refl
 quota-alone (suc (suc zero)) low same = let bad : false ≡ true = same in cc
 quota-alone (suc (suc (suc zero))) low same = let bad : false ≡ true = same in cc
 quota-alone (suc (suc (suc (suc zero)))) low same = let bad : false ≡ true = same in cc
-quota-alone (suc (suc (suc (suc (suc j))))) low same = absurd (omega (arith, low))
+quota-alone (suc (suc (suc (suc (suc zero))))) low same = let bad : false ≡ true = same in cc
+quota-alone (suc (suc (suc (suc (suc (suc j)))))) low same = absurd (omega (arith, low))
 
-pool-alone : (j : ℕ) → j < 5 → bytes_eq (get_or own_rules j tech_rule).id (codes "pool") ≡ true → j ≡ 2
+pool-alone : (j : ℕ) → j < 6 → bytes_eq (get_or own_rules j tech_rule).id (codes "pool") ≡ true → j ≡ 2
 pool-alone zero low same = let bad : false ≡ true = same in cc
 pool-alone (suc zero) low same = let bad : false ≡ true = same in cc
 pool-alone (suc (suc zero)) low same = refl
 pool-alone (suc (suc (suc zero))) low same = let bad : false ≡ true = same in cc
 pool-alone (suc (suc (suc (suc zero)))) low same = let bad : false ≡ true = same in cc
-pool-alone (suc (suc (suc (suc (suc j))))) low same = absurd (omega (arith, low))
+pool-alone (suc (suc (suc (suc (suc zero))))) low same = let bad : false ≡ true = same in cc
+pool-alone (suc (suc (suc (suc (suc (suc j)))))) low same = absurd (omega (arith, low))
 
-journal-alone : (j : ℕ) → j < 5 → bytes_eq (get_or own_rules j tech_rule).id (codes "journal") ≡ true → j ≡ 3
+journal-alone : (j : ℕ) → j < 6 → bytes_eq (get_or own_rules j tech_rule).id (codes "journal") ≡ true → j ≡ 3
 journal-alone zero low same = let bad : false ≡ true = same in cc
 journal-alone (suc zero) low same = let bad : false ≡ true = same in cc
 journal-alone (suc (suc zero)) low same = let bad : false ≡ true = same in cc
 journal-alone (suc (suc (suc zero))) low same = refl
 journal-alone (suc (suc (suc (suc zero)))) low same = let bad : false ≡ true = same in cc
-journal-alone (suc (suc (suc (suc (suc j))))) low same = absurd (omega (arith, low))
+journal-alone (suc (suc (suc (suc (suc zero))))) low same = let bad : false ≡ true = same in cc
+journal-alone (suc (suc (suc (suc (suc (suc j)))))) low same = absurd (omega (arith, low))
+
+workers-alone : (j : ℕ) → j < 6 → bytes_eq (get_or own_rules j tech_rule).id (codes "workers") ≡ true → j ≡ 4
+workers-alone zero low same = let bad : false ≡ true = same in cc
+workers-alone (suc zero) low same = let bad : false ≡ true = same in cc
+workers-alone (suc (suc zero)) low same = let bad : false ≡ true = same in cc
+workers-alone (suc (suc (suc zero))) low same = let bad : false ≡ true = same in cc
+workers-alone (suc (suc (suc (suc zero)))) low same = refl
+workers-alone (suc (suc (suc (suc (suc zero))))) low same = let bad : false ≡ true = same in cc
+workers-alone (suc (suc (suc (suc (suc (suc j)))))) low same = absurd (omega (arith, low))
 
 pub quota_stands : StandsAt quota_option 1
 quota_stands = record {
@@ -93,17 +105,26 @@ journal_stands = record {
   own = not_added (codes "journal") 106 refl (λ e. absurd (omega (arith, e))) (λ e. absurd (omega (arith, e)));
 }
 
+pub workers_stands : StandsAt workers_option 4
+workers_stands = record {
+  within = omega arith;
+  rule = refl;
+  alone = workers-alone;
+  named = λ empty. let bad : 7 ≡ 0 = ap length empty in absurd (omega (arith, bad));
+  own = not_added (codes "workers") 119 refl (λ e. absurd (omega (arith, e))) (λ e. absurd (omega (arith, e)));
+}
+
 built-rules : (command : Command) → app_of command ≡ magicd → map rule_of (args_of command) ≡ own_rules
 unfolding magicd
 built-rules command built = ap (λ (a : App). a.top.rules) built
 
-built-five : (command : Command) → app_of command ≡ magicd → length (args_of command) ≡ 5
-built-five command built = sym (length-map (args_of command) rule_of) ∙ ap length (built-rules command built)
+built-six : (command : Command) → app_of command ≡ magicd → length (args_of command) ≡ 6
+built-six command built = sym (length-map (args_of command) rule_of) ∙ ap length (built-rules command built)
 
-rule-at : (command : Command) → app_of command ≡ magicd → (j : ℕ) (d : Arg) → j < 5
+rule-at : (command : Command) → app_of command ≡ magicd → (j : ℕ) (d : Arg) → j < 6
     → rule_of (slice_index_or (args_of command) j d) ≡ get_or own_rules j tech_rule
 rule-at command built j d low =
-    let within : j < length (args_of command) = omega (arith, low, built-five command built) in
+    let within : j < length (args_of command) = omega (arith, low, built-six command built) in
     sym (get_or-map rule_of (args_of command) j d tech_rule within) ∙ ap (λ (l : List Rule). get_or l j tech_rule) (built-rules command built)
 
 abbrev range : NumberOption → ValueParser
@@ -116,7 +137,7 @@ module _ (option : NumberOption) (place : ℕ) (stands : StandsAt option place) 
   unique : (d : Arg) (j : ℕ) (e : Arg) → j < length (args_of command)
       → bytes_eq (slice_index_or (args_of command) j e).id.now (slice_index_or (args_of command) place d).id.now ≡ true → j ≡ place
   unique d j e low same =
-      let under : j < 5 = omega (arith, low, built-five command built) in
+      let under : j < 6 = omega (arith, low, built-six command built) in
       let other : (slice_index_or (args_of command) j e).id.now ≡ (get_or own_rules j tech_rule).id = ap (λ (r : Rule). r.id) (rule-at command built j e under) in
       stands.alone j under (subst (λ (t : Text). bytes_eq t option.name ≡ true) other (subst (λ (t : Text). bytes_eq (slice_index_or (args_of command) j e).id.now t ≡ true) (id-is d) same))
 
@@ -125,7 +146,7 @@ module _ (option : NumberOption) (place : ℕ) (stands : StandsAt option place) 
       → parser_of x ≡ range option
   parser-is j x high at same =
       let own : Arg = slice_index_or (args_of command) place x in
-      let within : place < length (args_of command) = omega (arith, stands.within, built-five command built) in
+      let within : place < length (args_of command) = omega (arith, stands.within, built-six command built) in
       let rules : SameRules own x = same_rules_by_id command m p place x within (unique x)
       (λ auto. stands.own (elim auto [ inl h ↦ inl (sym (id-is x) ∙ h) | inr h ↦ inr (sym (id-is x) ∙ h) ]))
       j x high at (subst (λ (t : Text). bytes_eq x.id.now t ≡ true) (sym (id-is x)) same) in

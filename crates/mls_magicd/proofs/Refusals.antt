@@ -5,7 +5,7 @@ use Rattle.mls_wire.specs.Watches.{Watched}
 use Rattle.mls_magicd.specs.Messages.{Reports, bad_cell_line, fault_text}
 use Rattle.mls_magicd.specs.Programs.{FailsAtStart, RefusesWords, bad_command_line, status_after}
 use Rattle.mls_magicd.specs.declared.fault.Fault.{Fault}
-use Rattle.mls_magicd.specs.declared.fault.Fault.TheVariants.{Options, Technology, Rule, Cell, Memory, Serve}
+use Rattle.mls_magicd.specs.declared.fault.Fault.TheVariants.{Options, Technology, Rule, Cell, Memory, Serve, Differs}
 use Rattle.mls_magicd.specs.declared.options.OptionsFault.TheVariants.{Refused, BadCell, Memory as OptionsMemory}
 
 -- a start that ends the program with the status 2 refuses the words
@@ -22,3 +22,4 @@ refused-words reads_as may_fail words contents old mid new (Rule fault) is start
 refused-words reads_as may_fail words contents old mid new (Cell fault) is start reported = absurd (omega (arith, is))
 refused-words reads_as may_fail words contents old mid new Memory is start reported = absurd (omega (arith, is))
 refused-words reads_as may_fail words contents old mid new (Serve fault) is start reported = absurd (omega (arith, is))
+refused-words reads_as may_fail words contents old mid new Differs is start reported = absurd (omega (arith, is))

@@ -8,6 +8,7 @@ use Rattle.clap.specs.declared.parser.matches.Found.{Found}
 use Rattle.mls_session.specs.JournalLimits.{most_entries, default_journal_limit}
 use Rattle.mls_session.specs.Quotas.{least_quota, most_quota, default_quota}
 use Rattle.mls_magicd.specs.Capacities.{most_tiles, default_capacity}
+use Rattle.mls_magicd.specs.WorkerCounts.{most_workers, default_workers}
 use Rattle.mls_magicd.specs.declared.cell_argument.CellArgument.{CellArgument}
 use Rattle.mls_magicd.specs.declared.options.Options.{Options}
 use Rattle.mls_magicd.specs.declared.options.OptionsFault.{OptionsFault}
@@ -33,6 +34,9 @@ pool_option = record { name = codes "pool"; least = 1; most = most_tiles; defaul
 abbrev pub journal_option : NumberOption
 journal_option = record { name = codes "journal"; least = 1; most = most_entries; default = default_journal_limit }
 
+abbrev pub workers_option : NumberOption
+workers_option = record { name = codes "workers"; least = 0; most = most_workers; default = default_workers }
+
 abbrev pub number_rule : NumberOption → Rule
 number_rule option = record (new_rule option.name) { long = Some option.name; value_names = 1; parser = Some (Signed (pos option.least) (pos option.most)) }
 
@@ -43,7 +47,8 @@ cells_rule = record (new_rule (codes "cells")) { value_names = 1; action = Some 
 -- the options, the cells, and the parser's own `--help`
 unfoldable pub magicd : App
 magicd =
-    with_rule (with_rule (with_rule (with_rule (with_rule (new_app (codes "magicd")) tech_rule) (number_rule quota_option)) (number_rule pool_option)) (number_rule journal_option)) cells_rule
+    with_rule (with_rule (with_rule (with_rule (with_rule (with_rule (new_app (codes "magicd")) tech_rule) (number_rule quota_option)) (number_rule pool_option))
+    (number_rule journal_option)) (number_rule workers_option)) cells_rule
 
 -- the faults that the parser finds in the words, of which asking for help is one; there are none where it takes them
 unfoldable pub faults_in : List Text → Kinds
@@ -124,6 +129,7 @@ pub record ParsesAs (words : List Text) (options : Options) : Type 0 where
   pub quota : IsNumberFor quota_option words options.quota
   pub pool : IsNumberFor pool_option words options.pool
   pub journal : IsNumberFor journal_option words options.journal
+  pub workers : IsNumberFor workers_option words options.workers
   pub cells : NamesFiles (cell_words words) (map file_of options.cells.items)
 
 -- the fault is one of the parser's

@@ -5,3 +5,4 @@ pub mod FileReads
 pub mod Messages
 pub mod Programs
 pub mod Technologies
+pub mod WorkerCounts

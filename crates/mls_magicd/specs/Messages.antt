@@ -13,7 +13,7 @@ use Rattle.std.specs.String.{string_bytes}
 use Rattle.mls_magicd.specs.declared.cells.LoadFault.{LoadFault}
 use Rattle.mls_magicd.specs.declared.cells.LoadFault.TheVariants.{Unreadable as CellUnreadable, Faulty as CellFaulty, Memory as LoadMemory}
 use Rattle.mls_magicd.specs.declared.fault.Fault.{Fault}
-use Rattle.mls_magicd.specs.declared.fault.Fault.TheVariants.{Options, Technology, Rule, Cell, Memory, Serve}
+use Rattle.mls_magicd.specs.declared.fault.Fault.TheVariants.{Options, Technology, Rule, Cell, Memory, Serve, Differs}
 use Rattle.mls_magicd.specs.declared.options.OptionsFault.{OptionsFault}
 use Rattle.mls_magicd.specs.declared.options.OptionsFault.TheVariants.{Refused, BadCell, Memory as OptionsMemory}
 use Rattle.mls_magicd.specs.declared.technology.TechnologyFault.{TechnologyFault}
@@ -26,6 +26,9 @@ use Rattle.mls_wire.specs.declared.serving.ServeFault.{ServeFault}
 
 abbrev pub memory_line : List ℕ
 memory_line = codes "magicd: memory\n"
+
+abbrev pub differs_line : List ℕ
+differs_line = codes "magicd: audit differs\n"
 
 unfoldable pub serve_fault_line : ServeFault → List ℕ
 serve_fault_line fault = codes "magicd: " ++ serve_fault_text fault ++ 10 ∷ []
@@ -83,6 +86,7 @@ fault_text (Rule fault) = rule_fault_line fault
 fault_text (Cell fault) = load_fault_line fault
 fault_text Memory = memory_line
 fault_text (Serve fault) = serve_fault_line fault
+fault_text Differs = differs_line
 
 -- a skipped line of the technology
 unfoldable pub skipped_line : Skipped → List ℕ

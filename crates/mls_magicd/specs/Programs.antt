@@ -1,5 +1,6 @@
 -- What the program does with its words, its technology and its script. This project's own.
-use Rattle.std.specs.Prelude.{◌≡◌, ◌≢◌, ◌⊎◌, ℕ, Option, Some, Ok, Err, List, [], ◌∷◌, ◌++◌, map}
+use Rattle.std.specs.Prelude.{◌≡◌, ◌≢◌, ◌⊎◌, ℕ, false, Option, Some, Ok, Err, List, [], ◌∷◌, ◌++◌, map}
+use Rattle.mls_crew.specs.Scripts.{FailsCrew, WritesCrew}
 use Rattle.mls_edgerule.specs.Compiling.{compiled}
 use Rattle.mls_tech.specs.Readings.{Tech}
 use Rattle.mls_server.specs.Worlds.{MarksAreExact, MarksAreRight, World}
@@ -12,7 +13,7 @@ use Rattle.mls_magicd.specs.Messages.{Reports, ReportsAll, bad_cell_line, fault_
 use Rattle.mls_magicd.specs.Technologies.{HasReading, LacksTechnology}
 use Rattle.mls_magicd.specs.declared.cells.LoadFault.{LoadFault}
 use Rattle.mls_magicd.specs.declared.fault.Fault.{Fault}
-use Rattle.mls_magicd.specs.declared.fault.Fault.TheVariants.{Options, Technology, Rule, Cell, Memory, Serve}
+use Rattle.mls_magicd.specs.declared.fault.Fault.TheVariants.{Options, Technology, Rule, Cell, Memory, Serve, Differs}
 use Rattle.mls_magicd.specs.declared.options.OptionsFault.TheVariants.{Refused, BadCell, Memory as OptionsMemory}
 
 -- ---- exit statuses
@@ -38,6 +39,7 @@ status_after (Rule fault) = failed
 status_after (Cell fault) = failed
 status_after Memory = failed
 status_after (Serve fault) = failed
+status_after Differs = failed
 
 -- ---- the start
 
@@ -87,6 +89,7 @@ FailsAtStart reads_as may_fail words contents old new (Cell fault) =
 FailsAtStart reads_as may_fail words contents old new Memory =
     (bare : World) × IsBareFor reads_as words bare × ReportsAll contents old new (skipped_lines bare.setting.tech)
 FailsAtStart reads_as may_fail words contents old new (Serve fault) = ⊥
+FailsAtStart reads_as may_fail words contents old new Differs = ⊥
 
 -- the start failed with the status 1, and the fault was reported
 abbrev pub EndsAtStart : {E : Type 0} → (List ℕ → List ℕ → Type 0) → (List ℕ → Type 0) → List (List ℕ)
@@ -126,3 +129,18 @@ abbrev pub EndsInScript : {R W E : Type 0} → World → Option (List ℕ) → O
 EndsInScript old script rest written now input output contents before after =
     (fault : ServeFault) × FailsInScript old script rest written now input output fault
     × ReportsAll contents before after (skipped_lines old.setting.tech ++ serve_fault_line fault ∷ [])
+
+-- ---- the script, with workers
+
+-- the script fails with this fault, or all was written, and what some session was told isn't what its journal has
+abbrev pub FailsInCrew : {R W : Type 0} → World → Option (List ℕ) → Watched R → (W → Option (List ℕ)) → Watched W → Watched W → Fault → Type 0
+FailsInCrew on script input contents old new (Serve fault) = FailsCrew on fault script input contents old new
+FailsInCrew on script input contents old new Differs = WritesCrew on script (contents old.device) (contents new.device) false
+FailsInCrew on script input contents old new _ = ⊥
+
+-- so it did, and the fault was reported after the skipped lines
+abbrev pub EndsInCrew : {R W E : Type 0} → World → Option (List ℕ) → Watched R → (W → Option (List ℕ)) → Watched W → Watched W
+    → (E → Option (List ℕ)) → Watched E → Watched E → Type 0
+EndsInCrew on script input contents old new messages before after =
+    (fault : Fault) × FailsInCrew on script input contents old new fault
+    × ReportsAll messages before after (skipped_lines on.setting.tech ++ fault_text fault ∷ [])

@@ -4,6 +4,8 @@ use Rattle.mls_tech.specs.Readings.{Tech, ReadsUnlessMemory, reading_of}
 use Rattle.mls_tech.specs.declared.fault.TechFault.{TechFault}
 use Rattle.mls_magicd.specs.declared.technology.TechnologyFault.{TechnologyFault}
 use Rattle.mls_magicd.specs.declared.technology.TechnologyFault.TheVariants.{Unreadable, Faulty, Memory}
+use Rattle.mls_magicd.specs.declared.technology.TechnologyText.{TechnologyText}
+use Rattle.mls_magicd.specs.declared.technology.TechnologyText.TheVariants.{BuiltIn, OfFile}
 
 -- technology M, which is built in
 unfoldable pub technology_m : List ℕ
@@ -37,6 +39,12 @@ LacksTechnology reads_as may_fail path (Unreadable at) = CannotRead may_fail pat
 LacksTechnology reads_as may_fail path (Faulty fault) = HasFault reads_as path fault
 LacksTechnology reads_as may_fail path Memory = ⊤
 
-abbrev pub OpensTechnology : (List ℕ → List ℕ → Type 0) → (List ℕ → Type 0) → Option (List ℕ) → Result Tech TechnologyFault → Type 0
-OpensTechnology reads_as may_fail path (Ok reading) = HasReading reads_as path reading
+-- the text that is kept
+abbrev pub text_in : TechnologyText → List ℕ
+text_in BuiltIn = technology_m
+text_in (OfFile bytes) = bytes.items
+
+-- the technology's text is found, or the file at the path can't be read
+abbrev pub OpensTechnology : (List ℕ → List ℕ → Type 0) → (List ℕ → Type 0) → Option (List ℕ) → Result TechnologyText TechnologyFault → Type 0
+OpensTechnology reads_as may_fail path (Ok text) = IsTechnologyText reads_as path (text_in text)
 OpensTechnology reads_as may_fail path (Err fault) = LacksTechnology reads_as may_fail path fault

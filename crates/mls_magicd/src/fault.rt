@@ -3,6 +3,7 @@ ghost use Rattle.std.specs.Prelude.{◌≡◌};
 
 use crate::{LoadFault, OptionsFault, TechnologyFault};
 use mls_edgerule::RuleFault;
+use mls_tech::TechFault;
 use mls_wire::ServeFault;
 use std::alloc::AllocError;
 use thiserror::Error;
@@ -13,7 +14,7 @@ const FAILED: u8 = 1;
 /// The exit status where the words of the command line are refused.
 const BAD_COMMAND_LINE: u8 = 2;
 
-/// Why the program ends before it has served the whole script.
+/// Why the program fails.
 #[derive(Debug, Drop, Error)]
 pub enum Fault<'a> {
     /// The command line is refused.
@@ -34,6 +35,9 @@ pub enum Fault<'a> {
     /// The script was left before its end.
     #[error(transparent)]
     Serve(ServeFault),
+    /// What a session was told isn't what its journal has.
+    #[error("audit differs")]
+    Differs,
 }
 
 impl<'a> From<OptionsFault<'a>> for Fault<'a> {
@@ -53,6 +57,17 @@ impl<'a> From<TechnologyFault<'a>> for Fault<'a> {
 
     fn from(cause: TechnologyFault<'a>) -> Self {
         Fault::Technology(cause)
+    }
+}
+
+impl From<TechFault> for Fault<'_> {
+    ghost use Rattle.mls_magicd.specs.declared.fault.Fault.TheVariants.{Technology};
+    ghost use Rattle.mls_magicd.specs.declared.technology.TechnologyFault.TheVariants.{Faulty};
+
+    ghost from_gives = { λ cause fault. fault ≡ Technology (Faulty cause) };
+
+    fn from(cause: TechFault) -> Self {
+        Fault::Technology(TechnologyFault::Faulty(cause))
     }
 }
 
@@ -108,7 +123,7 @@ impl Fault<'_> {
             Fault::Options(OptionsFault::BadCell(_)) => BAD_COMMAND_LINE,
             Fault::Options(OptionsFault::Memory) => FAILED,
             Fault::Technology(_) | Fault::Rule(_) | Fault::Cell(_) => FAILED,
-            Fault::Memory | Fault::Serve(_) => FAILED,
+            Fault::Memory | Fault::Serve(_) | Fault::Differs => FAILED,
         }
     }
 }

@@ -10,11 +10,14 @@ mod files;
 mod messages;
 mod options;
 mod program;
+mod streams;
 mod technology;
+mod workers;
 
 pub use cells::LoadFault;
 pub use fault::Fault;
 pub use files::{FileFault, Files, HostFiles};
 pub use options::OptionsFault;
 pub use program::{fail, run};
+pub use streams::Streams;
 pub use technology::TechnologyFault;

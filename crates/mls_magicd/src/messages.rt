@@ -17,6 +17,8 @@ use std::io::Write;
 
 const MEMORY: &[u8] = b"magicd: memory\n";
 
+const DIFFERS: &[u8] = b"magicd: audit differs\n";
+
 /// The longest message that is written in one piece.
 const MESSAGE_ROOM: usize = 512;
 
@@ -31,6 +33,7 @@ pub fn report_fault<E: Write>(faults: &mut Watched<E>, fault: &Fault<'_>)
         Fault::Cell(fault) => report_load_fault(faults, *fault),
         Fault::Memory => report(faults, &[MEMORY]),
         Fault::Serve(fault) => report_serve_fault(faults, *fault),
+        Fault::Differs => report(faults, &[DIFFERS]),
     }
 }
 

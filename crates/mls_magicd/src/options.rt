@@ -8,6 +8,7 @@ ghost use Rattle.mls_magicd.specs.CommandLines.{NumberOption, magicd, tech_rule,
 
 use crate::capacity::Capacity;
 use crate::cell_argument::CellArgument;
+use crate::workers::Workers;
 use clap::error::ErrorKind;
 use clap::{Arg, ArgAction, ArgMatches, Command, Error as ParseError, value_parser};
 use mls_session::{JournalLimit, Quota};
@@ -27,6 +28,8 @@ pub struct Options<'a> {
     pub pool: Capacity,
     /// The most entries that a journal may have.
     pub journal: JournalLimit,
+    /// How many workers check behind the sessions.
+    pub workers: Workers,
     /// The cells, in order.
     pub cells: Vec<CellArgument<'a>>,
 }
@@ -86,6 +89,10 @@ impl<'a> Options<'a> {
                         .get_one::<u32>("journal")
                         .and_then(JournalLimit::new)
                         .unwrap_or_default(),
+                    workers: matches
+                        .get_one::<u32>("workers")
+                        .and_then(Workers::new)
+                        .unwrap_or_default(),
                     cells,
                 })
             }
@@ -120,6 +127,12 @@ fn command<'a>(alloc: Global) -> Result<Command<'a>, AllocError>
             "journal",
             1..=65_536,
             "Gives each journal N entries, from 1 to 65536 [default: 4096]",
+        ))?
+        .arg(number_option(
+            alloc,
+            "workers",
+            0..=16,
+            "Checks behind the sessions with N workers, from 0 to 16 [default: 0]",
         ))?
         .arg(cells_argument(alloc))
 }

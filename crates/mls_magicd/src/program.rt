@@ -1,64 +1,90 @@
 //! The whole program, over any words, files and streams.
-ghost use Rattle.std.specs.Prelude.{◌≡◌, ◌≤◌, ◌⊎◌, ℕ, List, [], OnOk, IfOk, IfErr, false, map};
+ghost use Rattle.std.specs.Prelude.{◌≡◌, ◌≢◌, ◌≤◌, ◌⊎◌, ℕ, List, [], Ok, OnOk, IfOk, IfErr, false, true, map};
+ghost use Rattle.mls_crew.specs.Scripts.{WritesCrew};
 ghost use Rattle.mls_server.specs.Servers.{world_of};
 ghost use Rattle.mls_server.specs.Worlds.{World};
+ghost use Rattle.mls_tech.specs.Readings.{reading_of};
 ghost use Rattle.mls_wire.specs.declared.serving.ServeFault.{ServeFault};
-ghost use Rattle.mls_magicd.specs.CommandLines.{ParsesAs};
+ghost use Rattle.mls_magicd.specs.CommandLines.{ParsesAs, IsNumberFor, workers_option};
 ghost use Rattle.mls_magicd.specs.Messages.{Reports, ReportsAll, fault_text};
 ghost use Rattle.mls_magicd.specs.Programs as spec;
+ghost use Rattle.mls_magicd.specs.Technologies.{text_in};
 
 use crate::cells::load_cells;
 use crate::messages::{report_fault, report_skipped};
 use crate::options::Options;
-use crate::technology::open_technology;
-use crate::{Fault, Files};
+use crate::technology::TechnologyText;
+use crate::{Fault, Files, Streams};
+use mls_crew::Crew;
 use mls_edgerule::compile;
 use mls_server::Server;
 use mls_wire::{Watched, serve};
 use std::alloc::Global;
 use std::convert::AsStr;
 use std::io::{Read, Write};
+use std::sync::Wait;
+use std::thread::Threads;
 
 /// The exit status after a whole script.
 const DONE: u8 = 0;
 
 /// Runs the program and returns its exit status: it serves the script of the input. `words` are those of the command line,
-/// of which the first is the program's name. Messages, and nothing else, are written to `faults`.
-pub fn run<S: AsStr, F: Files, R: Read, W: Write, E: Write>(
+/// of which the first is the program's name.
+pub fn run<T: Threads + Wait + Sync, S: AsStr, F: Files, R: Read, W: Write, E: Write>(
+    rt: &T,
     alloc: Global,
     words: &[S],
     files: &F,
-    input: &mut Watched<R>,
-    output: &mut Watched<W>,
-    faults: &mut Watched<E>,
+    streams: &mut Streams<R, W, E>,
 ) -> u8
-    requires input_sound { input.old.failed ≡ false }
-    requires output_sound { output.old.failed ≡ false }
-    requires faults_sound { faults.old.failed ≡ false }
+    requires input_sound { streams.old.input.failed ≡ false }
+    requires output_sound { streams.old.output.failed ≡ false }
+    requires faults_sound { streams.old.faults.failed ≡ false }
     ensures status { result ≤ spec.bad_command_line }
 
-    // The output is the reply text of the script's run over the technology, the cells and the limits that the words name, and the
-    // skipped lines of the technology were reported.
-    ensures served { result ≡ spec.done → (on : World) × spec.IsConfiguredBy (F.reads_as files.now) (map S.text words.now) on
-        × spec.ServesScript on (R.remaining input.old.device) (W.contents output.old.device) (W.contents output.new.device)
-        × ReportsAll E.contents faults.old faults.new (spec.skipped_lines on.setting.tech) }
+    // The words have a fault, it was reported, and no line of the script was read.
+    ensures refused { result ≡ spec.bad_command_line → spec.RefusesWords (map S.text words.now) E.contents streams.old.faults streams.new.faults
+        × (streams.new.input ≡ streams.old.input) × (streams.new.output ≡ streams.old.output) }
+
+    // Without workers, the output is the reply text of the script's run over the technology, the cells and the limits that the words
+    // name, and the skipped lines of the technology were reported.
+    ensures served { IsNumberFor workers_option (map S.text words.now) 0 → result ≡ spec.done
+        → (on : World) × spec.IsConfiguredBy (F.reads_as files.now) (map S.text words.now) on
+        × spec.ServesScript on (R.remaining streams.old.input.device) (W.contents streams.old.output.device) (W.contents streams.new.output.device)
+        × ReportsAll E.contents streams.old.faults streams.new.faults (spec.skipped_lines on.setting.tech) }
 
     // Either the start failed, for a reason that was reported, and no line of the script was read; or the script
     // was left before its end, for a reason that was reported, and the output is that of a run that was cut.
-    ensures failed { result ≡ spec.failed →
-        (spec.EndsAtStart (F.reads_as files.now) (F.may_fail files.now) (map S.text words.now) E.contents faults.old faults.new
-        × (input.new ≡ input.old) × (output.new ≡ output.old))
+    ensures failed { IsNumberFor workers_option (map S.text words.now) 0 → result ≡ spec.failed →
+        (spec.EndsAtStart (F.reads_as files.now) (F.may_fail files.now) (map S.text words.now) E.contents streams.old.faults streams.new.faults
+        × (streams.new.input ≡ streams.old.input) × (streams.new.output ≡ streams.old.output))
         ⊎ ((on : World) × spec.IsConfiguredBy (F.reads_as files.now) (map S.text words.now) on
-        × spec.EndsInScript on (R.remaining input.old.device) (R.remaining input.new.device) (W.contents output.old.device) (W.contents output.new.device)
-        input.new output.new E.contents faults.old faults.new) }
+        × spec.EndsInScript on (R.remaining streams.old.input.device) (R.remaining streams.new.input.device)
+        (W.contents streams.old.output.device) (W.contents streams.new.output.device)
+        streams.new.input streams.new.output E.contents streams.old.faults streams.new.faults) }
 
-    // The words have a fault, it was reported, and no line of the script was read.
-    ensures refused { result ≡ spec.bad_command_line → spec.RefusesWords (map S.text words.now) E.contents faults.old faults.new
-        × (input.new ≡ input.old) × (output.new ≡ output.old) }
+    // With workers, the output is what the lines of each session give at its seat over that technology, those cells and limits, and the
+    // whole of it was audited.
+    ensures served_by_crew { (workers : ℕ) → IsNumberFor workers_option (map S.text words.now) workers → workers ≢ 0 → result ≡ spec.done
+        → (on : World) × spec.IsConfiguredBy (F.reads_as files.now) (map S.text words.now) on
+        × WritesCrew on (R.remaining streams.old.input.device) (W.contents streams.old.output.device) (W.contents streams.new.output.device) true
+        × ReportsAll E.contents streams.old.faults streams.new.faults (spec.skipped_lines on.setting.tech) }
+
+    // Either the start failed, as above; or the script failed, for a reason that was reported.
+    ensures failed_by_crew { (workers : ℕ) → IsNumberFor workers_option (map S.text words.now) workers → workers ≢ 0 → result ≡ spec.failed →
+        (spec.EndsAtStart (F.reads_as files.now) (F.may_fail files.now) (map S.text words.now) E.contents streams.old.faults streams.new.faults
+        × (streams.new.input ≡ streams.old.input) × (streams.new.output ≡ streams.old.output))
+        ⊎ ((on : World) × spec.IsConfiguredBy (F.reads_as files.now) (map S.text words.now) on
+        × spec.EndsInCrew on (R.remaining streams.old.input.device) streams.new.input W.contents streams.old.output streams.new.output
+        E.contents streams.old.faults streams.new.faults) }
 {
-    match serve_words(alloc, words, files, input, output, faults) {
-        Ok(()) => DONE,
-        Err(fault) => fail(faults, &fault),
+    let options = match Options::parse(alloc, words) {
+        Ok(options) => options,
+        Err(fault) => return fail(&mut streams.faults, &fault.into()),
+    };
+    match options.workers.count() {
+        0 => run_script(alloc, files, &options, streams),
+        _ => run_crew(rt, alloc, files, &options, streams),
     }
 }
 
@@ -71,68 +97,190 @@ pub fn fail<E: Write>(faults: &mut Watched<E>, fault: &Fault<'_>) -> u8
     fault.status()
 }
 
-/// Serves the script of the input with what the words of the command line name.
-fn serve_words<'a, S: AsStr, F: Files, R: Read, W: Write, E: Write>(
+/// Runs the program without workers.
+fn run_script<F: Files, R: Read, W: Write, E: Write>(
     alloc: Global,
-    words: &'a [S],
     files: &F,
-    input: &mut Watched<R>,
-    output: &mut Watched<W>,
-    faults: &mut Watched<E>,
-) -> Result<(), Fault<'a>>
-    requires input_sound { input.old.failed ≡ false }
-    requires output_sound { output.old.failed ≡ false }
-    ensures ok { OnOk result ((on : World) × spec.IsConfiguredBy (F.reads_as files.now) (map S.text words.now) on
-        × spec.ServesScript on (R.remaining input.old.device) (W.contents output.old.device) (W.contents output.new.device)
-        × ReportsAll E.contents faults.old faults.new (spec.skipped_lines on.setting.tech)) }
-    ensures err { IfErr result (λ fault.
-        (spec.FailsAtStart (F.reads_as files.now) (F.may_fail files.now) (map S.text words.now) E.contents faults.old faults.new fault
-        × (input.new ≡ input.old) × (output.new ≡ output.old))
-        ⊎ ((on : World) × (cause : ServeFault) × (fault ≡ Fault.Serve cause)
-        × spec.IsConfiguredBy (F.reads_as files.now) (map S.text words.now) on
-        × spec.FailsInScript on (R.remaining input.old.device) (R.remaining input.new.device) (W.contents output.old.device) (W.contents output.new.device)
-        input.new output.new cause
-        × ReportsAll E.contents faults.old faults.new (spec.skipped_lines on.setting.tech))) }
+    options: &Options<'_>,
+    streams: &mut Streams<R, W, E>,
+) -> u8
+    requires input_sound { streams.old.input.failed ≡ false }
+    requires output_sound { streams.old.output.failed ≡ false }
+    ensures status { result ≤ spec.failed }
+    ensures served { (words : List (List ℕ)) → ParsesAs words options.now → result ≡ spec.done
+        → (on : World) × spec.IsConfiguredBy (F.reads_as files.now) words on
+        × spec.ServesScript on (R.remaining streams.old.input.device) (W.contents streams.old.output.device) (W.contents streams.new.output.device)
+        × ReportsAll E.contents streams.old.faults streams.new.faults (spec.skipped_lines on.setting.tech) }
+    ensures failed { (words : List (List ℕ)) → ParsesAs words options.now → result ≡ spec.failed →
+        (spec.EndsAtStart (F.reads_as files.now) (F.may_fail files.now) words E.contents streams.old.faults streams.new.faults
+        × (streams.new.input ≡ streams.old.input) × (streams.new.output ≡ streams.old.output))
+        ⊎ ((on : World) × spec.IsConfiguredBy (F.reads_as files.now) words on
+        × spec.EndsInScript on (R.remaining streams.old.input.device) (R.remaining streams.new.input.device)
+        (W.contents streams.old.output.device) (W.contents streams.new.output.device)
+        streams.new.input streams.new.output E.contents streams.old.faults streams.new.faults) }
 {
-    let mut server = start(alloc, words, files, faults)?;
-    serve(alloc, &mut server, input, output)?;
+    match serve_script(alloc, files, options, streams) {
+        Ok(()) => DONE,
+        Err(fault) => fail(&mut streams.faults, &fault),
+    }
+}
+
+/// Serves the script of the input with what the options name.
+fn serve_script<'a, F: Files, R: Read, W: Write, E: Write>(
+    alloc: Global,
+    files: &F,
+    options: &Options<'a>,
+    streams: &mut Streams<R, W, E>,
+) -> Result<(), Fault<'a>>
+    requires input_sound { streams.old.input.failed ≡ false }
+    requires output_sound { streams.old.output.failed ≡ false }
+    ensures ok { OnOk result ((words : List (List ℕ)) → ParsesAs words options.now → (on : World) × spec.IsConfiguredBy (F.reads_as files.now) words on
+        × spec.ServesScript on (R.remaining streams.old.input.device) (W.contents streams.old.output.device) (W.contents streams.new.output.device)
+        × ReportsAll E.contents streams.old.faults streams.new.faults (spec.skipped_lines on.setting.tech)) }
+    ensures err { IfErr result (λ fault. (words : List (List ℕ)) → ParsesAs words options.now →
+        (spec.FailsAtStart (F.reads_as files.now) (F.may_fail files.now) words E.contents streams.old.faults streams.new.faults fault
+        × (streams.new.input ≡ streams.old.input) × (streams.new.output ≡ streams.old.output))
+        ⊎ ((on : World) × (cause : ServeFault) × (fault ≡ Fault.Serve cause)
+        × spec.IsConfiguredBy (F.reads_as files.now) words on
+        × spec.FailsInScript on (R.remaining streams.old.input.device) (R.remaining streams.new.input.device)
+        (W.contents streams.old.output.device) (W.contents streams.new.output.device)
+        streams.new.input streams.new.output cause
+        × ReportsAll E.contents streams.old.faults streams.new.faults (spec.skipped_lines on.setting.tech))) }
+    ensures status { IfErr result (λ fault. spec.status_after fault ≡ spec.failed) }
+{
+    let (mut server, _) = start(alloc, files, options, &mut streams.faults)?;
+    serve(alloc, &mut server, &mut streams.input, &mut streams.output)?;
     Ok(())
 }
 
-/// Does what comes before the script: reads the words, makes the server, and loads the cells.
-fn start<'a, S: AsStr, F: Files, E: Write>(
+/// Runs the program with workers.
+fn run_crew<T: Threads + Wait + Sync, F: Files, R: Read, W: Write, E: Write>(
+    rt: &T,
     alloc: Global,
-    words: &'a [S],
     files: &F,
-    faults: &mut Watched<E>,
-) -> Result<Server, Fault<'a>>
-    ensures ok { IfOk result (λ server. spec.IsConfiguredBy (F.reads_as files.now) (map S.text words.now) (world_of server)
-        × ReportsAll E.contents faults.old faults.new (spec.skipped_lines (world_of server).setting.tech)) }
-    ensures err { IfErr result (spec.FailsAtStart (F.reads_as files.now) (F.may_fail files.now) (map S.text words.now) E.contents faults.old faults.new) }
+    options: &Options<'_>,
+    streams: &mut Streams<R, W, E>,
+) -> u8
+    requires input_sound { streams.old.input.failed ≡ false }
+    requires output_sound { streams.old.output.failed ≡ false }
+    ensures status { result ≤ spec.failed }
+    ensures served { (words : List (List ℕ)) → ParsesAs words options.now → result ≡ spec.done
+        → (on : World) × spec.IsConfiguredBy (F.reads_as files.now) words on
+        × WritesCrew on (R.remaining streams.old.input.device) (W.contents streams.old.output.device) (W.contents streams.new.output.device) true
+        × ReportsAll E.contents streams.old.faults streams.new.faults (spec.skipped_lines on.setting.tech) }
+    ensures failed { (words : List (List ℕ)) → ParsesAs words options.now → result ≡ spec.failed →
+        (spec.EndsAtStart (F.reads_as files.now) (F.may_fail files.now) words E.contents streams.old.faults streams.new.faults
+        × (streams.new.input ≡ streams.old.input) × (streams.new.output ≡ streams.old.output))
+        ⊎ ((on : World) × spec.IsConfiguredBy (F.reads_as files.now) words on
+        × spec.EndsInCrew on (R.remaining streams.old.input.device) streams.new.input W.contents streams.old.output streams.new.output
+        E.contents streams.old.faults streams.new.faults) }
 {
-    let options = Options::parse(alloc, words)?;
-    let mut server = bare_server(alloc, files, &options, faults)?;
+    match serve_crew(rt, alloc, files, options, streams) {
+        Ok(()) => DONE,
+        Err(fault) => fail(&mut streams.faults, &fault),
+    }
+}
+
+/// Serves the script of the input with workers, and what the options name.
+fn serve_crew<'a, T: Threads + Wait + Sync, F: Files, R: Read, W: Write, E: Write>(
+    rt: &T,
+    alloc: Global,
+    files: &F,
+    options: &Options<'a>,
+    streams: &mut Streams<R, W, E>,
+) -> Result<(), Fault<'a>>
+    requires input_sound { streams.old.input.failed ≡ false }
+    requires output_sound { streams.old.output.failed ≡ false }
+    ensures ok { OnOk result ((words : List (List ℕ)) → ParsesAs words options.now → (on : World) × spec.IsConfiguredBy (F.reads_as files.now) words on
+        × WritesCrew on (R.remaining streams.old.input.device) (W.contents streams.old.output.device) (W.contents streams.new.output.device) true
+        × ReportsAll E.contents streams.old.faults streams.new.faults (spec.skipped_lines on.setting.tech)) }
+    ensures err { IfErr result (λ fault. (words : List (List ℕ)) → ParsesAs words options.now →
+        (spec.FailsAtStart (F.reads_as files.now) (F.may_fail files.now) words E.contents streams.old.faults streams.new.faults fault
+        × (streams.new.input ≡ streams.old.input) × (streams.new.output ≡ streams.old.output))
+        ⊎ ((on : World) × spec.IsConfiguredBy (F.reads_as files.now) words on
+        × spec.FailsInCrew on (R.remaining streams.old.input.device) streams.new.input W.contents streams.old.output streams.new.output fault
+        × ReportsAll E.contents streams.old.faults streams.new.faults (spec.skipped_lines on.setting.tech))) }
+    ensures status { IfErr result (λ fault. spec.status_after fault ≡ spec.failed) }
+{
+    let crew = start_crew(alloc, files, options, &mut streams.faults)?;
+    let served = crew.serve(rt, alloc, &mut streams.input, &mut streams.output)?;
+    if !served.audited {
+        return Err(Fault::Differs);
+    }
+    Ok(())
+}
+
+/// Does what comes before a script with workers: makes the server, loads the cells, and reads the technology for the crew.
+fn start_crew<'a, F: Files, E: Write>(
+    alloc: Global,
+    files: &F,
+    options: &Options<'a>,
+    faults: &mut Watched<E>,
+) -> Result<Crew, Fault<'a>>
+    ensures ok { IfOk result (λ crew. (words : List (List ℕ)) → ParsesAs words options.now
+        → spec.IsConfiguredBy (F.reads_as files.now) words (world_of crew.server)
+        × ReportsAll E.contents faults.old faults.new (spec.skipped_lines (world_of crew.server).setting.tech)) }
+    ensures idle { IfOk result (λ crew. (world_of crew.server).seats ≡ []) }
+    ensures tech { IfOk result (λ crew. crew.tech ≡ (world_of crew.server).setting.tech) }
+    ensures err { IfErr result (λ fault. (words : List (List ℕ)) → ParsesAs words options.now
+        → spec.FailsAtStart (F.reads_as files.now) (F.may_fail files.now) words E.contents faults.old faults.new fault) }
+    ensures status { IfErr result (λ fault. spec.status_after fault ≡ spec.failed) }
+{
+    let (server, text) = start(alloc, files, options, faults)?;
+    let Ok(tech) = text.read(alloc) else {
+        // The text was read before, so only memory can be lacking.
+        return Err(Fault::Memory);
+    };
+    Ok(Crew {
+        server,
+        tech,
+        workers: options.workers.count(),
+    })
+}
+
+/// Does what comes before the script: makes the server and loads the cells. Returns the text of the technology too.
+fn start<'a, F: Files, E: Write>(
+    alloc: Global,
+    files: &F,
+    options: &Options<'a>,
+    faults: &mut Watched<E>,
+) -> Result<(Server, TechnologyText), Fault<'a>>
+    ensures ok { IfOk result (λ r. (words : List (List ℕ)) → ParsesAs words options.now
+        → spec.IsConfiguredBy (F.reads_as files.now) words (world_of r.0)
+        × ReportsAll E.contents faults.old faults.new (spec.skipped_lines (world_of r.0).setting.tech)) }
+    ensures idle { IfOk result (λ r. (world_of r.0).seats ≡ []) }
+    ensures text { IfOk result (λ r. reading_of (text_in r.1) ≡ Ok (world_of r.0).setting.tech) }
+    ensures err { IfErr result (λ fault. (words : List (List ℕ)) → ParsesAs words options.now
+        → spec.FailsAtStart (F.reads_as files.now) (F.may_fail files.now) words E.contents faults.old faults.new fault) }
+    ensures status { IfErr result (λ fault. spec.status_after fault ≡ spec.failed) }
+{
+    let (mut server, text) = bare_server(alloc, files, options, faults)?;
     load_cells(alloc, files, &mut server, &options.cells)?;
-    Ok(server)
+    Ok((server, text))
 }
 
 /// Reads the technology, reports its skipped lines, compiles its rules, and makes the server, which reserves its memory.
+/// Returns the text of the technology too.
 fn bare_server<'a, F: Files, E: Write>(
     alloc: Global,
     files: &F,
     options: &Options<'a>,
     faults: &mut Watched<E>,
-) -> Result<Server, Fault<'a>>
-    ensures bare { IfOk result (λ server. (words : List (List ℕ)) → ParsesAs words options.now
-        → spec.IsBareFor (F.reads_as files.now) words (world_of server)) }
-    ensures idle { IfOk result (λ server. (world_of server).seats ≡ []) }
-    ensures reported { IfOk result (λ server. ReportsAll E.contents faults.old faults.new (spec.skipped_lines (world_of server).setting.tech)) }
+) -> Result<(Server, TechnologyText), Fault<'a>>
+    ensures bare { IfOk result (λ r. (words : List (List ℕ)) → ParsesAs words options.now
+        → spec.IsBareFor (F.reads_as files.now) words (world_of r.0)) }
+    ensures idle { IfOk result (λ r. (world_of r.0).seats ≡ []) }
+    ensures text { IfOk result (λ r. reading_of (text_in r.1) ≡ Ok (world_of r.0).setting.tech) }
+    ensures reported { IfOk result (λ r. ReportsAll E.contents faults.old faults.new (spec.skipped_lines (world_of r.0).setting.tech)) }
     ensures err { IfErr result (λ fault. (words : List (List ℕ)) → ParsesAs words options.now
         → spec.FailsAtStart (F.reads_as files.now) (F.may_fail files.now) words E.contents faults.old faults.new fault) }
+    ensures status { IfErr result (λ fault. spec.status_after fault ≡ spec.failed) }
 {
-    let tech = open_technology(alloc, files, options.tech)?;
+    let text = TechnologyText::open(alloc, files, options.tech)?;
+    let tech = text.read(alloc)?;
     report_skipped(faults, tech.skipped());
     let rules = compile(&tech)?;
     let capacity = options.pool.tiles();
-    Ok(Server::new(alloc, tech, rules, capacity, options.quota, options.journal)?)
+    let server = Server::new(alloc, tech, rules, capacity, options.quota, options.journal)?;
+    Ok((server, text))
 }

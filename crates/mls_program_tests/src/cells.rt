@@ -3,7 +3,9 @@ use crate::programs::{Ending, ended, expect_ended, expect_row};
 use mls_magicd::{FileFault, Files};
 use std::alloc::{AllocError, Global};
 use std::process::Abort;
+use std::sync::Wait;
 use std::test::Fail;
+use std::thread::Threads;
 
 /// Files by their paths.
 #[derive(Drop)]
@@ -324,8 +326,8 @@ fn words_for(alloc: Global, cells: u8, path: &str) -> Result<Vec<String>, Fail> 
 }
 
 /// Runs the program with a file as this many cells.
-fn ended_with_cells<F: Files>(
-    rt: &HostRuntime,
+fn ended_with_cells<T: Threads + Wait + Sync + Alloc<A = Global>, F: Files>(
+    rt: &T,
     cells: u8,
     path: &str,
     files: &F,
@@ -369,7 +371,11 @@ fn wide_cell(alloc: Global, first: i32, squares: i32) -> Result<String, Fail> {
 }
 
 /// Runs the program with this many cells of this text.
-fn ended_with_wide_cells(rt: &HostRuntime, cells: u8, text: &str) -> Result<Ending, Fail> {
+fn ended_with_wide_cells<T: Threads + Wait + Sync + Alloc<A = Global>>(
+    rt: &T,
+    cells: u8,
+    text: &str,
+) -> Result<Ending, Fail> {
     let files = NamedFiles {
         files: &[("wide.mag", text.as_bytes())],
     };

@@ -2,7 +2,9 @@
 use crate::cells::NamedFiles;
 use crate::programs::{Ending, ended, expect_ended, expect_row};
 use std::alloc::{AllocError, Global};
+use std::sync::Wait;
 use std::test::Fail;
+use std::thread::Threads;
 
 const NO_FILES: NamedFiles<'static> = NamedFiles { files: &[] };
 
@@ -101,7 +103,7 @@ fn many_squares(alloc: Global) -> Result<String, AllocError> {
 }
 
 /// Runs the program with a cell, and saves what it is.
-fn ended_with_cell(rt: &HostRuntime, cell: &str) -> Ending {
+fn ended_with_cell<T: Threads + Wait + Sync + Alloc<A = Global>>(rt: &T, cell: &str) -> Ending {
     let files = NamedFiles {
         files: &[("c.mag", cell.as_bytes())],
     };

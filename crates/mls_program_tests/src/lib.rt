@@ -27,3 +27,5 @@ mod sessions;
 mod streams;
 #[cfg(test)]
 mod three_sessions;
+#[cfg(test)]
+mod workers;

@@ -1,12 +1,13 @@
 //! The whole program: words, files, scripts, exit statuses and messages.
 use crate::devices::{BROKEN, TroubledReader, TroubledWriter};
-use mls_magicd::{FileFault, Files, run};
-use mls_wire::Watched;
+use mls_magicd::{FileFault, Files, Streams, run};
 use std::alloc::{AllocError, Global};
 use std::convert::AsStr;
 use std::io::{Read, Write};
 use std::process::Abort;
+use std::sync::Wait;
 use std::test::Fail;
+use std::thread::Threads;
 
 /// How a run ended.
 #[derive(Drop)]
@@ -17,8 +18,8 @@ pub struct Ending {
 }
 
 /// Runs the program.
-pub fn ended<S: AsStr, F: Files>(
-    rt: &HostRuntime,
+pub fn ended<T: Threads + Wait + Sync + Alloc<A = Global>, S: AsStr, F: Files>(
+    rt: &T,
     words: &[S],
     files: &F,
     script: &[u8],
@@ -27,8 +28,8 @@ pub fn ended<S: AsStr, F: Files>(
 }
 
 /// Runs the program on any input.
-fn ended_on<S: AsStr, F: Files, R: Read + Drop>(
-    rt: &HostRuntime,
+pub fn ended_on<T: Threads + Wait + Sync + Alloc<A = Global>, S: AsStr, F: Files, R: Read + Drop>(
+    rt: &T,
     words: &[S],
     files: &F,
     input: R,
@@ -43,26 +44,28 @@ fn ended_on<S: AsStr, F: Files, R: Read + Drop>(
 }
 
 /// Runs the program on any streams, and returns the status and what became of the output and the messages.
-fn ended_with<S: AsStr, F: Files, R: Read + Drop, W: Write + Drop, E: Write + Drop>(
-    rt: &HostRuntime,
+pub fn ended_with<
+    T: Threads + Wait + Sync + Alloc<A = Global>,
+    S: AsStr,
+    F: Files,
+    R: Read + Drop,
+    W: Write + Drop,
+    E: Write + Drop,
+>(
+    rt: &T,
     words: &[S],
     files: &F,
     input: R,
     output: W,
     messages: E,
 ) -> (u8, W, E) {
-    let mut input = Watched::new(input);
-    let mut output = Watched::new(output);
-    let mut faults = Watched::new(messages);
-    let status = run(
-        rt.alloc(),
-        words,
-        files,
-        &mut input,
-        &mut output,
-        &mut faults,
-    );
-    (status, output.into_inner(), faults.into_inner())
+    let mut streams = Streams::new(input, output, messages);
+    let status = run(rt, rt.alloc(), words, files, &mut streams);
+    (
+        status,
+        streams.output.into_inner(),
+        streams.faults.into_inner(),
+    )
 }
 
 /// Asserts how a run ended.
@@ -173,7 +176,7 @@ fn scripts_that_are_served(rt: HostRuntime) -> Result<(), Fail> {
 }
 
 /// Words that are refused, or ask for help.
-const BAD_WORDS: [&[&str]; 17] = [
+const BAD_WORDS: [&[&str]; 21] = [
     &["magicd", "--quota", "4"],
     &["magicd", "--quota", "16385"],
     &["magicd", "--quota", "x"],
@@ -187,6 +190,10 @@ const BAD_WORDS: [&[&str]; 17] = [
     &["magicd", "--pool"],
     &["magicd", "--journal", "0"],
     &["magicd", "--journal", "65537"],
+    &["magicd", "--workers", "17"],
+    &["magicd", "--workers", "-1"],
+    &["magicd", "--workers", "two"],
+    &["magicd", "--workers"],
     &["magicd", "--threads", "3"],
     &["magicd", "--help"],
     &["magicd", "-h"],

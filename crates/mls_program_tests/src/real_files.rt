@@ -2,8 +2,10 @@
 use crate::programs::{Ending, ended, expect_ended, expect_unreadable};
 use mls_magicd::HostFiles;
 use std::alloc::{AllocError, Global};
+use std::sync::Wait;
 use std::test::Fail;
-use std::{fs, process};
+use std::thread::Threads;
+use std::{fs, process, rt};
 
 /// A technology file of more than 100 KB.
 fn large_technology(alloc: Global) -> Result<Vec<u8>, AllocError> {
@@ -17,20 +19,23 @@ fn large_technology(alloc: Global) -> Result<Vec<u8>, AllocError> {
 }
 
 /// Writes it to a file.
-fn write_technology(rt: &HostRuntime, path: &str) -> Result<(), Fail> {
+fn write_technology<T: Alloc<A = Global> + rt::Files>(rt: &T, path: &str) -> Result<(), Fail> {
     let file = large_technology(rt.alloc())?;
     fs::write(rt, path, file.as_slice())?;
     Ok(())
 }
 
 /// Runs the program with the technology of a file.
-fn ended_with_file(rt: &HostRuntime, path: &str) -> Ending {
+fn ended_with_file<T: Threads + Wait + Sync + Alloc<A = Global> + rt::Files>(rt: &T, path: &str) -> Ending {
     let script = b"%open a\na box 0 0 1 1\na paint last\na what\n".as_slice();
     ended(rt, &["magicd", "--tech", path], &HostFiles::new(rt), script)
 }
 
 /// Runs the program with the large technology in a file, and removes it.
-fn ended_with_large_file(rt: &HostRuntime, path: &str) -> Result<Ending, Fail> {
+fn ended_with_large_file<T: Threads + Wait + Sync + Alloc<A = Global> + rt::Files>(
+    rt: &T,
+    path: &str,
+) -> Result<Ending, Fail> {
     write_technology(rt, path)?;
     let ending = ended_with_file(rt, path);
     fs::remove_file(rt, path)?;

@@ -2,7 +2,9 @@
 use crate::cells::{CELL, NamedFiles};
 use crate::programs::{Ending, ended, expect_ended, expect_row};
 use std::alloc::Global;
+use std::sync::Wait;
 use std::test::Fail;
+use std::thread::Threads;
 
 const FILES: NamedFiles<'static> = NamedFiles {
     files: &[("c.mag", CELL)],
@@ -119,7 +121,7 @@ fn most_replies(alloc: Global) -> Result<String, Fail> {
 }
 
 /// Runs the program on the script.
-fn ended_with_most(rt: &HostRuntime) -> Result<Ending, Fail> {
+fn ended_with_most<T: Threads + Wait + Sync + Alloc<A = Global>>(rt: &T) -> Result<Ending, Fail> {
     let script = most_opened(rt.alloc())?;
     Ok(ended(rt, BUILT_IN, &FILES, script.as_bytes()))
 }

@@ -1,13 +1,36 @@
-use Rattle.std.proofs.Common.{rules, [], sym, subst}
+use Rattle.std.proofs.Common.{rules, [], refl, sym, subst}
 use Rattle.std.proofs.lemmas.Result.{err_from_is_err_and}
 use Rattle.mls_server.specs.Worlds.{World}
 use Rattle.mls_magicd.specs.Messages.{ReportsAll}
 use Rattle.mls_magicd.specs.Programs.{FailsAtStart, IsBareFor, skipped_lines}
+use Rattle.mls_magicd.specs.Technologies.{text_in}
 use Rattle.mls_magicd.specs.declared.fault.Fault.{Fault}
+use Rattle.mls_magicd.proofs.TechnologyLemmas.{has-fault, has-reading}
 use Rattle.mls_magicd.proofs.program.bare_server.Goals as goal
 
-pub returns-in_err-new-clause-err : goal.returns-in_err-new-clause-err
-returns-in_err-new-clause-err g c =
+pub returns-in_err-tech-clause-err : goal.returns-in_err-tech-clause-err
+returns-in_err-tech-clause-err g c =
+    let reads_as = g.F.Files.reads_as c.args.files.now in
+    let fault = err_from_is_err_and c.from_residual-in_err-tech.result c.from_residual-in_err-tech.ensures.1 in
+    rw fault.1 (λ words parsed.
+    subst (λ (f : Fault). FailsAtStart reads_as (g.F.Files.may_fail c.args.files.now) words g.E.Write.contents c.args.faults.now c.args.faults.now f)
+    (sym fault.2)
+    (parsed.taken, has-fault reads_as _ _ (text_in c.in_ok-text.text) parsed.tech c.in_ok-text.ensures c.in_err-tech.field-0.0 c.in_err-tech.ensures, refl))
+
+pub returns-in_err-rules-clause-err : goal.returns-in_err-rules-clause-err
+returns-in_err-rules-clause-err g c =
+    let reads_as = g.F.Files.reads_as c.args.files.now in
+    let fault = err_from_is_err_and c.from_residual-in_err-rules.result c.from_residual-in_err-rules.ensures.1 in
+    let tech = c.in_ok-tech.tech in
+    let reported : ReportsAll g.E.Write.contents c.args.faults.now c.report_skipped.new.faults (skipped_lines tech) = search rules in
+    rw fault.1 (λ words parsed.
+    subst (λ (f : Fault). FailsAtStart reads_as (g.F.Files.may_fail c.args.files.now) words g.E.Write.contents c.args.faults.now c.report_skipped.new.faults f)
+    (sym fault.2)
+    (tech, parsed.taken, has-reading reads_as _ _ (text_in c.in_ok-text.text) parsed.tech c.in_ok-text.ensures tech c.in_ok-tech.ensures, sym c.in_err-rules.ensures, reported))
+
+pub returns-in_err-server-clause-err : goal.returns-in_err-server-clause-err
+returns-in_err-server-clause-err g c =
+    let reads_as = g.F.Files.reads_as c.args.files.now in
     let on : World = record {
       setting = record { tech = c.in_ok-tech.tech; rules = c.in_ok-rules.rules; quota = c.args.options.now.quota; journal = c.args.options.now.journal; cells = [] };
       given = 0;
@@ -15,8 +38,15 @@ returns-in_err-new-clause-err g c =
       room = c.args.options.now.pool;
     } in
     let reported : ReportsAll g.E.Write.contents c.args.faults.now c.report_skipped.new.faults (skipped_lines on.setting.tech) = search rules in
-    let fault = err_from_is_err_and c.from_residual-in_err-new.result c.from_residual-in_err-new.ensures.1 in
+    let fault = err_from_is_err_and c.from_residual-in_err-server.result c.from_residual-in_err-server.ensures.1 in
     rw fault.1 (λ words parsed.
-    let bare : IsBareFor (g.F.Files.reads_as c.args.files.now) words on = search rules in
-    subst (λ (f : Fault). FailsAtStart (g.F.Files.reads_as c.args.files.now) (g.F.Files.may_fail c.args.files.now) words g.E.Write.contents c.args.faults.now c.report_skipped.new.faults f)
+    let reading = has-reading reads_as _ _ (text_in c.in_ok-text.text) parsed.tech c.in_ok-text.ensures on.setting.tech c.in_ok-tech.ensures in
+    let bare : IsBareFor reads_as words on = search rules in
+    subst (λ (f : Fault). FailsAtStart reads_as (g.F.Files.may_fail c.args.files.now) words g.E.Write.contents c.args.faults.now c.report_skipped.new.faults f)
     (sym fault.2) (on, bare, reported))
+
+pub returns-clause-bare : goal.returns-clause-bare
+returns-clause-bare g c words parsed =
+    let reads_as = g.F.Files.reads_as c.args.files.now in
+    let reading = has-reading reads_as _ _ (text_in c.in_ok-text.text) parsed.tech c.in_ok-text.ensures c.in_ok-tech.tech c.in_ok-tech.ensures in
+    search rules

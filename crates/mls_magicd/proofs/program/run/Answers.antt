@@ -1,37 +1,31 @@
-use Rattle.std.proofs.Common.{◌≡◌, ◌∙◌, List, ℕ, inl, inr, ap, subst, sym, arith}
-use Rattle.mls_magicd.specs.Messages.{Reports, fault_text, serve_fault_line}
-use Rattle.mls_magicd.specs.Programs.{bad_command_line, failed, skipped_lines, status_after}
-use Rattle.mls_magicd.proofs.MessageLemmas.{ReportsAll-more}
+use Rattle.std.proofs.Common.{◌∙◌, inl, map, refl, subst, sym}
+use Rattle.mls_magicd.specs.Programs.{FailsAtStart}
+use Rattle.mls_magicd.specs.declared.fault.Fault.{Fault}
 use Rattle.mls_magicd.proofs.Refusals.{refused-words}
 use Rattle.mls_magicd.proofs.program.run.Goals as goal
 
-pub returns-in-Err-clause-failed : goal.returns-in-Err-clause-failed
-returns-in-Err-clause-failed g c is = elim c.in-Err.ensures.err [
-  | inl start ↦ inl ((c.in-Err.fault, c.serve_words.new.faults, sym c.fail.ensures.status ∙ is, start.0, c.fail.ensures.reported), start.1, start.2)
-  | inr script ↦
-      let message : Reports g.E.Write.contents c.serve_words.new.faults c.fail.new.faults (serve_fault_line script.1) =
-      subst (λ (text : List ℕ). Reports g.E.Write.contents c.serve_words.new.faults c.fail.new.faults text) (ap fault_text script.2) c.fail.ensures.reported in
-      inr (
-        script.0,
-        script.3,
-        (
-          script.1,
-          script.4,
-          ReportsAll-more g.E.Write.contents c.args.faults.now c.serve_words.new.faults c.fail.new.faults
-              (skipped_lines script.0.setting.tech) (serve_fault_line script.1) script.5 message,
-        ),
-      )
-]
-
 pub returns-in-Err-clause-refused : goal.returns-in-Err-clause-refused
-returns-in-Err-clause-refused g c is = elim c.in-Err.ensures.err [
-  | inl start ↦ (
-    refused-words (g.F.Files.reads_as c.args.files.now) (g.F.Files.may_fail c.args.files.now) _ g.E.Write.contents c.args.faults.now c.serve_words.new.faults c.fail.new.faults
-        c.in-Err.fault (sym c.fail.ensures.status ∙ is) start.0 c.fail.ensures.reported,
-    start.1,
-    start.2,
-  )
-  | inr script ↦
-      let bad : failed ≡ bad_command_line = sym (ap status_after script.2) ∙ sym c.fail.ensures.status ∙ is in
-      absurd (omega (arith, bad))
-]
+returns-in-Err-clause-refused g c is =
+    let reads_as = g.F.Files.reads_as c.args.files.now in
+    let may_fail = g.F.Files.may_fail c.args.files.now in
+    let words = map g.S.AsStr.text c.args.words.now in
+    let faults = c.args.streams.now.faults in
+    let start = subst (λ (f : Fault). FailsAtStart reads_as may_fail words g.E.Write.contents faults faults f) (sym c.into.ensures) (c.in-Err.ensures, refl) in (
+      refused-words reads_as may_fail words g.E.Write.contents faults faults c.fail.new.faults c.into.result (sym c.fail.ensures.status ∙ is) start c.fail.ensures.reported,
+      refl,
+      refl,
+    )
+
+pub returns-in-Err-clause-failed : goal.returns-in-Err-clause-failed
+returns-in-Err-clause-failed g c zero is =
+    let faults = c.args.streams.now.faults in
+    let start = subst (λ (f : Fault). FailsAtStart (g.F.Files.reads_as c.args.files.now) (g.F.Files.may_fail c.args.files.now) (map g.S.AsStr.text c.args.words.now)
+    g.E.Write.contents faults faults f) (sym c.into.ensures) (c.in-Err.ensures, refl) in
+    inl ((c.into.result, faults, sym c.fail.ensures.status ∙ is, start, c.fail.ensures.reported), refl, refl)
+
+pub returns-in-Err-clause-failed_by_crew : goal.returns-in-Err-clause-failed_by_crew
+returns-in-Err-clause-failed_by_crew g c workers named some is =
+    let faults = c.args.streams.now.faults in
+    let start = subst (λ (f : Fault). FailsAtStart (g.F.Files.reads_as c.args.files.now) (g.F.Files.may_fail c.args.files.now) (map g.S.AsStr.text c.args.words.now)
+    g.E.Write.contents faults faults f) (sym c.into.ensures) (c.in-Err.ensures, refl) in
+    inl ((c.into.result, faults, sym c.fail.ensures.status ∙ is, start, c.fail.ensures.reported), refl, refl)

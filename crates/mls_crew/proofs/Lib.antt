@@ -1,0 +1,5 @@
+pub mod Commands
+pub mod CountdownLemmas
+pub mod LineLists
+pub mod SortedLines
+pub mod Outputs

@@ -1,0 +1,60 @@
+-- Lines that are sorted, one more at a time.
+use Rattle.std.proofs.Common.{Option, Some, None, is_some, false, ◌≡◌, ◌++◌, ◌+◌, ◌<◌, ℕ, suc, Result, List, [], ◌∷◌, get_or, length, length-take, take, take-suc, add-zero, append-nil, append_assoc, refl, sym, ap, ◌∙◌, subst, arith}
+use Rattle.mls_wire.specs.NameBooks.{Names}
+use Rattle.mls_wire.specs.declared.line.Line.{Line}
+use Rattle.mls_wire.specs.declared.line.LineFault.{LineFault}
+use Rattle.mls_crew.specs.Sorting.{Sorted, Sorts, SortsLine, added}
+use Rattle.mls_crew.specs.declared.seat_line.Handed.{Handed}
+
+same_sorted : (head head' : List ℕ) (handed handed' : List Handed) (opened : List (List ℕ)) → head ≡ head' → handed ≡ handed'
+    → record { head = head; handed = handed; opened = opened } ≡ (let s : Sorted = record { head = head'; handed = handed'; opened = opened } in s)
+same_sorted head head' handed handed' opened p q =
+    ap (λ h. let s : Sorted = record { head = h; handed = handed; opened = opened } in s) p
+    ∙ ap (λ h. let s : Sorted = record { head = head'; handed = h; opened = opened } in s) q
+
+module _ (book : Names) (said : Result Line LineFault) (next : Sorted) where
+  pub Sorts-snoc :
+      (n : ℕ) (opened : List (List ℕ)) (lines : List (Result Line LineFault)) (sorted : Sorted) → Sorts book n opened lines sorted
+      → SortsLine book (n + length lines) sorted.opened said next → Sorts book n opened (lines ++ said ∷ []) (added sorted next)
+  Sorts-snoc n opened [] sorted none line = (
+    next,
+    record { head = []; handed = []; opened = next.opened },
+    subst (λ (m : ℕ). SortsLine book m opened said next) (add-zero n) (subst (λ (s : Sorted). SortsLine book (n + 0) s.opened said next) none line),
+    refl,
+    ap (λ (s : Sorted). added s next) none
+    ∙ same_sorted next.head (next.head ++ []) next.handed (next.handed ++ []) next.opened (sym (append-nil next.head)) (sym (append-nil next.handed)),
+  )
+  Sorts-snoc n opened (one ∷ lines) sorted (first, rest, says, more, is) line =
+      let at : n + length (one ∷ lines) ≡ n + 1 + length lines = omega arith in
+      let here : SortsLine book (n + 1 + length lines) rest.opened said next =
+      subst (λ (m : ℕ). SortsLine book m rest.opened said next) at (subst (λ (s : Sorted). SortsLine book (n + length (one ∷ lines)) s.opened said next) is line) in (
+        first,
+        added rest next,
+        says,
+        Sorts-snoc (n + 1) first.opened lines rest more here,
+        ap (λ (s : Sorted). added s next) is
+        ∙ same_sorted (first.head ++ rest.head ++ next.head) (first.head ++ (rest.head ++ next.head)) (first.handed ++ rest.handed ++ next.handed) (first.handed ++ (rest.handed ++ next.handed)) next.opened
+            (append_assoc first.head rest.head next.head) (append_assoc first.handed rest.handed next.handed),
+      )
+
+-- the line at an index more
+pub Sorts-next :
+    (book : Names) (lines : List (Result Line LineFault)) (index n : ℕ) (sorted : Sorted) (said : Result Line LineFault) (next : Sorted) → index < length lines → n ≡ index + 1
+    → Sorts book 1 [] (take index lines) sorted → SortsLine book n sorted.opened (get_or lines index said) next → Sorts book 1 [] (take (index + 1) lines) (added sorted next)
+Sorts-next book lines index n sorted said next within is sorts line =
+    let one : index + 1 ≡ suc index = omega arith in
+    let at : n ≡ 1 + length (take index lines) = omega (arith, length-take {A = Result Line LineFault}) in
+    subst (λ (done : List (Result Line LineFault)). Sorts book 1 [] done (added sorted next)) (sym (ap (λ count. take count lines) one ∙ take-suc lines index said within))
+    (Sorts-snoc book (get_or lines index said) next 1 [] (take index lines) sorted sorts (subst (λ (m : ℕ). SortsLine book m sorted.opened (get_or lines index said) next) at line))
+
+-- a name more
+pub opened_one : (before : Sorted) (opened : List (List ℕ)) (name : List ℕ) → opened ≡ before.opened ++ name ∷ []
+    → record before { opened = opened } ≡ added before (record { head = []; handed = []; opened = before.opened ++ name ∷ [] })
+opened_one before opened name is =
+    ap (λ (names : List (List ℕ)). let s : Sorted = record before { opened = names } in s) is
+    ∙ same_sorted before.head (before.head ++ []) before.handed (before.handed ++ []) (before.opened ++ name ∷ []) (sym (append-nil before.head)) (sym (append-nil before.handed))
+
+-- no session has the name
+pub none_named : (found : Option ℕ) → is_some found ≡ false → found ≡ None
+none_named None no = refl
+none_named (Some n) no = absurd (cc)

@@ -1,0 +1,5 @@
+pub mod Books
+pub mod Countdowns
+pub mod Groups
+pub mod Scripts
+pub mod Sorting

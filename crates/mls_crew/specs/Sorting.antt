@@ -1,0 +1,70 @@
+-- Which lines of a script are answered at once, and which are handed to a session. This project's own.
+use Rattle.std.specs.Prelude.{◌≡◌, ◌⊎◌, ℕ, ◌+◌, ◌<◌, Option, Some, None, Result, Ok, Err, List, [], ◌∷◌, ◌++◌, length}
+use Rattle.std.specs.List.{position}
+use Rattle.mls_session.specs.declared.command.Command.{Command}
+use Rattle.mls_server.specs.declared.answer.Answer.TheVariants.{Opened}
+use Rattle.mls_server.specs.declared.fault.OpenFault.{OpenFault}
+use Rattle.mls_server.specs.declared.fault.OpenFault.TheVariants.{OpenAlready}
+use Rattle.mls_text.specs.Words.{same_word}
+use Rattle.mls_wire.specs.NameBooks.{Names}
+use Rattle.mls_wire.specs.Replies.{response_text}
+use Rattle.mls_wire.specs.declared.line.Line.{Line}
+use Rattle.mls_wire.specs.declared.line.Line.TheVariants.{Silent, Open, Close, Step, Audit, Run}
+use Rattle.mls_wire.specs.declared.line.LineFault.{LineFault}
+use Rattle.mls_wire.specs.declared.line.LineFault.TheVariants.{NotOpen, UnknownCommand}
+use Rattle.mls_wire.specs.declared.response.Response.TheVariants.{Answered, Fault}
+use Rattle.mls_crew.specs.declared.seat_line.Handed.{Handed}
+use Rattle.mls_crew.specs.declared.seat_line.SeatLine.{SeatLine}
+use Rattle.mls_crew.specs.declared.seat_line.SeatLine.TheVariants.{Audit as AuditLine, Run as RunLine}
+
+-- the number of the session of this name, in the order of opening
+abbrev pub session_of : List (List ℕ) → List ℕ → Option ℕ
+session_of opened name = position (λ other. same_word name other) opened
+
+-- what becomes of a line, given the names of the sessions that were opened before it: the text that is written at the head of the output, what is handed to a
+-- session, and the names of the sessions opened up to here
+pub record Sorted : Type 0 where
+  pub head : List ℕ
+  pub handed : List Handed
+  pub opened : List (List ℕ)
+
+-- what was sorted before, and then this
+abbrev pub added : Sorted → Sorted → Sorted
+added before next = record { head = before.head ++ next.head; handed = before.handed ++ next.handed; opened = next.opened }
+
+-- the line is answered at once, with this text
+abbrev pub at_once : List (List ℕ) → List ℕ → Sorted
+at_once opened text = record { head = text; handed = []; opened = opened }
+
+-- line n has this fault
+abbrev pub faulty : Names → ℕ → LineFault → List (List ℕ) → Sorted
+faulty book n fault opened = at_once opened (response_text book n (Fault fault))
+
+-- the line is handed to the session of this number, or there is none
+abbrev pub handed_to : Names → ℕ → List (List ℕ) → Option ℕ → SeatLine → Sorted
+handed_to book n opened (Some session) line = record { head = []; handed = record { session = session; line = line } ∷ []; opened = opened }
+handed_to book n opened None line = faulty book n NotOpen opened
+
+-- a session of this name was opened, where none had been; or opening is refused by a fault, the first where one had been
+abbrev pub Opens : Names → ℕ → List (List ℕ) → List ℕ → Sorted → Type 0
+Opens book n opened name sorted =
+    ((session_of opened name ≡ None) × (sorted ≡ record { head = []; handed = []; opened = opened ++ name ∷ [] }))
+    ⊎ ((fault : OpenFault) × (((session_of opened name ≡ None) ⊎ (fault ≡ OpenAlready)))
+    × (sorted ≡ at_once opened (response_text book n (Answered name (Opened (Err fault))))))
+
+-- what line n says is sorted
+abbrev pub SortsLine : Names → ℕ → List (List ℕ) → Result Line LineFault → Sorted → Type 0
+SortsLine book n opened (Err fault) sorted = sorted ≡ faulty book n fault opened
+SortsLine book n opened (Ok Silent) sorted = sorted ≡ at_once opened []
+SortsLine book n opened (Ok (Open name)) sorted = Opens book n opened name sorted
+SortsLine book n opened (Ok (Close name id)) sorted = sorted ≡ faulty book n UnknownCommand opened
+SortsLine book n opened (Ok (Step name id)) sorted = sorted ≡ faulty book n UnknownCommand opened
+SortsLine book n opened (Ok (Audit name id)) sorted = sorted ≡ handed_to book n opened (session_of opened name) AuditLine
+SortsLine book n opened (Ok (Run name id command)) sorted = sorted ≡ handed_to book n opened (session_of opened name) (RunLine command)
+
+-- the lines from line n on are sorted one after another
+abbrev pub Sorts : Names → ℕ → List (List ℕ) → List (Result Line LineFault) → Sorted → Type 0
+Sorts book n opened [] sorted = sorted ≡ at_once opened []
+Sorts book n opened (said ∷ lines) sorted =
+    (first : Sorted) × (rest : Sorted) × SortsLine book n opened said first × Sorts book (n + 1) first.opened lines rest
+    × (sorted ≡ added first rest)

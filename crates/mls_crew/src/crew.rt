@@ -1,0 +1,148 @@
+//! A server and its workers.
+ghost use Rattle.std.specs.Prelude.{◌≡◌, ◌++◌, [], false, IfOk, IfErr};
+ghost use Rattle.std.specs.List.{flat_map, list_all};
+ghost use Rattle.mls_server.specs.Servers.{world_of};
+ghost use Rattle.mls_server.specs.Settings.{terms_for};
+ghost use Rattle.mls_crew.specs.Books.{labels_of};
+ghost use Rattle.mls_crew.specs.Scripts.{FailsCrew, TellsLines, WritesCrew};
+
+use crate::Labels;
+use crate::sorting::{Desk, sort};
+use crate::speaking::{Part, Told};
+use crate::threads::tell;
+use crossbeam_channel::{Receiver, unbounded};
+use mls_live::{Live, Naming};
+use mls_server::{Server, SessionId};
+use mls_tech::Tech;
+use mls_wire::{Line, LineFault, ServeFault, Watched, read_script, send};
+use std::alloc::{AllocError, Global};
+use std::io::{Read, Write};
+use std::marker::Brand;
+use std::sync::Wait;
+use std::sync::ledger::Blank;
+use std::thread::Threads;
+
+/// A server in which no session is open, and the workers that are to check behind its sessions.
+#[derive(Drop)]
+pub struct Crew {
+    /// The server.
+    pub server: Server,
+    /// The server's technology, read once more: what types and rules are called in replies.
+    pub tech: Tech,
+    /// How many workers there are.
+    pub workers: usize,
+}
+
+/// How the sessions of a script ended.
+#[derive(Clone, Copy, Debug, PartialEq, Eq)]
+pub struct Served {
+    /// Whether the list of each session was audited at its end.
+    pub audited: bool,
+}
+
+/// What is written to a script.
+#[derive(Drop)]
+struct Output {
+    text: Vec<u8>,
+    audited: bool,
+}
+
+impl Crew {
+    /// Serves a whole script: reads it to its end, opens its sessions, says the lines of each in a thread of its own while the workers
+    /// check, closes all sessions, and writes the replies. First come those to lines that no session has, in the order of the script, then
+    /// those of each session, in the order of opening.
+    ///
+    /// # Errors
+    ///
+    /// [`ServeFault::Read`] where the input failed: then no line was executed. [`ServeFault::Memory`] where memory ran out or a thread
+    /// couldn't be started. In both cases nothing was written. [`ServeFault::Write`] where the output failed: then a beginning of the
+    /// replies was written.
+    pub fn serve<R: Read, W: Write, T: Threads + Wait + Sync>(
+        self,
+        rt: &T,
+        alloc: Global,
+        input: &mut Watched<R>,
+        output: &mut Watched<W>,
+    ) -> Result<Served, ServeFault>
+        requires input_sound { input.old.failed ≡ false }
+        requires output_sound { output.old.failed ≡ false }
+        requires idle { (world_of self.server).seats ≡ [] }
+        requires tech { self.tech ≡ (world_of self.server).setting.tech }
+        ensures served { IfOk result (λ served. WritesCrew (world_of self.server) (R.remaining input.old.device)
+            (W.contents output.old.device) (W.contents output.new.device) served.audited) }
+        ensures failed { IfErr result (λ fault. FailsCrew (world_of self.server) fault (R.remaining input.old.device) input.new
+            W.contents output.old output.new) }
+    {
+        let script = read_script(alloc, &self.server, input)?;
+        let Output { text, audited } = say::<Brand, T>(rt, alloc, self, Blank::new(65), &script)?;
+        send(&text, output)?;
+        Ok(Served { audited })
+    }
+}
+
+/// Says the lines of a script, and returns what is written to it.
+fn say<N: Naming + Send + Sync, T: Threads + Wait + Sync>(
+    rt: &T,
+    alloc: Global,
+    crew: Crew,
+    blank: Blank,
+    script: &[Result<Line, LineFault>],
+) -> Result<Output, AllocError>
+    requires named { terms_for (world_of crew.server).setting ≡ N.terms }
+    requires idle { (world_of crew.server).seats ≡ [] }
+    requires blank { (blank.name ≡ N.name) × (blank.parts ≡ N.parts) }
+    requires parts { N.parts ≡ 65 }
+    ensures { IfOk result (λ output. TellsLines N.terms (labels_of crew.tech) script.now output.audited output.text.items) }
+{
+    let Crew {
+        server,
+        tech,
+        workers,
+    } = crew;
+    let limit = server.journal_limit();
+    let live = Live::<N>::new(server, limit, blank);
+    let labels = Labels::new(tech);
+    let (notices, ids) = unbounded(alloc)?;
+    let receivers = clones(alloc, &ids, workers)?;
+    let desk = Desk {
+        alloc,
+        live: &live,
+        labels: &labels,
+        notices,
+    };
+    let mut fresh = Vec::new(alloc);
+    let sorting = sort(rt, &desk, script, &mut fresh)?;
+    // From here on the seats alone send notices, so that the workers end once the seats are gone.
+    drop(desk);
+    let part = Part {
+        alloc,
+        labels: &labels,
+        sorting: &sorting,
+        session: 0,
+    };
+    let told = tell(rt, &live, part, receivers, fresh)?;
+    gather(alloc, sorting.head(), &told)
+}
+
+/// Returns as many clones of a receiver.
+fn clones(alloc: Global, ids: &Receiver<SessionId, Global>, count: usize) -> Result<Vec<Receiver<SessionId, Global>>, AllocError> {
+    let mut receivers = Vec::new(alloc);
+    for _ in 0..count {
+        receivers.push(ids.clone()?)?;
+    }
+    Ok(receivers)
+}
+
+/// Appends the texts of all sessions to that of the lines that are answered at once.
+fn gather(alloc: Global, head: &[u8], told: &[Told]) -> Result<Output, AllocError>
+    ensures text { IfOk result (λ output. output.text.items ≡ head.now ++ flat_map (λ group. group.text) told.now) }
+    ensures audited { IfOk result (λ output. output.audited ≡ list_all (λ group. group.audited) told.now) }
+{
+    let mut text = head.to_vec(alloc)?;
+    let mut audited = true;
+    for group in told {
+        text.extend_from_slice(group.text())?;
+        audited = audited && group.audited();
+    }
+    Ok(Output { text, audited })
+}

@@ -1,0 +1,20 @@
+//! Lines that are said at seats.
+use mls_session::Command;
+
+/// A line of a session's own.
+#[derive(Clone, Copy, Debug, PartialEq, Eq)]
+pub enum SeatLine {
+    /// A command.
+    Run(Command),
+    /// Asks for the audit.
+    Audit,
+}
+
+/// A line, and the number of the session that it is handed to: 0 for the one that was opened first.
+#[derive(Clone, Copy, Debug, PartialEq, Eq)]
+pub struct Handed {
+    /// The session's number.
+    pub session: usize,
+    /// The line.
+    pub line: SeatLine,
+}

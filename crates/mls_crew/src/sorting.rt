@@ -1,0 +1,208 @@
+//! Which lines of a script are answered at once, and which are handed to a session.
+ghost use Rattle.std.specs.Prelude.{◌≡◌, ◌+◌, ◌<◌, [], IfOk, OnOk, length, slice_index_or, vec_len};
+ghost use Rattle.mls_live.specs.Lists.{list_of};
+ghost use Rattle.mls_crew.specs.Books.{labels_of};
+ghost use Rattle.mls_crew.specs.Sorting.{Opens, Sorts, SortsLine, added, at_once, faulty, handed_to, session_of};
+ghost use Rattle.mls_wire.specs.Replies.{response_text};
+
+use crate::{Handed, Labels, SeatLine};
+use crossbeam_channel::Sender;
+use mls_live::{Live, Naming, Seat};
+use mls_server::{Answer, Name, OpenFault, SessionId};
+use mls_wire::{Line, LineFault, Response, push_response};
+use std::alloc::{AllocError, Global};
+use std::marker::Model;
+use std::sync::Wait;
+
+/// A seat at which nothing was said yet.
+#[derive(Drop)]
+pub struct Fresh<'l, N: Naming> {
+    pub seat: Seat<'l, N>,
+    pub ghost silent: { length (list_of seat) ≡ 0 },
+}
+
+/// What opens sessions and labels replies.
+#[derive(Drop)]
+pub struct Desk<'l, N: Naming> {
+    pub alloc: Global,
+    pub live: &'l Live<N>,
+    pub labels: &'l Labels,
+    pub notices: Sender<SessionId, Global>,
+}
+
+/// The lines of a script, sorted: the text of those that are answered at once, those that are handed to a session, and the names of
+/// the sessions that were opened.
+#[derive(Drop)]
+pub struct Sorting {
+    head: Vec<u8>,
+    handed: Vec<Handed>,
+    names: Vec<Name>,
+}
+
+impl Model for Sorting {
+    ghost use Rattle.mls_crew.specs.Sorting.{Sorted};
+
+    ghost Value = { Sorted };
+
+    ghost view = { λ s. record { head = s.head.items; handed = s.handed.items; opened = s.names.items } };
+}
+
+impl Sorting {
+    /// Creates a sorting of no lines.
+    fn new(alloc: Global) -> Sorting
+        ensures { result ≡ record { head = []; handed = []; opened = [] } }
+    {
+        Sorting {
+            head: Vec::new(alloc),
+            handed: Vec::new(alloc),
+            names: Vec::new(alloc),
+        }
+    }
+
+    /// Returns the text of the lines that are answered at once.
+    pub fn head(&self) -> &[u8]
+        ensures { result.now ≡ self.now.head }
+    {
+        self.head.as_slice()
+    }
+
+    /// Returns the lines that are handed to sessions.
+    pub fn handed(&self) -> &[Handed]
+        ensures { result.now ≡ self.now.handed }
+    {
+        self.handed.as_slice()
+    }
+
+    /// Returns how many sessions were opened.
+    pub fn opened(&self) -> usize
+        ensures { result ≡ length self.now.opened }
+    {
+        self.names.len()
+    }
+
+    /// Returns the name of an opened session.
+    pub fn name(&self, session: usize) -> Name
+        requires { session < length self.now.opened }
+        ensures { result ≡ slice_index_or self.now.opened session [] }
+    {
+        self.names[session]
+    }
+
+    /// Returns the number of the session of this name.
+    fn session(&self, name: &Name) -> Option<usize>
+        ensures { result ≡ session_of self.now.opened name.now }
+    {
+        self.names.iter().position(|other| name == other)
+    }
+
+    /// Sorts line `n`.
+    fn sort_line<'l, N: Naming, R: Wait>(
+        &mut self,
+        rt: &R,
+        desk: &Desk<'l, N>,
+        n: u128,
+        said: &Result<Line, LineFault>,
+        seats: &mut Vec<Fresh<'l, N>>,
+    ) -> Result<(), AllocError>
+        requires paired { length self.old.opened ≡ vec_len seats.old }
+        ensures sorts { OnOk result ((sorted : _) × SortsLine (labels_of desk.now.labels.now) n self.old.opened said.now sorted × (self.new ≡ added self.old sorted)) }
+        ensures paired { OnOk result (length self.new.opened ≡ vec_len seats.new) }
+    {
+        match said {
+            Err(fault) => self.refuse(desk, n, *fault),
+            Ok(Line::Silent) => Ok(()),
+            Ok(Line::Open(name)) => self.open(rt, desk, n, name, seats),
+            Ok(Line::Close(_, _) | Line::Step(_, _)) => self.refuse(desk, n, LineFault::UnknownCommand),
+            Ok(Line::Audit(name, _)) => self.hand(desk, n, name, SeatLine::Audit),
+            Ok(Line::Run(name, _, command)) => self.hand(desk, n, name, SeatLine::Run(*command)),
+        }
+    }
+
+    /// Answers line `n` at once.
+    fn answer<N: Naming>(&mut self, desk: &Desk<'_, N>, n: u128, response: &Response) -> Result<(), AllocError>
+        ensures { OnOk result (self.new ≡ added self.old (at_once self.old.opened (response_text (labels_of desk.now.labels.now) n response.now))) }
+    {
+        push_response(desk.labels, n, response, &mut self.head)
+    }
+
+    /// Answers line `n` with its fault.
+    fn refuse<N: Naming>(&mut self, desk: &Desk<'_, N>, n: u128, fault: LineFault) -> Result<(), AllocError>
+        ensures { OnOk result (self.new ≡ added self.old (faulty (labels_of desk.now.labels.now) n fault self.old.opened)) }
+    {
+        self.answer(desk, n, &Response::Fault(fault))
+    }
+
+    /// Hands line `n` to the session of this name.
+    fn hand<N: Naming>(&mut self, desk: &Desk<'_, N>, n: u128, name: &Name, line: SeatLine) -> Result<(), AllocError>
+        ensures { OnOk result (self.new ≡ added self.old (handed_to (labels_of desk.now.labels.now) n self.old.opened (session_of self.old.opened name.now) line)) }
+    {
+        let Some(session) = self.session(name) else {
+            return self.refuse(desk, n, LineFault::NotOpen);
+        };
+        self.handed.push(Handed { session, line })?;
+        Ok(())
+    }
+
+    /// Opens a session, or answers line `n` with why it can't be opened.
+    fn open<'l, N: Naming, R: Wait>(
+        &mut self,
+        rt: &R,
+        desk: &Desk<'l, N>,
+        n: u128,
+        name: &Name,
+        seats: &mut Vec<Fresh<'l, N>>,
+    ) -> Result<(), AllocError>
+        requires paired { length self.old.opened ≡ vec_len seats.old }
+        ensures opens { OnOk result ((sorted : _) × Opens (labels_of desk.now.labels.now) n self.old.opened name.now sorted × (self.new ≡ added self.old sorted)) }
+        ensures paired { OnOk result (length self.new.opened ≡ vec_len seats.new) }
+    {
+        if self.session(name).is_some() {
+            return self.answer_opening(desk, n, name, OpenFault::OpenAlready);
+        }
+        match desk.live.seat(rt, desk.alloc, *name) {
+            Ok(seat) => {
+                seats.push(notifying(desk, seat))?;
+                self.names.push(*name)?;
+                Ok(())
+            }
+            Err(fault) => self.answer_opening(desk, n, name, fault),
+        }
+    }
+
+    /// Answers line `n` with why the session can't be opened.
+    fn answer_opening<N: Naming>(&mut self, desk: &Desk<'_, N>, n: u128, name: &Name, fault: OpenFault) -> Result<(), AllocError>
+        ensures { OnOk result (self.new ≡ added self.old (at_once self.old.opened (response_text (labels_of desk.now.labels.now) n (Response.Answered name.now (Answer.Opened (Err fault)))))) }
+    {
+        self.answer(desk, n, &Response::Answered(*name, Answer::Opened(Err(fault))))
+    }
+}
+
+/// Returns a seat with a sender of its own, or with none where it is refused.
+fn notifying<'l, N: Naming>(desk: &Desk<'_, N>, mut seat: Seat<'l, N>) -> Fresh<'l, N>
+    requires { list_of seat ≡ [] }
+{
+    if let Ok(notices) = desk.notices.clone() {
+        seat.notify(notices);
+    }
+    Fresh { seat }
+}
+
+/// Sorts the lines of a script, and opens its sessions.
+pub fn sort<'l, N: Naming, R: Wait>(
+    rt: &R,
+    desk: &Desk<'l, N>,
+    script: &[Result<Line, LineFault>],
+    seats: &mut Vec<Fresh<'l, N>>,
+) -> Result<Sorting, AllocError>
+    requires { vec_len seats.old ≡ 0 }
+    ensures sorts { IfOk result (λ sorted. Sorts (labels_of desk.now.labels.now) 1 [] script.now sorted) }
+    ensures paired { IfOk result (λ sorted. length sorted.opened ≡ vec_len seats.new) }
+{
+    let mut sorting = Sorting::new(desk.alloc);
+    let mut n: u128 = 1;
+    for said in script {
+        sorting.sort_line(rt, desk, n, said, seats)?;
+        n += 1;
+    }
+    Ok(sorting)
+}

@@ -1,0 +1,149 @@
+//! The threads of a script: one for each session, and the workers beside them.
+ghost use Rattle.std.specs.Prelude.{◌≡◌, ◌≤◌, false, IfOk, length, vec_len, vec_capacity};
+ghost use Rattle.mls_crew.specs.Books.{labels_of};
+ghost use Rattle.mls_crew.specs.Countdowns.{CountsDown};
+ghost use Rattle.mls_crew.specs.Scripts.{TellsGroups};
+
+use crate::sorting::{Fresh, Sorting};
+use crate::speaking::{Part, Spoken, Told, speak};
+use crossbeam_channel::Receiver;
+use mls_live::{Live, Naming, Plain, Seat, work};
+use mls_server::SessionId;
+use std::alloc::{AllocError, Global};
+use std::sync::Wait;
+use std::thread;
+use std::thread::{Promise, PromisedHandle, Scope, Threads};
+
+impl<'s, 'l, N: Naming> Promise<Spoken<'l, N>> for Part<'s> {
+    ghost use Rattle.mls_crew.specs.Scripts.{TellsPart};
+
+    ghost kept_by = { λ part spoken. IfOk spoken.told (TellsPart N.terms (labels_of part.labels.now) part.sorting.now part.session) };
+}
+
+/// Says the lines of each session in a thread of its own while workers check, one for each receiver, closes the sessions, and returns
+/// their texts.
+pub fn tell<'l, N: Naming + Send + Sync, R: Threads + Wait + Sync>(
+    rt: &R,
+    live: &'l Live<N>,
+    part: Part<'_>,
+    receivers: Vec<Receiver<SessionId, Global>>,
+    fresh: Vec<Fresh<'l, N>>,
+) -> Result<Vec<Told>, AllocError>
+    requires parts { N.parts ≡ 65 }
+    requires paired { vec_len fresh ≡ length part.sorting.now.opened }
+    ensures { IfOk result (λ told. TellsGroups N.terms (labels_of part.entry.labels.now) part.entry.sorting.now told.items) }
+{
+    thread::scope(
+        thread::scope_env(),
+        rt,
+        move |scope| -> Result<Vec<Told>, AllocError>
+            requires parts { N.parts ≡ 65 }
+            requires paired { vec_len fresh ≡ length part.sorting.now.opened }
+            ensures { IfOk result (λ told. TellsGroups N.terms (labels_of part.entry.labels.now) part.entry.sorting.now told.items) }
+        {
+            let spoken = speak_all(rt, scope, live, part, receivers, fresh)?;
+            // In the scope, since the workers wait for it.
+            retired(rt, live, spoken)
+        },
+    )
+}
+
+/// Closes all sessions, and returns their texts.
+fn retired<N: Naming, R: Wait>(rt: &R, live: &Live<N>, spoken: AllSpoken<'_, '_, N>) -> Result<Vec<Told>, AllocError>
+    requires { N.parts ≡ 65 }
+    ensures { IfOk result (λ told. (spoken.entry.failed ≡ false) × (told ≡ spoken.entry.told)) }
+{
+    let AllSpoken {
+        part: _,
+        seats,
+        told,
+        failed,
+    } = spoken;
+    let _ = live.retire(rt, seats);
+    if failed {
+        return Err(AllocError);
+    }
+    Ok(told)
+}
+
+/// The seats of all sessions once their lines were said, in the order of opening, and their texts.
+#[derive(Drop)]
+struct AllSpoken<'s, 'l, N: Naming> {
+    /// What was to be said.
+    part: Part<'s>,
+    seats: Vec<Seat<'l, N>>,
+    told: Vec<Told>,
+    /// Whether memory for some text was refused. It isn't among the texts then.
+    failed: bool,
+}
+
+/// Says the lines of each session in a thread of its own, while workers check, one for each receiver.
+///
+/// Where a thread can't be started, what runs ends all the same: the seats that are left drop their senders here, and the results
+/// of the others are taken, since one that isn't taken keeps its sender.
+fn speak_all<'s, 'l: 's, E, N: Naming + Send + Sync + 's, R: Threads + Wait + Sync>(
+    rt: &'s R,
+    scope: &Scope<'s, E>,
+    live: &'l Live<N>,
+    part: Part<'s>,
+    receivers: Vec<Receiver<SessionId, Global>>,
+    mut fresh: Vec<Fresh<'l, N>>,
+) -> Result<AllSpoken<'s, 'l, N>, AllocError>
+    requires { vec_len fresh ≡ length part.sorting.now.opened }
+    ensures { IfOk result (λ spoken. spoken.failed ≡ false
+        → TellsGroups N.terms (labels_of part.entry.labels.now) part.entry.sorting.now spoken.told.items) }
+{
+    let alloc = part.alloc;
+    let mut speakers = Vec::with_capacity(alloc, fresh.len())?;
+    let spoken = AllSpoken {
+        part,
+        seats: Vec::with_capacity(alloc, fresh.len())?,
+        told: Vec::with_capacity(alloc, fresh.len())?,
+        failed: false,
+    };
+    for from in receivers {
+        scope.spawn(move || work(rt, alloc, live, from, &Plain, u64::MAX))?;
+    }
+    let mut refused = false;
+    while let Some(seat) = fresh.pop() {
+        let mine = part.of(fresh.len());
+        let name = part.sorting.name(fresh.len());
+        match scope.spawn_with(mine, move || speak(rt, mine, name, seat)) {
+            Ok(speaker) => speakers.push_reserved(speaker),
+            Err(_) => {
+                refused = true;
+                break;
+            }
+        }
+    }
+    drop(fresh);
+    let spoken = joined(rt, speakers, spoken);
+    if refused {
+        return Err(AllocError);
+    }
+    Ok(spoken)
+}
+
+/// Takes the results of all speakers, in the order of opening.
+fn joined<'s, 'l, N: Naming, R: Threads>(
+    rt: &R,
+    mut speakers: Vec<PromisedHandle<Spoken<'l, N>, Part<'s>>>,
+    mut spoken: AllSpoken<'s, 'l, N>,
+) -> AllSpoken<'s, 'l, N>
+    requires wanted { vec_len speakers ≡ length spoken.part.sorting.now.opened
+        → CountsDown (λ session speaker. speaker.promise ≡ record spoken.part { session = session }) 0 speakers.items }
+    requires seats { (vec_len spoken.seats ≡ 0) × (vec_len speakers ≤ vec_capacity spoken.seats) }
+    requires told { (vec_len spoken.told ≡ 0) × (vec_len speakers ≤ vec_capacity spoken.told) }
+    ensures { vec_len speakers.entry ≡ length spoken.entry.part.sorting.now.opened → result.failed ≡ false
+        → TellsGroups N.terms (labels_of spoken.entry.part.labels.now) spoken.entry.part.sorting.now result.told.items }
+{
+    while let Some(speaker) = speakers.pop() {
+        let Spoken { seat, told } = speaker.join(rt);
+        spoken.seats.push_reserved(seat);
+        match told {
+            Ok(told) => spoken.told.push_reserved(told),
+            Err(_) => spoken.failed = true,
+        }
+    }
+    spoken
+}
