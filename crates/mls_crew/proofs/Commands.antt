@@ -20,7 +20,7 @@ pub says_command :
     (terms : Terms) (book : Names) (name : List ℕ) (said now : List Said) (command : Command) (result : Result Reply NotOpen) (text : List ℕ) → is_save command ≡ false
     → now ≡ said ++ added_by command result → text ≡ answer_text book name (Commanded result)
     → IfOk result (λ reply. CanReply terms command reply ⊎ (reply ≡ Refused JournalFull)) → SaysCommand terms book name said command text now
-says_command terms book name said now command result text no list is replied =
+says_command terms book name said now command result text unsaved list is replied =
     let P : Bool → Type 0 = λ b. MatchBool b ((saved : List ℕ) × (text ≡ answer_text book name (Saved result saved)))
     ((text ≡ answer_text book name (Commanded result)) × IfOk result (λ reply. CanReply terms command reply ⊎ (reply ≡ Refused JournalFull))) in
-    (result, list, subst P (sym no) (is, replied))
+    (result, list, subst P (sym unsaved) (is, replied))

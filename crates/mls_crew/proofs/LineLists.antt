@@ -77,3 +77,8 @@ module _ (terms : Terms) (book : Names) (name : List ℕ) where
         → SaysLines terms book name said (lines_of session (take (index + 1) lines)) out last
     says_other said last out other ran =
         subst (λ (done : List SeatLine). SaysLines terms book name said done out last) (sym (lines_of-other session lines index handed within is other)) ran
+
+-- nothing was said yet
+pub none_said : (said : List Said) → length said ≡ 0 → said ≡ []
+none_said [] is = refl
+none_said (one ∷ said) is = absurd (omega (arith, is))

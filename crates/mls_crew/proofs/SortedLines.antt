@@ -54,7 +54,21 @@ opened_one before opened name is =
     ap (λ (names : List (List ℕ)). let s : Sorted = record before { opened = names } in s) is
     ∙ same_sorted before.head (before.head ++ []) before.handed (before.handed ++ []) (before.opened ++ name ∷ []) (sym (append-nil before.head)) (sym (append-nil before.handed))
 
+-- the same, where what was sorted before is known by its parts
+pub opened_after :
+    (before : Sorted) (head : List ℕ) (handed : List Handed) (was opened : List (List ℕ)) (name : List ℕ)
+    → record { head = head; handed = handed; opened = was } ≡ before → opened ≡ was ++ name ∷ []
+    → record { head = head; handed = handed; opened = opened } ≡ added before (record { head = []; handed = []; opened = before.opened ++ name ∷ [] })
+opened_after before head handed was opened name is pushed =
+    subst (λ (b : Sorted). record { head = head; handed = handed; opened = opened } ≡ added b (record { head = []; handed = []; opened = b.opened ++ name ∷ [] })) is
+        (opened_one (record { head = head; handed = handed; opened = was }) opened name pushed)
+
 -- no session has the name
 pub none_named : (found : Option ℕ) → is_some found ≡ false → found ≡ None
-none_named None no = refl
-none_named (Some n) no = absurd (cc)
+none_named None missing = refl
+none_named (Some n) missing = absurd (cc)
+
+-- nothing more
+pub added_none : (before : Sorted) → before ≡ added before (record { head = []; handed = []; opened = before.opened })
+added_none before =
+    same_sorted before.head (before.head ++ []) before.handed (before.handed ++ []) before.opened (sym (append-nil before.head)) (sym (append-nil before.handed))

@@ -74,9 +74,11 @@ impl Crew {
             W.contents output.old output.new) }
     {
         let script = read_script(alloc, &self.server, input)?;
-        let Output { text, audited } = say::<Brand, T>(rt, alloc, self, Blank::new(65), &script)?;
-        send(&text, output)?;
-        Ok(Served { audited })
+        let replies = say::<Brand, T>(rt, alloc, self, Blank::new(65), &script)?;
+        send(&replies.text, output)?;
+        Ok(Served {
+            audited: replies.audited,
+        })
     }
 }
 

@@ -1,5 +1,5 @@
 //! Which lines of a script are answered at once, and which are handed to a session.
-ghost use Rattle.std.specs.Prelude.{◌≡◌, ◌+◌, ◌<◌, [], IfOk, OnOk, length, slice_index_or, vec_len};
+ghost use Rattle.std.specs.Prelude.{◌≡◌, ◌+◌, ◌<◌, [], IfOk, Ok, OnOk, length, slice_index_or, vec_len};
 ghost use Rattle.mls_live.specs.Lists.{list_of};
 ghost use Rattle.mls_crew.specs.Books.{labels_of};
 ghost use Rattle.mls_crew.specs.Sorting.{Opens, Sorts, SortsLine, added, at_once, faulty, handed_to, session_of};
@@ -110,11 +110,30 @@ impl Sorting {
     {
         match said {
             Err(fault) => self.refuse(desk, n, *fault),
-            Ok(Line::Silent) => Ok(()),
-            Ok(Line::Open(name)) => self.open(rt, desk, n, name, seats),
-            Ok(Line::Close(_, _) | Line::Step(_, _)) => self.refuse(desk, n, LineFault::UnknownCommand),
-            Ok(Line::Audit(name, _)) => self.hand(desk, n, name, SeatLine::Audit),
-            Ok(Line::Run(name, _, command)) => self.hand(desk, n, name, SeatLine::Run(*command)),
+            Ok(line) => self.sort_read(rt, desk, n, line, seats),
+        }
+    }
+
+    /// Sorts line `n`, which could be read.
+    fn sort_read<'l, N: Naming, R: Wait>(
+        &mut self,
+        rt: &R,
+        desk: &Desk<'l, N>,
+        n: u128,
+        line: &Line,
+        seats: &mut Vec<Fresh<'l, N>>,
+    ) -> Result<(), AllocError>
+        requires paired { length self.old.opened ≡ vec_len seats.old }
+        ensures sorts { OnOk result ((sorted : _) × SortsLine (labels_of desk.now.labels.now) n self.old.opened (Ok line.now) sorted × (self.new ≡ added self.old sorted)) }
+        ensures paired { OnOk result (length self.new.opened ≡ vec_len seats.new) }
+    {
+        match line {
+            Line::Silent => Ok(()),
+            Line::Open(name) => self.open(rt, desk, n, name, seats),
+            Line::Close(_, _) => self.refuse(desk, n, LineFault::UnknownCommand),
+            Line::Step(_, _) => self.refuse(desk, n, LineFault::UnknownCommand),
+            Line::Audit(name, _) => self.hand(desk, n, name, SeatLine::Audit),
+            Line::Run(name, _, command) => self.hand(desk, n, name, SeatLine::Run(*command)),
         }
     }
 
