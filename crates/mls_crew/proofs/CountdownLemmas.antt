@@ -36,4 +36,4 @@ pub each_push :
     → (k : ℕ) → k < m → Q k (get_or (xs ++ x ∷ []) k d)
 each_push Q xs d x n m len at all here k below =
     below_more (λ i. Q i (get_or (xs ++ x ∷ []) i d)) n (λ i low. subst (Q i) (sym (get_or_append_left xs (x ∷ []) d i (omega arith))) (all i low))
-        (subst (Q n) (sym (get_or_at xs x [] d n len)) here) k (omega arith)
+    (subst (Q n) (sym (get_or_at xs x [] d n len)) here) k (omega arith)

@@ -70,7 +70,7 @@ module _ (terms : Terms) (book : Names) (name : List ℕ) where
         → SaysLine terms book name mid handed.line text last → SaysLines terms book name said (lines_of session (take (index + 1) lines)) (out ++ text) last
     says_mine said mid last out text mine ran says =
         subst (λ (done : List SeatLine). SaysLines terms book name said done (out ++ text) last) (sym (lines_of-mine session lines index handed within is mine))
-            (SaysLines-snoc said mid last (lines_of session (take index lines)) out handed.line text ran says)
+        (SaysLines-snoc said mid last (lines_of session (take index lines)) out handed.line text ran says)
 
     pub says_other :
         (said last : List Said) (out : List ℕ) → handed.session ≢ session → SaysLines terms book name said (lines_of session (take index lines)) out last

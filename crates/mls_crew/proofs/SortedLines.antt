@@ -22,7 +22,7 @@ module _ (book : Names) (said : Result Line LineFault) (next : Sorted) where
     subst (λ (m : ℕ). SortsLine book m opened said next) (add-zero n) (subst (λ (s : Sorted). SortsLine book (n + 0) s.opened said next) none line),
     refl,
     ap (λ (s : Sorted). added s next) none
-    ∙ same_sorted next.head (next.head ++ []) next.handed (next.handed ++ []) next.opened (sym (append-nil next.head)) (sym (append-nil next.handed)),
+        ∙ same_sorted next.head (next.head ++ []) next.handed (next.handed ++ []) next.opened (sym (append-nil next.head)) (sym (append-nil next.handed)),
   )
   Sorts-snoc n opened (one ∷ lines) sorted (first, rest, says, more, is) line =
       let at : n + length (one ∷ lines) ≡ n + 1 + length lines = omega arith in
@@ -33,7 +33,7 @@ module _ (book : Names) (said : Result Line LineFault) (next : Sorted) where
         says,
         Sorts-snoc (n + 1) first.opened lines rest more here,
         ap (λ (s : Sorted). added s next) is
-        ∙ same_sorted (first.head ++ rest.head ++ next.head) (first.head ++ (rest.head ++ next.head)) (first.handed ++ rest.handed ++ next.handed) (first.handed ++ (rest.handed ++ next.handed)) next.opened
+            ∙ same_sorted (first.head ++ rest.head ++ next.head) (first.head ++ (rest.head ++ next.head)) (first.handed ++ rest.handed ++ next.handed) (first.handed ++ (rest.handed ++ next.handed)) next.opened
             (append_assoc first.head rest.head next.head) (append_assoc first.handed rest.handed next.handed),
       )
 
@@ -61,7 +61,7 @@ pub opened_after :
     → record { head = head; handed = handed; opened = opened } ≡ added before (record { head = []; handed = []; opened = before.opened ++ name ∷ [] })
 opened_after before head handed was opened name is pushed =
     subst (λ (b : Sorted). record { head = head; handed = handed; opened = opened } ≡ added b (record { head = []; handed = []; opened = b.opened ++ name ∷ [] })) is
-        (opened_one (record { head = head; handed = handed; opened = was }) opened name pushed)
+    (opened_one (record { head = head; handed = handed; opened = was }) opened name pushed)
 
 -- no session has the name
 pub none_named : (found : Option ℕ) → is_some found ≡ false → found ≡ None

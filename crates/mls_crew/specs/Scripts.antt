@@ -29,7 +29,7 @@ TellsPart terms book sorted session told = TellsGroup terms book (slice_index_or
 pub record TellsGroups (terms : Terms) (book : Names) (sorted : Sorted) (told : List Told) : Type 0 where
   pub count : length told ≡ length sorted.opened
   pub each : (session : ℕ) → session < length sorted.opened
-    → TellsPart terms book sorted session (slice_index_or told session untold)
+      → TellsPart terms book sorted session (slice_index_or told session untold)
 
 -- what lines say is sorted, and the output has the text of those that are answered at once, and then that of each session, in the order of opening. It is audited
 -- where each session is

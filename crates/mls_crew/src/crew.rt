@@ -127,7 +127,11 @@ fn say<N: Naming + Send + Sync, T: Threads + Wait + Sync>(
 }
 
 /// Returns as many clones of a receiver.
-fn clones(alloc: Global, ids: &Receiver<SessionId, Global>, count: usize) -> Result<Vec<Receiver<SessionId, Global>>, AllocError> {
+fn clones(
+    alloc: Global,
+    ids: &Receiver<SessionId, Global>,
+    count: usize,
+) -> Result<Vec<Receiver<SessionId, Global>>, AllocError> {
     let mut receivers = Vec::new(alloc);
     for _ in 0..count {
         receivers.push(ids.clone()?)?;

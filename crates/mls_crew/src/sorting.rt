@@ -138,21 +138,37 @@ impl Sorting {
     }
 
     /// Answers line `n` at once.
-    fn answer<N: Naming>(&mut self, desk: &Desk<'_, N>, n: u128, response: &Response) -> Result<(), AllocError>
+    fn answer<N: Naming>(
+        &mut self,
+        desk: &Desk<'_, N>,
+        n: u128,
+        response: &Response,
+    ) -> Result<(), AllocError>
         ensures { OnOk result (self.new ≡ added self.old (at_once self.old.opened (response_text (labels_of desk.now.labels.now) n response.now))) }
     {
         push_response(desk.labels, n, response, &mut self.head)
     }
 
     /// Answers line `n` with its fault.
-    fn refuse<N: Naming>(&mut self, desk: &Desk<'_, N>, n: u128, fault: LineFault) -> Result<(), AllocError>
+    fn refuse<N: Naming>(
+        &mut self,
+        desk: &Desk<'_, N>,
+        n: u128,
+        fault: LineFault,
+    ) -> Result<(), AllocError>
         ensures { OnOk result (self.new ≡ added self.old (faulty (labels_of desk.now.labels.now) n fault self.old.opened)) }
     {
         self.answer(desk, n, &Response::Fault(fault))
     }
 
     /// Hands line `n` to the session of this name.
-    fn hand<N: Naming>(&mut self, desk: &Desk<'_, N>, n: u128, name: &Name, line: SeatLine) -> Result<(), AllocError>
+    fn hand<N: Naming>(
+        &mut self,
+        desk: &Desk<'_, N>,
+        n: u128,
+        name: &Name,
+        line: SeatLine,
+    ) -> Result<(), AllocError>
         ensures { OnOk result (self.new ≡ added self.old (handed_to (labels_of desk.now.labels.now) n self.old.opened (session_of self.old.opened name.now) line)) }
     {
         let Some(session) = self.session(name) else {
@@ -189,10 +205,20 @@ impl Sorting {
     }
 
     /// Answers line `n` with why the session can't be opened.
-    fn answer_opening<N: Naming>(&mut self, desk: &Desk<'_, N>, n: u128, name: &Name, fault: OpenFault) -> Result<(), AllocError>
+    fn answer_opening<N: Naming>(
+        &mut self,
+        desk: &Desk<'_, N>,
+        n: u128,
+        name: &Name,
+        fault: OpenFault,
+    ) -> Result<(), AllocError>
         ensures { OnOk result (self.new ≡ added self.old (at_once self.old.opened (response_text (labels_of desk.now.labels.now) n (Response.Answered name.now (Answer.Opened (Err fault)))))) }
     {
-        self.answer(desk, n, &Response::Answered(*name, Answer::Opened(Err(fault))))
+        self.answer(
+            desk,
+            n,
+            &Response::Answered(*name, Answer::Opened(Err(fault))),
+        )
     }
 }
 

@@ -49,7 +49,11 @@ pub fn tell<'l, N: Naming + Send + Sync, R: Threads + Wait + Sync>(
 }
 
 /// Closes all sessions, and returns their texts.
-fn retired<N: Naming, R: Wait>(rt: &R, live: &Live<N>, spoken: AllSpoken<'_, '_, N>) -> Result<Vec<Told>, AllocError>
+fn retired<N: Naming, R: Wait>(
+    rt: &R,
+    live: &Live<N>,
+    spoken: AllSpoken<'_, '_, N>,
+) -> Result<Vec<Told>, AllocError>
     requires { N.parts ≡ 65 }
     ensures { IfOk result (λ told. (spoken.entry.failed ≡ false) × (told ≡ spoken.entry.told)) }
 {

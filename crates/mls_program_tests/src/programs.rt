@@ -51,14 +51,7 @@ pub fn ended_with<
     R: Read + Drop,
     W: Write + Drop,
     E: Write + Drop,
->(
-    rt: &T,
-    words: &[S],
-    files: &F,
-    input: R,
-    output: W,
-    messages: E,
-) -> (u8, W, E) {
+>(rt: &T, words: &[S], files: &F, input: R, output: W, messages: E) -> (u8, W, E) {
     let mut streams = Streams::new(input, output, messages);
     let status = run(rt, rt.alloc(), words, files, &mut streams);
     (

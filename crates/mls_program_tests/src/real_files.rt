@@ -26,7 +26,10 @@ fn write_technology<T: Alloc<A = Global> + rt::Files>(rt: &T, path: &str) -> Res
 }
 
 /// Runs the program with the technology of a file.
-fn ended_with_file<T: Threads + Wait + Sync + Alloc<A = Global> + rt::Files>(rt: &T, path: &str) -> Ending {
+fn ended_with_file<T: Threads + Wait + Sync + Alloc<A = Global> + rt::Files>(
+    rt: &T,
+    path: &str,
+) -> Ending {
     let script = b"%open a\na box 0 0 1 1\na paint last\na what\n".as_slice();
     ended(rt, &["magicd", "--tech", path], &HostFiles::new(rt), script)
 }

@@ -13,5 +13,5 @@ returns g c =
     let book = labels_of c.args.part.now.labels.now in
     let text = answer_text book c.args.name.now (Commanded c.call-result.result) in
     let says = says_command g.N.Naming.terms book c.args.name.now (list_of c.args.seat.now) (list_of c.call-result.new.self) c.args.command c.call-result.result text
-        (sym c.is_save.ensures ∙ c.if-is_save.false) c.call-result.ensures.list refl c.call-result.ensures.replied in
+    (sym c.is_save.ensures ∙ c.if-is_save.false) c.call-result.ensures.list refl c.call-result.ensures.replied in
     on_ok-map c.push_response.result _ _ (λ added. (text, says, added)) c.push_response.ensures

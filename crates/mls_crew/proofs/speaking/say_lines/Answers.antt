@@ -23,17 +23,17 @@ loop-handed-preserved g c =
     let first = list_of c.args.seat.now in
     let mid = list_of c.loop-handed.seat in
     elim c.if-handed-part.branch [
-      then-handed-part+in_ok-say_line w ↦
-      let (text, says, more) = w.in_ok-say_line.ensures in
-      rw (w.seat-is, w.out-is) (
-        out ++ text,
-        says_mine terms book name session lines index handed c.loop-handed-test.true c.handed-item.is first mid (list_of w.say_line.new.seat) out text w.if-handed-part.true ran says,
-        more ∙ ap (λ (o : List ℕ). o ++ text) is ∙ append_assoc c.args.out.now.items out text,
-      )
-    | else-handed-part w ↦
-      rw (w.seat-is, w.out-is) (
-        out,
-        says_other terms book name session lines index handed c.loop-handed-test.true c.handed-item.is first mid out w.if-handed-part.false ran,
-        is,
-      )
+      | then-handed-part+in_ok-say_line w ↦
+          let (text, says, more) = w.in_ok-say_line.ensures in
+          rw (w.seat-is, w.out-is) (
+            out ++ text,
+            says_mine terms book name session lines index handed c.loop-handed-test.true c.handed-item.is first mid (list_of w.say_line.new.seat) out text w.if-handed-part.true ran says,
+            more ∙ ap (λ (o : List ℕ). o ++ text) is ∙ append_assoc c.args.out.now.items out text,
+          )
+      | else-handed-part w ↦
+          rw (w.seat-is, w.out-is) (
+            out,
+            says_other terms book name session lines index handed c.loop-handed-test.true c.handed-item.is first mid out w.if-handed-part.false ran,
+            is,
+          )
     ]

@@ -33,20 +33,20 @@ loop-speaker-preserved-in-Ok g c =
       fewer = search rules;
       wanted = λ all. counts_rest (vec_len c.push_reserved.new.self) c.pop.new.self.items c.in-Some.speaker one c.in-Some.ensures.items (was.wanted all);
       told = λ all ok.
-      let mine : c.in-Some.speaker.promise ≡ record part { session = done } =
-      counts_last c.pop.new.self.items c.in-Some.speaker c.in-Some.ensures.items (was.wanted all) in
-      let kept : IfOk c.join-seat.result.told (tells done) =
-      subst (λ (p : Part). IfOk c.join-seat.result.told (TellsPart g.N.Naming.terms (labels_of p.labels.now) p.sorting.now p.session)) mine c.join-seat.ensures in
-      let here : tells done c.in-Ok.told = rw c.in-Ok.is at kept in
-      let before = was.told all ok in
-      let same : length c.loop-speaker.spoken.told.items ≡ done = sym c.loop-speaker.spoken.told.ok.0 ∙ before.0 in
-      let more : vec_len c.push_reserved-in-Ok.new.self ≡ done + 1 = omega (arith, c.push_reserved-in-Ok.ensures.len, before.0) in (
-        more ∙ sym one,
-        λ session below.
-        rw c.push_reserved-in-Ok.ensures.items
-        (each_push tells c.loop-speaker.spoken.told.items untold c.in-Ok.told done (done + 1) same refl (λ k low. before.1 k (omega (arith, before.0, low))) here session
-        (omega (arith, more, below))),
-      );
+          let mine : c.in-Some.speaker.promise ≡ record part { session = done } =
+          counts_last c.pop.new.self.items c.in-Some.speaker c.in-Some.ensures.items (was.wanted all) in
+          let kept : IfOk c.join-seat.result.told (tells done) =
+          subst (λ (p : Part). IfOk c.join-seat.result.told (TellsPart g.N.Naming.terms (labels_of p.labels.now) p.sorting.now p.session)) mine c.join-seat.ensures in
+          let here : tells done c.in-Ok.told = rw c.in-Ok.is at kept in
+          let before = was.told all ok in
+          let same : length c.loop-speaker.spoken.told.items ≡ done = sym c.loop-speaker.spoken.told.ok.0 ∙ before.0 in
+          let more : vec_len c.push_reserved-in-Ok.new.self ≡ done + 1 = omega (arith, c.push_reserved-in-Ok.ensures.len, before.0) in (
+            more ∙ sym one,
+            λ session below.
+                rw c.push_reserved-in-Ok.ensures.items
+                (each_push tells c.loop-speaker.spoken.told.items untold c.in-Ok.told done (done + 1) same refl (λ k low. before.1 k (omega (arith, before.0, low))) here session
+                (omega (arith, more, below))),
+          );
     }
 
 pub loop-speaker-preserved : goal.loop-speaker-preserved

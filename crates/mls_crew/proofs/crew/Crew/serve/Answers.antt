@@ -18,7 +18,7 @@ returns-in_err-script-clause-failed g c =
     let script = g.R.Read.remaining c.args.input.now.device in
     let fault = c.in_err-script.field-0.0 in
     if_err c.from_residual.result fault (λ given. FailsCrew on given script c.read_script.new.input g.W.Write.contents c.args.output.now c.args.output.now) c.from_residual.ensures
-        (reading_fails on fault script c.read_script.new.input g.W.Write.contents c.args.output.now c.in_err-script.ensures.stops)
+    (reading_fails on fault script c.read_script.new.input g.W.Write.contents c.args.output.now c.in_err-script.ensures.stops)
 
 pub returns-in_err-send-clause-failed : goal.returns-in_err-send-clause-failed
 returns-in_err-send-clause-failed g c =
@@ -30,11 +30,11 @@ returns-in_err-send-clause-failed g c =
     let says = subst (λ (said : List (Result Line LineFault)). SaysScript (book_of on) script said) (sym c.deref.ensures.value) c.in_ok-script.ensures.said in
     let front = subst (λ (bytes : List ℕ). AppendsFront written now bytes) c.deref-2.ensures.value c.in_err-send.ensures.err in
     if_err c.from_residual-in_err-send.result Write (λ given. FailsCrew on given script c.read_script.new.input g.W.Write.contents c.args.output.now c.send.new.output)
-        c.from_residual-in_err-send.ensures (
-          c.in_err-send.ensures.cause,
-          crew_begins on c.args.self.tech c.deref.result.now replies.audited replies.text.items c.requires.tech c.in_ok-replies.ensures script written now
-              says front,
-        )
+    c.from_residual-in_err-send.ensures (
+      c.in_err-send.ensures.cause,
+      crew_begins on c.args.self.tech c.deref.result.now replies.audited replies.text.items c.requires.tech c.in_ok-replies.ensures script written now
+          says front,
+    )
 
 pub returns-clause-served : goal.returns-clause-served
 returns-clause-served g c =
@@ -46,4 +46,4 @@ returns-clause-served g c =
     let says = subst (λ (said : List (Result Line LineFault)). SaysScript (book_of on) script said) (sym c.deref.ensures.value) c.in_ok-script.ensures.said in
     let gained = subst (λ (bytes : List ℕ). Appends written now bytes) c.deref-2.ensures.value c.in_ok-send.ensures.ok in
     crew_writes on c.args.self.tech c.deref.result.now replies.audited replies.text.items c.requires.tech c.in_ok-replies.ensures script written now
-        says gained
+    says gained

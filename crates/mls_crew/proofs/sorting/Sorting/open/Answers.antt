@@ -23,7 +23,9 @@ returns-in-Err-clause-opens g c =
 pub returns-in_ok-push-in-Ok-2-clause-opens : goal.returns-in_ok-push-in-Ok-2-clause-opens
 returns-in_ok-push-in-Ok-2-clause-opens g c =
     let free : session_of c.args.self.now.opened c.args.name.now ≡ None = sym c.session.ensures ∙ none_named c.session.result (sym c.is_some.ensures ∙ c.if-is_some.false) in
-    let named : Sorted = record { head = []; handed = []; opened = c.args.self.now.opened ++ c.args.name.now ∷ [] } in
-    (named, inl (free, refl),
+    let named : Sorted = record { head = []; handed = []; opened = c.args.self.now.opened ++ c.args.name.now ∷ [] } in (
+      named,
+      inl (free, refl),
       opened_after c.args.self.now c.self.inside.head.items c.self.inside.handed.items c.self.inside.names.items c.push-in-Ok.new.self.items c.args.name.now
-          c.self.view_is c.in_ok-push-in-Ok-2.ensures.items)
+          c.self.view_is c.in_ok-push-in-Ok-2.ensures.items,
+    )
