@@ -12,7 +12,7 @@ use crate::bounds::bounds_of_tiles;
 use crate::enumeration::list_tiles;
 use crate::laid_tile::laid;
 use crate::scan::scan_area;
-use crate::steps::Steps;
+use crate::steps::{Steps, are_many};
 use mls_tilepool::{Owner, Pool, TileId};
 
 /// How many steps the searches round single tiles take at most for each tile of the plane.
@@ -78,7 +78,7 @@ fn list_kept(found: &[LaidTile], keys: &[usize], entries: &mut Vec<LaidTile>)
 
 /// Lists the tiles round each touched one in turn, other than the touched ones. A tile may be listed more than once.
 ///
-/// Returns `false` if that takes more than a few steps for each tile of the plane.
+/// Returns `false` if that takes more than a few steps for each tile of the plane, or there are many touched ones beside them.
 fn list_round_each(
     pool: &Pool,
     owner: &Owner,
@@ -98,7 +98,11 @@ fn list_round_each(
     ensures found_room { vec_capacity found.new ≡ vec_capacity found.old }
     ensures entries_room { vec_capacity entries.new ≡ vec_capacity entries.old }
 {
-    let mut steps = Steps::up_to(STEPS_FOR_EACH * pool.count(owner) as usize);
+    let tiles = pool.count(owner) as usize;
+    if are_many(touched.len(), tiles) {
+        return false;
+    }
+    let mut steps = Steps::up_to(STEPS_FOR_EACH * tiles);
     entries.clear();
     for id in touched {
         let area = laid(pool, owner, *id).unwrap().piece.rect.grow(1);

@@ -9,7 +9,7 @@ use crate::around::{free_room, sort_dedup};
 use crate::bounds::bounds_of_pieces;
 use crate::enumeration::list_tiles;
 use crate::scan::scan_area;
-use crate::steps::Steps;
+use crate::steps::{Steps, are_many};
 use crate::{LaidTile, Plane, Scratch};
 use mls_geom::Piece;
 use mls_tilepool::{Owner, Pool, TileId};
@@ -28,7 +28,7 @@ fn list_all(found: &[LaidTile], list: &mut Vec<LaidTile>)
 /// Lists the tiles round each piece in turn. A tile may be listed more than once. The search starts at the tile `from`, if
 /// the owner has it.
 ///
-/// Returns `false` if that takes more than the `turns`.
+/// Returns `false` if that takes more than the `turns`, or there are many pieces beside the plane's tiles.
 fn list_round_each(
     pool: &Pool,
     owner: &Owner,
@@ -46,6 +46,9 @@ fn list_round_each(
     ensures found_room { vec_capacity found.new ≡ vec_capacity found.old }
     ensures entries_room { vec_capacity entries.new ≡ vec_capacity entries.old }
 {
+    if are_many(over.len(), pool.count(owner) as usize) {
+        return false;
+    }
     let mut from = from;
     let mut steps = Steps::up_to(turns);
     entries.clear();
@@ -104,9 +107,9 @@ impl Plane {
     /// Finds tiles of the plane, each once, and among them all that one of the pieces touches, by a square, a side or a
     /// corner, and leaves them in the scratch.
     ///
-    /// Searches round each piece, and finds what these touch. Where the searches would take more than `turns`, looks at
-    /// each tile of the plane instead, and finds those in the bounds of all pieces and next to them. A search takes a turn
-    /// for each tile that it goes through or looks at.
+    /// Searches round each piece, and finds what these touch. Where the searches would take more than `turns`, or there are
+    /// many pieces beside the plane's tiles, looks at each tile of the plane instead, and finds those in the bounds of all
+    /// pieces and next to them. A search takes a turn for each tile that it goes through or looks at.
     pub fn touching(&mut self, pool: &Pool, over: &[Piece], turns: usize, scratch: &mut Scratch)
         requires plane { HasPlane pool.now self.old }
         requires room { count_of pool.now self.old ≤ scratch.old.room }
