@@ -12,6 +12,7 @@ use Rattle.mls_stitch.specs.Replacements.{IsKept, IsKeptUnless}
 use Rattle.mls_stitch.specs.Stitches.{HoldsAt, LeadsTo, beyond, stitch_of}
 use Rattle.mls_stitch.specs.Tilings.{AreBlocks, AreTiledAs, IsPlaced}
 use Rattle.mls_stitch.specs.declared.stitch.Stitch.{Stitch}
+use Rattle.mls_stitch.proofs.CloseSquares.{same_square}
 use Rattle.mls_stitch.proofs.DistinctNumbers.{cases_Contains}
 use Rattle.mls_stitch.proofs.Sides.{HoldsAt-block, legal-AreBlocks, placed_block, there-IsSomeAnd}
 
@@ -55,9 +56,6 @@ placed_as tiles blocks key tile block tiled is here =
     let found = placed_block tiles blocks key tile (tiled.placed key) is in
     subst (IsPlaced tile) (same_Some found.0 block (sym found.1 ∙ here)) found.2
 
-same_corner : (a b : Point) → a.x ≡ b.x → a.y ≡ b.y → a ≡ b
-same_corner a b across up = ap (λ x. record { x = x; y = a.y }) across ∙ ap (λ y. record { x = b.x; y = y }) up
-
 -- so it is kept
 pub IsKept-block :
     (old new : List (ℕ × Tile)) (blocks after : ℕ → Option Piece) (touched : List ℕ) (key : ℕ) (block : Piece) (tile next : Tile) → AreTiledAs old blocks → AreTiledAs new after
@@ -67,7 +65,7 @@ IsKept-block old new blocks after touched key block tile next tiled tiled_after 
     let placed = placed_as old blocks key tile block tiled is here in
     let placed_after = placed_as new after key next block tiled_after is_after here_after in
     record {
-      corner = same_corner next.corner tile.corner (placed_after.left ∙ sym placed.left) (placed_after.bottom ∙ sym placed.bottom);
+      corner = same_square next.corner tile.corner (placed_after.left ∙ sym placed.left) (placed_after.bottom ∙ sym placed.bottom);
       kind = placed_after.kind ∙ sym placed.kind;
       stitches = stitches-kept old new blocks after touched key block tile next tiled tiled_after kept here here_after is is_after;
     }

@@ -16,6 +16,7 @@ pub mod MaximalTiles
 pub mod Neighbours
 pub mod OtherPlanes
 pub mod PaintedTiles
+pub mod PartsBeside
 pub mod PoolChanges
 pub mod ReplacedBlocks
 pub mod ReplacedPlanes

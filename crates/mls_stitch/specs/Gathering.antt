@@ -1,13 +1,11 @@
 -- Tiles gathered by one search or by many; a tile may be listed more than once. No public contract names these.
-use Rattle.std.specs.Prelude.{◌≡◌, ◌⊎◌, ℕ, ◌≤◌, max, min, true, IsTrue, IsSomeAnd, IfSome, List, Option, Some}
+use Rattle.std.specs.Prelude.{◌≡◌, ℕ, ◌≤◌, max, min, true, IsTrue, IsSomeAnd, IfSome, List, Option, Some}
 use Rattle.std.specs.List.{All, Any, Contains}
 use Rattle.mls_geom.specs.Locality.{is_touched}
-use Rattle.mls_geom.specs.Rects.{Rect, Point, grown, holds, meets}
-use Rattle.mls_geom.specs.World.{world}
+use Rattle.mls_geom.specs.Rects.{Rect, Point, holds, meets}
 use Rattle.mls_geom.specs.declared.piece.Piece.{Piece}
 use Rattle.mls_stitch.specs.Areas.{IsFound}
 use Rattle.mls_stitch.specs.Pending.{keys_of}
-use Rattle.mls_stitch.specs.Replacements.{IsHeld}
 use Rattle.mls_stitch.specs.Walks.{IsLaid}
 use Rattle.mls_stitch.specs.declared.laid_tile.LaidTile.{LaidTile}
 
@@ -40,9 +38,6 @@ pub record HasTouched (blocks : ℕ → Option Piece) (passed : List Piece) (lis
   pub each : All (IsLaid blocks) list
   pub whole : (key : ℕ) (block : Piece) → blocks key ≡ Some block → is_touched passed block ≡ true → Contains (keys_of list) key
 
--- the list has tiles other than the touched ones, among them all around those of the keys that were passed
-pub record SurroundPassed (blocks : ℕ → Option Piece) (touched passed : List ℕ) (list : List LaidTile) : Type 0 where
-  pub each : All (λ tile. blocks tile.id ≡ Some tile.piece) list
-  pub apart : All (λ tile. ¬ (Contains touched tile.id)) list
-  pub whole : (key : ℕ) (at : Point) → Contains passed key → IsSomeAnd (blocks key) (λ block. IsTrue (holds (grown 1 block.rect) at.x at.y))
-      → IsTrue (holds world at.x at.y) → IsHeld blocks touched at ⊎ Any (λ tile. IsTrue (holds tile.piece.rect at.x at.y)) list
+-- one of the parts that are there has the square
+abbrev pub IsInPart : List (Option Rect) → Point → Type 0
+IsInPart parts at = Any (λ part. IsSomeAnd part (λ rect. IsTrue (holds rect at.x at.y))) parts

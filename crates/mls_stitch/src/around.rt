@@ -1,16 +1,18 @@
 //! The tiles around touched ones.
-ghost use Rattle.std.specs.Prelude.{◌≡◌, ◌≢◌, ◌==◌, ◌↔◌, ◌⊎◌, ◌++◌, ℕ, ◌+◌, ◌≤◌, IsSome, IsTrue, length, vec_len, vec_capacity};
+ghost use Rattle.std.specs.Prelude.{◌≡◌, ◌≢◌, ◌==◌, ◌↔◌, ◌⊎◌, ◌++◌, ℕ, ◌+◌, ◌≤◌, [], ◌∷◌, List, Some, IfSome, IsSome, IsTrue, length, vec_len, vec_capacity};
 ghost use Rattle.std.specs.List.{All, AllPairs, Contains, list_any};
 ghost use Rattle.std.specs.List.Sorted.{IsNonDecreasing};
 ghost use Rattle.mls_tilepool.specs.Pools.{count_of, tile_at, tiles_of};
-ghost use Rattle.mls_stitch.specs.Gathering.{SurroundPassed};
-ghost use Rattle.mls_stitch.specs.Placing.{KeepsKeys, Surround, unlisted_of};
+ghost use Rattle.mls_stitch.specs.Placing.{CanShrink, IsLost, KeepsKeys, Shrinks, Surround, unlisted_of};
+ghost use Rattle.mls_stitch.specs.Replacements.{IsHeld};
 ghost use Rattle.mls_stitch.specs.Tilings.{HasPlane, block_at};
 
 use crate::LaidTile;
 use crate::bounds::bounds_of_tiles;
 use crate::enumeration::list_tiles;
 use crate::laid_tile::laid;
+use crate::parts::parts_beside;
+use crate::replacement::Replacement;
 use crate::scan::scan_area;
 use crate::steps::{Steps, are_many};
 use mls_tilepool::{Owner, Pool, TileId};
@@ -76,35 +78,34 @@ fn list_kept(found: &[LaidTile], keys: &[usize], entries: &mut Vec<LaidTile>)
     }
 }
 
-/// Lists the tiles round each touched one in turn, other than the touched ones. A tile may be listed more than once.
+/// Lists the tiles round each of these in turn, other than the ones with the keys. A tile may be listed more than once.
 ///
-/// Returns `false` if that takes more than a few steps for each tile of the plane, or there are many touched ones beside them.
+/// Returns `false` if that takes more than a few steps for each tile of the plane, or there are many to go round.
 fn list_round_each(
     pool: &Pool,
     owner: &Owner,
-    touched: &[TileId],
+    ids: &[TileId],
     keys: &[usize],
     found: &mut Vec<LaidTile>,
     entries: &mut Vec<LaidTile>,
 ) -> bool
     requires plane { HasPlane pool.now owner.now }
-    requires there { All (λ key. IsSome (tile_at pool.now owner.now key)) touched.now }
+    requires there { All (λ key. IsSome (tile_at pool.now owner.now key)) ids.now }
     requires ascending { IsNonDecreasing keys.now }
-    requires members { (key : ℕ) → Contains keys.now key ↔ Contains touched.now key }
     requires found_fit { count_of pool.now owner.now ≤ vec_capacity found.old }
     requires entries_fit { count_of pool.now owner.now + count_of pool.now owner.now
         ≤ vec_capacity entries.old }
-    ensures around { IsTrue result → SurroundPassed (block_at (tiles_of pool.now owner.now)) touched.now touched.now entries.new.items }
+    ensures around { IsTrue result → Surround (block_at (tiles_of pool.now owner.now)) keys.now (IsHeld (block_at (tiles_of pool.now owner.now)) ids.now) entries.new.items }
     ensures found_room { vec_capacity found.new ≡ vec_capacity found.old }
     ensures entries_room { vec_capacity entries.new ≡ vec_capacity entries.old }
 {
     let tiles = pool.count(owner) as usize;
-    if are_many(touched.len(), tiles) {
+    if are_many(ids.len(), tiles) {
         return false;
     }
     let mut steps = Steps::up_to(STEPS_FOR_EACH * tiles);
     entries.clear();
-    for id in touched {
+    for id in ids {
         let area = laid(pool, owner, *id).unwrap().piece.rect.grow(1);
         list_tiles(pool, owner, *id, area, found, &mut steps);
         if steps.are_spent() {
@@ -112,6 +113,46 @@ fn list_round_each(
         }
         free_room(entries, found.len());
         list_kept(found, keys, entries);
+    }
+    true
+}
+
+/// Adds the tiles round the squares that a tile loses where it shrinks, other than the ones with the keys.
+///
+/// Returns `false` if that takes more than a few steps for each tile of the plane.
+fn list_round_parts(
+    pool: &Pool,
+    owner: &Owner,
+    shrunk: &LaidTile,
+    keys: &[usize],
+    found: &mut Vec<LaidTile>,
+    entries: &mut Vec<LaidTile>,
+) -> bool
+    requires plane { HasPlane pool.now owner.now }
+    requires inside { CanShrink (block_at (tiles_of pool.now owner.now)) shrunk.now }
+    requires ascending { IsNonDecreasing keys.now }
+    requires before { (ids : List ℕ) × Surround (block_at (tiles_of pool.now owner.now)) keys.now (IsHeld (block_at (tiles_of pool.now owner.now)) ids) entries.old.items }
+    requires found_fit { count_of pool.now owner.now ≤ vec_capacity found.old }
+    requires entries_fit { count_of pool.now owner.now + count_of pool.now owner.now
+        ≤ vec_capacity entries.old }
+    ensures around { IsTrue result → (ids : List ℕ)
+        → Surround (block_at (tiles_of pool.now owner.now)) keys.now (IsHeld (block_at (tiles_of pool.now owner.now)) ids) entries.old.items
+        → Surround (block_at (tiles_of pool.now owner.now)) keys.now
+        (λ at. IsHeld (block_at (tiles_of pool.now owner.now)) ids at ⊎ IsLost (block_at (tiles_of pool.now owner.now)) (shrunk.now.id ∷ []) (Some shrunk.now) at) entries.new.items }
+    ensures found_room { vec_capacity found.new ≡ vec_capacity found.old }
+    ensures entries_room { vec_capacity entries.new ≡ vec_capacity entries.old }
+{
+    let whole = laid(pool, owner, shrunk.id).unwrap().piece.rect;
+    let mut steps = Steps::up_to(STEPS_FOR_EACH * pool.count(owner) as usize);
+    for part in &parts_beside(whole, shrunk.piece.rect) {
+        if let Some(part) = part {
+            list_tiles(pool, owner, shrunk.id, part.grow(1), found, &mut steps);
+            if steps.are_spent() {
+                return false;
+            }
+            free_room(entries, found.len());
+            list_kept(found, keys, entries);
+        }
     }
     true
 }
@@ -128,10 +169,9 @@ fn list_round_all(
     requires plane { HasPlane pool.now owner.now }
     requires there { All (λ key. IsSome (tile_at pool.now owner.now key)) touched.now }
     requires ascending { IsNonDecreasing keys.now }
-    requires members { (key : ℕ) → Contains keys.now key ↔ Contains touched.now key }
     requires found_fit { count_of pool.now owner.now ≤ vec_capacity found.old }
     requires entries_fit { count_of pool.now owner.now ≤ vec_capacity entries.old }
-    ensures around { SurroundPassed (block_at (tiles_of pool.now owner.now)) touched.now touched.now entries.new.items }
+    ensures around { Surround (block_at (tiles_of pool.now owner.now)) keys.now (IsHeld (block_at (tiles_of pool.now owner.now)) touched.now) entries.new.items }
     ensures found_room { vec_capacity found.new ≡ vec_capacity found.old }
     ensures entries_room { vec_capacity entries.new ≡ vec_capacity entries.old }
 {
@@ -142,30 +182,68 @@ fn list_round_all(
     }
 }
 
-/// Lists tiles other than the touched ones, each once, and among them all that share a square, a side or a corner with a
-/// touched one.
+/// Lists the tiles round each touched one in turn, of one that shrinks only those round the squares that it loses.
+///
+/// Returns `false` if that takes more than a few steps for each tile of the plane, or there are many to go round.
+fn list_round_lost(
+    pool: &Pool,
+    owner: &Owner,
+    replacement: &Replacement<'_>,
+    keys: &[usize],
+    found: &mut Vec<LaidTile>,
+    entries: &mut Vec<LaidTile>,
+) -> bool
+    requires plane { HasPlane pool.now owner.now }
+    requires shrunk { IfSome replacement.now.shrunk (Shrinks (block_at (tiles_of pool.now owner.now)) replacement.now.touched.now replacement.now.fresh.now) }
+    requires there { All (λ key. IsSome (tile_at pool.now owner.now key)) replacement.now.touched.now }
+    requires ascending { IsNonDecreasing keys.now }
+    requires found_fit { count_of pool.now owner.now ≤ vec_capacity found.old }
+    requires entries_fit { count_of pool.now owner.now + count_of pool.now owner.now
+        ≤ vec_capacity entries.old }
+    ensures around { IsTrue result → Surround (block_at (tiles_of pool.now owner.now)) keys.now
+        (IsLost (block_at (tiles_of pool.now owner.now)) replacement.now.touched.now replacement.now.shrunk) entries.new.items }
+    ensures found_room { vec_capacity found.new ≡ vec_capacity found.old }
+    ensures entries_room { vec_capacity entries.new ≡ vec_capacity entries.old }
+{
+    let touched = replacement.touched;
+    let Some(shrunk) = replacement.shrunk else {
+        return list_round_each(pool, owner, touched, keys, found, entries);
+    };
+    let (_, others) = touched.split_at(1);
+    if !list_round_each(pool, owner, others, keys, found, entries) {
+        return false;
+    }
+    list_round_parts(pool, owner, &shrunk, keys, found, entries)
+}
+
+/// Lists tiles other than the touched ones, each once, and among them all that have a square close to one that a touched
+/// tile loses.
 pub(crate) fn list_around(
     pool: &Pool,
     owner: &Owner,
-    touched: &[TileId],
+    replacement: &Replacement<'_>,
     keys: &mut Vec<usize>,
     found: &mut Vec<LaidTile>,
     entries: &mut Vec<LaidTile>,
 )
     requires plane { HasPlane pool.now owner.now }
-    requires there { All (λ key. IsSome (tile_at pool.now owner.now key)) touched.now }
-    requires keys_fit { length touched.now ≤ vec_capacity keys.old }
+    requires shrunk { IfSome replacement.now.shrunk (Shrinks (block_at (tiles_of pool.now owner.now)) replacement.now.touched.now replacement.now.fresh.now) }
+    requires there { All (λ key. IsSome (tile_at pool.now owner.now key)) replacement.now.touched.now }
+    requires keys_fit { length replacement.now.touched.now ≤ vec_capacity keys.old }
     requires found_fit { count_of pool.now owner.now ≤ vec_capacity found.old }
     requires entries_fit { count_of pool.now owner.now + count_of pool.now owner.now
         ≤ vec_capacity entries.old }
-    ensures around { Surround (block_at (tiles_of pool.now owner.now)) touched.now entries.new.items }
+    ensures around { Surround (block_at (tiles_of pool.now owner.now)) replacement.now.touched.now
+        (IsLost (block_at (tiles_of pool.now owner.now)) replacement.now.touched.now replacement.now.shrunk) entries.new.items }
+    ensures once { AllPairs (λ p q. p.id ≢ q.id) entries.new.items }
     ensures few { vec_len entries.new ≤ count_of pool.now owner.now }
     ensures keys_room { vec_capacity keys.new ≡ vec_capacity keys.old }
     ensures found_room { vec_capacity found.new ≡ vec_capacity found.old }
     ensures entries_room { vec_capacity entries.new ≡ vec_capacity entries.old }
 {
+    let touched = replacement.touched;
     list_keys(touched, keys);
-    if !list_round_each(pool, owner, touched, keys, found, entries) {
+    if !list_round_lost(pool, owner, replacement, keys, found, entries) {
         list_round_all(pool, owner, touched, keys, found, entries);
     }
     sort_dedup(entries);

@@ -6,6 +6,7 @@ ghost use Rattle.mls_stitch.specs.Replacements.{Replaces, TakePlace};
 
 use crate::around::list_around;
 use crate::place::place_instead;
+use crate::replacement::Replacement;
 use crate::stitching::stitch_listed;
 use crate::{Plane, Scratch};
 use mls_geom::Piece;
@@ -50,15 +51,16 @@ impl Plane {
         if !has_room(pool, &self.owner, touched.len(), fresh.len()) {
             return Err(NoRoom);
         }
+        let replacement = Replacement::new(pool, &self.owner, touched, fresh);
         list_around(
             pool,
             &self.owner,
-            touched,
+            &replacement,
             &mut scratch.touched,
             &mut scratch.tiles,
             &mut scratch.entries,
         );
-        place_instead(pool, &self.owner, touched, fresh, &mut scratch.entries);
+        place_instead(pool, &self.owner, &replacement, &mut scratch.entries);
         self.hint = scratch.entries.last().map_or(self.hint, |tile| tile.id);
         stitch_listed(pool, &self.owner, &mut scratch.entries);
         Ok(())

@@ -1,7 +1,8 @@
 -- The bounds have all touched tiles.
 use Rattle.mls_tilepool.specs.Pools.{tiles_of}
+use Rattle.mls_stitch.specs.Replacements.{IsHeld}
 use Rattle.mls_stitch.specs.Tilings.{block_at}
-use Rattle.mls_stitch.proofs.AroundTiles.{SurroundPassed-met}
+use Rattle.mls_stitch.proofs.AroundTiles.{Surround-met, held_within}
 use Rattle.mls_stitch.proofs.around.list_round_all.Goals as goal
 
 pub returns-in-Some-clause-around : goal.returns-in-Some-clause-around
@@ -10,5 +11,5 @@ returns-in-Some-clause-around c =
     let touched = c.args.touched.now in
     let listed = rw (c.clear.ensures.items, c.deref.ensures.value) at c.list_kept.ensures.kept in
     rw listed
-    (SurroundPassed-met blocks touched c.args.keys.now touched c.in-Some.bounds c.grow.result c.scan_area.new.list.items c.requires.plane.plane.tiling c.requires.members c.in-Some.ensures.round
-    c.grow.ensures.squares c.scan_area.ensures.found)
+    (Surround-met blocks c.args.keys.now (IsHeld blocks touched) c.in-Some.bounds c.grow.result c.scan_area.new.list.items c.requires.plane.plane.tiling
+    (λ p held. held_within blocks c.in-Some.bounds touched p c.in-Some.ensures.round held) c.grow.ensures.squares c.scan_area.ensures.found)

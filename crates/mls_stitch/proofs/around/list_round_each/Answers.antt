@@ -4,8 +4,9 @@ use Rattle.std.proofs.lemmas.List.{take_all, take_more}
 use Rattle.mls_geom.specs.World.{world}
 use Rattle.mls_tilepool.specs.Pools.{tile_in, tiles_of}
 use Rattle.mls_stitch.specs.Enumerations.{IsListedTo}
+use Rattle.mls_stitch.specs.Replacements.{IsHeld}
 use Rattle.mls_stitch.specs.Tilings.{block_at}
-use Rattle.mls_stitch.proofs.AroundTiles.{passed_keeps, passed_more, passed_none}
+use Rattle.mls_stitch.proofs.AroundTiles.{Surround-keeps, Surround-none, passed_more}
 use Rattle.mls_stitch.proofs.Gathered.{AreMet-listed}
 use Rattle.mls_stitch.proofs.ListedTiles.{length-le-AreLaid}
 use Rattle.mls_stitch.proofs.ReplacedPlanes.{laid_as, laid_there}
@@ -22,7 +23,7 @@ list_kept-requires-clause-room c =
     let tiles = tiles_of c.args.pool.now c.args.owner.now in
     let listed = c.list_tiles.ensures.listed in
     let found = length-le-AreLaid tiles c.list_tiles.new.list.items (λ k d within. (listed.each k d within).laid) listed.once in
-    let kept = passed_keeps (block_at tiles) c.args.touched.now (take c.loop-id.id-index c.args.touched.now) c.loop-id.entries.items c.free_room.new.entries.items c.loop-id.invariant.around c.free_room.ensures.keeps in
+    let kept = Surround-keeps (block_at tiles) c.args.keys.now (IsHeld (block_at tiles) (take c.loop-id.id-index c.args.ids.now)) c.loop-id.entries.items c.free_room.new.entries.items c.loop-id.invariant.around c.free_room.ensures.keeps in
     elim c.free_room.ensures.free [
       | inl free ↦ omega (arith, free, c.len.ensures, c.deref.ensures.len)
       | inr once ↦
@@ -31,12 +32,12 @@ list_kept-requires-clause-room c =
     ]
 
 pub loop-id-init : goal.loop-id-init
-loop-id-init c = record { around = rw c.clear.ensures.items (passed_none _ _); found_room = refl; entries_room = refl }
+loop-id-init c = record { around = rw c.clear.ensures.items (Surround-none _ _); found_room = refl; entries_room = refl }
 
 pub loop-id-preserved : goal.loop-id-preserved
 loop-id-preserved c =
     let tiles = tiles_of c.args.pool.now c.args.owner.now in
-    let ids = c.args.touched.now in
+    let ids = c.args.ids.now in
     let i = c.loop-id.id-index in
     let id = c.id-item.result in
     let list = c.list_tiles.new.list in
@@ -45,19 +46,19 @@ loop-id-preserved c =
     let met =
     AreMet-listed (block_at tiles) c.grow-area.result list.items c.requires.plane.plane.tiling c.list_tiles.ensures.legal
     (subst (λ n. IsListedTo (block_at tiles) c.grow-area.result list.items n world.top) list.ok.0 c.list_tiles.ensures.listed) in
-    let kept = passed_keeps (block_at tiles) ids (take i ids) c.loop-id.entries.items c.free_room.new.entries.items c.loop-id.invariant.around c.free_room.ensures.keeps in
+    let kept = Surround-keeps (block_at tiles) c.args.keys.now (IsHeld (block_at tiles) (take i ids)) c.loop-id.entries.items c.free_room.new.entries.items c.loop-id.invariant.around c.free_room.ensures.keeps in
     let added = rw c.deref.ensures.value at c.list_kept.ensures.kept in
     record {
       around =
           rw (more, added)
-          (passed_more (block_at tiles) ids c.args.keys.now (take i ids) id c.unwrap.result.piece c.grow-area.result list.items c.free_room.new.entries.items c.requires.plane.plane.tiling
-          c.requires.members here c.grow-area.ensures.squares met kept);
+          (passed_more (block_at tiles) c.args.keys.now (take i ids) id c.unwrap.result.piece c.grow-area.result list.items c.free_room.new.entries.items c.requires.plane.plane.tiling here
+          c.grow-area.ensures.squares met kept);
       found_room = c.list_tiles.ensures.room ∙ c.loop-id.invariant.found_room;
       entries_room = c.list_kept.ensures.room ∙ c.free_room.ensures.room ∙ c.loop-id.invariant.entries_room;
     }
 
 pub returns-clause-around : goal.returns-clause-around
 returns-clause-around c reports =
-    let ids = c.args.touched.now in
+    let ids = c.args.ids.now in
     let all : take c.loop-id.id-index ids ≡ ids = take_all c.loop-id.id-index ids (omega arith) in
     rw all at c.loop-id.invariant.around
