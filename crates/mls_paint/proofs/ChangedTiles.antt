@@ -40,10 +40,13 @@ is_same-Decides p q = (
   λ one. rw one (grind (arith, nat_tests)),
 )
 
+pub is_same-flips : (p q : Piece) → is_same p q ≡ is_same q p
+is_same-flips p q = grind (arith, nat_tests)
+
 is_same-equiv : IsEquivalence is_same
 is_same-equiv = record {
   refl = λ p. (is_same-Decides p p).1 refl;
-  symm = λ p q. grind (arith, nat_tests);
+  symm = is_same-flips;
   congr = λ p q r same. ap (λ s. is_same s r) ((is_same-Decides p q).0 same);
 }
 

@@ -1,9 +1,10 @@
 -- What a plane is once the strips of what the listed tiles and the pieces cover have taken the place of those tiles, where tiles that are such strips
 -- stay.
-use Rattle.std.proofs.Common.{◌≡◌, ℕ, ◌+◌, ◌<◌, ◌≤◌, ◌↔◌, Bool, true, false, not, IsTrue, inl, inr, refl, List, ◌++◌, length, Contains, Some, sym, ap, ◌∙◌, subst, arith}
+use Rattle.std.proofs.Common.{◌≡◌, ℕ, ◌+◌, ◌<◌, ◌≤◌, ◌↔◌, Bool, true, false, not, IsTrue, inl, inr, refl, List, ◌++◌, length, Contains, IsPermutation, Some, sym, ap, ◌∙◌, subst, arith}
 use Rattle.std.specs.Option.{option_map}
 use Rattle.std.proofs.lemmas.Bool.{both_ways, cases_lt}
 use Rattle.std.proofs.lemmas.List.Elements.{All-contains}
+use Rattle.std.proofs.lemmas.List.Sorted.{Contains-permutation, IsPermutation-sym}
 use Rattle.std.proofs.lemmas.Option.{same_Some}
 use Rattle.mls_geom.specs.Locality.{AreCoveredStrips, HaveKinds, covered_count, is_touched, laid}
 use Rattle.mls_geom.specs.Pictures.{overlaid}
@@ -27,6 +28,7 @@ use Rattle.mls_paint.specs.Painting.{KeepsUntouched}
 use Rattle.mls_paint.specs.Planes.{HasStrips, picture_in}
 use Rattle.mls_paint.proofs.ChangedTiles.{Contains-gone_of, Contains-put_of, CornersDiffer-touched, TakePlace-changes, stays_among}
 use Rattle.mls_paint.proofs.ListedTouched.{AreTouched-ListTouched}
+use Rattle.mls_paint.proofs.MovedLists.{TakePlace-moved}
 
 -- the listed tiles of the plane are to give way to the pieces
 pub record GivesWay (pool : Pool) (owner : ℕ) (over : List Piece) (list : List LaidTile) : Type 0 where
@@ -74,31 +76,38 @@ fits_unless true refused tiles limit is only = (
 )
 fits_unless false refused tiles limit is only = (λ never. absurd (both_ways false refl never), λ few. absurd (omega (arith, few, only.0 is)))
 
--- the strips of what the tiles and the pieces cover take their place, other than those that are tiles already
+-- the strips of what the tiles and the pieces cover take their place, other than those that are tiles already, in any order
 pub TakePlace-GivesWay :
-    (pool : Pool) (owner : ℕ) (over : List Piece) (list : List LaidTile) (fresh : List Piece) → GivesWay pool owner over list
-    → AreCoveredStrips world (laid (pieces_of list ++ over)) fresh
-    → TakePlace (block_at (tiles_of pool owner)) (keys_of (gone_of list fresh)) (put_of fresh (pieces_of list))
-TakePlace-GivesWay pool owner over list fresh gives covered =
+    (pool : Pool) (owner : ℕ) (over : List Piece) (list : List LaidTile) (fresh : List Piece) (names : List ℕ) (put : List Piece) → GivesWay pool owner over list
+    → AreCoveredStrips world (laid (pieces_of list ++ over)) fresh → IsPermutation (keys_of (gone_of list fresh)) names → IsPermutation (put_of fresh (pieces_of list)) put
+    → TakePlace (block_at (tiles_of pool owner)) names put
+TakePlace-GivesWay pool owner over list fresh names put gives covered named moved =
     let blocks = block_at (tiles_of pool owner) in
     let under = AreTouched-GivesWay pool owner over list gives in
-    TakePlace-changes blocks list over fresh gives.strips.plane.plane.tiling under (TakePlace-strips blocks list over fresh under covered)
+    TakePlace-moved blocks (keys_of (gone_of list fresh)) names (put_of fresh (pieces_of list)) put named moved
+    (TakePlace-changes blocks list over fresh gives.strips.plane.plane.tiling under (TakePlace-strips blocks list over fresh under covered))
 
 -- no two of the tiles have one lower-left corner
 pub CornersDiffer-GivesWay : (pool : Pool) (owner : ℕ) (over : List Piece) (list : List LaidTile) → GivesWay pool owner over list → CornersDiffer (pieces_of list)
 CornersDiffer-GivesWay pool owner over list gives =
     CornersDiffer-touched (block_at (tiles_of pool owner)) list over gives.strips.plane.plane.tiling (AreTouched-GivesWay pool owner over list gives)
 
--- the listed tiles that are no strips have given way to the strips that are no listed tiles
-abbrev pub IsChanged : List (ℕ × Tile) → List (ℕ × Tile) → List LaidTile → List Piece → Type 0
-IsChanged old new list fresh = Replaces old new (keys_of (gone_of list fresh)) (put_of fresh (pieces_of list))
+-- the listed tiles that are no strips have given way to the strips that are no listed tiles, in any order
+pub record IsChanged (old new : List (ℕ × Tile)) (list : List LaidTile) (fresh : List Piece) : Type 0 where
+  pub names : List ℕ
+  pub put : List Piece
+  pub named : IsPermutation (keys_of (gone_of list fresh)) names
+  pub moved : IsPermutation (put_of fresh (pieces_of list)) put
+  pub replaced : Replaces old new names put
 
 IsPainted-GivesWay :
     (old new : Pool) (owner : ℕ) (over : List Piece) (list : List LaidTile) (fresh : List Piece) → GivesWay old owner over list
-    → AreCoveredStrips world (laid (pieces_of list ++ over)) fresh → IsChanged (tiles_of old owner) (tiles_of new owner) list fresh
-    → IsPainted (tiles_of old owner) (tiles_of new owner) list over fresh (keys_of (gone_of list fresh)) (put_of fresh (pieces_of list))
-IsPainted-GivesWay old new owner over list fresh gives covered replaced =
+    → AreCoveredStrips world (laid (pieces_of list ++ over)) fresh → (changed : IsChanged (tiles_of old owner) (tiles_of new owner) list fresh)
+    → IsPainted (tiles_of old owner) (tiles_of new owner) list over fresh changed.names changed.put
+IsPainted-GivesWay old new owner over list fresh gives covered changed =
     let under = AreTouched-GivesWay old owner over list gives in
+    let gone = keys_of (gone_of list fresh) in
+    let come = put_of fresh (pieces_of list) in
     record {
       plane = gives.strips.plane.plane;
       maximal = gives.strips.maximal;
@@ -106,9 +115,10 @@ IsPainted-GivesWay old new owner over list fresh gives covered replaced =
       all = gives.listed.whole;
       legal = gives.legal;
       covered = covered;
-      strips = λ piece found. (Contains-put_of fresh (pieces_of list) piece found).0;
-      stays = λ key block listed here remains. stays_among (block_at (tiles_of old owner)) list over fresh key block under listed here remains;
-      replaced = replaced;
+      strips = λ piece found. (Contains-put_of fresh (pieces_of list) piece (Contains-permutation changed.put come piece (IsPermutation-sym come changed.put changed.moved) found)).0;
+      stays = λ key block listed here remains.
+          stays_among (block_at (tiles_of old owner)) list over fresh key block under listed here (λ held. remains (Contains-permutation gone changed.names key changed.named held));
+      replaced = changed.replaced;
     }
 
 -- then the plane shows the pieces over what it showed
@@ -116,36 +126,37 @@ pub picture-painted :
     (old new : Pool) (owner : ℕ) (over : List Piece) (list : List LaidTile) (fresh : List Piece) → GivesWay old owner over list
     → AreCoveredStrips world (laid (pieces_of list ++ over)) fresh → IsChanged (tiles_of old owner) (tiles_of new owner) list fresh
     → picture_in new owner ≡ overlaid (picture_in old owner) over
-picture-painted old new owner over list fresh gives covered replaced =
-    shown-painted (tiles_of old owner) (tiles_of new owner) list over fresh (keys_of (gone_of list fresh)) (put_of fresh (pieces_of list))
-    (KeysDiffer-tiles_of old owner) (KeysDiffer-tiles_of new owner) (IsPainted-GivesWay old new owner over list fresh gives covered replaced)
+picture-painted old new owner over list fresh gives covered changed =
+    shown-painted (tiles_of old owner) (tiles_of new owner) list over fresh changed.names changed.put (KeysDiffer-tiles_of old owner) (KeysDiffer-tiles_of new owner)
+    (IsPainted-GivesWay old new owner over list fresh gives covered changed)
 
 -- and its tiles are maximal strips
 pub HasStrips-painted :
     (old new : Pool) (owner : ℕ) (over : List Piece) (list : List LaidTile) (fresh : List Piece) → GivesWay old owner over list
     → AreCoveredStrips world (laid (pieces_of list ++ over)) fresh → IsChanged (tiles_of old owner) (tiles_of new owner) list fresh → HasPlane new owner
     → HasStrips new owner
-HasStrips-painted old new owner over list fresh gives covered replaced home = record {
+HasStrips-painted old new owner over list fresh gives covered changed home = record {
   plane = home;
   maximal =
-      IsMaximal-painted (tiles_of old owner) (tiles_of new owner) list over fresh (keys_of (gone_of list fresh)) (put_of fresh (pieces_of list))
-      (KeysDiffer-tiles_of old owner) (KeysDiffer-tiles_of new owner) (IsPainted-GivesWay old new owner over list fresh gives covered replaced);
+      IsMaximal-painted (tiles_of old owner) (tiles_of new owner) list over fresh changed.names changed.put (KeysDiffer-tiles_of old owner) (KeysDiffer-tiles_of new owner)
+      (IsPainted-GivesWay old new owner over list fresh gives covered changed);
 }
 
 -- a tile that no piece touches stays: if it is listed, it is a strip of the painted plane as it is
 pub KeepsUntouched-IsChanged :
     (old : Pool) (new : List (ℕ × Tile)) (owner : ℕ) (over : List Piece) (list : List LaidTile) (fresh : List Piece) → GivesWay old owner over list
     → AreCoveredStrips world (laid (pieces_of list ++ over)) fresh → IsChanged (tiles_of old owner) new list fresh → KeepsUntouched (tiles_of old owner) new over
-KeepsUntouched-IsChanged old new owner over list fresh gives covered replaced key tile here apart =
+KeepsUntouched-IsChanged old new owner over list fresh gives covered changed key tile here apart =
     let tiles = tiles_of old owner in
     let block_here : block_at tiles key ≡ Some (block_of tiles tile) = ap (option_map (block_of tiles)) here in
-    let unlisted : ¬ (Contains (keys_of (gone_of list fresh)) key) = λ held.
-    let (entry, away, is_key) = entry-keys_of (gone_of list fresh) key held in
+    let gone = keys_of (gone_of list fresh) in
+    let unlisted : ¬ (Contains changed.names key) = λ held.
+    let (entry, away, is_key) = entry-keys_of (gone_of list fresh) key (Contains-permutation changed.names gone key (IsPermutation-sym gone changed.names changed.named) held) in
     let (there, no_strip) = Contains-gone_of list fresh entry away in
     let laid_there = All-contains (λ t. block_at tiles t.id ≡ Some t.piece) list entry gives.listed.each there in
     let same : entry.piece ≡ block_of tiles tile = same_Some entry.piece (block_of tiles tile) (sym laid_there ∙ ap (block_at tiles) is_key ∙ block_here) in
     no_strip
     (fresh-untouched tiles list over fresh entry gives.strips.plane.plane (KeysDiffer-tiles_of old owner) gives.strips.maximal (AreTouched-GivesWay old owner over list gives)
     gives.listed.whole gives.legal covered there (subst (λ p. is_touched over p ≡ false) (sym same) apart)) in
-    let (after, at, kept) = replaced.kept key tile here unlisted in
+    let (after, at, kept) = changed.replaced.kept key tile here unlisted in
     (after, at, kept.corner, kept.kind)

@@ -1,6 +1,7 @@
 pub mod Changes
 pub mod Owners
 pub mod Painting
+pub mod Pairs
 pub mod Planes
 pub mod Scratches
 pub mod Sweeps

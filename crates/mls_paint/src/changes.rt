@@ -5,6 +5,7 @@ ghost use Rattle.std.specs.List.Sorted.{IsPermutation};
 ghost use Rattle.mls_geom.specs.Strips.{comes_before};
 ghost use Rattle.mls_paint.specs.Changes.{AreInOrder, CornersDiffer, corner_of, gone_of, is_among, put_of};
 
+use crate::pairs::put_pair_first;
 use mls_geom::Piece;
 use mls_stitch::LaidTile;
 use mls_tilepool::TileId;
@@ -84,7 +85,7 @@ fn list_fresh(strips: &[Piece], touched: &[Piece], fresh: &mut Vec<Piece>)
 }
 
 /// Lists what changes where the strips take the place of the tiles: the names of the tiles that are none of the strips,
-/// and the strips that are none of the tiles. Sorts the tiles' pieces.
+/// and the strips that are none of the tiles, in any order. Sorts the tiles' pieces.
 pub(crate) fn list_changes(
     tiles: &[LaidTile],
     strips: &[Piece],
@@ -97,8 +98,8 @@ pub(crate) fn list_changes(
     requires corners { CornersDiffer touched.old.items }
     requires tiles_fit { length tiles.now ≤ vec_capacity names.old }
     requires strips_fit { length strips.now ≤ vec_capacity fresh.old }
-    ensures names { names.new.items ≡ map (λ tile. tile.id) (gone_of tiles.now strips.now) }
-    ensures fresh { fresh.new.items ≡ put_of strips.now (map (λ tile. tile.piece) tiles.now) }
+    ensures names { IsPermutation (map (λ tile. tile.id) (gone_of tiles.now strips.now)) names.new.items }
+    ensures fresh { IsPermutation (put_of strips.now (map (λ tile. tile.piece) tiles.now)) fresh.new.items }
     ensures few { length fresh.new.items ≤ length strips.now }
     ensures numbers { length fresh.new.items + length tiles.now ≡ length strips.now + length names.new.items }
     ensures touched_room { vec_capacity touched.new ≡ vec_capacity touched.old }
@@ -108,4 +109,5 @@ pub(crate) fn list_changes(
     sort_pieces(touched);
     list_names(tiles, strips, names);
     list_fresh(strips, touched, fresh);
+    put_pair_first(tiles, names, fresh);
 }

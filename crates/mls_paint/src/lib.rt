@@ -4,6 +4,7 @@
 
 mod changes;
 mod paint;
+mod pairs;
 mod planes;
 mod scratch;
 mod sweeps;

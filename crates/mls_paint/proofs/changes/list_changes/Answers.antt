@@ -1,8 +1,9 @@
--- A sort of the touched pieces changes nothing in which strips are none of them.
-use Rattle.std.proofs.Common.{◌≡◌, ◌++◌, ℕ, List, length, take, ap, ◌∙◌, rules, arith}
+-- A sort of the touched pieces changes nothing in which strips are none of them, and a pair that is put first only changes the order.
+use Rattle.std.proofs.Common.{◌≡◌, ◌++◌, ℕ, List, length, take, drop, IsPermutation, ap, sym, ◌∙◌, subst, rules, arith}
 use Rattle.std.proofs.Math.Seq.{take-append_seam}
 use Rattle.std.proofs.lemmas.List.{length-map}
 use Rattle.std.proofs.lemmas.List.Sorted.{length_permutation}
+use Rattle.mls_stitch.specs.Pending.{keys_of}
 use Rattle.mls_stitch.specs.declared.laid_tile.LaidTile.{LaidTile}
 use Rattle.mls_stitch.proofs.FreshStrips.{pieces_of}
 use Rattle.mls_paint.specs.Changes.{gone_of, put_of}
@@ -37,14 +38,22 @@ returns c =
     let is_sorted : c.deref.result.now ≡ sorted = c.deref.ensures.value ∙ filled sorted _ c.args.touched.now.len long in
     let same : put_of strips sorted ≡ put_of strips (pieces_of tiles) = put_of-sorted strips pieces sorted moved ∙ ap (put_of strips) c.requires.touched in
     let put : c.list_fresh.new.fresh.items ≡ put_of strips (pieces_of tiles) = c.list_fresh.ensures.items ∙ ap (put_of strips) is_sorted ∙ same in
-    let named : length c.list_names.new.names.items ≡ length (gone_of tiles strips) =
-    ap length c.list_names.ensures.items ∙ length-map (gone_of tiles strips) (λ (t : LaidTile). t.id) in
+    let gone = keys_of (gone_of tiles strips) in
+    let come = put_of strips (pieces_of tiles) in
+    let names = c.put_pair_first.new.names in
+    let fresh = c.put_pair_first.new.strips in
+    let named : IsPermutation gone names = subst (λ l. IsPermutation l names) (c.deref_mut-2.ensures.value ∙ c.list_names.ensures.items) c.put_pair_first.ensures.names in
+    let swapped : IsPermutation come fresh = subst (λ l. IsPermutation l fresh) (c.deref_mut-3.ensures.value ∙ put) c.put_pair_first.ensures.strips in
+    let as_many : length names ≡ length gone = length_permutation gone names named in
+    let as_many' : length fresh ≡ length come = length_permutation come fresh swapped in
+    let names_are = filled names (drop (length names) c.list_names.new.names.items) c.list_names.new.names.len (omega (arith, as_many, ap length c.list_names.ensures.items, c.list_names.new.names.ok.0)) in
+    let fresh_are = filled fresh (drop (length fresh) c.list_fresh.new.fresh.items) c.list_fresh.new.fresh.len (omega (arith, as_many', ap length put, c.list_fresh.new.fresh.ok.0)) in
     let changes = length-changes tiles strips (rw c.requires.touched at c.requires.corners) c.requires.order in
     record {
-      names = c.list_names.ensures.items;
-      fresh = put;
-      few = omega (arith, ap length put, length-put_of-le strips (pieces_of tiles));
-      numbers = omega (arith, ap length put, named, changes);
+      names = subst (IsPermutation gone) (sym names_are) named;
+      fresh = subst (IsPermutation come) (sym fresh_are) swapped;
+      few = omega (arith, ap length fresh_are, as_many', length-put_of-le strips (pieces_of tiles));
+      numbers = omega (arith, ap length names_are, ap length fresh_are, as_many, as_many', changes, length-map (gone_of tiles strips) (λ (t : LaidTile). t.id));
       touched_room = search rules;
       names_room = c.list_names.ensures.room;
       fresh_room = c.list_fresh.ensures.room;

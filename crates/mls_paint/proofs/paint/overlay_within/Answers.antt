@@ -1,12 +1,12 @@
 -- The fresh strips take the place of the listed tiles, other than those that are such tiles already.
-use Rattle.std.proofs.Common.{◌≡◌, ◌++◌, refl, ap, ◌∙◌, subst, rules}
+use Rattle.std.proofs.Common.{◌≡◌, ◌++◌, IsPermutation, refl, sym, ap, ◌∙◌, subst, subst₂, rules}
 use Rattle.mls_geom.specs.Locality.{AreCoveredStrips, HaveKinds, laid}
 use Rattle.mls_geom.specs.World.{world}
 use Rattle.mls_tilepool.specs.Pools.{tiles_of}
 use Rattle.mls_stitch.specs.Pending.{keys_of}
 use Rattle.mls_stitch.proofs.FreshStrips.{pieces_of}
 use Rattle.mls_paint.specs.Changes.{gone_of, put_of}
-use Rattle.mls_paint.proofs.PaintedPlanes.{CornersDiffer-GivesWay, GivesWay, HasStrips-painted, KeepsUntouched-IsChanged, TakePlace-GivesWay, picture-painted, too_many-GivesWay}
+use Rattle.mls_paint.proofs.PaintedPlanes.{CornersDiffer-GivesWay, GivesWay, HasStrips-painted, IsChanged, KeepsUntouched-IsChanged, TakePlace-GivesWay, picture-painted, too_many-GivesWay}
 use Rattle.mls_paint.proofs.paint.overlay_within.Goals as goal
 
 pub returns-in_err-find_fresh-clause-too_many : goal.returns-in_err-find_fresh-clause-too_many
@@ -46,10 +46,12 @@ replace-requires-clause-pieces c =
     let fresh = c.find_fresh.new.sweep.strips in
     let tiles : c.tiles.result.now ≡ list = c.tiles.ensures ∙ ap (λ s. s.tiles) c.scratch.view_is in
     let tiles' : c.tiles-2.result.now ≡ list = c.tiles-2.ensures ∙ ap (λ s. s.tiles) c.scratch.view_is in
-    let names : c.deref.result.now ≡ keys_of (gone_of list fresh) =
-    c.deref.ensures.value ∙ c.list_changes.ensures.names ∙ ap (λ l. keys_of (gone_of l c.strips.result.now)) tiles' ∙ ap (λ f. keys_of (gone_of list f)) c.strips.ensures in
-    let put : c.deref-2.result.now ≡ put_of fresh (pieces_of list) =
-    c.deref-2.ensures.value ∙ c.list_changes.ensures.fresh ∙ ap (λ l. put_of c.strips.result.now (pieces_of l)) tiles' ∙ ap (λ f. put_of f (pieces_of list)) c.strips.ensures in
+    let names = c.deref.result.now in
+    let put = c.deref-2.result.now in
+    let named : IsPermutation (keys_of (gone_of list fresh)) names =
+    subst₂ IsPermutation (ap (λ l. keys_of (gone_of l c.strips.result.now)) tiles' ∙ ap (λ f. keys_of (gone_of list f)) c.strips.ensures) (sym c.deref.ensures.value) c.list_changes.ensures.names in
+    let moved : IsPermutation (put_of fresh (pieces_of list)) put =
+    subst₂ IsPermutation (ap (λ l. put_of c.strips.result.now (pieces_of l)) tiles' ∙ ap (λ f. put_of f (pieces_of list)) c.strips.ensures) (sym c.deref-2.ensures.value) c.list_changes.ensures.fresh in
     let gives : GivesWay pool owner over list = record {
       strips = c.requires.strips;
       listed = c.find_touched.ensures.found;
@@ -57,7 +59,7 @@ replace-requires-clause-pieces c =
       legal = c.find_fresh.ensures.legal;
     } in
     let covered = subst (λ listed. AreCoveredStrips world (laid (pieces_of listed ++ over)) fresh) tiles c.in_ok-find_fresh.ensures.strips in
-    rw put (rw names (rw c.find_touched.ensures.plane (TakePlace-GivesWay pool owner over list fresh gives covered)))
+    rw c.find_touched.ensures.plane (TakePlace-GivesWay pool owner over list fresh names put gives covered named moved)
 
 pub returns : goal.returns
 returns c =
@@ -70,10 +72,12 @@ returns c =
     let found = c.find_touched.ensures in
     let tiles : c.tiles.result.now ≡ list = c.tiles.ensures ∙ ap (λ s. s.tiles) c.scratch.view_is in
     let tiles' : c.tiles-2.result.now ≡ list = c.tiles-2.ensures ∙ ap (λ s. s.tiles) c.scratch.view_is in
-    let names : c.deref.result.now ≡ keys_of (gone_of list fresh) =
-    c.deref.ensures.value ∙ c.list_changes.ensures.names ∙ ap (λ l. keys_of (gone_of l c.strips.result.now)) tiles' ∙ ap (λ f. keys_of (gone_of list f)) c.strips.ensures in
-    let put : c.deref-2.result.now ≡ put_of fresh (pieces_of list) =
-    c.deref-2.ensures.value ∙ c.list_changes.ensures.fresh ∙ ap (λ l. put_of c.strips.result.now (pieces_of l)) tiles' ∙ ap (λ f. put_of f (pieces_of list)) c.strips.ensures in
+    let names = c.deref.result.now in
+    let put = c.deref-2.result.now in
+    let named : IsPermutation (keys_of (gone_of list fresh)) names =
+    subst₂ IsPermutation (ap (λ l. keys_of (gone_of l c.strips.result.now)) tiles' ∙ ap (λ f. keys_of (gone_of list f)) c.strips.ensures) (sym c.deref.ensures.value) c.list_changes.ensures.names in
+    let moved : IsPermutation (put_of fresh (pieces_of list)) put =
+    subst₂ IsPermutation (ap (λ l. put_of c.strips.result.now (pieces_of l)) tiles' ∙ ap (λ f. put_of f (pieces_of list)) c.strips.ensures) (sym c.deref-2.ensures.value) c.list_changes.ensures.fresh in
     let gives : GivesWay old owner over list = record {
       strips = c.requires.strips;
       listed = found.found;
@@ -81,15 +85,16 @@ returns c =
       legal = c.find_fresh.ensures.legal;
     } in
     let covered = subst (λ listed. AreCoveredStrips world (laid (pieces_of listed ++ over)) fresh) tiles c.in_ok-find_fresh.ensures.strips in
-    let replaced = rw (c.unwrap.ensures, found.plane, names, put) at c.replace.ensures.replaced in
+    let replaced = rw (c.unwrap.ensures, found.plane) at c.replace.ensures.replaced in
+    let changed : IsChanged (tiles_of old owner) (tiles_of new owner) list fresh = record { names = names; put = put; named = named; moved = moved; replaced = replaced } in
     let refused = rw (tiles, c.read_count-count.ensures.count) at c.in_ok-find_fresh.ensures.too_many in
     let exactly = too_many-GivesWay old owner over list c.args.limit gives in
     record {
-      picture = picture-painted old new owner over list fresh gives covered replaced;
-      strips = HasStrips-painted old new owner over list fresh gives covered replaced (rw found.plane at c.replace.ensures.home);
+      picture = picture-painted old new owner over list fresh gives covered changed;
+      strips = HasStrips-painted old new owner over list fresh gives covered changed (rw found.plane at c.replace.ensures.home);
       too_many = (λ err. exactly.0 (refused.0 err), λ more. refused.1 (exactly.1 more));
       refused = search rules;
-      kept = λ _. KeepsUntouched-IsChanged old (tiles_of new owner) owner over list fresh gives covered replaced;
+      kept = λ _. KeepsUntouched-IsChanged old (tiles_of new owner) owner over list fresh gives covered changed;
       rebuilt = search rules;
       only = rw found.plane at c.replace.ensures.only;
       plane = search rules;
