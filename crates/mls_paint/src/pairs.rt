@@ -1,5 +1,5 @@
 //! Which tile shrinks to which strip as strips take the place of tiles.
-ghost use Rattle.std.specs.Prelude.{◌≡◌, ◌<◌, IfSome, IsTrue, IsPermutation, length};
+ghost use Rattle.std.specs.Prelude.{◌≡◌, ◌<◌, ◌↔◌, IfSome, IsTrue, IsPermutation, length, slice_get};
 ghost use Rattle.mls_paint.specs.Pairs.{extent, longer_of};
 
 use mls_geom::{Piece, Rect};
@@ -33,7 +33,8 @@ fn longer(longest: Option<Listed>, next: Listed) -> Listed
 
 /// Returns whether the name at the index is the tile's.
 fn is_named(names: &[TileId], index: usize, tile: &LaidTile) -> bool
-    ensures { IsTrue result → index < length names.now }
+    ensures value { IsTrue result ↔ (slice_get names.now index ≡ Some tile.now.id) }
+    ensures within { IsTrue result → index < length names.now }
 {
     names.get(index) == Some(&tile.id)
 }
