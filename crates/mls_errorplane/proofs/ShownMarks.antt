@@ -8,7 +8,7 @@ use Rattle.std.proofs.lemmas.List.Folds.{list_any_at, list_any-from_Any}
 use Rattle.mls_geom.specs.Pictures.{Picture}
 use Rattle.mls_geom.specs.Rects.{Rect, common, holds}
 use Rattle.mls_tilepool.specs.Pools.{Pool, tiles_of}
-use Rattle.mls_stitch.specs.Areas.{AreInArea}
+use Rattle.mls_stitch.specs.Areas.{MeetArea}
 use Rattle.mls_stitch.specs.Tilings.{HasPlane, block_at}
 use Rattle.mls_stitch.specs.declared.laid_tile.LaidTile.{LaidTile}
 use Rattle.mls_paint.specs.Planes.{picture_in}
@@ -87,7 +87,7 @@ remarked-same below rect set same = fun_ext (λ x. fun_ext (λ y. elim (cases_Bo
 
 -- where each tile found in a rectangle shows a set, marking it anew changes nothing
 pub remarked-shown :
-    (pool : Pool) (owner : ℕ) (rect : Rect) (found : List LaidTile) (set : SquareSet) → HasPlane pool owner → AreInArea (block_at (tiles_of pool owner)) rect found
+    (pool : Pool) (owner : ℕ) (rect : Rect) (found : List LaidTile) (set : SquareSet) → HasPlane pool owner → MeetArea (block_at (tiles_of pool owner)) rect found
     → All (ShowsSet rect set) found → remarked (picture_in pool owner) rect set ≡ picture_in pool owner
 remarked-shown pool owner rect found set plane are shows =
     remarked-same (picture_in pool owner) rect set (λ x y here.
@@ -110,13 +110,13 @@ ShowsSet-found tiles rect areas found of_marks listed inside whole settled few =
 -- where each of them shows the marks, marking the finding changes nothing
 pub remarked-found :
     (pool : Pool) (owner : ℕ) (found : Marks) (finding : Finding) (area : Rect) (tiles listed : List LaidTile) → HasPlane pool owner
-    → AreInArea (block_at (tiles_of pool owner)) area tiles → area ≡ found.rect → listed ≡ tiles → All (ShowsSet found.rect (marks found)) listed → found ≡ finding.marks
+    → MeetArea (block_at (tiles_of pool owner)) area tiles → area ≡ found.rect → listed ≡ tiles → All (ShowsSet found.rect (marks found)) listed → found ≡ finding.marks
     → finding.marks.rect ≡ finding.piece → remarked (picture_in pool owner) finding.piece (marks finding.marks) ≡ picture_in pool owner
 remarked-found pool owner found finding area tiles listed plane are of_marks same shows is of_piece =
     let below = picture_in pool owner in
-    let here : AreInArea (block_at (tiles_of pool owner)) found.rect listed =
-    subst (λ (list : List LaidTile). AreInArea (block_at (tiles_of pool owner)) found.rect list) (sym same)
-    (subst (λ (e : Rect). AreInArea (block_at (tiles_of pool owner)) e tiles) of_marks are) in
+    let here : MeetArea (block_at (tiles_of pool owner)) found.rect listed =
+    subst (λ (list : List LaidTile). MeetArea (block_at (tiles_of pool owner)) found.rect list) (sym same)
+    (subst (λ (e : Rect). MeetArea (block_at (tiles_of pool owner)) e tiles) of_marks are) in
     sym (ap (λ (m : Marks). remarked below m.rect (marks m)) is ∙ ap (λ (e : Rect). remarked below e (marks finding.marks)) of_piece)
     ∙ remarked-shown pool owner found.rect listed (marks found) plane here shows
 

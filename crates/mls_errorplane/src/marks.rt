@@ -15,7 +15,7 @@ use crate::shown_marks::show;
 use crate::sizes::size_of;
 use mls_checker::Finding;
 use mls_geom::Piece;
-use mls_paint::{Scratch, TooManyTiles, find_area, overlay, strips_of, tile_count};
+use mls_paint::{Scratch, TooManyTiles, find_meeting, overlay, strips_of, tile_count};
 use mls_stitch::Plane;
 use mls_tilepool::Pool;
 
@@ -51,7 +51,7 @@ pub fn mark(
     ensures rooms { KeepsRoom scratch.old scratch.new }
 {
     let found = finding.marks();
-    find_area(pool, plane, found.rect(), scratch);
+    find_meeting(pool, plane, found.rect(), scratch);
     if show(scratch.tiles(), found) {
         return keep(pool, plane, limit);
     }

@@ -95,6 +95,7 @@ fn why_in_piece(
     ensures rooms { KeepsRoom scratch.old scratch.new }
 {
     let zone = piece.grow(rules.halo());
-    let snapshot = Snapshot::read(alloc, pool, planes, zone, scratch)?;
+    let mut snapshot = Snapshot::read(alloc, pool, planes, zone, scratch)?;
+    snapshot.stitch(alloc)?;
     Ok(mls_checker::why(rules, &snapshot, piece))
 }

@@ -11,5 +11,7 @@ mod sweeps;
 mod swept;
 
 pub use paint::{Painted, TooManyTiles, fits, overlay, overlay_within};
-pub use planes::{find_area, kinds, release_plane, space_plane, strips_of, tile_count};
+pub use planes::{
+    find_area, find_meeting, kinds, release_plane, space_plane, strips_of, tile_count,
+};
 pub use scratch::Scratch;

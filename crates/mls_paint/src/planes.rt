@@ -6,7 +6,7 @@ ghost use Rattle.mls_geom.specs.Strips.{AreStrips};
 ghost use Rattle.mls_geom.specs.TileCounts.{tile_count};
 ghost use Rattle.mls_geom.specs.World.{world};
 ghost use Rattle.mls_tilepool.specs.Pools.{IsOwner, count_of, room_of, tiles_of, unreserved};
-ghost use Rattle.mls_stitch.specs.Areas.{AreInArea};
+ghost use Rattle.mls_stitch.specs.Areas.{AreInArea, MeetArea};
 ghost use Rattle.mls_stitch.specs.Tilings.{HasPlane, block_at};
 ghost use Rattle.mls_paint.specs.Owners.{RemovesOwners};
 ghost use Rattle.mls_paint.specs.Planes.{AddsOwner, HasStrips, picture_in};
@@ -69,6 +69,18 @@ pub fn find_area(pool: &Pool, plane: &mut Plane, area: Rect, scratch: &mut Scrat
 {
     read_count(pool, plane, scratch);
     plane.area(pool, area, &mut scratch.search);
+}
+
+/// Finds the tiles that have a square of the area, in any order, and leaves them in the scratch.
+pub fn find_meeting(pool: &Pool, plane: &mut Plane, area: Rect, scratch: &mut Scratch)
+    requires plane { HasPlane pool.now plane.old }
+    requires room { HasRoomFor pool.now plane.old scratch.old }
+    ensures found { MeetArea (block_at (tiles_of pool.now plane.old)) area scratch.new.tiles }
+    ensures plane { plane.new ≡ plane.old }
+    ensures rooms { KeepsRoom scratch.old scratch.new }
+{
+    read_count(pool, plane, scratch);
+    plane.meeting(pool, area, &mut scratch.search);
 }
 
 /// Finds all tiles of the plane, by bottom and then left, and leaves them in the scratch.

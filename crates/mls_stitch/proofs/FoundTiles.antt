@@ -10,7 +10,7 @@ use Rattle.mls_geom.specs.Rects.{Rect, IsRectangleIn, holds, meets}
 use Rattle.mls_geom.specs.World.{world}
 use Rattle.mls_geom.specs.declared.piece.Piece.{Piece}
 use Rattle.mls_geom.proofs.Holds.{between_holds}
-use Rattle.mls_stitch.specs.Areas.{AreInArea, IsFound, comes_first}
+use Rattle.mls_stitch.specs.Areas.{AreInArea, IsFound, MeetArea, comes_first}
 use Rattle.mls_stitch.specs.Enumerations.{IsListedTo, first_row}
 use Rattle.mls_stitch.specs.Tilings.{AreBlocks}
 use Rattle.mls_stitch.specs.declared.laid_tile.LaidTile.{LaidTile}
@@ -80,6 +80,15 @@ apart_found blocks area p q tiling inside found_p found_q (row, left) =
     let in_q = first_square area q inside (legal-AreBlocks blocks q.id q.piece tiling found_q.laid) found_q.met in
     one_tile blocks p q (max p.piece.rect.left area.left) (first_row area p) tiling found_p.laid found_q.laid in_p
     (subst (λ x. holds q.piece.rect (max x area.left) (first_row area p) ≡ true) (sym left) (subst (λ y. holds q.piece.rect (max q.piece.rect.left area.left) y ≡ true) (sym row) in_q))
+
+-- once all parents are passed, the list has the tiles of the area
+pub MeetArea-listed :
+    (blocks : ℕ → Option Piece) (area : Rect) (list : List LaidTile) → AreBlocks blocks → IsRectangleIn world area → IsListedTo blocks area list (length list) world.top
+    → MeetArea blocks area list
+MeetArea-listed blocks area list tiling inside listed = record {
+  each = listed.each;
+  whole = λ x y held. listed_whole blocks area list tiling inside listed x y held;
+}
 
 -- once all parents are passed, the sorted list is what area search finds
 pub area_found :

@@ -23,6 +23,11 @@ pub record IsFound (blocks : ℕ → Option Piece) (area : Rect) (tile : LaidTil
   pub laid : blocks tile.id ≡ Some tile.piece
   pub met : IsTrue (meets tile.piece.rect area)
 
+-- the list has the tiles that have a square of the area, in any order
+pub record MeetArea (blocks : ℕ → Option Piece) (area : Rect) (list : List LaidTile) : Type 0 where
+  pub each : All (IsFound blocks area) list
+  pub whole : (x y : ℕ) → IsTrue (holds area x y) → Any (λ tile. IsTrue (holds tile.piece.rect x y)) list
+
 -- the list has the tiles that have a square of the area, in order, each once
 pub record AreInArea (blocks : ℕ → Option Piece) (area : Rect) (list : List LaidTile) : Type 0 where
   pub each : All (IsFound blocks area) list

@@ -5,9 +5,9 @@ ghost use Rattle.mls_stitch.specs.Tilings.{HasPlane, IsMaximal, block_at, shown}
 ghost use Rattle.mls_geom.specs.Pictures.{picture_of};
 ghost use Rattle.mls_geom.specs.Strips.{AreStrips};
 ghost use Rattle.mls_geom.specs.World.{world};
-ghost use Rattle.mls_stitch.specs.Areas.{AreInArea};
+ghost use Rattle.mls_stitch.specs.Areas.{AreInArea, MeetArea};
 
-use crate::enumeration::area_into;
+use crate::enumeration::{area_into, meeting_into};
 use crate::{Plane, Scratch};
 use mls_geom::Rect;
 use mls_tilepool::Pool;
@@ -23,6 +23,20 @@ impl Plane {
         ensures scratch_room { scratch.new.room ≡ scratch.old.room }
     {
         area_into(pool, &self.owner, self.hint, area, &mut scratch.tiles);
+        if let Some(tile) = scratch.tiles.first() {
+            self.hint = tile.id;
+        }
+    }
+
+    /// Finds the tiles that have a square of the area, in any order, and leaves them in the scratch.
+    pub fn meeting(&mut self, pool: &Pool, area: Rect, scratch: &mut Scratch)
+        requires plane { HasPlane pool.now self.old }
+        requires room { count_of pool.now self.old ≤ scratch.old.room }
+        ensures found { MeetArea (block_at (tiles_of pool.now self.old)) area scratch.new.tiles }
+        ensures plane { self.new ≡ self.old }
+        ensures scratch_room { scratch.new.room ≡ scratch.old.room }
+    {
+        meeting_into(pool, &self.owner, self.hint, area, &mut scratch.tiles);
         if let Some(tile) = scratch.tiles.first() {
             self.hint = tile.id;
         }

@@ -5,7 +5,7 @@ ghost use Rattle.mls_geom.specs.World.{world};
 ghost use Rattle.mls_tilepool.specs.Pools.{count_of, tiles_of};
 ghost use Rattle.std.specs.List.{AllPairs};
 ghost use Rattle.std.specs.List.Sorted.{IsPermutation};
-ghost use Rattle.mls_stitch.specs.Areas.{AreInArea, comes_first};
+ghost use Rattle.mls_stitch.specs.Areas.{AreInArea, MeetArea, comes_first};
 ghost use Rattle.mls_stitch.specs.Enumerations.{IsBeside, IsListedTo, first_row};
 ghost use Rattle.mls_stitch.specs.Tilings.{HasPlane, block_at};
 ghost use Rattle.mls_stitch.specs.declared.laid_tile.LaidTile.{LaidTile};
@@ -155,6 +155,23 @@ pub(crate) fn list_tiles(
         push_children(pool, owner, area, index, list, steps);
         index += 1;
     }
+}
+
+/// Lists the tiles that have a square of the area, in any order. The search starts at the tile `from`, if the owner has it.
+pub(crate) fn meeting_into(
+    pool: &Pool,
+    owner: &Owner,
+    from: TileId,
+    area: Rect,
+    list: &mut Vec<LaidTile>,
+)
+    requires plane { HasPlane pool.now owner.now }
+    requires room { count_of pool.now owner.now ≤ vec_capacity list.old }
+    ensures found { MeetArea (block_at (tiles_of pool.now owner.now)) area list.new.items }
+    ensures room { vec_capacity list.new ≡ vec_capacity list.old }
+{
+    let mut steps = Steps::up_to(usize::MAX);
+    list_tiles(pool, owner, from, area, list, &mut steps);
 }
 
 /// Sorts tiles by their first row in the area, and then by their left.

@@ -10,17 +10,17 @@ use Rattle.mls_errorplane.proofs.marks.mark.Goals as goal
 pub returns-then-show-clause-marks : goal.returns-then-show-clause-marks
 returns-then-show-clause-marks c =
     let same =
-    remarked-found c.args.pool.now c.args.plane.now c.marks-found.result.now c.args.finding.now c.rect.result c.find_area.new.scratch.tiles c.tiles.result.now c.requires.strips.plane
-    c.find_area.ensures.found c.rect.ensures c.tiles.ensures (c.show.ensures c.if-show.true) c.marks-found.ensures.value c.marks-found.ensures.exact.rect in
+    remarked-found c.args.pool.now c.args.plane.now c.marks-found.result.now c.args.finding.now c.rect.result c.find_meeting.new.scratch.tiles c.tiles.result.now c.requires.strips.plane
+    c.find_meeting.ensures.found c.rect.ensures c.tiles.ensures (c.show.ensures c.if-show.true) c.marks-found.ensures.value c.marks-found.ensures.exact.rect in
     on_ok c.keep.result (sym same)
 
 pub returns-then-show-clause-too_many : goal.returns-then-show-clause-too_many
 returns-then-show-clause-too_many c =
     let same =
-    remarked-found c.args.pool.now c.args.plane.now c.marks-found.result.now c.args.finding.now c.rect.result c.find_area.new.scratch.tiles c.tiles.result.now c.requires.strips.plane
-    c.find_area.ensures.found c.rect.ensures c.tiles.ensures (c.show.ensures c.if-show.true) c.marks-found.ensures.value c.marks-found.ensures.exact.rect in
+    remarked-found c.args.pool.now c.args.plane.now c.marks-found.result.now c.args.finding.now c.rect.result c.find_meeting.new.scratch.tiles c.tiles.result.now c.requires.strips.plane
+    c.find_meeting.ensures.found c.rect.ensures c.tiles.ensures (c.show.ensures c.if-show.true) c.marks-found.ensures.value c.marks-found.ensures.exact.rect in
     let full =
-    subst (λ (owner : ℕ). IsErr c.keep.result ↔ (c.args.limit < tile_count world (picture_in c.args.pool.now owner))) c.find_area.ensures.plane c.keep.ensures in
+    subst (λ (owner : ℕ). IsErr c.keep.result ↔ (c.args.limit < tile_count world (picture_in c.args.pool.now owner))) c.find_meeting.ensures.plane c.keep.ensures in
     subst (λ (picture : Picture). IsErr c.keep.result ↔ (c.args.limit < tile_count world picture)) (sym same) full
 
 pub returns-clause-marks : goal.returns-clause-marks
@@ -29,7 +29,7 @@ returns-clause-marks c =
     let painted =
     overlaid-Paints c.list_pieces.new.pieces.items c.deref.result.now c.marks-found.result.now c.args.finding.now below c.list_pieces.ensures.painted c.deref.ensures.value
     c.marks-found.ensures.value c.marks-found.ensures.exact.rect in
-    subst (λ (owner : ℕ). picture_in c.overlay.new.pool owner ≡ overlaid (picture_in c.args.pool.now owner) c.deref.result.now) c.find_area.ensures.plane
+    subst (λ (owner : ℕ). picture_in c.overlay.new.pool owner ≡ overlaid (picture_in c.args.pool.now owner) c.deref.result.now) c.find_meeting.ensures.plane
     c.in_ok-overlay.ensures.picture
     ∙ painted
 
@@ -42,6 +42,6 @@ returns-clause-too_many c =
     let full =
     subst (λ (owner : ℕ).
     (false ≡ true → c.args.limit < tile_count world (overlaid (picture_in c.args.pool.now owner) c.deref.result.now))
-    × (c.args.limit < tile_count world (overlaid (picture_in c.args.pool.now owner) c.deref.result.now) → false ≡ true)) c.find_area.ensures.plane
+    × (c.args.limit < tile_count world (overlaid (picture_in c.args.pool.now owner) c.deref.result.now) → false ≡ true)) c.find_meeting.ensures.plane
     c.in_ok-overlay.ensures.too_many in
     subst (λ (count : ℕ). (false ≡ true → c.args.limit < count) × (c.args.limit < count → false ≡ true)) (ap (tile_count world) painted) full

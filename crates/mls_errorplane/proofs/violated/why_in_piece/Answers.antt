@@ -1,6 +1,7 @@
 use Rattle.std.proofs.Common.{ap, ◌∙◌}
 use Rattle.mls_geom.specs.Rects.{Rect, common, grown}
 use Rattle.mls_geom.specs.World.{world}
+use Rattle.mls_checker.specs.Copies.{Snapshot, copied_layout}
 use Rattle.mls_checker.specs.Findings.{violated_rules}
 use Rattle.mls_checker.specs.ZoneLayouts.{within}
 use Rattle.mls_paint.specs.Planes.{layout_in}
@@ -14,5 +15,6 @@ returns-clause-value c =
     let piece = c.args.piece in
     let layout = layout_in c.args.pool.now c.args.planes.now in
     let zone = c.grow-zone.ensures.value ∙ ap (λ h. common (grown h piece) world) c.halo.ensures.value in
-    c.why.ensures ∙ ap (violated_rules rules piece) c.in_ok-snapshot.ensures.layout ∙ ap (λ (e : Rect). violated_rules rules piece (within e layout)) zone
+    c.why.ensures ∙ ap (λ (s : Snapshot). violated_rules rules piece (copied_layout s)) c.stitch.ensures ∙ ap (violated_rules rules piece) c.in_ok-snapshot.ensures.layout
+    ∙ ap (λ (e : Rect). violated_rules rules piece (within e layout)) zone
     ∙ violated_rules-zone rules piece layout c.requires.legal (layout-AgreeOutside c.args.pool.now c.args.planes.now c.requires.planes)

@@ -1,0 +1,15 @@
+-- Once all parents are passed, the tiles of the area are listed.
+use Rattle.std.proofs.Common.{subst}
+use Rattle.mls_geom.specs.World.{world}
+use Rattle.mls_tilepool.specs.Pools.{tiles_of}
+use Rattle.mls_stitch.specs.Enumerations.{IsListedTo}
+use Rattle.mls_stitch.specs.Tilings.{block_at}
+use Rattle.mls_stitch.proofs.FoundTiles.{MeetArea-listed}
+use Rattle.mls_stitch.proofs.enumeration.meeting_into.Goals as goal
+
+pub returns-clause-found : goal.returns-clause-found
+returns-clause-found c =
+    let blocks = block_at (tiles_of c.args.pool.now c.args.owner.now) in
+    let list = c.list_tiles.new.list in
+    MeetArea-listed blocks c.args.area list.items c.requires.plane.plane.tiling c.list_tiles.ensures.legal
+    (subst (λ n. IsListedTo blocks c.args.area list.items n world.top) list.ok.0 c.list_tiles.ensures.listed)
