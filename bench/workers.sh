@@ -17,8 +17,9 @@
 #             the layouts as a whole: how many were timed, and the microseconds within which half of them and 99 of a
 #             hundred were done, and the longest. With 0 workers nothing is checked
 #
-# Of `whole` and `edits` there are ten rounds, in which the numbers of workers take turns; the times are those of the round
-# that takes least, and the stale findings those of all. A program fails where an area still awaits checking after a round.
+# Of `whole` and `edits` there are ten rounds in each of five runs, and the numbers of workers take turns; the times are those of
+# the round that takes least, and the stale findings those of all rounds of its run. The program fails where an area still awaits
+# checking after a round.
 # The last column has the aims: four workers are 2.5 times as fast as one, and 99 of a hundred paints take at most 2 ms.
 set -eu
 here=$(cd "$(dirname "${BASH_SOURCE[0]}")/.." && pwd)
@@ -38,9 +39,25 @@ with_aim() {
     awk -F'\t' -v OFS='\t' -v step="$1" -v workers="$2" -v aim="$3" '{ print $0, ($1 == step && $2 == workers) ? aim : "-" }'
 }
 
+# least: of the rows of each step and number of workers the one that took least, with how many times as fast it is as one worker
+least() {
+    awk -F'\t' -v OFS='\t' '
+        { key = $1 FS $2; if (!(key in ms)) keys[++count] = key }
+        !(key in ms) || $3 + 0 < ms[key] { ms[key] = $3 + 0; row[key] = $0 }
+        END {
+            for (i = 1; i <= count; i++) {
+                $0 = row[keys[i]]
+                $7 = sprintf("%.2f", ms[$1 FS 1] / $3)
+                print
+            }
+        }'
+}
+
 printf '%s\t%s\t%s\t%s\t%s\n' share pieces check locked percent
 "$program" shares
 printf '%s\t%s\t%s\t%s\t%s\t%s\t%s\t%s\n' step workers ms each pieces stale times aim
-"$program" workers | with_aim whole 4 2.50
+for _ in 1 2 3 4 5; do
+    "$program" workers
+done | least | with_aim whole 4 2.50
 printf '%s\t%s\t%s\t%s\t%s\t%s\t%s\n' step workers paints half 99 longest aim
 "$program" paints | with_aim paint 4 2000.00
