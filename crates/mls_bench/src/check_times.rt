@@ -72,9 +72,10 @@ fn check_by_tiles(
     ensures { scene.new ≡ scene.old }
 {
     let start = Instant::now(rt)?;
-    let snapshot = scene.read(rt.alloc())?;
+    let mut snapshot = scene.read(rt.alloc())?;
     times.read = least(rt, times.read, start)?;
     let start = Instant::now(rt)?;
+    snapshot.stitch(rt.alloc())?;
     let violated = why(rules, &snapshot, piece);
     times.why = least(rt, times.why, start)?;
     let start = Instant::now(rt)?;
@@ -124,7 +125,8 @@ fn look(rt: &HostRuntime, scene: &mut Scene, rules: &Rules, looked: Rect) -> Res
     ensures { scene.new ≡ scene.old }
 {
     let start = Instant::now(rt)?;
-    let snapshot = scene.read(rt.alloc())?;
+    let mut snapshot = scene.read(rt.alloc())?;
+    snapshot.stitch(rt.alloc())?;
     let violated = why(rules, &snapshot, looked);
     let nanos = start.elapsed(rt)?.as_nanos();
     ensure!(violated == 0, "a rule is violated");
