@@ -11,7 +11,7 @@ ghost use Rattle.mls_stitch.specs.Tilings.{HasPlane, block_at};
 ghost use Rattle.mls_stitch.specs.declared.laid_tile.LaidTile.{LaidTile};
 
 use crate::steps::Steps;
-use crate::walk::{find_tile, neighbour};
+use crate::walk::{find_near, neighbour};
 use crate::{LaidTile, Stitch};
 use mls_geom::{Point, Rect};
 use mls_tilepool::{Owner, Pool, TileId};
@@ -125,11 +125,13 @@ fn list_left_side(
     list.clear();
     let bounds = area.area();
     let mut line = bounds.bottom;
+    let mut near = from;
     let mut from = from;
     'side: while line < bounds.top {
-        let tile = find_tile(pool, owner, from, Point::at(bounds.left, line), steps);
+        let tile = find_near(pool, owner, near, from, Point::at(bounds.left, line), steps);
         list.push_reserved(tile);
         line = tile.sides().top;
+        near = tile.id;
         from = next_start(area, from, &tile);
     }
 }

@@ -16,6 +16,9 @@ use mls_tilepool::{Owner, Pool, TileId};
 /// The greatest number of tiles that a walk goes through.
 const MOST_STEPS: u32 = 4096;
 
+/// How many tiles a walk goes through from a tile that may have many neighbours, before it starts from another one.
+const FEW_STEPS: u32 = 2;
+
 /// Returns the tile to which a stitch of the tile leads, where that is a tile of the world.
 pub(crate) fn neighbour(pool: &Pool, owner: &Owner, tile: &LaidTile, stitch: Stitch) -> LaidTile
     requires plane { HasPlane pool.now owner.now }
@@ -47,14 +50,21 @@ fn step_towards(pool: &Pool, owner: &Owner, tile: &LaidTile, at: Point) -> Optio
     laid(pool, owner, next?)
 }
 
-/// Walks from a tile to the one that holds the square (Ousterhout 1984, point finding). Gives up after a number of steps, and where
-/// the owner has no such tile to start from.
-fn walk(pool: &Pool, owner: &Owner, from: TileId, at: Point, steps: &mut Steps) -> Option<LaidTile>
+/// Walks from a tile to the one that holds the square (Ousterhout 1984, point finding). Gives up after `most` steps, and
+/// where the owner has no such tile to start from.
+fn walk(
+    pool: &Pool,
+    owner: &Owner,
+    from: TileId,
+    at: Point,
+    most: u32,
+    steps: &mut Steps,
+) -> Option<LaidTile>
     requires { HasPlane pool.now owner.now }
     ensures { IfSome result (λ tile. IsLaidAt (block_at (tiles_of pool.now owner.now)) at tile) }
 {
     let mut tile = laid(pool, owner, from)?;
-    for _ in 0..MOST_STEPS {
+    for _ in 0..most {
         steps.take();
         if tile.holds(at) {
             return Some(tile);
@@ -98,8 +108,29 @@ pub(crate) fn find_tile(
     requires { HasPlane pool.now owner.now }
     ensures { IsLaidAt (block_at (tiles_of pool.now owner.now)) at result }
 {
-    match walk(pool, owner, from, at, steps) {
+    match walk(pool, owner, from, at, MOST_STEPS, steps) {
         Some(tile) => tile,
         None => scan(pool, owner, at, steps),
     }
+}
+
+/// Returns the tile that holds the square. The search starts at the tile `near`, and where that takes more than a few steps
+/// at the tile `from`, if the owner has these.
+pub(crate) fn find_near(
+    pool: &Pool,
+    owner: &Owner,
+    near: TileId,
+    from: TileId,
+    at: Point,
+    steps: &mut Steps,
+) -> LaidTile
+    requires { HasPlane pool.now owner.now }
+    ensures { IsLaidAt (block_at (tiles_of pool.now owner.now)) at result }
+{
+    if near != from {
+        if let Some(tile) = walk(pool, owner, near, at, FEW_STEPS, steps) {
+            return tile;
+        }
+    }
+    find_tile(pool, owner, from, at, steps)
 }

@@ -15,21 +15,21 @@ push_reserved-requires c =
     let sides : c.bounds.inside.top ≡ c.args.area.top = ap (λ (e : Rect). e.top) (c.bounds.view_is ∙ c.area-bounds.ensures.value) in
     let left : c.bounds.inside.left ≡ c.args.area.left = ap (λ (e : Rect). e.left) (c.bounds.view_is ∙ c.area-bounds.ensures.value) in
     let is =
-    subst (λ x. IsLaidAt (block_at tiles) (record { x = x; y = c.side.line }) c.find_tile-tile.result) left (subst (λ at. IsLaidAt (block_at tiles) at c.find_tile-tile.result) c.at.ensures c.find_tile-tile.ensures) in
+    subst (λ x. IsLaidAt (block_at tiles) (record { x = x; y = c.side.line }) c.find_near-tile.result) left (subst (λ at. IsLaidAt (block_at tiles) at c.find_near-tile.result) c.at.ensures c.find_near-tile.ensures) in
     let fits =
-    side_fits tiles c.args.area c.side.list.items c.side.line c.find_tile-tile.result c.requires.plane.plane c.area-bounds.ensures.legal was.listed was.low (omega (arith, sides, c.side-test.true)) is in
+    side_fits tiles c.args.area c.side.list.items c.side.line c.find_near-tile.result c.requires.plane.plane c.area-bounds.ensures.legal was.listed was.low (omega (arith, sides, c.side-test.true)) is in
     omega (arith, fits, was.room, c.clear.ensures.capacity, c.requires.room, c.side.list.ok.0)
 
 pub side-preserved : goal.side-preserved
 side-preserved c =
     let tiles = tiles_of c.args.pool.now c.args.owner.now in
     let was = c.side.invariant in
-    let tile = c.find_tile-tile.result in
+    let tile = c.find_near-tile.result in
     let sides : c.bounds.inside.top ≡ c.args.area.top = ap (λ (e : Rect). e.top) (c.bounds.view_is ∙ c.area-bounds.ensures.value) in
     let left : c.bounds.inside.left ≡ c.args.area.left = ap (λ (e : Rect). e.left) (c.bounds.view_is ∙ c.area-bounds.ensures.value) in
     let top : c.line.inside.top ≡ tile.piece.rect.top = ap (λ (e : Rect). e.top) (c.line.view_is ∙ c.sides.ensures.value) in
     let is =
-    subst (λ x. IsLaidAt (block_at tiles) (record { x = x; y = c.side.line }) tile) left (subst (λ at. IsLaidAt (block_at tiles) at tile) c.at.ensures c.find_tile-tile.ensures) in
+    subst (λ x. IsLaidAt (block_at tiles) (record { x = x; y = c.side.line }) tile) left (subst (λ at. IsLaidAt (block_at tiles) at tile) c.at.ensures c.find_near-tile.ensures) in
     let lines = holds_between tile.piece.rect c.args.area.left c.side.line is.held in
     record {
       listed =
