@@ -40,13 +40,6 @@ impl KindSet {
         KindSet { bits: 1 << kind }
     }
 
-    /// The set of the kinds k whose bit k is 1.
-    pub const fn from_bits(bits: u64) -> Self
-        ensures { result ≡ bits }
-    {
-        KindSet { bits }
-    }
-
     /// The number whose bit k is 1 for each kind k in the set.
     pub const fn bits(self) -> u64
         ensures { result ≡ self }

@@ -29,41 +29,33 @@ use Rattle.mls_library.proofs.SavedNumbers.{IsPlain-coordinate_text, is_integer-
 abbrev pub on_plane : ℕ → Piece → CellRect
 on_plane plane strip = record { plane = plane; piece = strip }
 
+-- two lines of the world, where a rectangle begins and ends
+record AreWorldLines (first last : ℕ) : Type 0 where
+  first_from : 4161536 ≤ first
+  first_to : first ≤ 4227072
+  last_from : 4161536 ≤ last
+  last_to : last ≤ 4227072
+
+world_lines : (first last : ℕ) → 4161536 ≤ first → first < last → last ≤ 4227072 → AreWorldLines first last
+world_lines first last low before high = record { first_from = low; first_to = omega (arith, before, high); last_from = omega (arith, low, before); last_to = high }
+
 -- ---- what each line means
 -- the line of a strip
 module _ (strip : Piece) (legal : IsRectangleIn world strip.rect) where
-  left_from : 4161536 ≤ strip.rect.left
-  left_from = legal.left_in
+  across : AreWorldLines strip.rect.left strip.rect.right
+  across = world_lines strip.rect.left strip.rect.right legal.left_in legal.wide legal.right_in
 
-  left_to : strip.rect.left ≤ 4227072
-  left_to = let right : strip.rect.right ≤ 4227072 = legal.right_in in omega (arith, legal.wide)
-
-  right_from : 4161536 ≤ strip.rect.right
-  right_from = omega (arith, left_from, legal.wide)
-
-  right_to : strip.rect.right ≤ 4227072
-  right_to = legal.right_in
-
-  bottom_from : 4161536 ≤ strip.rect.bottom
-  bottom_from = legal.bottom_in
-
-  bottom_to : strip.rect.bottom ≤ 4227072
-  bottom_to = let top : strip.rect.top ≤ 4227072 = legal.top_in in omega (arith, legal.tall)
-
-  top_from : 4161536 ≤ strip.rect.top
-  top_from = omega (arith, bottom_from, legal.tall)
-
-  top_to : strip.rect.top ≤ 4227072
-  top_to = legal.top_in
+  upward : AreWorldLines strip.rect.bottom strip.rect.top
+  upward = world_lines strip.rect.bottom strip.rect.top legal.bottom_in legal.tall legal.top_in
 
   plain_rect_words : All IsPlain (rect_words strip.rect)
   plain_rect_words = All-from_recursion IsPlain (rect_words strip.rect) (
     IsPlain-test (codes "rect") refl,
     (
-      IsPlain-coordinate_text strip.rect.left left_from left_to,
+      IsPlain-coordinate_text strip.rect.left across.first_from across.first_to,
       (
-        IsPlain-coordinate_text strip.rect.bottom bottom_from bottom_to,
-        (IsPlain-coordinate_text strip.rect.right right_from right_to, (IsPlain-coordinate_text strip.rect.top top_from top_to, tt)),
+        IsPlain-coordinate_text strip.rect.bottom upward.first_from upward.first_to,
+        (IsPlain-coordinate_text strip.rect.right across.last_from across.last_to, (IsPlain-coordinate_text strip.rect.top upward.last_from upward.last_to, tt)),
       ),
     ),
   )
@@ -72,10 +64,10 @@ module _ (strip : Piece) (legal : IsRectangleIn world strip.rect) where
   some_rect_words = All-from_recursion (λ word. 0 < length word) (rect_words strip.rect) (
     omega arith,
     (
-      some-coordinate_text strip.rect.left left_from left_to,
+      some-coordinate_text strip.rect.left across.first_from across.first_to,
       (
-        some-coordinate_text strip.rect.bottom bottom_from bottom_to,
-        (some-coordinate_text strip.rect.right right_from right_to, (some-coordinate_text strip.rect.top top_from top_to, tt)),
+        some-coordinate_text strip.rect.bottom upward.first_from upward.first_to,
+        (some-coordinate_text strip.rect.right across.last_from across.last_to, (some-coordinate_text strip.rect.top upward.last_from upward.last_to, tt)),
       ),
     ),
   )
@@ -93,20 +85,20 @@ module _ (strip : Piece) (legal : IsRectangleIn world strip.rect) where
         ≡ Ok (Paints (on_plane plane (record { rect = strip.rect; kind = kind })))
     unfolding rect_between
     rect_between-rect_words =
-        let l = world_line-coordinate_text strip.rect.left left_from left_to in
-        let b = world_line-coordinate_text strip.rect.bottom bottom_from bottom_to in
-        let r = world_line-coordinate_text strip.rect.right right_from right_to in
-        let t = world_line-coordinate_text strip.rect.top top_from top_to in
+        let l = world_line-coordinate_text strip.rect.left across.first_from across.first_to in
+        let b = world_line-coordinate_text strip.rect.bottom upward.first_from upward.first_to in
+        let r = world_line-coordinate_text strip.rect.right across.last_from across.last_to in
+        let t = world_line-coordinate_text strip.rect.top upward.last_from upward.last_to in
         let made = λ (l b r t : Result ℤ CellFaultKind). l >>= λ x. b >>= λ y. r >>= λ z. t >>= λ w. painted_by kind plane (rect_of x y z w) in
         (λ i. made (l i) (b i) (r i) (t i)) ∙ ap (painted_by kind plane) (rect_of-user_lines strip.rect legal)
 
     line_meaning-rect : line_meaning tech (Layer kind plane) (rect_words strip.rect) ≡ Ok (Paints (on_plane plane (record { rect = strip.rect; kind = kind })))
     unfolding line_meaning plain_line layer_line rect_line
     line_meaning-rect =
-        let l = is_integer-coordinate_text strip.rect.left left_from left_to in
-        let b = is_integer-coordinate_text strip.rect.bottom bottom_from bottom_to in
-        let r = is_integer-coordinate_text strip.rect.right right_from right_to in
-        let t = is_integer-coordinate_text strip.rect.top top_from top_to in
+        let l = is_integer-coordinate_text strip.rect.left across.first_from across.first_to in
+        let b = is_integer-coordinate_text strip.rect.bottom upward.first_from upward.first_to in
+        let r = is_integer-coordinate_text strip.rect.right across.last_from across.last_to in
+        let t = is_integer-coordinate_text strip.rect.top upward.last_from upward.last_to in
         let made = λ (l b r t : Bool) (read : Result Meaning CellFaultKind). if l && b && r && t then read else Err Form in
         λ i. made (l i) (b i) (r i) (t i) (rect_between-rect_words i)
 

@@ -4,31 +4,25 @@ use Rattle.mls_library.specs.declared.fault.CellFault.{CellFault}
 use Rattle.mls_library.specs.declared.fault.CellFaultKind.{CellFaultKind}
 use Rattle.mls_library.specs.declared.fault.CellFaultKind.TheVariants.{Form, UnknownLayer, Hierarchy, Scale, OutsideWorld, TooManyTiles, NameTwice, PoolFull, Memory, Triangle, LibraryFull}
 
+-- the number and the text of each fault
+abbrev pub fault_row : CellFaultKind → ℕ × List ℕ
+fault_row Form = (1, codes "form")
+fault_row UnknownLayer = (2, codes "unknown layer")
+fault_row Hierarchy = (3, codes "hierarchy")
+fault_row Scale = (4, codes "scale")
+fault_row OutsideWorld = (5, codes "outside the world")
+fault_row TooManyTiles = (6, codes "too many tiles")
+fault_row NameTwice = (7, codes "name twice")
+fault_row PoolFull = (8, codes "pool full")
+fault_row Memory = (9, codes "memory")
+fault_row Triangle = (10, codes "triangle")
+fault_row LibraryFull = (11, codes "library full")
+
 abbrev pub fault_number : CellFaultKind → ℕ
-fault_number Form = 1
-fault_number UnknownLayer = 2
-fault_number Hierarchy = 3
-fault_number Scale = 4
-fault_number OutsideWorld = 5
-fault_number TooManyTiles = 6
-fault_number NameTwice = 7
-fault_number PoolFull = 8
-fault_number Memory = 9
-fault_number Triangle = 10
-fault_number LibraryFull = 11
+fault_number kind = (fault_row kind).0
 
 abbrev pub fault_text : CellFaultKind → List ℕ
-fault_text Form = codes "form"
-fault_text UnknownLayer = codes "unknown layer"
-fault_text Hierarchy = codes "hierarchy"
-fault_text Scale = codes "scale"
-fault_text OutsideWorld = codes "outside the world"
-fault_text TooManyTiles = codes "too many tiles"
-fault_text NameTwice = codes "name twice"
-fault_text PoolFull = codes "pool full"
-fault_text Memory = codes "memory"
-fault_text Triangle = codes "triangle"
-fault_text LibraryFull = codes "library full"
+fault_text kind = (fault_row kind).1
 
 -- the fact, unless the fault is out of memory, which has line 0
 abbrev pub UnlessMemory : CellFaultKind → ℕ → Type 0 → Type 0

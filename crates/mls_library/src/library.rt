@@ -100,8 +100,8 @@ impl Library {
     /// # Errors
     ///
     /// The first fault, in this order: `Form` for the name, `NameTwice`, `LibraryFull`, the first fault of the file,
-    /// `TooManyTiles`, `PoolFull`; or `Memory` if memory runs out before it is found. The library and the pool then stay
-    /// as they were.
+    /// `TooManyTiles`, `PoolFull`; or `Memory` if memory runs out before it is found. The library and the pool then
+    /// stay as they were.
     pub fn load(
         &mut self,
         alloc: Global,

@@ -62,7 +62,8 @@ pub(crate) fn find_plane_strips(
     ensures strips { IfOk result (λ found. AreLayoutStrips rects.now (map (λ list. list.items) found.items)) }
     ensures count { IfOk result (λ found. length found.items ≡ planes) }
     ensures fault { IfErr result (λ fault. UnlessMemory fault.kind fault.line
-        ((fault ≡ record { line = 0; kind = TooManyTiles }) × (list_any (λ count. nat_lt most_tiles count) (tile_counts planes rects.now) ≡ true))) }
+        ((fault ≡ record { line = 0; kind = TooManyTiles })
+        × (list_any (λ count. nat_lt most_tiles count) (tile_counts planes rects.now) ≡ true))) }
 {
     let mut sweep = sweep_for(alloc, rects.len())?;
     let mut pieces = Vec::new(alloc);

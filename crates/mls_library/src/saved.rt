@@ -48,7 +48,8 @@ pub fn push_header(tech: &Tech, out: &mut Vec<u8>) -> Result<(), AllocError>
     Ok(())
 }
 
-/// Appends the section of a type, whose plane has these tiles, by bottom and then left. It has none without a tile of the type.
+/// Appends the section of a type, whose plane has these tiles, by bottom and then left. It has none without a tile of
+/// the type.
 ///
 /// # Errors
 ///
@@ -59,7 +60,8 @@ pub fn push_layer(
     tiles: &[LaidTile],
     out: &mut Vec<u8>,
 ) -> Result<(), AllocError>
-    ensures text { OnOk result (out.new.items ≡ out.old.items ++ spec.text_of (spec.layer_lines tech.now kind (map (λ tile. tile.piece) tiles.now))) }
+    ensures text { OnOk result (out.new.items
+        ≡ out.old.items ++ spec.text_of (spec.layer_lines tech.now kind (map (λ tile. tile.piece) tiles.now))) }
     ensures kept { OnErr result (spec.Extends out.old.items out.new.items) }
 {
     if layer_line_count(tiles, kind) == 0 {
@@ -91,7 +93,8 @@ pub fn push_end(out: &mut Vec<u8>) -> Result<(), AllocError>
 /// Appends the line that begins a section.
 #[tactic(auto, unfolding(crate::specs::SavedCells::text_of))]
 fn push_section(name: &[u8], out: &mut Vec<u8>) -> Result<(), AllocError>
-    ensures text { OnOk result (out.new.items ≡ out.old.items ++ spec.text_of (spec.spaced (spec.section_words name.now) ∷ [])) }
+    ensures text { OnOk result (out.new.items
+        ≡ out.old.items ++ spec.text_of (spec.spaced (spec.section_words name.now) ∷ [])) }
     ensures kept { OnErr result (spec.Extends out.old.items out.new.items) }
 {
     out.extend_from_slice(b"<< ")?;
@@ -101,7 +104,8 @@ fn push_section(name: &[u8], out: &mut Vec<u8>) -> Result<(), AllocError>
 
 /// Appends a line for each tile of the type.
 fn push_strips(kind: u8, tiles: &[LaidTile], out: &mut Vec<u8>) -> Result<(), AllocError>
-    ensures text { OnOk result (out.new.items ≡ out.old.items ++ spec.text_of (spec.strip_lines (spec.of_kind kind (map (λ tile. tile.piece) tiles.now)))) }
+    ensures text { OnOk result (out.new.items
+        ≡ out.old.items ++ spec.text_of (spec.strip_lines (spec.of_kind kind (map (λ tile. tile.piece) tiles.now)))) }
     ensures kept { OnErr result (spec.Extends out.old.items out.new.items) }
 {
     for tile in tiles {

@@ -100,19 +100,17 @@ edge_words scope (types1 ∷ types2 ∷ distance ∷ ok_types ∷ corner_types �
     else Err BadForm
 edge_words scope _ = Err BadForm
 
-unfoldable pub edge_line : Scope → List (List ℕ) → Result DrcLine TechFaultKind
-edge_line scope words = edge_words scope words >>= λ edge. Ok (stated (Edge edge.0) edge.1)
-
-unfoldable pub edge4way_line : Scope → List (List ℕ) → Result DrcLine TechFaultKind
-edge4way_line scope words = edge_words scope words >>= λ edge. Ok (stated (Edge4Way edge.0) edge.1)
+-- an edge line, which states this rule of its edge
+unfoldable pub edge_line : (EdgeWords → Rule) → Scope → List (List ℕ) → Result DrcLine TechFaultKind
+edge_line rule scope words = edge_words scope words >>= λ edge. Ok (stated (rule edge.0) edge.1)
 
 -- the words of a line that isn't empty
 unfoldable pub keyword_line : Scope → List ℕ → List (List ℕ) → Result DrcLine TechFaultKind
 keyword_line scope keyword words =
     if same_word keyword (codes "width") then width_line scope words
     else (if same_word keyword (codes "spacing") then spacing_line scope words
-    else (if same_word keyword (codes "edge") then edge_line scope words
-    else (if same_word keyword (codes "edge4way") then edge4way_line scope words
+    else (if same_word keyword (codes "edge") then edge_line Edge scope words
+    else (if same_word keyword (codes "edge4way") then edge_line Edge4Way scope words
     else Ok (Skips keyword))))
 
 abbrev pub words_line : Scope → Option (List (List ℕ)) → Result DrcLine TechFaultKind

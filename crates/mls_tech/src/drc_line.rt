@@ -1,8 +1,8 @@
 //! The lines of the section `drc`.
-ghost use Rattle.std.specs.Prelude.{◌≡◌, ◌≤◌, All, IfOk};
+ghost use Rattle.std.specs.Prelude.{◌≡◌, ◌≤◌, All};
 ghost use Rattle.mls_tech.specs.DrcLines as spec;
-ghost use Rattle.mls_tech.specs.Inner.DrcViews.{said, word_bytes};
-ghost use Rattle.mls_tech.specs.Inner.Gives.{Gives};
+ghost use Rattle.mls_tech.specs.Inner.DrcViews.{edge_rule, said, word_bytes};
+ghost use Rattle.mls_tech.specs.Inner.Gives.{Gives, GivesUnlessMemory};
 ghost use Rattle.mls_tech.specs.Inner.ListReaders as lists;
 ghost use Rattle.mls_tech.specs.Readings.{scope_of};
 
@@ -10,7 +10,7 @@ use crate::drc_words::drc_words;
 use crate::list_reader::{ListReader, openings};
 use crate::number::number_in;
 use crate::{Adjacency, Edge, Rule, Tech, TechFaultKind};
-use std::alloc::{AllocError, Global};
+use std::alloc::Global;
 
 /// The largest distance that a rule may have, in squares.
 const DISTANCE_LIMIT: u8 = 100;
@@ -30,17 +30,17 @@ pub(crate) fn drc_line<'a>(
     alloc: Global,
     tech: &Tech,
     line: &'a [u8],
-) -> Result<Result<DrcLine<'a>, TechFaultKind>, AllocError>
-    ensures { IfOk result (λ read. Gives said read (spec.drc_line (scope_of tech.now) line.now)) }
+) -> Result<DrcLine<'a>, TechFaultKind>
+    ensures { GivesUnlessMemory said result (spec.drc_line (scope_of tech.now) line.now) }
 {
     let Some(words) = drc_words(alloc, line)? else {
-        return Ok(Err(TechFaultKind::BadForm));
+        return Err(TechFaultKind::BadForm);
     };
     let Some((keyword, words)) = words.split_first() else {
-        return Ok(Ok(DrcLine::Skips(&[])));
+        return Ok(DrcLine::Skips(&[]));
     };
-    let mut reader = ListReader::new(alloc, most_openings(words))?;
-    Ok(keyword_line(tech, &mut reader, keyword, words))
+    let lists = ListReader::new(alloc, most_openings(words))?;
+    RuleReader { tech, lists }.line(keyword, words)
 }
 
 /// Returns the largest number of opening parentheses in one of the words.
@@ -54,72 +54,142 @@ fn most_openings(words: &[&[u8]]) -> usize
     most
 }
 
-/// Reads a keyword and the words after it.
-#[tactic(auto, unfolding(crate::specs::DrcLines::keyword_line))]
-fn keyword_line<'a>(
-    tech: &Tech,
-    reader: &mut ListReader,
-    keyword: &'a [u8],
-    words: &[&'a [u8]],
-) -> Result<DrcLine<'a>, TechFaultKind>
-    requires fits { All (λ word. lists.openings word.now ≤ reader.old.room) words.now }
-    ensures { Gives said result
-        (spec.keyword_line (scope_of tech.now) keyword.now (word_bytes words.now)) }
-{
-    if keyword == b"width".as_slice() {
-        width_line(tech, reader, words)
-    } else if keyword == b"spacing".as_slice() {
-        spacing_line(tech, reader, words)
-    } else if keyword == b"edge".as_slice() {
-        edge_line(tech, reader, words)
-    } else if keyword == b"edge4way".as_slice() {
-        edge4way_line(tech, reader, words)
-    } else {
-        Ok(DrcLine::Skips(keyword))
+/// In how many directions the edges of a line lie.
+#[derive(Clone, Copy)]
+enum Directions {
+    Two,
+    Four,
+}
+
+impl Directions {
+    /// Returns the rule that an edge states.
+    fn rule(self, edge: Edge) -> Rule
+        ensures { result ≡ edge_rule self edge }
+    {
+        match self {
+            Directions::Two => Rule::Edge(edge),
+            Directions::Four => Rule::Edge4Way(edge),
+        }
     }
 }
 
-/// Reads the words after `width`.
-#[tactic(auto, unfolding(crate::specs::DrcLines::width_line))]
-fn width_line<'a>(
-    tech: &Tech,
-    reader: &mut ListReader,
-    words: &[&'a [u8]],
-) -> Result<DrcLine<'a>, TechFaultKind>
-    requires fits { All (λ word. lists.openings word.now ≤ reader.old.room) words.now }
-    ensures { Gives said result (spec.width_line (scope_of tech.now) (word_bytes words.now)) }
-{
-    let [types, distance, why] = words else {
-        return Err(TechFaultKind::BadForm);
-    };
-    let types = reader.read(tech, types)?;
-    let distance = number_in(1, DISTANCE_LIMIT, distance)?;
-    Ok(DrcLine::States(Rule::Width(types, distance), why))
+/// A reader of rule lines with the types and planes of a technology.
+#[derive(Drop)]
+struct RuleReader<'t> {
+    tech: &'t Tech,
+    lists: ListReader,
 }
 
-/// Reads the words after `spacing`.
-#[tactic(auto, unfolding(crate::specs::DrcLines::spacing_line))]
-fn spacing_line<'a>(
-    tech: &Tech,
-    reader: &mut ListReader,
-    words: &[&'a [u8]],
-) -> Result<DrcLine<'a>, TechFaultKind>
-    requires fits { All (λ word. lists.openings word.now ≤ reader.old.room) words.now }
-    ensures { Gives said result (spec.spacing_line (scope_of tech.now) (word_bytes words.now)) }
-{
-    let [types1, types2, distance, adjacency, why, more @ ..] = words else {
-        return Err(TechFaultKind::BadForm);
-    };
-    let Some(adjacency) = adjacency_of(adjacency) else {
-        return Ok(DrcLine::Skips(b"spacing"));
-    };
-    if !more.is_empty() {
-        return Err(TechFaultKind::BadForm);
+#[tactic(auto, unfolding(crate::specs::DrcLines::width_line, crate::specs::DrcLines::spacing_line))]
+impl<'t> RuleReader<'t> {
+    /// Reads a keyword and the words after it.
+    #[tactic(auto, unfolding(crate::specs::DrcLines::keyword_line))]
+    fn line<'a>(
+        &mut self,
+        keyword: &'a [u8],
+        words: &[&'a [u8]],
+    ) -> Result<DrcLine<'a>, TechFaultKind>
+        requires fits { All (λ word. lists.openings word.now ≤ self.old.lists.room) words.now }
+        ensures { Gives said result
+            (spec.keyword_line (scope_of self.old.tech.now) keyword.now (word_bytes words.now)) }
+    {
+        if keyword == b"width".as_slice() {
+            self.width(words)
+        } else if keyword == b"spacing".as_slice() {
+            self.spacing(words)
+        } else if keyword == b"edge".as_slice() {
+            self.edge(Directions::Two, words)
+        } else if keyword == b"edge4way".as_slice() {
+            self.edge(Directions::Four, words)
+        } else {
+            Ok(DrcLine::Skips(keyword))
+        }
     }
-    let types1 = reader.read(tech, types1)?;
-    let types2 = reader.read(tech, types2)?;
-    let distance = number_in(1, DISTANCE_LIMIT, distance)?;
-    Ok(DrcLine::States(Rule::Spacing(types1, types2, distance, adjacency), why))
+
+    /// Reads the words after `width`.
+    fn width<'a>(&mut self, words: &[&'a [u8]]) -> Result<DrcLine<'a>, TechFaultKind>
+        requires fits { All (λ word. lists.openings word.now ≤ self.old.lists.room) words.now }
+        ensures { Gives said result (spec.width_line (scope_of self.old.tech.now) (word_bytes words.now)) }
+    {
+        let [types, distance, why] = words else {
+            return Err(TechFaultKind::BadForm);
+        };
+        let types = self.lists.read(self.tech, types)?;
+        let distance = number_in(1, DISTANCE_LIMIT, distance)?;
+        Ok(DrcLine::States(Rule::Width(types, distance), why))
+    }
+
+    /// Reads the words after `spacing`.
+    fn spacing<'a>(&mut self, words: &[&'a [u8]]) -> Result<DrcLine<'a>, TechFaultKind>
+        requires fits { All (λ word. lists.openings word.now ≤ self.old.lists.room) words.now }
+        ensures { Gives said result (spec.spacing_line (scope_of self.old.tech.now) (word_bytes words.now)) }
+    {
+        let [types1, types2, distance, adjacency, why, more @ ..] = words else {
+            return Err(TechFaultKind::BadForm);
+        };
+        let Some(adjacency) = adjacency_of(adjacency) else {
+            return Ok(DrcLine::Skips(b"spacing"));
+        };
+        if !more.is_empty() {
+            return Err(TechFaultKind::BadForm);
+        }
+        let types1 = self.lists.read(self.tech, types1)?;
+        let types2 = self.lists.read(self.tech, types2)?;
+        let distance = number_in(1, DISTANCE_LIMIT, distance)?;
+        Ok(DrcLine::States(Rule::Spacing(types1, types2, distance, adjacency), why))
+    }
+
+    /// Reads the words after `edge` or `edge4way`.
+    #[tactic(auto, unfolding(crate::specs::DrcLines::edge_line))]
+    fn edge<'a>(
+        &mut self,
+        directions: Directions,
+        words: &[&'a [u8]],
+    ) -> Result<DrcLine<'a>, TechFaultKind>
+        requires fits { All (λ word. lists.openings word.now ≤ self.old.lists.room) words.now }
+        ensures { Gives said result
+            (spec.edge_line (edge_rule directions) (scope_of self.old.tech.now) (word_bytes words.now)) }
+    {
+        match self.edge_words(words) {
+            Ok((edge, why)) => Ok(DrcLine::States(directions.rule(edge), why)),
+            Err(kind) => Err(kind),
+        }
+    }
+
+    /// Reads the words of an edge, and returns it with why it is there.
+    #[tactic(auto, unfolding(crate::specs::DrcLines::edge_words))]
+    fn edge_words<'a>(&mut self, words: &[&'a [u8]]) -> Result<(Edge, &'a [u8]), TechFaultKind>
+        requires fits { All (λ word. lists.openings word.now ≤ self.old.lists.room) words.now }
+        ensures { Gives (λ edge. (edge.0, edge.1.now)) result
+            (spec.edge_words (scope_of self.old.tech.now) (word_bytes words.now)) }
+    {
+        let [
+            types1,
+            types2,
+            distance,
+            ok_types,
+            corner_types,
+            corner_distance,
+            why,
+            more @ ..,
+        ] = words
+        else {
+            return Err(TechFaultKind::BadForm);
+        };
+        if more.len() > 1 {
+            return Err(TechFaultKind::BadForm);
+        }
+        let edge = Edge {
+            types1: self.lists.read(self.tech, types1)?,
+            types2: self.lists.read(self.tech, types2)?,
+            distance: number_in(1, DISTANCE_LIMIT, distance)?,
+            ok_types: self.lists.read(self.tech, ok_types)?,
+            corner_types: self.lists.read(self.tech, corner_types)?,
+            corner_distance: number_in(0, DISTANCE_LIMIT, corner_distance)?,
+            plane: last_plane(self.tech, more)?,
+        };
+        Ok((edge, why))
+    }
 }
 
 /// Returns the adjacency that a word names.
@@ -133,77 +203,6 @@ fn adjacency_of(word: &[u8]) -> Option<Adjacency>
     } else {
         None
     }
-}
-
-/// Reads the words after `edge`.
-#[tactic(auto, unfolding(crate::specs::DrcLines::edge_line))]
-fn edge_line<'a>(
-    tech: &Tech,
-    reader: &mut ListReader,
-    words: &[&'a [u8]],
-) -> Result<DrcLine<'a>, TechFaultKind>
-    requires fits { All (λ word. lists.openings word.now ≤ reader.old.room) words.now }
-    ensures { Gives said result (spec.edge_line (scope_of tech.now) (word_bytes words.now)) }
-{
-    match edge_words(tech, reader, words) {
-        Ok((edge, why)) => Ok(DrcLine::States(Rule::Edge(edge), why)),
-        Err(kind) => Err(kind),
-    }
-}
-
-/// Reads the words after `edge4way`.
-#[tactic(auto, unfolding(crate::specs::DrcLines::edge4way_line))]
-fn edge4way_line<'a>(
-    tech: &Tech,
-    reader: &mut ListReader,
-    words: &[&'a [u8]],
-) -> Result<DrcLine<'a>, TechFaultKind>
-    requires fits { All (λ word. lists.openings word.now ≤ reader.old.room) words.now }
-    ensures { Gives said result (spec.edge4way_line (scope_of tech.now) (word_bytes words.now)) }
-{
-    match edge_words(tech, reader, words) {
-        Ok((edge, why)) => Ok(DrcLine::States(Rule::Edge4Way(edge), why)),
-        Err(kind) => Err(kind),
-    }
-}
-
-/// Reads the words of an edge, and returns it with why it is there.
-#[tactic(auto, unfolding(crate::specs::DrcLines::edge_words))]
-fn edge_words<'a>(
-    tech: &Tech,
-    reader: &mut ListReader,
-    words: &[&'a [u8]],
-) -> Result<(Edge, &'a [u8]), TechFaultKind>
-    requires fits { All (λ word. lists.openings word.now ≤ reader.old.room) words.now }
-    ensures { Gives (λ edge. (edge.0, edge.1.now)) result
-        (spec.edge_words (scope_of tech.now) (word_bytes words.now)) }
-{
-    let [
-        types1,
-        types2,
-        distance,
-        ok_types,
-        corner_types,
-        corner_distance,
-        why,
-        more @ ..,
-    ] = words
-    else {
-        return Err(TechFaultKind::BadForm);
-    };
-    if more.len() > 1 {
-        return Err(TechFaultKind::BadForm);
-    }
-    let edge = Edge {
-        types1: reader.read(tech, types1)?,
-        types2: reader.read(tech, types2)?,
-        distance: number_in(1, DISTANCE_LIMIT, distance)?,
-        ok_types: reader.read(tech, ok_types)?,
-        corner_types: reader.read(tech, corner_types)?,
-        corner_distance: number_in(0, DISTANCE_LIMIT, corner_distance)?,
-        plane: last_plane(tech, more)?,
-    };
-    Ok((edge, why))
 }
 
 /// Returns the plane at the end of an edge line, if one is named.

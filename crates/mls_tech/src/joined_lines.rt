@@ -39,7 +39,8 @@ pub(crate) fn read_line<'a>(
 #[tactic(auto, using(crate::proofs::LastBytes::joins))]
 fn append_line(line: &mut Vec<u8>, raw: &[u8]) -> Result<bool, AllocError>
     ensures goes_on { IfOk result (λ joins. joins ≡ goes_on raw.now) }
-    ensures line { IfOk result (λ joins. line.new.items ≡ line.old.items ++ (if joins then with_blank raw.now else raw.now)) }
+    ensures line { IfOk result (λ joins.
+        line.new.items ≡ line.old.items ++ (if joins then with_blank raw.now else raw.now)) }
 {
     match raw {
         [front @ .., b'\\'] => {

@@ -42,7 +42,8 @@ impl Model for Tech {
       skipped = tech.skipped.items;
     } };
 
-    ghost invariant = { λ tech. IsWellFormed tech.name tech.planes tech.plane_count tech.types tech.type_planes.items };
+    ghost invariant = { λ tech.
+        IsWellFormed tech.name tech.planes tech.plane_count tech.types tech.type_planes.items };
 }
 
 impl Tech {

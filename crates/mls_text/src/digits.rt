@@ -12,7 +12,7 @@ pub fn is_number(word: &[u8]) -> bool
 }
 
 /// Returns whether each byte is a digit.
-pub fn are_digits(bytes: &[u8]) -> bool
+fn are_digits(bytes: &[u8]) -> bool
     ensures { result ≡ list_all spec.is_digit bytes.now }
 {
     bytes.iter().all(|byte| byte.is_ascii_digit())

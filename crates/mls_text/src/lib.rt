@@ -7,8 +7,8 @@ mod lines;
 mod word;
 mod words;
 
-pub use digits::{are_digits, is_number, value_at_most};
+pub use digits::{is_number, value_at_most};
 pub use fields::Fields;
-pub use lines::{Lines, line_feed_at, next_line, without_return};
+pub use lines::{line_feed_at, next_line, without_return};
 pub use word::Word;
 pub use words::{Words, blanks_len, word_len};

@@ -1,54 +1,11 @@
 //! The lines of a text.
 ghost use Rattle.std.specs.Prelude.{◌≡◌, ◌==◌, ◌<◌, [], ◌∷◌, length, position, MatchOption, IfSome};
-ghost use Rattle.std.specs.Iterator.{YieldsFirstBy, item_count};
 ghost use Rattle.mls_text.specs.Lines as spec;
 
-use std::marker::Model;
-
-/// An iterator over the lines of a file.
+/// Splits the bytes of a file after their first line, or returns `None` if they are empty.
 ///
 /// A line ends with a line feed, which is left out together with a carriage return before it, or
 /// with the end of the file, where a carriage return is kept.
-#[derive(Drop)]
-pub struct Lines<'a> {
-    rest: &'a [u8],
-}
-
-impl<'a> Model for Lines<'a> {
-    ghost use Rattle.std.specs.Prelude.{ℕ, List};
-    ghost use Rattle.mls_text.specs.Lines as spec;
-
-    ghost Value = { List (List ℕ) };
-
-    ghost view = { λ lines. spec.raw_lines lines.rest.now };
-}
-
-impl<'a> Lines<'a> {
-    /// Returns an iterator over the lines of `bytes`.
-    pub fn new(bytes: &'a [u8]) -> Lines<'a>
-        ensures { result ≡ spec.raw_lines bytes.now }
-    {
-        Lines { rest: bytes }
-    }
-}
-
-impl<'a> Iterator for Lines<'a> {
-    type Item = &'a [u8];
-
-    ghost next_gives = { YieldsFirstBy (λ line. line.now) (λ lines. lines) };
-
-    ghost remaining = { item_count (λ lines. lines) };
-
-    fn next(&mut self) -> Option<&'a [u8]> {
-        let (line, rest) = next_line(self.rest)?;
-        self.rest = rest;
-        Some(line)
-    }
-}
-
-/// Splits `bytes` after their first line, as [`Lines`] has it, or returns `None` if they are empty.
-///
-/// For callers that keep the bytes ahead themselves, as those that join lines.
 #[tactic(auto, using(crate::proofs::RawLineLemmas::first))]
 pub fn next_line(bytes: &[u8]) -> Option<(&[u8], &[u8])>
     ensures line { MatchOption result (bytes.now ≡ [])

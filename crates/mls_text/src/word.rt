@@ -39,11 +39,4 @@ impl Word {
     {
         self.bytes.as_slice()
     }
-
-    /// Converts the word into its bytes, without copying them.
-    pub fn into_vec(self) -> Vec<u8>
-        ensures { result.items ≡ self }
-    {
-        self.bytes
-    }
 }

@@ -36,6 +36,13 @@ empty_list : {X : Type 0} (xs : List X) → length xs ≡ 0 → xs ≡ []
 empty_list [] none = refl
 empty_list (x ∷ xs) none = absurd (omega (arith, none))
 
+-- an owner's tile under a key: the owner's row, and the place under the key
+pub record HoldsTile (capacity reserved : ℕ) (places : Slab Place) (rows : Slab Row) (owner key : ℕ) (row : Row) (place : Place) : Type 0 where
+  pub is : IsPool capacity reserved places rows
+  pub row_is : get rows owner ≡ Some row
+  pub found : get places key ≡ Some place
+  pub owns : place.owner ≡ owner
+
 module _ (capacity reserved : ℕ) (places : Slab Place) (rows : Slab Row) where
   abbrev pub viewed : Pool
   viewed = pool_of capacity places.slots rows.slots
@@ -68,6 +75,10 @@ module _ (capacity reserved : ℕ) (places : Slab Place) (rows : Slab Row) where
       let both : Some own.0 ≡ Some place = sym own.1 ∙ found in
       let same : own.0 ≡ place = cc in
       ap (λ p. p.owner) (sym same) ∙ own.2
+
+  pub holds_tile : IsPool capacity reserved places rows → (owner key : ℕ) (row : Row) (place : Place) → IsSome (tile_at viewed owner key)
+      → get rows owner ≡ Some row → get places key ≡ Some place → HoldsTile capacity reserved places rows owner key row place
+  holds_tile is owner key row place there row_is found = record { is = is; row_is = row_is; found = found; owns = place_owner owner key place there found }
 
   -- an owner has a row
   pub owner_row : (owner : ℕ) → IsOwner viewed owner → ContainsKey rows owner

@@ -11,7 +11,7 @@ use Rattle.mls_tilepool.specs.declared.tile.Tile.{Tile}
 use Rattle.mls_tilepool.proofs.Adding.{AddsPlace, added_held, added_here, added_row, added_stay, fresh_place}
 use Rattle.mls_tilepool.proofs.PoolChanges.{Changes-from_places, held_at, owned-other, owned-own}
 use Rattle.mls_tilepool.proofs.PoolSteps.{IsPool-written, get-with_value, get-with_value_other, retiled_row, retiled_stay, slab_len-with_value}
-use Rattle.mls_tilepool.proofs.PoolViews.{count_of-row, owned-held, owned-not, rooms_kept}
+use Rattle.mls_tilepool.proofs.PoolViews.{HoldsTile, count_of-row, owned-held, owned-not, rooms_kept}
 use Rattle.mls_tilepool.proofs.Relinking.{linked, with_next, with_previous}
 use Rattle.mls_tilepool.proofs.Removing.{RemovesPlace, first_after, removed_counted, removed_held, removed_here, removed_row, removed_stay}
 
@@ -78,77 +78,77 @@ module _ (capacity reserved : ℕ) (places : Slab Place) (rows : Slab Row) (owne
         let was = count_of-row capacity reserved places rows is owner row row_is in
         omega (arith, now, was)
 
-  -- replacing and removing
-  module _ (key : ℕ) (place : Place) (found : get places key ≡ Some place) (owns : place.owner ≡ owner) where
-    module _ (tile : Tile) where
-      abbrev with_tile : Slab Place
-      with_tile = with_value places key (record place { tile = tile })
+-- replacing and removing
+module _ {capacity reserved : ℕ} {places : Slab Place} {rows : Slab Row} {owner key : ℕ} {row : Row} {place : Place} (held : HoldsTile capacity reserved places rows owner key row place) where
+  module _ (tile : Tile) where
+    abbrev with_tile : Slab Place
+    with_tile = with_value places key (record place { tile = tile })
 
-      same_rows : with_value rows owner row ≡ rows
-      same_rows = ap (λ slots. record rows { slots = slots }) (ap (set rows.slots owner) (sym row_is) ∙ set-get_or rows.slots owner None)
+    same_rows : with_value rows owner row ≡ rows
+    same_rows = ap (λ slots. record rows { slots = slots }) (ap (set rows.slots owner) (sym held.row_is) ∙ set-get_or rows.slots owner None)
 
-      pub IsPool-retiled : IsPool capacity reserved with_tile rows
-      IsPool-retiled =
-          rw same_rows at (IsPool-written capacity reserved places with_tile rows owner row row is row_is refl refl
-          (omega (arith, slab_len-with_value places key place (record place { tile = tile }) found))
-          (retiled_stay places owner row key place tile found owns)
-          (retiled_row places owner row key place tile (is.owners owner row row_is) found owns))
+    pub IsPool-retiled : IsPool capacity reserved with_tile rows
+    IsPool-retiled =
+        rw same_rows at (IsPool-written capacity reserved places with_tile rows owner row row held.is held.row_is refl refl
+        (omega (arith, slab_len-with_value places key place (record place { tile = tile }) held.found))
+        (retiled_stay places owner row key place tile held.found held.owns)
+        (retiled_row places owner row key place tile (held.is.owners owner row held.row_is) held.found held.owns))
 
-      pub Changes-retiled : Changes (pool_of capacity places.slots rows.slots) (pool_of capacity with_tile.slots rows.slots) owner key (Some tile)
-      Changes-retiled =
-          let here : get with_tile key ≡ Some (record place { tile = tile }) = get-with_value places key place (record place { tile = tile }) found in
-          Changes-from_held capacity places with_tile rows.slots rows.slots owner key (Some tile)
-          (ap (λ s. owned owner (held_of s)) here ∙ owned-held owner (record place { tile = tile }) owns)
-          (λ other differs.
-          let not_own : place.owner ≢ other = λ same. differs (sym same ∙ owns) in
-          ap (λ s. owned other (held_of s)) here ∙ owned-not other (record place { tile = tile }) not_own
-          ∙ sym (ap (λ s. owned other (held_of s)) found ∙ owned-not other place not_own))
-          (λ k differs. ap held_of (get-with_value_other places key k place (record place { tile = tile }) found differs))
-          refl
+    pub Changes-retiled : Changes (pool_of capacity places.slots rows.slots) (pool_of capacity with_tile.slots rows.slots) owner key (Some tile)
+    Changes-retiled =
+        let here : get with_tile key ≡ Some (record place { tile = tile }) = get-with_value places key place (record place { tile = tile }) held.found in
+        Changes-from_held capacity places with_tile rows.slots rows.slots owner key (Some tile)
+        (ap (λ s. owned owner (held_of s)) here ∙ owned-held owner (record place { tile = tile }) held.owns)
+        (λ other differs.
+        let not_own : place.owner ≢ other = λ same. differs (sym same ∙ held.owns) in
+        ap (λ s. owned other (held_of s)) here ∙ owned-not other (record place { tile = tile }) not_own
+        ∙ sym (ap (λ s. owned other (held_of s)) held.found ∙ owned-not other place not_own))
+        (λ k differs. ap held_of (get-with_value_other places key k place (record place { tile = tile }) held.found differs))
+        refl
 
-      pub count_of-retiled : count_of (pool_of capacity with_tile.slots rows.slots) owner ≡ count_of (pool_of capacity places.slots rows.slots) owner
-      count_of-retiled =
-          sym (count_of-row capacity reserved with_tile rows IsPool-retiled owner row row_is) ∙ count_of-row capacity reserved places rows is owner row row_is
+    pub count_of-retiled : count_of (pool_of capacity with_tile.slots rows.slots) owner ≡ count_of (pool_of capacity places.slots rows.slots) owner
+    count_of-retiled =
+        sym (count_of-row capacity reserved with_tile rows IsPool-retiled owner row held.row_is) ∙ count_of-row capacity reserved places rows held.is owner row held.row_is
 
-    pub counted : 1 ≤ row.count
-    counted = removed_counted places.slots places.slots owner row key place (is.owners owner row row_is) found owns
+  pub counted : 1 ≤ row.count
+  counted = removed_counted places.slots places.slots owner row key place (held.is.owners owner row held.row_is) held.found held.owns
 
-    module _ (removed between after : Slab Place)
-        (updates : Updates places removed key None)
-        (onward : Links (with_next place.next) place.previous removed between)
-        (back : Links (with_previous place.previous) place.next between after) where
-      abbrev removed_from : Row
-      removed_from = record { room = row.room; count = row.count - 1; first = first_after place.previous place.next row.first }
+  module _ (removed between after : Slab Place)
+      (updates : Updates places removed key None)
+      (onward : Links (with_next place.next) place.previous removed between)
+      (back : Links (with_previous place.previous) place.next between after) where
+    abbrev removed_from : Row
+    removed_from = record { room = row.room; count = row.count - 1; first = first_after place.previous place.next row.first }
 
-      removes : RemovesPlace places.slots after.slots key place
-      removes k =
-          back.places k
-          ∙ ap (linked (with_previous place.previous) place.next k)
-          (onward.places k ∙ ap (linked (with_next place.next) place.previous k) (updated places removed key None updates k))
+    removes : RemovesPlace places.slots after.slots key place
+    removes k =
+        back.places k
+        ∙ ap (linked (with_previous place.previous) place.next k)
+        (onward.places k ∙ ap (linked (with_next place.next) place.previous k) (updated places removed key None updates k))
 
-      pub IsPool-removed : slab_len removed + 1 ≡ slab_len places → removed.capacity ≡ places.capacity → IsPool capacity reserved after (with_value rows owner removed_from)
-      IsPool-removed len space =
-          let own = is.owners owner row row_is in
-          IsPool-written capacity reserved places after rows owner row removed_from is row_is refl (back.capacity ∙ onward.capacity ∙ space)
-          (omega (arith, back.len, onward.len, len, counted))
-          (removed_stay places.slots after.slots owner row key place own found owns removes)
-          (removed_row places.slots after.slots owner row key place own found owns removes)
+    pub IsPool-removed : slab_len removed + 1 ≡ slab_len places → removed.capacity ≡ places.capacity → IsPool capacity reserved after (with_value rows owner removed_from)
+    IsPool-removed len space =
+        let own = held.is.owners owner row held.row_is in
+        IsPool-written capacity reserved places after rows owner row removed_from held.is held.row_is refl (back.capacity ∙ onward.capacity ∙ space)
+        (omega (arith, back.len, onward.len, len, counted))
+        (removed_stay places.slots after.slots owner row key place own held.found held.owns removes)
+        (removed_row places.slots after.slots owner row key place own held.found held.owns removes)
 
-      pub Changes-removed : Changes (pool_of capacity places.slots rows.slots) (pool_of capacity after.slots (with_value rows owner removed_from).slots) owner key None
-      Changes-removed =
-          let here = ap held_of (removed_here places.slots after.slots owner row key place removes) in
-          Changes-from_held capacity places after rows.slots (with_value rows owner removed_from).slots owner key None
-          (ap (owned owner) here)
-          (λ other differs.
-          ap (owned other) here
-          ∙ sym (ap (λ s. owned other (held_of s)) found ∙ owned-not other place (λ same. differs (sym same ∙ owns))))
-          (removed_held places.slots after.slots owner row key place removes)
-          (rooms_kept capacity reserved places rows is owner row row_is removed_from refl)
+    pub Changes-removed : Changes (pool_of capacity places.slots rows.slots) (pool_of capacity after.slots (with_value rows owner removed_from).slots) owner key None
+    Changes-removed =
+        let here = ap held_of (removed_here places.slots after.slots owner row key place removes) in
+        Changes-from_held capacity places after rows.slots (with_value rows owner removed_from).slots owner key None
+        (ap (owned owner) here)
+        (λ other differs.
+        ap (owned other) here
+        ∙ sym (ap (λ s. owned other (held_of s)) held.found ∙ owned-not other place (λ same. differs (sym same ∙ held.owns))))
+        (removed_held places.slots after.slots owner row key place removes)
+        (rooms_kept capacity reserved places rows held.is owner row held.row_is removed_from refl)
 
-      pub count_of-removed :
-          slab_len removed + 1 ≡ slab_len places → removed.capacity ≡ places.capacity
-          → count_of (pool_of capacity after.slots (with_value rows owner removed_from).slots) owner + 1 ≡ count_of (pool_of capacity places.slots rows.slots) owner
-      count_of-removed len space =
-          let now = count_of-row capacity reserved after (with_value rows owner removed_from) (IsPool-removed len space) owner removed_from (get-with_value rows owner row removed_from row_is) in
-          let was = count_of-row capacity reserved places rows is owner row row_is in
-          omega (arith, now, was, counted)
+    pub count_of-removed :
+        slab_len removed + 1 ≡ slab_len places → removed.capacity ≡ places.capacity
+        → count_of (pool_of capacity after.slots (with_value rows owner removed_from).slots) owner + 1 ≡ count_of (pool_of capacity places.slots rows.slots) owner
+    count_of-removed len space =
+        let now = count_of-row capacity reserved after (with_value rows owner removed_from) (IsPool-removed len space) owner removed_from (get-with_value rows owner row removed_from held.row_is) in
+        let was = count_of-row capacity reserved places rows held.is owner row held.row_is in
+        omega (arith, now, was, counted)

@@ -4,8 +4,13 @@ use Rattle.std.specs.Borrow.{Bor}
 use Rattle.mls_tech.specs.DrcLines.{Between, word_before, words_from, DrcLine, stated, Skips}
 use Rattle.mls_tech.specs.declared.drc_line.DrcLine.{DrcLine as ReadLine}
 use Rattle.mls_tech.specs.declared.drc_line.DrcLine.TheVariants as read
+use Rattle.mls_tech.specs.declared.drc_line.Directions.{Directions}
+use Rattle.mls_tech.specs.declared.drc_line.Directions.TheVariants.{Two, Four}
 use Rattle.mls_tech.specs.declared.drc_words.NextWord.{NextWord}
 use Rattle.mls_tech.specs.declared.drc_words.NextWord.TheVariants.{Nothing, Unclosed, Word}
+use Rattle.mls_tech.specs.declared.rule.Edge.{Edge as EdgeWords}
+use Rattle.mls_tech.specs.declared.rule.Rule.{Rule}
+use Rattle.mls_tech.specs.declared.rule.Rule.TheVariants.{Edge, Edge4Way}
 
 -- the bytes of words
 abbrev pub word_bytes : List (Bor (List ℕ)) → List (List ℕ)
@@ -21,3 +26,8 @@ Begins limit words (Word word rest) = (words ≡ word_before word.now (words_fro
 abbrev pub said : ReadLine → DrcLine
 said (read.States rule why) = stated rule why.now
 said (read.Skips keyword) = Skips keyword.now
+
+-- the rule of an edge line with edges in so many directions
+abbrev pub edge_rule : Directions → EdgeWords → Rule
+edge_rule Two = Edge
+edge_rule Four = Edge4Way

@@ -146,10 +146,9 @@ impl Tech {
             (spec.section_line Drc self.old (record { line = number; bytes = line.now })) }
     {
         match drc_line(alloc, self, line) {
-            Ok(Ok(DrcLine::States(rule, why))) => Ok(self.add_rule(alloc, number, rule, why)?),
-            Ok(Ok(DrcLine::Skips(keyword))) => Ok(self.add_skipped(alloc, number, keyword)?),
-            Ok(Err(kind)) => Err(kind),
-            Err(AllocError) => Err(TechFaultKind::Memory),
+            Ok(DrcLine::States(rule, why)) => Ok(self.add_rule(alloc, number, rule, why)?),
+            Ok(DrcLine::Skips(keyword)) => Ok(self.add_skipped(alloc, number, keyword)?),
+            Err(kind) => Err(kind),
         }
     }
 

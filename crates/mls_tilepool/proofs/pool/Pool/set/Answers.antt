@@ -1,5 +1,8 @@
+use Rattle.std.proofs.Common.{◌≡◌, Some, IsSome}
 use Rattle.slab.specs.Slab.{get}
-use Rattle.mls_tilepool.proofs.PoolViews.{place_owner, place_there, row_there, some_value}
+use Rattle.mls_tilepool.specs.Pools.{tile_at}
+use Rattle.mls_tilepool.specs.declared.chain.Row.{Row}
+use Rattle.mls_tilepool.proofs.PoolViews.{HoldsTile, holds_tile, place_there, row_there, some_value, viewed}
 use Rattle.mls_tilepool.proofs.TileCalls.{Changes-retiled, IsPool-retiled, count_of-retiled}
 use Rattle.mls_tilepool.proofs.pool.Pool.set.Goals as goal
 
@@ -8,35 +11,26 @@ index_mut-requires c =
     let s = c.self.inside in
     place_there s.capacity s.reserved s.places s.rows c.args.owner.now c.id.inside.key (rw (c.self.view_is, c.id.view_is) c.requires)
 
+-- the owner's tile, with the owner's row
+module _ (c : goal.After-self-1) where
+  there : IsSome (tile_at (viewed c.self.inside.capacity c.self.inside.reserved c.self.inside.places c.self.inside.rows) c.args.owner.now c.id.inside.key)
+  there = rw (c.self.view_is, c.id.view_is) c.requires
+
+  row : (row : Row) × (get c.self.inside.rows c.args.owner.now ≡ Some row)
+  row =
+      let s = c.self.inside in
+      some_value (get s.rows c.args.owner.now) (row_there s.capacity s.reserved s.places s.rows c.self.invariant c.args.owner.now c.id.inside.key there)
+
+  held : HoldsTile c.self.inside.capacity c.self.inside.reserved c.self.inside.places c.self.inside.rows c.args.owner.now c.id.inside.key row.0 c.index_mut.result.now
+  held =
+      let s = c.self.inside in
+      holds_tile s.capacity s.reserved s.places s.rows c.self.invariant c.args.owner.now c.id.inside.key row.0 c.index_mut.result.now there row.1 c.index_mut.ensures.value
+
 pub invariant_of-self : goal.invariant_of-self
-invariant_of-self c =
-    let s = c.self.inside in
-    let owner = c.args.owner.now in
-    let key = c.id.inside.key in
-    let place = c.index_mut.result.now in
-    let found = c.index_mut.ensures.value in
-    let row = some_value (get s.rows owner) (row_there s.capacity s.reserved s.places s.rows c.self.invariant owner key (rw (c.self.view_is, c.id.view_is) c.requires)) in
-    let owns = place_owner s.capacity s.reserved s.places s.rows owner key place (rw (c.self.view_is, c.id.view_is) c.requires) found in
-    IsPool-retiled s.capacity s.reserved s.places s.rows owner row.0 c.self.invariant row.1 key place found owns c.args.tile
+invariant_of-self c = IsPool-retiled (held c) c.args.tile
 
 pub returns-clause-changes : goal.returns-clause-changes
-returns-clause-changes c =
-    let s = c.self.inside in
-    let owner = c.args.owner.now in
-    let key = c.id.inside.key in
-    let place = c.index_mut.result.now in
-    let found = c.index_mut.ensures.value in
-    let row = some_value (get s.rows owner) (row_there s.capacity s.reserved s.places s.rows c.self.invariant owner key (rw (c.self.view_is, c.id.view_is) c.requires)) in
-    let owns = place_owner s.capacity s.reserved s.places s.rows owner key place (rw (c.self.view_is, c.id.view_is) c.requires) found in
-    rw (← c.self.view_is, ← c.id.view_is) (Changes-retiled s.capacity s.reserved s.places s.rows owner row.0 c.self.invariant row.1 key place found owns c.args.tile)
+returns-clause-changes c = rw (← c.self.view_is, ← c.id.view_is) (Changes-retiled (held c) c.args.tile)
 
 pub returns-clause-count : goal.returns-clause-count
-returns-clause-count c =
-    let s = c.self.inside in
-    let owner = c.args.owner.now in
-    let key = c.id.inside.key in
-    let place = c.index_mut.result.now in
-    let found = c.index_mut.ensures.value in
-    let row = some_value (get s.rows owner) (row_there s.capacity s.reserved s.places s.rows c.self.invariant owner key (rw (c.self.view_is, c.id.view_is) c.requires)) in
-    let owns = place_owner s.capacity s.reserved s.places s.rows owner key place (rw (c.self.view_is, c.id.view_is) c.requires) found in
-    rw (← c.self.view_is) (count_of-retiled s.capacity s.reserved s.places s.rows owner row.0 c.self.invariant row.1 key place found owns c.args.tile)
+returns-clause-count c = rw (← c.self.view_is) (count_of-retiled (held c) c.args.tile)
