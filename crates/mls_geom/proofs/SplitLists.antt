@@ -6,7 +6,7 @@ use Rattle.std.specs.List.{All}
 use Rattle.mls_geom.specs.Locality.{HaveKinds, laid}
 use Rattle.mls_geom.specs.Parts.{AreParts, HasCoveredStrips, ShowAlike, cut}
 use Rattle.mls_geom.specs.Pictures.{overlaid}
-use Rattle.mls_geom.specs.Rects.{Rect, IsRectangleIn, holds}
+use Rattle.mls_geom.specs.Rects.{Rect, IsRectangleIn}
 use Rattle.mls_geom.specs.declared.piece.Piece.{Piece}
 use Rattle.mls_geom.proofs.CutPieces.{ShowAlike-parts}
 use Rattle.mls_geom.proofs.Holds.{between_holds, holds_between}

@@ -1,10 +1,11 @@
 //! Squares between four coordinates, in the world or outside it.
-ghost use Rattle.std.specs.Prelude.{◌≡◌, ◌≤◌, ◌↔◌, IsTrue, max, min};
-ghost use Rattle.mls_geom.specs.Locality.{touches};
-ghost use Rattle.mls_geom.specs.Rects.{common, grown};
+ghost use Rattle.std.specs.Prelude.{◌≡◌, ◌≤◌, ◌↔◌, IsTrue};
+ghost use Rattle.mls_geom.specs.Directions as spec;
+ghost use Rattle.mls_geom.specs.Directions.{front_of, inner_area};
+ghost use Rattle.mls_geom.specs.Rects.{FitsWith, IsWithin, after_part, common, grown, has_squares, holds, joined, size_of};
 ghost use Rattle.mls_geom.specs.World.{IsNearWorld};
 
-use crate::Rect;
+use crate::{Direction, Rect};
 use std::marker::Model;
 
 /// The squares between four coordinates, which may lie outside the world.
@@ -45,19 +46,6 @@ impl Area {
         }
     }
 
-    /// Returns the squares of the area that lie in the rectangle too.
-    pub fn within(self, rect: Rect) -> Area
-        ensures { result ≡ common self rect }
-    {
-        let area = rect.area();
-        Area {
-            left: self.left.max(area.left),
-            bottom: self.bottom.max(area.bottom),
-            right: self.right.min(area.right),
-            top: self.top.min(area.top),
-        }
-    }
-
     /// Returns an area without squares, which joined with another area is that one.
     pub(crate) fn nowhere() -> Area {
         Area {
@@ -68,10 +56,31 @@ impl Area {
         }
     }
 
+    /// Returns whether the area has a square.
+    pub fn has_squares(self) -> bool
+        ensures { result ≡ has_squares self }
+    {
+        self.left < self.right && self.bottom < self.top
+    }
+
+    /// Returns how many squares the area has.
+    pub fn size(self) -> u64
+        ensures { result ≡ size_of self }
+    {
+        u64::from(self.right.saturating_sub(self.left))
+            * u64::from(self.top.saturating_sub(self.bottom))
+    }
+
+    /// Returns whether the square at a column and a row lies in the area.
+    pub fn holds(self, column: u32, row: u32) -> bool
+        ensures { result ≡ holds self column row }
+    {
+        self.left <= column && column < self.right && self.bottom <= row && row < self.top
+    }
+
     /// Returns whether no side of the other area lies outside this one.
-    pub(crate) fn encloses(self, other: Area) -> bool
-        ensures { IsTrue result ↔ (self.left ≤ other.left) × (self.bottom ≤ other.bottom)
-            × (other.right ≤ self.right) × (other.top ≤ self.top) }
+    pub fn encloses(self, other: Area) -> bool
+        ensures { IsTrue result ↔ IsWithin self other }
     {
         self.left <= other.left
             && self.bottom <= other.bottom
@@ -79,14 +88,21 @@ impl Area {
             && other.top <= self.top
     }
 
+    /// Returns the squares that lie in both areas.
+    pub fn common(self, other: Area) -> Area
+        ensures { result ≡ common self other }
+    {
+        Area {
+            left: self.left.max(other.left),
+            bottom: self.bottom.max(other.bottom),
+            right: self.right.min(other.right),
+            top: self.top.min(other.top),
+        }
+    }
+
     /// Returns the least area that has the squares of both.
-    pub(crate) fn joined(self, other: Area) -> Area
-        ensures { result ≡ record {
-          left = min self.left other.left;
-          bottom = min self.bottom other.bottom;
-          right = max self.right other.right;
-          top = max self.top other.top;
-        } }
+    pub fn joined(self, other: Area) -> Area
+        ensures { result ≡ joined self other }
     {
         Area {
             left: self.left.min(other.left),
@@ -96,17 +112,119 @@ impl Area {
         }
     }
 
-    /// Returns whether the area and the rectangle share a square, a side or a corner.
-    pub(crate) fn touches(self, rect: Rect) -> bool
-        ensures { result ≡ touches self rect }
+    /// Returns the squares of the area from a column on.
+    pub fn columns_from(self, left: u32) -> Area
+        ensures { result ≡ record self { left = left } }
     {
-        let near = Area {
-            left: self.left.saturating_sub(1),
-            bottom: self.bottom.saturating_sub(1),
-            right: self.right.saturating_add(1),
-            top: self.top.saturating_add(1),
-        };
-        let shared = near.within(rect);
-        shared.left < shared.right && shared.bottom < shared.top
+        Area { left, ..self }
+    }
+
+    /// Returns the squares of the area from a row on.
+    pub fn rows_from(self, bottom: u32) -> Area
+        ensures { result ≡ record self { bottom = bottom } }
+    {
+        Area { bottom, ..self }
+    }
+
+    /// Returns what is left of an area that is one square wide or one square high after the part at its lower left.
+    pub fn after_part(self, part: Area) -> Area
+        ensures { result ≡ after_part self part }
+    {
+        if part.top == self.top {
+            self.columns_from(part.right)
+        } else {
+            self.rows_from(part.top)
+        }
+    }
+
+    /// Returns the area some squares on in a direction. Coordinates don't go below 0.
+    pub fn shifted(self, direction: Direction, squares: u32) -> Area
+        requires { FitsWith squares self }
+        ensures { result ≡ spec.shifted direction squares self }
+    {
+        match direction {
+            Direction::Right => Area {
+                left: self.left + squares,
+                right: self.right + squares,
+                ..self
+            },
+            Direction::Up => Area {
+                bottom: self.bottom + squares,
+                top: self.top + squares,
+                ..self
+            },
+            Direction::Left => Area {
+                left: self.left.saturating_sub(squares),
+                right: self.right.saturating_sub(squares),
+                ..self
+            },
+            Direction::Down => Area {
+                bottom: self.bottom.saturating_sub(squares),
+                top: self.top.saturating_sub(squares),
+                ..self
+            },
+        }
+    }
+
+    /// Returns the area with some squares more in a direction. Coordinates don't go below 0.
+    pub fn deepened(self, direction: Direction, squares: u32) -> Area
+        requires { FitsWith squares self }
+        ensures { result ≡ spec.deepened direction squares self }
+    {
+        match direction {
+            Direction::Right => Area {
+                right: self.right + squares,
+                ..self
+            },
+            Direction::Up => Area {
+                top: self.top + squares,
+                ..self
+            },
+            Direction::Left => Area {
+                left: self.left.saturating_sub(squares),
+                ..self
+            },
+            Direction::Down => Area {
+                bottom: self.bottom.saturating_sub(squares),
+                ..self
+            },
+        }
+    }
+
+    /// Returns the squares of the area that have the square before them, in a direction, in the area too.
+    pub fn inner(self, direction: Direction) -> Area
+        requires { FitsWith 1 self }
+        ensures { result ≡ inner_area direction self }
+    {
+        self.shifted(direction, 1).common(self)
+    }
+
+    /// Returns the squares just before the area in a direction.
+    pub fn front(self, direction: Direction) -> Area
+        requires { FitsWith 1 self }
+        ensures { result ≡ front_of direction self }
+    {
+        match direction {
+            Direction::Right => Area {
+                left: self.left.saturating_sub(1),
+                right: self.left,
+                ..self
+            },
+            Direction::Up => Area {
+                bottom: self.bottom.saturating_sub(1),
+                top: self.bottom,
+                ..self
+            },
+            Direction::Left => Area {
+                left: self.right,
+                right: self.right + 1,
+                ..self
+            },
+            Direction::Down => Area {
+                bottom: self.top,
+                top: self.top + 1,
+                ..self
+            },
+        }
     }
 }

@@ -2,7 +2,7 @@
 ghost use Rattle.std.specs.Prelude.{◌≤◌, length};
 ghost use Rattle.mls_geom.specs.Parts.{ShowAlike};
 
-use crate::touched::bounds;
+use crate::pieces::bounds;
 use crate::{Area, Piece};
 
 /// Returns the index of the last piece that covers all before it. It is a guess, which changes no strip.

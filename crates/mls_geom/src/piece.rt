@@ -1,6 +1,6 @@
 //! Painted rectangles.
 ghost use Rattle.std.specs.Prelude.{◌≡◌, ◌<◌};
-ghost use Rattle.mls_geom.specs.Locality.{touches, uncovered};
+ghost use Rattle.mls_geom.specs.Locality.{uncovered};
 ghost use Rattle.mls_geom.specs.Rects.{IsRectangleIn};
 ghost use Rattle.mls_geom.specs.World.{world};
 
@@ -32,13 +32,5 @@ impl Piece {
         ensures kind { self.kind < uncovered }
     {
         self.rect.area()
-    }
-
-    /// Returns whether the area and the piece share a square, a side or a corner.
-    pub(crate) fn touches(self, area: Area) -> bool
-        ensures value { result ≡ touches area self.rect }
-        ensures kind { self.kind < uncovered }
-    {
-        area.touches(self.rect)
     }
 }

@@ -1,6 +1,6 @@
 //! Rectangles of squares of the world.
-ghost use Rattle.std.specs.Prelude.{◌≡◌, ◌&&◌, ◌+ℤ◌, ℕ, IfNone, IfSome, false, pos};
-ghost use Rattle.mls_geom.specs.Rects.{IsRectangleIn, clipped, common, grown, holds, meets};
+ghost use Rattle.std.specs.Prelude.{◌≡◌, ◌↔◌, ◌&&◌, ◌+ℤ◌, ℕ, IfNone, IfSome, IsTrue, false, pos};
+ghost use Rattle.mls_geom.specs.Rects.{IsRectangleIn, IsWithin, clipped, common, grown, holds, joined, meets};
 ghost use Rattle.mls_geom.specs.World.{origin, rect_of, world};
 
 use crate::world::{HIGH, LOW, coordinate_of, is_outside, user_coordinate};
@@ -37,7 +37,8 @@ impl Model for Rect {
 
     ghost view = { λ r. record { left = r.left; bottom = r.bottom; right = r.right; top = r.top } };
 
-    ghost invariant = { λ r. IsRectangleIn world (record { left = r.left; bottom = r.bottom; right = r.right; top = r.top }) };
+    ghost invariant = { λ r. IsRectangleIn world (record
+        { left = r.left; bottom = r.bottom; right = r.right; top = r.top }) };
 
     ghost inverse = { λ e. record { left = e.left; bottom = e.bottom; right = e.right; top = e.top } };
 }
@@ -182,6 +183,25 @@ impl Rect {
             Some(Rect::between(left, bottom, right, top))
         } else {
             None
+        }
+    }
+
+    /// Returns whether no side of the other rectangle lies outside this one.
+    pub fn encloses(self, other: Rect) -> bool
+        ensures { IsTrue result ↔ IsWithin self other }
+    {
+        self.area().encloses(other.area())
+    }
+
+    /// Returns the smallest rectangle round both.
+    pub fn joined(self, other: Rect) -> Rect
+        ensures { result ≡ joined self other }
+    {
+        Rect {
+            left: self.left.min(other.left),
+            bottom: self.bottom.min(other.bottom),
+            right: self.right.max(other.right),
+            top: self.top.max(other.top),
         }
     }
 }

@@ -1,5 +1,5 @@
-//! Lists in which many pieces lie over one another, split at lines. In each part the pieces that a later one covers are left
-//! out, so that few are left, and their strips take their place.
+//! Lists in which many pieces lie over one another, split at lines. In each part the pieces that a later one covers
+//! are left out, so that few are left, and their strips take their place.
 ghost use Rattle.std.specs.Prelude.{◌≡◌, ℕ, ◌++◌, List, IfSome, OnOk, reverse};
 ghost use Rattle.mls_geom.specs.Locality.{laid};
 ghost use Rattle.mls_geom.specs.Parts.{AreParts, HasCoveredStrips, ShowAlike};
@@ -9,9 +9,9 @@ ghost use Rattle.mls_geom.specs.World.{world};
 use crate::cuts::{Cuts, Line};
 use crate::hidden::without_hidden;
 use crate::layers::Layers;
+use crate::pieces::bounds;
 use crate::slabs::{GaveUp, Slabs, add_all, add_cut, sweep_part};
 use crate::sweep::Sweep;
-use crate::touched::bounds;
 use crate::world::{HIGH, LOW};
 use crate::{Piece, Rect};
 use std::mem::swap;
@@ -117,7 +117,8 @@ impl Layers {
     /// Splits the last part of the list in two, or moves its strips to `next`, the last one first.
     fn split(&mut self, sweep: &mut Sweep, cuts: &mut Cuts, room: usize) -> Result<(), GaveUp>
         requires { HasSweepRoom sweep.old room }
-        ensures alike { OnOk result (ShowAlike (self.new.list.items ++ reverse self.new.next.items) (self.old.list.items ++ reverse self.old.next.items)) }
+        ensures alike { OnOk result (ShowAlike (self.new.list.items ++ reverse self.new.next.items)
+            (self.old.list.items ++ reverse self.old.next.items)) }
         ensures room { (n : ℕ) → HasSweepRoom sweep.old n → HasSweepRoom sweep.new n }
     {
         let count = self.counts.pop().unwrap_or(0);
@@ -132,8 +133,8 @@ impl Layers {
         Ok(())
     }
 
-    /// Splits parts until `list` is empty. Gives up where they have more than `work` pieces together, and more for the strips that
-    /// were found.
+    /// Splits parts until `list` is empty. Gives up where they have more than `work` pieces together, and more for
+    /// the strips that were found.
     fn split_all(
         &mut self,
         sweep: &mut Sweep,
@@ -142,7 +143,8 @@ impl Layers {
         work: usize,
     ) -> Result<(), GaveUp>
         requires { HasSweepRoom sweep.old room }
-        ensures alike { OnOk result (ShowAlike (reverse self.new.next.items) (self.old.list.items ++ reverse self.old.next.items)) }
+        ensures alike { OnOk result (ShowAlike (reverse self.new.next.items)
+            (self.old.list.items ++ reverse self.old.next.items)) }
         ensures room { (n : ℕ) → HasSweepRoom sweep.old n → HasSweepRoom sweep.new n }
     {
         let mut done: usize = 0;
@@ -159,8 +161,8 @@ impl Layers {
         Err(GaveUp)
     }
 
-    /// Fills the slabs with the strips of the squares that the listed pieces cover, once none of them lies over another. Gives up
-    /// where that is more than so many times as much work as there are pieces.
+    /// Fills the slabs with the strips of the squares that the listed pieces cover, once none of them lies over
+    /// another. Gives up where that is more than so many times as much work as there are pieces.
     pub(crate) fn sweep_split(
         &mut self,
         sweep: &mut Sweep,

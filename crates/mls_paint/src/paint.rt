@@ -60,7 +60,8 @@ pub fn overlay(
     ensures strips { HasStrips pool.new plane.old }
     ensures too_many { IsErr result ↔ (limit < tile_count world (overlaid (picture_in pool.old plane.old) over.now)) }
     ensures refused { OnErr result (pool.new ≡ pool.old) }
-    ensures kept { IfOk result (λ painted. painted.rebuilt ≡ false → KeepsUntouched (tiles_of pool.old plane.old) (tiles_of pool.new plane.old) over.now) }
+    ensures kept { IfOk result (λ painted. painted.rebuilt ≡ false
+        → KeepsUntouched (tiles_of pool.old plane.old) (tiles_of pool.new plane.old) over.now) }
     ensures only { ChangesOnly pool.old pool.new plane.old }
     ensures plane { plane.new ≡ plane.old }
     ensures rooms { KeepsRoom scratch.old scratch.new }
@@ -68,8 +69,8 @@ pub fn overlay(
     overlay_within(pool, plane, over, limit, TURNS, scratch)
 }
 
-/// Paints pieces over a plane as [`overlay`] does, with at most this many turns for its searches; with none, takes all tiles as
-/// touched.
+/// Paints pieces over a plane as [`overlay`] does, with at most this many turns for its searches; with none, takes
+/// all tiles as touched.
 pub fn overlay_within(
     pool: &mut Pool,
     plane: &mut Plane,
@@ -86,7 +87,8 @@ pub fn overlay_within(
     ensures strips { HasStrips pool.new plane.old }
     ensures too_many { IsErr result ↔ (limit < tile_count world (overlaid (picture_in pool.old plane.old) over.now)) }
     ensures refused { OnErr result (pool.new ≡ pool.old) }
-    ensures kept { IfOk result (λ painted. painted.rebuilt ≡ false → KeepsUntouched (tiles_of pool.old plane.old) (tiles_of pool.new plane.old) over.now) }
+    ensures kept { IfOk result (λ painted. painted.rebuilt ≡ false
+        → KeepsUntouched (tiles_of pool.old plane.old) (tiles_of pool.new plane.old) over.now) }
     ensures rebuilt { IfOk result (λ painted. turns ≡ 0 → painted.rebuilt ≡ true) }
     ensures only { ChangesOnly pool.old pool.new plane.old }
     ensures plane { plane.new ≡ plane.old }
@@ -137,8 +139,8 @@ pub fn fits(
     find_fresh(search.tiles(), over, count, limit, touched, sweep).is_ok()
 }
 
-/// Finds tiles of the plane, and among them all that the pieces touch, and leaves them in the scratch: all tiles where there are
-/// no turns, and else those that [`Plane::touching`] finds.
+/// Finds tiles of the plane, and among them all that the pieces touch, and leaves them in the scratch: all tiles
+/// where there are no turns, and else those that [`Plane::touching`] finds.
 fn find_touched(pool: &Pool, plane: &mut Plane, over: &[Piece], turns: u32, scratch: &mut Scratch)
     requires plane { HasPlane pool.now plane.old }
     requires room { count_of pool.now plane.old ≤ scratch.old.room }
@@ -181,9 +183,11 @@ fn find_fresh(
     requires tiles_fit { length tiles.now ≤ vec_capacity touched.old }
     requires pieces_fit { length tiles.now + length over.now ≤ sweep.old.room }
     requires strips_fit { limit ≤ sweep.old.room }
-    ensures strips { OnOk result (AreCoveredStrips world (laid (map (λ tile. tile.piece) tiles.now ++ over.now)) sweep.new.strips) }
+    ensures strips { OnOk result (AreCoveredStrips world
+        (laid (map (λ tile. tile.piece) tiles.now ++ over.now)) sweep.new.strips) }
     ensures fits { OnOk result (count + length sweep.new.strips ≤ limit + length tiles.now) }
-    ensures too_many { IsErr result ↔ (limit + length tiles.now < count + covered_count world (laid (map (λ tile. tile.piece) tiles.now ++ over.now))) }
+    ensures too_many { IsErr result ↔ (limit + length tiles.now
+        < count + covered_count world (laid (map (λ tile. tile.piece) tiles.now ++ over.now))) }
     ensures kinds { HaveKinds (map (λ tile. tile.piece) tiles.now ++ over.now) }
     ensures legal { AreLegal over.now }
     ensures touched { touched.new.items ≡ map (λ tile. tile.piece) tiles.now }

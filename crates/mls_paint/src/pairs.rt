@@ -79,8 +79,8 @@ fn longest_inside(strips: &[Piece], outer: Rect) -> Option<Listed>
     longest
 }
 
-/// Puts the longest tile first whose name is listed, and the longest strip inside it, so that the tile shrinks to the strip.
-/// Leaves the lists as they are if no strip lies inside it.
+/// Puts the longest tile first whose name is listed, and the longest strip inside it, so that the tile shrinks to the
+/// strip. Leaves the lists as they are if no strip lies inside it.
 pub(crate) fn put_pair_first(tiles: &[LaidTile], names: &mut [TileId], strips: &mut [Piece])
     ensures names { IsPermutation names.old names.new }
     ensures strips { IsPermutation strips.old strips.new }

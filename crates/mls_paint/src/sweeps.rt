@@ -89,7 +89,8 @@ impl Sweeps {
         self.kept[self.last].strips()
     }
 
-    /// Finds the strips of what these pieces cover, without a sweep where they are kept, and returns how many there are.
+    /// Finds the strips of what these pieces cover, without a sweep where they are kept, and returns how many there
+    /// are.
     ///
     /// Fails if there are more than `limit`.
     pub(crate) fn find(

@@ -4,12 +4,12 @@ use Rattle.std.specs.List.{list_any}
 use Rattle.std.specs.Option.{IfSome, IsSomeAnd}
 use Rattle.std.proofs.lemmas.List.Elements.{All-append, All-contains, All-filter, All-nil, Contains-push_cases, filter_more, filter_passes}
 use Rattle.std.proofs.lemmas.Option.{none-some, same_Some}
-use Rattle.mls_geom.specs.Rects.{Rect, Point, holds}
+use Rattle.mls_geom.specs.Rects.{Rect, Point, IsWithin, holds}
 use Rattle.mls_geom.specs.declared.piece.Piece.{Piece}
 use Rattle.mls_geom.proofs.Ascending.{Contains-filter, Contains-first}
 use Rattle.mls_geom.proofs.Holds.{between_holds, holds_between}
 use Rattle.mls_geom.proofs.JoinedLists.{Any-append_left, Any-append_right}
-use Rattle.mls_stitch.specs.Gathering.{AreMet, EncloseBlocks, IsInPart, IsWithin}
+use Rattle.mls_stitch.specs.Gathering.{AreMet, EncloseBlocks, IsInPart}
 use Rattle.mls_stitch.specs.Pending.{keys_of}
 use Rattle.mls_stitch.specs.Placing.{IsLost, KeepsKeys, Surround, unlisted_of}
 use Rattle.mls_stitch.specs.Replacements.{IsHeld}

@@ -1,10 +1,9 @@
 -- Squares that share a side or a corner, and the squares to which stitches lead.
 use Rattle.std.proofs.Common.{◌≡◌, ◌⊎◌, ◌-◌, true, false, inl, inr, ap, ◌∙◌, arith}
 use Rattle.std.proofs.lemmas.Bool.{both_ways, cases_lt, false_from_ne_true}
-use Rattle.mls_geom.specs.Rects.{Rect, Point, IsRectangleIn, grown, holds}
+use Rattle.mls_geom.specs.Rects.{Rect, Point, IsRectangleIn, IsWithin, grown, holds}
 use Rattle.mls_geom.specs.World.{world}
 use Rattle.mls_geom.proofs.Holds.{between_holds, holds_between}
-use Rattle.mls_stitch.specs.Gathering.{IsWithin}
 use Rattle.mls_stitch.specs.Placing.{AreClose}
 use Rattle.mls_stitch.specs.Stitches.{beyond}
 use Rattle.mls_stitch.specs.declared.stitch.Stitch.{Stitch}

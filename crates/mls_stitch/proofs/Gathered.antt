@@ -5,18 +5,19 @@ use Rattle.std.proofs.lemmas.Bool.{both_ways, cases_eq, cond-false, ne_eqb}
 use Rattle.std.proofs.lemmas.List.Elements.{All-contains, All-push, All-nil, Contains-append_left, Contains-append_right}
 use Rattle.std.proofs.lemmas.Option.{same_Some}
 use Rattle.mls_geom.specs.Locality.{touches}
-use Rattle.mls_geom.specs.Rects.{Rect, Point, IsRectangleIn, grown, holds, meets}
+use Rattle.mls_geom.specs.Rects.{Rect, Point, IsRectangleIn, IsWithin, grown, holds, joined, meets}
 use Rattle.mls_geom.specs.World.{world}
 use Rattle.mls_geom.specs.declared.piece.Piece.{Piece}
 use Rattle.mls_geom.proofs.Ascending.{Contains-first, Contains-map}
 use Rattle.mls_geom.proofs.Holds.{between_holds, holds_between}
+use Rattle.mls_geom.proofs.JoinedRects.{IsWithin-joined, IsWithin-joined_itself}
 use Rattle.mls_geom.proofs.KindsShown.{common_square, meets_by_square}
 use Rattle.mls_geom.proofs.PiecePictures.{holds_outer}
 use Rattle.mls_tilepool.specs.Pools.{tile_in}
 use Rattle.mls_tilepool.specs.declared.tile.Tile.{Tile}
 use Rattle.mls_stitch.specs.Areas.{IsFound}
 use Rattle.mls_stitch.specs.Enumerations.{IsListedTo}
-use Rattle.mls_stitch.specs.Gathering.{AreMet, IsWithin, enclosing}
+use Rattle.mls_stitch.specs.Gathering.{AreMet}
 use Rattle.mls_stitch.specs.Pending.{keys_of}
 use Rattle.mls_stitch.specs.Tilings.{AreBlocks}
 use Rattle.mls_stitch.specs.Walks.{IsLaid}
@@ -25,30 +26,23 @@ use Rattle.mls_stitch.proofs.FreshTiles.{entry-keys_of}
 use Rattle.mls_stitch.proofs.Listings.{listed_whole}
 use Rattle.mls_stitch.proofs.Sides.{HoldsAt-block, there-IsSomeAnd}
 
--- the smallest rectangle round both has in it what the first has, and the second
-within_first : (a b e : Rect) → IsWithin a e → IsWithin (enclosing a b) e
-within_first a b e inside = record { left = omega (arith, inside.left); bottom = omega (arith, inside.bottom); right = omega (arith, inside.right); top = omega (arith, inside.top) }
-
-within_second : (a b : Rect) → IsWithin (enclosing a b) b
-within_second a b = record { left = omega arith; bottom = omega arith; right = omega arith; top = omega arith }
-
--- so it has more and more within it
+-- the smallest rectangle round more and more has more and more within it
 pub within_more : {X : Type 0} (P : Rect → X → Type 0) (bounds : Option Rect) (rect result : Rect) (passed : List X) (x : X) →
-    ((a b : Rect) (y : X) → P a y → P (enclosing a b) y) → ((a : Rect) → IsWithin a rect → P a x) → IfSome bounds (λ b. All (P b) passed) → IfNone bounds (passed ≡ [])
-    → result ≡ option_map_or (λ b. enclosing b rect) bounds rect → All (P result) (passed ++ x ∷ [])
+    ((a b : Rect) (y : X) → P a y → P (joined a b) y) → ((a : Rect) → IsWithin a rect → P a x) → IfSome bounds (λ b. All (P b) passed) → IfNone bounds (passed ≡ [])
+    → result ≡ option_map_or (λ b. joined b rect) bounds rect → All (P result) (passed ++ x ∷ [])
 within_more P None rect result passed x grows here so_far none is =
     rw (is, none) (All-push (P rect) [] x (All-nil _) (here rect (record { left = omega arith; bottom = omega arith; right = omega arith; top = omega arith })))
 within_more P (Some b) rect result passed x grows here so_far none is =
-    rw is (All-push (P (enclosing b rect)) passed x (λ k d within. grows b rect (get_or passed k d) (so_far k d within)) (here (enclosing b rect) (within_second b rect)))
+    rw is (All-push (P (joined b rect)) passed x (λ k d within. grows b rect (get_or passed k d) (so_far k d within)) (here (joined b rect) (IsWithin-joined_itself b rect)))
 
-pub grows_pieces : (a b : Rect) (piece : Piece) → IsWithin a piece.rect → IsWithin (enclosing a b) piece.rect
-grows_pieces a b piece inside = within_first a b piece.rect inside
+pub grows_pieces : (a b : Rect) (piece : Piece) → IsWithin a piece.rect → IsWithin (joined a b) piece.rect
+grows_pieces a b piece inside = IsWithin-joined a b piece.rect inside
 
-pub grows_blocks : (blocks : ℕ → Option Piece) (a b : Rect) (key : ℕ) → IfSome (blocks key) (λ block. IsWithin a block.rect) → IfSome (blocks key) (λ block. IsWithin (enclosing a b) block.rect)
+pub grows_blocks : (blocks : ℕ → Option Piece) (a b : Rect) (key : ℕ) → IfSome (blocks key) (λ block. IsWithin a block.rect) → IfSome (blocks key) (λ block. IsWithin (joined a b) block.rect)
 grows_blocks blocks a b key inside = go (blocks key) inside where
-  go : (block : Option Piece) → IfSome block (λ p. IsWithin a p.rect) → IfSome block (λ p. IsWithin (enclosing a b) p.rect)
+  go : (block : Option Piece) → IfSome block (λ p. IsWithin a p.rect) → IfSome block (λ p. IsWithin (joined a b) p.rect)
   go None none = none
-  go (Some p) within = within_first a b p.rect within
+  go (Some p) within = IsWithin-joined a b p.rect within
 
 -- two laid tiles with one square have one key
 met_key :

@@ -5,7 +5,7 @@ use Rattle.std.specs.Option.{IfSome}
 use Rattle.std.proofs.lemmas.Bool.{both_ways, cases_Bool}
 use Rattle.std.proofs.lemmas.List.Elements.{All-append, All-contains, Contains-append_left, Contains-append_right, Contains-get_or}
 use Rattle.std.proofs.lemmas.Option.{none-some, same_Some}
-use Rattle.mls_geom.specs.Rects.{Point, holds}
+use Rattle.mls_geom.specs.Rects.{Point, IsWithin, holds}
 use Rattle.mls_geom.specs.World.{world}
 use Rattle.mls_geom.specs.declared.piece.Piece.{Piece}
 use Rattle.mls_geom.proofs.Ascending.{AllPairs-append}
@@ -14,7 +14,6 @@ use Rattle.mls_geom.proofs.PiecePictures.{holds_outer}
 use Rattle.mls_tilepool.specs.Pools.{tile_in}
 use Rattle.mls_tilepool.specs.declared.tile.Tile.{Tile}
 use Rattle.mls_stitch.specs.Fresh.{MayReplace, replaced}
-use Rattle.mls_stitch.specs.Gathering.{IsWithin}
 use Rattle.mls_stitch.specs.Pending.{AwaitStitches, IsRightOrListed, keys_of}
 use Rattle.mls_stitch.specs.Placing.{AreClose, CanShrink, GiveWay, HasShrunk, IsLost, Surround, moved, unstitched}
 use Rattle.mls_stitch.specs.Replacements.{IsHeld, TakePlace}

@@ -4,12 +4,12 @@ use Rattle.std.proofs.lemmas.Bool.{or_cases}
 use Rattle.std.proofs.lemmas.List.Elements.{All-append, All-contains, All-nil, All-push, Contains-append_left, Contains-append_right}
 use Rattle.std.proofs.lemmas.List.Folds.{Any-from_list_any, list_any-append}
 use Rattle.mls_geom.specs.Locality.{is_touched, touches}
-use Rattle.mls_geom.specs.Rects.{Rect}
+use Rattle.mls_geom.specs.Rects.{Rect, IsWithin}
 use Rattle.mls_geom.specs.declared.piece.Piece.{Piece}
 use Rattle.mls_geom.proofs.Ascending.{Contains-map}
 use Rattle.mls_tilepool.specs.declared.tile.Tile.{Tile}
 use Rattle.mls_stitch.specs.Areas.{ListTouched}
-use Rattle.mls_stitch.specs.Gathering.{AreMet, EnclosePieces, HasTouched, IsWithin}
+use Rattle.mls_stitch.specs.Gathering.{AreMet, EnclosePieces, HasTouched}
 use Rattle.mls_stitch.specs.Pending.{keys_of}
 use Rattle.mls_stitch.specs.Placing.{KeepsKeys}
 use Rattle.mls_stitch.specs.Tilings.{IsPlane, block_at}

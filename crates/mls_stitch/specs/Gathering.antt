@@ -1,24 +1,13 @@
 -- Tiles gathered by one search or by many; a tile may be listed more than once. No public contract names these.
-use Rattle.std.specs.Prelude.{◌≡◌, ℕ, ◌≤◌, max, min, true, IsTrue, IsSomeAnd, IfSome, List, Option, Some}
+use Rattle.std.specs.Prelude.{◌≡◌, ℕ, true, IsTrue, IsSomeAnd, IfSome, List, Option, Some}
 use Rattle.std.specs.List.{All, Any, Contains}
 use Rattle.mls_geom.specs.Locality.{is_touched}
-use Rattle.mls_geom.specs.Rects.{Rect, Point, holds, meets}
+use Rattle.mls_geom.specs.Rects.{Rect, Point, IsWithin, holds, meets}
 use Rattle.mls_geom.specs.declared.piece.Piece.{Piece}
 use Rattle.mls_stitch.specs.Areas.{IsFound}
 use Rattle.mls_stitch.specs.Pending.{keys_of}
 use Rattle.mls_stitch.specs.Walks.{IsLaid}
 use Rattle.mls_stitch.specs.declared.laid_tile.LaidTile.{LaidTile}
-
--- the smallest rectangle round both
-abbrev pub enclosing : Rect → Rect → Rect
-enclosing a b = record { left = min a.left b.left; bottom = min a.bottom b.bottom; right = max a.right b.right; top = max a.top b.top }
-
--- the rectangle reaches no further than the bounds
-pub record IsWithin (bounds e : Rect) : Type 0 where
-  pub left : bounds.left ≤ e.left
-  pub bottom : bounds.bottom ≤ e.bottom
-  pub right : e.right ≤ bounds.right
-  pub top : e.top ≤ bounds.top
 
 -- the bounds have each piece within them
 abbrev pub EnclosePieces : Rect → List Piece → Type 0

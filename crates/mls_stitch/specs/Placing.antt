@@ -1,12 +1,11 @@
 -- Tiles that are laid before they have stitches, and the tiles around them. No public contract names these.
 use Rattle.std.specs.Prelude.{◌≡◌, ◌≢◌, ◌⊎◌, ℕ, ◌+◌, ◌<◌, ◌≤◌, ◌==◌, not, false, filter, List, ◌++◌, length, map, slice_get, Option, Some, None, IsTrue, IfSome, IsSomeAnd}
 use Rattle.std.specs.List.{All, Any, AllPairs, Contains, list_any}
-use Rattle.mls_geom.specs.Rects.{Point, holds}
+use Rattle.mls_geom.specs.Rects.{Point, IsWithin, holds}
 use Rattle.mls_geom.specs.World.{world}
 use Rattle.mls_geom.specs.declared.piece.Piece.{Piece}
 use Rattle.mls_tilepool.specs.Pools.{tile_in}
 use Rattle.mls_tilepool.specs.declared.tile.Tile.{Tile}
-use Rattle.mls_stitch.specs.Gathering.{IsWithin}
 use Rattle.mls_stitch.specs.Pending.{keys_of}
 use Rattle.mls_stitch.specs.Replacements.{IsHeld}
 use Rattle.mls_stitch.specs.declared.laid_tile.LaidTile.{LaidTile}

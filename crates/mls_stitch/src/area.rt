@@ -48,7 +48,8 @@ impl Plane {
         requires room { count_of pool.now self.now ≤ scratch.old.room }
         ensures found { AreInArea (block_at (tiles_of pool.now self.now)) world scratch.new.tiles }
         ensures picture { picture_of (map (λ tile. tile.piece) scratch.new.tiles) ≡ shown (tiles_of pool.now self.now) }
-        ensures strips { IsMaximal (tiles_of pool.now self.now) → AreStrips world (shown (tiles_of pool.now self.now)) (map (λ tile. tile.piece) scratch.new.tiles) }
+        ensures strips { IsMaximal (tiles_of pool.now self.now)
+            → AreStrips world (shown (tiles_of pool.now self.now)) (map (λ tile. tile.piece) scratch.new.tiles) }
         ensures count { length scratch.new.tiles ≡ count_of pool.now self.now }
         ensures scratch_room { scratch.new.room ≡ scratch.old.room }
     {

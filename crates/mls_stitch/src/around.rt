@@ -95,7 +95,8 @@ fn list_round_each(
     requires found_fit { count_of pool.now owner.now ≤ vec_capacity found.old }
     requires entries_fit { count_of pool.now owner.now + count_of pool.now owner.now
         ≤ vec_capacity entries.old }
-    ensures around { IsTrue result → Surround (block_at (tiles_of pool.now owner.now)) keys.now (IsHeld (block_at (tiles_of pool.now owner.now)) ids.now) entries.new.items }
+    ensures around { IsTrue result → Surround (block_at (tiles_of pool.now owner.now)) keys.now
+        (IsHeld (block_at (tiles_of pool.now owner.now)) ids.now) entries.new.items }
     ensures found_room { vec_capacity found.new ≡ vec_capacity found.old }
     ensures entries_room { vec_capacity entries.new ≡ vec_capacity entries.old }
 {
@@ -131,14 +132,17 @@ fn list_round_parts(
     requires plane { HasPlane pool.now owner.now }
     requires inside { CanShrink (block_at (tiles_of pool.now owner.now)) shrunk.now }
     requires ascending { IsNonDecreasing keys.now }
-    requires before { (ids : List ℕ) × Surround (block_at (tiles_of pool.now owner.now)) keys.now (IsHeld (block_at (tiles_of pool.now owner.now)) ids) entries.old.items }
+    requires before { (ids : List ℕ) × Surround (block_at (tiles_of pool.now owner.now)) keys.now
+        (IsHeld (block_at (tiles_of pool.now owner.now)) ids) entries.old.items }
     requires found_fit { count_of pool.now owner.now ≤ vec_capacity found.old }
     requires entries_fit { count_of pool.now owner.now + count_of pool.now owner.now
         ≤ vec_capacity entries.old }
     ensures around { IsTrue result → (ids : List ℕ)
-        → Surround (block_at (tiles_of pool.now owner.now)) keys.now (IsHeld (block_at (tiles_of pool.now owner.now)) ids) entries.old.items
         → Surround (block_at (tiles_of pool.now owner.now)) keys.now
-        (λ at. IsHeld (block_at (tiles_of pool.now owner.now)) ids at ⊎ IsLost (block_at (tiles_of pool.now owner.now)) (shrunk.now.id ∷ []) (Some shrunk.now) at) entries.new.items }
+        (IsHeld (block_at (tiles_of pool.now owner.now)) ids) entries.old.items
+        → Surround (block_at (tiles_of pool.now owner.now)) keys.now
+        (λ at. IsHeld (block_at (tiles_of pool.now owner.now)) ids at
+        ⊎ IsLost (block_at (tiles_of pool.now owner.now)) (shrunk.now.id ∷ []) (Some shrunk.now) at) entries.new.items }
     ensures found_room { vec_capacity found.new ≡ vec_capacity found.old }
     ensures entries_room { vec_capacity entries.new ≡ vec_capacity entries.old }
 {
@@ -171,7 +175,8 @@ fn list_round_all(
     requires ascending { IsNonDecreasing keys.now }
     requires found_fit { count_of pool.now owner.now ≤ vec_capacity found.old }
     requires entries_fit { count_of pool.now owner.now ≤ vec_capacity entries.old }
-    ensures around { Surround (block_at (tiles_of pool.now owner.now)) keys.now (IsHeld (block_at (tiles_of pool.now owner.now)) touched.now) entries.new.items }
+    ensures around { Surround (block_at (tiles_of pool.now owner.now)) keys.now
+        (IsHeld (block_at (tiles_of pool.now owner.now)) touched.now) entries.new.items }
     ensures found_room { vec_capacity found.new ≡ vec_capacity found.old }
     ensures entries_room { vec_capacity entries.new ≡ vec_capacity entries.old }
 {
@@ -194,14 +199,16 @@ fn list_round_lost(
     entries: &mut Vec<LaidTile>,
 ) -> bool
     requires plane { HasPlane pool.now owner.now }
-    requires shrunk { IfSome replacement.now.shrunk (Shrinks (block_at (tiles_of pool.now owner.now)) replacement.now.touched.now replacement.now.fresh.now) }
+    requires shrunk { IfSome replacement.now.shrunk
+        (Shrinks (block_at (tiles_of pool.now owner.now)) replacement.now.touched.now replacement.now.fresh.now) }
     requires there { All (λ key. IsSome (tile_at pool.now owner.now key)) replacement.now.touched.now }
     requires ascending { IsNonDecreasing keys.now }
     requires found_fit { count_of pool.now owner.now ≤ vec_capacity found.old }
     requires entries_fit { count_of pool.now owner.now + count_of pool.now owner.now
         ≤ vec_capacity entries.old }
     ensures around { IsTrue result → Surround (block_at (tiles_of pool.now owner.now)) keys.now
-        (IsLost (block_at (tiles_of pool.now owner.now)) replacement.now.touched.now replacement.now.shrunk) entries.new.items }
+        (IsLost (block_at (tiles_of pool.now owner.now)) replacement.now.touched.now replacement.now.shrunk)
+        entries.new.items }
     ensures found_room { vec_capacity found.new ≡ vec_capacity found.old }
     ensures entries_room { vec_capacity entries.new ≡ vec_capacity entries.old }
 {
@@ -216,8 +223,8 @@ fn list_round_lost(
     list_round_parts(pool, owner, &shrunk, keys, found, entries)
 }
 
-/// Lists tiles other than the touched ones, each once, and among them all that have a square close to one that a touched
-/// tile loses.
+/// Lists tiles other than the touched ones, each once, and among them all that have a square close to one that a
+/// touched tile loses.
 pub(crate) fn list_around(
     pool: &Pool,
     owner: &Owner,
@@ -227,14 +234,16 @@ pub(crate) fn list_around(
     entries: &mut Vec<LaidTile>,
 )
     requires plane { HasPlane pool.now owner.now }
-    requires shrunk { IfSome replacement.now.shrunk (Shrinks (block_at (tiles_of pool.now owner.now)) replacement.now.touched.now replacement.now.fresh.now) }
+    requires shrunk { IfSome replacement.now.shrunk
+        (Shrinks (block_at (tiles_of pool.now owner.now)) replacement.now.touched.now replacement.now.fresh.now) }
     requires there { All (λ key. IsSome (tile_at pool.now owner.now key)) replacement.now.touched.now }
     requires keys_fit { length replacement.now.touched.now ≤ vec_capacity keys.old }
     requires found_fit { count_of pool.now owner.now ≤ vec_capacity found.old }
     requires entries_fit { count_of pool.now owner.now + count_of pool.now owner.now
         ≤ vec_capacity entries.old }
     ensures around { Surround (block_at (tiles_of pool.now owner.now)) replacement.now.touched.now
-        (IsLost (block_at (tiles_of pool.now owner.now)) replacement.now.touched.now replacement.now.shrunk) entries.new.items }
+        (IsLost (block_at (tiles_of pool.now owner.now)) replacement.now.touched.now replacement.now.shrunk)
+        entries.new.items }
     ensures once { AllPairs (λ p q. p.id ≢ q.id) entries.new.items }
     ensures few { vec_len entries.new ≤ count_of pool.now owner.now }
     ensures keys_room { vec_capacity keys.new ≡ vec_capacity keys.old }

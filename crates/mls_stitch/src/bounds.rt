@@ -2,33 +2,21 @@
 ghost use Rattle.std.specs.Prelude.{◌≡◌, [], IfNone, IfSome, IsSome};
 ghost use Rattle.std.specs.List.{All};
 ghost use Rattle.std.specs.Option.{option_map_or};
+ghost use Rattle.mls_geom.specs.Rects.{joined};
 ghost use Rattle.mls_tilepool.specs.Pools.{tile_at, tiles_of};
-ghost use Rattle.mls_stitch.specs.Gathering.{EncloseBlocks, EnclosePieces, enclosing};
+ghost use Rattle.mls_stitch.specs.Gathering.{EncloseBlocks, EnclosePieces};
 ghost use Rattle.mls_stitch.specs.Tilings.{HasPlane, block_at};
 
 use crate::laid_tile::laid;
 use mls_geom::{Piece, Rect};
 use mls_tilepool::{Owner, Pool, TileId};
 
-/// Returns the smallest rectangle round both.
-fn enclosing(a: Rect, b: Rect) -> Rect
-    ensures { result ≡ enclosing a b }
-{
-    let (a, b) = (a.area(), b.area());
-    Rect::between(
-        a.left.min(b.left),
-        a.bottom.min(b.bottom),
-        a.right.max(b.right),
-        a.top.max(b.top),
-    )
-}
-
 /// Returns the smallest rectangle round the bounds, if there are any yet, and one more.
 fn enclose(bounds: Option<Rect>, rect: Rect) -> Rect
-    ensures { result ≡ option_map_or (λ b. enclosing b rect) bounds rect }
+    ensures { result ≡ option_map_or (λ b. joined b rect) bounds rect }
 {
     match bounds {
-        Some(bounds) => enclosing(bounds, rect),
+        Some(bounds) => bounds.joined(rect),
         None => rect,
     }
 }

@@ -1,5 +1,5 @@
 //! The enumeration of an area's tiles (Ousterhout 1984), each of which has one parent.
-ghost use Rattle.std.specs.Prelude.{◌≡◌, ◌+◌, ◌-◌, ◌<◌, ◌≤◌, ◌&&◌, if◌then◌else◌, nat_le, false, slice_index_or, vec_len, vec_capacity};
+ghost use Rattle.std.specs.Prelude.{ℕ, ◌≡◌, ◌+◌, ◌-◌, ◌<◌, ◌≤◌, ◌&&◌, if◌then◌else◌, nat_le, false, slice_index_or, vec_len, vec_capacity};
 ghost use Rattle.mls_geom.specs.Rects.{IsRectangleIn, holds, meets};
 ghost use Rattle.mls_geom.specs.World.{world};
 ghost use Rattle.mls_tilepool.specs.Pools.{count_of, tiles_of};
@@ -25,7 +25,8 @@ fn first_row(area: Rect, tile: &LaidTile) -> u32
 
 /// Returns whether the tile has a square of the area, and the parent the square to the left of it in its first row.
 fn is_child(area: Rect, parent: &LaidTile, tile: &LaidTile) -> bool
-    ensures { result ≡ (holds parent.now.piece.rect (tile.now.piece.rect.left - 1) (first_row area tile.now) && meets tile.now.piece.rect area) }
+    ensures { result ≡ (holds parent.now.piece.rect (tile.now.piece.rect.left - 1) (first_row area tile.now)
+        && meets tile.now.piece.rect area) }
 {
     let row = first_row(area, tile);
     let sides = parent.sides();
@@ -37,22 +38,26 @@ fn is_child(area: Rect, parent: &LaidTile, tile: &LaidTile) -> bool
         && tile.meets(area)
 }
 
-/// Lists the right neighbour of the tile at the index, where it is the tile's child.
+/// Lists the right neighbour of a listed tile, where it is the tile's child.
 fn push_child(
     pool: &Pool,
     owner: &Owner,
     area: Rect,
     parent: &LaidTile,
     tile: &LaidTile,
-    index: usize,
     list: &mut Vec<LaidTile>,
 )
     requires plane { HasPlane pool.now owner.now }
     requires legal { IsRectangleIn world area }
     requires room { count_of pool.now owner.now ≤ vec_capacity list.old }
-    requires beside { IsBeside (block_at (tiles_of pool.now owner.now)) area list.old.items index parent.now tile.now }
-    ensures listed { IsListedTo (block_at (tiles_of pool.now owner.now)) area list.new.items index tile.now.piece.rect.bottom }
-    ensures kept { (d : LaidTile) → slice_index_or list.new.items index d ≡ parent.now }
+    requires beside { (index : ℕ)
+        × IsBeside (block_at (tiles_of pool.now owner.now)) area list.old.items index parent.now tile.now }
+    ensures listed { (index : ℕ)
+        → IsBeside (block_at (tiles_of pool.now owner.now)) area list.old.items index parent.now tile.now
+        → IsListedTo (block_at (tiles_of pool.now owner.now)) area list.new.items index tile.now.piece.rect.bottom }
+    ensures kept { (index : ℕ) (d : LaidTile)
+        → IsBeside (block_at (tiles_of pool.now owner.now)) area list.old.items index parent.now tile.now
+        → slice_index_or list.new.items index d ≡ parent.now }
     ensures longer { vec_len list.old ≤ vec_len list.new }
     ensures room { vec_capacity list.new ≡ vec_capacity list.old }
 {
@@ -87,7 +92,7 @@ fn push_children(
     let mut tile = neighbour(pool, owner, &parent, Stitch::Tr);
     'neighbours: loop {
         steps.take();
-        push_child(pool, owner, area, &parent, &tile, index, list);
+        push_child(pool, owner, area, &parent, &tile, list);
         if tile.sides().bottom <= last_row {
             return;
         }
@@ -95,8 +100,8 @@ fn push_children(
     }
 }
 
-/// Returns the tile from which to go on up the area's left side: the one found last, or the one before where that reaches
-/// beyond the area and may have many more neighbours there.
+/// Returns the tile from which to go on up the area's left side: the one found last, or the one before where that
+/// reaches beyond the area and may have many more neighbours there.
 fn next_start(area: Rect, from: TileId, tile: &LaidTile) -> TileId
     ensures { result ≡ (if nat_le tile.now.piece.rect.right area.right then tile.now.id else from) }
 {
@@ -148,7 +153,8 @@ pub(crate) fn list_tiles(
     requires plane { HasPlane pool.now owner.now }
     requires room { count_of pool.now owner.now ≤ vec_capacity list.old }
     ensures legal { IsRectangleIn world area }
-    ensures listed { IsListedTo (block_at (tiles_of pool.now owner.now)) area list.new.items (vec_len list.new) world.top }
+    ensures listed { IsListedTo (block_at (tiles_of pool.now owner.now)) area list.new.items
+        (vec_len list.new) world.top }
     ensures room { vec_capacity list.new ≡ vec_capacity list.old }
 {
     list_left_side(pool, owner, from, area, list, steps);
@@ -159,7 +165,8 @@ pub(crate) fn list_tiles(
     }
 }
 
-/// Lists the tiles that have a square of the area, in any order. The search starts at the tile `from`, if the owner has it.
+/// Lists the tiles that have a square of the area, in any order. The search starts at the tile `from`, if the owner
+/// has it.
 pub(crate) fn meeting_into(
     pool: &Pool,
     owner: &Owner,
@@ -185,8 +192,8 @@ fn sort_rows(area: Rect, list: &mut Vec<LaidTile>)
     list.sort_unstable_by_key(|tile| (first_row(area, tile), tile.sides().left));
 }
 
-/// Lists the tiles that have a square of the area, by their bottom, clipped to the area, and then their left. The search
-/// starts at the tile `from`, if the owner has it.
+/// Lists the tiles that have a square of the area, by their bottom, clipped to the area, and then their left. The
+/// search starts at the tile `from`, if the owner has it.
 pub(crate) fn area_into(
     pool: &Pool,
     owner: &Owner,

@@ -13,7 +13,8 @@ use mls_tilepool::{Pool, TileId};
 impl Plane {
     /// Returns the tile that holds the square, and keeps it in hand.
     ///
-    /// Goes along stitches from the tile in hand (Ousterhout 1984, point finding); after a bound of turns looks at each tile of the owner's.
+    /// Goes along stitches from the tile in hand (Ousterhout 1984, point finding); after a bound of turns looks at
+    /// each tile of the owner's.
     pub fn find(&mut self, pool: &Pool, at: Point) -> TileId
         requires { HasPlane pool.now self.old }
         ensures holds { HoldsAt (block_at (tiles_of pool.now self.old)) result at }

@@ -42,7 +42,7 @@ impl LaidTile {
 }
 
 /// Returns the left side of the tile that the stitch names, and the world's right side where it names none.
-fn left_beyond(pool: &Pool, owner: &Owner, stitch: Option<TileId>) -> u32
+pub(crate) fn left_beyond(pool: &Pool, owner: &Owner, stitch: Option<TileId>) -> u32
     ensures { result ≡ left_beyond (tiles_of pool.now owner.now) stitch }
 {
     match stitch.and_then(|id| pool.get(owner, id)) {
@@ -52,7 +52,7 @@ fn left_beyond(pool: &Pool, owner: &Owner, stitch: Option<TileId>) -> u32
 }
 
 /// Returns the bottom of the tile that the stitch names, and the world's top where it names none.
-fn bottom_beyond(pool: &Pool, owner: &Owner, stitch: Option<TileId>) -> u32
+pub(crate) fn bottom_beyond(pool: &Pool, owner: &Owner, stitch: Option<TileId>) -> u32
     ensures { result ≡ bottom_beyond (tiles_of pool.now owner.now) stitch }
 {
     match stitch.and_then(|id| pool.get(owner, id)) {
@@ -61,7 +61,8 @@ fn bottom_beyond(pool: &Pool, owner: &Owner, stitch: Option<TileId>) -> u32
     }
 }
 
-/// Returns the tile under the name with its rectangle, whose right side and top its stitches lead to, if the owner has it.
+/// Returns the tile under the name with its rectangle, whose right side and top its stitches lead to, if the owner
+/// has it.
 pub(crate) fn laid(pool: &Pool, owner: &Owner, id: TileId) -> Option<LaidTile>
     requires { HasPlane pool.now owner.now }
     ensures { result ≡ laid_at (tiles_of pool.now owner.now) id }

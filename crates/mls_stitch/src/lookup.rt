@@ -141,8 +141,10 @@ pub(crate) fn sort_for(stitch: Stitch, entries: &mut [LaidTile])
 fn count_up_to(entries: &[LaidTile], stitch: Stitch, place: Place) -> usize
     requires { AreSortedFor stitch entries.now }
     ensures bound { result ≤ length entries.now }
-    ensures before { AllWithin (λ entry. is_up_to (start_of stitch entry.piece.rect) place ≡ true) entries.now 0 result }
-    ensures after { AllWithin (λ entry. is_up_to (start_of stitch entry.piece.rect) place ≡ false) entries.now result (length entries.now) }
+    ensures before { AllWithin (λ entry. is_up_to (start_of stitch entry.piece.rect) place ≡ true) entries.now 0
+        result }
+    ensures after { AllWithin (λ entry. is_up_to (start_of stitch entry.piece.rect) place ≡ false) entries.now result
+        (length entries.now) }
 {
     entries.partition_point(|entry| start(stitch, entry).is_up_to(place))
 }

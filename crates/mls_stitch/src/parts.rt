@@ -1,8 +1,8 @@
 //! What is left of a rectangle beside another one inside it.
 ghost use Rattle.std.specs.Prelude.{◌≡◌, false, if◌then◌else◌, IsTrue, Some, None};
-ghost use Rattle.mls_geom.specs.Rects.{Point, has_squares, holds};
+ghost use Rattle.mls_geom.specs.Rects.{Point, IsWithin, has_squares, holds};
 ghost use Rattle.mls_geom.specs.World.{world};
-ghost use Rattle.mls_stitch.specs.Gathering.{IsInPart, IsWithin};
+ghost use Rattle.mls_stitch.specs.Gathering.{IsInPart};
 
 use mls_geom::{Area, Rect};
 
@@ -11,14 +11,15 @@ fn part_of(area: Area) -> Option<Rect>
     requires { IsWithin world area }
     ensures { result ≡ (if has_squares area then Some area else None) }
 {
-    if area.left < area.right && area.bottom < area.top {
+    if area.has_squares() {
         Some(Rect::between(area.left, area.bottom, area.right, area.top))
     } else {
         None
     }
 }
 
-/// Returns the parts of the rectangle below the inner one, above it, to the left and to the right, where it has squares there.
+/// Returns the parts of the rectangle below the inner one, above it, to the left and to the right, where it has
+/// squares there.
 pub(crate) fn parts_beside(whole: Rect, inner: Rect) -> [Option<Rect>; 4]
     requires { IsWithin whole inner }
     ensures { (at : Point) → IsTrue (holds whole at.x at.y) → holds inner at.x at.y ≡ false → IsInPart result at }

@@ -32,9 +32,11 @@ pub(crate) fn place_all(
     entries: &mut Vec<LaidTile>,
 )
     requires live { IsOwner pool.old owner.now }
-    requires tiles_fit { IfSome (room_of pool.old owner.now) (λ room. count_of pool.old owner.now + length pieces.now ≤ room) }
+    requires tiles_fit { IfSome (room_of pool.old owner.now)
+        (λ room. count_of pool.old owner.now + length pieces.now ≤ room) }
     requires entries_fit { vec_len entries.old + length pieces.now ≤ vec_capacity entries.old }
-    ensures laid { Lays (tiles_of pool.old owner.now) (tiles_of pool.new owner.now) [] pieces.now None entries.old.items entries.new.items }
+    ensures laid { Lays (tiles_of pool.old owner.now)
+        (tiles_of pool.new owner.now) [] pieces.now None entries.old.items entries.new.items }
     ensures only { ChangesOnly pool.old pool.new owner.now }
     ensures room { vec_capacity entries.new ≡ vec_capacity entries.old }
 {
@@ -58,7 +60,8 @@ fn place_again(
     requires once { AllPairs (λ a b. a ≢ b) ids.now }
     requires same { length ids.now ≡ length pieces.now }
     requires entries_fit { vec_len entries.old + length pieces.now ≤ vec_capacity entries.old }
-    ensures laid { Lays (tiles_of pool.old owner.now) (tiles_of pool.new owner.now) ids.now pieces.now None entries.old.items entries.new.items }
+    ensures laid { Lays (tiles_of pool.old owner.now)
+        (tiles_of pool.new owner.now) ids.now pieces.now None entries.old.items entries.new.items }
     ensures only { ChangesOnly pool.old pool.new owner.now }
     ensures room { vec_capacity entries.new ≡ vec_capacity entries.old }
 {
@@ -94,9 +97,11 @@ fn place_others(
     requires live { IsOwner pool.old owner.now }
     requires there { All (λ key. IsSome (tile_at pool.old owner.now key)) touched.now }
     requires once { AllPairs (λ a b. a ≢ b) touched.now }
-    requires tiles_fit { IfSome (room_of pool.old owner.now) (λ room. count_of pool.old owner.now + length fresh.now ≤ room + length touched.now) }
+    requires tiles_fit { IfSome (room_of pool.old owner.now)
+        (λ room. count_of pool.old owner.now + length fresh.now ≤ room + length touched.now) }
     requires entries_fit { vec_len entries.old + length fresh.now ≤ vec_capacity entries.old }
-    ensures laid { Lays (tiles_of pool.old owner.now) (tiles_of pool.new owner.now) touched.now fresh.now None entries.old.items entries.new.items }
+    ensures laid { Lays (tiles_of pool.old owner.now)
+        (tiles_of pool.new owner.now) touched.now fresh.now None entries.old.items entries.new.items }
     ensures only { ChangesOnly pool.old pool.new owner.now }
     ensures room { vec_capacity entries.new ≡ vec_capacity entries.old }
 {
@@ -112,7 +117,8 @@ fn place_others(
 fn place_shrunk(pool: &mut Pool, owner: &Owner, shrunk: &LaidTile, entries: &mut Vec<LaidTile>)
     requires there { IsSome (tile_at pool.old owner.now shrunk.now.id) }
     requires entries_fit { vec_len entries.old + 1 ≤ vec_capacity entries.old }
-    ensures ways { GiveWay (tiles_of pool.old owner.now) (tiles_of pool.new owner.now) (shrunk.now.id ∷ []) (Some shrunk.now) (shrunk.now ∷ []) }
+    ensures ways { GiveWay (tiles_of pool.old owner.now) (tiles_of pool.new owner.now) (shrunk.now.id ∷ [])
+        (Some shrunk.now) (shrunk.now ∷ []) }
     ensures listed { entries.new.items ≡ entries.old.items ++ shrunk.now ∷ [] }
     ensures count { count_of pool.new owner.now ≡ count_of pool.old owner.now }
     ensures only { ChangesOnly pool.old pool.new owner.now }
@@ -133,13 +139,17 @@ pub(crate) fn place_instead(
     entries: &mut Vec<LaidTile>,
 )
     requires live { IsOwner pool.old owner.now }
-    requires shrunk { IfSome replacement.now.shrunk (Shrinks (block_at (tiles_of pool.old owner.now)) replacement.now.touched.now replacement.now.fresh.now) }
+    requires shrunk { IfSome replacement.now.shrunk
+        (Shrinks (block_at (tiles_of pool.old owner.now)) replacement.now.touched.now replacement.now.fresh.now) }
     requires there { All (λ key. IsSome (tile_at pool.old owner.now key)) replacement.now.touched.now }
     requires once { AllPairs (λ a b. a ≢ b) replacement.now.touched.now }
     requires tiles_fit { IfSome (room_of pool.old owner.now)
-        (λ room. count_of pool.old owner.now + length replacement.now.fresh.now ≤ room + length replacement.now.touched.now) }
+        (λ room. count_of pool.old owner.now + length replacement.now.fresh.now
+        ≤ room + length replacement.now.touched.now) }
     requires entries_fit { vec_len entries.old + length replacement.now.fresh.now ≤ vec_capacity entries.old }
-    ensures laid { Lays (tiles_of pool.old owner.now) (tiles_of pool.new owner.now) replacement.now.touched.now replacement.now.fresh.now replacement.now.shrunk entries.old.items entries.new.items }
+    ensures laid { Lays (tiles_of pool.old owner.now)
+        (tiles_of pool.new owner.now) replacement.now.touched.now replacement.now.fresh.now replacement.now.shrunk
+        entries.old.items entries.new.items }
     ensures only { ChangesOnly pool.old pool.new owner.now }
     ensures room { vec_capacity entries.new ≡ vec_capacity entries.old }
 {

@@ -16,7 +16,8 @@ use mls_tilepool::{NoRoom, Owner, Pool, TileId};
 fn has_room(pool: &Pool, owner: &Owner, touched: usize, fresh: usize) -> bool
     requires live { IsOwner pool.now owner.now }
     requires there { touched ≤ count_of pool.now owner.now }
-    ensures room { IsTrue result ↔ IfSome (room_of pool.now owner.now) (λ room. count_of pool.now owner.now + fresh ≤ room + touched) }
+    ensures room { IsTrue result ↔ IfSome (room_of pool.now owner.now)
+        (λ room. count_of pool.now owner.now + fresh ≤ room + touched) }
     ensures within { IfSome (room_of pool.now owner.now) (λ room. count_of pool.now owner.now ≤ room) }
 {
     let unused = pool.room(owner) - pool.count(owner);
@@ -26,8 +27,9 @@ fn has_room(pool: &Pool, owner: &Owner, touched: usize, fresh: usize) -> bool
 impl Plane {
     /// Replaces the touched tiles by pieces over exactly their squares.
     ///
-    /// All other tiles keep their names, rectangles and kinds, and each stitch that did not lead to a touched tile. The names of
-    /// touched tiles serve again as far as they go. Fails if the owner has no room for more tiles, and then leaves all as it was.
+    /// All other tiles keep their names, rectangles and kinds, and each stitch that did not lead to a touched tile.
+    /// The names of touched tiles serve again as far as they go. Fails if the owner has no room for more tiles, and
+    /// then leaves all as it was.
     pub fn replace(
         &mut self,
         pool: &mut Pool,
@@ -39,9 +41,11 @@ impl Plane {
         requires pieces { TakePlace (block_at (tiles_of pool.old self.old)) touched.now fresh.now }
         requires tiles_fit { count_of pool.old self.old ≤ scratch.old.room }
         requires pieces_fit { length fresh.now ≤ scratch.old.room }
-        ensures no_room { IsErr result ↔ IsSomeAnd (room_of pool.old self.old) (λ room. room + length touched.now < count_of pool.old self.old + length fresh.now) }
+        ensures no_room { IsErr result ↔ IsSomeAnd (room_of pool.old self.old)
+            (λ room. room + length touched.now < count_of pool.old self.old + length fresh.now) }
         ensures within { IfSome (room_of pool.old self.old) (λ room. count_of pool.old self.old ≤ room) }
-        ensures replaced { OnOk result (Replaces (tiles_of pool.old self.old) (tiles_of pool.new self.old) touched.now fresh.now) }
+        ensures replaced { OnOk result (Replaces (tiles_of pool.old self.old)
+            (tiles_of pool.new self.old) touched.now fresh.now) }
         ensures refused { OnErr result (pool.new ≡ pool.old) }
         ensures plane { self.new ≡ self.old }
         ensures home { HasPlane pool.new self.old }

@@ -1,14 +1,13 @@
 //! What is to be replaced by what.
-ghost use Rattle.std.specs.Prelude.{◌≡◌, ◌↔◌, IsTrue, MatchOption};
+ghost use Rattle.std.specs.Prelude.{◌≡◌, MatchOption};
 ghost use Rattle.mls_tilepool.specs.Pools.{tiles_of};
-ghost use Rattle.mls_stitch.specs.Gathering.{IsWithin};
 ghost use Rattle.mls_stitch.specs.Placing.{Shrinks};
 ghost use Rattle.mls_stitch.specs.Tilings.{HasPlane, block_at};
 ghost use Rattle.mls_stitch.specs.declared.laid_tile.LaidTile.{LaidTile};
 
 use crate::LaidTile;
 use crate::laid_tile::laid;
-use mls_geom::{Piece, Rect};
+use mls_geom::Piece;
 use mls_tilepool::{Owner, Pool, TileId};
 
 /// The names of tiles, and the pieces that are to take their place.
@@ -43,17 +42,6 @@ impl<'a> Replacement<'a> {
     }
 }
 
-/// Returns whether the rectangle reaches no further than the bounds.
-fn is_within(bounds: Rect, rect: Rect) -> bool
-    ensures { IsTrue result ↔ IsWithin bounds rect }
-{
-    let (bounds, rect) = (bounds.area(), rect.area());
-    bounds.left <= rect.left
-        && bounds.bottom <= rect.bottom
-        && rect.right <= bounds.right
-        && rect.top <= bounds.top
-}
-
 /// Returns the first touched tile with the first piece, if the tile has that inside it.
 fn shrunk_tile(pool: &Pool, owner: &Owner, touched: &[TileId], fresh: &[Piece]) -> Option<LaidTile>
     requires { HasPlane pool.now owner.now }
@@ -64,7 +52,7 @@ fn shrunk_tile(pool: &Pool, owner: &Owner, touched: &[TileId], fresh: &[Piece]) 
     let id = *touched.first()?;
     let piece = *fresh.first()?;
     let whole = laid(pool, owner, id)?.piece.rect;
-    if is_within(whole, piece.rect) {
+    if whole.encloses(piece.rect) {
         Some(LaidTile { id, piece })
     } else {
         None

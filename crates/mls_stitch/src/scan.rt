@@ -15,7 +15,8 @@ use mls_tilepool::{Owner, Pool, TileId};
 /// Returns the tile under the name, if it has a square of the area.
 fn laid_in(pool: &Pool, owner: &Owner, id: TileId, area: Rect) -> Option<LaidTile>
     requires { HasPlane pool.now owner.now }
-    ensures { MatchOption result ((block : Piece) → block_at (tiles_of pool.now owner.now) id ≡ Some block → meets block.rect area ≡ false)
+    ensures { MatchOption result ((block : Piece) → block_at (tiles_of pool.now owner.now) id ≡ Some block
+        → meets block.rect area ≡ false)
         (λ tile. (tile.id ≡ id) × IsFound (block_at (tiles_of pool.now owner.now)) area tile) }
 {
     let tile = laid(pool, owner, id)?;

@@ -26,7 +26,8 @@ impl Model for Scratch {
 
     ghost view = { λ s. record { tiles = s.tiles.items; room = s.room } };
 
-    ghost invariant = { λ s. (s.room ≤ vec_capacity s.tiles) × (s.room + s.room ≤ vec_capacity s.entries) × (s.room ≤ vec_capacity s.touched) };
+    ghost invariant = { λ s. (s.room ≤ vec_capacity s.tiles) × (s.room + s.room ≤ vec_capacity s.entries)
+        × (s.room ≤ vec_capacity s.touched) };
 }
 
 impl Scratch {

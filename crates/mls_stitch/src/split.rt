@@ -88,9 +88,11 @@ impl Plane {
         requires tiles_fit { count_of pool.old self.old ≤ scratch.old.room }
         requires pieces_fit { 2 ≤ scratch.old.room }
         ensures no_room { IsErr result ↔ (room_of pool.old self.old ≡ Some (count_of pool.old self.old)) }
-        ensures replaced { OnOk result (Replaces (tiles_of pool.old self.old) (tiles_of pool.new self.old) (tile ∷ []) (first ∷ second ∷ [])) }
+        ensures replaced { OnOk result (Replaces (tiles_of pool.old self.old) (tiles_of pool.new self.old) (tile ∷ [])
+            (first ∷ second ∷ [])) }
         ensures second { IfOk result (λ id.
-            HoldsAt (block_at (tiles_of pool.new self.old)) id (record { x = second.rect.left; y = second.rect.bottom })) }
+            HoldsAt (block_at (tiles_of pool.new self.old)) id
+            (record { x = second.rect.left; y = second.rect.bottom })) }
         ensures refused { OnErr result (pool.new ≡ pool.old) }
         ensures plane { self.new ≡ self.old }
         ensures home { HasPlane pool.new self.old }
@@ -116,7 +118,8 @@ impl Plane {
         requires plane { HasPlane pool.old self.old }
         requires whole { TakePlace (block_at (tiles_of pool.old self.old)) (first ∷ second ∷ []) (whole ∷ []) }
         requires tiles_fit { count_of pool.old self.old ≤ scratch.old.room }
-        ensures replaced { Replaces (tiles_of pool.old self.old) (tiles_of pool.new self.old) (first ∷ second ∷ []) (whole ∷ []) }
+        ensures replaced { Replaces (tiles_of pool.old self.old) (tiles_of pool.new self.old) (first ∷ second ∷ [])
+            (whole ∷ []) }
         ensures plane { self.new ≡ self.old }
         ensures home { HasPlane pool.new self.old }
         ensures only { ChangesOnly pool.old pool.new self.old }
@@ -130,8 +133,8 @@ impl Plane {
 
     /// Splits a tile at a column's left line, counted as the coordinates of [`Area`](mls_geom::Area) are.
     ///
-    /// The tile keeps its name for the left part; returns the name of the right part. Fails if the owner has no room for one more
-    /// tile, and then leaves all as it was.
+    /// The tile keeps its name for the left part; returns the name of the right part. Fails if the owner has no room
+    /// for one more tile, and then leaves all as it was.
     pub fn split_x(
         &mut self,
         pool: &mut Pool,
@@ -140,12 +143,14 @@ impl Plane {
         scratch: &mut Scratch,
     ) -> Result<TileId, NoRoom>
         requires plane { HasPlane pool.old self.old }
-        requires inside { IsSomeAnd (block_at (tiles_of pool.old self.old) tile) (λ block. (block.rect.left < x) × (x < block.rect.right)) }
+        requires inside { IsSomeAnd (block_at (tiles_of pool.old self.old) tile)
+            (λ block. (block.rect.left < x) × (x < block.rect.right)) }
         requires tiles_fit { count_of pool.old self.old ≤ scratch.old.room }
         requires pieces_fit { 2 ≤ scratch.old.room }
         ensures no_room { IsErr result ↔ (room_of pool.old self.old ≡ Some (count_of pool.old self.old)) }
         ensures split { IfOk result (λ id. IfSome (block_at (tiles_of pool.old self.old) tile) (λ block.
-            Splits (tiles_of pool.old self.old) (tiles_of pool.new self.old) tile id (left_of x block) (right_of x block))) }
+            Splits (tiles_of pool.old self.old) (tiles_of pool.new self.old) tile id (left_of x block)
+            (right_of x block))) }
         ensures refused { OnErr result (pool.new ≡ pool.old) }
         ensures plane { self.new ≡ self.old }
         ensures home { HasPlane pool.new self.old }
@@ -159,8 +164,8 @@ impl Plane {
 
     /// Splits a tile at a row's bottom line, counted as the coordinates of [`Area`](mls_geom::Area) are.
     ///
-    /// The tile keeps its name for the lower part; returns the name of the upper part. Fails if the owner has no room for one more
-    /// tile, and then leaves all as it was.
+    /// The tile keeps its name for the lower part; returns the name of the upper part. Fails if the owner has no room
+    /// for one more tile, and then leaves all as it was.
     pub fn split_y(
         &mut self,
         pool: &mut Pool,
@@ -169,12 +174,14 @@ impl Plane {
         scratch: &mut Scratch,
     ) -> Result<TileId, NoRoom>
         requires plane { HasPlane pool.old self.old }
-        requires inside { IsSomeAnd (block_at (tiles_of pool.old self.old) tile) (λ block. (block.rect.bottom < y) × (y < block.rect.top)) }
+        requires inside { IsSomeAnd (block_at (tiles_of pool.old self.old) tile)
+            (λ block. (block.rect.bottom < y) × (y < block.rect.top)) }
         requires tiles_fit { count_of pool.old self.old ≤ scratch.old.room }
         requires pieces_fit { 2 ≤ scratch.old.room }
         ensures no_room { IsErr result ↔ (room_of pool.old self.old ≡ Some (count_of pool.old self.old)) }
         ensures split { IfOk result (λ id. IfSome (block_at (tiles_of pool.old self.old) tile) (λ block.
-            Splits (tiles_of pool.old self.old) (tiles_of pool.new self.old) tile id (lower_of y block) (upper_of y block))) }
+            Splits (tiles_of pool.old self.old) (tiles_of pool.new self.old) tile id (lower_of y block)
+            (upper_of y block))) }
         ensures refused { OnErr result (pool.new ≡ pool.old) }
         ensures plane { self.new ≡ self.old }
         ensures home { HasPlane pool.new self.old }
@@ -186,13 +193,15 @@ impl Plane {
         self.cut(pool, tile, lower, upper, scratch)
     }
 
-    /// Joins a tile and the tile to its right, which share a whole side and have one kind. The tile keeps its name for both.
+    /// Joins a tile and the tile to its right, which share a whole side and have one kind. The tile keeps its name
+    /// for both.
     pub fn join_x(&mut self, pool: &mut Pool, left: TileId, right: TileId, scratch: &mut Scratch)
         requires plane { HasPlane pool.old self.old }
         requires whole_side { IsSomeAnd (block_at (tiles_of pool.old self.old) left) (λ a.
             IsSomeAnd (block_at (tiles_of pool.old self.old) right) (λ b. JoinInX a b)) }
         requires tiles_fit { count_of pool.old self.old ≤ scratch.old.room }
-        ensures joined { IfSome (block_at (tiles_of pool.old self.old) left) (λ a. IfSome (block_at (tiles_of pool.old self.old) right) (λ b.
+        ensures joined { IfSome (block_at (tiles_of pool.old self.old) left)
+            (λ a. IfSome (block_at (tiles_of pool.old self.old) right) (λ b.
             Joins (tiles_of pool.old self.old) (tiles_of pool.new self.old) left right (joined_x a b))) }
         ensures plane { self.new ≡ self.old }
         ensures home { HasPlane pool.new self.old }
@@ -204,13 +213,15 @@ impl Plane {
         self.join(pool, left, right, joined_x(first, second), scratch);
     }
 
-    /// Joins a tile and the tile above it, which share a whole side and have one kind. The tile keeps its name for both.
+    /// Joins a tile and the tile above it, which share a whole side and have one kind. The tile keeps its name for
+    /// both.
     pub fn join_y(&mut self, pool: &mut Pool, lower: TileId, upper: TileId, scratch: &mut Scratch)
         requires plane { HasPlane pool.old self.old }
         requires whole_side { IsSomeAnd (block_at (tiles_of pool.old self.old) lower) (λ a.
             IsSomeAnd (block_at (tiles_of pool.old self.old) upper) (λ b. JoinInY a b)) }
         requires tiles_fit { count_of pool.old self.old ≤ scratch.old.room }
-        ensures joined { IfSome (block_at (tiles_of pool.old self.old) lower) (λ a. IfSome (block_at (tiles_of pool.old self.old) upper) (λ b.
+        ensures joined { IfSome (block_at (tiles_of pool.old self.old) lower)
+            (λ a. IfSome (block_at (tiles_of pool.old self.old) upper) (λ b.
             Joins (tiles_of pool.old self.old) (tiles_of pool.new self.old) lower upper (joined_y a b))) }
         ensures plane { self.new ≡ self.old }
         ensures home { HasPlane pool.new self.old }

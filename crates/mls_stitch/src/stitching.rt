@@ -60,7 +60,8 @@ fn stitch_all(pool: &mut Pool, owner: &Owner, stitch: Stitch, entries: &mut [Lai
 pub(crate) fn stitch_listed(pool: &mut Pool, owner: &Owner, entries: &mut [LaidTile])
     // Some blocks are those as which the tiles are placed.
     requires { (blocks : ℕ → Option Piece) × AwaitStitches (tiles_of pool.old owner.now) blocks entries.old }
-    ensures stitched { (blocks : ℕ → Option Piece) → AwaitStitches (tiles_of pool.old owner.now) blocks entries.old → AreTiledAs (tiles_of pool.new owner.now) blocks }
+    ensures stitched { (blocks : ℕ → Option Piece) → AwaitStitches (tiles_of pool.old owner.now) blocks entries.old
+        → AreTiledAs (tiles_of pool.new owner.now) blocks }
     ensures count { count_of pool.new owner.now ≡ count_of pool.old owner.now }
     ensures only { ChangesOnly pool.old pool.new owner.now }
 {

@@ -12,7 +12,7 @@ use crate::scan::scan_area;
 use crate::steps::{Steps, are_many};
 use crate::{LaidTile, Plane, Scratch};
 use mls_geom::Piece;
-use mls_tilepool::{Owner, Pool, TileId};
+use mls_tilepool::{Owner, Pool};
 
 /// Adds tiles to a list.
 fn list_all(found: &[LaidTile], list: &mut Vec<LaidTile>)
@@ -25,35 +25,41 @@ fn list_all(found: &[LaidTile], list: &mut Vec<LaidTile>)
     }
 }
 
-/// Lists the tiles round each piece in turn. A tile may be listed more than once. The search starts at the tile `from`, if
-/// the owner has it.
+/// Lists the tiles round each piece in turn. A tile may be listed more than once. The search starts at the
+/// plane's tile in hand.
 ///
 /// Returns `false` if that takes more than the `turns`, or there are many pieces beside the plane's tiles.
 fn list_round_each(
     pool: &Pool,
-    owner: &Owner,
-    from: TileId,
+    plane: &Plane,
     over: &[Piece],
     turns: usize,
     found: &mut Vec<LaidTile>,
     entries: &mut Vec<LaidTile>,
 ) -> bool
-    requires plane { HasPlane pool.now owner.now }
-    requires found_fit { count_of pool.now owner.now ≤ vec_capacity found.old }
-    requires entries_fit { count_of pool.now owner.now + count_of pool.now owner.now
+    requires plane { HasPlane pool.now plane.now }
+    requires found_fit { count_of pool.now plane.now ≤ vec_capacity found.old }
+    requires entries_fit { count_of pool.now plane.now + count_of pool.now plane.now
         ≤ vec_capacity entries.old }
-    ensures touched { IsTrue result → HasTouched (block_at (tiles_of pool.now owner.now)) over.now entries.new.items }
+    ensures touched { IsTrue result → HasTouched (block_at (tiles_of pool.now plane.now)) over.now entries.new.items }
     ensures found_room { vec_capacity found.new ≡ vec_capacity found.old }
     ensures entries_room { vec_capacity entries.new ≡ vec_capacity entries.old }
 {
-    if are_many(over.len(), pool.count(owner) as usize) {
+    if are_many(over.len(), pool.count(&plane.owner) as usize) {
         return false;
     }
-    let mut from = from;
+    let mut from = plane.hint;
     let mut steps = Steps::up_to(turns);
     entries.clear();
     for piece in over {
-        list_tiles(pool, owner, from, piece.rect.grow(1), found, &mut steps);
+        list_tiles(
+            pool,
+            &plane.owner,
+            from,
+            piece.rect.grow(1),
+            found,
+            &mut steps,
+        );
         if steps.are_spent() {
             return false;
         }
@@ -77,28 +83,27 @@ fn list_round_all(pool: &Pool, owner: &Owner, over: &[Piece], entries: &mut Vec<
     }
 }
 
-/// Lists tiles, each once, and among them those that one of the pieces touches. The search starts at the tile `from`, if the
-/// owner has it.
+/// Lists tiles, each once, and among them those that one of the pieces touches. The search starts at the plane's
+/// tile in hand.
 fn list_touched(
     pool: &Pool,
-    owner: &Owner,
-    from: TileId,
+    plane: &Plane,
     over: &[Piece],
     turns: usize,
     found: &mut Vec<LaidTile>,
     entries: &mut Vec<LaidTile>,
 )
-    requires plane { HasPlane pool.now owner.now }
-    requires found_fit { count_of pool.now owner.now ≤ vec_capacity found.old }
-    requires entries_fit { count_of pool.now owner.now + count_of pool.now owner.now
+    requires plane { HasPlane pool.now plane.now }
+    requires found_fit { count_of pool.now plane.now ≤ vec_capacity found.old }
+    requires entries_fit { count_of pool.now plane.now + count_of pool.now plane.now
         ≤ vec_capacity entries.old }
-    ensures touched { ListTouched (block_at (tiles_of pool.now owner.now)) over.now entries.new.items }
-    ensures few { vec_len entries.new ≤ count_of pool.now owner.now }
+    ensures touched { ListTouched (block_at (tiles_of pool.now plane.now)) over.now entries.new.items }
+    ensures few { vec_len entries.new ≤ count_of pool.now plane.now }
     ensures found_room { vec_capacity found.new ≡ vec_capacity found.old }
     ensures entries_room { vec_capacity entries.new ≡ vec_capacity entries.old }
 {
-    if !list_round_each(pool, owner, from, over, turns, found, entries) {
-        list_round_all(pool, owner, over, entries);
+    if !list_round_each(pool, plane, over, turns, found, entries) {
+        list_round_all(pool, &plane.owner, over, entries);
     }
     sort_dedup(entries);
 }
@@ -107,9 +112,10 @@ impl Plane {
     /// Finds tiles of the plane, each once, and among them all that one of the pieces touches, by a square, a side or a
     /// corner, and leaves them in the scratch.
     ///
-    /// Searches round each piece, and finds what these touch. Where the searches would take more than `turns`, or there are
-    /// many pieces beside the plane's tiles, looks at each tile of the plane instead, and finds those in the bounds of all
-    /// pieces and next to them. A search takes a turn for each tile that it goes through or looks at.
+    /// Searches round each piece, and finds what these touch. Where the searches would take more than `turns`, or
+    /// there are many pieces beside the plane's tiles, looks at each tile of the plane instead, and finds those in
+    /// the bounds of all pieces and next to them. A search takes a turn for each tile that it goes through or looks
+    /// at.
     pub fn touching(&mut self, pool: &Pool, over: &[Piece], turns: usize, scratch: &mut Scratch)
         requires plane { HasPlane pool.now self.old }
         requires room { count_of pool.now self.old ≤ scratch.old.room }
@@ -118,15 +124,8 @@ impl Plane {
         ensures plane { self.new ≡ self.old }
         ensures scratch_room { scratch.new.room ≡ scratch.old.room }
     {
-        list_touched(
-            pool,
-            &self.owner,
-            self.hint,
-            over,
-            turns,
-            &mut scratch.tiles,
-            &mut scratch.entries,
-        );
+        let Scratch { tiles, entries, .. } = scratch;
+        list_touched(pool, self, over, turns, tiles, entries);
         scratch.tiles.clear();
         list_all(&scratch.entries, &mut scratch.tiles);
         self.hint = scratch.tiles.first().map_or(self.hint, |tile| tile.id);

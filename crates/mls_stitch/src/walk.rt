@@ -7,11 +7,11 @@ ghost use Rattle.mls_stitch.specs.Stitches.{HoldsAt, beyond};
 ghost use Rattle.mls_stitch.specs.Tilings.{HasPlane, block_at};
 ghost use Rattle.mls_stitch.specs.Walks.{IsLaid, IsLaidAt};
 
-use crate::laid_tile::laid;
+use crate::laid_tile::{bottom_beyond, laid, left_beyond};
 use crate::steps::Steps;
 use crate::{LaidTile, Stitch};
 use mls_geom::Point;
-use mls_tilepool::{Owner, Pool, TileId};
+use mls_tilepool::{Owner, Pool, Tile, TileId};
 
 /// The greatest number of tiles that a walk goes through.
 const MOST_STEPS: u32 = 4096;
@@ -31,27 +31,34 @@ pub(crate) fn neighbour(pool: &Pool, owner: &Owner, tile: &LaidTile, stitch: Sti
     laid(pool, owner, next).unwrap()
 }
 
-/// Returns the tile to which a stitch of the tile leads on the way to the square.
-fn step_towards(pool: &Pool, owner: &Owner, tile: &LaidTile, at: Point) -> Option<LaidTile>
-    requires { HasPlane pool.now owner.now }
-    ensures { IfSome result (λ next. IsLaid (block_at (tiles_of pool.now owner.now)) next) }
-{
-    let found = pool.get(owner, tile.id)?;
-    let sides = tile.sides();
-    let next = if at.row() < sides.bottom {
-        found.lb
-    } else if sides.top <= at.row() {
-        found.rt
-    } else if at.column() < sides.left {
-        found.bl
+/// Returns the stitch of the tile that leads on the way to the square, or `None` where there is none, as in the tile
+/// that holds the square. Looks up the tile above it and the one on its right only where these tell.
+fn next_towards(pool: &Pool, owner: &Owner, tile: &Tile, at: Point) -> Option<TileId> {
+    if at.row() < tile.corner.row() {
+        tile.lb
+    } else if bottom_beyond(pool, owner, tile.rt) <= at.row() {
+        tile.rt
+    } else if at.column() < tile.corner.column() {
+        tile.bl
+    } else if left_beyond(pool, owner, tile.tr) <= at.column() {
+        tile.tr
     } else {
-        found.tr
-    };
-    laid(pool, owner, next?)
+        None
+    }
 }
 
-/// Walks from a tile to the one that holds the square (Ousterhout 1984, point finding). Gives up after `most` steps, and
-/// where the owner has no such tile to start from.
+/// Returns the tile under the name, if it holds the square.
+fn laid_with(pool: &Pool, owner: &Owner, id: TileId, at: Point) -> Option<LaidTile>
+    requires { HasPlane pool.now owner.now }
+    ensures { MatchOption result (¬ (HoldsAt (block_at (tiles_of pool.now owner.now)) id at))
+        (λ tile. IsLaidAt (block_at (tiles_of pool.now owner.now)) at tile) }
+{
+    let tile = laid(pool, owner, id)?;
+    if tile.holds(at) { Some(tile) } else { None }
+}
+
+/// Walks from a tile to the one that holds the square (Ousterhout 1984, point finding). Gives up after `most` steps,
+/// and where the owner has no such tile to start from.
 fn walk(
     pool: &Pool,
     owner: &Owner,
@@ -63,24 +70,16 @@ fn walk(
     requires { HasPlane pool.now owner.now }
     ensures { IfSome result (λ tile. IsLaidAt (block_at (tiles_of pool.now owner.now)) at tile) }
 {
-    let mut tile = laid(pool, owner, from)?;
+    let mut id = from;
     for _ in 0..most {
         steps.take();
-        if tile.holds(at) {
-            return Some(tile);
+        let tile = pool.get(owner, id)?;
+        match next_towards(pool, owner, &tile, at) {
+            Some(next) => id = next,
+            None => return laid_with(pool, owner, id, at),
         }
-        tile = step_towards(pool, owner, &tile, at)?;
     }
     None
-}
-
-/// Returns the tile under the name, if it holds the square.
-fn laid_with(pool: &Pool, owner: &Owner, id: TileId, at: Point) -> Option<LaidTile>
-    requires { HasPlane pool.now owner.now }
-    ensures { MatchOption result (¬ (HoldsAt (block_at (tiles_of pool.now owner.now)) id at)) (λ tile. IsLaidAt (block_at (tiles_of pool.now owner.now)) at tile) }
-{
-    let tile = laid(pool, owner, id)?;
-    if tile.holds(at) { Some(tile) } else { None }
 }
 
 /// Looks at each tile of the owner for the one that holds the square.
@@ -114,8 +113,8 @@ pub(crate) fn find_tile(
     }
 }
 
-/// Returns the tile that holds the square. The search starts at the tile `near`, and where that takes more than a few steps
-/// at the tile `from`, if the owner has these.
+/// Returns the tile that holds the square. The search starts at the tile `near`, and where that takes more than a few
+/// steps at the tile `from`, if the owner has these.
 pub(crate) fn find_near(
     pool: &Pool,
     owner: &Owner,

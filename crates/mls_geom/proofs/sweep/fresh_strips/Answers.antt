@@ -12,7 +12,7 @@ abbrev IsLegal : Piece → Type 0
 IsLegal piece = IsRectangleIn world piece.rect
 
 pub invariant_of-scratch : goal.invariant_of-scratch
-invariant_of-scratch c = (c.find_fresh.ensures.room _ c.scratch.invariant.0, c.scratch.invariant.1, c.scratch.invariant.2)
+invariant_of-scratch c = (c.find_fresh.ensures.room _ c.scratch.invariant.0, c.scratch.invariant.1)
 
 pub returns-in_err-find_fresh-clause-tile_count : goal.returns-in_err-find_fresh-clause-tile_count
 returns-in_err-find_fresh-clause-tile_count c = λ below kept strips untouched.
@@ -32,7 +32,6 @@ invariant_of-scratch-2 c =
         strips = rw c.swap.ensures.y_after (omega (arith, c.scratch.invariant.1));
       },
       rw c.swap.ensures.x_after (omega (arith, kept.strips)),
-      c.scratch.invariant.2,
     )
 
 pub returns-clause-legal : goal.returns-clause-legal

@@ -1,8 +1,8 @@
 -- Each piece that was passed stays within the bounds as they grow.
 use Rattle.std.proofs.Common.{◌≡◌, ◌+◌, ◌++◌, ◌∷◌, [], take, sym, ap, ◌∙◌}
 use Rattle.std.proofs.lemmas.List.{take_more}
+use Rattle.mls_geom.specs.Rects.{IsWithin}
 use Rattle.mls_geom.specs.declared.piece.Piece.{Piece}
-use Rattle.mls_stitch.specs.Gathering.{IsWithin}
 use Rattle.mls_stitch.proofs.Gathered.{grows_pieces, within_more}
 use Rattle.mls_stitch.proofs.bounds.bounds_of_pieces.Goals as goal
 

@@ -3,7 +3,7 @@ use Rattle.std.proofs.Common.{◌≡◌, ℕ, ◌+◌, ◌++◌, ◌∷◌, [], 
 use Rattle.std.specs.Option.{IfSome}
 use Rattle.std.proofs.lemmas.List.{take_more}
 use Rattle.mls_tilepool.specs.Pools.{tiles_of}
-use Rattle.mls_stitch.specs.Gathering.{IsWithin}
+use Rattle.mls_geom.specs.Rects.{IsWithin}
 use Rattle.mls_stitch.specs.Tilings.{block_at}
 use Rattle.mls_stitch.proofs.Gathered.{grows_blocks, within_more}
 use Rattle.mls_stitch.proofs.ReplacedPlanes.{laid_as}

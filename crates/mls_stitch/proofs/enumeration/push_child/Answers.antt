@@ -10,20 +10,20 @@ push_reserved-requires c =
     let tiles = tiles_of c.args.pool.now c.args.owner.now in
     let child = child_true c.args.area c.args.parent.now c.args.tile.now c.is_child.result c.is_child.ensures c.if-is_child.true in
     let fits =
-    child_fits tiles c.args.area c.args.list.now.items c.args.index c.args.parent.now c.args.tile.now c.requires.plane.plane c.requires.legal c.requires.beside
-    (record { laid = c.requires.beside.beside.laid; met = child.1 }) child.0 in
+    child_fits tiles c.args.area c.args.list.now.items c.requires.beside.0 c.args.parent.now c.args.tile.now c.requires.plane.plane c.requires.legal c.requires.beside.1
+    (record { laid = c.requires.beside.1.beside.laid; met = child.1 }) child.0 in
     omega (arith, fits, c.requires.room, c.args.list.now.ok.0)
 
 pub returns-then-is_child-clause-listed : goal.returns-then-is_child-clause-listed
-returns-then-is_child-clause-listed c =
+returns-then-is_child-clause-listed c = λ index beside.
     let blocks = block_at (tiles_of c.args.pool.now c.args.owner.now) in
     let child = child_true c.args.area c.args.parent.now c.args.tile.now c.is_child.result c.is_child.ensures c.if-is_child.true in
     rw c.push_reserved.ensures.items
-    (listed_push blocks c.args.area c.args.list.now.items c.args.index c.args.parent.now c.args.tile.now c.requires.plane.plane.tiling c.requires.legal c.requires.beside
-    (record { laid = c.requires.beside.beside.laid; met = child.1 }) child.0)
+    (listed_push blocks c.args.area c.args.list.now.items index c.args.parent.now c.args.tile.now c.requires.plane.plane.tiling c.requires.legal beside
+    (record { laid = beside.beside.laid; met = child.1 }) child.0)
 
 pub returns-else-is_child-clause-listed : goal.returns-else-is_child-clause-listed
-returns-else-is_child-clause-listed c =
+returns-else-is_child-clause-listed c = λ index beside.
     let blocks = block_at (tiles_of c.args.pool.now c.args.owner.now) in
-    listed_skip blocks c.args.area c.args.list.now.items c.args.index c.args.parent.now c.args.tile.now c.requires.plane.plane.tiling c.requires.legal c.requires.beside
+    listed_skip blocks c.args.area c.args.list.now.items index c.args.parent.now c.args.tile.now c.requires.plane.plane.tiling c.requires.legal beside
     (λ found is_parent. child_false c.args.area c.args.parent.now c.args.tile.now c.is_child.result c.is_child.ensures c.if-is_child.false is_parent found.met)

@@ -41,7 +41,8 @@ returns-then-sides-last_row-clause-listed c =
     let bottom : c.sides-in-neighbours-2.inside.bottom ≡ c.neighbours.tile.piece.rect.bottom =
     ap (λ (e : Rect). e.bottom) (c.sides-in-neighbours-2.view_is ∙ c.sides-in-neighbours.ensures.value) in
     listed_past (block_at (tiles_of c.args.pool.now c.args.owner.now)) c.args.area c.push_child.new.list.items c.args.index c.neighbours.tile.piece.rect.bottom parent
-    c.requires.plane.plane.tiling c.requires.legal c.push_child.ensures.listed c.push_child.ensures.kept
+    c.requires.plane.plane.tiling c.requires.legal (c.push_child.ensures.listed c.args.index c.neighbours.invariant.beside)
+    (λ d. c.push_child.ensures.kept c.args.index d c.neighbours.invariant.beside)
     (omega (arith, bottom, c.first_row-last_row.ensures, c.if-sides-last_row.true))
 
 pub neighbours-preserved : goal.neighbours-preserved
@@ -55,8 +56,12 @@ neighbours-preserved c =
     record {
       beside =
           beside_next (block_at (tiles_of c.args.pool.now c.args.owner.now)) c.args.area list.items c.args.index parent c.neighbours.tile c.neighbour-tile-in-neighbours.result
-          c.requires.plane.plane.tiling c.requires.legal c.neighbours.list.items was within c.push_child.ensures.kept c.push_child.ensures.listed
+          c.requires.plane.plane.tiling c.requires.legal c.neighbours.list.items was within
+          (λ d. c.push_child.ensures.kept c.args.index d was) (c.push_child.ensures.listed c.args.index was)
           (omega (arith, bottom, c.first_row-last_row.ensures, c.if-sides-last_row.false)) c.neighbour-tile-in-neighbours.ensures;
       longer = omega (arith, c.neighbours.invariant.longer, c.push_child.ensures.longer);
       room = c.push_child.ensures.room ∙ c.neighbours.invariant.room;
     }
+
+pub push_child-requires-clause-beside : goal.push_child-requires-clause-beside
+push_child-requires-clause-beside c = (c.args.index, c.neighbours.invariant.beside)

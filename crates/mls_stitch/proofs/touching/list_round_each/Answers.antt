@@ -12,9 +12,9 @@ use Rattle.mls_stitch.proofs.touching.list_round_each.Goals as goal
 
 pub list_all-requires : goal.list_all-requires
 list_all-requires c =
-    let tiles = tiles_of c.args.pool.now c.args.owner.now in
+    let tiles = tiles_of c.args.pool.now c.args.plane.now in
     let passed = take c.loop-piece.piece-index c.args.over.now in
-    let listed = c.list_tiles.ensures.listed in
+    let listed = rw c.plane.view_is at c.list_tiles.ensures.listed in
     let found = length-le-AreLaid tiles c.list_tiles.new.list.items (λ k d within. (listed.each k d within).laid) listed.once in
     let kept = touched_keeps (block_at tiles) passed c.loop-piece.entries.items c.free_room.new.entries.items c.loop-piece.invariant.touched c.free_room.ensures.keeps in
     record {
@@ -28,7 +28,7 @@ list_all-requires c =
 
 pub loop-piece-preserved : goal.loop-piece-preserved
 loop-piece-preserved c =
-    let tiles = tiles_of c.args.pool.now c.args.owner.now in
+    let tiles = tiles_of c.args.pool.now c.args.plane.now in
     let over = c.args.over.now in
     let i = c.loop-piece.piece-index in
     let piece = c.piece-item.result in
@@ -37,7 +37,7 @@ loop-piece-preserved c =
     let kept = touched_keeps (block_at tiles) (take i over) c.loop-piece.entries.items c.free_room.new.entries.items c.loop-piece.invariant.touched c.free_room.ensures.keeps in
     let met =
     AreMet-listed (block_at tiles) c.grow.result list.items c.requires.plane.plane.tiling c.list_tiles.ensures.legal
-    (subst (λ n. IsListedTo (block_at tiles) c.grow.result list.items n world.top) list.ok.0 c.list_tiles.ensures.listed) in
+    (subst (λ n. IsListedTo (block_at tiles) c.grow.result list.items n world.top) list.ok.0 (rw c.plane.view_is at c.list_tiles.ensures.listed)) in
     let listed = rw c.deref-in-loop-piece.ensures.value at c.list_all.ensures.listed in
     record {
       touched = rw (more, listed) (touched_more tiles (take i over) piece c.grow.result list.items c.free_room.new.entries.items c.requires.plane.plane c.grow.ensures.squares met kept);

@@ -9,20 +9,20 @@ use Rattle.mls_stitch.proofs.touching.list_touched.Goals as goal
 use Rattle.mls_stitch.proofs.touching.list_touched.Goals.{else-not-list_round_each, then-not-list_round_each}
 
 -- however they were gathered, all touched tiles are listed
-gathered : (c : goal.After-sort_dedup) → HasTouched (block_at (tiles_of c.args.pool.now c.args.owner.now)) c.args.over.now c.sort_dedup.new.entries.items
+gathered : (c : goal.After-sort_dedup) → HasTouched (block_at (tiles_of c.args.pool.now c.args.plane.now)) c.args.over.now c.sort_dedup.new.entries.items
 gathered c =
-    let blocks = block_at (tiles_of c.args.pool.now c.args.owner.now) in
+    let blocks = block_at (tiles_of c.args.pool.now c.args.plane.now) in
     let over = c.args.over.now in
     let before : HasTouched blocks over c.if-not-list_round_each.entries.items = elim c.if-not-list_round_each.branch [
-      | then-not-list_round_each w ↦ rw w.entries-is w.list_round_all.ensures.touched
+      | then-not-list_round_each w ↦ rw w.entries-is (rw c.plane.view_is at w.list_round_all.ensures.touched)
       | else-not-list_round_each w ↦ rw w.entries-is (c.list_round_each.ensures.touched w.if-not-list_round_each.false)
     ] in
     touched_keeps blocks over c.if-not-list_round_each.entries.items c.sort_dedup.new.entries.items before c.sort_dedup.ensures.keeps
 
 pub returns-clause-touched : goal.returns-clause-touched
 returns-clause-touched c =
-    ListTouched-passed (block_at (tiles_of c.args.pool.now c.args.owner.now)) c.args.over.now c.sort_dedup.new.entries.items (gathered c) c.sort_dedup.ensures.once
+    ListTouched-passed (block_at (tiles_of c.args.pool.now c.args.plane.now)) c.args.over.now c.sort_dedup.new.entries.items (gathered c) c.sort_dedup.ensures.once
 
 pub returns-clause-few : goal.returns-clause-few
 returns-clause-few c =
-    omega (arith, length-le-AreLaid (tiles_of c.args.pool.now c.args.owner.now) c.sort_dedup.new.entries.items (gathered c).each c.sort_dedup.ensures.once, c.sort_dedup.new.entries.ok.0)
+    omega (arith, length-le-AreLaid (tiles_of c.args.pool.now c.args.plane.now) c.sort_dedup.new.entries.items (gathered c).each c.sort_dedup.ensures.once, c.sort_dedup.new.entries.ok.0)

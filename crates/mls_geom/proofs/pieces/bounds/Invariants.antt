@@ -3,7 +3,7 @@ use Rattle.std.specs.List.{All}
 use Rattle.mls_geom.specs.Locality.{HaveKinds}
 use Rattle.mls_geom.specs.Rects.{IsRectangleIn}
 use Rattle.mls_geom.specs.World.{AreLegal}
-use Rattle.mls_geom.proofs.touched.bounds.Given as goal
+use Rattle.mls_geom.proofs.pieces.bounds.Given as goal
 
 abbrev pub invariant-loop-piece : goal.invariant-loop-piece
 invariant-loop-piece l = record {

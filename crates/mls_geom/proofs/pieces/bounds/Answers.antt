@@ -3,11 +3,11 @@ use Rattle.std.proofs.Common.{◌<◌, take, subst, arith}
 use Rattle.std.proofs.lemmas.List.{take_all}
 use Rattle.std.proofs.lemmas.List.Elements.{All-more, All-weaker}
 use Rattle.mls_geom.specs.Locality.{uncovered}
-use Rattle.mls_geom.specs.Rects.{Rect, IsRectangleIn}
+use Rattle.mls_geom.specs.Rects.{Rect, IsRectangleIn, joined}
 use Rattle.mls_geom.specs.World.{world}
 use Rattle.mls_geom.specs.declared.piece.Piece.{Piece}
-use Rattle.mls_geom.proofs.LocalOverlays.{IsRectangleIn-joined, IsRectangleIn-joined_itself, joined}
-use Rattle.mls_geom.proofs.touched.bounds.Goals as goal
+use Rattle.mls_geom.proofs.JoinedRects.{IsRectangleIn-joined, IsRectangleIn-joined_itself}
+use Rattle.mls_geom.proofs.pieces.bounds.Goals as goal
 
 pub loop-piece-preserved : goal.loop-piece-preserved
 loop-piece-preserved c =
@@ -16,15 +16,15 @@ loop-piece-preserved c =
     let so_far = c.loop-piece.invariant in
     let IsLegal : Piece → Type 0 = λ piece. IsRectangleIn world piece.rect in
     let HasByte : Piece → Type 0 = λ piece. piece.kind < uncovered in
-    let IsWithin : Rect → Piece → Type 0 = λ bounds piece. IsRectangleIn bounds piece.rect in
+    let IsInside : Rect → Piece → Type 0 = λ bounds piece. IsRectangleIn bounds piece.rect in
     let old = c.loop-piece.bounds in
     let new = c.area.result in
     let piece = c.piece-item in
     let within = c.loop-piece-test.true in
     record {
-      within = rw c.joined-bounds.ensures (All-more (IsWithin (joined old new)) pieces i piece.result within
-          (All-weaker (IsWithin old) (IsWithin (joined old new)) (λ p. IsRectangleIn-joined old new p.rect) (take i pieces) so_far.within)
-          (subst (IsWithin (joined old new)) piece.is (rw (← c.area.ensures.value) (IsRectangleIn-joined_itself world old new (rw c.area.ensures.value c.area.ensures.legal)))));
+      within = rw c.joined-bounds.ensures (All-more (IsInside (joined old new)) pieces i piece.result within
+          (All-weaker (IsInside old) (IsInside (joined old new)) (λ p. IsRectangleIn-joined old new p.rect) (take i pieces) so_far.within)
+          (subst (IsInside (joined old new)) piece.is (rw (← c.area.ensures.value) (IsRectangleIn-joined_itself world old new (rw c.area.ensures.value c.area.ensures.legal)))));
       legal = All-more IsLegal pieces i piece.result within so_far.legal (subst IsLegal piece.is c.area.ensures.legal);
       kinds = All-more HasByte pieces i piece.result within so_far.kinds (subst HasByte piece.is c.area.ensures.kind);
     }
