@@ -10,8 +10,8 @@ use Rattle.mls_tech.specs.declared.rule.Rule.TheVariants.{Width, Spacing, Edge, 
 use Rattle.mls_tech.specs.declared.rule_line.RuleLine.{RuleLine}
 use Rattle.mls_edgerule.specs.PlaneTypes.{types_on, is_on_plane, plane_of_set, trigger_plane}
 use Rattle.mls_edgerule.specs.RuleLists.{rule_limit}
-use Rattle.mls_edgerule.specs.declared.direction.Directions.{Directions}
-use Rattle.mls_edgerule.specs.declared.direction.Directions.TheVariants.{RightAndUp, Four}
+use Rattle.mls_edgerule.specs.declared.directions.Directions.{Directions}
+use Rattle.mls_edgerule.specs.declared.directions.Directions.TheVariants.{RightAndUp, Four}
 use Rattle.mls_edgerule.specs.declared.edge_rule.EdgeRule.{EdgeRule}
 use Rattle.mls_edgerule.specs.declared.fault.RuleFault.{RuleFault}
 use Rattle.mls_edgerule.specs.declared.fault.RuleFaultKind.{RuleFaultKind}

@@ -4,3 +4,4 @@ pub mod Faults
 pub mod Halos
 pub mod PlaneTypes
 pub mod RuleLists
+pub mod RuleSets

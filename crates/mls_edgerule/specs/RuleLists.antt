@@ -1,6 +1,6 @@
 -- Compiled rules in an array, their numbers, and how many there may be. The limit is this project's own.
 use Rattle.std.specs.Prelude.{◌≡◌, ◌≤◌, ℕ, ◌-◌, ◌==◌, if◌then◌else◌, Option, None, List, ◌++◌, length, take, replicate, slice_get}
-use Rattle.mls_edgerule.specs.declared.direction.Directions.TheVariants.{RightAndUp}
+use Rattle.mls_edgerule.specs.declared.directions.Directions.TheVariants.{RightAndUp}
 use Rattle.mls_edgerule.specs.declared.edge_rule.EdgeRule.{EdgeRule}
 
 -- the most rules that a technology may have

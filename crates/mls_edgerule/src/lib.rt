@@ -2,14 +2,17 @@
 #![tactic(auto)]
 
 mod compiling;
-mod direction;
+mod directions;
 mod edge_rule;
 mod fault;
 mod plane_types;
+mod rule_set;
 mod rules;
 
 pub use compiling::compile;
-pub use direction::{Direction, Directions};
+pub use directions::Directions;
 pub use edge_rule::EdgeRule;
 pub use fault::{RuleFault, RuleFaultKind};
+pub use mls_geom::Direction;
+pub use rule_set::{RuleNumbers, RuleSet};
 pub use rules::Rules;
