@@ -5,22 +5,21 @@ use Rattle.std.proofs.lemmas.Bool.{and_parts}
 use Rattle.std.proofs.lemmas.List.{map-append}
 use Rattle.std.proofs.lemmas.List.Elements.{All-contains, All-nil}
 use Rattle.std.proofs.lemmas.List.Folds.{list_any-append}
-use Rattle.mls_edgerule.specs.declared.direction.Direction.{Direction}
-use Rattle.mls_edgerule.specs.declared.direction.Direction.TheVariants.{Right, Up, Left, Down}
 use Rattle.mls_edgerule.specs.declared.edge_rule.EdgeRule.{EdgeRule}
+use Rattle.mls_geom.specs.Directions.{axis, front_of}
 use Rattle.mls_geom.specs.Layouts.{Layout}
-use Rattle.mls_geom.specs.Rects.{IsRectangleIn, Rect, common, has_squares, holds}
 use Rattle.mls_geom.specs.Pictures.{Picture}
-use Rattle.mls_geom.proofs.Holds.{between_holds, holds_between}
+use Rattle.mls_geom.specs.Rects.{IsRectangleIn, Rect, FitsWith, after_part, common, has_squares, holds}
+use Rattle.mls_geom.specs.declared.direction.Direction.{Direction}
+use Rattle.mls_geom.specs.declared.direction.Direction.TheVariants.{Right, Up, Left, Down}
+use Rattle.mls_geom.proofs.Holds.{between_holds, has_squares_lines, holds_between, holds_common}
 use Rattle.mls_checker.specs.Marking.{GainsDisallowed, SquareSet}
-use Rattle.mls_checker.specs.Sides.{EndsIn, FitsWith, GainsParts, GainsSidesReach, IsSide, IsThin, Side, after_part, axis, faced, front_of, front_reaches, front_side, reaches_from, sides_reach}
+use Rattle.mls_checker.specs.Sides.{EndsIn, GainsParts, GainsSidesReach, IsSide, IsThin, Side, faced, front_reaches, front_side, reaches_from, sides_reach}
 use Rattle.mls_checker.specs.Tiles.{AreTiles, HasTile, Tile, outer}
 use Rattle.mls_checker.proofs.FacedSides.{list_any-mapped}
 use Rattle.mls_checker.proofs.FlankParts.{after-lines}
 use Rattle.mls_checker.proofs.Gathering.{gains_both, gains_nothing, gains_same}
-use Rattle.mls_checker.proofs.CommonSquares.{holds_common}
 use Rattle.mls_checker.proofs.RectParts.{common-legal}
-use Rattle.mls_checker.proofs.ShiftedSquares.{has_squares_lines}
 use Rattle.mls_checker.proofs.SideLists.{SidesSoFar, front-EndsIn, gains-sides, outer-FitsWith, part-IsSide, sides-AreSides, sides-next}
 
 -- ---- tile by tile

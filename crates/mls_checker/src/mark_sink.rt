@@ -8,8 +8,8 @@ ghost use Rattle.mls_geom.specs.Layouts.{Layout};
 ghost use Rattle.mls_geom.specs.Rects.{holds};
 
 use crate::grid::Grid;
+use crate::idle::is_allowed_by;
 use crate::runs::areas_of;
-use crate::shapes::{common, has_squares, lies_in};
 use crate::tiles::Tile;
 use crate::violation_sink::ViolationSink;
 use crate::{Marks, Snapshot};
@@ -18,8 +18,8 @@ use mls_geom::{Area, Rect};
 use mls_kinds::KindSet;
 use std::alloc::{AllocError, Global};
 
-/// The squares of a rectangle that a scan adds to. Those whose types are allowed are taken away late: once for all rules that
-/// follow each other with one check plane and one set of allowed types.
+/// The squares of a rectangle that a scan adds to. Those whose types are allowed are taken away late: once for all
+/// rules that follow each other with one check plane and one set of allowed types.
 #[derive(Drop)]
 pub(crate) struct MarkSink {
     grid: Grid,
@@ -68,7 +68,8 @@ impl MarkSink {
         ensures rect { self.new.grid.rect ≡ self.old.grid.rect }
         ensures plane { self.new.check_plane ≡ rule.now.check_plane }
         ensures types { self.new.ok_types ≡ rule.now.ok_types }
-        ensures squares { (x y : ℕ) → with_unsettled self.new.grid self.new.check_plane self.new.ok_types (copied_layout snapshot.now) x y
+        ensures squares { (x y : ℕ) → with_unsettled self.new.grid self.new.check_plane self.new.ok_types
+            (copied_layout snapshot.now) x y
             ≡ with_unsettled self.old.grid self.old.check_plane self.old.ok_types (copied_layout snapshot.now) x y }
     {
         if rule.check_plane == self.check_plane && rule.ok_types == self.ok_types {
@@ -108,35 +109,21 @@ fn clear_kinds(grid: &mut Grid, tiles: &[Tile], kinds: KindSet)
     }
 }
 
-/// Whether the tile of this index on the rule's trigger plane shows that the rule allows all squares of the area.
-fn is_allowed_by(rule: &EdgeRule, snapshot: &Snapshot, area: &Area, index: usize) -> bool
-    ensures { result ≡ true → (x y : ℕ) → holds area.now x y ≡ true
-        → is_disallowed rule.now (copied_layout snapshot.now) (record { x = x; y = y }) ≡ false }
-{
-    if rule.check_plane != rule.trigger_plane {
-        return false;
-    }
-    let tiles = snapshot.tiles(rule.check_plane);
-    match tiles.as_slice().get(index) {
-        Some(tile) => tile.is_of(rule.ok_types) && lies_in(area, &tile.area),
-        None => false,
-    }
-}
-
 impl ViolationSink for MarkSink {
     ghost use Rattle.std.specs.Prelude.{◌≡◌, ◌&&◌, ℕ};
     ghost use Rattle.mls_checker.specs.Grids.{with_unsettled};
     ghost use Rattle.mls_geom.specs.Rects.{holds};
 
     ghost represents = { λ sink layout rect set. (sink.grid.rect ≡ rect)
-        × ((x y : ℕ) → with_unsettled sink.grid sink.check_plane sink.ok_types layout x y ≡ (holds rect x y && set x y)) };
+        × ((x y : ℕ) → with_unsettled sink.grid sink.check_plane sink.ok_types layout x y
+        ≡ (holds rect x y && set x y)) };
 
     fn add(&mut self, rule: &EdgeRule, snapshot: &Snapshot, area: Area, near: usize) {
         if is_allowed_by(rule, snapshot, &area, near) {
             return;
         }
-        let part = common(&area, &self.grid.rect().area());
-        if !has_squares(&part) {
+        let part = area.common(self.grid.rect().area());
+        if !part.has_squares() {
             return;
         }
         self.turn_to(rule, snapshot);

@@ -1,11 +1,10 @@
 //! The sides that a check looks at, in a list for each plane and direction.
 ghost use Rattle.std.specs.Prelude.{◌≡◌, IfSome, true};
 ghost use Rattle.mls_checker.specs.Copies.{AreListsOf, IsListOf, Snapshot as SpecSnapshot};
-ghost use Rattle.mls_checker.specs.Sides.{axis};
+ghost use Rattle.mls_geom.specs.Directions.{axis};
 
 use crate::Snapshot;
 use crate::idle::is_idle;
-use crate::shapes::axis;
 use crate::sides::{Side, sides_of};
 use mls_edgerule::{Direction, EdgeRule};
 use std::alloc::AllocError;
@@ -32,7 +31,7 @@ pub(crate) fn find_sides(lists: &[SideList], plane: u8, direction: Direction) ->
     ensures { IfSome result (λ sides. (copied : SpecSnapshot) → AreListsOf copied lists.now
         → IsListOf copied (record { plane = plane; direction = axis direction; sides = sides.now })) }
 {
-    let kept = axis(direction);
+    let kept = direction.axis();
     for list in lists {
         if is_of(list, plane, kept) {
             return Some(&list.sides);
@@ -48,7 +47,8 @@ fn is_of(list: &SideList, plane: u8, direction: Direction) -> bool
     list.plane == plane && list.direction == direction
 }
 
-/// Lists the sides that the rules look at, as far as there is memory. A scan finds those that aren't listed tile by tile.
+/// Lists the sides that the rules look at, as far as there is memory. A scan finds those that aren't listed tile by
+/// tile.
 pub(crate) fn list_sides(rules: &[EdgeRule], snapshot: &Snapshot) -> Vec<SideList>
     ensures { AreListsOf snapshot.now result.items }
 {
@@ -72,7 +72,7 @@ fn add_lists(
 {
     for direction in rule.directions.list() {
         if find_sides(lists, rule.trigger_plane, *direction).is_none() {
-            add_list(lists, rule.trigger_plane, axis(*direction), snapshot)?;
+            add_list(lists, rule.trigger_plane, direction.axis(), snapshot)?;
         }
     }
     Ok(())

@@ -5,10 +5,10 @@ use Rattle.std.proofs.lemmas.List.Folds.{list_any_more}
 use Rattle.mls_edgerule.specs.declared.edge_rule.EdgeRule.{EdgeRule}
 use Rattle.mls_geom.specs.Rects.{holds}
 use Rattle.mls_geom.specs.World.{world}
+use Rattle.mls_geom.proofs.ShiftedSquares.{at}
 use Rattle.mls_checker.specs.Copies.{copied_layout}
 use Rattle.mls_checker.specs.Forbids.{forbids}
 use Rattle.mls_checker.proofs.KnownKinds.{and-false}
-use Rattle.mls_checker.proofs.Steps.{at}
 use Rattle.mls_checker.proofs.idle.are_idle.Goals as goal
 
 pub loop-rule-preserved : goal.loop-rule-preserved

@@ -1,7 +1,8 @@
 use Rattle.std.proofs.Common.{◌≡◌, List, sym, ap, subst, ◌∙◌, arith}
-use Rattle.mls_edgerule.specs.declared.direction.Direction.{Direction}
+use Rattle.mls_geom.specs.Directions.{axis}
+use Rattle.mls_geom.specs.declared.direction.Direction.{Direction}
 use Rattle.mls_checker.specs.Copies.{IsListOf, SideList}
-use Rattle.mls_checker.specs.Sides.{Side, axis}
+use Rattle.mls_checker.specs.Sides.{Side}
 use Rattle.mls_checker.proofs.side_lists.find_sides.Goals as goal
 
 pub returns-then-is_of : goal.returns-then-is_of

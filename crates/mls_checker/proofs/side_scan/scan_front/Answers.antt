@@ -2,10 +2,11 @@ use Rattle.std.proofs.Common.{◌≡◌, true, List, Contains, get_or, sym, ap, 
 use Rattle.std.specs.List.{Any}
 use Rattle.std.proofs.lemmas.List.{get_or_default}
 use Rattle.std.proofs.lemmas.List.Elements.{All-contains}
-use Rattle.mls_geom.specs.Rects.{IsRectangleIn, Rect, common, has_squares, holds}
+use Rattle.mls_geom.specs.Directions.{axis, front_of}
+use Rattle.mls_geom.specs.Rects.{IsRectangleIn, Rect, after_part, common, has_squares, holds}
 use Rattle.mls_checker.specs.Copies.{copied_layout, plane_of}
 use Rattle.mls_checker.specs.Marking.{GainsDisallowed}
-use Rattle.mls_checker.specs.Sides.{EndsIn, IsSide, IsThin, Side, after_part, axis, faced, front_of, front_reaches, front_side, reaches_from}
+use Rattle.mls_checker.specs.Sides.{EndsIn, IsSide, IsThin, Side, faced, front_reaches, front_side, reaches_from}
 use Rattle.mls_checker.specs.Tiles.{HasTile, Tile, outer, space_in}
 use Rattle.mls_checker.proofs.FlankParts.{after-thin, parts_none, thin_gain}
 use Rattle.mls_checker.proofs.FrontScans.{IsRestOf, after-IsRestOf, front_side-IsSide, made-front_side, rest-in}

@@ -1,9 +1,10 @@
 -- The rest is thin and goes on to the ends of the squares before the tile, and a sink that gains what the rest gives from here on gains what all of
 -- them give.
 use Rattle.std.proofs.Common.{◌+◌, ◌-◌, get_or}
+use Rattle.mls_geom.specs.Directions.{axis, front_of}
 use Rattle.mls_geom.specs.Rects.{common}
 use Rattle.mls_checker.specs.Copies.{copied_layout, plane_of}
-use Rattle.mls_checker.specs.Sides.{GainsParts, IsThin, axis, front_of, front_reaches}
+use Rattle.mls_checker.specs.Sides.{GainsParts, IsThin, front_reaches}
 use Rattle.mls_checker.specs.Tiles.{outer, space_in}
 use Rattle.mls_checker.proofs.FrontScans.{IsRestOf}
 use Rattle.mls_checker.proofs.side_scan.scan_front.Given as goal

@@ -4,7 +4,8 @@ use Rattle.std.proofs.lemmas.List.{take_all}
 use Rattle.mls_checker.specs.Copies.{copied_layout, plane_of}
 use Rattle.mls_checker.specs.Marking.{GainsDisallowed}
 use Rattle.mls_checker.specs.Tiles.{outer}
-use Rattle.mls_checker.specs.Sides.{Side, axis, faced, reaches_from, sides_reach}
+use Rattle.mls_checker.specs.Sides.{Side, faced, reaches_from, sides_reach}
+use Rattle.mls_geom.specs.Directions.{axis}
 use Rattle.mls_checker.proofs.FacedSides.{list_any-mapped, listed-IsSide}
 use Rattle.mls_checker.proofs.Gathering.{gains_more, gains_same}
 use Rattle.mls_checker.proofs.side_scan.scan_listed.Goals as goal
