@@ -6,11 +6,10 @@ use Rattle.std.proofs.lemmas.Bool.Decides.{nat_tests}
 use Rattle.std.proofs.lemmas.List.Sums.{sum_by-append, sum_by-cons, sum_by-le}
 use Rattle.std.proofs.lemmas.Nat.{mul-le}
 use Rattle.std.proofs.Math.Nat.{mul-zero, one-le-mul, zero-mul}
-use Rattle.mls_geom.specs.Rects.{Rect, IsRectangleIn, has_squares}
+use Rattle.mls_geom.specs.Rects.{Rect, IsRectangleIn, has_squares, size_of}
 use Rattle.mls_geom.specs.World.{world}
 use Rattle.mls_errorplane.specs.DirtyLists.{IsDirtyList, area_of, dropped, piece_of, rest_above, rest_beside, rests_of}
 use Rattle.mls_errorplane.specs.MarkPlanes.{most_pieces}
-use Rattle.mls_errorplane.specs.Sizes.{size_of}
 
 -- a rectangle without squares has the size 0
 size_of-none : (e : Rect) → has_squares e ≡ false → size_of e ≡ 0

@@ -7,10 +7,10 @@ use Rattle.mls_edgerule.specs.declared.edge_rule.EdgeRule.{EdgeRule}
 use Rattle.mls_geom.specs.Layouts.{Layout}
 use Rattle.mls_geom.specs.Rects.{Rect, grown, holds}
 use Rattle.mls_geom.specs.World.{world}
+use Rattle.mls_geom.proofs.Holds.{holds_common}
 use Rattle.mls_checker.specs.Forbids.{forbidden}
 use Rattle.mls_checker.specs.Marking.{SquareSet, squares_of}
 use Rattle.mls_checker.specs.ZoneLayouts.{AgreeOutside}
-use Rattle.mls_checker.proofs.CommonSquares.{holds_common}
 use Rattle.mls_checker.proofs.Locality.{forbidden_same_outside}
 use Rattle.mls_errorplane.specs.Checkings.{Checking, IsChecked, check_step, checked_marks, soiled}
 use Rattle.mls_errorplane.specs.DirtyLists.{added, dropped, first_piece_of, squares_in, zone_round}

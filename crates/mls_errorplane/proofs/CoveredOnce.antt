@@ -6,11 +6,8 @@ use Rattle.std.proofs.lemmas.Bool.Decides.{nat_tests}
 use Rattle.std.proofs.lemmas.List.Elements.{All-head, All-tail}
 use Rattle.std.proofs.lemmas.List.Sums.{sum_by-cons}
 use Rattle.mls_geom.specs.Pictures.{columns}
-use Rattle.mls_geom.specs.Rects.{Rect, IsRectangleIn, common, has_squares, holds}
-use Rattle.mls_geom.proofs.Holds.{holds_between}
-use Rattle.mls_checker.proofs.CommonSquares.{holds_common}
-use Rattle.mls_checker.proofs.ShiftedSquares.{has_squares_lines}
-use Rattle.mls_errorplane.specs.Sizes.{size_of}
+use Rattle.mls_geom.specs.Rects.{Rect, IsRectangleIn, common, has_squares, holds, size_of}
+use Rattle.mls_geom.proofs.Holds.{has_squares_lines, holds_between, holds_common}
 use Rattle.mls_errorplane.proofs.RangeSums.{sum_by-plus}
 use Rattle.mls_errorplane.proofs.SquareCounts.{bit, count_in, count_in-agree, count_in-none, count_in-rect}
 

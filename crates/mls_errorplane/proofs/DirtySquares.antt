@@ -1,31 +1,24 @@
 -- The squares of areas as the list changes.
-use Rattle.std.proofs.Common.{◌≡◌, ℕ, Bool, ◌||◌, true, false, cond, List, [], ◌∷◌, ◌++◌, length, ap, ◌∙◌, inl, inr, arith}
+use Rattle.std.proofs.Common.{◌≡◌, ℕ, Bool, ◌||◌, true, false, cond, List, [], ◌∷◌, ◌++◌, length, ap, ◌∙◌, inl, inr}
 use Rattle.std.specs.Prelude.{nat_lt}
 use Rattle.std.proofs.lemmas.Bool.{or_cases, or_left}
 use Rattle.std.proofs.Math.Bool.{or-false}
-use Rattle.std.proofs.lemmas.Bool.Decides.{nat_tests}
 use Rattle.std.proofs.lemmas.List.Folds.{list_any-append}
 use Rattle.mls_checker.specs.Marking.{squares_of}
-use Rattle.mls_geom.specs.Rects.{Rect, holds}
-use Rattle.mls_errorplane.specs.DirtyLists.{added, most_areas, round_all, round_both, united}
-
--- the rectangle round two has the squares of both
-round_both-one : (a b : Rect) (x y : ℕ) → holds a x y ≡ true → holds (round_both a b) x y ≡ true
-round_both-one a b x y inside = grind (arith, nat_tests)
-
-round_both-other : (a b : Rect) (x y : ℕ) → holds b x y ≡ true → holds (round_both a b) x y ≡ true
-round_both-other a b x y inside = grind (arith, nat_tests)
+use Rattle.mls_geom.specs.Rects.{Rect, holds, joined}
+use Rattle.mls_geom.proofs.JoinedRects.{holds-joined_one, holds-joined_other}
+use Rattle.mls_errorplane.specs.DirtyLists.{added, most_areas, round_all, united}
 
 -- the rectangle round all has the squares of all
 round_all-first : (first : Rect) (rest : List Rect) (x y : ℕ) → holds first x y ≡ true → holds (round_all first rest) x y ≡ true
 round_all-first first [] x y inside = inside
-round_all-first first (next ∷ rest) x y inside = round_all-first (round_both first next) rest x y (round_both-one first next x y inside)
+round_all-first first (next ∷ rest) x y inside = round_all-first (joined first next) rest x y (holds-joined_one first next x y inside)
 
 round_all-rest : (first : Rect) (rest : List Rect) (x y : ℕ) → squares_of rest x y ≡ true → holds (round_all first rest) x y ≡ true
 round_all-rest first [] x y inside = absurd (cc)
 round_all-rest first (next ∷ rest) x y inside = elim (or_cases (holds next x y) (squares_of rest x y) inside) [
-  | inl here ↦ round_all-first (round_both first next) rest x y (round_both-other first next x y here)
-  | inr there ↦ round_all-rest (round_both first next) rest x y there
+  | inl here ↦ round_all-first (joined first next) rest x y (holds-joined_other first next x y here)
+  | inr there ↦ round_all-rest (joined first next) rest x y there
 ]
 
 squares_of-united : (areas : List Rect) (x y : ℕ) → squares_of areas x y ≡ true → squares_of (united areas) x y ≡ true

@@ -1,15 +1,12 @@
 -- Adding an area and dropping a piece keep what every list is like.
 use Rattle.std.proofs.Common.{◌≡◌, ◌<◌, Bool, true, false, cond, List, [], ◌∷◌, ◌++◌, length, All, refl, inl, inr, subst, sym, arith}
 use Rattle.std.proofs.lemmas.Bool.{cases_lt}
-use Rattle.std.proofs.lemmas.Bool.Decides.{nat_tests}
 use Rattle.std.proofs.lemmas.List.Elements.{All-append, All-cons, All-head, All-nil, All-tail}
-use Rattle.mls_geom.specs.Rects.{Rect, IsRectangleIn, has_squares}
+use Rattle.mls_geom.specs.Rects.{Rect, IsRectangleIn, has_squares, joined}
 use Rattle.mls_geom.specs.World.{world}
-use Rattle.mls_errorplane.specs.DirtyLists.{IsDirtyList, dropped, most_areas, rest_above, rest_beside, round_all, round_both, united}
-
--- a rectangle with squares is wide and tall
-has_squares_lines : (e : Rect) → has_squares e ≡ true → (e.left < e.right) × (e.bottom < e.top)
-has_squares_lines e some = grind (arith, nat_tests)
+use Rattle.mls_geom.proofs.Holds.{has_squares_lines}
+use Rattle.mls_geom.proofs.JoinedRects.{joined-IsRectangleIn}
+use Rattle.mls_errorplane.specs.DirtyLists.{IsDirtyList, dropped, most_areas, rest_above, rest_beside, round_all, united}
 
 -- the rests of an area lie where it lies
 beside_in : (extent area : Rect) → IsRectangleIn extent area → has_squares (rest_beside area) ≡ true → IsRectangleIn extent (rest_beside area)
@@ -37,20 +34,10 @@ above_in extent area legal some =
     }
 
 -- the rectangle round rectangles of an extent is one
-round_both_in : (extent a b : Rect) → IsRectangleIn extent a → IsRectangleIn extent b → IsRectangleIn extent (round_both a b)
-round_both_in extent a b one other = record {
-  left_in = omega (arith, one.left_in, other.left_in);
-  wide = omega (arith, one.wide);
-  right_in = omega (arith, one.right_in, other.right_in);
-  bottom_in = omega (arith, one.bottom_in, other.bottom_in);
-  tall = omega (arith, one.tall);
-  top_in = omega (arith, one.top_in, other.top_in);
-}
-
 pub round_all_in : (extent first : Rect) (rest : List Rect) → IsRectangleIn extent first → All (IsRectangleIn extent) rest → IsRectangleIn extent (round_all first rest)
 round_all_in extent first [] one others = one
 round_all_in extent first (next ∷ rest) one others =
-    round_all_in extent (round_both first next) rest (round_both_in extent first next one (All-head (IsRectangleIn extent) next rest others)) (All-tail (IsRectangleIn extent) next rest others)
+    round_all_in extent (joined first next) rest (joined-IsRectangleIn extent first next one (All-head (IsRectangleIn extent) next rest others)) (All-tail (IsRectangleIn extent) next rest others)
 
 -- a list of one area is kept
 one_area : (area : Rect) → IsRectangleIn world area → IsDirtyList (area ∷ [])

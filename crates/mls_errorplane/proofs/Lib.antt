@@ -6,6 +6,7 @@ pub mod DirtySquares
 pub mod EmptyLayouts
 pub mod FinishedFindings
 pub mod KeptLists
+pub mod KeptRooms
 pub mod MarkCounts
 pub mod PaintedAreas
 pub mod PaintedPieces

@@ -8,7 +8,7 @@ use Rattle.std.proofs.lemmas.List.FromFn.{length-range_with_len}
 use Rattle.std.proofs.lemmas.List.Sums.{count_by-le-length, sum_by-cons, sum_by-le, sum_by_more_le}
 use Rattle.mls_geom.specs.Locality.{AreUnorderedStrips}
 use Rattle.mls_geom.specs.Pictures.{Picture, columns, rows}
-use Rattle.mls_geom.specs.Rects.{Rect, IsRectangleIn, holds}
+use Rattle.mls_geom.specs.Rects.{Rect, IsRectangleIn, holds, size_of}
 use Rattle.mls_geom.specs.Strips.{AreStrips, IsStrip}
 use Rattle.mls_geom.specs.declared.piece.Piece.{Piece}
 use Rattle.mls_geom.proofs.StripPictures.{AreUnorderedStrips-ordered, IsRectangleIn-IsStrip, kind-IsStrip}
@@ -16,7 +16,6 @@ use Rattle.mls_geom.proofs.TouchedStrips.{one_strip}
 use Rattle.mls_stitch.specs.declared.laid_tile.LaidTile.{LaidTile}
 use Rattle.mls_tilepool.proofs.Slots.{sum_by-map}
 use Rattle.mls_errorplane.specs.MarkPlanes.{is_marked, marked_count, marked_size}
-use Rattle.mls_errorplane.specs.Sizes.{size_of}
 use Rattle.mls_errorplane.proofs.SquareCounts.{count_in, count_in-agree, count_in-apart, count_in-none, count_in-rect}
 
 -- the marked squares of a piece, and of pieces

@@ -6,7 +6,7 @@ use Rattle.std.proofs.lemmas.Bool.{and_from, cases_Bool, cond-false, cond-true, 
 use Rattle.std.proofs.lemmas.List.Elements.{All-contains}
 use Rattle.std.proofs.lemmas.List.Folds.{list_any_at, list_any-from_Any}
 use Rattle.mls_geom.specs.Pictures.{Picture}
-use Rattle.mls_geom.specs.Rects.{Rect, common, holds}
+use Rattle.mls_geom.specs.Rects.{Rect, common, holds, size_of}
 use Rattle.mls_tilepool.specs.Pools.{Pool, tiles_of}
 use Rattle.mls_stitch.specs.Areas.{MeetArea}
 use Rattle.mls_stitch.specs.Tilings.{HasPlane, block_at}
@@ -17,7 +17,6 @@ use Rattle.mls_checker.specs.Marking.{AreInside, Marks, SquareSet, marks, square
 use Rattle.mls_checker.proofs.Copying.{found-HasPiece}
 use Rattle.mls_errorplane.specs.MarkPlanes.{remarked}
 use Rattle.mls_errorplane.specs.PaintedMarks.{IsSettled, ShowsSet, space_size}
-use Rattle.mls_errorplane.specs.Sizes.{size_of}
 use Rattle.mls_errorplane.proofs.CoveredOnce.{apart-from_counts, count_in-common, count_in-list}
 use Rattle.mls_errorplane.proofs.SquareCounts.{count_in, count_in-none, count_in-rect}
 

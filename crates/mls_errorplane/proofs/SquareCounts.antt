@@ -3,10 +3,9 @@ use Rattle.std.proofs.Common.{◌≡◌, ℕ, ◌+◌, ◌-◌, ◌*◌, ◌<◌
 use Rattle.std.specs.List.{sum_by}
 use Rattle.std.proofs.lemmas.Bool.{false_from_ne_true}
 use Rattle.mls_geom.specs.Pictures.{columns, rows}
-use Rattle.mls_geom.specs.Rects.{Rect, IsRectangleIn, holds}
+use Rattle.mls_geom.specs.Rects.{Rect, IsRectangleIn, holds, size_of}
 use Rattle.mls_geom.proofs.CornerCounts.{sum_by-none}
 use Rattle.mls_geom.proofs.Holds.{between_holds, holds_between}
-use Rattle.mls_errorplane.specs.Sizes.{size_of}
 use Rattle.mls_errorplane.proofs.RangeSums.{sum_by-agree, sum_by-part, sum_by-plus}
 
 -- 1 for a square of the set, and 0 for another

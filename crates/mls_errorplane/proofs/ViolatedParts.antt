@@ -1,13 +1,14 @@
 -- Which rules are violated in a rectangle, from which are in its parts, and from what lies round it.
-use Rattle.std.proofs.Common.{◌≡◌, ℕ, ◌≤◌, Bool, false, ◌||◌, inl, inr, List, Option, Some, None, slice_get, bit_or, refl, sym, ap, ◌∙◌, arith}
+use Rattle.std.proofs.Common.{◌≡◌, ℕ, ◌≤◌, Bool, false, ◌||◌, inl, inr, List, Option, Some, None, slice_get, refl, sym, ap, ◌∙◌, arith}
 use Rattle.std.specs.Cmp.{both_ways as same_if}
 use Rattle.std.proofs.lemmas.Bool.{both_ways, false_from_ne_true, or_cases, or_left, or_right}
 use Rattle.std.proofs.lemmas.Bool.Decides.{nat_tests}
+use Rattle.mls_edgerule.specs.RuleSets.{union}
 use Rattle.mls_edgerule.specs.declared.edge_rule.EdgeRule.{EdgeRule}
+use Rattle.mls_edgerule.proofs.RuleSetLemmas.{union-bits_where}
 use Rattle.mls_geom.specs.Layouts.{Layout}
 use Rattle.mls_geom.specs.Rects.{Rect, holds}
-use Rattle.mls_kinds.specs.KindSets.{bits_where, holds as has_bit}
-use Rattle.mls_kinds.proofs.BitLemmas.{bits_where-lt, bits_where_none, bits_where_or, bits_where_same, holds-bits_where}
+use Rattle.mls_kinds.proofs.BitLemmas.{bits_where_none, bits_where_same}
 use Rattle.mls_checker.specs.Findings.{is_violated_in, violated_rules}
 use Rattle.mls_checker.specs.Marking.{SquareSet, has_some}
 use Rattle.mls_checker.proofs.FoundInRect.{found_in_rect, rect_finds}
@@ -57,38 +58,32 @@ is_violated_in-parts :
 is_violated_in-parts whole one other layout None parts = refl
 is_violated_in-parts whole one other layout (Some rule) parts = has_some-parts whole one other _ parts
 
-bits_where-or : (n : ℕ) (one other : ℕ → Bool) → bits_where (λ k. one k || other k) n ≡ bit_or (bits_where one n) (bits_where other n)
-bits_where-or n one other =
-    sym (bits_where_or n (bits_where one n) (bits_where other n) (bits_where-lt one n) (bits_where-lt other n)
-    ∙ bits_where_same n (λ k. has_bit (bits_where one n) k || has_bit (bits_where other n) k) (λ k. one k || other k)
-    (λ k below. rw (holds-bits_where one n k below, holds-bits_where other n k below) refl))
-
 -- the rules that are violated in the whole are those that are violated in a part
 violated_rules-parts :
     (rules : List EdgeRule) (whole one other : Rect) (layout : Layout) → AreParts whole one other
-    → violated_rules rules whole layout ≡ bit_or (violated_rules rules one layout) (violated_rules rules other layout)
+    → violated_rules rules whole layout ≡ union (violated_rules rules one layout) (violated_rules rules other layout)
 unfolding violated_rules
 violated_rules-parts rules whole one other layout parts =
     bits_where_same 128 (λ k. is_violated_in whole layout (slice_get rules k))
     (λ k. is_violated_in one layout (slice_get rules k) || is_violated_in other layout (slice_get rules k))
     (λ k below. is_violated_in-parts whole one other layout (slice_get rules k) parts)
-    ∙ bits_where-or 128 (λ k. is_violated_in one layout (slice_get rules k)) (λ k. is_violated_in other layout (slice_get rules k))
+    ∙ sym (union-bits_where (λ k. is_violated_in one layout (slice_get rules k)) (λ k. is_violated_in other layout (slice_get rules k)))
 
 -- one more column of pieces, and one more row of them
 pub violated_rules-columns :
     (rules : List EdgeRule) (e : Rect) (layout : Layout) (column next violated new : ℕ) → e.left ≤ column → column ≤ next
     → violated ≡ violated_rules rules (before column e) layout → new ≡ violated_rules rules (before next (from_column column e)) layout
-    → bit_or violated new ≡ violated_rules rules (before next e) layout
+    → union violated new ≡ violated_rules rules (before next e) layout
 violated_rules-columns rules e layout column next violated new from to so_far more =
-    ap (λ bits. bit_or bits new) so_far ∙ ap (bit_or (violated_rules rules (before column e) layout)) more
+    ap (λ set. union set new) so_far ∙ ap (union (violated_rules rules (before column e) layout)) more
     ∙ sym (violated_rules-parts rules (before next e) (before column e) (before next (from_column column e)) layout (AreParts-column (before next e) column from to))
 
 pub violated_rules-rows :
     (rules : List EdgeRule) (e : Rect) (layout : Layout) (row next violated new : ℕ) → e.bottom ≤ row → row ≤ next
     → violated ≡ violated_rules rules (below row e) layout → new ≡ violated_rules rules (below next (from_row row e)) layout
-    → bit_or violated new ≡ violated_rules rules (below next e) layout
+    → union violated new ≡ violated_rules rules (below next e) layout
 violated_rules-rows rules e layout row next violated new from to so_far more =
-    ap (λ bits. bit_or bits new) so_far ∙ ap (bit_or (violated_rules rules (below row e) layout)) more
+    ap (λ set. union set new) so_far ∙ ap (union (violated_rules rules (below row e) layout)) more
     ∙ sym (violated_rules-parts rules (below next e) (below row e) (below next (from_row row e)) layout (AreParts-row (below next e) row from to))
 
 -- ---- no squares

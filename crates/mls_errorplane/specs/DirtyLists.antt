@@ -1,10 +1,9 @@
 -- The areas of a layout that await checking (after Taylor and Ousterhout 1984), as a list of rectangles. How many there may be, and in which pieces they
 -- are checked, is this project's own.
-use Rattle.std.specs.Prelude.{ℕ, ◌+◌, ◌-◌, ◌<◌, ◌≤◌, max, min, Bool, false, nat_lt, if◌then◌else◌, List, [], ◌∷◌, ◌++◌, length, filter, Option, Some, None}
+use Rattle.std.specs.Prelude.{ℕ, ◌+◌, ◌-◌, ◌<◌, ◌≤◌, min, Bool, false, nat_lt, if◌then◌else◌, List, [], ◌∷◌, ◌++◌, length, filter, Option, Some, None}
 use Rattle.std.specs.List.{All, fold, sum_by}
-use Rattle.mls_geom.specs.Rects.{Rect, IsRectangleIn, common, grown, has_squares, holds}
+use Rattle.mls_geom.specs.Rects.{Rect, IsRectangleIn, common, grown, has_squares, holds, joined, size_of}
 use Rattle.mls_geom.specs.World.{world}
-use Rattle.mls_errorplane.specs.Sizes.{size_of}
 
 -- a list to which an area is added becomes one area where it has more than these
 abbrev pub most_areas : ℕ
@@ -18,13 +17,9 @@ piece_side = 256
 abbrev pub zone_round : ℕ → Rect → Rect
 zone_round halo rect = common (grown halo rect) world
 
--- the smallest rectangle round two
-abbrev pub round_both : Rect → Rect → Rect
-round_both a b = record { left = min a.left b.left; bottom = min a.bottom b.bottom; right = max a.right b.right; top = max a.top b.top }
-
 -- the smallest rectangle round all of a list that begins so
 abbrev pub round_all : Rect → List Rect → Rect
-round_all first rest = fold round_both first rest
+round_all first rest = fold joined first rest
 
 -- the smallest rectangle round all areas, as a list of one
 abbrev pub united : List Rect → List Rect

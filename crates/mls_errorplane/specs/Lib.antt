@@ -7,4 +7,4 @@ pub mod Jobs
 pub mod MarkPlanes
 pub mod Outcomes
 pub mod PaintedMarks
-pub mod Sizes
+pub mod Workspaces

@@ -2,11 +2,10 @@
 -- of any other kind is.
 use Rattle.std.specs.Prelude.{ℕ, ◌+◌, Bool, not, ◌==◌, if◌then◌else◌}
 use Rattle.std.specs.List.{count_by, sum_by}
-use Rattle.mls_geom.specs.Rects.{Rect, holds}
 use Rattle.mls_geom.specs.Pictures.{Picture, columns, rows}
+use Rattle.mls_geom.specs.Rects.{Rect, holds, size_of}
 use Rattle.mls_geom.specs.declared.piece.Piece.{Piece}
 use Rattle.mls_checker.specs.Marking.{SquareSet, runs_of_rows}
-use Rattle.mls_errorplane.specs.Sizes.{size_of}
 
 -- the square is marked
 abbrev pub is_marked : Picture → ℕ → ℕ → Bool

@@ -2,11 +2,10 @@
 use Rattle.std.specs.Prelude.{◌≡◌, ◌≢◌, ℕ, ◌==◌, true, if◌then◌else◌, List}
 use Rattle.mls_checker.specs.Marking.{SquareSet}
 use Rattle.mls_geom.specs.Pictures.{Picture, overlaid}
-use Rattle.mls_geom.specs.Rects.{Rect, common, holds}
+use Rattle.mls_geom.specs.Rects.{Rect, common, holds, size_of}
 use Rattle.mls_geom.specs.declared.piece.Piece.{Piece}
 use Rattle.mls_stitch.specs.declared.laid_tile.LaidTile.{LaidTile}
 use Rattle.mls_errorplane.specs.MarkPlanes.{remarked}
-use Rattle.mls_errorplane.specs.Sizes.{size_of}
 
 -- painted over any picture, the pieces mark the squares of the rectangle as the set says, and change no others
 abbrev pub Paints : List Piece → Rect → SquareSet → Type 0

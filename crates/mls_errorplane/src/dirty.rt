@@ -1,11 +1,11 @@
 //! The list of the areas of a layout that await checking.
 ghost use Rattle.std.specs.Prelude.{◌≡◌, ◌==◌, ◌<◌, ◌≤◌, [], IfOk, IfSome, length};
 ghost use Rattle.std.specs.VecDeque.{deque_capacity, deque_len};
-ghost use Rattle.mls_geom.specs.Rects.{IsRectangleIn};
+ghost use Rattle.mls_geom.specs.Rects.{IsRectangleIn, joined};
 ghost use Rattle.mls_geom.specs.World.{world};
 ghost use Rattle.mls_errorplane.specs.MarkPlanes.{most_pieces};
 ghost use Rattle.mls_errorplane.specs.DirtyLists as spec;
-ghost use Rattle.mls_errorplane.specs.DirtyLists.{IsDirtyList, added, dropped, first_piece_of, round_both, united, zone_round};
+ghost use Rattle.mls_errorplane.specs.DirtyLists.{IsDirtyList, added, dropped, first_piece_of, united, zone_round};
 
 use mls_geom::Rect;
 use std::alloc::{AllocError, Global};
@@ -132,20 +132,6 @@ fn piece_of(area: Rect) -> Rect
     )
 }
 
-/// Returns the smallest rectangle round two.
-fn round_both(one: Rect, other: Rect) -> Rect
-    ensures { result ≡ round_both one other }
-{
-    let a = one.area();
-    let b = other.area();
-    Rect::between(
-        a.left.min(b.left),
-        a.bottom.min(b.bottom),
-        a.right.max(b.right),
-        a.top.max(b.top),
-    )
-}
-
 /// Puts the smallest rectangle round all areas in their place.
 fn unite(areas: &mut VecDeque<Rect>)
     ensures items { areas.new.items ≡ united areas.old.items }
@@ -154,7 +140,7 @@ fn unite(areas: &mut VecDeque<Rect>)
     let Some(first) = areas.pop_front() else {
         return;
     };
-    let all = areas.iter().fold(first, |all, area| round_both(all, *area));
+    let all = areas.iter().fold(first, |all, area| all.joined(*area));
     areas.clear();
     areas.push_back_reserved(all);
 }

@@ -1,5 +1,5 @@
 //! Checking a layout piece by piece, after it was edited.
-ghost use Rattle.std.specs.Prelude.{◌≡◌, ◌≤◌, ◌↔◌, ℕ, true, IfOk, IfSome, IsTrue, OnErr, OnOk, ◌+◌, [], ◌∷◌, length, vec_capacity};
+ghost use Rattle.std.specs.Prelude.{◌≡◌, ◌≤◌, ◌↔◌, ℕ, true, IfOk, IfSome, IsTrue, OnErr, OnOk, ◌+◌, [], ◌∷◌, length};
 ghost use Rattle.std.specs.List.{All};
 ghost use Rattle.mls_checker.specs.Forbids.{forbidden};
 ghost use Rattle.mls_checker.specs.Marking.{marks, no_squares};
@@ -13,11 +13,12 @@ ghost use Rattle.mls_tilepool.specs.Pools.{IsOwner, Pool, room_of, unreserved};
 ghost use Rattle.mls_errorplane.specs.Checkings.{soiled};
 ghost use Rattle.mls_errorplane.specs.DirtyLists.{IsDirtyList};
 ghost use Rattle.mls_errorplane.specs.MarkPlanes.{marked_count, most_pieces};
+ghost use Rattle.mls_errorplane.specs.Workspaces.{FitsWorkspace};
 
-use crate::{Dirty, MARK_ROOM, count, mark};
+use crate::{Dirty, MARK_ROOM, Workspace, count, mark};
 use mls_checker::{Finding, Snapshot, check};
 use mls_edgerule::Rules;
-use mls_geom::{Piece, Rect};
+use mls_geom::Rect;
 use mls_paint::{Scratch, release_plane, space_plane};
 use mls_stitch::Plane;
 use mls_tilepool::Pool;
@@ -70,24 +71,24 @@ impl ErrorPlane {
     /// Creates an error plane without marks, which reserves this many tiles of the pool, with these areas.
     ///
     /// The pool must have room for the tiles. No memory is taken.
-    pub fn new(dirty: Dirty, pool: &mut Pool, reserve: u32, scratch: &mut Scratch) -> ErrorPlane
+    pub fn new(dirty: Dirty, reserve: u32, workspace: &mut Workspace) -> ErrorPlane
         requires some { 1 ≤ reserve }
-        requires room { reserve ≤ unreserved pool.old }
-        requires scratch { 1 ≤ scratch.old.room }
-        ensures marks { ShowsMarks pool.new result.owner }
-        ensures begins { checking_of pool.new result ≡ record { marks = no_squares; dirty = dirty } }
-        ensures added { AddsOwner pool.old pool.new result.owner reserve }
-        ensures taken { unreserved pool.new + reserve ≡ unreserved pool.old }
-        ensures rooms { KeepsRoom scratch.old scratch.new }
+        requires room { reserve ≤ unreserved workspace.old.pool }
+        ensures marks { ShowsMarks workspace.new.pool result.owner }
+        ensures begins { checking_of workspace.new.pool result ≡ record { marks = no_squares; dirty = dirty } }
+        ensures added { AddsOwner workspace.old.pool workspace.new.pool result.owner reserve }
+        ensures taken { unreserved workspace.new.pool + reserve ≡ unreserved workspace.old.pool }
     {
+        let Workspace { pool, scratch, .. } = workspace;
         let plane = space_plane(pool, reserve, scratch).unwrap();
         ErrorPlane { plane, dirty }
     }
 
-    /// Adds a rectangle that was edited, and the squares round it that the rules can tell from it, to the areas that await
-    /// checking.
+    /// Adds a rectangle that was edited, and the squares round it that the rules can tell from it, to the areas that
+    /// await checking.
     pub fn add(&mut self, rules: &Rules, rect: Rect)
-        ensures added { (pool : Pool) → checking_of pool self.new ≡ soiled rules.now rect (checking_of pool self.old) }
+        ensures added { (pool : Pool) → checking_of pool self.new
+            ≡ soiled rules.now rect (checking_of pool self.old) }
         ensures owner { self.new.owner ≡ self.old.owner }
     {
         self.dirty.add(rect, rules.halo());
@@ -95,37 +96,36 @@ impl ErrorPlane {
 
     /// Checks the first piece of the areas in a layout on these planes, and takes it out of them.
     ///
-    /// Unless this is done, nothing changes. The list of pieces and the scratch, which are lent, must have room for
-    /// [`MARK_ROOM`] pieces.
+    /// Unless this is done, nothing changes.
     pub fn step(
         &mut self,
         alloc: Global,
-        pool: &mut Pool,
         planes: &mut [Plane],
         rules: &Rules,
         limit: u32,
-        pieces: &mut Vec<Piece>,
-        scratch: &mut Scratch,
+        workspace: &mut Workspace,
     ) -> Stepped
-        requires planes { All (λ owner. HasPlane pool.old owner) planes.old }
-        requires planes_fit { All (λ owner. HasRoomFor pool.old owner scratch.old) planes.old }
-        requires marks { ShowsMarks pool.old self.old.owner }
-        requires marks_fit { HasRoomFor pool.old self.old.owner scratch.old }
-        requires limit { IfSome (room_of pool.old self.old.owner) (λ room. limit ≤ room) }
-        requires pieces_fit { MARK_ROOM ≤ scratch.old.pieces }
-        requires list_fits { MARK_ROOM ≤ vec_capacity pieces.old }
-        ensures stepped { HasStepped rules.now (layout_in pool.old planes.old) limit (checking_of pool.old self.old) result (checking_of pool.new self.new) }
-        ensures marks { ShowsMarks pool.new self.new.owner }
-        ensures same { UnlessDone result ((self.new ≡ self.old) × (pool.new ≡ pool.old)) }
-        ensures only { ChangesOnly pool.old pool.new self.old.owner }
+        requires planes { All (HasPlane workspace.old.pool) planes.old }
+        requires planes_fit { All (FitsWorkspace workspace.old.pool) planes.old }
+        requires marks { ShowsMarks workspace.old.pool self.old.owner }
+        requires marks_fit { FitsWorkspace workspace.old.pool self.old.owner }
+        requires limit { IfSome (room_of workspace.old.pool self.old.owner) (λ room. limit ≤ room) }
+        ensures stepped { HasStepped rules.now (layout_in workspace.old.pool planes.old) limit
+            (checking_of workspace.old.pool self.old) result (checking_of workspace.new.pool self.new) }
+        ensures marks { ShowsMarks workspace.new.pool self.new.owner }
+        ensures same { UnlessDone result ((self.new ≡ self.old) × (workspace.new.pool ≡ workspace.old.pool)) }
+        ensures only { ChangesOnly workspace.old.pool workspace.new.pool self.old.owner }
         ensures owner { self.new.owner ≡ self.old.owner }
         ensures owners { planes.new ≡ planes.old }
-        ensures pieces_room { vec_capacity pieces.new ≡ vec_capacity pieces.old }
-        ensures rooms { KeepsRoom scratch.old scratch.new }
     {
         let Some(piece) = self.dirty.first_piece() else {
             return Stepped::Idle;
         };
+        let Workspace {
+            pool,
+            scratch,
+            pieces,
+        } = workspace;
         let Ok(finding) = check_piece(alloc, pool, planes, rules, piece, scratch) else {
             return Stepped::Memory;
         };
@@ -142,33 +142,33 @@ impl ErrorPlane {
     /// planes as it is now in the finding's zone, and then [`Outcome::Full`] if the error plane would have more than
     /// `limit` tiles. In both cases nothing changes.
     ///
-    /// No memory is taken. The list of pieces and the scratch, which are lent, must have room for [`MARK_ROOM`] pieces.
+    /// No memory is taken.
     pub fn finish(
         &mut self,
-        pool: &mut Pool,
         planes: &mut [Plane],
         rules: &Rules,
         finding: &Finding,
         limit: u32,
-        pieces: &mut Vec<Piece>,
-        scratch: &mut Scratch,
+        workspace: &mut Workspace,
     ) -> Outcome
-        requires planes { All (λ owner. HasPlane pool.old owner) planes.old }
-        requires planes_fit { All (λ owner. HasRoomFor pool.old owner scratch.old) planes.old }
-        requires marks { ShowsMarks pool.old self.old.owner }
-        requires marks_fit { HasRoomFor pool.old self.old.owner scratch.old }
-        requires limit { IfSome (room_of pool.old self.old.owner) (λ room. limit ≤ room) }
-        requires pieces_fit { MARK_ROOM ≤ scratch.old.pieces }
-        requires list_fits { MARK_ROOM ≤ vec_capacity pieces.old }
-        ensures finished { HasFinished rules.now (length planes.old) (layout_in pool.old planes.old) limit (checking_of pool.old self.old) finding.now result (checking_of pool.new self.new) }
-        ensures marks { ShowsMarks pool.new self.new.owner }
-        ensures same { UnlessFinished result ((self.new ≡ self.old) × (pool.new ≡ pool.old)) }
-        ensures only { ChangesOnly pool.old pool.new self.old.owner }
+        requires planes { All (HasPlane workspace.old.pool) planes.old }
+        requires planes_fit { All (FitsWorkspace workspace.old.pool) planes.old }
+        requires marks { ShowsMarks workspace.old.pool self.old.owner }
+        requires marks_fit { FitsWorkspace workspace.old.pool self.old.owner }
+        requires limit { IfSome (room_of workspace.old.pool self.old.owner) (λ room. limit ≤ room) }
+        ensures finished { HasFinished rules.now (length planes.old) (layout_in workspace.old.pool planes.old) limit
+            (checking_of workspace.old.pool self.old) finding.now result (checking_of workspace.new.pool self.new) }
+        ensures marks { ShowsMarks workspace.new.pool self.new.owner }
+        ensures same { UnlessFinished result ((self.new ≡ self.old) × (workspace.new.pool ≡ workspace.old.pool)) }
+        ensures only { ChangesOnly workspace.old.pool workspace.new.pool self.old.owner }
         ensures owner { self.new.owner ≡ self.old.owner }
         ensures owners { planes.new ≡ planes.old }
-        ensures pieces_room { vec_capacity pieces.new ≡ vec_capacity pieces.old }
-        ensures rooms { KeepsRoom scratch.old scratch.new }
     {
+        let Workspace {
+            pool,
+            scratch,
+            pieces,
+        } = workspace;
         if !self.is_fresh(pool, planes, rules, finding, scratch) {
             return Outcome::Stale;
         }
@@ -179,8 +179,8 @@ impl ErrorPlane {
         Outcome::Finished
     }
 
-    /// Returns whether the finding is by these rules, of the first piece, and of the layout on these planes as it is now
-    /// in the finding's zone.
+    /// Returns whether the finding is by these rules, of the first piece, and of the layout on these planes as it is
+    /// now in the finding's zone.
     fn is_fresh(
         &self,
         pool: &Pool,
@@ -191,7 +191,8 @@ impl ErrorPlane {
     ) -> bool
         requires planes { All (λ owner. HasPlane pool.now owner) planes.old }
         requires planes_fit { All (λ owner. HasRoomFor pool.now owner scratch.old) planes.old }
-        ensures fresh { IsTrue result ↔ IsFresh rules.now (length planes.old) (layout_in pool.now planes.old) (checking_of pool.now self.now) finding.now }
+        ensures fresh { IsTrue result ↔ IsFresh rules.now (length planes.old) (layout_in pool.now planes.old)
+            (checking_of pool.now self.now) finding.now }
         ensures few { IsTrue result → most_pieces finding.now.piece ≤ MARK_ROOM }
         ensures owners { planes.new ≡ planes.old }
         ensures rooms { KeepsRoom scratch.old scratch.new }
@@ -218,7 +219,8 @@ impl ErrorPlane {
     /// Gives the tiles and the reserve back to the pool.
     pub fn close(self, pool: &mut Pool)
         requires live { IsOwner pool.old self.owner }
-        ensures removed { IfSome (room_of pool.old self.owner) (λ room. RemovesOwners pool.old pool.new (self.owner ∷ []) room) }
+        ensures removed { IfSome (room_of pool.old self.owner)
+            (λ room. RemovesOwners pool.old pool.new (self.owner ∷ []) room) }
     {
         release_plane(pool, self.plane);
     }

@@ -2,18 +2,16 @@
 ghost use Rattle.std.specs.Prelude.{◌≡◌, length};
 ghost use Rattle.std.specs.List.{All};
 ghost use Rattle.mls_paint.specs.Planes.{layout_in};
-ghost use Rattle.mls_paint.specs.Scratches.{HasRoomFor, KeepsRoom};
 ghost use Rattle.mls_stitch.specs.Tilings.{HasPlane};
 ghost use Rattle.mls_errorplane.specs.ErrorPlanes.{checking_of};
 ghost use Rattle.mls_errorplane.specs.Jobs.{HasGrabbed};
+ghost use Rattle.mls_errorplane.specs.Workspaces.{FitsWorkspace};
 
-use crate::ErrorPlane;
+use crate::{ErrorPlane, Workspace};
 use mls_checker::Snapshot;
 use mls_edgerule::Rules;
 use mls_geom::Rect;
-use mls_paint::Scratch;
 use mls_stitch::Plane;
-use mls_tilepool::Pool;
 use std::alloc::{AllocError, Global};
 
 /// What a check outside needs: the first piece of the areas that await checking, a snapshot of its zone, and the rules.
@@ -35,20 +33,21 @@ impl ErrorPlane {
     pub fn grab(
         &self,
         alloc: Global,
-        pool: &Pool,
         planes: &mut [Plane],
         rules: &Rules,
-        scratch: &mut Scratch,
+        workspace: &mut Workspace,
     ) -> Result<Option<Job>, AllocError>
-        requires planes { All (λ owner. HasPlane pool.now owner) planes.old }
-        requires planes_fit { All (λ owner. HasRoomFor pool.now owner scratch.old) planes.old }
-        ensures grabbed { HasGrabbed rules.now (length planes.old) (layout_in pool.now planes.old) (checking_of pool.now self.now) result }
+        requires planes { All (HasPlane workspace.old.pool) planes.old }
+        requires planes_fit { All (FitsWorkspace workspace.old.pool) planes.old }
+        ensures grabbed { HasGrabbed rules.now (length planes.old) (layout_in workspace.old.pool planes.old)
+            (checking_of workspace.old.pool self.now) result }
         ensures owners { planes.new ≡ planes.old }
-        ensures rooms { KeepsRoom scratch.old scratch.new }
+        ensures pool { workspace.new.pool ≡ workspace.old.pool }
     {
         let Some(piece) = self.dirty.first_piece() else {
             return Ok(None);
         };
+        let Workspace { pool, scratch, .. } = workspace;
         let zone = piece.grow(rules.halo());
         let snapshot = Snapshot::read(alloc, pool, planes, zone, scratch)?;
         Ok(Some(Job {

@@ -9,15 +9,15 @@ ghost use Rattle.mls_errorplane.specs.CatchingUp.{AfterSteps};
 ghost use Rattle.mls_errorplane.specs.Checkings.{Checking, IsChecked, check_step, opening_checking, soiled};
 ghost use Rattle.mls_errorplane.specs.DirtyLists.{IsDirtyList, added, area_of, dropped, first_piece_of, piece_of, round_all, squares_in};
 ghost use Rattle.mls_errorplane.specs.MarkPlanes.{is_marked, remarked};
-ghost use Rattle.mls_errorplane.specs.Sizes.{size_of};
 ghost use Rattle.mls_geom.specs.Layouts.{Layout};
 ghost use Rattle.mls_geom.specs.Pictures.{Picture, empty_picture};
-ghost use Rattle.mls_geom.specs.Rects.{IsRectangleIn, Rect, holds};
+ghost use Rattle.mls_geom.specs.Rects.{IsRectangleIn, Rect, holds, size_of};
 ghost use Rattle.mls_geom.specs.World.{world};
 
 /// The squares of a list are those of its first piece and those of the list without that piece.
 pub fn dropping_keeps_squares()
-    ensures { (areas : List Rect) (x y : ℕ) → squares_of areas x y ≡ (squares_in (first_piece_of areas) x y || squares_of (dropped areas) x y) }
+    ensures { (areas : List Rect) (x y : ℕ) → squares_of areas x y
+        ≡ (squares_in (first_piece_of areas) x y || squares_of (dropped areas) x y) }
 {}
 
 /// The areas of a list without its first piece have as many squares fewer as the piece has.
@@ -28,7 +28,8 @@ pub fn dropping_takes_as_many_squares()
 
 /// So each dropped piece makes a list smaller.
 pub fn dropping_makes_smaller()
-    ensures { (first : Rect) (rest : List Rect) → IsRectangleIn world first → area_of (dropped (first ∷ rest)) < area_of (first ∷ rest) }
+    ensures { (first : Rect) (rest : List Rect) → IsRectangleIn world first
+        → area_of (dropped (first ∷ rest)) < area_of (first ∷ rest) }
 {}
 
 /// No list has so many squares that its pieces could not be counted.
@@ -38,12 +39,14 @@ pub fn lists_are_bounded()
 
 /// No square is lost where an area is added, also where one area takes the place of all.
 pub fn adding_keeps_squares()
-    ensures { (areas : List Rect) (area : Rect) (x y : ℕ) → (squares_of areas x y || holds area x y) ≡ true → squares_of (added areas area) x y ≡ true }
+    ensures { (areas : List Rect) (area : Rect) (x y : ℕ) → (squares_of areas x y || holds area x y) ≡ true
+        → squares_of (added areas area) x y ≡ true }
 {}
 
 /// The rectangle round all areas lies in every rectangle in which they all lie.
 pub fn uniting_is_smallest()
-    ensures { (extent first : Rect) (rest : List Rect) → IsRectangleIn extent first → All (IsRectangleIn extent) rest → IsRectangleIn extent (round_all first rest) }
+    ensures { (extent first : Rect) (rest : List Rect) → IsRectangleIn extent first
+        → All (IsRectangleIn extent) rest → IsRectangleIn extent (round_all first rest) }
 {}
 
 /// Where a rectangle is marked anew, its marked squares are those of the set, and outside it those that were marked.
@@ -55,7 +58,8 @@ pub fn remarking_replaces_marks()
 /// Where a rectangle has the marks of the set already, marking it anew changes nothing.
 pub fn remarking_the_same_changes_nothing()
     ensures { (below : Picture) (rect : Rect) (set : SquareSet)
-        → ((x y : ℕ) → holds rect x y ≡ true → below x y ≡ (if set x y then 1 else 0)) → remarked below rect set ≡ below }
+        → ((x y : ℕ) → holds rect x y ≡ true → below x y ≡ (if set x y then 1 else 0))
+        → remarked below rect set ≡ below }
 {}
 
 /// Where checking begins, with an empty layout, the marks are right outside the areas.
@@ -63,7 +67,8 @@ pub fn openings_are_checked()
     ensures { (rules : List EdgeRule) → IsChecked rules (λ plane. empty_picture) (opening_checking rules) }
 {}
 
-/// Where the first piece of the areas that await checking is checked, the marks stay right outside the areas that are left.
+/// Where the first piece of the areas that await checking is checked, the marks stay right outside the areas that are
+/// left.
 pub fn steps_keep_marks_right()
     ensures { (rules : List EdgeRule) (layout : Layout) (checking : Checking) → IsChecked rules layout checking
         → IsChecked rules layout (check_step rules layout checking) }
@@ -71,18 +76,22 @@ pub fn steps_keep_marks_right()
 
 /// Where one check step after another is done, the marks stay right outside the areas that are left.
 pub fn catching_up_keeps_marks_right()
-    ensures { (rules : List EdgeRule) (layout : Layout) (limit : ℕ) (old new : Checking) → AfterSteps rules layout limit old new
+    ensures { (rules : List EdgeRule) (layout : Layout) (limit : ℕ) (old new : Checking)
+        → AfterSteps rules layout limit old new
         → IsChecked rules layout old → IsChecked rules layout new }
 {}
 
-/// Where an edit's rectangle is added with the rules' halo, the marks stay right outside the areas, for the edited layout.
+/// Where an edit's rectangle is added with the rules' halo, the marks stay right outside the areas, for the edited
+/// layout.
 pub fn edits_keep_marks_right()
-    ensures { (rules : List EdgeRule) (rect : Rect) (layout other : Layout) (checking : Checking) → AgreeOutside rect layout other
+    ensures { (rules : List EdgeRule) (rect : Rect) (layout other : Layout) (checking : Checking)
+        → AgreeOutside rect layout other
         → IsChecked rules layout checking → IsChecked rules other (soiled rules rect checking) }
 {}
 
 /// Where no area awaits checking, the marks are exactly the squares that the rules forbid.
 pub fn no_areas_means_exact_marks()
-    ensures { (rules : List EdgeRule) (layout : Layout) (marks : SquareSet) → IsChecked rules layout (record { marks = marks; dirty = [] })
+    ensures { (rules : List EdgeRule) (layout : Layout) (marks : SquareSet)
+        → IsChecked rules layout (record { marks = marks; dirty = [] })
         → (x y : ℕ) → holds world x y ≡ true → marks x y ≡ forbidden rules layout x y }
 {}

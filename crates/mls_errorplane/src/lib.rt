@@ -10,8 +10,8 @@ mod mark_pieces;
 mod marks;
 mod opening;
 mod shown_marks;
-mod sizes;
 mod violated;
+mod workspace;
 
 pub use catching_up::CaughtUp;
 pub use dirty::{Dirty, MARK_ROOM};
@@ -20,3 +20,4 @@ pub use job::Job;
 pub use marks::{count, mark};
 pub use opening::opening_areas;
 pub use violated::why;
+pub use workspace::{PIECE_ROOM, TILE_ROOM, Workspace};

@@ -12,7 +12,6 @@ ghost use Rattle.mls_errorplane.specs.MarkPlanes.{marked_count, marked_size, mos
 
 use crate::mark_pieces::list_pieces;
 use crate::shown_marks::show;
-use crate::sizes::size_of;
 use mls_checker::Finding;
 use mls_geom::Piece;
 use mls_paint::{Scratch, TooManyTiles, find_meeting, overlay, strips_of, tile_count};
@@ -21,9 +20,9 @@ use mls_tilepool::Pool;
 
 /// Marks the squares of a finding's piece as the finding says, and leaves all other squares as they are.
 ///
-/// The pieces that this takes are made in `pieces`, which like the scratch must have room for one for every second square
-/// of the finding's piece, and for one more. So no memory is taken, however many areas the finding has. Where the plane shows
-/// the finding's marks already, nothing is painted.
+/// The pieces that this takes are made in `pieces`, which like the scratch must have room for one for every second
+/// square of the finding's piece, and for one more. So no memory is taken, however many areas the finding has. Where
+/// the plane shows the finding's marks already, nothing is painted.
 ///
 /// Fails if the plane would then have more than `limit` tiles, and leaves it as it was.
 pub fn mark(
@@ -39,10 +38,12 @@ pub fn mark(
     requires room { HasRoomFor pool.old plane.old scratch.old }
     requires pieces_fit { most_pieces finding.now.piece ≤ scratch.old.pieces }
     requires list_fits { most_pieces finding.now.piece ≤ vec_capacity pieces.old }
-    ensures marks { OnOk result (picture_in pool.new plane.old ≡ remarked (picture_in pool.old plane.old) finding.now.piece (marks finding.now.marks)) }
+    ensures marks { OnOk result (picture_in pool.new plane.old
+        ≡ remarked (picture_in pool.old plane.old) finding.now.piece (marks finding.now.marks)) }
     ensures exact { IsExact finding.now.piece finding.now.snapshot finding.now.rules finding.now.marks }
     ensures too_many { IsErr result
-        ↔ (limit < tile_count world (remarked (picture_in pool.old plane.old) finding.now.piece (marks finding.now.marks))) }
+        ↔ (limit < tile_count world (remarked (picture_in pool.old plane.old) finding.now.piece
+        (marks finding.now.marks))) }
     ensures refused { OnErr result (pool.new ≡ pool.old) }
     ensures strips { HasStrips pool.new plane.old }
     ensures only { ChangesOnly pool.old pool.new plane.old }
@@ -93,5 +94,5 @@ fn marked_size(piece: Piece) -> u64
     if piece.kind == 0 {
         return 0;
     }
-    size_of(&piece.rect.area())
+    piece.rect.area().size()
 }

@@ -9,8 +9,8 @@ use mls_edgerule::{EdgeRule, Rules};
 use mls_geom::Rect;
 use std::alloc::{AllocError, Global};
 
-/// Creates the areas of an empty layout that await checking: the whole world where the rules forbid some square of it, and
-/// otherwise none.
+/// Creates the areas of an empty layout that await checking: the whole world where the rules forbid some square of
+/// it, and otherwise none.
 pub fn opening_areas(alloc: Global, rules: &Rules) -> Result<Dirty, AllocError>
     ensures { IfOk result (λ dirty. dirty ≡ (opening_checking rules.now).dirty) }
 {

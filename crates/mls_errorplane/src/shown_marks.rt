@@ -2,11 +2,9 @@
 ghost use Rattle.std.specs.Prelude.{◌≡◌, ◌+◌, ◌<◌, ◌≤◌, ℕ, true, IfSome, IsTrue};
 ghost use Rattle.std.specs.List.{All, Any, Contains, sum_by};
 ghost use Rattle.mls_checker.specs.Marking.{AreInside, marks, squares_of};
-ghost use Rattle.mls_geom.specs.Rects.{common, holds};
+ghost use Rattle.mls_geom.specs.Rects.{common, holds, size_of};
 ghost use Rattle.mls_errorplane.specs.PaintedMarks.{IsSettled, ShowsSet, space_size};
-ghost use Rattle.mls_errorplane.specs.Sizes.{size_of};
 
-use crate::sizes::size_of;
 use mls_checker::Marks;
 use mls_geom::{Area, Rect};
 use mls_stitch::LaidTile;
@@ -14,13 +12,14 @@ use mls_stitch::LaidTile;
 /// How many columns wide the bands are by which a check lists its areas.
 const BAND: u32 = 64;
 
-/// Returns whether tiles that have all squares of the marks' rectangle have kind 1 in its marked squares, and kind 0 in its
-/// others.
+/// Returns whether tiles that have all squares of the marks' rectangle have kind 1 in its marked squares, and kind 0
+/// in its others.
 ///
-/// This takes no longer than a look at each tile and each area, and a search for each area that a tile meets. It may return
-/// `false` where the areas aren't in the order in which a check lists them.
+/// This takes no longer than a look at each tile and each area, and a search for each area that a tile meets. It may
+/// return `false` where the areas aren't in the order in which a check lists them.
 pub(crate) fn show(tiles: &[LaidTile], found: &Marks) -> bool
-    requires { (x y : ℕ) → holds found.now.rect x y ≡ true → Any (λ tile. IsTrue (holds tile.piece.rect x y)) tiles.now }
+    requires { (x y : ℕ) → holds found.now.rect x y ≡ true
+        → Any (λ tile. IsTrue (holds tile.piece.rect x y)) tiles.now }
     ensures { IsTrue result → All (ShowsSet found.now.rect (marks found.now)) tiles.now }
 {
     let rect = found.rect();
@@ -50,7 +49,7 @@ fn is_settled(tile: &LaidTile, rect: Rect, areas: &[Area]) -> bool
     if tile.piece.kind == 0 {
         return true;
     }
-    let part = tile.piece.rect.area().within(rect);
+    let part = tile.piece.rect.area().common(rect.area());
     tile.piece.kind == 1 && are_covered(&part, rect, areas)
 }
 
@@ -72,7 +71,8 @@ fn are_covered(part: &Area, rect: Rect, areas: &[Area]) -> bool
 fn covered_to(part: &Area, left: u32, rect: Rect, areas: &[Area]) -> Option<u32>
     requires { left < part.now.right }
     ensures right { IfSome result (λ right. left < right) }
-    ensures covered { IfSome result (λ right. (x y : ℕ) → left ≤ x → x < right → part.now.bottom ≤ y → y < part.now.top → squares_of areas.now x y ≡ true) }
+    ensures covered { IfSome result (λ right. (x y : ℕ) → left ≤ x → x < right → part.now.bottom ≤ y
+        → y < part.now.top → squares_of areas.now x y ≡ true) }
 {
     let mut right = part.right;
     let mut row = part.bottom;
@@ -93,14 +93,15 @@ fn area_at(column: u32, row: u32, rect: Rect, areas: &[Area]) -> Option<Area>
     let next = areas.partition_point(|area| is_before(area, left, column, row));
     let index = next.checked_sub(1)?;
     let area = *areas.get(index)?;
-    if has_square(&area, column, row) {
+    if area.holds(column, row) {
         return Some(area);
     }
     None
 }
 
-/// Returns whether an area is the one that has a square, or comes before it in the order in which a check lists the areas of a
-/// rectangle with this left side: by bands of columns, then by rows, then by columns. Only says where to look.
+/// Returns whether an area is the one that has a square, or comes before it in the order in which a check lists the
+/// areas of a rectangle with this left side: by bands of columns, then by rows, then by columns. Only says where to
+/// look.
 fn is_before(area: &Area, left: u32, column: u32, row: u32) -> bool {
     let band = area.left.saturating_sub(left) / BAND;
     let wanted = column.saturating_sub(left) / BAND;
@@ -108,15 +109,8 @@ fn is_before(area: &Area, left: u32, column: u32, row: u32) -> bool {
         || (band == wanted && (area.top <= row || (area.bottom <= row && area.left <= column)))
 }
 
-/// Returns whether the square lies in the area.
-fn has_square(area: &Area, column: u32, row: u32) -> bool
-    ensures { result ≡ holds area.now column row }
-{
-    area.left <= column && column < area.right && area.bottom <= row && row < area.top
-}
-
-/// Returns whether the areas and the space among the tiles have together no more squares of the rectangle than it has, each
-/// square counted as often as it lies in one of them.
+/// Returns whether the areas and the space among the tiles have together no more squares of the rectangle than it
+/// has, each square counted as often as it lies in one of them.
 fn have_room(tiles: &[LaidTile], rect: Rect, areas: &[Area]) -> bool
     ensures { IsTrue result → sum_by (space_size rect) tiles.now + sum_by size_of areas.now ≤ size_of rect }
 {
@@ -130,7 +124,7 @@ fn have_room(tiles: &[LaidTile], rect: Rect, areas: &[Area]) -> bool
 fn without_space(tiles: &[LaidTile], rect: Rect) -> Option<u64>
     ensures { IfSome result (λ rest. rest + sum_by (space_size rect) tiles.now ≡ size_of rect) }
 {
-    let mut rest = size_of(&rect.area());
+    let mut rest = rect.area().size();
     for tile in tiles {
         rest = rest.checked_sub(space_size(tile, rect))?;
     }
@@ -142,7 +136,7 @@ fn space_size(tile: &LaidTile, rect: Rect) -> u64
     ensures { result ≡ space_size rect tile.now }
 {
     if tile.piece.kind == 0 {
-        return size_of(&tile.piece.rect.area().within(rect));
+        return tile.piece.rect.area().common(rect.area()).size();
     }
     0
 }
@@ -153,7 +147,7 @@ fn are_within(areas: &[Area], squares: u64) -> bool
 {
     let mut rest = squares;
     for area in areas {
-        let Some(less) = rest.checked_sub(size_of(area)) else {
+        let Some(less) = rest.checked_sub(area.size()) else {
             return false;
         };
         rest = less;

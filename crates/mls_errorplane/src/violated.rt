@@ -9,7 +9,7 @@ ghost use Rattle.mls_paint.specs.Scratches.{HasRoomFor, KeepsRoom};
 ghost use Rattle.mls_stitch.specs.Tilings.{HasPlane};
 
 use mls_checker::Snapshot;
-use mls_edgerule::Rules;
+use mls_edgerule::{RuleSet, Rules};
 use mls_geom::Rect;
 use mls_paint::Scratch;
 use mls_stitch::Plane;
@@ -17,13 +17,13 @@ use mls_tilepool::Pool;
 use std::alloc::{AllocError, Global};
 
 /// A piece that is read at once is at most this wide and this high.
-const READ_SIDE: u32 = 256;
+const READ_SIDE: u32 = 4096;
 
-/// Returns the rules that forbid some square of the rectangle in the layout on these planes: bit n - 1 is 1 exactly for
-/// those rules n.
+/// Returns the rules that forbid some square of the rectangle in the layout on these planes.
 ///
-/// The layout is read in pieces of at most 256 by 256 squares, one after another, so that the memory that this takes
-/// doesn't grow with the rectangle. Fails only if memory runs out.
+/// The layout is read in pieces of at most 4096 by 4096 squares, one after another: few of them, so that what is as
+/// high as the world isn't read hundreds of times, and none so wide that a search along a tile in it passes all
+/// neighbours that the tile has in the world. Fails only if memory runs out.
 pub fn why(
     alloc: Global,
     pool: &Pool,
@@ -31,7 +31,7 @@ pub fn why(
     rules: &Rules,
     rect: Rect,
     scratch: &mut Scratch,
-) -> Result<u128, AllocError>
+) -> Result<RuleSet, AllocError>
     requires planes { All (λ owner. HasPlane pool.now owner) planes.old }
     requires planes_fit { All (λ owner. HasRoomFor pool.now owner scratch.old) planes.old }
     ensures value { IfOk result (λ violated. violated ≡ violated_rules rules.now rect (layout_in pool.now planes.old)) }
@@ -39,19 +39,20 @@ pub fn why(
     ensures rooms { KeepsRoom scratch.old scratch.new }
 {
     let lines = rect.area();
-    let mut violated = 0;
+    let mut violated = RuleSet::empty();
     let mut bottom = lines.bottom;
     'rows: while bottom < lines.top {
         let top = lines.top.min(bottom + READ_SIDE);
         let row = Rect::between(lines.left, bottom, lines.right, top);
-        violated |= why_in_row(alloc, pool, planes, rules, row, scratch)?;
+        let more = why_in_row(alloc, pool, planes, rules, row, scratch)?;
+        violated = violated.union(more);
         bottom = top;
     }
     Ok(violated)
 }
 
-/// Returns the rules that forbid some square of a rectangle, which is read in pieces from its left to its right, each as
-/// high as the rectangle.
+/// Returns the rules that forbid some square of a rectangle, which is read in pieces from its left to its right, each
+/// as high as the rectangle.
 fn why_in_row(
     alloc: Global,
     pool: &Pool,
@@ -59,7 +60,7 @@ fn why_in_row(
     rules: &Rules,
     row: Rect,
     scratch: &mut Scratch,
-) -> Result<u128, AllocError>
+) -> Result<RuleSet, AllocError>
     requires planes { All (λ owner. HasPlane pool.now owner) planes.old }
     requires planes_fit { All (λ owner. HasRoomFor pool.now owner scratch.old) planes.old }
     ensures value { IfOk result (λ violated. violated ≡ violated_rules rules.now row (layout_in pool.now planes.old)) }
@@ -67,12 +68,13 @@ fn why_in_row(
     ensures rooms { KeepsRoom scratch.old scratch.new }
 {
     let lines = row.area();
-    let mut violated = 0;
+    let mut violated = RuleSet::empty();
     let mut left = lines.left;
     'pieces: while left < lines.right {
         let right = lines.right.min(left + READ_SIDE);
         let piece = Rect::between(left, lines.bottom, right, lines.top);
-        violated |= why_in_piece(alloc, pool, planes, rules, piece, scratch)?;
+        let more = why_in_piece(alloc, pool, planes, rules, piece, scratch)?;
+        violated = violated.union(more);
         left = right;
     }
     Ok(violated)
@@ -86,11 +88,12 @@ fn why_in_piece(
     rules: &Rules,
     piece: Rect,
     scratch: &mut Scratch,
-) -> Result<u128, AllocError>
+) -> Result<RuleSet, AllocError>
     requires planes { All (λ owner. HasPlane pool.now owner) planes.old }
     requires planes_fit { All (λ owner. HasRoomFor pool.now owner scratch.old) planes.old }
     requires legal { IsRectangleIn world piece }
-    ensures value { IfOk result (λ violated. violated ≡ violated_rules rules.now piece (layout_in pool.now planes.old)) }
+    ensures value { IfOk result (λ violated. violated
+        ≡ violated_rules rules.now piece (layout_in pool.now planes.old)) }
     ensures owners { planes.new ≡ planes.old }
     ensures rooms { KeepsRoom scratch.old scratch.new }
 {

@@ -2,7 +2,7 @@
 use Rattle.std.proofs.Common.{◌≡◌, ◌+◌, take}
 use Rattle.std.specs.List.{sum_by}
 use Rattle.mls_errorplane.specs.PaintedMarks.{space_size}
-use Rattle.mls_errorplane.specs.Sizes.{size_of}
+use Rattle.mls_geom.specs.Rects.{size_of}
 use Rattle.mls_errorplane.proofs.shown_marks.without_space.Given as goal
 
 abbrev pub invariant-loop-tile : goal.invariant-loop-tile

@@ -12,7 +12,7 @@ pieces-init c =
     record {
       from = omega (arith, first);
       to = omega (arith, first, c.area-lines.ensures.legal.wide);
-      value = violated_rules-no_columns c.args.rules.now c.args.row layout ∙ ap (λ line. violated_rules c.args.rules.now (before line c.args.row) layout) (sym first);
+      value = c.empty-violated.ensures ∙ violated_rules-no_columns c.args.rules.now c.args.row layout ∙ ap (λ line. violated_rules c.args.rules.now (before line c.args.row) layout) (sym first);
       owners = refl;
       rooms = record { room = refl; pieces = refl };
     }
@@ -28,12 +28,12 @@ pieces-preserved c =
     let last : c.lines.inside.right ≡ rect.right = ap (λ (e : Rect). e.right) same in
     let on : line ≤ next = omega (arith, c.min-right.ensures, c.pieces-test.true) in
     let part = c.between-piece.ensures ∙ ap (λ (e : Rect). before next (from_column line e)) same in
-    let found = c.in_ok-violated.ensures.value ∙ ap (λ (e : Rect). violated_rules rules e (layout_in c.args.pool.now c.pieces.planes)) part
+    let found = c.in_ok-more.ensures.value ∙ ap (λ (e : Rect). violated_rules rules e (layout_in c.args.pool.now c.pieces.planes)) part
     ∙ ap (λ (planes : List ℕ). violated_rules rules (before next (from_column line rect)) (layout_in c.args.pool.now planes)) so_far.owners in
     record {
       from = omega (arith, so_far.from, on);
       to = omega (arith, c.min-right.ensures, last);
-      value = violated_rules-columns rules rect (layout_in c.args.pool.now c.args.planes.now) line next c.pieces.violated c.in_ok-violated.field-0 so_far.from on so_far.value found;
+      value = c.union-violated.ensures ∙ violated_rules-columns rules rect (layout_in c.args.pool.now c.args.planes.now) line next c.pieces.violated _ so_far.from on so_far.value found;
       owners = c.why_in_piece.ensures.owners ∙ so_far.owners;
       rooms = record { room = c.why_in_piece.ensures.rooms.room ∙ so_far.rooms.room; pieces = c.why_in_piece.ensures.rooms.pieces ∙ so_far.rooms.pieces };
     }

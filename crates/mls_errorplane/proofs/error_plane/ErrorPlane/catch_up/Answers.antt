@@ -12,62 +12,60 @@ use Rattle.mls_errorplane.proofs.error_plane.ErrorPlane.catch_up.Goals as goal
 pub step-requires-clause-planes : goal.step-requires-clause-planes
 step-requires-clause-planes c =
     let so_far = c.steps.invariant in
-    subst (λ (planes : List ℕ). All (HasPlane c.steps.pool) planes) (sym so_far.owners)
-    (HasPlane-apart c.args.pool.now c.steps.pool c.args.self.now.owner c.args.planes.now so_far.only c.requires.apart c.requires.planes)
+    subst (λ (planes : List ℕ). All (HasPlane c.steps.workspace.pool) planes) (sym so_far.owners)
+    (HasPlane-apart c.args.workspace.now.pool c.steps.workspace.pool c.args.self.now.owner c.args.planes.now so_far.only c.requires.apart c.requires.planes)
 
 pub steps-smaller : goal.steps-smaller
 steps-smaller c =
-    area_of-Done c.args.rules.now (layout_in c.steps.pool c.steps.planes) c.args.limit (checking_of c.steps.pool c.steps.self) (checking_of c.step.new.pool c.step.new.self)
+    area_of-Done c.args.rules.now (layout_in c.steps.workspace.pool c.steps.planes) c.args.limit (checking_of c.steps.workspace.pool c.steps.self) (checking_of c.step.new.workspace.pool c.step.new.self)
     c.areas.ensures.kept c.in-Done.ensures.stepped
 
 pub steps-preserved : goal.steps-preserved
 steps-preserved c =
     let so_far = c.steps.invariant in
     let rules = c.args.rules.now in
-    let old = checking_of c.args.pool.now c.args.self.now in
-    let mid = checking_of c.steps.pool c.steps.self in
-    let new = checking_of c.step.new.pool c.step.new.self in
-    let here = ap (layout_in c.steps.pool) so_far.owners ∙ layout_in-apart c.args.pool.now c.steps.pool c.args.self.now.owner c.args.planes.now so_far.only c.requires.apart in
+    let old = checking_of c.args.workspace.now.pool c.args.self.now in
+    let mid = checking_of c.steps.workspace.pool c.steps.self in
+    let new = checking_of c.step.new.workspace.pool c.step.new.self in
+    let here = ap (layout_in c.steps.workspace.pool) so_far.owners ∙ layout_in-apart c.args.workspace.now.pool c.steps.workspace.pool c.args.self.now.owner c.args.planes.now so_far.only c.requires.apart in
     let step = subst (λ (layout : Layout). HasStepped rules layout c.args.limit mid Done new) here c.in-Done.ensures.stepped in
     record {
-      after = Steps-more rules (layout_in c.args.pool.now c.args.planes.now) c.args.limit c.steps.done old mid new so_far.after step;
-      few = λ kept. few-Done rules (layout_in c.steps.pool c.steps.planes) c.args.limit c.steps.done mid new c.areas.ensures.kept so_far.few c.in-Done.ensures.stepped;
+      after = Steps-more rules (layout_in c.args.workspace.now.pool c.args.planes.now) c.args.limit c.steps.done old mid new so_far.after step;
+      few = λ kept. few-Done rules (layout_in c.steps.workspace.pool c.steps.planes) c.args.limit c.steps.done mid new c.areas.ensures.kept so_far.few c.in-Done.ensures.stepped;
       marks = c.step.ensures.marks;
-      only = ChangesOnly-trans so_far.only (subst (ChangesOnly c.steps.pool c.step.new.pool) so_far.owner c.step.ensures.only);
+      only = ChangesOnly-trans so_far.only (subst (ChangesOnly c.steps.workspace.pool c.step.new.workspace.pool) so_far.owner c.step.ensures.only);
       owner = c.step.ensures.owner ∙ so_far.owner;
       owners = c.step.ensures.owners ∙ so_far.owners;
-      pieces_room = c.step.ensures.pieces_room ∙ so_far.pieces_room;
-      rooms = record { room = c.step.ensures.rooms.room ∙ so_far.rooms.room; pieces = c.step.ensures.rooms.pieces ∙ so_far.rooms.pieces };
     }
 
 pub returns-in-Idle-clause-caught_up : goal.returns-in-Idle-clause-caught_up
 returns-in-Idle-clause-caught_up c =
     let so_far = c.steps.invariant in
     let rules = c.args.rules.now in
-    let mid = checking_of c.steps.pool c.steps.self in
-    let new = checking_of c.step.new.pool c.step.new.self in
-    let here = ap (layout_in c.steps.pool) so_far.owners ∙ layout_in-apart c.args.pool.now c.steps.pool c.args.self.now.owner c.args.planes.now so_far.only c.requires.apart in
-    HasCaughtUp-Idle rules (layout_in c.args.pool.now c.args.planes.now) c.args.limit c.steps.done (checking_of c.args.pool.now c.args.self.now) mid new so_far.after
+    let mid = checking_of c.steps.workspace.pool c.steps.self in
+    let new = checking_of c.step.new.workspace.pool c.step.new.self in
+    let here = ap (layout_in c.steps.workspace.pool) so_far.owners ∙ layout_in-apart c.args.workspace.now.pool c.steps.workspace.pool c.args.self.now.owner c.args.planes.now so_far.only c.requires.apart in
+    HasCaughtUp-Idle rules (layout_in c.args.workspace.now.pool c.args.planes.now) c.args.limit c.steps.done (checking_of c.args.workspace.now.pool c.args.self.now) mid new so_far.after
     (subst (λ (layout : Layout). HasStepped rules layout c.args.limit mid Idle new) here c.in-Idle.ensures.stepped)
 
 pub returns-in-Full-clause-caught_up : goal.returns-in-Full-clause-caught_up
 returns-in-Full-clause-caught_up c =
     let so_far = c.steps.invariant in
     let rules = c.args.rules.now in
-    let mid = checking_of c.steps.pool c.steps.self in
-    let new = checking_of c.step.new.pool c.step.new.self in
-    let here = ap (layout_in c.steps.pool) so_far.owners ∙ layout_in-apart c.args.pool.now c.steps.pool c.args.self.now.owner c.args.planes.now so_far.only c.requires.apart in
-    HasCaughtUp-Full rules (layout_in c.args.pool.now c.args.planes.now) c.args.limit c.steps.done (checking_of c.args.pool.now c.args.self.now) mid new so_far.after
+    let mid = checking_of c.steps.workspace.pool c.steps.self in
+    let new = checking_of c.step.new.workspace.pool c.step.new.self in
+    let here = ap (layout_in c.steps.workspace.pool) so_far.owners ∙ layout_in-apart c.args.workspace.now.pool c.steps.workspace.pool c.args.self.now.owner c.args.planes.now so_far.only c.requires.apart in
+    HasCaughtUp-Full rules (layout_in c.args.workspace.now.pool c.args.planes.now) c.args.limit c.steps.done (checking_of c.args.workspace.now.pool c.args.self.now) mid new so_far.after
     (subst (λ (layout : Layout). HasStepped rules layout c.args.limit mid Full new) here c.in-Full.ensures.stepped)
 
 pub returns-in-Memory-clause-caught_up : goal.returns-in-Memory-clause-caught_up
 returns-in-Memory-clause-caught_up c =
     let so_far = c.steps.invariant in
     let rules = c.args.rules.now in
-    let mid = checking_of c.steps.pool c.steps.self in
-    let new = checking_of c.step.new.pool c.step.new.self in
-    let here = ap (layout_in c.steps.pool) so_far.owners ∙ layout_in-apart c.args.pool.now c.steps.pool c.args.self.now.owner c.args.planes.now so_far.only c.requires.apart in
-    HasCaughtUp-Memory rules (layout_in c.args.pool.now c.args.planes.now) c.args.limit c.steps.done (checking_of c.args.pool.now c.args.self.now) mid new so_far.after
+    let mid = checking_of c.steps.workspace.pool c.steps.self in
+    let new = checking_of c.step.new.workspace.pool c.step.new.self in
+    let here = ap (layout_in c.steps.workspace.pool) so_far.owners ∙ layout_in-apart c.args.workspace.now.pool c.steps.workspace.pool c.args.self.now.owner c.args.planes.now so_far.only c.requires.apart in
+    HasCaughtUp-Memory rules (layout_in c.args.workspace.now.pool c.args.planes.now) c.args.limit c.steps.done (checking_of c.args.workspace.now.pool c.args.self.now) mid new so_far.after
     (subst (λ (layout : Layout). HasStepped rules layout c.args.limit mid Memory new) here c.in-Memory.ensures.stepped)
 
 pub steps-init : goal.steps-init
@@ -75,11 +73,9 @@ steps-init c = record {
   after = refl;
   few = λ kept. omega (arith, area_of-le c.args.self.now.dirty kept);
   marks = c.requires.marks;
-  only = ChangesOnly-refl c.args.pool.now c.args.self.now.owner;
+  only = ChangesOnly-refl c.args.workspace.now.pool c.args.self.now.owner;
   owner = refl;
   owners = refl;
-  pieces_room = refl;
-  rooms = record { room = refl; pieces = refl };
 }
 
 pub returns-clause-caught_up : goal.returns-clause-caught_up

@@ -17,36 +17,36 @@ use Rattle.mls_errorplane.proofs.error_plane.ErrorPlane.step.Goals as goal
 pub mark-requires-clause-pieces_fit : goal.mark-requires-clause-pieces_fit
 mark-requires-clause-pieces_fit c =
     let few : most_pieces c.in-Ok.finding.piece ≤ 32769 = subst (λ (e : Rect). most_pieces e ≤ 32769) (sym c.in-Ok.ensures.piece) c.in-Some.ensures.few in
-    omega (arith, few, c.check_piece.ensures.rooms.pieces, c.requires.pieces_fit)
+    omega (arith, few, c.check_piece.ensures.rooms.pieces, c.args.workspace.now.rooms.pieces)
 
 pub mark-requires-clause-list_fits : goal.mark-requires-clause-list_fits
 mark-requires-clause-list_fits c =
     let few : most_pieces c.in-Ok.finding.piece ≤ 32769 = subst (λ (e : Rect). most_pieces e ≤ 32769) (sym c.in-Ok.ensures.piece) c.in-Some.ensures.few in
-    omega (arith, few, c.requires.list_fits)
+    omega (arith, few, c.args.workspace.now.rooms.list)
 
 pub returns-in_default-mark-clause-stepped : goal.returns-in_default-mark-clause-stepped
 returns-in_default-mark-clause-stepped c =
-    let layout = layout_in c.args.pool.now c.args.planes.now in
+    let layout = layout_in c.args.workspace.now.pool c.args.planes.now in
     let finding = c.in-Ok.finding in
-    let old = picture_in c.args.pool.now c.args.self.now.owner in
+    let old = picture_in c.args.workspace.now.pool c.args.self.now.owner in
     let first = ap (λ (e : ErrorPlane). first_piece_of e.dirty) (sym c.self.view_is) ∙ sym c.in-Some.ensures.piece in
     let shown = checked-marks_picture c.args.rules.now layout c.args.self.now.dirty c.in-Some.piece finding.piece old (marks finding.marks) first c.in-Ok.ensures.piece c.in-Ok.ensures.marks c.requires.marks.marks in
-    let here = ap (λ (e : ErrorPlane). remarked (picture_in c.args.pool.now e.owner) finding.piece (marks finding.marks)) c.self.view_is in
-    HasStepped-Full c.args.rules.now layout c.args.limit old (remarked (picture_in c.args.pool.now c.self.inside.plane) finding.piece (marks finding.marks)) c.args.self.now.dirty c.in-Some.piece
+    let here = ap (λ (e : ErrorPlane). remarked (picture_in c.args.workspace.now.pool e.owner) finding.piece (marks finding.marks)) c.self.view_is in
+    HasStepped-Full c.args.rules.now layout c.args.limit old (remarked (picture_in c.args.workspace.now.pool c.self.inside.plane) finding.piece (marks finding.marks)) c.args.self.now.dirty c.in-Some.piece
     (checking_of c.mark.new.pool (record { owner = c.mark.new.plane; dirty = c.self.inside.dirty })) first (here ∙ shown) (c.in_default-mark.ensures.too_many.0 refl)
     (ap (λ (pool : Pool). checking_of pool (record { owner = c.mark.new.plane; dirty = c.self.inside.dirty })) c.in_default-mark.ensures.refused
-    ∙ ap (λ (owner : ℕ). checking_of c.args.pool.now (record { owner = owner; dirty = c.self.inside.dirty })) c.mark.ensures.plane
-    ∙ ap (checking_of c.args.pool.now) c.self.view_is)
+    ∙ ap (λ (owner : ℕ). checking_of c.args.workspace.now.pool (record { owner = owner; dirty = c.self.inside.dirty })) c.mark.ensures.plane
+    ∙ ap (checking_of c.args.workspace.now.pool) c.self.view_is)
 
 pub returns-clause-stepped : goal.returns-clause-stepped
 returns-clause-stepped c =
-    let layout = layout_in c.args.pool.now c.args.planes.now in
+    let layout = layout_in c.args.workspace.now.pool c.args.planes.now in
     let finding = c.in-Ok.finding in
-    let old = picture_in c.args.pool.now c.args.self.now.owner in
+    let old = picture_in c.args.workspace.now.pool c.args.self.now.owner in
     let first = ap (λ (e : ErrorPlane). first_piece_of e.dirty) (sym c.self.view_is) ∙ sym c.in-Some.ensures.piece in
     let shown = checked-marks_picture c.args.rules.now layout c.args.self.now.dirty c.in-Some.piece finding.piece old (marks finding.marks) first c.in-Ok.ensures.piece c.in-Ok.ensures.marks c.requires.marks.marks in
-    let here = ap (λ (e : ErrorPlane). remarked (picture_in c.args.pool.now e.owner) finding.piece (marks finding.marks)) c.self.view_is in
-    let shows : picture_in c.mark.new.pool c.mark.new.plane ≡ remarked (picture_in c.args.pool.now c.self.inside.plane) finding.piece (marks finding.marks) =
+    let here = ap (λ (e : ErrorPlane). remarked (picture_in c.args.workspace.now.pool e.owner) finding.piece (marks finding.marks)) c.self.view_is in
+    let shows : picture_in c.mark.new.pool c.mark.new.plane ≡ remarked (picture_in c.args.workspace.now.pool c.self.inside.plane) finding.piece (marks finding.marks) =
     ap (picture_in c.mark.new.pool) c.mark.ensures.plane ∙ c.in-Ok-mark.ensures.marks in
     HasStepped-Done c.args.rules.now layout c.args.limit old (picture_in c.mark.new.pool c.mark.new.plane) c.args.self.now.dirty c.drop_piece.new.self c.in-Some.piece first (shows ∙ here ∙ shown)
     (λ more. false≢true (c.in-Ok-mark.ensures.too_many.1 (subst (λ (p : Picture). c.args.limit < tile_count world p) shows more)))
@@ -54,12 +54,12 @@ returns-clause-stepped c =
 
 pub returns-clause-marks : goal.returns-clause-marks
 returns-clause-marks c =
-    let layout = layout_in c.args.pool.now c.args.planes.now in
+    let layout = layout_in c.args.workspace.now.pool c.args.planes.now in
     let finding = c.in-Ok.finding in
-    let old = picture_in c.args.pool.now c.args.self.now.owner in
+    let old = picture_in c.args.workspace.now.pool c.args.self.now.owner in
     let first = ap (λ (e : ErrorPlane). first_piece_of e.dirty) (sym c.self.view_is) ∙ sym c.in-Some.ensures.piece in
     let shown = checked-marks_picture c.args.rules.now layout c.args.self.now.dirty c.in-Some.piece finding.piece old (marks finding.marks) first c.in-Ok.ensures.piece c.in-Ok.ensures.marks c.requires.marks.marks in
-    let here = ap (λ (e : ErrorPlane). remarked (picture_in c.args.pool.now e.owner) finding.piece (marks finding.marks)) c.self.view_is in
+    let here = ap (λ (e : ErrorPlane). remarked (picture_in c.args.workspace.now.pool e.owner) finding.piece (marks finding.marks)) c.self.view_is in
     record {
       strips = subst (λ (owner : ℕ). HasStrips c.mark.new.pool owner) (sym c.mark.ensures.plane) c.mark.ensures.strips;
       marks = marks_picture-alone (picture_in c.mark.new.pool c.mark.new.plane) (checked_marks c.args.rules.now layout (first_piece_of c.args.self.now.dirty) (is_marked old))
