@@ -5,16 +5,17 @@ use Rattle.std.proofs.lemmas.List.Elements.{All-push}
 use Rattle.std.proofs.lemmas.List.Quantifiers.{all_pairs_push}
 use Rattle.mls_library.proofs.KeptCells.{IsCellApart}
 use Rattle.mls_paint.specs.Owners.{AddsOwners}
-use Rattle.mls_session.specs.Designs.{HasRightMarks}
-use Rattle.mls_session.specs.Drawings.{CanDump, plane_reserve}
+use Rattle.mls_session.specs.Designs.{CanDump, HasRightMarks}
 use Rattle.mls_session.specs.Journals.{IsLegal, Kept, kept_at_opening}
 use Rattle.mls_session.specs.OwnSteps.{Terms}
-use Rattle.mls_session.specs.Sessions.{IsHome, Session, kept_of, owners_of, state_of, terms_of}
+use Rattle.mls_session.specs.Quotas.{plane_reserve}
+use Rattle.mls_session.specs.Sessions.{IsHome, IsMadeFor, Session, kept_of, owners_of, state_of}
+use Rattle.mls_session.specs.Setups.{terms_of}
 use Rattle.mls_tilepool.specs.Pools.{Pool, unreserved}
-use Rattle.mls_server.specs.Servers.{AreApart, Server, seat_for, setting_of, world_of}
+use Rattle.mls_server.specs.Servers.{AreApart, IsOpenIn, Server, seat_for, setting_of, world_of}
 use Rattle.mls_server.specs.Settings.{session_reserve}
 use Rattle.mls_server.specs.Worlds.{Seat, with_session}
-use Rattle.mls_server.proofs.OtherSessions.{AreOpenIn, CanDump-apart, IsMadeFor-apart, IsMadeIn, KeepsOthers, apart-AddsOwners, cells_apart-AddsOwners, others-AddsOwners, seat_for-apart, world_of-apart}
+use Rattle.mls_server.proofs.OtherSessions.{AreOpenIn, CanDump-apart, IsOpenIn-apart, KeepsOthers, apart-AddsOwners, cells_apart-AddsOwners, others-AddsOwners, seat_for-apart, world_of-apart}
 use Rattle.mls_server.proofs.ReplacedSessions.{Entry, map_same}
 
 -- an empty journal is legal
@@ -25,35 +26,32 @@ IsLegal-opening terms = record {
 }
 
 -- how many planes a session has
-pub length-owners_of : (session : Session) (planes : ℕ) → length session.design.drawing.planes ≡ planes → length (owners_of session) ≡ planes + 1
-length-owners_of session planes same = length-append session.design.drawing.planes (session.design.errors.owner ∷ []) ∙ ap (λ n. n + 1) same
+pub length-owners_of : (session : Session) (planes : ℕ) → length session.design.planes ≡ planes → length (owners_of session) ≡ planes + 1
+length-owners_of session planes same = length-append session.design.planes (session.design.errors.owner ∷ []) ∙ ap (λ n. n + 1) same
 
 module _ (server : Server) (are : AreOpenIn server) (session : Session) {new : Pool} {tiles : ℕ} (added : AddsOwners server.pool new (owners_of session) tiles) where
   others : KeepsOthers server.pool new (owners_of session)
   others = others-AddsOwners added
 
-  cells_apart : All (IsCellApart (owners_of session)) server.library
-  cells_apart = cells_apart-AddsOwners added server.library are.cells_home.home
+  cells_apart : All (IsCellApart (owners_of session)) server.setup.library
+  cells_apart = cells_apart-AddsOwners added server.setup.library are.cells_home.home
 
-  cells_stay : CanDump server.tech new server.library []
-  cells_stay = CanDump-apart others server.library cells_apart are.cells_home
+  cells_stay : CanDump server.setup new []
+  cells_stay = CanDump-apart others cells_apart are.cells_home
 
   -- the open sessions have none of its owners
   apart : All (λ entry. AreApart (owners_of entry.1.session) (owners_of session)) server.sessions
   apart k d within = apart-AddsOwners added (get_or server.sessions k d).1.session (are.made k d within).home
 
-  module _ (home : IsHome new session) (planes : length session.design.drawing.planes ≡ server.tech.plane_count) (quota : session.design.drawing.quota ≡ server.quota)
-      (limit : session.limit ≡ server.limit) (right : HasRightMarks server.rules (state_of new session).design)
-      (opening : kept_of new session ≡ kept_at_opening server.rules) where
-    IsMadeFor-opened : IsMadeIn server new session
-    IsMadeFor-opened = record {
-      planes_match = planes;
-      quota_match = quota;
-      limit_match = limit;
+  module _ (home : IsHome new session) (made_for : IsMadeFor server.setup session) (right : HasRightMarks server.setup.rules (state_of new session).design)
+      (opening : kept_of new session ≡ kept_at_opening server.setup.rules) where
+    IsOpenIn-opened : IsOpenIn server.setup new session
+    IsOpenIn-opened = record {
+      made_for = made_for;
       home = home;
       can_dump = record { home = cells_stay.home; apart = cells_apart; planes = cells_stay.planes };
       marks_right = right;
-      legal = subst (IsLegal (terms_of server.tech server.rules new server.library session)) (sym opening) (IsLegal-opening (terms_of server.tech server.rules new server.library session));
+      legal = subst (IsLegal (terms_of server.setup new)) (sym opening) (IsLegal-opening (terms_of server.setup new));
     }
 
     module _ (name : List ℕ) where
@@ -69,8 +67,8 @@ module _ (server : Server) (are : AreOpenIn server) (session : Session) {new : P
       AreOpen-opened few = record {
         cells_home = cells_stay;
         made =
-            All-push (λ (entry : Entry). IsMadeIn server new entry.1.session) server.sessions last
-            (λ k d within. IsMadeFor-apart others (get_or server.sessions k d).1.session (apart k d within) cells_apart (are.made k d within)) IsMadeFor-opened;
+            All-push (λ (entry : Entry). IsOpenIn server.setup new entry.1.session) server.sessions last
+            (λ k d within. IsOpenIn-apart others (get_or server.sessions k d).1.session (apart k d within) cells_apart (are.made k d within)) IsOpenIn-opened;
         apart = all_pairs_push (λ (a b : Entry). AreApart (owners_of a.1.session) (owners_of b.1.session)) server.sessions last are.apart apart;
         rising =
             all_pairs_push (λ (a b : Entry). a.1.id < b.1.id) server.sessions last are.rising
@@ -84,18 +82,18 @@ module _ (server : Server) (are : AreOpenIn server) (session : Session) {new : P
 
       seats-opened :
           map (seat_for new) (server.sessions ++ last ∷ [])
-          ≡ map (seat_for server.pool) server.sessions ++ record { id = server.given + 1; name = name; kept = kept_at_opening server.rules } ∷ []
+          ≡ map (seat_for server.pool) server.sessions ++ record { id = server.given + 1; name = name; kept = kept_at_opening server.setup.rules } ∷ []
       seats-opened =
           map-append (seat_for new) server.sessions (last ∷ [])
           ∙ ap (λ (seats : List Seat). seats ++ seat_for new last ∷ [])
           (map_same (seat_for new) (seat_for server.pool) server.sessions (λ k d within. seat_for-apart others (get_or server.sessions k d) (apart k d within)))
           ∙ ap (λ (kept : Kept). map (seat_for server.pool) server.sessions ++ record { id = server.given + 1; name = name; kept = kept } ∷ []) opening
 
-      pub world_of-opened : tiles ≡ length (owners_of session) * plane_reserve server.quota → world_of opened ≡ with_session (world_of server) name
+      pub world_of-opened : tiles ≡ length (owners_of session) * plane_reserve server.setup.quota → world_of opened ≡ with_session (world_of server) name
       world_of-opened all = world_of-apart server others cells_apart (server.given + 1) (server.sessions ++ last ∷ []) _ _ seats-opened left
         where
           left : unreserved new ≡ unreserved server.pool - session_reserve (setting_of server)
           left =
               let taken = added.taken in
-              let reserve : tiles ≡ session_reserve (setting_of server) = all ∙ ap (λ n. n * plane_reserve server.quota) (length-owners_of session server.tech.plane_count planes) in
+              let reserve : tiles ≡ session_reserve (setting_of server) = all ∙ ap (λ n. n * plane_reserve server.setup.quota) (length-owners_of session server.setup.tech.plane_count made_for.design.planes) in
               omega (arith, taken, reserve)

@@ -5,19 +5,19 @@ use Rattle.std.proofs.lemmas.Bool.{cases_lt}
 use Rattle.indexmap.specs.Layout.{length-set_value_at, set_value_at}
 use Rattle.mls_paint.specs.Owners.{ChangesAmong}
 use Rattle.mls_paint.proofs.OwnerFrames.{unreserved-ChangesAmong}
-use Rattle.mls_session.specs.Designs.{HasRightMarks}
-use Rattle.mls_session.specs.Drawings.{CanDump}
+use Rattle.mls_session.specs.Designs.{CanDump, HasRightMarks}
 use Rattle.mls_session.specs.Journals.{IsLegal, Kept}
 use Rattle.mls_session.specs.OwnSteps.{Terms}
 use Rattle.mls_session.specs.declared.journal.Entry.{Entry as JournalEntry}
-use Rattle.mls_session.specs.Sessions.{KeepsPlanes, Session, kept_of, owners_of, state_of, terms_of}
+use Rattle.mls_session.specs.Sessions.{KeepsPlanes, Session, kept_of, owners_of, state_of}
+use Rattle.mls_session.specs.Setups.{terms_of}
 use Rattle.mls_tilepool.specs.Pools.{Pool}
 use Rattle.mls_server.specs.Events.{OnSeat}
-use Rattle.mls_server.specs.Servers.{AreApart, OpenSession, Server, owners_under, place_in, seat_for, setting_of, world_of}
+use Rattle.mls_server.specs.Servers.{AreApart, IsOpenIn, OpenSession, Server, owners_under, place_in, seat_for, setting_of, world_of}
 use Rattle.mls_server.specs.Settings.{terms_for}
 use Rattle.mls_server.specs.Worlds.{Seat, kept_in, seat_in, with_kept}
-use Rattle.mls_server.proofs.KeptSessions.{IsMadeFor-kept, KeepsPlanes-same, others-kept, owners_of-kept}
-use Rattle.mls_server.proofs.OtherSessions.{AreOpenIn, CanDump-apart, IsMadeFor-apart, IsMadeIn, KeepsOthers, seat_for-apart, world_of-apart}
+use Rattle.mls_server.proofs.KeptSessions.{IsOpenIn-kept, KeepsPlanes-same, others-kept, owners_of-kept}
+use Rattle.mls_server.proofs.OtherSessions.{AreOpenIn, CanDump-apart, IsOpenIn-apart, KeepsOthers, seat_for-apart, world_of-apart}
 use Rattle.mls_server.proofs.ReplacedSessions.{All-at, All-replaced, AllBut, AllPairs-replaced, Entry, HasOtherId, IsAt, IsAt-values, StaysApart, at-get_or, at-within, found-id, missing-id, others-differ, owners_in-at, same-replaced, seat_in-at, seat_in-none, seats-replaced}
 use Rattle.mls_server.proofs.SessionTerms.{terms_of-setting}
 
@@ -31,9 +31,9 @@ not_open {now} {server} shows id place first none =
       ap world_of shows,
     )
 
--- what no call of the session changes
-abbrev pub own_terms : Server → OpenSession → Terms
-own_terms server member = terms_of server.tech server.rules server.pool server.library member.session
+-- what no call of a session changes
+abbrev pub own_terms : Server → Terms
+own_terms server = terms_of server.setup server.pool
 
 -- the server's session at this place is the one of this id, and no other has its id or one of its owners
 pub record IsAsked (now server : Server) (id place : ℕ) (before : OpenSession) : Type 0 where
@@ -41,8 +41,8 @@ pub record IsAsked (now server : Server) (id place : ℕ) (before : OpenSession)
   pub are : AreOpenIn server
   pub found : IsAt server.sessions place before
   pub has_id : before.id ≡ id
-  pub made : IsMadeIn server server.pool before.session
-  pub terms : own_terms server before ≡ terms_for (setting_of now)
+  pub made : IsOpenIn server.setup server.pool before.session
+  pub terms : own_terms server ≡ terms_for (setting_of now)
   pub kept : kept_in (world_of now) id ≡ Some (kept_of server.pool before.session)
   pub owners : owners_under now id ≡ owners_of before.session
   pub others : AllBut (HasOtherId id) server.sessions place
@@ -58,7 +58,7 @@ is_asked {now} {server} shows are id place first before scanned = record {
   found = at;
   has_id = is;
   made = made;
-  terms = terms_of-setting server before.session made.quota_match made.limit_match ∙ ap (λ (on : Server). terms_for (setting_of on)) shows;
+  terms = terms_of-setting server ∙ ap (λ (on : Server). terms_for (setting_of on)) shows;
   kept = ap (λ (on : Server). kept_in (world_of on) id) (sym shows) ∙ seat_in-at id server.pool server.sessions place before at is differ;
   owners = ap (λ (on : Server). owners_under on id) (sym shows) ∙ owners_in-at id server.pool server.sessions place before at is differ;
   others = differ;
@@ -80,18 +80,18 @@ is_asked {now} {server} shows are id place first before scanned = record {
     differ : AllBut (HasOtherId id) server.sessions place
     differ = others-differ server.sessions place id before are.rising at is
 
-    made : IsMadeIn server server.pool before.session
-    made = All-at (λ (member : OpenSession). IsMadeIn server server.pool member.session) server.sessions place before are.made at
+    made : IsOpenIn server.setup server.pool before.session
+    made = All-at (λ (member : OpenSession). IsOpenIn server.setup server.pool member.session) server.sessions place before are.made at
 
 module _ {now server : Server} {id place : ℕ} {before : OpenSession} (asked : IsAsked now server id place before) where
   -- ---- what stays beside it, as only its own owners change
   module _ {new : Pool} (others : KeepsOthers server.pool new (owners_of before.session)) where
-    pub cells-beside : CanDump server.tech new server.library []
-    cells-beside = CanDump-apart others server.library asked.made.can_dump.apart asked.are.cells_home
+    pub cells-beside : CanDump server.setup new []
+    cells-beside = CanDump-apart others asked.made.can_dump.apart asked.are.cells_home
 
-    pub made-beside : AllBut (λ entry. IsMadeIn server new entry.1.session) server.sessions place
+    pub made-beside : AllBut (λ entry. IsOpenIn server.setup new entry.1.session) server.sessions place
     made-beside k d within differ =
-        IsMadeFor-apart others (get_or server.sessions k d).1.session (asked.apart k d within differ) asked.made.can_dump.apart (asked.are.made k d within)
+        IsOpenIn-apart others (get_or server.sessions k d).1.session (asked.apart k d within differ) asked.made.can_dump.apart (asked.are.made k d within)
 
     pub stays-beside : AllBut (StaysApart id server.pool new) server.sessions place
     stays-beside k d within differ = (asked.others k d within differ, seat_for-apart others (get_or server.sessions k d) (asked.apart k d within differ))
@@ -118,13 +118,13 @@ module _ {now server : Server} {id place : ℕ} {before : OpenSession} (asked : 
         subst₂ (λ (pool : Pool) (owners : List ℕ). ChangesAmong pool new owners) (ap (λ (on : Server). on.pool) asked.shows) (sym asked.owners) keeps.planes.only
 
     pub AreOpen-changed :
-        (HasRightMarks server.rules (state_of server.pool before.session).design → HasRightMarks server.rules (state_of new after).design)
-        → (IsLegal (own_terms server before) (kept_of server.pool before.session) → IsLegal (own_terms server before) (kept_of new after)) → AreOpenIn changed
+        (HasRightMarks server.setup.rules (state_of server.pool before.session).design → HasRightMarks server.setup.rules (state_of new after).design)
+        → (IsLegal (own_terms server) (kept_of server.pool before.session) → IsLegal (own_terms server) (kept_of new after)) → AreOpenIn changed
     AreOpen-changed right legal = record {
       cells_home = cells-beside (others-kept keeps);
       made =
-          All-replaced (λ entry. IsMadeIn server new entry.1.session) member server.sessions place (made-beside (others-kept keeps))
-          (λ name. IsMadeFor-kept keeps asked.made right legal);
+          All-replaced (λ entry. IsOpenIn server.setup new entry.1.session) member server.sessions place (made-beside (others-kept keeps))
+          (λ name. IsOpenIn-kept keeps asked.made right legal);
       apart =
           AllPairs-replaced (λ entry. owners_of entry.1.session) before member (λ name. owners_of-kept keeps) AreApart server.sessions place asked.found asked.are.apart;
       rising = AllPairs-replaced (λ entry. entry.1.id) before member (λ name. refl) (λ a b. a < b) server.sessions place asked.found asked.are.rising;
@@ -142,7 +142,7 @@ module _ {now server : Server} {id place : ℕ} {before : OpenSession} (asked : 
 
     -- whatever the session did
     pub OnSeat-changed :
-        {A : Type 0} (Does : Terms → Kept → A → Kept → Type 0) (answer : A) → Does (own_terms server before) (kept_of server.pool before.session) answer (kept_of new after)
+        {A : Type 0} (Does : Terms → Kept → A → Kept → Type 0) (answer : A) → Does (own_terms server) (kept_of server.pool before.session) answer (kept_of new after)
         → OnSeat (world_of now) id (Does (terms_for (setting_of now))) (Ok answer) (world_of changed)
     OnSeat-changed Does answer does = (
       kept_of server.pool before.session,

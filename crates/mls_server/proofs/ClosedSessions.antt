@@ -4,15 +4,15 @@ use Rattle.std.specs.List.{remove}
 use Rattle.std.proofs.lemmas.List.Edits.{length-remove}
 use Rattle.std.proofs.lemmas.List.Quantifiers.{all_pairs_remove}
 use Rattle.mls_paint.specs.Owners.{RemovesOwners}
-use Rattle.mls_session.specs.Drawings.{plane_reserve}
+use Rattle.mls_session.specs.Quotas.{plane_reserve}
 use Rattle.mls_session.specs.Sessions.{owners_of}
 use Rattle.mls_tilepool.specs.Pools.{Pool, tiles_of, unreserved}
-use Rattle.mls_server.specs.Servers.{AreApart, OpenSession, Server, owners_under, setting_of, world_of}
+use Rattle.mls_server.specs.Servers.{AreApart, IsOpenIn, OpenSession, Server, owners_under, setting_of, world_of}
 use Rattle.mls_server.specs.Settings.{session_reserve}
 use Rattle.mls_server.specs.Worlds.{without_session}
 use Rattle.mls_server.proofs.AddedSessions.{length-owners_of}
 use Rattle.mls_server.proofs.AskedSessions.{IsAsked, cells-beside, made-beside, stays-beside}
-use Rattle.mls_server.proofs.OtherSessions.{AreOpenIn, IsMadeIn, KeepsOthers, others-RemovesOwners, world_of-apart}
+use Rattle.mls_server.proofs.OtherSessions.{AreOpenIn, KeepsOthers, others-RemovesOwners, world_of-apart}
 use Rattle.mls_server.proofs.ReplacedSessions.{All-removed, Entry, at-within, seats-removed}
 
 module _ {now server : Server} {id place : ℕ} {closed : OpenSession} (asked : IsAsked now server id place closed) {new : Pool} {tiles : ℕ}
@@ -29,7 +29,7 @@ module _ {now server : Server} {id place : ℕ} {closed : OpenSession} (asked : 
   pub AreOpen-closed : AreOpenIn left
   AreOpen-closed = record {
     cells_home = cells-beside asked others;
-    made = All-removed (λ entry. IsMadeIn server new entry.1.session) server.sessions place within-closed (made-beside asked others);
+    made = All-removed (λ entry. IsOpenIn server.setup new entry.1.session) server.sessions place within-closed (made-beside asked others);
     apart = all_pairs_remove (λ (a b : Entry). AreApart (owners_of a.1.session) (owners_of b.1.session)) server.sessions place within-closed asked.are.apart;
     rising = all_pairs_remove (λ (a b : Entry). a.1.id < b.1.id) server.sessions place within-closed asked.are.rising;
     within =
@@ -37,7 +37,7 @@ module _ {now server : Server} {id place : ℕ} {closed : OpenSession} (asked : 
     few = let shorter = length-remove server.sessions place within-closed in let few = asked.are.few in omega (arith, shorter, few);
   }
 
-  pub world_of-closed : tiles ≡ length (owners_of closed.session) * plane_reserve closed.session.design.drawing.quota → world_of left ≡ without_session (world_of now) id
+  pub world_of-closed : tiles ≡ length (owners_of closed.session) * plane_reserve closed.session.design.quota → world_of left ≡ without_session (world_of now) id
   world_of-closed all =
       world_of-apart server others asked.made.can_dump.apart server.given (remove server.sessions place) _ _
       (seats-removed id server.pool new server.sessions place closed asked.found asked.has_id (stays-beside asked others))
@@ -46,8 +46,8 @@ module _ {now server : Server} {id place : ℕ} {closed : OpenSession} (asked : 
     where
       reserve : tiles ≡ session_reserve (setting_of server)
       reserve =
-          all ∙ ap (λ n. n * plane_reserve closed.session.design.drawing.quota) (length-owners_of closed.session server.tech.plane_count asked.made.planes_match)
-          ∙ ap (λ quota. (server.tech.plane_count + 1) * plane_reserve quota) asked.made.quota_match
+          all ∙ ap (λ n. n * plane_reserve closed.session.design.quota) (length-owners_of closed.session server.setup.tech.plane_count asked.made.made_for.design.planes)
+          ∙ ap (λ quota. (server.setup.tech.plane_count + 1) * plane_reserve quota) asked.made.made_for.design.quota
 
   pub frame-closed : (other : ℕ) → ¬ (Contains (owners_under now id) other) → tiles_of new other ≡ tiles_of now.pool other
   frame-closed other apart =

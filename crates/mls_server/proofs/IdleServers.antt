@@ -4,14 +4,13 @@ use Rattle.std.specs.List.{position, position_or_len}
 use Rattle.std.specs.Result.{IsOkAnd}
 use Rattle.std.proofs.lemmas.List.{length-map, map-append}
 use Rattle.std.proofs.lemmas.Simd.{map-map}
-use Rattle.mls_edgerule.specs.declared.edge_rule.EdgeRule.{EdgeRule}
 use Rattle.mls_geom.specs.Layouts.{Layout}
 use Rattle.mls_library.specs.Faults.{UnlessMemory}
 use Rattle.mls_library.specs.Libraries.{HavePlanes, Library, LoadsUnlessMemory, NamedCell, cell_layout, cell_named, loading_of, names_of}
 use Rattle.mls_library.specs.Libraries.{IsHome as AreCellsHome}
 use Rattle.mls_library.specs.declared.fault.CellFault.{CellFault}
 use Rattle.mls_paint.specs.Owners.{AddsOwners}
-use Rattle.mls_tech.specs.Readings.{Tech}
+use Rattle.mls_session.specs.declared.setup.Setup.{Setup}
 use Rattle.mls_text.specs.Words.{same_word}
 use Rattle.mls_tilepool.specs.Pools.{Pool, unreserved}
 use Rattle.mls_server.specs.Events.{LoadsCell, with_cell}
@@ -35,9 +34,8 @@ module _ (pool : Pool) where
 
 -- then only the cells need be at home
 pub AreOpen-none :
-    (tech : Tech) (rules : List EdgeRule) (quota limit : ℕ) (pool : Pool) (cells : Library) (given : ℕ) → AreCellsHome pool cells → HavePlanes tech.plane_count cells
-    → AreOpen tech rules quota limit pool cells given []
-AreOpen-none tech rules quota limit pool cells given home planes = record {
+    (setup : Setup) (pool : Pool) (given : ℕ) → AreCellsHome pool setup.library → HavePlanes setup.tech.plane_count setup.library → AreOpen setup pool given []
+AreOpen-none setup pool given home planes = record {
   cells_home = record {
     home = home;
     apart = λ k d within i o below found. let inside = found.1 in omega (arith, inside);
@@ -78,39 +76,38 @@ module _ (server : Server) (are : AreOpenIn server)
 
   -- the server with this pool and this library
   abbrev pub loaded : Pool → Library → Server
-  loaded pool library = record server { pool = pool; library = library }
+  loaded pool library = record server { pool = pool; setup = record server.setup { library = library } }
 
   pub AreOpen-loaded :
-      (pool : Pool) (library : Library) → AreCellsHome pool library → (HavePlanes server.tech.plane_count server.library → HavePlanes server.tech.plane_count library)
+      (pool : Pool) (library : Library) → AreCellsHome pool library → (HavePlanes server.setup.tech.plane_count server.setup.library → HavePlanes server.setup.tech.plane_count library)
       → AreOpenIn (loaded pool library)
   AreOpen-loaded pool library home planes =
-      subst (AreOpen server.tech server.rules server.quota server.limit pool library server.given) (sym none)
-      (AreOpen-none server.tech server.rules server.quota server.limit pool library server.given home (planes are.cells_home.planes))
+      subst (AreOpen (loaded pool library).setup pool server.given) (sym none) (AreOpen-none (loaded pool library).setup pool server.given home (planes are.cells_home.planes))
 
-  names-layouts : cell_names (world_of server).setting ≡ names_of server.library
-  names-layouts = map-map (λ cell. cell.name) (named_layout server.pool) server.library
+  names-layouts : cell_names (world_of server).setting ≡ names_of server.setup.library
+  names-layouts = map-map (λ cell. cell.name) (named_layout server.pool) server.setup.library
 
   loading-world : (name bytes : List ℕ)
-      → loading_of server.tech (cell_names (world_of server).setting) (unreserved server.pool) name bytes ≡ loading_of server.tech (names_of server.library) (unreserved server.pool) name bytes
-  loading-world name bytes = ap (λ names. loading_of server.tech names (unreserved server.pool) name bytes) names-layouts
+      → loading_of server.setup.tech (cell_names (world_of server).setting) (unreserved server.pool) name bytes ≡ loading_of server.setup.tech (names_of server.setup.library) (unreserved server.pool) name bytes
+  loading-world name bytes = ap (λ names. loading_of server.setup.tech names (unreserved server.pool) name bytes) names-layouts
 
   -- one cell more
   module _ (pool : Pool) (library : Library) (tiles : ℕ) (cell : NamedCell) (added : AddsOwners server.pool pool cell.planes tiles) where
     cells-loaded :
-        (name : List ℕ) (layout : Layout) → cell.name ≡ name → library ≡ server.library ++ cell ∷ [] → cell_layout pool cell ≡ layout
-        → named_layouts pool library ≡ named_layouts server.pool server.library ++ record { name = name; layout = layout } ∷ []
+        (name : List ℕ) (layout : Layout) → cell.name ≡ name → library ≡ server.setup.library ++ cell ∷ [] → cell_layout pool cell ≡ layout
+        → named_layouts pool library ≡ named_layouts server.pool server.setup.library ++ record { name = name; layout = layout } ∷ []
     cells-loaded name layout named more shows =
-        ap (named_layouts pool) more ∙ map-append (named_layout pool) server.library (cell ∷ [])
-        ∙ ap (λ (front : List NamedLayout). front ++ named_layout pool cell ∷ []) (named_layouts-apart (others-AddsOwners added) server.library (cells_apart-AddsOwners added server.library are.cells_home.home))
-        ∙ ap (λ (called : List ℕ). named_layouts server.pool server.library ++ record { name = called; layout = cell_layout pool cell } ∷ []) named
-        ∙ ap (λ (shown : Layout). named_layouts server.pool server.library ++ record { name = name; layout = shown } ∷ []) shows
+        ap (named_layouts pool) more ∙ map-append (named_layout pool) server.setup.library (cell ∷ [])
+        ∙ ap (λ (front : List NamedLayout). front ++ named_layout pool cell ∷ []) (named_layouts-apart (others-AddsOwners added) server.setup.library (cells_apart-AddsOwners added server.setup.library are.cells_home.home))
+        ∙ ap (λ (called : List ℕ). named_layouts server.pool server.setup.library ++ record { name = called; layout = cell_layout pool cell } ∷ []) named
+        ∙ ap (λ (shown : Layout). named_layouts server.pool server.setup.library ++ record { name = name; layout = shown } ∷ []) shows
 
     with_cell-loaded :
-        (name : List ℕ) (layout : Layout) → cell.name ≡ name → library ≡ server.library ++ cell ∷ [] → cell_layout pool cell ≡ layout
+        (name : List ℕ) (layout : Layout) → cell.name ≡ name → library ≡ server.setup.library ++ cell ∷ [] → cell_layout pool cell ≡ layout
         → world_of (loaded pool library) ≡ with_cell (world_of server) (record { name = name; layout = layout }) tiles
     with_cell-loaded name layout named more shows =
         ap (λ (cells : List NamedLayout). record {
-          setting = record { tech = server.tech; rules = server.rules; quota = server.quota; journal = server.limit; cells = cells };
+          setting = record (world_of server).setting { cells = cells };
           given = server.given;
           seats = map (seat_for pool) server.sessions;
           room = unreserved pool;
@@ -124,15 +121,15 @@ module _ (server : Server) (are : AreOpenIn server)
 
   pub LoadsCell-loaded :
       (pool : Pool) (library : Library) (name bytes : List ℕ) (result : Result ℕ CellFault)
-      → LoadsUnlessMemory server.tech server.pool pool server.library library name bytes result → OnErr result (library ≡ server.library) → OnErr result (pool ≡ server.pool)
+      → LoadsUnlessMemory server.setup.tech server.pool pool server.setup.library library name bytes result → OnErr result (library ≡ server.setup.library) → OnErr result (pool ≡ server.pool)
       → LoadsCell (world_of server) name bytes result (world_of (loaded pool library))
   LoadsCell-loaded pool library name bytes (Ok id) loads same_library same_pool =
       let added = loads.2 in
       is_ok_and _ loads.0 _ (loading-world name bytes ∙ loads.1) (
-        added.number ∙ sym (length-map server.library (named_layout server.pool)),
+        added.number ∙ sym (length-map server.setup.library (named_layout server.pool)),
         with_cell-loaded pool library _ added.cell added.reserves name _ added.named added.added added.shows,
       )
   LoadsCell-loaded pool library name bytes (Err fault) loads same_library same_pool = (
     subst (λ loading. UnlessMemory fault.kind fault.line (loading ≡ Err fault)) (sym (loading-world name bytes)) loads,
-    ap (λ (cells : Library). world_of (loaded pool cells)) same_library ∙ ap (λ (tiles : Pool). world_of (loaded tiles server.library)) same_pool,
+    ap (λ (cells : Library). world_of (loaded pool cells)) same_library ∙ ap (λ (tiles : Pool). world_of (loaded tiles server.setup.library)) same_pool,
   )

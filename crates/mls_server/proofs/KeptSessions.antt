@@ -1,17 +1,14 @@
 -- What stays of a session that changes tiles of its own planes alone.
 use Rattle.std.proofs.Common.{◌≡◌, ℕ, List, [], ◌∷◌, ◌++◌, length, sym, ap, subst, ◌∙◌}
-use Rattle.mls_edgerule.specs.declared.edge_rule.EdgeRule.{EdgeRule}
-use Rattle.mls_library.specs.Libraries.{Library}
 use Rattle.mls_paint.proofs.OwnerFrames.{ChangesAmong-refl}
-use Rattle.mls_session.specs.Designs.{Design, HasRightMarks}
-use Rattle.mls_session.specs.Designs.{IsHome as IsDesignHome}
-use Rattle.mls_session.specs.Drawings.{CanDump}
+use Rattle.mls_session.specs.Designs.{CanDump, Design, HasRightMarks, IsHome as IsDesignHome}
 use Rattle.mls_session.specs.Journals.{IsLegal}
 use Rattle.mls_session.specs.OwnSteps.{Terms}
-use Rattle.mls_session.specs.Sessions.{IsHome, KeepsPlanes, Session, kept_of, owners_of, state_of, terms_of}
-use Rattle.mls_tech.specs.Readings.{Tech}
+use Rattle.mls_session.specs.Sessions.{IsHome, KeepsPlanes, Session, kept_of, owners_of, state_of}
+use Rattle.mls_session.specs.Setups.{terms_of}
+use Rattle.mls_session.specs.declared.setup.Setup.{Setup}
 use Rattle.mls_tilepool.specs.Pools.{Pool}
-use Rattle.mls_server.specs.Servers.{IsMadeFor}
+use Rattle.mls_server.specs.Servers.{IsOpenIn}
 use Rattle.mls_server.proofs.OtherSessions.{CanDump-apart, KeepsOthers, cell_layouts-apart, others-ChangesAmong}
 use Rattle.mls_server.proofs.SessionTerms.{terms-same}
 
@@ -19,25 +16,29 @@ module _ {old new : Pool} {before after : Session} (keeps : KeepsPlanes old new 
   pub owners_of-kept : owners_of after ≡ owners_of before
   owners_of-kept =
       ap (λ (planes : List ℕ). planes ++ after.design.errors.owner ∷ []) keeps.planes.planes
-      ∙ ap (λ (owner : ℕ). before.design.drawing.planes ++ owner ∷ []) keeps.planes.errors
+      ∙ ap (λ (owner : ℕ). before.design.planes ++ owner ∷ []) keeps.planes.errors
 
   pub others-kept : KeepsOthers old new (owners_of before)
   others-kept = others-ChangesAmong keeps.planes.only
 
-  module _ {tech : Tech} {rules : List EdgeRule} {quota limit : ℕ} {cells : Library} (made : IsMadeFor tech rules quota limit old cells before) where
-    terms_of-kept : terms_of tech rules new cells after ≡ terms_of tech rules old cells before
-    terms_of-kept = terms-same tech rules (cell_layouts-apart others-kept cells made.can_dump.apart) keeps.planes.quota keeps.limit
+  module _ {setup : Setup} (made : IsOpenIn setup old before) where
+    terms_of-kept : terms_of setup new ≡ terms_of setup old
+    terms_of-kept = terms-same setup (cell_layouts-apart others-kept setup.library made.can_dump.apart)
 
-    pub IsMadeFor-kept :
-        (HasRightMarks rules (state_of old before).design → HasRightMarks rules (state_of new after).design)
-        → (IsLegal (terms_of tech rules old cells before) (kept_of old before) → IsLegal (terms_of tech rules old cells before) (kept_of new after))
-        → IsMadeFor tech rules quota limit new cells after
-    IsMadeFor-kept right legal = record {
-      planes_match = ap length keeps.planes.planes ∙ made.planes_match;
-      quota_match = keeps.planes.quota ∙ made.quota_match;
-      limit_match = keeps.limit ∙ made.limit_match;
+    pub IsOpenIn-kept :
+        (HasRightMarks setup.rules (state_of old before).design → HasRightMarks setup.rules (state_of new after).design)
+        → (IsLegal (terms_of setup old) (kept_of old before) → IsLegal (terms_of setup old) (kept_of new after))
+        → IsOpenIn setup new after
+    IsOpenIn-kept right legal = record {
+      made_for = record {
+        design = record {
+          planes = ap length keeps.planes.planes ∙ made.made_for.design.planes;
+          quota = keeps.planes.quota ∙ made.made_for.design.quota;
+        };
+        limit = keeps.limit ∙ made.made_for.limit;
+      };
       home = keeps.planes.home;
-      can_dump = subst (λ (owners : List ℕ). CanDump tech new cells owners) (sym owners_of-kept) (CanDump-apart others-kept cells made.can_dump.apart made.can_dump);
+      can_dump = subst (λ (owners : List ℕ). CanDump setup new owners) (sym owners_of-kept) (CanDump-apart others-kept made.can_dump.apart made.can_dump);
       marks_right = right made.marks_right;
       legal = subst (λ (terms : Terms). IsLegal terms (kept_of new after)) (sym terms_of-kept) (legal made.legal);
     }
@@ -49,9 +50,9 @@ KeepsPlanes-same pool before after home same limit = record {
   planes = record {
     home = subst (λ (design : Design). IsDesignHome pool design) (sym same) home;
     only = ChangesAmong-refl pool (owners_of before);
-    planes = ap (λ (design : Design). design.drawing.planes) same;
+    planes = ap (λ (design : Design). design.planes) same;
     errors = ap (λ (design : Design). design.errors.owner) same;
-    quota = ap (λ (design : Design). design.drawing.quota) same;
+    quota = ap (λ (design : Design). design.quota) same;
   };
   limit = limit;
 }

@@ -4,7 +4,6 @@ pub mod AskedSessions
 pub mod ClosedSessions
 pub mod EventFrames
 pub mod IdleServers
-pub mod KeptRooms
 pub mod KeptSessions
 pub mod NameLemmas
 pub mod NamedSessions

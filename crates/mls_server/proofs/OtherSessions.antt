@@ -1,7 +1,6 @@
 -- What stays of sessions, of the cells and of the world, as only tiles and reserves of other owners change.
-use Rattle.std.proofs.Common.{◌≡◌, ◌≢◌, ℕ, List, [], ◌∷◌, length, map, get_or, None, All, Contains, refl, sym, ap, subst, subst₂, ◌∙◌, arith}
+use Rattle.std.proofs.Common.{◌≡◌, ◌≢◌, ℕ, List, [], ◌∷◌, length, map, get_or, None, All, Contains, sym, ap, subst, subst₂, ◌∙◌, arith}
 use Rattle.std.proofs.lemmas.List.Elements.{All-contains, All-push, Contains-append_left, Contains-get_or, Contains-push}
-use Rattle.mls_edgerule.specs.declared.edge_rule.EdgeRule.{EdgeRule}
 use Rattle.mls_errorplane.specs.ErrorPlanes.{ShowsMarks, marks_picture}
 use Rattle.mls_errorplane.specs.MarkPlanes.{is_marked}
 use Rattle.mls_geom.specs.Layouts.{Layout}
@@ -12,14 +11,14 @@ use Rattle.mls_library.proofs.KeptCells.{IsCellApart, IsCellApart-AddsOwners, Is
 use Rattle.mls_paint.specs.Owners.{AddsOwners, ChangesAmong, RemovesOwners}
 use Rattle.mls_paint.specs.Planes.{HasStrips, layout_in, picture_in}
 use Rattle.mls_paint.proofs.OwnerFrames.{HasStrips-kept, has_room-HasStrips, not_added, room_of-ChangesAmong}
-use Rattle.mls_session.specs.Designs.{HasRightMarks}
-use Rattle.mls_session.specs.Drawings.{CanDump, cell_layouts}
+use Rattle.mls_session.specs.Designs.{CanDump, HasRightMarks}
 use Rattle.mls_session.specs.Journals.{IsLegal, Kept}
 use Rattle.mls_session.specs.OwnSteps.{Terms}
-use Rattle.mls_session.specs.Sessions.{IsHome, Session, kept_of, owners_of, terms_of}
-use Rattle.mls_tech.specs.Readings.{Tech}
+use Rattle.mls_session.specs.Sessions.{IsHome, Session, kept_of, owners_of}
+use Rattle.mls_session.specs.Setups.{cell_layouts, terms_of}
+use Rattle.mls_session.specs.declared.setup.Setup.{Setup}
 use Rattle.mls_tilepool.specs.Pools.{Pool, room_of, unreserved}
-use Rattle.mls_server.specs.Servers.{AreApart, AreOpen, IsMadeFor, Server, seat_for, setting_of, world_of}
+use Rattle.mls_server.specs.Servers.{AreApart, AreOpen, IsOpenIn, Server, seat_for, setting_of, world_of}
 use Rattle.mls_server.specs.Settings.{NamedLayout, named_layout, named_layouts}
 use Rattle.mls_server.specs.Worlds.{Seat}
 use Rattle.mls_server.proofs.ReplacedSessions.{Entry, map_same}
@@ -27,11 +26,7 @@ use Rattle.mls_server.proofs.SessionTerms.{terms-same}
 
 -- ---- what every server keeps
 abbrev pub AreOpenIn : Server → Type 0
-AreOpenIn server = AreOpen server.tech server.rules server.quota server.limit server.pool server.library server.given server.sessions
-
--- the session was made for this server, over this pool
-abbrev pub IsMadeIn : Server → Pool → Session → Type 0
-IsMadeIn server pool session = IsMadeFor server.tech server.rules server.quota server.limit pool server.library session
+AreOpenIn server = AreOpen server.setup server.pool server.given server.sessions
 
 -- ---- owners that are kept
 -- all owners but these have the tiles and the reserves that they had
@@ -62,8 +57,8 @@ apart-AddsOwners {old} {new} {owners} {tiles} added session home owner among =
   where
     live : All (λ o. room_of old o ≢ None) (owners_of session)
     live =
-        All-push (λ o. room_of old o ≢ None) session.design.drawing.planes session.design.errors.owner
-        (λ k d within. has_room-HasStrips old (get_or session.design.drawing.planes k d) (home.drawing.strips k d within))
+        All-push (λ o. room_of old o ≢ None) session.design.planes session.design.errors.owner
+        (λ k d within. has_room-HasStrips old (get_or session.design.planes k d) (home.layout.strips k d within))
         (has_room-HasStrips old session.design.errors.owner home.errors.marks.strips)
 
 module _ {old new : Pool} {owners : List ℕ} (others : KeepsOthers old new owners) where
@@ -83,13 +78,13 @@ module _ {old new : Pool} {owners : List ℕ} (others : KeepsOthers old new owne
     pub cell_layouts-apart : cell_layouts new cells ≡ cell_layouts old cells
     cell_layouts-apart = map_same (cell_layout new) (cell_layout old) cells layouts_kept
 
-    pub CanDump-apart : {tech : Tech} {list : List ℕ} → CanDump tech old cells list → CanDump tech new cells list
-    CanDump-apart can = record { home = IsHome-kept old new cells cells_kept can.home; apart = can.apart; planes = can.planes }
+  pub CanDump-apart : {setup : Setup} {list : List ℕ} → All (IsCellApart owners) setup.library → CanDump setup old list → CanDump setup new list
+  CanDump-apart {setup} apart can = record { home = IsHome-kept old new setup.library (cells_kept setup.library apart) can.home; apart = can.apart; planes = can.planes }
 
   -- ---- a session none of whose owners is among these
   module _ (session : Session) (apart : AreApart (owners_of session) owners) where
     abbrev planes_of : List ℕ
-    planes_of = session.design.drawing.planes
+    planes_of = session.design.planes
 
     abbrev errors_of : ℕ
     errors_of = session.design.errors.owner
@@ -110,7 +105,7 @@ module _ {old new : Pool} {owners : List ℕ} (others : KeepsOthers old new owne
     kept_with layout picture = record {
       own = record {
         design = record {
-          drawn = record { box = session.design.drawing.box; layout = layout };
+          drawn = record { box = session.design.box; layout = layout };
           checking = record { marks = is_marked picture; dirty = session.design.errors.dirty };
         };
         entries = length session.journal;
@@ -136,10 +131,10 @@ module _ {old new : Pool} {owners : List ℕ} (others : KeepsOthers old new owne
 
     IsHome-apart : IsHome old session → IsHome new session
     IsHome-apart home = record {
-      drawing = record {
-        strips = λ k d within. strips-apart (get_or planes_of k d) (planes_kept k d within) (home.drawing.strips k d within);
-        reserves = λ k d within. (planes_kept k d within).room ∙ home.drawing.reserves k d within;
-        apart = home.drawing.apart;
+      layout = record {
+        strips = λ k d within. strips-apart (get_or planes_of k d) (planes_kept k d within) (home.layout.strips k d within);
+        reserves = λ k d within. (planes_kept k d within).room ∙ home.layout.reserves k d within;
+        apart = home.layout.apart;
       };
       errors = record {
         marks = ShowsMarks-apart home.errors.marks;
@@ -148,20 +143,17 @@ module _ {old new : Pool} {owners : List ℕ} (others : KeepsOthers old new owne
       };
     }
 
-    -- so it is still made for the technology
-    module _ {tech : Tech} {rules : List EdgeRule} {quota limit : ℕ} {cells : Library} (cells_apart : All (IsCellApart owners) cells)
-        (made : IsMadeFor tech rules quota limit old cells session) where
-      terms_of-apart : terms_of tech rules new cells session ≡ terms_of tech rules old cells session
-      terms_of-apart = terms-same tech rules (cell_layouts-apart cells cells_apart) refl refl
+    -- so all that is known of it stays true
+    module _ {setup : Setup} (cells_apart : All (IsCellApart owners) setup.library) (made : IsOpenIn setup old session) where
+      terms_of-apart : terms_of setup new ≡ terms_of setup old
+      terms_of-apart = terms-same setup (cell_layouts-apart setup.library cells_apart)
 
-      pub IsMadeFor-apart : IsMadeFor tech rules quota limit new cells session
-      IsMadeFor-apart = record {
-        planes_match = made.planes_match;
-        quota_match = made.quota_match;
-        limit_match = made.limit_match;
+      pub IsOpenIn-apart : IsOpenIn setup new session
+      IsOpenIn-apart = record {
+        made_for = made.made_for;
         home = IsHome-apart made.home;
-        can_dump = CanDump-apart cells cells_apart made.can_dump;
-        marks_right = subst (λ (kept : Kept). HasRightMarks rules kept.own.design) (sym kept_of-apart) made.marks_right;
+        can_dump = CanDump-apart cells_apart made.can_dump;
+        marks_right = subst (λ (kept : Kept). HasRightMarks setup.rules kept.own.design) (sym kept_of-apart) made.marks_right;
         legal = subst₂ (λ (terms : Terms) (kept : Kept). IsLegal terms kept) (sym terms_of-apart) (sym kept_of-apart) made.legal;
       }
 
@@ -170,15 +162,15 @@ module _ {old new : Pool} {owners : List ℕ} (others : KeepsOthers old new owne
 
 -- ---- a server's world, by its seats and what is left of the pool
 pub world_of-apart :
-    (server : Server) {new : Pool} {owners : List ℕ} → KeepsOthers server.pool new owners → All (IsCellApart owners) server.library → (given : ℕ) (entries : List Entry)
+    (server : Server) {new : Pool} {owners : List ℕ} → KeepsOthers server.pool new owners → All (IsCellApart owners) server.setup.library → (given : ℕ) (entries : List Entry)
     (seats : List Seat) (room : ℕ) → map (seat_for new) entries ≡ seats → unreserved new ≡ room
     → world_of (record server { pool = new; given = given; sessions = entries }) ≡ record { setting = setting_of server; given = given; seats = seats; room = room }
 world_of-apart server {new} others apart given entries seats room seated left =
     ap (λ (cells : List NamedLayout). record {
-      setting = record { tech = server.tech; rules = server.rules; quota = server.quota; journal = server.limit; cells = cells };
+      setting = record (setting_of server) { cells = cells };
       given = given;
       seats = map (seat_for new) entries;
       room = unreserved new;
-    }) (named_layouts-apart others server.library apart)
+    }) (named_layouts-apart others server.setup.library apart)
     ∙ ap (λ (on : List Seat). record { setting = setting_of server; given = given; seats = on; room = unreserved new }) seated
     ∙ ap (λ (n : ℕ). record { setting = setting_of server; given = given; seats = seats; room = n }) left

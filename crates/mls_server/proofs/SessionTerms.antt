@@ -1,28 +1,21 @@
 -- The terms of a session: what no call changes.
-use Rattle.std.proofs.Common.{◌≡◌, ℕ, List, sym, ap, ◌∙◌}
+use Rattle.std.proofs.Common.{◌≡◌, List, sym, ap}
 use Rattle.std.proofs.lemmas.Simd.{map-map}
-use Rattle.mls_edgerule.specs.declared.edge_rule.EdgeRule.{EdgeRule}
 use Rattle.mls_geom.specs.Layouts.{Layout}
 use Rattle.mls_session.specs.OwnSteps.{Terms}
-use Rattle.mls_session.specs.Sessions.{Session, terms_of}
-use Rattle.mls_tech.specs.Readings.{Tech}
+use Rattle.mls_session.specs.Setups.{terms_of}
+use Rattle.mls_session.specs.declared.setup.Setup.{Setup}
 use Rattle.mls_server.specs.Servers.{Server, setting_of}
 use Rattle.mls_server.specs.Settings.{named_layout, terms_for}
 
--- they are the same by the cells' layouts, the quota and the limit
-module _ (tech : Tech) (rules : List EdgeRule) where
-  abbrev pub terms_with : List Layout → ℕ → ℕ → Terms
-  terms_with cells quota limit = record { config = record { tech = tech; rules = rules; cells = cells; quota = quota }; journal = limit }
+-- they are the same by the cells' layouts
+module _ (setup : Setup) where
+  abbrev pub terms_with : List Layout → Terms
+  terms_with cells = record { config = record { tech = setup.tech; rules = setup.rules; cells = cells; quota = setup.quota }; journal = setup.limit }
 
-  pub terms-same :
-      {cells others : List Layout} {quota tiles limit entries : ℕ} → cells ≡ others → quota ≡ tiles → limit ≡ entries
-      → terms_with cells quota limit ≡ terms_with others tiles entries
-  terms-same {cells} {others} {quota} {tiles} {limit} {entries} layouts quotas limits =
-      ap (λ (list : List Layout). terms_with list quota limit) layouts ∙ ap (λ (n : ℕ). terms_with others n limit) quotas ∙ ap (λ (n : ℕ). terms_with others tiles n) limits
+  pub terms-same : {cells others : List Layout} → cells ≡ others → terms_with cells ≡ terms_with others
+  terms-same {cells} {others} layouts = ap terms_with layouts
 
--- those of a session of the server's quota and limit are those of its setting
-pub terms_of-setting :
-    (server : Server) (session : Session) → session.design.drawing.quota ≡ server.quota → session.limit ≡ server.limit
-    → terms_of server.tech server.rules server.pool server.library session ≡ terms_for (setting_of server)
-terms_of-setting server session quota limit =
-    terms-same server.tech server.rules (sym (map-map (λ cell. cell.layout) (named_layout server.pool) server.library)) quota limit
+-- those of a server's setup are those of its setting
+pub terms_of-setting : (server : Server) → terms_of server.setup server.pool ≡ terms_for (setting_of server)
+terms_of-setting server = terms-same server.setup (sym (map-map (λ cell. cell.layout) (named_layout server.pool) server.setup.library))

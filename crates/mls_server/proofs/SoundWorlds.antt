@@ -1,33 +1,31 @@
 -- What every server keeps is true of the world that it shows: its marks are right, its journals are legal, and its sessions are numbered.
-use Rattle.std.proofs.Common.{◌≡◌, ℕ, ◌<◌, ◌≤◌, List, length, refl, subst, arith}
+use Rattle.std.proofs.Common.{◌≡◌, ℕ, ◌<◌, ◌≤◌, List, length, refl, subst}
 use Rattle.std.proofs.lemmas.List.Elements.{All-map, All-weaker}
 use Rattle.mls_geom.proofs.Ascending.{AllPairs-map}
 use Rattle.mls_session.specs.Designs.{HasRightMarks}
 use Rattle.mls_session.specs.Journals.{IsLegal}
 use Rattle.mls_session.specs.OwnSteps.{Terms}
-use Rattle.mls_session.specs.Sessions.{Session, kept_of, terms_of}
-use Rattle.mls_server.specs.Servers.{OpenSession, Server, seat_for, setting_of, world_of}
+use Rattle.mls_session.specs.Sessions.{Session, kept_of}
+use Rattle.mls_session.specs.Setups.{terms_of}
+use Rattle.mls_server.specs.Servers.{IsOpenIn, OpenSession, Server, seat_for, setting_of, world_of}
 use Rattle.mls_server.specs.Settings.{terms_for}
 use Rattle.mls_server.specs.Worlds.{IsNumbered, JournalsAreLegal, JournalsHaveRoom, MarksAreRight, Seat}
 use Rattle.mls_session.proofs.JournalRooms.{IsLegal-within}
-use Rattle.mls_server.proofs.OtherSessions.{AreOpenIn, IsMadeIn}
+use Rattle.mls_server.proofs.OtherSessions.{AreOpenIn}
 use Rattle.mls_server.proofs.SessionTerms.{terms_of-setting}
 
 module _ (server : Server) (made : AreOpenIn server) where
   abbrev IsMade : List ℕ × OpenSession → Type 0
-  IsMade entry = IsMadeIn server server.pool entry.1.session
+  IsMade entry = IsOpenIn server.setup server.pool entry.1.session
 
   within :
-      (session : Session) → IsLegal (terms_of server.tech server.rules server.pool server.library session) (kept_of server.pool session) → session.limit ≡ server.limit
-      → (kept_of server.pool session).own.entries ≤ server.limit
-  within session legal limit =
-      let fits = IsLegal-within (terms_of server.tech server.rules server.pool server.library session) (kept_of server.pool session) legal in
-      omega (arith, fits, limit)
+      (session : Session) → IsLegal (terms_of server.setup server.pool) (kept_of server.pool session) → (kept_of server.pool session).own.entries ≤ server.setup.limit
+  within session legal = IsLegal-within (terms_of server.setup server.pool) (kept_of server.pool session) legal
 
   pub MarksAreRight-of : MarksAreRight (world_of server)
   MarksAreRight-of =
-      All-map (λ (seat : Seat). HasRightMarks server.rules seat.kept.own.design) (seat_for server.pool) server.sessions
-      (All-weaker IsMade (λ (entry : List ℕ × OpenSession). HasRightMarks server.rules (kept_of server.pool entry.1.session).own.design)
+      All-map (λ (seat : Seat). HasRightMarks server.setup.rules seat.kept.own.design) (seat_for server.pool) server.sessions
+      (All-weaker IsMade (λ (entry : List ℕ × OpenSession). HasRightMarks server.setup.rules (kept_of server.pool entry.1.session).own.design)
       (λ entry is. is.marks_right) server.sessions made.made)
 
   pub JournalsAreLegal-of : JournalsAreLegal (world_of server)
@@ -35,16 +33,16 @@ module _ (server : Server) (made : AreOpenIn server) where
       All-map (λ (seat : Seat). IsLegal (terms_for (setting_of server)) seat.kept) (seat_for server.pool) server.sessions
       (All-weaker IsMade (λ (entry : List ℕ × OpenSession). IsLegal (terms_for (setting_of server)) (kept_of server.pool entry.1.session))
       (λ entry is.
-      subst (λ (terms : Terms). IsLegal terms (kept_of server.pool entry.1.session)) (terms_of-setting server entry.1.session is.quota_match is.limit_match) is.legal)
+      subst (λ (terms : Terms). IsLegal terms (kept_of server.pool entry.1.session)) (terms_of-setting server) is.legal)
       server.sessions made.made)
 
   pub JournalsHaveRoom-of : JournalsHaveRoom (world_of server)
   JournalsHaveRoom-of =
-      All-map (λ (seat : Seat). (length seat.kept.journal ≡ seat.kept.own.entries) × (seat.kept.own.entries ≤ server.limit)) (seat_for server.pool) server.sessions
+      All-map (λ (seat : Seat). (length seat.kept.journal ≡ seat.kept.own.entries) × (seat.kept.own.entries ≤ server.setup.limit)) (seat_for server.pool) server.sessions
       (All-weaker IsMade
       (λ (entry : List ℕ × OpenSession).
-      (length (kept_of server.pool entry.1.session).journal ≡ (kept_of server.pool entry.1.session).own.entries) × ((kept_of server.pool entry.1.session).own.entries ≤ server.limit))
-      (λ entry is. (refl, within entry.1.session is.legal is.limit_match)) server.sessions made.made)
+      (length (kept_of server.pool entry.1.session).journal ≡ (kept_of server.pool entry.1.session).own.entries) × ((kept_of server.pool entry.1.session).own.entries ≤ server.setup.limit))
+      (λ entry is. (refl, within entry.1.session is.legal)) server.sessions made.made)
 
   pub IsNumbered-of : IsNumbered (world_of server)
   IsNumbered-of = record {

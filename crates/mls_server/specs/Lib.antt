@@ -1,3 +1,4 @@
+pub mod Capacities
 pub mod Events
 pub mod Faults
 pub mod LegalLists

@@ -1,13 +1,11 @@
 -- What a server keeps, and the world that it shows. This project's own.
 use Rattle.std.specs.Prelude.{◌≡◌, ℕ, ◌<◌, ◌≤◌, ◌==◌, if◌then◌else◌, List, [], ◌∷◌, length, map}
 use Rattle.std.specs.List.{All, AllPairs, Contains, position_or_len}
-use Rattle.mls_edgerule.specs.declared.edge_rule.EdgeRule.{EdgeRule}
-use Rattle.mls_library.specs.Libraries.{Library}
-use Rattle.mls_session.specs.Designs.{HasRightMarks}
-use Rattle.mls_session.specs.Drawings.{CanDump}
+use Rattle.mls_session.specs.Designs.{CanDump, HasRightMarks}
 use Rattle.mls_session.specs.Journals.{IsLegal}
-use Rattle.mls_session.specs.Sessions.{IsHome, Session, kept_of, owners_of, state_of, terms_of}
-use Rattle.mls_tech.specs.Readings.{Tech}
+use Rattle.mls_session.specs.Sessions.{IsHome, IsMadeFor, Session, kept_of, owners_of, state_of}
+use Rattle.mls_session.specs.Setups.{terms_of}
+use Rattle.mls_session.specs.declared.setup.Setup.{Setup}
 use Rattle.mls_tilepool.specs.Pools.{Pool, unreserved}
 use Rattle.mls_server.specs.Settings.{Setting, named_layouts}
 use Rattle.mls_server.specs.Worlds.{Seat, World}
@@ -17,15 +15,10 @@ pub record OpenSession : Type 0 where
   pub id : ℕ
   pub session : Session
 
--- the technology, the rules, the quota and the journals' limit of each session, the pool of all tiles, the library of cells, how many ids were given, and
--- the open sessions by name, in the order in which they were opened
+-- the setup of each session, the pool of all tiles, how many ids were given, and the open sessions by name, in the order in which they were opened
 pub record Server : Type 0 where
-  pub tech : Tech
-  pub rules : List EdgeRule
-  pub quota : ℕ
-  pub limit : ℕ
+  pub setup : Setup
   pub pool : Pool
-  pub library : Library
   pub given : ℕ
   pub sessions : List (List ℕ × OpenSession)
 
@@ -33,7 +26,13 @@ abbrev pub seat_for : Pool → List ℕ × OpenSession → Seat
 seat_for pool entry = record { id = entry.1.id; name = entry.0; kept = kept_of pool entry.1.session }
 
 abbrev pub setting_of : Server → Setting
-setting_of server = record { tech = server.tech; rules = server.rules; quota = server.quota; journal = server.limit; cells = named_layouts server.pool server.library }
+setting_of server = record {
+  tech = server.setup.tech;
+  rules = server.setup.rules;
+  quota = server.setup.quota;
+  journal = server.setup.limit;
+  cells = named_layouts server.pool server.setup.library;
+}
 
 -- what the tiles of the pool show
 abbrev pub world_of : Server → World
@@ -52,25 +51,23 @@ abbrev pub place_in : List (List ℕ × OpenSession) → ℕ → ℕ
 place_in entries id = position_or_len (λ entry. entry.1.id == id) entries
 
 -- ---- what every server keeps
--- the session was made for the technology, with this quota and this limit, its planes lie in the pool beside those of the cells, its marks are right by
--- the rules, and its journal is legal
-pub record IsMadeFor (tech : Tech) (rules : List EdgeRule) (quota limit : ℕ) (pool : Pool) (cells : Library) (session : Session) : Type 0 where
-  pub planes_match : length session.design.drawing.planes ≡ tech.plane_count
-  pub quota_match : session.design.drawing.quota ≡ quota
-  pub limit_match : session.limit ≡ limit
+-- the session was opened with this setup, its planes lie in the pool beside those of the cells, its marks are right by the rules, and its journal is
+-- legal
+pub record IsOpenIn (setup : Setup) (pool : Pool) (session : Session) : Type 0 where
+  pub made_for : IsMadeFor setup session
   pub home : IsHome pool session
-  pub can_dump : CanDump tech pool cells (owners_of session)
-  pub marks_right : HasRightMarks rules (state_of pool session).design
-  pub legal : IsLegal (terms_of tech rules pool cells session) (kept_of pool session)
+  pub can_dump : CanDump setup pool (owners_of session)
+  pub marks_right : HasRightMarks setup.rules (state_of pool session).design
+  pub legal : IsLegal (terms_of setup pool) (kept_of pool session)
 
 -- no owner is of both
 abbrev pub AreApart : List ℕ → List ℕ → Type 0
 AreApart a b = (owner : ℕ) → Contains a owner → ¬ (Contains b owner)
 
 -- so were all open sessions, no two of which have an owner or an id in common; no id is greater than the number of those that were given
-pub record AreOpen (tech : Tech) (rules : List EdgeRule) (quota limit : ℕ) (pool : Pool) (cells : Library) (given : ℕ) (sessions : List (List ℕ × OpenSession)) : Type 0 where
-  pub cells_home : CanDump tech pool cells []
-  pub made : All (λ entry. IsMadeFor tech rules quota limit pool cells entry.1.session) sessions
+pub record AreOpen (setup : Setup) (pool : Pool) (given : ℕ) (sessions : List (List ℕ × OpenSession)) : Type 0 where
+  pub cells_home : CanDump setup pool []
+  pub made : All (λ entry. IsOpenIn setup pool entry.1.session) sessions
   pub apart : AllPairs (λ a b. AreApart (owners_of a.1.session) (owners_of b.1.session)) sessions
   pub rising : AllPairs (λ a b. a.1.id < b.1.id) sessions
   pub within : All (λ entry. (1 ≤ entry.1.id) × (entry.1.id ≤ given)) sessions

@@ -5,7 +5,7 @@ use Rattle.mls_geom.specs.Layouts.{Layout}
 use Rattle.mls_library.specs.Libraries.{Library, NamedCell, cell_layout}
 use Rattle.mls_tech.specs.Readings.{Tech}
 use Rattle.mls_tilepool.specs.Pools.{Pool}
-use Rattle.mls_session.specs.Drawings.{plane_reserve}
+use Rattle.mls_session.specs.Quotas.{plane_reserve}
 use Rattle.mls_session.specs.Own.{Config}
 use Rattle.mls_session.specs.OwnSteps.{Terms}
 

@@ -16,7 +16,7 @@ pub enum Event {
     Save(SessionId),
     /// Asks for what a check of a session's first piece needs.
     Grab(SessionId),
-    /// Marks what a check found in a session, whoever made it.
+    /// Marks what a check found in a session.
     Finish(SessionId, Finding),
     /// Does a check step in a session.
     Step(SessionId),

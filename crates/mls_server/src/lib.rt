@@ -2,6 +2,7 @@
 #![tactic(auto)]
 
 mod answer;
+mod capacity;
 mod event;
 mod fault;
 mod name;
@@ -10,6 +11,7 @@ mod server;
 mod session_id;
 
 pub use answer::Answer;
+pub use capacity::Capacity;
 pub use event::Event;
 pub use fault::{GrabFault, NotOpen, OpenFault};
 pub use name::Name;

@@ -1,5 +1,5 @@
 //! A server: sessions by name over one pool.
-ghost use Rattle.std.specs.Prelude.{◌≡◌, ◌↔◌, ◌≤◌, ◌<◌, ◌^◌, [], IfOk, IsTrue};
+ghost use Rattle.std.specs.Prelude.{◌≡◌, ◌↔◌, ◌<◌, ◌^◌, [], IfOk, IsTrue};
 ghost use Rattle.std.specs.List.{position};
 ghost use Rattle.mls_server.specs.Events.{LoadsCell};
 ghost use Rattle.mls_server.specs.Servers.{world_of};
@@ -10,24 +10,15 @@ mod events;
 mod opening;
 mod sessions;
 
-use crate::{Name, SessionId};
+use crate::{Capacity, Name, SessionId};
 use indexmap::IndexMap;
 use mls_edgerule::Rules;
-use mls_errorplane::MARK_ROOM;
-use mls_geom::Piece;
+use mls_errorplane::Workspace;
 use mls_library::{CellFault, CellId, Library};
-use mls_paint::Scratch;
-use mls_session::{JournalLimit, Quota, Session};
+use mls_session::{JournalLimit, Quota, Session, Setup};
 use mls_tech::Tech;
-use mls_tilepool::Pool;
 use std::alloc::{AllocError, Global};
 use std::marker::Model;
-
-/// How many pieces can be painted at once.
-const PAINT_ROOM: u32 = 65_536;
-
-/// The most tiles that a cell's plane has, however small the quota is.
-const CELL_TILES: u32 = 4096;
 
 /// A session that is open, and its id.
 #[derive(Drop)]
@@ -38,17 +29,11 @@ pub(crate) struct OpenSession {
 
 /// A server of up to 64 sessions over one pool.
 ///
-/// It lends each session the pool, the scratch and the list of pieces for one call at a time.
+/// It lends each session its setup and its workspace for one call at a time.
 #[derive(Drop)]
 pub struct Server {
-    tech: Tech,
-    rules: Rules,
-    quota: Quota,
-    limit: JournalLimit,
-    pool: Pool,
-    library: Library,
-    scratch: Scratch,
-    pieces: Vec<Piece>,
+    setup: Setup,
+    workspace: Workspace,
     given: u64,
     sessions: IndexMap<Name, OpenSession>,
 }
@@ -62,34 +47,35 @@ impl Model for OpenSession {
 }
 
 impl Model for Server {
-    ghost use Rattle.std.specs.Prelude.{vec_capacity};
-    ghost use Rattle.mls_session.specs.Rooms.{HasRooms};
     ghost use Rattle.mls_server.specs.Servers.{AreOpen, Server};
 
     ghost Value = { Server };
 
-    ghost view = { λ s. record { tech = s.tech; rules = s.rules; quota = s.quota; limit = s.limit; pool = s.pool; library = s.library; given = s.given; sessions = s.sessions.entries } };
+    ghost view = { λ s. record {
+      setup = s.setup;
+      pool = s.workspace.pool;
+      given = s.given;
+      sessions = s.sessions.entries;
+    } };
 
-    ghost invariant = { λ s. AreOpen s.tech s.rules s.quota s.limit s.pool s.library s.given s.sessions.entries
-        × HasRooms s.quota s.scratch (vec_capacity s.pieces) };
+    ghost invariant = { λ s. AreOpen s.setup s.workspace.pool s.given s.sessions.entries };
 }
 
 impl Server {
-    /// Creates a server with no cells and no open session, over a pool of this many tiles, whose sessions have the planes
-    /// and types of this technology, are checked by these rules, and have this quota and journals of this limit.
+    /// Creates a server with no cells and no open session, over a pool of this many tiles, whose sessions have the
+    /// planes and types of this technology, are checked by these rules, and have this quota and journals of this
+    /// limit.
     ///
-    /// The rules must be those of the technology. Reserves the memory of the pool, and of the lists in which commands work.
+    /// Reserves the memory of the pool, and of the lists in which commands work.
     #[tactic(auto, unfolding(mls_tilepool::specs::Pools::reserved))]
     pub fn new(
         alloc: Global,
         tech: Tech,
         rules: Rules,
-        capacity: u32,
+        capacity: Capacity,
         quota: Quota,
         limit: JournalLimit,
     ) -> Result<Server, AllocError>
-        requires some { 1 ≤ capacity }
-        requires most { capacity ≤ 8388608 }
         ensures world { IfOk result (λ server. world_of server ≡ record {
           setting = record { tech = tech; rules = rules; quota = quota; journal = limit; cells = [] };
           given = 0;
@@ -97,18 +83,18 @@ impl Server {
           room = capacity;
         }) }
     {
-        let pool = Pool::new(alloc, capacity)?;
-        let scratch = Scratch::new(alloc, quota.reserve().max(CELL_TILES), PAINT_ROOM)?;
-        let pieces = Vec::with_capacity(alloc, MARK_ROOM)?;
-        Ok(Server {
+        let workspace = Workspace::new(alloc, capacity.tiles())?;
+        let library = Library::new(alloc);
+        let setup = Setup {
             tech,
             rules,
+            library,
             quota,
             limit,
-            pool,
-            library: Library::new(alloc),
-            scratch,
-            pieces,
+        };
+        Ok(Server {
+            setup,
+            workspace,
             given: 0,
             sessions: IndexMap::new(alloc),
         })
@@ -124,11 +110,12 @@ impl Server {
         ensures loads { LoadsCell (world_of self.old) name.now bytes.now result (world_of self.new) }
     {
         let Server {
-            tech,
-            pool,
-            library,
+            setup,
+            workspace,
             ..
         } = self;
+        let Setup { tech, library, .. } = setup;
+        let Workspace { pool, .. } = workspace;
         library.load(alloc, pool, tech, name, bytes)
     }
 
@@ -151,21 +138,21 @@ impl Server {
     pub fn cell(&self, name: &[u8]) -> Option<CellId>
         ensures value { result ≡ position (λ cell. same_word name.now cell.name) (world_of self.now).setting.cells }
     {
-        self.library.cell_named(name)
+        self.setup.library.cell_named(name)
     }
 
     /// Returns the technology.
     pub fn tech(&self) -> &Tech
         ensures value { result.now ≡ (world_of self.now).setting.tech }
     {
-        &self.tech
+        &self.setup.tech
     }
 
     /// Returns how many entries the journal of a session may have.
     pub fn journal_limit(&self) -> JournalLimit
         ensures value { result ≡ (world_of self.now).setting.journal }
     {
-        self.limit
+        self.setup.limit
     }
 
     /// Returns how many ids were given.
@@ -176,9 +163,10 @@ impl Server {
         self.given
     }
 
-    /// Does nothing. Its contract is what every server keeps: the marks of each open session are right outside the areas that
-    /// await checking, and exact where there is none, and its journal is legal, counted by its own state and within the limit.
-    pub fn is_sound(&self)
+    /// What every server keeps: the marks of each open session are right outside the areas that await checking, and
+    /// exact where there is none, and its journal is legal, counted by its own state and within the limit. Does
+    /// nothing: the contract is the law.
+    pub fn stays_sound(&self)
         ensures right { MarksAreRight (world_of self.now) }
         ensures exact { MarksAreExact (world_of self.now) }
         ensures legal { JournalsAreLegal (world_of self.now) }
@@ -186,6 +174,7 @@ impl Server {
         ensures room { JournalsHaveRoom (world_of self.now) }
         ensures given { (world_of self.now).given < 2 ^ 64 }
     {
+        // For its contract alone: the number of ids has 64 bits.
         self.ids_given();
         let _sessions = &self.sessions;
     }

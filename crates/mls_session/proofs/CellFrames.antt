@@ -1,16 +1,17 @@
--- A command changes tiles of the drawing's planes alone, so the library's cells stay as they are.
+-- A command changes tiles of the design's planes alone, so the library's cells stay as they are.
 use Rattle.std.proofs.Common.{◌≡◌, ℕ, suc, List, [], ◌∷◌, All, refl, ap, ◌∙◌, arith}
 use Rattle.mls_tilepool.specs.Pools.{Pool}
 use Rattle.mls_library.specs.Libraries.{IsHome as AreCellsHome, Library, cell_layout}
 use Rattle.mls_library.proofs.KeptCells.{IsCellApart, IsHome-ChangesAmong, cell_layout-ChangesAmong}
 use Rattle.mls_paint.specs.Owners.{ChangesAmong}
-use Rattle.mls_tech.specs.Readings.{Tech}
-use Rattle.mls_session.specs.Drawings.{CanDump, cell_layouts}
+use Rattle.mls_session.specs.Designs.{CanDump}
+use Rattle.mls_session.specs.Setups.{cell_layouts}
+use Rattle.mls_session.specs.declared.setup.Setup.{Setup}
 
 module _ (old new : Pool) (owners : List ℕ) (only : ChangesAmong old new owners) where
   -- they are at home
-  pub home-ChangesAmong : (tech : Tech) (cells : Library) → CanDump tech old cells owners → AreCellsHome new cells
-  home-ChangesAmong tech cells can = IsHome-ChangesAmong old new owners only cells can.apart can.home
+  pub home-ChangesAmong : (setup : Setup) → CanDump setup old owners → AreCellsHome new setup.library
+  home-ChangesAmong setup can = IsHome-ChangesAmong old new owners only setup.library can.apart can.home
 
   layouts_kept : (cells : Library) → All (IsCellApart owners) cells → cell_layouts new cells ≡ cell_layouts old cells
   layouts_kept [] apart = refl
@@ -19,5 +20,5 @@ module _ (old new : Pool) (owners : List ℕ) (only : ChangesAmong old new owner
       ∙ ap (λ layouts. cell_layout old cell ∷ layouts) (layouts_kept cells (λ k d within. apart (suc k) d (omega (arith, within))))
 
   -- and show what they showed
-  pub layouts-ChangesAmong : (tech : Tech) (cells : Library) → CanDump tech old cells owners → cell_layouts new cells ≡ cell_layouts old cells
-  layouts-ChangesAmong tech cells can = layouts_kept cells can.apart
+  pub layouts-ChangesAmong : (setup : Setup) → CanDump setup old owners → cell_layouts new setup.library ≡ cell_layouts old setup.library
+  layouts-ChangesAmong setup can = layouts_kept setup.library can.apart

@@ -16,10 +16,10 @@ use Rattle.mls_paint.specs.Planes.{HasStrips, layout_in, picture_at, picture_in}
 use Rattle.mls_paint.proofs.OwnerFrames.{ChangesAmong-ChangesOnly, ChangesAmong-refl, ChangesAmong-trans, layout_in-ChangesAmong, layout_in-at, picture_in-ChangesAmong, room_of-ChangesAmong}
 use Rattle.mls_session.specs.Changes.{dumped, kind_at, leaves_world, moved}
 use Rattle.mls_session.specs.Inner.{CanChange, IsApartFrom, changed, changed_layout}
-use Rattle.mls_session.specs.Drawings.{IsHome, Drawing}
+use Rattle.mls_session.specs.Designs.{AreAtHome, Design}
 use Rattle.mls_session.specs.declared.change.Change.{Change}
 use Rattle.mls_session.specs.declared.change.Change.TheVariants.{Erase, Dump}
-use Rattle.mls_session.proofs.HomePlanes.{IsHome-ChangesOnly, owners_differ}
+use Rattle.mls_session.proofs.HomePlanes.{AreAtHome-ChangesOnly, owners_differ}
 
 -- ---- what a change reads stays, as only tiles of other owners change
 pub changed-ChangesAmong :
@@ -43,55 +43,55 @@ CanChange-ChangesAmong old new (Dump planes dx dy) owners apart only can = (
 
 -- ---- plane by plane
 -- the first planes show the change and the others what they showed, only they have changed, and all are at home
-pub record IsMade (old new : Pool) (drawing : Drawing) (change : Change) (count : ℕ) : Type 0 where
-  pub done : (k d : ℕ) → k < count → k < length drawing.planes → picture_in new (get_or drawing.planes k d) ≡ changed old change k (picture_in old (get_or drawing.planes k d))
-  pub rest : (k d : ℕ) → count ≤ k → k < length drawing.planes → picture_in new (get_or drawing.planes k d) ≡ picture_in old (get_or drawing.planes k d)
-  pub only : ChangesAmong old new drawing.planes
-  pub home : IsHome new drawing
+pub record IsMade (old new : Pool) (design : Design) (change : Change) (count : ℕ) : Type 0 where
+  pub done : (k d : ℕ) → k < count → k < length design.planes → picture_in new (get_or design.planes k d) ≡ changed old change k (picture_in old (get_or design.planes k d))
+  pub rest : (k d : ℕ) → count ≤ k → k < length design.planes → picture_in new (get_or design.planes k d) ≡ picture_in old (get_or design.planes k d)
+  pub only : ChangesAmong old new design.planes
+  pub home : AreAtHome new design.quota design.planes
 
-pub IsMade-none : (pool : Pool) (drawing : Drawing) (change : Change) → IsHome pool drawing → IsMade pool pool drawing change 0
-IsMade-none pool drawing change home = record {
+pub IsMade-none : (pool : Pool) (design : Design) (change : Change) → AreAtHome pool design.quota design.planes → IsMade pool pool design change 0
+IsMade-none pool design change home = record {
   done = λ k d before within. absurd (omega (arith, before));
   rest = λ k d after within. refl;
-  only = ChangesAmong-refl pool drawing.planes;
+  only = ChangesAmong-refl pool design.planes;
   home = home;
 }
 
-module _ (old mid : Pool) (drawing : Drawing) (change : Change) (i owner : ℕ) (apart : IsApartFrom change drawing.planes) (made : IsMade old mid drawing change i) (within : i < length drawing.planes) (is : owner ≡ get_or drawing.planes i owner) where
-  at : (d : ℕ) → get_or drawing.planes i d ≡ owner
-  at d = get_or_default drawing.planes i d owner within ∙ sym is
+module _ (old mid : Pool) (design : Design) (change : Change) (i owner : ℕ) (apart : IsApartFrom change design.planes) (made : IsMade old mid design change i) (within : i < length design.planes) (is : owner ≡ get_or design.planes i owner) where
+  at : (d : ℕ) → get_or design.planes i d ≡ owner
+  at d = get_or_default design.planes i d owner within ∙ sym is
 
   -- what the change makes of the next plane depends on what there was at first
   pub changed-IsMade : changed mid change i (picture_in mid owner) ≡ changed old change i (picture_in old owner)
   changed-IsMade =
-      changed-ChangesAmong old mid change drawing.planes i (picture_in mid owner) apart made.only
+      changed-ChangesAmong old mid change design.planes i (picture_in mid owner) apart made.only
       ∙ ap (changed old change i) (ap (picture_in mid) (sym (at 0)) ∙ made.rest i 0 (omega arith) within ∙ ap (picture_in old) (at 0))
 
   module _ (new : Pool) (changes : ChangesOnly mid new owner) (strips : HasStrips new owner) (shows : picture_in new owner ≡ changed mid change i (picture_in mid owner)) where
-    differs : (k d : ℕ) → k ≢ i → k < length drawing.planes → get_or drawing.planes k d ≢ owner
-    differs k d other below same = owners_differ drawing.planes k i d made.home.apart below within other (same ∙ sym (at d))
+    differs : (k d : ℕ) → k ≢ i → k < length design.planes → get_or design.planes k d ≢ owner
+    differs k d other below same = owners_differ design.planes k i d made.home.apart below within other (same ∙ sym (at d))
 
-    kept : (k d : ℕ) → k ≢ i → k < length drawing.planes → picture_in new (get_or drawing.planes k d) ≡ picture_in mid (get_or drawing.planes k d)
-    kept k d other below = ap shown (changes.others (get_or drawing.planes k d) (differs k d other below))
+    kept : (k d : ℕ) → k ≢ i → k < length design.planes → picture_in new (get_or design.planes k d) ≡ picture_in mid (get_or design.planes k d)
+    kept k d other below = ap shown (changes.others (get_or design.planes k d) (differs k d other below))
 
-    next_done : (k d : ℕ) → k < i + 1 → k < length drawing.planes → picture_in new (get_or drawing.planes k d) ≡ changed old change k (picture_in old (get_or drawing.planes k d))
+    next_done : (k d : ℕ) → k < i + 1 → k < length design.planes → picture_in new (get_or design.planes k d) ≡ changed old change k (picture_in old (get_or design.planes k d))
     next_done k d before below = elim (cases_eq k i) [
       | inl same ↦
-          let P : ℕ → Type 0 = λ j. picture_in new (get_or drawing.planes j d) ≡ changed old change j (picture_in old (get_or drawing.planes j d)) in
+          let P : ℕ → Type 0 = λ j. picture_in new (get_or design.planes j d) ≡ changed old change j (picture_in old (get_or design.planes j d)) in
           subst P (sym same) (ap (picture_in new) (at d) ∙ shows ∙ changed-IsMade ∙ ap (λ o. changed old change i (picture_in old o)) (sym (at d)))
       | inr other ↦ kept k d other below ∙ made.done k d (omega (arith, before, other)) below
     ]
 
-    pub IsMade-more : IsMade old new drawing change (i + 1)
+    pub IsMade-more : IsMade old new design change (i + 1)
     IsMade-more = record {
       done = next_done;
       rest = λ k d after below.
           let other : k ≢ i = omega (arith, after) in
           kept k d other below ∙ made.rest k d (omega (arith, after)) below;
       only =
-          ChangesAmong-trans old mid new drawing.planes made.only
-          (ChangesAmong-ChangesOnly mid new drawing.planes owner (i, within, sym is) changes);
-      home = IsHome-ChangesOnly mid new drawing owner changes strips made.home;
+          ChangesAmong-trans old mid new design.planes made.only
+          (ChangesAmong-ChangesOnly mid new design.planes owner (i, within, sym is) changes);
+      home = AreAtHome-ChangesOnly mid new design.quota design.planes owner changes strips made.home;
     }
 
 -- ---- all planes
@@ -123,18 +123,18 @@ changed-past pool (Dump planes dx dy) owners plane apart past =
 
 -- the layout is changed once all planes are
 pub layout_in-IsMade :
-    (old new : Pool) (drawing : Drawing) (change : Change) (count : ℕ) → IsApartFrom change drawing.planes → IsMade old new drawing change count
-    → length drawing.planes ≤ count → layout_in new drawing.planes ≡ changed_layout old change (layout_in old drawing.planes)
-layout_in-IsMade old new drawing change count apart made all = fun_ext at_plane
+    (old new : Pool) (design : Design) (change : Change) (count : ℕ) → IsApartFrom change design.planes → IsMade old new design change count
+    → length design.planes ≤ count → layout_in new design.planes ≡ changed_layout old change (layout_in old design.planes)
+layout_in-IsMade old new design change count apart made all = fun_ext at_plane
   where
-    at_plane : (plane : ℕ) → layout_in new drawing.planes plane ≡ changed_layout old change (layout_in old drawing.planes) plane
-    at_plane plane = elim (cases_lt plane (length drawing.planes)) [
+    at_plane : (plane : ℕ) → layout_in new design.planes plane ≡ changed_layout old change (layout_in old design.planes) plane
+    at_plane plane = elim (cases_lt plane (length design.planes)) [
       | inl within ↦
-          let owner = get_or drawing.planes plane 0 in
-          let is : owner ≡ get_or drawing.planes plane owner = get_or_default drawing.planes plane 0 owner within in
-          layout_in-at new drawing.planes plane owner within is ∙ made.done plane 0 (omega (arith, within, all)) within
-          ∙ ap (changed old change plane) (sym (layout_in-at old drawing.planes plane owner within is))
+          let owner = get_or design.planes plane 0 in
+          let is : owner ≡ get_or design.planes plane owner = get_or_default design.planes plane 0 owner within in
+          layout_in-at new design.planes plane owner within is ∙ made.done plane 0 (omega (arith, within, all)) within
+          ∙ ap (changed old change plane) (sym (layout_in-at old design.planes plane owner within is))
       | inr past ↦
-          layout_in-past new drawing.planes plane past ∙ sym (changed-past old change drawing.planes plane apart past)
-          ∙ ap (changed old change plane) (sym (layout_in-past old drawing.planes plane past))
+          layout_in-past new design.planes plane past ∙ sym (changed-past old change design.planes plane apart past)
+          ∙ ap (changed old change plane) (sym (layout_in-past old design.planes plane past))
     ]

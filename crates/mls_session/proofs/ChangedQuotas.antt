@@ -13,7 +13,7 @@ use Rattle.mls_paint.specs.Planes.{layout_in, picture_in}
 use Rattle.mls_paint.proofs.OwnerFrames.{layout_in-at}
 use Rattle.mls_session.specs.Inner.{FitsQuota, changed, changed_layout}
 use Rattle.mls_session.specs.Own.{Config, Drawn, change_step, exceeds_quota}
-use Rattle.mls_session.specs.Drawings.{Drawing}
+use Rattle.mls_session.specs.Designs.{Design}
 use Rattle.mls_session.specs.declared.change.Change.{Change}
 use Rattle.mls_session.specs.declared.reply.Reply.{Reply}
 use Rattle.mls_session.specs.declared.reply.Reply.TheVariants.{Done, Refused}
@@ -31,31 +31,31 @@ pub exceeds_quota-is :
 exceeds_quota-is config layout planes quota count same = rw (count, same) refl
 
 -- ---- on one plane
-module _ (pool : Pool) (drawing : Drawing) (change : Change) (i owner limit : ℕ) (over : Picture) (within : i < length drawing.planes) (is : owner ≡ get_or drawing.planes i owner) (same : limit ≡ drawing.quota) (made : over ≡ changed pool change i (picture_in pool owner)) where
-  made-at : over ≡ changed_layout pool change (layout_in pool drawing.planes) i
-  made-at = made ∙ ap (changed pool change i) (sym (layout_in-at pool drawing.planes i owner within is))
+module _ (pool : Pool) (design : Design) (change : Change) (i owner limit : ℕ) (over : Picture) (within : i < length design.planes) (is : owner ≡ get_or design.planes i owner) (same : limit ≡ design.quota) (made : over ≡ changed pool change i (picture_in pool owner)) where
+  made-at : over ≡ changed_layout pool change (layout_in pool design.planes) i
+  made-at = made ∙ ap (changed pool change i) (sym (layout_in-at pool design.planes i owner within is))
 
-  pub exceeds-fits : tile_count world over ≤ limit → exceeds drawing.quota (changed_layout pool change (layout_in pool drawing.planes)) i ≡ false
+  pub exceeds-fits : tile_count world over ≤ limit → exceeds design.quota (changed_layout pool change (layout_in pool design.planes)) i ≡ false
   exceeds-fits few =
-      let test : nat_lt drawing.quota (tile_count world over) ≡ false = grind (arith, nat_tests, few, same) in
-      ap (λ picture. nat_lt drawing.quota (tile_count world picture)) (sym made-at) ∙ test
+      let test : nat_lt design.quota (tile_count world over) ≡ false = grind (arith, nat_tests, few, same) in
+      ap (λ picture. nat_lt design.quota (tile_count world picture)) (sym made-at) ∙ test
 
-  pub exceeds-more : (tile_count world over ≤ limit → ⊥) → exceeds drawing.quota (changed_layout pool change (layout_in pool drawing.planes)) i ≡ true
+  pub exceeds-more : (tile_count world over ≤ limit → ⊥) → exceeds design.quota (changed_layout pool change (layout_in pool design.planes)) i ≡ true
   exceeds-more many =
       let more : limit < tile_count world over = elim (cases_lt limit (tile_count world over)) [
         | inl above ↦ above
         | inr few ↦ absurd (many few)
       ] in
-      let test : nat_lt drawing.quota (tile_count world over) ≡ true = grind (arith, nat_tests, more, same) in
-      ap (λ picture. nat_lt drawing.quota (tile_count world picture)) (sym made-at) ∙ test
+      let test : nat_lt design.quota (tile_count world over) ≡ true = grind (arith, nat_tests, more, same) in
+      ap (λ picture. nat_lt design.quota (tile_count world picture)) (sym made-at) ∙ test
 
   -- a plane that fits the quota is painted
   pub ok_where_fits :
-      {T E : Type 0} (painted : Result T E) → FitsQuota (length drawing.planes) drawing.quota (changed_layout pool change (layout_in pool drawing.planes))
+      {T E : Type 0} (painted : Result T E) → FitsQuota (length design.planes) design.quota (changed_layout pool change (layout_in pool design.planes))
       → (IsErr painted → limit < tile_count world over) → IsOk painted
   ok_where_fits (Ok done) fits refused = refl
   ok_where_fits (Err fault) fits refused =
-      let few = subst (λ picture. tile_count world picture ≤ drawing.quota) (sym made-at) (fits i within) in
+      let few = subst (λ picture. tile_count world picture ≤ design.quota) (sym made-at) (fits i within) in
       absurd (omega (arith, few, same, refused refl))
 
 -- ---- on all planes

@@ -12,7 +12,7 @@ use Rattle.mls_paint.specs.Planes.{layout_in, picture_in}
 use Rattle.mls_paint.proofs.OwnerFrames.{layout_in-at}
 use Rattle.mls_session.specs.Changes.{layout_leaves_world, leaves_world}
 use Rattle.mls_session.specs.Own.{Config, Drawn, cell_at, change_step, dump_step, dumped_layout}
-use Rattle.mls_session.specs.Drawings.{cell_layouts}
+use Rattle.mls_session.specs.Setups.{cell_layouts}
 use Rattle.mls_session.specs.declared.reply.Reply.TheVariants.{Refused}
 use Rattle.mls_session.specs.declared.refusal.Refusal.TheVariants.{CellOutside}
 use Rattle.mls_session.proofs.FirstPlanes.{any_at}

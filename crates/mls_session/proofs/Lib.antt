@@ -11,11 +11,11 @@ pub mod CommandSteps
 pub mod CountedCommands
 pub mod CountedSteps
 pub mod DesignSteps
-pub mod DrawingPlanes
 pub mod DumpedCells
 pub mod DumpedRects
 pub mod EditedSquares
 pub mod ErasedTiles
+pub mod EditedDesigns
 pub mod ErrorPlanes
 pub mod ExactEntries
 pub mod FirstPlanes
@@ -35,6 +35,7 @@ pub mod Openings
 pub mod OwnReplies
 pub mod Painting
 pub mod PartialFacts
+pub mod RepaintedPlanes
 pub mod Results
 pub mod RightMarks
 pub mod SavedCounts

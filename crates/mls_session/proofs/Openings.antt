@@ -1,5 +1,5 @@
--- A drawing is opened plane by plane.
-use Rattle.std.proofs.Common.{◌≡◌, ◌≢◌, ℕ, zero, suc, ◌+◌, ◌*◌, List, [], ◌∷◌, ◌++◌, length, get_or, None, All, refl, ap, ◌∙◌, subst, length-append, add-mul, arith}
+-- A design is opened plane by plane.
+use Rattle.std.proofs.Common.{◌≡◌, ◌≢◌, ℕ, zero, suc, ◌+◌, ◌*◌, List, [], ◌∷◌, ◌++◌, length, get_or, All, refl, ap, ◌∙◌, subst, length-append, add-mul, arith}
 use Rattle.std.proofs.Math.Path.{fun_ext}
 use Rattle.std.proofs.lemmas.List.Elements.{All-push}
 use Rattle.mls_geom.specs.Pictures.{empty_picture}
@@ -9,7 +9,6 @@ use Rattle.mls_paint.specs.Owners.{AddsOwners}
 use Rattle.mls_paint.specs.Planes.{AddsOwner, layout_in, picture_in}
 use Rattle.mls_paint.proofs.OwnerFrames.{AddsOwners-push}
 use Rattle.mls_session.specs.Own.{blank}
-use Rattle.mls_session.specs.Drawings.{drawn_of}
 
 -- the planes show nothing
 abbrev pub AreSpace : Pool → List ℕ → Type 0
@@ -20,9 +19,9 @@ layout_in-AreSpace pool [] space plane = refl
 layout_in-AreSpace pool (owner ∷ owners) space zero = space 0 owner (omega arith)
 layout_in-AreSpace pool (owner ∷ owners) space (suc plane) = layout_in-AreSpace pool owners (λ k d within. space (suc k) d (omega (arith, within))) plane
 
--- so their drawing is blank
-pub drawn_of-blank : (pool : Pool) (owners : List ℕ) (quota : ℕ) → AreSpace pool owners → drawn_of pool (record { box = None; planes = owners; quota = quota }) ≡ blank
-drawn_of-blank pool owners quota space = ap (λ layout. record { box = None; layout = layout }) (fun_ext (layout_in-AreSpace pool owners space))
+-- so their layout is blank
+pub layout_in-blank : (pool : Pool) (owners : List ℕ) → AreSpace pool owners → layout_in pool owners ≡ blank.layout
+layout_in-blank pool owners space = fun_ext (layout_in-AreSpace pool owners space)
 
 -- one plane of space more
 pub AreSpace-push :

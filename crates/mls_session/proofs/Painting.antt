@@ -1,14 +1,40 @@
 -- Painting a type is repainting the plane on which it lies.
-use Rattle.std.proofs.Common.{◌≡◌, ℕ, List, [], ◌∷◌, Option, Some}
+use Rattle.std.proofs.Common.{◌≡◌, ℕ, ◌<◌, List, [], ◌∷◌, length, get_or, Option, Some}
 use Rattle.mls_geom.specs.Rects.{Rect}
 use Rattle.mls_geom.specs.Pictures.{overlaid}
+use Rattle.mls_geom.specs.TileCounts.{tile_count}
+use Rattle.mls_geom.specs.World.{world}
 use Rattle.mls_geom.specs.declared.piece.Piece.{Piece}
 use Rattle.mls_tech.specs.Readings.{plane_of_type}
+use Rattle.mls_tilepool.specs.Pools.{Pool}
+use Rattle.mls_stitch.specs.Tilings.{ChangesOnly}
+use Rattle.mls_paint.specs.Planes.{picture_in}
 use Rattle.mls_session.specs.Own.{Config, Drawn, paint_step, repaint_step}
+use Rattle.mls_session.specs.Designs.{AreAtHome, Design, drawn_of}
+use Rattle.mls_session.specs.declared.refusal.Refusal.TheVariants.{Quota}
 use Rattle.mls_session.specs.declared.reply.Reply.{Reply}
+use Rattle.mls_session.specs.declared.reply.Reply.TheVariants.{Done, Refused}
+use Rattle.mls_session.proofs.RepaintedPlanes.{repaint_step-Done, repaint_step-Refused}
 
-pub paint_step-repaint_step : (config : Config) (own : Drawn) (box : Option Rect) (named : Option ℕ) (e : Rect) (kind plane : ℕ) (pieces : List Piece) (next : Drawn × Reply)
+paint_step-repaint_step : (config : Config) (own : Drawn) (box : Option Rect) (named : Option ℕ) (e : Rect) (kind plane : ℕ) (pieces : List Piece) (next : Drawn × Reply)
     → box ≡ Some e → named ≡ Some kind → plane_of_type config.tech.type_planes kind ≡ Some plane → pieces ≡ record { rect = e; kind = kind } ∷ []
     → repaint_step config own plane (overlaid (own.layout plane) pieces) ≡ next → paint_step config own box named ≡ next
 paint_step-repaint_step config own box named e kind plane pieces next is_set is_known lies_on one repainted =
     rw (is_set, is_known, lies_on) (rw one at repainted)
+
+module _ (config : Config) (old : Pool) (design : Design) (named : Option ℕ) (e : Rect) (kind plane owner : ℕ) (pieces : List Piece) (is_set : design.box ≡ Some e) (is_known : named ≡ Some kind) (lies_on : plane_of_type config.tech.type_planes kind ≡ Some plane) (one : pieces ≡ record { rect = e; kind = kind } ∷ []) (same_quota : config.quota ≡ design.quota) (within : plane < length design.planes) (is : owner ≡ get_or design.planes plane owner) where
+  -- a plane that would have too many tiles is left
+  pub paint_step-Refused :
+      design.quota < tile_count world (overlaid (picture_in old owner) pieces) → paint_step config (drawn_of old design) design.box named ≡ (drawn_of old design, Refused Quota)
+  paint_step-Refused many =
+      paint_step-repaint_step config (drawn_of old design) design.box named e kind plane pieces (drawn_of old design, Refused Quota) is_set is_known lies_on one
+      (repaint_step-Refused config old design plane owner pieces same_quota within is many)
+
+  -- any other shows the box
+  pub paint_step-Done :
+      (new : Pool) (after : Design) → AreAtHome old design.quota design.planes → after.box ≡ design.box → after.planes ≡ design.planes → ChangesOnly old new owner
+      → picture_in new owner ≡ overlaid (picture_in old owner) pieces → ¬ (design.quota < tile_count world (overlaid (picture_in old owner) pieces))
+      → paint_step config (drawn_of old design) design.box named ≡ (drawn_of new after, Done)
+  paint_step-Done new after home same_box same_planes changed shows few =
+      paint_step-repaint_step config (drawn_of old design) design.box named e kind plane pieces (drawn_of new after, Done) is_set is_known lies_on one
+      (repaint_step-Done config old new design after.box after.planes plane owner pieces same_quota home within is same_box same_planes changed shows few)

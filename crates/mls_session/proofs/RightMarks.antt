@@ -27,7 +27,7 @@ use Rattle.mls_errorplane.specs.declared.error_plane.Stepped.TheVariants as step
 use Rattle.mls_errorplane.proofs.CheckedSquares.{edit-IsChecked, step-IsChecked}
 use Rattle.mls_session.specs.Bounds.{dumped_rect}
 use Rattle.mls_session.specs.Changes.{layout_leaves_world}
-use Rattle.mls_session.specs.Drawings.{cell_layouts}
+use Rattle.mls_session.specs.Setups.{cell_layouts}
 use Rattle.mls_session.specs.Own.{Config, Drawn, Designed, are_types, box_step, cell_at, change_step, check_in, count_step, dump_step, dumped_in, dumped_layout, edit_step, erase_step, erased_layout, exceeds_quota, paint_on, paint_step, save_step, soiled_after, what_step, why_step, with_plane}
 use Rattle.mls_session.specs.OwnSteps.{DesignRunsOut, DesignSteps, catch_up_step, caught_up, checked, checked_times, design_step, ending}
 use Rattle.mls_session.specs.Designs.{HasRightMarks}

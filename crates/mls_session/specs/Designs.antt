@@ -1,51 +1,83 @@
 -- What a caller sees of a design, its own state, and its planes in the pool.
-use Rattle.std.specs.Prelude.{◌≡◌, ◌≢◌, ℕ, Some, List, [], ◌∷◌, ◌++◌}
-use Rattle.std.specs.List.{All}
+use Rattle.std.specs.Prelude.{◌≡◌, ◌≢◌, ℕ, Option, Some, List, [], ◌∷◌, ◌++◌, length, ⊤}
+use Rattle.std.specs.List.{All, AllPairs, Contains}
 use Rattle.mls_edgerule.specs.declared.edge_rule.EdgeRule.{EdgeRule}
-use Rattle.mls_library.specs.Libraries.{Library}
-use Rattle.mls_tech.specs.Readings.{Tech}
+use Rattle.mls_geom.specs.Rects.{Rect}
+use Rattle.mls_library.specs.Libraries.{HavePlanes, IsHome as AreCellsHome}
 use Rattle.mls_tilepool.specs.Pools.{Pool, room_of}
 use Rattle.mls_paint.specs.Owners.{ChangesAmong}
+use Rattle.mls_paint.specs.Planes.{HasStrips, layout_in}
 use Rattle.mls_errorplane.specs.Checkings.{IsChecked}
 use Rattle.mls_errorplane.specs.ErrorPlanes.{ErrorPlane, ShowsMarks, checking_of}
-use Rattle.mls_session.specs.Drawings.{Drawing, IsHome as IsDrawingHome, cell_layouts, drawn_of, plane_reserve}
-use Rattle.mls_session.specs.Own.{Config, Designed}
+use Rattle.mls_session.specs.Own.{Designed, Drawn}
+use Rattle.mls_session.specs.Quotas.{plane_reserve}
+use Rattle.mls_session.specs.declared.setup.Setup.{Setup}
+use Rattle.mls_session.specs.declared.reply.Reply.{Reply}
+use Rattle.mls_session.specs.declared.reply.Reply.TheVariants.{Done, Kinds, Saved, Count, Why, Refused, Stopped}
 
--- what is drawn, and its error plane
+-- the box, the owners of the layout's planes, the most tiles that a plane may have, and the error plane
 pub record Design : Type 0 where
-  pub drawing : Drawing
+  pub box : Option Rect
+  pub planes : List ℕ
+  pub quota : ℕ
   pub errors : ErrorPlane
 
--- what no command changes
-abbrev pub config_of : Tech → List EdgeRule → Pool → Library → Design → Config
-config_of tech rules pool cells design = record { tech = tech; rules = rules; cells = cell_layouts pool cells; quota = design.drawing.quota }
-
 -- the layout and the marks are what the tiles of the design's planes show
+abbrev pub drawn_of : Pool → Design → Drawn
+drawn_of pool design = record { box = design.box; layout = layout_in pool design.planes }
+
 abbrev pub designed_of : Pool → Design → Designed
-designed_of pool design = record { drawn = drawn_of pool design.drawing; checking = checking_of pool design.errors }
+designed_of pool design = record { drawn = drawn_of pool design; checking = checking_of pool design.errors }
 
 -- the owners of the layout's planes, and last that of the error plane
 abbrev pub owners_of : Design → List ℕ
-owners_of design = design.drawing.planes ++ design.errors.owner ∷ []
+owners_of design = design.planes ++ design.errors.owner ∷ []
+
+-- the design was opened with this setup, or with one of as many planes and the same quota
+pub record IsMadeFor (setup : Setup) (design : Design) : Type 0 where
+  pub planes : length design.planes ≡ setup.tech.plane_count
+  pub quota : design.quota ≡ setup.quota
+
+-- each plane of a layout lies in the pool in maximal strips, with its reserve, under an owner of its own
+pub record AreAtHome (pool : Pool) (quota : ℕ) (planes : List ℕ) : Type 0 where
+  pub strips : All (λ owner. HasStrips pool owner) planes
+  pub reserves : All (λ owner. room_of pool owner ≡ Some (plane_reserve quota)) planes
+  pub apart : AllPairs (λ a b. a ≢ b) planes
 
 -- the error plane shows marks and nothing else, with its reserve, under an owner that none of the layout's planes has
-pub record HasErrorPlane (pool : Pool) (drawing : Drawing) (owner : ℕ) : Type 0 where
-  pub marks : ShowsMarks pool owner
-  pub reserve : room_of pool owner ≡ Some (plane_reserve drawing.quota)
-  pub apart : All (λ plane. plane ≢ owner) drawing.planes
+pub record HasErrorPlane (pool : Pool) (design : Design) : Type 0 where
+  pub marks : ShowsMarks pool design.errors.owner
+  pub reserve : room_of pool design.errors.owner ≡ Some (plane_reserve design.quota)
+  pub apart : All (λ plane. plane ≢ design.errors.owner) design.planes
 
 -- so the design's planes lie in the pool
 pub record IsHome (pool : Pool) (design : Design) : Type 0 where
-  pub drawing : IsDrawingHome pool design.drawing
-  pub errors : HasErrorPlane pool design.drawing design.errors.owner
+  pub layout : AreAtHome pool design.quota design.planes
+  pub errors : HasErrorPlane pool design
 
 -- what every call keeps: the design has the planes and the quota that it had, its planes are at home, and only their tiles have changed
 pub record KeepsPlanes (old new : Pool) (before after : Design) : Type 0 where
   pub home : IsHome new after
   pub only : ChangesAmong old new (owners_of before)
-  pub planes : after.drawing.planes ≡ before.drawing.planes
+  pub planes : after.planes ≡ before.planes
   pub errors : after.errors.owner ≡ before.errors.owner
-  pub quota : after.drawing.quota ≡ before.drawing.quota
+  pub quota : after.quota ≡ before.quota
+
+-- the library's cells lie in the pool, under other owners than these, and each has a plane for each of the technology's
+pub record CanDump (setup : Setup) (pool : Pool) (owners : List ℕ) : Type 0 where
+  pub home : AreCellsHome pool setup.library
+  pub apart : All (λ cell. All (λ owner. ¬ (Contains owners owner)) cell.planes) setup.library
+  pub planes : HavePlanes setup.tech.plane_count setup.library
+
+-- the fact, if the reply is a refusal
+abbrev pub OnRefused : Reply → Type 0 → Type 0
+OnRefused Done P = ⊤
+OnRefused (Kinds kinds) P = ⊤
+OnRefused (Saved lines) P = ⊤
+OnRefused (Count errors pending) P = ⊤
+OnRefused (Why violated) P = ⊤
+OnRefused (Refused refusal) P = P
+OnRefused (Stopped refusal pending) P = ⊤
 
 -- outside the areas that await checking, the marked squares are exactly those of the layout that the rules forbid
 abbrev pub HasRightMarks : List EdgeRule → Designed → Type 0

@@ -1,9 +1,9 @@
 -- The words of private contracts. A caller needs none of them.
-use Rattle.std.specs.Prelude.{◌≡◌, ℕ, ◌+◌, ◌*◌, ◌^◌, ◌++◌, ◌<◌, ◌≤◌, false, true, if◌then◌else◌, min, max, Option, Some, None, List, [], ◌∷◌, IfSome, length, map}
+use Rattle.std.specs.Prelude.{◌≡◌, ℕ, ◌+◌, ◌*◌, ◌^◌, ◌++◌, ◌<◌, ◌≤◌, false, true, if◌then◌else◌, Option, Some, None, List, [], ◌∷◌, IfSome, length, map}
 use Rattle.std.specs.List.{All, Contains}
 use Rattle.mls_geom.specs.Layouts.{Layout}
 use Rattle.mls_geom.specs.Pictures.{Picture}
-use Rattle.mls_geom.specs.Rects.{Rect}
+use Rattle.mls_geom.specs.Rects.{Rect, joined}
 use Rattle.mls_geom.specs.StripLists.{strips_of}
 use Rattle.mls_geom.specs.TileCounts.{tile_count}
 use Rattle.mls_geom.specs.World.{world}
@@ -37,7 +37,7 @@ use Rattle.mls_session.specs.declared.reply.Reply.TheVariants.{Done, Stopped}
 abbrev pub round_both : Option Rect → Option Rect → Option Rect
 round_both None other = other
 round_both (Some a) None = Some a
-round_both (Some a) (Some b) = Some (record { left = min a.left b.left; bottom = min a.bottom b.bottom; right = max a.right b.right; top = max a.top b.top })
+round_both (Some a) (Some b) = Some (joined a b)
 
 -- what a change makes of what a plane shows
 abbrev pub changed : Pool → Change → ℕ → Picture → Picture

@@ -1,7 +1,6 @@
 pub mod Bounds
 pub mod Changes
 pub mod Designs
-pub mod Drawings
 pub mod Inner
 pub mod JournalLimits
 pub mod Journals
@@ -9,6 +8,6 @@ pub mod Own
 pub mod OwnSteps
 pub mod Quotas
 pub mod Refusals
-pub mod Rooms
 pub mod Saving
 pub mod Sessions
+pub mod Setups

@@ -1,5 +1,5 @@
 -- How many tiles a plane may have. This project's own.
-use Rattle.std.specs.Prelude.{ℕ, ◌≤◌}
+use Rattle.std.specs.Prelude.{ℕ, ◌+◌, ◌≤◌}
 
 -- one rectangle in the middle of the world makes five
 abbrev pub least_quota : ℕ
@@ -15,3 +15,7 @@ default_quota = 1024
 pub record IsQuota (tiles : ℕ) : Type 0 where
   pub enough : least_quota ≤ tiles
   pub bounded : tiles ≤ most_quota
+
+-- how many tiles each plane reserves: some more than it may have
+abbrev pub plane_reserve : ℕ → ℕ
+plane_reserve quota = quota + 64

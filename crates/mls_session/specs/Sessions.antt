@@ -1,14 +1,12 @@
 -- What a caller sees of a session, what it keeps, and its planes in the pool.
 use Rattle.std.specs.Prelude.{◌≡◌, ℕ, List, length}
-use Rattle.mls_edgerule.specs.declared.edge_rule.EdgeRule.{EdgeRule}
-use Rattle.mls_library.specs.Libraries.{Library}
-use Rattle.mls_tech.specs.Readings.{Tech}
 use Rattle.mls_tilepool.specs.Pools.{Pool}
 use Rattle.mls_session.specs.Designs as design
-use Rattle.mls_session.specs.Designs.{Design, config_of, designed_of}
+use Rattle.mls_session.specs.Designs.{Design, designed_of}
 use Rattle.mls_session.specs.Journals.{Kept}
-use Rattle.mls_session.specs.OwnSteps.{OwnState, Terms}
+use Rattle.mls_session.specs.OwnSteps.{OwnState}
 use Rattle.mls_session.specs.declared.journal.Entry.{Entry}
+use Rattle.mls_session.specs.declared.setup.Setup.{Setup}
 
 -- its design, its journal, how many entries this may have, and how many check steps were done since the last entry
 pub record Session : Type 0 where
@@ -16,10 +14,6 @@ pub record Session : Type 0 where
   pub journal : List Entry
   pub limit : ℕ
   pub checks : ℕ
-
--- what no call changes
-abbrev pub terms_of : Tech → List EdgeRule → Pool → Library → Session → Terms
-terms_of tech rules pool cells session = record { config = config_of tech rules pool cells session.design; journal = session.limit }
 
 -- the layout and the marks are what the tiles of the session's planes show
 abbrev pub state_of : Pool → Session → OwnState
@@ -31,6 +25,11 @@ kept_of pool session = record { own = state_of pool session; journal = session.j
 -- the owners of the layout's planes, and last that of the error plane
 abbrev pub owners_of : Session → List ℕ
 owners_of session = design.owners_of session.design
+
+-- the session was opened with this setup, or with one of as many planes, the same quota and the same limit
+pub record IsMadeFor (setup : Setup) (session : Session) : Type 0 where
+  pub design : design.IsMadeFor setup session.design
+  pub limit : session.limit ≡ setup.limit
 
 -- the session's planes lie in the pool
 abbrev pub IsHome : Pool → Session → Type 0

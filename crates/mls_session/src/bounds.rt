@@ -73,12 +73,5 @@ fn round_both(one: Option<Rect>, other: Option<Rect>) -> Option<Rect>
     let Some(second) = other else {
         return one;
     };
-    let a = first.area();
-    let b = second.area();
-    Some(Rect::between(
-        a.left.min(b.left),
-        a.bottom.min(b.bottom),
-        a.right.max(b.right),
-        a.top.max(b.top),
-    ))
+    Some(first.joined(second))
 }

@@ -33,7 +33,7 @@ pub(crate) enum Change<'a> {
 }
 
 impl Change<'_> {
-    /// Makes `pieces` those that the change paints on a plane, of this number.
+    /// Fills `pieces` with those that the change paints on a plane, of this number.
     pub fn list_pieces(
         &self,
         pool: &Pool,
@@ -48,7 +48,8 @@ impl Change<'_> {
         requires cell_room { most_tiles ≤ scratch.old.room }
         requires pieces_fit { HasCapacityFor pool.now plane.old (vec_capacity pieces.old) }
         requires cell_pieces_fit { most_tiles ≤ vec_capacity pieces.old }
-        ensures picture { (below : Picture) → below ≡ picture_in pool.now plane.old → overlaid below pieces.new.items ≡ changed pool.now self.now number below }
+        ensures picture { (below : Picture) → below ≡ picture_in pool.now plane.old
+            → overlaid below pieces.new.items ≡ changed pool.now self.now number below }
         ensures few { IfSome (room_of pool.now plane.old) (λ room. length pieces.new.items ≤ max room most_tiles) }
         ensures pieces_room { vec_capacity pieces.new ≡ vec_capacity pieces.old }
         ensures plane { plane.new ≡ plane.old }
@@ -76,7 +77,8 @@ fn list_erased(
     requires strips { HasStrips pool.now plane.old }
     requires room { HasRoomFor pool.now plane.old scratch.old }
     requires pieces_fit { HasCapacityFor pool.now plane.old (vec_capacity pieces.old) }
-    ensures picture { overlaid (picture_in pool.now plane.old) pieces.new.items ≡ erased (picture_in pool.now plane.old) rect kinds }
+    ensures picture { overlaid (picture_in pool.now plane.old) pieces.new.items
+        ≡ erased (picture_in pool.now plane.old) rect kinds }
     ensures few { IfSome (room_of pool.now plane.old) (λ room. length pieces.new.items ≤ room) }
     ensures pieces_room { vec_capacity pieces.new ≡ vec_capacity pieces.old }
     ensures plane { plane.new ≡ plane.old }
@@ -97,7 +99,7 @@ fn list_erased(
     }
 }
 
-/// Makes `pieces` those of a cell's plane that aren't space, moved. None of them leaves the world.
+/// Fills `pieces` with those of a cell's plane that aren't space, moved. None of them leaves the world.
 fn list_dumped(
     pool: &Pool,
     cell: &Plane,
@@ -110,7 +112,8 @@ fn list_dumped(
     requires cell_room { most_tiles ≤ scratch.old.room }
     requires cell_pieces_fit { most_tiles ≤ vec_capacity pieces.old }
     requires stays { leaves_world (picture_in pool.now cell.now) dx dy ≡ false }
-    ensures picture { (below : Picture) → overlaid below pieces.new.items ≡ dumped below (picture_in pool.now cell.now) dx dy }
+    ensures picture { (below : Picture) → overlaid below pieces.new.items
+        ≡ dumped below (picture_in pool.now cell.now) dx dy }
     ensures few { length pieces.new.items ≤ most_tiles }
     ensures pieces_room { vec_capacity pieces.new ≡ vec_capacity pieces.old }
     ensures rooms { KeepsRoom scratch.old scratch.new }

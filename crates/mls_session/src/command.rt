@@ -16,8 +16,8 @@ pub enum Command {
     Paint(Option<u8>),
     /// Erases these types in the box, on each plane, or `None` if some name that the user wrote is of no type.
     Erase(Option<KindSet>),
-    /// Paints the squares of a cell that aren't space, moved to the right by `dx` and up by `dy`, on each plane. The cell
-    /// is `None` if none has the name that the user wrote.
+    /// Paints the squares of a cell that aren't space, moved to the right by `dx` and up by `dy`, on each plane. The
+    /// cell is `None` if none has the name that the user wrote.
     Dump {
         cell: Option<CellId>,
         dx: i32,

@@ -1,221 +1,169 @@
-//! One design: what it draws, its error plane, and what each command does to them.
-ghost use Rattle.std.specs.Prelude.{◌≡◌, ◌*◌, ◌+◌, ◌≤◌, IfOk, OnErr, length, vec_capacity};
+//! One design: a box, the planes of a layout, its error plane, and what each command does to them.
+ghost use Rattle.std.specs.Prelude.{◌≡◌, ◌*◌, ◌+◌, ◌≤◌, IfOk, OnErr, length};
 ghost use Rattle.mls_errorplane.specs.DirtyLists.{IsDirtyList};
-ghost use Rattle.mls_errorplane.specs.ErrorPlanes.{HasStepped, UnlessDone};
-ghost use Rattle.mls_errorplane.specs.Jobs.{HasGrabbed};
-ghost use Rattle.mls_errorplane.specs.Outcomes.{HasFinished, UnlessFinished};
-ghost use Rattle.mls_library.specs.Libraries as library_spec;
-ghost use Rattle.mls_library.specs.SavedCells.{HoldsOwnTypes, ReadsAs, saved_text};
 ghost use Rattle.mls_paint.specs.Owners.{AddsOwners, RemovesOwners};
 ghost use Rattle.mls_paint.specs.Planes.{layout_in};
-ghost use Rattle.mls_paint.specs.Scratches.{KeepsRoom};
-ghost use Rattle.mls_session.specs.Drawings.{CanDump, OnRefused, cell_layouts, drawn_of, plane_reserve};
+ghost use Rattle.mls_session.specs.Designs.{AreAtHome};
 ghost use Rattle.mls_session.specs.Inner.{Counts};
-ghost use Rattle.mls_session.specs.Own.{opening};
+ghost use Rattle.mls_session.specs.Own.{blank, opening};
 ghost use Rattle.mls_session.specs.OwnSteps.{DesignSteps};
-ghost use Rattle.mls_session.specs.Rooms.{HasRooms};
-ghost use Rattle.mls_session.specs.Saving.{SavesText};
-ghost use Rattle.mls_tilepool.specs.Pools.{Pool, unreserved};
+ghost use Rattle.mls_session.specs.Quotas.{plane_reserve};
+ghost use Rattle.mls_session.specs.Setups.{config_of};
+ghost use Rattle.mls_tilepool.specs.Pools.{unreserved};
 
-mod closing;
-mod commands;
+mod changing;
+mod checking;
+mod painting;
+mod saving;
 
-use crate::drawing::Drawing;
 use crate::executed::Executed;
-use crate::{Command, Quota, Reply};
-use mls_checker::Finding;
-use mls_edgerule::Rules;
-use mls_errorplane::{ErrorPlane, Job, Outcome, Stepped, opening_areas};
-use mls_geom::Piece;
-use mls_library::Library;
-use mls_paint::Scratch;
-use mls_tech::Tech;
+use crate::{Command, Quota, Reply, Setup};
+use mls_errorplane::{ErrorPlane, Workspace, opening_areas};
+use mls_geom::Rect;
+use mls_paint::{release_plane, space_plane};
+use mls_stitch::Plane;
 use mls_tilepool::Pool;
 use std::alloc::{AllocError, Global};
 use std::marker::Model;
 
-/// A design: what it draws, and what is known of which squares of it the rules forbid.
-///
-/// The pool, the scratch and the list in which a command makes the pieces that it paints are lent by the caller.
+/// A design: a box, the planes of a layout, and what is known of which squares of it the rules forbid. The tiles of its
+/// planes lie in the pool of a workspace.
 #[derive(Drop)]
 pub(crate) struct Design {
-    drawing: Drawing,
-    errors: ErrorPlane,
+    pub(crate) quota: Quota,
+    box_rect: Option<Rect>,
+    pub(crate) planes: Vec<Plane>,
+    pub(crate) errors: ErrorPlane,
 }
 
 impl Model for Design {
     ghost use Rattle.mls_session.specs.Designs.{Design};
+    ghost use Rattle.mls_session.specs.Quotas.{IsQuota};
 
     ghost Value = { Design };
 
-    ghost view = { λ s. record { drawing = s.drawing; errors = s.errors } };
+    ghost view = { λ s. record { box = s.box_rect; planes = s.planes.items; quota = s.quota; errors = s.errors } };
+
+    ghost invariant = { λ s. IsQuota s.quota };
 }
 
 impl Design {
-    ghost use Rattle.mls_session.specs.Designs.{HasRightMarks, IsHome, KeepsPlanes, config_of, owners_of, designed_of};
+    ghost use Rattle.mls_session.specs.Designs.{CanDump, HasRightMarks, IsHome, IsMadeFor, KeepsPlanes, OnRefused, designed_of, owners_of};
 
-    /// Opens a design over the planes of a technology, with no box, an empty layout and no marks. Nothing awaits checking,
-    /// unless the rules forbid squares of the empty layout.
+    /// Opens a design with no box, an empty layout and no marks. Nothing awaits checking, unless the rules forbid
+    /// squares of the empty layout.
     ///
     /// Each plane, and the error plane, reserves 64 tiles more than the quota. The pool must have room for them.
     pub fn open(
         alloc: Global,
-        pool: &mut Pool,
-        tech: &Tech,
-        rules: &Rules,
-        quota: Quota,
-        scratch: &mut Scratch,
+        setup: &Setup,
+        workspace: &mut Workspace,
     ) -> Result<Design, AllocError>
-        requires room { (tech.now.plane_count + 1) * plane_reserve quota ≤ unreserved pool.old }
-        requires scratch { plane_reserve quota ≤ scratch.old.room }
-        ensures opening { IfOk result (λ design. designed_of pool.new design ≡ opening rules.now) }
-        ensures marks_right { IfOk result (λ design. HasRightMarks rules.now (designed_of pool.new design)) }
+        requires room { (setup.now.tech.plane_count + 1) * plane_reserve setup.now.quota
+            ≤ unreserved workspace.old.pool }
+        ensures opening { IfOk result (λ design. designed_of workspace.new.pool design ≡ opening setup.now.rules) }
+        ensures marks_right { IfOk result (λ design. HasRightMarks setup.now.rules
+            (designed_of workspace.new.pool design)) }
         ensures areas { IfOk result (λ design. IsDirtyList design.errors.dirty) }
-        ensures home { IfOk result (λ design. IsHome pool.new design) }
-        ensures planes { IfOk result (λ design. length design.drawing.planes ≡ tech.now.plane_count) }
-        ensures quota { IfOk result (λ design. design.drawing.quota ≡ quota) }
-        ensures added { IfOk result (λ design. AddsOwners pool.old pool.new (owners_of design) (length (owners_of design) * plane_reserve quota)) }
-        ensures refused { OnErr result (pool.new ≡ pool.old) }
-        ensures rooms { KeepsRoom scratch.old scratch.new }
+        ensures home { IfOk result (λ design. IsHome workspace.new.pool design) }
+        ensures made_for { IfOk result (λ design. IsMadeFor setup.now design) }
+        ensures added { IfOk result (λ design. AddsOwners workspace.old.pool workspace.new.pool (owners_of design)
+            (length (owners_of design) * plane_reserve setup.now.quota)) }
+        ensures refused { OnErr result (workspace.new.pool ≡ workspace.old.pool) }
     {
-        let dirty = opening_areas(alloc, rules)?;
-        let drawing = Drawing::open(alloc, pool, tech, quota, scratch)?;
-        let errors = ErrorPlane::new(dirty, pool, quota.reserve(), scratch);
+        let dirty = opening_areas(alloc, &setup.rules)?;
+        let planes = space_planes(alloc, setup, workspace)?;
+        let errors = ErrorPlane::new(dirty, setup.quota.reserve(), workspace);
+        // For its contract alone: the areas lie in the world, and are few.
         errors.areas();
-        Ok(Design { drawing, errors })
+        Ok(Design {
+            quota: setup.quota,
+            box_rect: None,
+            planes,
+            errors,
+        })
     }
 
-    /// Carries out a command, or refuses it and changes nothing. Only catching up that stops before its end keeps what it
-    /// did.
-    ///
-    /// Types are those of `tech`, which must have as many planes as the design, and cells those of `library`. Pass the
-    /// technology and the rules that the design was opened with: another technology with as many planes may put a type on
-    /// another plane, and marks are right by one list of rules alone.
+    /// Gives the tiles and the reserves of the layout's planes and of the error plane back to the pool.
+    pub fn close(self, pool: &mut Pool)
+        requires home { IsHome pool.old self }
+        ensures removed { RemovesOwners pool.old pool.new (owners_of self)
+            (length (owners_of self) * plane_reserve self.quota) }
+    {
+        let Design { planes, errors, .. } = self;
+        for plane in planes {
+            release_plane(pool, plane);
+        }
+        errors.close(pool);
+    }
+
+    /// Carries out a command, or refuses it and changes nothing. Only catching up that stops before its end keeps
+    /// what it did.
     ///
     /// Only [`Command::Why`] and [`Command::CatchUp`] allocate, for one piece at a time.
     pub fn command(
         &mut self,
         alloc: Global,
-        pool: &mut Pool,
-        tech: &Tech,
-        rules: &Rules,
-        library: &Library,
+        setup: &Setup,
         command: Command,
-        pieces: &mut Vec<Piece>,
-        scratch: &mut Scratch,
+        workspace: &mut Workspace,
     ) -> Executed
-        requires home { IsHome pool.old self.old }
-        requires made_for { length self.old.drawing.planes ≡ tech.now.plane_count }
-        requires can_dump { CanDump tech.now pool.old library.now (owners_of self.old) }
-        requires has_rooms { HasRooms self.old.drawing.quota scratch.old (vec_capacity pieces.old) }
+        requires home { IsHome workspace.old.pool self.old }
+        requires made_for { IsMadeFor setup.now self.old }
+        requires can_dump { CanDump setup.now workspace.old.pool (owners_of self.old) }
         requires areas { IsDirtyList self.old.errors.dirty }
-        ensures step { DesignSteps (config_of tech.now rules.now pool.old library.now self.old) (designed_of pool.old self.old) command result.reply (designed_of pool.new self.new) }
-        ensures counts { Counts (config_of tech.now rules.now pool.old library.now self.old) (designed_of pool.old self.old) command result (designed_of pool.new self.new) }
-        ensures marks_right { HasRightMarks rules.now (designed_of pool.old self.old) → HasRightMarks rules.now (designed_of pool.new self.new) }
-        ensures areas { IsDirtyList self.new.errors.dirty }
-        ensures keeps { KeepsPlanes pool.old pool.new self.old self.new }
-        ensures cells_home { library_spec.IsHome pool.new library.now }
-        ensures cells { cell_layouts pool.new library.now ≡ cell_layouts pool.old library.now }
-        ensures refused { OnRefused result.reply ((self.new ≡ self.old) × (pool.new ≡ pool.old)) }
-        ensures pieces_room { vec_capacity pieces.new ≡ vec_capacity pieces.old }
-        ensures rooms { KeepsRoom scratch.old scratch.new }
+        ensures step { DesignSteps (config_of setup.now workspace.old.pool)
+            (designed_of workspace.old.pool self.old) command result.reply
+            (designed_of workspace.new.pool self.new) }
+        ensures counts { Counts (config_of setup.now workspace.old.pool)
+            (designed_of workspace.old.pool self.old) command result (designed_of workspace.new.pool self.new) }
+        ensures keeps { KeepsPlanes workspace.old.pool workspace.new.pool self.old self.new }
+        ensures refused { OnRefused result.reply ((self.new ≡ self.old)
+            × (workspace.new.pool ≡ workspace.old.pool)) }
     {
-        let executed = self.execute(alloc, pool, tech, rules, library, command, pieces, scratch);
-        self.errors.areas();
-        executed
+        match command {
+            Command::Box {
+                left,
+                bottom,
+                right,
+                top,
+            } => Executed::with(self.set_box(Rect::new(left, bottom, right, top))),
+            Command::Paint(kind) => Executed::with(self.paint(setup, kind, workspace)),
+            Command::Erase(kinds) => Executed::with(self.erase(setup, kinds, workspace)),
+            Command::Dump { cell, dx, dy } => {
+                Executed::with(self.dump(setup, cell, dx, dy, workspace))
+            }
+            Command::What => Executed::with(self.what(workspace)),
+            Command::Save => {
+                Executed::with(Reply::Saved(self.count_lines(&setup.tech, workspace)))
+            }
+            Command::Check => Executed::with(self.check(setup)),
+            Command::CatchUp => self.catch_up(alloc, setup, workspace),
+            Command::Why => Executed::with(self.why(alloc, setup, workspace)),
+            Command::Count => Executed::with(self.count(workspace)),
+        }
     }
+}
 
-    /// Checks the first piece of the areas that await checking, and takes it out of them.
-    ///
-    /// Unless this is done, nothing changes.
-    pub fn step(
-        &mut self,
-        alloc: Global,
-        pool: &mut Pool,
-        rules: &Rules,
-        pieces: &mut Vec<Piece>,
-        scratch: &mut Scratch,
-    ) -> Stepped
-        requires home { IsHome pool.old self.old }
-        requires has_rooms { HasRooms self.old.drawing.quota scratch.old (vec_capacity pieces.old) }
-        ensures stepped { HasStepped rules.now (designed_of pool.old self.old).drawn.layout self.old.drawing.quota (designed_of pool.old self.old).checking result (designed_of pool.new self.new).checking }
-        ensures drawn { (designed_of pool.new self.new).drawn ≡ (designed_of pool.old self.old).drawn }
-        ensures marks_right { HasRightMarks rules.now (designed_of pool.old self.old) → HasRightMarks rules.now (designed_of pool.new self.new) }
-        ensures keeps { KeepsPlanes pool.old pool.new self.old self.new }
-        ensures same { UnlessDone result ((self.new ≡ self.old) × (pool.new ≡ pool.old)) }
-        ensures pieces_room { vec_capacity pieces.new ≡ vec_capacity pieces.old }
-        ensures rooms { KeepsRoom scratch.old scratch.new }
-    {
-        let errors = &mut self.errors;
-        self.drawing
-            .step(alloc, pool, rules, errors, pieces, scratch)
+/// Adds an empty plane for each of the technology's to the pool.
+fn space_planes(
+    alloc: Global,
+    setup: &Setup,
+    workspace: &mut Workspace,
+) -> Result<Vec<Plane>, AllocError>
+    requires room { setup.now.tech.plane_count * plane_reserve setup.now.quota ≤ unreserved workspace.old.pool }
+    ensures blank { IfOk result (λ planes. layout_in workspace.new.pool planes.items ≡ blank.layout) }
+    ensures home { IfOk result (λ planes. AreAtHome workspace.new.pool setup.now.quota planes.items) }
+    ensures count { IfOk result (λ planes. length planes.items ≡ setup.now.tech.plane_count) }
+    ensures added { IfOk result (λ planes. AddsOwners workspace.old.pool workspace.new.pool planes.items
+        (length planes.items * plane_reserve setup.now.quota)) }
+    ensures refused { OnErr result (workspace.new.pool ≡ workspace.old.pool) }
+{
+    let mut planes = Vec::with_capacity(alloc, setup.tech.planes())?;
+    let reserve = setup.quota.reserve();
+    for _plane in 0..setup.tech.planes() {
+        let Workspace { pool, scratch, .. } = workspace;
+        planes.push_reserved(space_plane(pool, reserve, scratch).unwrap());
     }
-
-    /// Copies what a check of the first piece outside the design needs, or returns `None` if no area awaits checking.
-    ///
-    /// Fails if memory runs out. Nothing changes.
-    pub fn grab(
-        &mut self,
-        alloc: Global,
-        pool: &Pool,
-        rules: &Rules,
-        scratch: &mut Scratch,
-    ) -> Result<Option<Job>, AllocError>
-        requires home { IsHome pool.now self.old }
-        requires tiles_fit { plane_reserve self.old.drawing.quota ≤ scratch.old.room }
-        ensures grabbed { HasGrabbed rules.now (length self.old.drawing.planes) (designed_of pool.now self.old).drawn.layout (designed_of pool.now self.old).checking result }
-        ensures same { self.new ≡ self.old }
-        ensures rooms { KeepsRoom scratch.old scratch.new }
-    {
-        self.drawing.grab(alloc, pool, rules, &self.errors, scratch)
-    }
-
-    /// Marks what a finding says of its piece, and takes the piece out of the areas that await checking, if the finding is
-    /// by these rules and of the first piece, and the layout is still the one in which it was found; it is stale
-    /// otherwise.
-    ///
-    /// Unless this is finished, nothing changes. No memory is taken.
-    pub fn finish(
-        &mut self,
-        pool: &mut Pool,
-        rules: &Rules,
-        finding: &Finding,
-        pieces: &mut Vec<Piece>,
-        scratch: &mut Scratch,
-    ) -> Outcome
-        requires home { IsHome pool.old self.old }
-        requires has_rooms { HasRooms self.old.drawing.quota scratch.old (vec_capacity pieces.old) }
-        ensures finished { HasFinished rules.now (length self.old.drawing.planes) (designed_of pool.old self.old).drawn.layout self.old.drawing.quota (designed_of pool.old self.old).checking finding.now result (designed_of pool.new self.new).checking }
-        ensures drawn { (designed_of pool.new self.new).drawn ≡ (designed_of pool.old self.old).drawn }
-        ensures marks_right { HasRightMarks rules.now (designed_of pool.old self.old) → HasRightMarks rules.now (designed_of pool.new self.new) }
-        ensures keeps { KeepsPlanes pool.old pool.new self.old self.new }
-        ensures same { UnlessFinished result ((self.new ≡ self.old) × (pool.new ≡ pool.old)) }
-        ensures pieces_room { vec_capacity pieces.new ≡ vec_capacity pieces.old }
-        ensures rooms { KeepsRoom scratch.old scratch.new }
-    {
-        let errors = &mut self.errors;
-        self.drawing
-            .finish(pool, rules, errors, finding, pieces, scratch)
-    }
-
-    /// Appends the text of the layout, as a cell file, and returns the number of its lines.
-    ///
-    /// Out of memory, appends nothing and returns a refusal.
-    pub fn save_text(
-        &self,
-        pool: &Pool,
-        tech: &Tech,
-        out: &mut Vec<u8>,
-        scratch: &mut Scratch,
-    ) -> Reply
-        requires home { IsHome pool.now self.now }
-        requires made_for { length self.now.drawing.planes ≡ tech.now.plane_count }
-        requires tiles_fit { plane_reserve self.now.drawing.quota ≤ scratch.old.room }
-        ensures saves { SavesText tech.now (designed_of pool.now self.now).drawn.layout result out.old.items out.new.items }
-        ensures reads_back { HoldsOwnTypes tech.now (designed_of pool.now self.now).drawn.layout
-            → ReadsAs tech.now (saved_text tech.now (designed_of pool.now self.now).drawn.layout) (designed_of pool.now self.now).drawn.layout }
-        ensures rooms { KeepsRoom scratch.old scratch.new }
-    {
-        self.drawing.save_text(pool, tech, out, scratch)
-    }
+    Ok(planes)
 }

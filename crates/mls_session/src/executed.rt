@@ -1,9 +1,9 @@
-//! What came of a command.
+//! The result of a command.
 ghost use Rattle.std.specs.Prelude.{◌≡◌};
 
 use crate::Reply;
 
-/// What came of a command of a design.
+/// The result of a command of a design.
 #[derive(Clone, Copy, Debug, PartialEq, Eq)]
 pub(crate) struct Executed {
     /// The reply.
@@ -13,7 +13,7 @@ pub(crate) struct Executed {
 }
 
 impl Executed {
-    /// Returns what came of a command that did no check step.
+    /// Returns the result of a command that did no check step.
     pub fn with(reply: Reply) -> Executed
         ensures reply { result.reply ≡ reply }
         ensures steps { result.steps ≡ 0 }

@@ -1,4 +1,4 @@
-//! What a session keeps of what was said to it.
+//! The commands of a session, with their replies.
 ghost use Rattle.std.specs.Prelude.{◌≡◌, ◌≢◌, ◌+◌, ◌==◌, ◌≤◌, ◌^◌, ◌<◌, IfOk, [], length, true};
 ghost use Rattle.mls_session.specs.Inner.{after_command, after_note, after_steps};
 ghost use Rattle.mls_session.specs.Journals.{is_memory, is_refusal};
@@ -15,7 +15,7 @@ pub struct Said {
     pub reply: Reply,
 }
 
-/// An entry of a journal: what was said, and how many check steps were done since the entry before.
+/// An entry of a journal: a command with its reply, and how many check steps were done since the entry before.
 #[derive(Clone, Copy, Debug, PartialEq, Eq)]
 pub struct Entry {
     pub checks_before: u64,
@@ -69,7 +69,8 @@ impl Journal {
     /// The journal must not be full. No memory is taken.
     pub fn keep(&mut self, command: &Command, executed: &Executed)
         requires room { length self.old.entries ≢ self.old.limit }
-        requires fits { is_refusal is_memory executed.now.reply ≡ true → self.old.checks + executed.now.steps < 2 ^ 64 }
+        requires fits { is_refusal is_memory executed.now.reply ≡ true
+            → self.old.checks + executed.now.steps < 2 ^ 64 }
         ensures { self.new ≡ after_command self.old command.now executed.now }
     {
         if executed.reply.is_memory() {
@@ -82,7 +83,7 @@ impl Journal {
         });
     }
 
-    /// Adds what was said.
+    /// Adds a command and its reply.
     fn note(&mut self, said: Said)
         requires room { length self.old.entries ≢ self.old.limit }
         ensures { self.new ≡ after_note self.old said }

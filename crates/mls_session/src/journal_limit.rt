@@ -5,12 +5,6 @@ ghost use Rattle.mls_session.specs.JournalLimits.{IsJournalLimit, default_journa
 
 use std::marker::Model;
 
-/// The most entries that a journal may be given.
-const MOST: u32 = 65_536;
-
-/// The limit of a journal if the user gives none.
-const DEFAULT: u32 = 4096;
-
 /// The most entries that the journal of a session may have, from 1 to 65536.
 #[derive(Clone, Copy, Debug, PartialEq, Eq)]
 pub struct JournalLimit {
@@ -31,11 +25,20 @@ impl Model for JournalLimit {
 }
 
 impl JournalLimit {
+    /// The least limit.
+    pub const LEAST: u32 = 1;
+
+    /// The greatest limit.
+    pub const MOST: u32 = 65_536;
+
+    /// The limit if the user gives none.
+    pub const DEFAULT: u32 = 4096;
+
     /// Returns the limit of this many entries, or `None` if there is no such limit.
     pub fn new(entries: u32) -> Option<JournalLimit>
         ensures { SomeIff result (IsJournalLimit entries) entries }
     {
-        if !(1..=MOST).contains(&entries) {
+        if !(Self::LEAST..=Self::MOST).contains(&entries) {
             return None;
         }
         Some(JournalLimit { entries })
@@ -55,6 +58,8 @@ impl Default for JournalLimit {
 
     /// Returns the limit of 4096 entries.
     fn default() -> JournalLimit {
-        JournalLimit { entries: DEFAULT }
+        JournalLimit {
+            entries: JournalLimit::DEFAULT,
+        }
     }
 }

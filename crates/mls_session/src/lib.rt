@@ -1,11 +1,11 @@
-//! Sessions over planes of stitched tiles: each has a design, which commands change and check, and a journal of what was said.
+//! Sessions over planes of stitched tiles: each has a design, which commands change and check, and a journal of what
+//! was said.
 #![tactic(auto)]
 
 mod bounds;
 mod change;
 mod command;
 mod design;
-mod drawing;
 mod executed;
 mod journal;
 mod journal_limit;
@@ -14,6 +14,7 @@ mod quota;
 mod refusal;
 mod reply;
 mod session;
+mod setup;
 
 pub use command::Command;
 pub use journal::{Entry, Said};
@@ -23,3 +24,4 @@ pub use quota::Quota;
 pub use refusal::Refusal;
 pub use reply::Reply;
 pub use session::Session;
+pub use setup::Setup;

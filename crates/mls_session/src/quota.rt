@@ -1,24 +1,14 @@
 //! How many tiles a plane may have.
-ghost use Rattle.std.specs.Prelude.{◌≡◌, ◌≤◌};
+ghost use Rattle.std.specs.Prelude.{◌≡◌};
 ghost use Rattle.std.specs.Option.{SomeIff};
-ghost use Rattle.mls_session.specs.Quotas.{IsQuota, default_quota, most_quota};
-ghost use Rattle.mls_session.specs.Drawings.{plane_reserve};
+ghost use Rattle.mls_session.specs.Quotas.{IsQuota, default_quota, plane_reserve};
 
 use std::marker::Model;
-
-/// The least quota: the tiles of a plane with one rectangle in the middle of the world.
-const LEAST: u32 = 5;
-
-/// The greatest quota.
-const MOST: u32 = 16_384;
-
-/// The quota of a drawing if the user gives none.
-const DEFAULT: u32 = 1024;
 
 /// How many tiles a plane reserves beyond those that it may have.
 const SPARE: u32 = 64;
 
-/// The most tiles that each plane of a drawing may have, from 5 to 16384.
+/// The most tiles that each plane of a session may have, from 5 to 16384.
 #[derive(Clone, Copy, Debug, PartialEq, Eq)]
 pub struct Quota {
     tiles: u32,
@@ -38,17 +28,26 @@ impl Model for Quota {
 }
 
 impl Quota {
-    /// The quota of `tiles`, or `None` if there is no such quota.
+    /// The least quota: the tiles of a plane with one rectangle in the middle of the world.
+    pub const LEAST: u32 = 5;
+
+    /// The greatest quota.
+    pub const MOST: u32 = 16_384;
+
+    /// The quota if the user gives none.
+    pub const DEFAULT: u32 = 1024;
+
+    /// Returns the quota of this many tiles, or `None` if there is no such quota.
     pub fn new(tiles: u32) -> Option<Quota>
         ensures { SomeIff result (IsQuota tiles) tiles }
     {
-        if !(LEAST..=MOST).contains(&tiles) {
+        if !(Self::LEAST..=Self::MOST).contains(&tiles) {
             return None;
         }
         Some(Quota { tiles })
     }
 
-    /// The number of tiles.
+    /// Returns the number of tiles.
     pub fn tiles(self) -> u32
         ensures value { result ≡ self }
         ensures legal { IsQuota self }
@@ -59,7 +58,7 @@ impl Quota {
     /// Returns how many tiles a plane reserves: 64 more than it may have.
     pub fn reserve(self) -> u32
         ensures value { result ≡ plane_reserve self }
-        ensures bound { result ≤ plane_reserve most_quota }
+        ensures legal { IsQuota self }
     {
         self.tiles + SPARE
     }
@@ -70,6 +69,8 @@ impl Default for Quota {
 
     /// Returns the quota of 1024 tiles.
     fn default() -> Quota {
-        Quota { tiles: DEFAULT }
+        Quota {
+            tiles: Quota::DEFAULT,
+        }
     }
 }

@@ -3,6 +3,7 @@ ghost use Rattle.std.specs.Prelude.{◌≡◌};
 ghost use Rattle.mls_session.specs.Journals.{is_journalled, is_memory, is_refusal};
 
 use crate::Refusal;
+use mls_edgerule::RuleSet;
 use mls_kinds::KindSet;
 
 /// The reply to a command.
@@ -16,8 +17,8 @@ pub enum Reply {
     Saved(usize),
     /// How many squares are marked, and how many areas await checking.
     Count { errors: u64, pending: usize },
-    /// The rules that forbid some square of the box: bit n - 1 is 1 for each rule n of them.
-    Why(u128),
+    /// The rules that forbid some square of the box.
+    Why(RuleSet),
     /// The command is refused, and nothing has changed.
     Refused(Refusal),
     /// Catching up stopped before all areas were checked: for each piece that was checked the marks are right, and this
@@ -26,8 +27,8 @@ pub enum Reply {
 }
 
 impl Reply {
-    /// Returns whether a command with this reply goes into the journal: any, unless it is refused because the journal is
-    /// full or because memory ran out.
+    /// Returns whether a command with this reply goes into the journal: any, unless it is refused because the journal
+    /// is full or because memory ran out.
     pub fn is_journalled(self) -> bool
         ensures { result ≡ is_journalled self }
     {

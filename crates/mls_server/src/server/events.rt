@@ -31,19 +31,23 @@ impl Server {
 
     /// Does what events ask for, one after another, and returns their answers.
     ///
-    /// Out of memory for the list of answers, nothing is done.
+    /// Fails, and changes nothing, if memory runs out for the list of answers.
     pub fn run(&mut self, alloc: Global, events: &[Event]) -> Result<Vec<Answer>, AllocError>
-        ensures runs { IfOk result (λ answers. Runs (world_of self.old) events.now answers.items (world_of self.new)) }
-        ensures alone { IfOk result (λ answers. (id : ℕ) → IsToldAlone (world_of self.old) id events.now answers.items (world_of self.new)) }
+        ensures runs { IfOk result (λ answers. Runs (world_of self.old) events.now answers.items
+            (world_of self.new)) }
+        ensures alone { IfOk result (λ answers. (id : ℕ)
+            → IsToldAlone (world_of self.old) id events.now answers.items (world_of self.new)) }
         ensures marks_exact { MarksAreExact (world_of self.new) }
         ensures refused { OnErr result (self.new ≡ self.old) }
     {
-        self.is_sound();
+        // For its contract alone: the journals are legal at first, and the ids rise.
+        self.stays_sound();
         let mut answers = Vec::with_capacity(alloc, events.len())?;
         for event in events {
             answers.push_reserved(self.act(alloc, event));
         }
-        self.is_sound();
+        // And at the end the marks are exact.
+        self.stays_sound();
         Ok(answers)
     }
 }

@@ -19,30 +19,26 @@ impl Server {
     ///
     /// # Errors
     ///
-    /// The first fault, in this order: a session of the name is open, 64 sessions are open (or no id is left), the pool has
-    /// fewer unreserved tiles than the session's planes reserve, memory ran out. Nothing has changed then.
+    /// The first fault, in this order: a session of the name is open, 64 sessions are open (or no id is left), the
+    /// pool has fewer unreserved tiles than the session's planes reserve, memory ran out. Nothing has changed then.
     pub fn open(&mut self, alloc: Global, name: Name) -> Result<SessionId, OpenFault>
         ensures opens { Opens (world_of self.old) name result (world_of self.new) }
-        ensures frame { (other : ℕ) → IsOwner self.old.pool other → tiles_of self.new.pool other ≡ tiles_of self.old.pool other }
+        ensures frame { (other : ℕ) → IsOwner self.old.pool other
+            → tiles_of self.new.pool other ≡ tiles_of self.old.pool other }
     {
         if let Some(fault) = self.open_fault(&name) {
             return Err(fault);
         }
         let Server {
-            tech,
-            rules,
-            quota,
-            limit,
-            pool,
-            scratch,
+            setup,
+            workspace,
             given,
             sessions,
-            ..
         } = self;
         let Ok(()) = sessions.reserve(1) else {
             return Err(OpenFault::Memory);
         };
-        let Ok(session) = Session::open(alloc, pool, tech, rules, *quota, *limit, scratch) else {
+        let Ok(session) = Session::open(alloc, setup, workspace) else {
             return Err(OpenFault::Memory);
         };
         *given += 1;
@@ -63,7 +59,7 @@ impl Server {
         if self.sessions.len() >= MOST_SESSIONS || self.given == u64::MAX {
             return Some(OpenFault::SessionsFull);
         }
-        if self.pool.unreserved() < (self.tech.planes() as u32 + 1) * self.quota.reserve() {
+        if self.workspace.pool.unreserved() < self.setup.reserve() {
             return Some(OpenFault::PoolFull);
         }
         None
@@ -72,14 +68,19 @@ impl Server {
     /// Closes a session, and gives back all that it holds. No memory is taken.
     pub fn close(&mut self, id: SessionId) -> Result<(), NotOpen>
         ensures closes { Closes (world_of self.old) id result (world_of self.new) }
-        ensures frame { (other : ℕ) → ¬ (Contains (owners_under self.old id) other) → tiles_of self.new.pool other ≡ tiles_of self.old.pool other }
+        ensures frame { (other : ℕ) → ¬ (Contains (owners_under self.old id) other)
+            → tiles_of self.new.pool other ≡ tiles_of self.old.pool other }
     {
         let place = self.place_of(id);
-        let Server { pool, sessions, .. } = self;
+        let Server {
+            workspace,
+            sessions,
+            ..
+        } = self;
         let Some((_, closed)) = sessions.shift_remove_index(place) else {
             return Err(NotOpen);
         };
-        closed.session.close(pool);
+        closed.session.close(&mut workspace.pool);
         Ok(())
     }
 }

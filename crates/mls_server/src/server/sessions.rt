@@ -27,40 +27,35 @@ impl Server {
     {
         let place = self.place_of(id);
         let Server {
-            tech,
-            rules,
-            pool,
-            library,
-            scratch,
-            pieces,
+            setup,
+            workspace,
             sessions,
             ..
         } = self;
         let Some(asked) = sessions.get_index_mut(place) else {
             return Err(NotOpen);
         };
-        let session = &mut asked.session;
-        Ok(session.command(alloc, pool, tech, rules, library, command, pieces, scratch))
+        Ok(asked.session.command(alloc, setup, command, workspace))
     }
 
     /// Saves the layout of a session: appends its text, as a cell file, and returns the number of its lines. Nothing is
     /// appended where it is refused.
     pub fn save(&mut self, id: SessionId, out: &mut Vec<u8>) -> Result<Reply, NotOpen>
-        ensures saves { (text : List ℕ) × SavesText (world_of self.old) id result text (world_of self.new) × (out.new.items ≡ out.old.items ++ text) }
+        ensures saves { (text : List ℕ) × SavesText (world_of self.old) id result text (world_of self.new)
+            × (out.new.items ≡ out.old.items ++ text) }
         ensures frame { self.new.pool ≡ self.old.pool }
     {
         let place = self.place_of(id);
         let Server {
-            tech,
-            pool,
-            scratch,
+            setup,
+            workspace,
             sessions,
             ..
         } = self;
         let Some(asked) = sessions.get_index_mut(place) else {
             return Err(NotOpen);
         };
-        Ok(asked.session.save(pool, tech, out, scratch))
+        Ok(asked.session.save(setup, out, workspace))
     }
 
     /// Returns what a check of a session's first piece needs, if an area awaits checking. Nothing changes.
@@ -70,16 +65,15 @@ impl Server {
     {
         let place = self.place_of(id);
         let Server {
-            rules,
-            pool,
-            scratch,
+            setup,
+            workspace,
             sessions,
             ..
         } = self;
         let Some(asked) = sessions.get_index_mut(place) else {
             return Err(GrabFault::NotOpen);
         };
-        match asked.session.grab(alloc, pool, rules, scratch) {
+        match asked.session.grab(alloc, setup, workspace) {
             Ok(job) => Ok(job),
             Err(_) => Err(GrabFault::Memory),
         }
@@ -92,20 +86,18 @@ impl Server {
     {
         let place = self.place_of(id);
         let Server {
-            rules,
-            pool,
-            scratch,
-            pieces,
+            setup,
+            workspace,
             sessions,
             ..
         } = self;
         let Some(asked) = sessions.get_index_mut(place) else {
             return Err(NotOpen);
         };
-        Ok(asked.session.step(alloc, pool, rules, pieces, scratch))
+        Ok(asked.session.step(alloc, setup, workspace))
     }
 
-    /// Marks what a check found in a session, whoever made it. No memory is taken.
+    /// Marks what a check found in a session. No memory is taken.
     pub fn finish(&mut self, id: SessionId, finding: Finding) -> Result<Outcome, NotOpen>
         ensures finishes { DoesFinish (world_of self.old) id finding result (world_of self.new) }
         ensures frame { ChangesAmong self.old.pool self.new.pool (owners_under self.old id) }
@@ -120,22 +112,21 @@ impl Server {
     {
         let place = self.place_of(id);
         let Server {
-            rules,
-            pool,
-            scratch,
-            pieces,
+            setup,
+            workspace,
             sessions,
             ..
         } = self;
         let Some(asked) = sessions.get_index_mut(place) else {
             return Err(NotOpen);
         };
-        Ok(asked.session.finish(pool, rules, finding, pieces, scratch))
+        Ok(asked.session.finish(setup, finding, workspace))
     }
 
     /// Returns the journal of a session, if it is open.
     pub fn journal(&self, id: SessionId) -> Option<&[Entry]>
-        ensures value { option_map (λ entries. entries.now) result ≡ option_map (λ kept. kept.journal) (kept_in (world_of self.now) id) }
+        ensures value { option_map (λ entries. entries.now) result
+            ≡ option_map (λ kept. kept.journal) (kept_in (world_of self.now) id) }
     {
         let (_, asked) = self.sessions.get_index(self.place_of(id))?;
         Some(asked.session.journal())

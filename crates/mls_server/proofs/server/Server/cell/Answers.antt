@@ -10,6 +10,6 @@ returns c =
     let own = c.self.inside in
     record {
       value =
-          c.cell_named.ensures.value ∙ sym (position-layouts own.pool c.args.name.now own.library)
+          c.cell_named.ensures.value ∙ sym (position-layouts own.workspace.pool c.args.name.now own.setup.library)
           ∙ ap (λ (server : Server). position (λ cell. same_word c.args.name.now cell.name) (world_of server).setting.cells) c.self.view_is;
     }

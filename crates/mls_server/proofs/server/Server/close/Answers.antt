@@ -13,16 +13,14 @@ use Rattle.mls_server.proofs.server.Server.close.Goals.{After-closed}
 -- the session that is closed
 asked : (c : After-closed) → IsAsked c.args.self.now (the_view c.self.inside) c.args.id c.place_of-place.result (session_view c.closed.inside)
 asked c =
-    is_asked c.self.view_is c.self.invariant.0 c.args.id c.place_of-place.result c.place_of-place.ensures (session_view c.closed.inside)
+    is_asked c.self.view_is c.self.invariant c.args.id c.place_of-place.result c.place_of-place.ensures (session_view c.closed.inside)
     (slice_get-map (λ (entry : List ℕ × OpenSession). entry.1) c.self.inside.sessions.entries c.place_of-place.result
     ∙ ap (option_map (λ (entry : List ℕ × OpenSession). entry.1)) (sym c.in-Some.ensures.entry) ∙ ap Some (sym c.closed.view_is))
 
 pub invariant_of-self : goal.invariant_of-self
 invariant_of-self c =
-    let own = c.self.inside in (
-      subst (AreOpen own.tech own.rules own.quota own.limit own.pool own.library own.given) (sym c.in_default.ensures.unchanged) c.self.invariant.0,
-      c.self.invariant.1,
-    )
+    let own = c.self.inside in
+    subst (AreOpen own.setup own.workspace.pool own.given) (sym c.in_default.ensures.unchanged) c.self.invariant
 
 pub returns-in_default : goal.returns-in_default
 returns-in_default c =
@@ -44,11 +42,9 @@ close-requires c = record { home = (asked (goal.at.close-requires c).After-close
 
 pub invariant_of-self-2 : goal.invariant_of-self-2
 invariant_of-self-2 c =
-    let own = c.self.inside in (
-      subst (AreOpen own.tech own.rules own.quota own.limit c.close.new.pool own.library own.given) (sym c.shift_remove_index.ensures.entries)
-          (AreOpen-closed (asked (goal.at.invariant_of-self-2 c).After-closed) c.close.ensures.removed),
-      c.self.invariant.1,
-    )
+    let own = c.self.inside in
+    subst (AreOpen own.setup c.close.new.pool own.given) (sym c.shift_remove_index.ensures.entries)
+    (AreOpen-closed (asked (goal.at.invariant_of-self-2 c).After-closed) c.close.ensures.removed)
 
 pub returns : goal.returns
 returns c =

@@ -4,14 +4,13 @@ use Rattle.mls_session.specs.Journals.{Commands}
 use Rattle.mls_server.specs.contracts.server.OpenSession.{the_view as session_view}
 use Rattle.mls_server.specs.contracts.server.Server.{the_view}
 use Rattle.mls_server.proofs.AskedSessions.{AreOpen-changed, IsAsked, OnSeat-changed, frame-changed, is_asked, not_open}
-use Rattle.mls_server.proofs.KeptRooms.{HasRooms-kept, HasRooms-quota}
 use Rattle.mls_server.proofs.server.Server.command.Goals as goal
 use Rattle.mls_server.proofs.server.Server.command.Goals.{After-asked}
 
 -- the session that is asked
 asked : (c : After-asked) → IsAsked c.args.self.now (the_view c.self.inside) c.args.id c.place_of-place.result (session_view c.asked.inside)
 asked c =
-    is_asked c.self.view_is c.self.invariant.0 c.args.id c.place_of-place.result c.place_of-place.ensures (session_view c.asked.inside)
+    is_asked c.self.view_is c.self.invariant c.args.id c.place_of-place.result c.place_of-place.ensures (session_view c.asked.inside)
     (sym c.get_index_mut.ensures.value ∙ ap option_copied_mut c.in-Some.is ∙ ap Some (sym c.asked.view_is))
 
 pub returns-in_default-clause-does : goal.returns-in_default-clause-does
@@ -21,15 +20,13 @@ returns-in_default-clause-does c =
 pub command-requires : goal.command-requires
 command-requires c =
     let is = asked (goal.at.command-requires c).After-asked in
-    record { home = is.made.home; made_for = is.made.planes_match; can_dump = is.made.can_dump; has_rooms = HasRooms-quota c.self.inside.quota _ c.self.inside.scratch _ is.made.quota_match c.self.invariant.1 }
+    record { home = is.made.home; made_for = is.made.made_for; can_dump = is.made.can_dump }
 
 pub invariant_of-self-2 : goal.invariant_of-self-2
 invariant_of-self-2 c =
     let is = asked (goal.at.invariant_of-self-2 c).After-asked in
-    let done = c.command.ensures in (
-      AreOpen-changed is done.keeps done.marks_right done.legal,
-      HasRooms-kept c.self.inside.quota c.self.inside.scratch c.command.new.scratch _ _ done.rooms done.pieces_room c.self.invariant.1,
-    )
+    let done = c.command.ensures in
+    AreOpen-changed is done.keeps done.marks_right done.legal
 
 pub returns : goal.returns
 returns c =

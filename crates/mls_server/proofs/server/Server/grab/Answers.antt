@@ -1,4 +1,4 @@
-use Rattle.std.proofs.Common.{◌≡◌, ℕ, Some, refl, sym, ap, subst, ◌∙◌}
+use Rattle.std.proofs.Common.{◌≡◌, ℕ, List, Some, sym, ap, subst, subst₂, ◌∙◌}
 use Rattle.std.specs.Option.{option_copied_mut}
 use Rattle.indexmap.specs.Layout.{set_value_at}
 use Rattle.mls_errorplane.specs.Jobs.{IsNextJob}
@@ -6,16 +6,16 @@ use Rattle.mls_session.specs.Sessions.{kept_of}
 use Rattle.mls_server.specs.contracts.server.OpenSession.{the_view as session_view}
 use Rattle.mls_server.specs.contracts.server.Server.{the_view}
 use Rattle.mls_server.specs.Events.{DoesGrab}
-use Rattle.mls_server.specs.Servers.{AreOpen, Server, world_of}
+use Rattle.mls_server.specs.Servers.{AreOpen, OpenSession, Server, world_of}
+use Rattle.mls_tilepool.specs.Pools.{Pool}
 use Rattle.mls_server.proofs.AskedSessions.{IsAsked, is_asked, not_open, sessions-same}
-use Rattle.mls_server.proofs.KeptRooms.{HasRooms-kept, HasRooms-quota}
 use Rattle.mls_server.proofs.server.Server.grab.Goals as goal
 use Rattle.mls_server.proofs.server.Server.grab.Goals.{After-asked, in-Ok, in-Err}
 
 -- the session that is asked
 asked : (c : After-asked) → IsAsked c.args.self.now (the_view c.self.inside) c.args.id c.place_of-place.result (session_view c.asked.inside)
 asked c =
-    is_asked c.self.view_is c.self.invariant.0 c.args.id c.place_of-place.result c.place_of-place.ensures (session_view c.asked.inside)
+    is_asked c.self.view_is c.self.invariant c.args.id c.place_of-place.result c.place_of-place.ensures (session_view c.asked.inside)
     (sym c.get_index_mut.ensures.value ∙ ap option_copied_mut c.in-Some.is ∙ ap Some (sym c.asked.view_is))
 
 pub returns-in_default-clause-grabs : goal.returns-in_default-clause-grabs
@@ -25,15 +25,13 @@ returns-in_default-clause-grabs c =
 pub grab-requires : goal.grab-requires
 grab-requires c =
     let is = asked (goal.at.grab-requires c).After-asked in
-    record { home = is.made.home; tiles_fit = (HasRooms-quota c.self.inside.quota _ c.self.inside.scratch _ is.made.quota_match c.self.invariant.1).tiles }
+    record { home = is.made.home }
 
 pub invariant_of-self-2 : goal.invariant_of-self-2
 invariant_of-self-2 c =
     let server = the_view c.self.inside in
-    let same = sessions-same (asked (goal.at.invariant_of-self-2 c).After-asked) c.grab.new.self c.grab.ensures.same in (
-      subst (AreOpen server.tech server.rules server.quota server.limit server.pool server.library server.given) (sym same) c.self.invariant.0,
-      HasRooms-kept c.self.inside.quota c.self.inside.scratch c.grab.new.scratch _ _ c.grab.ensures.rooms refl c.self.invariant.1,
-    )
+    let same = sessions-same (asked (goal.at.invariant_of-self-2 c).After-asked) c.grab.new.self c.grab.ensures.same in
+    subst₂ (λ (pool : Pool) (sessions : List (List ℕ × OpenSession)). AreOpen server.setup pool server.given sessions) (sym c.grab.ensures.pool) (sym same) c.self.invariant
 
 pub returns-clause-grabs : goal.returns-clause-grabs
 returns-clause-grabs c =
@@ -41,16 +39,17 @@ returns-clause-grabs c =
     let before = session_view c.asked.inside in
     let is = asked (goal.at.returns-clause-grabs c).After-asked in
     let kept = kept_of server.pool before.session in
-    let new = record server { sessions = set_value_at server.sessions c.place_of-place.result (record before { session = c.grab.new.self }) } in
+    let new = record server { pool = c.grab.new.workspace.pool; sessions = set_value_at server.sessions c.place_of-place.result (record before { session = c.grab.new.self }) } in
     let stays : world_of new ≡ world_of c.args.self.now =
-    ap (λ sessions. world_of (record server { sessions = sessions })) (sessions-same is c.grab.new.self c.grab.ensures.same) ∙ ap world_of c.self.view_is in
+    ap (λ (pool : Pool). world_of (record new { pool = pool })) c.grab.ensures.pool
+    ∙ ap (λ sessions. world_of (record server { sessions = sessions })) (sessions-same is c.grab.new.self c.grab.ensures.same) ∙ ap world_of c.self.view_is in
     elim c.match-grab.branch [
       | in-Ok w ↦
           let next =
-          subst (λ (count : ℕ). IsNextJob server.rules count kept.own.design.drawn.layout kept.own.design.checking w.in-Ok.job) is.made.planes_match w.in-Ok.ensures.grabbed
+          subst (λ (count : ℕ). IsNextJob server.setup.rules count kept.own.design.drawn.layout kept.own.design.checking w.in-Ok.job) is.made.made_for.design.planes w.in-Ok.ensures.grabbed
           in
           subst (λ result. DoesGrab (world_of c.args.self.now) c.args.id result (world_of new)) (sym w.result-is)
-          (kept, is.kept, subst (λ (on : Server). IsNextJob on.rules on.tech.plane_count kept.own.design.drawn.layout kept.own.design.checking w.in-Ok.job) c.self.view_is next, stays)
+          (kept, is.kept, subst (λ (on : Server). IsNextJob on.setup.rules on.setup.tech.plane_count kept.own.design.drawn.layout kept.own.design.checking w.in-Ok.job) c.self.view_is next, stays)
       | in-Err w ↦
           subst (λ result. DoesGrab (world_of c.args.self.now) c.args.id result (world_of new)) (sym w.result-is) (kept, is.kept, w.in-Err.ensures.grabbed, stays)
     ]

@@ -14,5 +14,5 @@ returns-in_err-asked c =
 pub returns : goal.returns
 returns c =
     let found = slice_get-map (λ entry. entry.1) c.self.inside.sessions.entries c.place_of.result ∙ ap (option_map (λ entry. entry.1)) (sym c.get_index.ensures.entry ∙ ap (option_map deref_pair) c.in_ok-asked.was) ∙ ap Some (sym c.asked.view_is) in
-    let is = is_asked c.self.view_is c.self.invariant.0 c.args.id c.place_of.result c.place_of.ensures (session_view c.asked.inside) found in
+    let is = is_asked c.self.view_is c.self.invariant c.args.id c.place_of.result c.place_of.ensures (session_view c.asked.inside) found in
     record { value = ap Some c.journal.ensures ∙ sym (ap (option_map (λ kept. kept.journal)) is.kept) }

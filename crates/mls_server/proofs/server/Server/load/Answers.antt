@@ -8,7 +8,7 @@ use Rattle.mls_server.proofs.server.Server.load.Goals as goal
 pub invariant_of-self : goal.invariant_of-self
 invariant_of-self c =
     let idle = ap (λ (now : Server). (world_of now).seats) c.self.view_is ∙ c.requires.idle in
-    (AreOpen-loaded (the_view c.self.inside) c.self.invariant.0 idle c.load.new.pool c.load.new.self c.load.ensures.home c.load.ensures.planes, c.self.invariant.1)
+    AreOpen-loaded (the_view c.self.inside) c.self.invariant idle c.load.new.pool c.load.new.self c.load.ensures.home c.load.ensures.planes
 
 pub returns : goal.returns
 returns c =
@@ -16,7 +16,7 @@ returns c =
     let idle = ap (λ (now : Server). (world_of now).seats) c.self.view_is ∙ c.requires.idle in
     record {
       loads =
-          subst (λ (old : Server). LoadsCell (world_of old) c.args.name.now c.args.bytes.now c.load.result (world_of (record server { pool = c.load.new.pool; library = c.load.new.self }))) c.self.view_is
-          (LoadsCell-loaded server c.self.invariant.0 idle c.load.new.pool c.load.new.self c.args.name.now c.args.bytes.now c.load.result c.load.ensures.loads
+          subst (λ (old : Server). LoadsCell (world_of old) c.args.name.now c.args.bytes.now c.load.result (world_of (record server { pool = c.load.new.pool; setup = record server.setup { library = c.load.new.self } }))) c.self.view_is
+          (LoadsCell-loaded server c.self.invariant idle c.load.new.pool c.load.new.self c.args.name.now c.args.bytes.now c.load.result c.load.ensures.loads
           c.load.ensures.library_kept c.load.ensures.pool_kept);
     }

@@ -29,5 +29,5 @@ returns-clause-alone c id =
     let old = world_of c.args.self.now in
     let new = world_of c.loop-event.self in
     let all = take_all c.loop-event.event-index c.args.events.now c.loop-event-test.false in
-    Runs-IsToldAlone old new c.args.events.now c.loop-event.answers.items c.is_sound.ensures.numbered
+    Runs-IsToldAlone old new c.args.events.now c.loop-event.answers.items c.stays_sound.ensures.numbered
     (subst (λ (events : List Event). Runs old events c.loop-event.answers.items new) all c.loop-event.invariant.runs) id

@@ -1,18 +1,21 @@
-use Rattle.std.proofs.Common.{[], append-nil, Some, refl, sym, ap, subst, ◌∙◌}
+use Rattle.std.proofs.Common.{◌≡◌, ℕ, List, [], ◌++◌, append-nil, Some, Ok, refl, sym, ap, subst, ◌∙◌}
 use Rattle.std.specs.Option.{option_copied_mut}
 use Rattle.mls_session.specs.Designs.{Design, HasRightMarks, designed_of}
+use Rattle.indexmap.specs.Layout.{set_value_at}
 use Rattle.mls_session.specs.Journals.{Saves}
+use Rattle.mls_tilepool.specs.Pools.{Pool}
+use Rattle.mls_server.specs.Events.{SavesText}
+use Rattle.mls_server.specs.Servers.{AreOpen, world_of}
 use Rattle.mls_server.specs.contracts.server.OpenSession.{the_view as session_view}
 use Rattle.mls_server.specs.contracts.server.Server.{the_view}
-use Rattle.mls_server.proofs.AskedSessions.{AreOpen-changed, IsAsked, OnSeat-changed, is_asked, keeps-same, not_open, own_terms}
-use Rattle.mls_server.proofs.KeptRooms.{HasRooms-kept, HasRooms-quota}
+use Rattle.mls_server.proofs.AskedSessions.{AreOpen-changed, IsAsked, OnSeat-changed, is_asked, keeps-same, not_open}
 use Rattle.mls_server.proofs.server.Server.save.Goals as goal
 use Rattle.mls_server.proofs.server.Server.save.Goals.{After-asked}
 
 -- the session that is asked
 asked : (c : After-asked) → IsAsked c.args.self.now (the_view c.self.inside) c.args.id c.place_of-place.result (session_view c.asked.inside)
 asked c =
-    is_asked c.self.view_is c.self.invariant.0 c.args.id c.place_of-place.result c.place_of-place.ensures (session_view c.asked.inside)
+    is_asked c.self.view_is c.self.invariant c.args.id c.place_of-place.result c.place_of-place.ensures (session_view c.asked.inside)
     (sym c.get_index_mut.ensures.value ∙ ap option_copied_mut c.in-Some.is ∙ ap Some (sym c.asked.view_is))
 
 pub returns-in_default-clause-saves : goal.returns-in_default-clause-saves
@@ -25,20 +28,24 @@ returns-in_default-clause-saves c =
 pub save-requires : goal.save-requires
 save-requires c =
     let is = asked (goal.at.save-requires c).After-asked in
-    record { home = is.made.home; made_for = is.made.planes_match; tiles_fit = (HasRooms-quota c.self.inside.quota _ c.self.inside.scratch _ is.made.quota_match c.self.invariant.1).tiles }
+    record { home = is.made.home; made_for = is.made.made_for }
 
 pub invariant_of-self-2 : goal.invariant_of-self-2
 invariant_of-self-2 c =
     let is = asked (goal.at.invariant_of-self-2 c).After-asked in
-    let done = c.save.ensures in (
-      AreOpen-changed is (keeps-same is c.save.new.self done.design done.limit)
-          (subst (λ (design : Design). HasRightMarks c.self.inside.rules (designed_of c.self.inside.pool design)) (sym done.design))
-          (done.legal (own_terms (the_view c.self.inside) (session_view c.asked.inside)) refl refl),
-      HasRooms-kept c.self.inside.quota c.self.inside.scratch c.save.new.scratch _ _ done.rooms refl c.self.invariant.1,
-    )
+    let done = c.save.ensures in
+    subst (λ (pool : Pool). AreOpen c.self.inside.setup pool c.self.inside.given (set_value_at c.self.inside.sessions.entries c.place_of-place.result (record (session_view c.asked.inside) { session = c.save.new.self })))
+    (sym done.pool)
+    (AreOpen-changed is (keeps-same is c.save.new.self done.design done.limit)
+    (subst (λ (design : Design). HasRightMarks c.self.inside.setup.rules (designed_of c.self.inside.workspace.pool design)) (sym done.design)) done.legal)
 
 pub returns-clause-saves : goal.returns-clause-saves
 returns-clause-saves c =
     let is = asked (goal.at.returns-clause-saves c).After-asked in
-    let said = c.save.ensures.saves (own_terms (the_view c.self.inside) (session_view c.asked.inside)) refl refl in
-    (said.0, OnSeat-changed is (keeps-same is c.save.new.self c.save.ensures.design c.save.ensures.limit) (λ terms before reply after. Saves terms before reply said.0 after) c.save.result said.1, said.2)
+    let server = the_view c.self.inside in
+    let done = c.save.ensures in
+    let said = done.saves in
+    let sessions = set_value_at server.sessions c.place_of-place.result (record (session_view c.asked.inside) { session = c.save.new.self }) in
+    subst (λ (pool : Pool). (text : List ℕ) × SavesText (world_of c.args.self.now) c.args.id (Ok c.save.result) text (world_of (record server { pool = pool; sessions = sessions })) × (c.save.new.out.items ≡ c.args.out.now.items ++ text))
+    (sym done.pool)
+    (said.0, OnSeat-changed is (keeps-same is c.save.new.self done.design done.limit) (λ terms before reply after. Saves terms before reply said.0 after) c.save.result said.1, said.2)

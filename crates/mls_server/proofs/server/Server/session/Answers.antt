@@ -11,7 +11,7 @@ returns-in_err-open c =
     record {
       value =
           c.from_residual.ensures ∙ ap (option_map (λ (found : OpenSession). found.id)) c.in_err-open.ensures.value
-          ∙ named_in-entries own.pool c.args.name.now own.sessions.entries ∙ ap (λ (server : Server). session_named (world_of server) c.args.name.now) c.self.view_is;
+          ∙ named_in-entries own.workspace.pool c.args.name.now own.sessions.entries ∙ ap (λ (server : Server). session_named (world_of server) c.args.name.now) c.self.view_is;
     }
 
 pub returns : goal.returns
@@ -20,5 +20,5 @@ returns c =
     record {
       value =
           ap (λ (found : OpenSession). Some found.id) c.open.view_is ∙ ap (option_map (λ (found : OpenSession). found.id)) c.in_ok-open.ensures.value
-          ∙ named_in-entries own.pool c.args.name.now own.sessions.entries ∙ ap (λ (server : Server). session_named (world_of server) c.args.name.now) c.self.view_is;
+          ∙ named_in-entries own.workspace.pool c.args.name.now own.sessions.entries ∙ ap (λ (server : Server). session_named (world_of server) c.args.name.now) c.self.view_is;
     }

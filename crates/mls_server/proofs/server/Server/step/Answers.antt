@@ -1,17 +1,16 @@
-use Rattle.std.proofs.Common.{Some, refl, sym, ap, ◌∙◌}
+use Rattle.std.proofs.Common.{Some, sym, ap, ◌∙◌}
 use Rattle.std.specs.Option.{option_copied_mut}
 use Rattle.mls_session.specs.Journals.{StepsOnce}
 use Rattle.mls_server.specs.contracts.server.OpenSession.{the_view as session_view}
 use Rattle.mls_server.specs.contracts.server.Server.{the_view}
-use Rattle.mls_server.proofs.AskedSessions.{AreOpen-changed, IsAsked, OnSeat-changed, frame-changed, is_asked, not_open, own_terms}
-use Rattle.mls_server.proofs.KeptRooms.{HasRooms-kept, HasRooms-quota}
+use Rattle.mls_server.proofs.AskedSessions.{AreOpen-changed, IsAsked, OnSeat-changed, frame-changed, is_asked, not_open}
 use Rattle.mls_server.proofs.server.Server.step.Goals as goal
 use Rattle.mls_server.proofs.server.Server.step.Goals.{After-asked}
 
 -- the session that is asked
 asked : (c : After-asked) → IsAsked c.args.self.now (the_view c.self.inside) c.args.id c.place_of-place.result (session_view c.asked.inside)
 asked c =
-    is_asked c.self.view_is c.self.invariant.0 c.args.id c.place_of-place.result c.place_of-place.ensures (session_view c.asked.inside)
+    is_asked c.self.view_is c.self.invariant c.args.id c.place_of-place.result c.place_of-place.ensures (session_view c.asked.inside)
     (sym c.get_index_mut.ensures.value ∙ ap option_copied_mut c.in-Some.is ∙ ap Some (sym c.asked.view_is))
 
 pub returns-in_default-clause-steps : goal.returns-in_default-clause-steps
@@ -21,21 +20,19 @@ returns-in_default-clause-steps c =
 pub step-requires : goal.step-requires
 step-requires c =
     let is = asked (goal.at.step-requires c).After-asked in
-    record { home = is.made.home; has_rooms = HasRooms-quota c.self.inside.quota _ c.self.inside.scratch _ is.made.quota_match c.self.invariant.1 }
+    record { home = is.made.home; made_for = is.made.made_for }
 
 pub invariant_of-self-2 : goal.invariant_of-self-2
 invariant_of-self-2 c =
     let is = asked (goal.at.invariant_of-self-2 c).After-asked in
-    let done = c.step.ensures in (
-      AreOpen-changed is done.keeps done.marks_right (done.legal (own_terms (the_view c.self.inside) (session_view c.asked.inside)) refl refl),
-      HasRooms-kept c.self.inside.quota c.self.inside.scratch c.step.new.scratch _ _ done.rooms done.pieces_room c.self.invariant.1,
-    )
+    let done = c.step.ensures in
+    AreOpen-changed is done.keeps done.marks_right done.legal
 
 pub returns : goal.returns
 returns c =
     let is = asked (goal.at.returns c).After-asked in
     let done = c.step.ensures in
     record {
-      steps = OnSeat-changed is done.keeps (λ terms before end after. StepsOnce terms before end after) c.step.result (done.stepped (own_terms (the_view c.self.inside) (session_view c.asked.inside)) refl refl);
+      steps = OnSeat-changed is done.keeps (λ terms before end after. StepsOnce terms before end after) c.step.result done.stepped;
       frame = frame-changed is done.keeps;
     }

@@ -1,50 +1,73 @@
-use Rattle.std.proofs.Common.{◌≡◌, subst, sym}
-use Rattle.mls_errorplane.specs.DirtyLists.{IsDirtyList}
+use Rattle.std.proofs.Common.{◌≡◌, ℕ, List, length, sym, ap, subst, ◌∙◌}
+use Rattle.std.specs.Vec.{with_items}
+use Rattle.std.proofs.lemmas.List.{with_items_is}
+use Rattle.mls_errorplane.specs.CatchingUp.{HasCaughtUp}
+use Rattle.mls_errorplane.specs.ErrorPlanes.{ErrorPlane, ShowsMarks, checking_of}
+use Rattle.mls_paint.specs.Planes.{layout_in}
 use Rattle.mls_session.specs.Inner.{Counts}
-use Rattle.mls_session.specs.Own.{Config}
 use Rattle.mls_session.specs.OwnSteps.{DesignSteps}
 use Rattle.mls_session.specs.declared.command.Command.TheVariants.{CatchUp}
 use Rattle.mls_session.specs.declared.executed.Executed.{Executed}
-use Rattle.mls_session.specs.Designs.{IsHome, KeepsPlanes, Design, designed_of}
+use Rattle.mls_session.specs.Designs.{Design, designed_of}
+use Rattle.mls_session.specs.Setups.{config_of}
+use Rattle.mls_stitch.specs.Tilings.{ChangesOnly}
 use Rattle.mls_session.proofs.CommandSteps.{caught_up-errors}
 use Rattle.mls_session.proofs.ErrorPlanes.{KeepsPlanes-errors}
 use Rattle.mls_session.proofs.design.Design.catch_up.Goals as goal
 
 abbrev after : goal.After-steps_of → Design
-after c = record { drawing = c.catch_up-ended.new.self; errors = c.catch_up-ended.new.errors }
+after c = record {
+  box = c.self.inside.box_rect;
+  planes = (with_items c.self.inside.planes c.catch_up-ended.new.planes).items;
+  quota = c.self.inside.quota;
+  errors = c.catch_up-ended.new.self;
+}
 
 abbrev executed : goal.After-steps_of → Executed
 executed c = record { reply = c.caught_up_reply.result; steps = c.steps_of.result }
 
+-- the planes that were lent come back
+planes : (c : goal.After-steps_of) → (after c).planes ≡ c.args.self.now.planes
+planes c =
+    let same = c.catch_up-ended.ensures.owners ∙ c.deref_mut.ensures.value in
+    with_items_is c.self.inside.planes c.catch_up-ended.new.planes (ap length same ∙ sym c.self.inside.planes.ok.0) ∙ same ∙ ap (λ (d : Design). d.planes) c.self.view_is
+
+-- only tiles of the error plane have changed
+only : (c : goal.After-steps_of) → ChangesOnly c.args.workspace.now.pool c.catch_up-ended.new.workspace.pool c.args.self.now.errors.owner
+only c =
+    subst (λ (e : ErrorPlane). ChangesOnly c.args.workspace.now.pool c.catch_up-ended.new.workspace.pool e.owner) (ap (λ (d : Design). d.errors) c.self.view_is) c.catch_up-ended.ensures.only
+
 caught :
-    (c : goal.After-steps_of) (config : Config) → config.rules ≡ c.args.rules.now → config.quota ≡ c.args.self.now.drawing.quota
-    → DesignSteps config (designed_of c.args.pool.now c.args.self.now) CatchUp (executed c).reply (designed_of c.catch_up-ended.new.pool (after c))
-    × Counts config (designed_of c.args.pool.now c.args.self.now) CatchUp (executed c) (designed_of c.catch_up-ended.new.pool (after c))
+    (c : goal.After-steps_of)
+    → DesignSteps (config_of c.args.setup.now c.args.workspace.now.pool) (designed_of c.args.workspace.now.pool c.args.self.now) CatchUp (executed c).reply (designed_of c.catch_up-ended.new.workspace.pool (after c))
+    × Counts (config_of c.args.setup.now c.args.workspace.now.pool) (designed_of c.args.workspace.now.pool c.args.self.now) CatchUp (executed c) (designed_of c.catch_up-ended.new.workspace.pool (after c))
 caught c =
-    let pool = c.args.pool.now in
-    let new = c.catch_up-ended.new.pool in
-    let before : Design = record { drawing = c.self.inside.drawing; errors = c.self.inside.errors } in
-    let home = subst (IsHome pool) (sym c.self.view_is) c.requires.home in
-    let areas = subst (λ (s : Design). IsDirtyList s.errors.dirty) (sym c.self.view_is) c.requires.areas in
-    let done = c.catch_up-ended.ensures in
-    subst (λ (s : Design). (config : Config) → config.rules ≡ c.args.rules.now → config.quota ≡ s.drawing.quota → DesignSteps config (designed_of pool s) CatchUp (executed c).reply (designed_of new (after c)) × Counts config (designed_of pool s) CatchUp (executed c) (designed_of new (after c)))
-    c.self.view_is
-    (λ config by quota.
-    caught_up-errors config pool new before (after c) c.args.rules.now c.catch_up-ended.result c.areas-pending.result (executed c) by quota home.errors areas done.only done.same
-    done.caught_up c.areas-pending.ensures.value c.caught_up_reply.ensures c.steps_of.ensures)
+    let pool = c.args.workspace.now.pool in
+    let new = c.catch_up-ended.new.workspace.pool in
+    let design = c.args.self.now in
+    let rules = c.args.setup.now.rules in
+    let ended = c.catch_up-ended.result in
+    let limit = c.tiles-limit.result in
+    let now = checking_of new c.catch_up-ended.new.self in
+    let lent = c.deref_mut.ensures.value ∙ ap (λ (d : Design). d.planes) c.self.view_is in
+    let steps : HasCaughtUp rules (layout_in pool design.planes) limit (checking_of pool design.errors) ended now =
+    subst (λ (e : ErrorPlane). HasCaughtUp rules (layout_in pool design.planes) limit (checking_of pool e) ended now) (ap (λ (d : Design). d.errors) c.self.view_is)
+    (subst (λ (owners : List ℕ). HasCaughtUp rules (layout_in pool owners) limit (checking_of pool c.self.inside.errors) ended now) lent c.catch_up-ended.ensures.caught_up) in
+    caught_up-errors (config_of c.args.setup.now pool) pool new design (after c) limit ended c.areas-pending.result (executed c) (sym c.requires.made_for.quota)
+    (c.tiles-limit.ensures.value ∙ ap (λ (d : Design). d.quota) c.self.view_is) c.requires.home c.requires.areas (only c) (ap (λ (d : Design). d.box) c.self.view_is) (planes c) steps
+    c.areas-pending.ensures.value c.caught_up_reply.ensures c.steps_of.ensures
 
 pub returns-clause-caught : goal.returns-clause-caught
-returns-clause-caught c = λ config by quota. (caught c config by quota).0
+returns-clause-caught c = (caught c).0
 
 pub returns-clause-counts : goal.returns-clause-counts
-returns-clause-counts c = λ config by quota. (caught c config by quota).1
+returns-clause-counts c = (caught c).1
 
 pub returns-clause-keeps : goal.returns-clause-keeps
 returns-clause-keeps c =
-    let pool = c.args.pool.now in
-    let new = c.catch_up-ended.new.pool in
-    let before : Design = record { drawing = c.self.inside.drawing; errors = c.self.inside.errors } in
-    let after : Design = record { drawing = c.catch_up-ended.new.self; errors = c.catch_up-ended.new.errors } in
-    let home = subst (IsHome pool) (sym c.self.view_is) c.requires.home in
+    let pool = c.args.workspace.now.pool in
+    let new = c.catch_up-ended.new.workspace.pool in
     let done = c.catch_up-ended.ensures in
-    subst (λ (s : Design). KeepsPlanes pool new s after) c.self.view_is (KeepsPlanes-errors pool new before after home done.only done.marks done.same done.owner)
+    let errors = ap (λ (d : Design). d.errors.owner) c.self.view_is in
+    let owner = done.owner ∙ errors in
+    KeepsPlanes-errors pool new c.args.self.now (after c) c.requires.home (only c) (subst (ShowsMarks new) owner done.marks) (planes c) (ap (λ (d : Design). d.quota) c.self.view_is) owner

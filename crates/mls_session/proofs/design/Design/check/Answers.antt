@@ -1,15 +1,20 @@
-use Rattle.std.proofs.Common.{List, ap, ◌∙◌, sym}
-use Rattle.mls_edgerule.specs.declared.edge_rule.EdgeRule.{EdgeRule}
-use Rattle.mls_errorplane.specs.Checkings.{soiled}
+use Rattle.std.proofs.Common.{◌≡◌, Some, sym, ap, ◌∙◌}
 use Rattle.mls_errorplane.specs.ErrorPlanes.{checking_of}
-use Rattle.mls_session.specs.Designs.{Design}
-use Rattle.mls_session.proofs.CommandSteps.{check_in-soiled}
+use Rattle.mls_session.specs.Own.{check_in, soiled_after}
+use Rattle.mls_session.specs.OwnSteps.{design_step}
+use Rattle.mls_session.specs.Designs.{Design, designed_of, drawn_of}
+use Rattle.mls_session.specs.Setups.{config_of}
+use Rattle.mls_session.specs.declared.reply.Reply.TheVariants.{Done}
+use Rattle.mls_session.proofs.CommandSteps.{check_in-Some, edit_step-Done}
 use Rattle.mls_session.proofs.design.Design.check.Goals as goal
 
 pub returns-clause-step : goal.returns-clause-step
-returns-clause-step c = λ pool config by.
-    let box = ap (λ (s : Design). s.drawing.box) (sym c.self.view_is) ∙ sym c.box_rect.ensures ∙ c.in-Some.is in
-    let checking =
-    c.soil.ensures.checking pool
-    ∙ ap (λ (rules : List EdgeRule). soiled rules c.in-Some.rect (checking_of pool c.args.self.now.errors)) (sym by) in
-    check_in-soiled config pool c.args.self.now c.soil.new.self c.in-Some.rect c.soil.result box c.soil.ensures.drawing checking c.soil.ensures.reply
+unfolding design_step
+returns-clause-step c = λ pool.
+    let design = c.args.self.now in
+    let config = config_of c.args.setup.now pool in
+    let is_set : design.box ≡ Some c.in-Some.rect = sym (ap (λ (d : Design). d.box) c.self.view_is) ∙ c.in-Some.is in
+    let drawn = ap (λ (d : Design). drawn_of pool d) (sym c.soil.ensures.same) in
+    edit_step-Done config (designed_of pool design) (designed_of pool c.soil.new.self) design.box (check_in (drawn_of pool design) design.box)
+    (check_in-Some (drawn_of pool design) design.box c.in-Some.rect is_set ∙ ap (λ d. (d, Done)) drawn)
+    (c.soil.ensures.checking pool ∙ ap (λ rect. soiled_after config.rules rect Done (checking_of pool design.errors)) (sym is_set))

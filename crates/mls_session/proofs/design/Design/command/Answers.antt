@@ -1,21 +1,27 @@
-use Rattle.mls_session.specs.Designs.{config_of, owners_of, designed_of}
-use Rattle.mls_session.proofs.CellFrames.{home-ChangesAmong, layouts-ChangesAmong}
-use Rattle.mls_session.proofs.RightMarks.{HasRightMarks-DesignSteps, IsCellLayout-at}
+use Rattle.std.proofs.Common.{inl, refl, rules}
+use Rattle.std.specs.Int.{w32}
+use Rattle.std.specs.Prelude.{FitsSigned}
+use Rattle.std.proofs.lemmas.Int.{to_z-of_z}
+use Rattle.mls_session.specs.OwnSteps.{design_step}
+use Rattle.mls_session.specs.Setups.{config_of}
 use Rattle.mls_session.proofs.design.Design.command.Goals as goal
 
-pub returns-clause-marks_right : goal.returns-clause-marks_right
-returns-clause-marks_right c =
-    let pool = c.args.pool.now in
-    let library = c.args.library.now in
-    let tech = c.args.tech.now in
-    let can = c.requires.can_dump in
-    HasRightMarks-DesignSteps (config_of tech c.args.rules.now pool library c.args.self.now) (designed_of pool c.args.self.now) (designed_of c.execute-executed.new.pool c.execute-executed.new.self)
-    c.execute-executed.result.reply c.args.command (λ cell layout is. IsCellLayout-at pool library tech.plane_count cell layout can.home can.planes is) c.execute-executed.ensures.step
+pub returns-in-Box-clause-step : goal.returns-in-Box-clause-step
+unfolding design_step
+returns-in-Box-clause-step c =
+    let pool = c.args.workspace.now.pool in
+    let left : FitsSigned w32 c.in-Box.left = search rules in
+    let bottom : FitsSigned w32 c.in-Box.bottom = search rules in
+    let right : FitsSigned w32 c.in-Box.right = search rules in
+    let top : FitsSigned w32 c.in-Box.top = search rules in
+    let made = simp to_z-of_z at c.new.ensures in
+    let set = rw made at (c.set_box.ensures.step pool (config_of c.args.setup.now pool)) in
+    rw (c.in-Box.is, c.with.ensures.reply) (inl set)
 
-pub returns-clause-cells_home : goal.returns-clause-cells_home
-returns-clause-cells_home c =
-    home-ChangesAmong c.args.pool.now c.execute-executed.new.pool (owners_of c.args.self.now) c.execute-executed.ensures.keeps.only c.args.tech.now c.args.library.now c.requires.can_dump
+pub returns-in-Save-clause-step : goal.returns-in-Save-clause-step
+unfolding design_step
+returns-in-Save-clause-step c = rw (c.in-Save.is, c.with-in-Save.ensures.reply, c.count_lines.ensures.pool, c.count_lines.ensures.count) (inl refl)
 
-pub returns-clause-cells : goal.returns-clause-cells
-returns-clause-cells c =
-    layouts-ChangesAmong c.args.pool.now c.execute-executed.new.pool (owners_of c.args.self.now) c.execute-executed.ensures.keeps.only c.args.tech.now c.args.library.now c.requires.can_dump
+pub returns-in-Count-clause-step : goal.returns-in-Count-clause-step
+unfolding design_step
+returns-in-Count-clause-step c = rw (c.in-Count.is, c.with-in-Count.ensures.reply, c.count.ensures.pool) (inl c.count.ensures.step)

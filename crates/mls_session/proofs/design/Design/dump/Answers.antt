@@ -1,20 +1,94 @@
-use Rattle.std.proofs.Common.{All, Contains, subst, sym}
-use Rattle.mls_library.specs.Libraries.{NamedCell}
-use Rattle.mls_session.specs.Drawings.{KeepsPlanes as KeepsDrawing}
-use Rattle.mls_session.specs.Designs.{IsHome, KeepsPlanes, Design}
-use Rattle.mls_session.proofs.ErrorPlanes.{KeepsPlanes-drawing}
+-- The cell's planes are frozen, and none of the design's.
+use Rattle.std.proofs.Common.{◌≡◌, Some, All, Contains, List, [], ◌∷◌, length, refl, sym, ap, ◌∙◌, arith}
+use Rattle.std.proofs.lemmas.Int.{to_z-of_z}
+use Rattle.std.proofs.lemmas.List.Elements.{Contains-append_left}
+use Rattle.mls_library.specs.Libraries.{IsFrozen}
+use Rattle.mls_paint.specs.Planes.{layout_in}
+use Rattle.mls_session.specs.Bounds.{dumped_rect}
+use Rattle.mls_session.specs.Own.{cell_at, dump_step, dumped_in, edit_step}
+use Rattle.mls_session.specs.OwnSteps.{design_step}
+use Rattle.mls_session.specs.Designs.{designed_of, drawn_of}
+use Rattle.mls_session.specs.Setups.{config_of}
+use Rattle.mls_session.specs.declared.refusal.Refusal.TheVariants.{CellOutside}
+use Rattle.mls_session.proofs.CommandSteps.{edit_step-Refused}
+use Rattle.mls_session.proofs.DumpedCells.{HasPlanes, cell_at-HasPlanes, dump_step-CellOutside, dump_step-change_step, each_stays, planes_there}
 use Rattle.mls_session.proofs.design.Design.dump.Goals as goal
 
-pub dump-reply-requires-clause-cells_apart : goal.dump-reply-requires-clause-cells_apart
-dump-reply-requires-clause-cells_apart c =
-    subst (λ (s : Design). All (λ (cell : NamedCell). All (λ owner. ¬ (Contains s.drawing.planes owner)) cell.planes) c.args.library.now) (sym c.self.view_is) c.requires.cells_apart
+pub cell_leaves_world-requires-clause-cell : goal.cell_leaves_world-requires-clause-cell
+cell_leaves_world-requires-clause-cell c =
+    let planes = c.planes-planes.result.now in
+    let library = c.args.setup.now.library in
+    let there : HasPlanes library c.in-Some.id planes = ap (λ owners. Some owners) c.planes-planes.ensures ∙ c.in-Some-get.ensures in
+    planes_there (All (IsFrozen c.args.workspace.now.pool)) library c.in-Some.id planes (λ k d within. (c.requires.can_dump.home.each k d within).frozen) there
 
-pub returns-clause-keeps : goal.returns-clause-keeps
-returns-clause-keeps c =
-    let pool = c.args.pool.now in
-    let new = c.dump-reply.new.pool in
-    let before : Design = record { drawing = c.self.inside.drawing; errors = c.self.inside.errors } in
-    let home = subst (IsHome pool) (sym c.self.view_is) c.requires.home in
-    let kept = subst (λ d. KeepsDrawing pool new before.drawing d) (sym c.soil.ensures.drawing) c.dump-reply.ensures.keeps in
-    subst (λ (s : Design). KeepsPlanes pool new s c.soil.new.self) c.self.view_is
-    (KeepsPlanes-drawing pool new before c.soil.new.self home kept c.soil.ensures.owner)
+pub dumped_rect-rect-requires-clause-cell : goal.dumped_rect-rect-requires-clause-cell
+dumped_rect-rect-requires-clause-cell c =
+    let planes = c.planes-planes.result.now in
+    let library = c.args.setup.now.library in
+    let there : HasPlanes library c.in-Some.id planes = ap (λ owners. Some owners) c.planes-planes.ensures ∙ c.in-Some-get.ensures in
+    planes_there (All (IsFrozen c.args.workspace.now.pool)) library c.in-Some.id planes (λ k d within. (c.requires.can_dump.home.each k d within).frozen) there
+
+pub returns-then-cell_leaves_world-clause-step : goal.returns-then-cell_leaves_world-clause-step
+unfolding design_step
+returns-then-cell_leaves_world-clause-step c =
+    let pool = c.args.workspace.now.pool in
+    let design = c.args.self.now in
+    let setup = c.args.setup.now in
+    let config = config_of setup pool in
+    let planes = c.planes-planes.result.now in
+    let there : HasPlanes setup.library c.in-Some.id planes = ap (λ owners. Some owners) c.planes-planes.ensures ∙ c.in-Some-get.ensures in
+    let as_many = planes_there (λ owners. length owners ≡ setup.tech.plane_count) setup.library c.in-Some.id planes c.requires.can_dump.planes there in
+    let along = c.ranges.dx in
+    let up = c.ranges.dy in
+    let leaves = simp to_z-of_z at c.if-cell_leaves_world.ensures.leaves in
+    rw c.in-Some.is
+    (edit_step-Refused config (designed_of pool design) (dumped_in config (cell_at config (Some c.in-Some.id)) c.args.dx c.args.dy)
+    (dump_step config (drawn_of pool design) (cell_at config (Some c.in-Some.id)) c.args.dx c.args.dy) CellOutside
+    (dump_step-CellOutside config (drawn_of pool design) (Some c.in-Some.id) (layout_in pool planes) c.args.dx c.args.dy (length planes)
+    (cell_at-HasPlanes config pool setup.library c.in-Some.id planes refl there) (sym as_many) (sym leaves)))
+
+pub change-requires-clause-can_change : goal.change-requires-clause-can_change
+change-requires-clause-can_change c =
+    let pool = c.args.workspace.now.pool in
+    let library = c.args.setup.now.library in
+    let planes = c.planes-planes.result.now in
+    let there : HasPlanes library c.in-Some.id planes = ap (λ owners. Some owners) c.planes-planes.ensures ∙ c.in-Some-get.ensures in (
+      planes_there (All (IsFrozen pool)) library c.in-Some.id planes (λ k d within. (c.requires.can_dump.home.each k d within).frozen) there,
+      each_stays pool planes _ _ (sym c.if-cell_leaves_world.ensures.leaves),
+    )
+
+pub change-requires-clause-apart : goal.change-requires-clause-apart
+change-requires-clause-apart c =
+    let design = c.args.self.now in
+    let setup = c.args.setup.now in
+    let planes = c.planes-planes.result.now in
+    let there : HasPlanes setup.library c.in-Some.id planes = ap (λ owners. Some owners) c.planes-planes.ensures ∙ c.in-Some-get.ensures in
+    let as_many = planes_there (λ owners. length owners ≡ setup.tech.plane_count) setup.library c.in-Some.id planes c.requires.can_dump.planes there in (
+      planes_there (All (λ owner. ¬ (Contains design.planes owner))) setup.library c.in-Some.id planes
+          (λ k d within i e among found. c.requires.can_dump.apart k d within i e among (Contains-append_left design.planes (design.errors.owner ∷ []) _ found)) there,
+      omega (arith, as_many, c.requires.made_for.planes),
+    )
+
+pub returns-clause-step : goal.returns-clause-step
+unfolding design_step
+returns-clause-step c =
+    let pool = c.args.workspace.now.pool in
+    let design = c.args.self.now in
+    let setup = c.args.setup.now in
+    let config = config_of setup pool in
+    let planes = c.planes-planes.result.now in
+    let there : HasPlanes setup.library c.in-Some.id planes = ap (λ owners. Some owners) c.planes-planes.ensures ∙ c.in-Some-get.ensures in
+    let as_many = planes_there (λ owners. length owners ≡ setup.tech.plane_count) setup.library c.in-Some.id planes c.requires.can_dump.planes there in
+    let found = cell_at-HasPlanes config pool setup.library c.in-Some.id planes refl there in
+    let along = c.ranges.dx in
+    let up = c.ranges.dy in
+    let stays = simp to_z-of_z at c.if-cell_leaves_world.ensures.leaves in
+    let changed = simp to_z-of_z at c.change.ensures.step in
+    let rect = simp to_z-of_z at c.dumped_rect-rect.ensures.rect in
+    let same : dumped_in config (cell_at config (Some c.in-Some.id)) c.args.dx c.args.dy ≡ c.dumped_rect-rect.result =
+    ap (λ cell. dumped_in config cell c.args.dx c.args.dy) found ∙ ap (λ n. dumped_rect n (layout_in pool planes) c.args.dx c.args.dy) (sym as_many) ∙ sym rect in
+    rw c.in-Some.is
+    (ap (λ e. edit_step config (designed_of pool design) e (dump_step config (drawn_of pool design) (cell_at config (Some c.in-Some.id)) c.args.dx c.args.dy)) same
+    ∙ ap (edit_step config (designed_of pool design) c.dumped_rect-rect.result)
+    (dump_step-change_step config (drawn_of pool design) (Some c.in-Some.id) (layout_in pool planes) c.args.dx c.args.dy (length planes) found (sym as_many) (sym stays))
+    ∙ changed)

@@ -1,4 +1,5 @@
-use Rattle.std.proofs.Common.{◌≡◌, ◌+◌, ℕ, List, ap, ◌∙◌, sym, subst}
+use Rattle.std.proofs.Common.{◌≡◌, ◌+◌, ℕ, List, None, refl, ap, ◌∙◌, sym, subst}
+use Rattle.mls_geom.specs.Layouts.{Layout}
 use Rattle.mls_geom.specs.Rects.{Rect}
 use Rattle.mls_checker.specs.Marking.{no_squares}
 use Rattle.mls_tilepool.specs.Pools.{unreserved}
@@ -6,46 +7,52 @@ use Rattle.mls_paint.specs.Planes.{AddsOwner}
 use Rattle.mls_errorplane.specs.Checkings.{Checking, opening_checking}
 use Rattle.mls_errorplane.specs.ErrorPlanes.{checking_of}
 use Rattle.mls_errorplane.proofs.EmptyLayouts.{opening-IsChecked}
-use Rattle.mls_session.specs.Drawings.{plane_reserve}
-use Rattle.mls_session.specs.Own.{Drawn, Designed, blank, opening}
-use Rattle.mls_session.specs.Designs.{HasRightMarks, designed_of}
-use Rattle.mls_session.proofs.ErrorPlanes.{IsHome-added, differs, drawn-added}
+use Rattle.mls_session.specs.Own.{Designed, blank, opening}
+use Rattle.mls_session.specs.Designs.{Design, HasRightMarks, designed_of}
+use Rattle.mls_session.specs.Quotas.{plane_reserve}
+use Rattle.mls_session.proofs.ErrorPlanes.{IsHome-added, differs, layout-added}
 use Rattle.mls_session.proofs.Openings.{AddsOwners-plane}
 use Rattle.mls_session.proofs.design.Design.open.Goals as goal
 
 -- the error plane has as many tiles as each other plane
-reserved : (c : goal.After-areas) → AddsOwner c.open.new.pool c.new-errors.new.pool c.new-errors.result.owner (plane_reserve c.in_ok-drawing.drawing.quota)
-reserved c =
-    subst (AddsOwner c.open.new.pool c.new-errors.new.pool c.new-errors.result.owner)
-    (c.reserve.ensures.value ∙ ap plane_reserve (sym c.in_ok-drawing.ensures.quota)) c.new-errors.ensures.added
+reserved : (c : goal.After-result-1) → AddsOwner c.space_planes.new.workspace.pool c.new-errors.new.workspace.pool c.new-errors.result.owner (plane_reserve c.args.setup.now.quota)
+reserved c = subst (AddsOwner c.space_planes.new.workspace.pool c.new-errors.new.workspace.pool c.new-errors.result.owner) c.reserve.ensures.value c.new-errors.ensures.added
 
-begins : (c : goal.After-areas) → designed_of c.new-errors.new.pool (record { drawing = c.in_ok-drawing.drawing; errors = c.new-errors.result }) ≡ opening c.args.rules.now
+abbrev opened : goal.After-result-1 → Design
+opened c = record { box = None; planes = c.in_ok-planes.planes.items; quota = c.args.setup.now.quota; errors = c.new-errors.result }
+
+begins : (c : goal.After-result-1) → designed_of c.new-errors.new.workspace.pool (opened c) ≡ opening c.args.setup.now.rules
 begins c =
-    let drawing = c.in_ok-drawing.drawing in
-    let drawn = drawn-added c.open.new.pool c.new-errors.new.pool drawing c.new-errors.result.owner c.in_ok-drawing.ensures.home (reserved c) ∙ c.in_ok-drawing.ensures.blank in
-    let known : checking_of c.new-errors.new.pool c.new-errors.result ≡ opening_checking c.args.rules.now =
+    let mid = c.space_planes.new.workspace.pool in
+    let new = c.new-errors.new.workspace.pool in
+    let planes = c.in_ok-planes.planes.items in
+    let layout = layout-added mid new c.args.setup.now.quota planes c.new-errors.result.owner c.in_ok-planes.ensures.home (reserved c) ∙ c.in_ok-planes.ensures.blank in
+    let known : checking_of new c.new-errors.result ≡ opening_checking c.args.setup.now.rules =
     c.new-errors.ensures.begins ∙ ap (λ (areas : List Rect). record { marks = no_squares; dirty = areas }) c.in_ok-dirty.ensures in
-    let own : Drawn → Checking → Designed = λ d k. record { drawn = d; checking = k } in
-    ap (λ d. own d (checking_of c.new-errors.new.pool c.new-errors.result)) drawn ∙ ap (own blank) known
+    let own : Layout → Checking → Designed = λ l k. record { drawn = record { box = None; layout = l }; checking = k } in
+    ap (λ l. own l (checking_of new c.new-errors.result)) layout ∙ ap (own blank.layout) known
 
 pub returns-clause-opening : goal.returns-clause-opening
 returns-clause-opening c = begins c
 
 pub returns-clause-marks_right : goal.returns-clause-marks_right
-returns-clause-marks_right c = subst (HasRightMarks c.args.rules.now) (sym (begins c)) (opening-IsChecked c.args.rules.now)
+returns-clause-marks_right c = subst (HasRightMarks c.args.setup.now.rules) (sym (begins c)) (opening-IsChecked c.args.setup.now.rules)
 
 pub returns-clause-home : goal.returns-clause-home
 returns-clause-home c =
-    IsHome-added c.open.new.pool c.new-errors.new.pool c.in_ok-drawing.drawing c.new-errors.result.owner c.in_ok-drawing.ensures.home (reserved c) c.new-errors.result.dirty
-    c.new-errors.ensures.marks
+    IsHome-added c.space_planes.new.workspace.pool c.new-errors.new.workspace.pool c.args.setup.now.quota c.in_ok-planes.planes.items c.new-errors.result.owner c.in_ok-planes.ensures.home (reserved c) (opened c)
+    refl refl refl c.new-errors.ensures.marks
 
 pub returns-clause-added : goal.returns-clause-added
 returns-clause-added c =
-    let drawing = c.in_ok-drawing.drawing in
-    let mid = c.open.new.pool in
-    let new = c.new-errors.new.pool in
+    let quota = c.args.setup.now.quota in
+    let planes = c.in_ok-planes.planes.items in
+    let mid = c.space_planes.new.workspace.pool in
+    let new = c.new-errors.new.workspace.pool in
     let owner = c.new-errors.result.owner in
-    let apart = differs mid new drawing owner c.in_ok-drawing.ensures.home (reserved c) in
-    let taken : unreserved new + plane_reserve c.args.quota ≡ unreserved mid = ap (λ (n : ℕ). unreserved new + n) (sym c.reserve.ensures.value) ∙ c.new-errors.ensures.taken in
-    let added : AddsOwner mid new owner (plane_reserve c.args.quota) = subst (AddsOwner mid new owner) c.reserve.ensures.value c.new-errors.ensures.added in
-    AddsOwners-plane c.args.pool.now mid new drawing.planes owner (plane_reserve c.args.quota) c.in_ok-drawing.ensures.added apart added taken
+    let apart = differs mid new quota planes owner c.in_ok-planes.ensures.home (reserved c) in
+    let taken : unreserved new + plane_reserve quota ≡ unreserved mid = ap (λ (n : ℕ). unreserved new + n) (sym c.reserve.ensures.value) ∙ c.new-errors.ensures.taken in
+    AddsOwners-plane c.args.workspace.now.pool mid new planes owner (plane_reserve quota) c.in_ok-planes.ensures.added apart (reserved c) taken
+
+pub invariant_of-result : goal.invariant_of-result
+invariant_of-result c = c.reserve.ensures.legal

@@ -4,7 +4,7 @@ use Rattle.mls_errorplane.specs.ErrorPlanes.{checking_of}
 use Rattle.mls_session.specs.Designs.{Design}
 use Rattle.mls_session.proofs.design.Design.soil.Goals as goal
 
-pub returns-in-Some-Done-clause-checking : goal.returns-in-Some-Done-clause-checking
-returns-in-Some-Done-clause-checking c = λ pool.
-    rw (c.in-Some-Done.is-0, c.in-Some-Done.is-1)
-    (c.add.ensures.added pool ∙ ap (λ (s : Design). soiled c.args.rules.now c.in-Some-Done.rect (checking_of pool s.errors)) c.self.view_is)
+pub returns-in-Some-clause-checking : goal.returns-in-Some-clause-checking
+returns-in-Some-clause-checking c = λ pool.
+    rw c.in-Some.is
+    (c.add.ensures.added pool ∙ ap (λ (s : Design). soiled c.args.rules.now c.in-Some.rect (checking_of pool s.errors)) c.self.view_is)

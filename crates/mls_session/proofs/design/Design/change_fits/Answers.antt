@@ -1,0 +1,89 @@
+-- Each turn asks whether one plane more would fit.
+use Rattle.std.proofs.Common.{◌≡◌, ◌||◌, ℕ, List, get_or, length, sym, ap, subst, ◌∙◌, arith}
+use Rattle.mls_geom.specs.Pictures.{overlaid}
+use Rattle.mls_tilepool.specs.Pools.{Pool}
+use Rattle.mls_paint.specs.Planes.{HasStrips, layout_in, picture_in}
+use Rattle.mls_session.specs.Inner.{CanChange, changed, changed_layout}
+use Rattle.mls_session.specs.Designs.{Design}
+use Rattle.mls_session.proofs.ChangedQuotas.{exceeds, exceeds-fits, exceeds-more, exceeds_quota-more, exceeds_quota-none}
+use Rattle.mls_session.proofs.FirstPlanes.{any_more}
+use Rattle.mls_session.proofs.HomePlanes.{HasStrips-at, planes_kept}
+use Rattle.mls_session.proofs.design.Design.change_fits.Goals as goal
+
+pub list_pieces-requires-clause-strips : goal.list_pieces-requires-clause-strips
+list_pieces-requires-clause-strips c =
+    let i = c.loop-i.i in
+    let owner = c.index_mut-plane.result.now in
+    let is = c.index_mut-plane.ensures.value ∙ ap (λ (kept : Design). get_or kept.planes i owner) c.loop-i.invariant.same in
+    let whole = ap (λ (kept : Design). length kept.planes) c.self.view_is in
+    subst (λ (pool : Pool). HasStrips pool owner) (sym c.loop-i.invariant.pool)
+    (HasStrips-at c.args.workspace.now.pool c.args.self.now i owner c.requires.home.layout (omega (arith, whole)) is)
+
+pub list_pieces-requires-clause-can_change : goal.list_pieces-requires-clause-can_change
+list_pieces-requires-clause-can_change c = subst (λ (pool : Pool). CanChange pool c.args.change.now) (sym c.loop-i.invariant.pool) c.requires.can_change
+
+pub fits-requires-clause-strips : goal.fits-requires-clause-strips
+fits-requires-clause-strips c =
+    let i = c.loop-i.i in
+    let owner = c.index_mut-plane.result.now in
+    let is = c.index_mut-plane.ensures.value ∙ ap (λ (kept : Design). get_or kept.planes i owner) c.loop-i.invariant.same in
+    let whole = ap (λ (kept : Design). length kept.planes) c.self.view_is in
+    rw c.list_pieces.ensures.plane
+    (subst (λ (pool : Pool). HasStrips pool owner) (sym c.loop-i.invariant.pool)
+    (HasStrips-at c.args.workspace.now.pool c.args.self.now i owner c.requires.home.layout (omega (arith, whole)) is))
+
+pub returns-then-not-fits-clause-fits : goal.returns-then-not-fits-clause-fits
+returns-then-not-fits-clause-fits c = λ config count same.
+    let pool = c.args.workspace.now.pool in
+    let design = c.args.self.now in
+    let change = c.args.change.now in
+    let i = c.loop-i.i in
+    let owner = c.index_mut-plane.result.now in
+    let is : owner ≡ get_or design.planes i owner = c.index_mut-plane.ensures.value ∙ ap (λ (kept : Design). get_or kept.planes i owner) c.loop-i.invariant.same in
+    let whole = ap (λ (kept : Design). length kept.planes) c.self.view_is in
+    let limit = c.tiles-limit.ensures.value ∙ ap (λ (kept : Design). kept.quota) c.self.view_is in
+    let mid = c.loop-i.workspace.pool in
+    let lent = ap (picture_in mid) c.list_pieces.ensures.plane in
+    let below = picture_in mid c.list_pieces.new.plane in
+    let made : overlaid below c.deref.result.now ≡ changed pool change i (picture_in pool owner) =
+    ap (overlaid below) c.deref.ensures.value ∙ c.list_pieces.ensures.picture below lent ∙ ap (changed mid change i) lent
+    ∙ ap (λ (p : Pool). changed p change i (picture_in p owner)) c.loop-i.invariant.pool in
+    exceeds_quota-more config (changed_layout pool change (layout_in pool design.planes)) (length design.planes) design.quota i count same (omega (arith, whole))
+    (exceeds-more pool design change i owner c.tiles-limit.result (overlaid below c.deref.result.now) (omega (arith, whole)) is limit made
+    (λ few. absurd (cc (sym c.if-not-fits.true ∙ c.fits.ensures.fits.1 few))))
+
+pub loop-i-preserved : goal.loop-i-preserved
+loop-i-preserved c =
+    let pool = c.args.workspace.now.pool in
+    let design = c.args.self.now in
+    let change = c.args.change.now in
+    let turn = c.loop-i in
+    let i = turn.i in
+    let owner = c.index_mut-plane.result.now in
+    let is : owner ≡ get_or design.planes i owner = c.index_mut-plane.ensures.value ∙ ap (λ (kept : Design). get_or kept.planes i owner) turn.invariant.same in
+    let whole = ap (λ (kept : Design). length kept.planes) c.self.view_is in
+    let limit = c.tiles-limit.ensures.value ∙ ap (λ (kept : Design). kept.quota) c.self.view_is in
+    let mid = c.loop-i.workspace.pool in
+    let lent = ap (picture_in mid) c.list_pieces.ensures.plane in
+    let below = picture_in mid c.list_pieces.new.plane in
+    let made : overlaid below c.deref.result.now ≡ changed pool change i (picture_in pool owner) =
+    ap (overlaid below) c.deref.ensures.value ∙ c.list_pieces.ensures.picture below lent ∙ ap (changed mid change i) lent
+    ∙ ap (λ (p : Pool). changed p change i (picture_in p owner)) c.loop-i.invariant.pool in
+    let kept = planes_kept turn.self-inside.planes.items i owner c.fits.new.plane c.index_mut-plane.ensures.value (c.fits.ensures.plane ∙ c.list_pieces.ensures.plane) in
+    let layout = changed_layout pool change (layout_in pool design.planes) in
+    record {
+      pool = turn.invariant.pool;
+      same = ap (λ (planes : List ℕ). record { box = turn.self-inside.box_rect; planes = planes; quota = turn.self-inside.quota; errors = turn.self-inside.errors }) kept ∙ turn.invariant.same;
+      few =
+          any_more (exceeds design.quota layout) i ∙ ap (λ before. before || exceeds design.quota layout i) turn.invariant.few
+          ∙ exceeds-fits pool design change i owner c.tiles-limit.result (overlaid below c.deref.result.now) (omega (arith, whole)) is limit made
+          (c.fits.ensures.fits.0 c.if-not-fits.false);
+    }
+
+pub returns-clause-fits : goal.returns-clause-fits
+returns-clause-fits c = λ config count same.
+    let pool = c.args.workspace.now.pool in
+    let design = c.args.self.now in
+    let whole = ap (λ (kept : Design). length kept.planes) c.self.view_is in
+    exceeds_quota-none config (changed_layout pool c.args.change.now (layout_in pool design.planes)) (length design.planes) design.quota c.loop-i.i count same
+    (omega (arith, whole)) c.loop-i.invariant.few

@@ -1,0 +1,10 @@
+use Rattle.std.proofs.Common.{◌≡◌}
+use Rattle.mls_session.proofs.ChangedPlanes.{IsMade}
+use Rattle.mls_session.proofs.design.Design.make_change.Given as goal
+
+-- the change is made on the first planes
+abbrev pub invariant-loop-i : goal.invariant-loop-i
+invariant-loop-i l = record {
+  same : record { box = l.self-inside.box_rect; planes = l.self-inside.planes.items; quota = l.self-inside.quota; errors = l.self-inside.errors } ≡ l.fn.self;
+  made : IsMade l.fn.workspace.pool l.workspace.pool l.fn.self l.change l.i;
+}

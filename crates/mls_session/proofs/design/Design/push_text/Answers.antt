@@ -1,0 +1,94 @@
+-- Each turn appends the text of one type's section.
+use Rattle.std.proofs.Common.{◌≡◌, ◌+◌, ◌-◌, ◌++◌, length, refl, sym, ap, subst, ◌∙◌, arith}
+use Rattle.std.specs.Prelude.{IfSome}
+use Rattle.mls_library.specs.SavedCells.{layer_lines, strips_on, text_of}
+use Rattle.mls_library.proofs.SavedCells.{saved-reads-back}
+use Rattle.mls_library.proofs.SavedTexts.{Extends-appended, Extends-trans, lines_up_to, lines_up_to-none, on_err, pieces_of, text_up_to-all, text_up_to-more}
+use Rattle.mls_paint.specs.Planes.{layout_in}
+use Rattle.mls_tilepool.specs.Pools.{Pool}
+use Rattle.mls_session.specs.Designs.{IsHome}
+use Rattle.mls_session.specs.Inner.{ListsPlane}
+use Rattle.mls_session.proofs.Results.{on_err-map, on_ok-map}
+use Rattle.mls_session.proofs.SavedPlanes.{listed_plane}
+use Rattle.mls_session.proofs.design.Design.push_text.Goals as goal
+
+pub loop-kind-init : goal.loop-kind-init
+loop-kind-init c = record {
+  pool = refl;
+  from = omega arith;
+  text = c.in_ok-push_header.ensures.text ∙ ap (λ lines. c.args.out.now.items ++ text_of lines) (sym (lines_up_to-none c.args.tech.now (strips_on (layout_in c.args.workspace.now.pool c.args.self.now.planes))));
+  lists = tt;
+}
+
+pub list_plane-requires-clause-home : goal.list_plane-requires-clause-home
+list_plane-requires-clause-home c = subst (λ (pool : Pool). IsHome pool c.args.self.now) (sym c.loop-kind.invariant.pool) c.requires.home
+
+pub list_plane-requires-clause-listed : goal.list_plane-requires-clause-listed
+list_plane-requires-clause-listed c =
+    subst (λ (pool : Pool). IfSome c.loop-kind.listed (ListsPlane (layout_in pool c.args.self.now.planes) c.loop-kind.workspace.scratch.tiles))
+    (sym c.loop-kind.invariant.pool) c.loop-kind.invariant.lists
+
+pub returns-in_err-push_layer-clause-kept : goal.returns-in_err-push_layer-clause-kept
+returns-in_err-push_layer-clause-kept c =
+    on_err c.from_residual-in_err-push_layer.result _
+    (Extends-trans c.args.out.now.items c.loop-kind.out.items c.push_layer.new.out.items
+    (Extends-appended c.args.out.now.items c.loop-kind.out.items _ c.loop-kind.invariant.text) c.in_err-push_layer.ensures.kept)
+
+pub returns-in_err-push_layer-clause-pool : goal.returns-in_err-push_layer-clause-pool
+returns-in_err-push_layer-clause-pool c = c.list_plane.ensures.pool ∙ c.loop-kind.invariant.pool
+
+pub loop-kind-preserved : goal.loop-kind-preserved
+loop-kind-preserved c =
+    let layout = layout_in c.args.workspace.now.pool c.args.self.now.planes in
+    let tech = c.args.tech.now in
+    let kind = c.loop-kind.kind in
+    let tiles = c.list_plane.new.workspace.scratch.tiles in
+    let so_far = c.loop-kind.invariant in
+    let lists =
+    subst (λ (pool : Pool). IfSome c.list_plane.new.listed (ListsPlane (layout_in pool c.args.self.now.planes) tiles)) c.loop-kind.invariant.pool c.list_plane.ensures.lists in
+    let listed = listed_plane tech.type_planes kind layout tiles c.list_plane.new.listed so_far.from
+    (omega (arith, c.loop-kind-test.true, c.types-types.ensures.value)) c.list_plane.ensures.plane lists
+    in
+    let next : kind ≡ kind - 1 + 1 = omega (arith, so_far.from) in
+    let last : kind - 1 + 1 ≡ kind + 1 - 1 = omega (arith, so_far.from) in
+    let old = c.loop-kind.out.items in
+    let appended = c.in_ok-push_layer.ensures.text ∙ ap (λ found. old ++ text_of (layer_lines tech kind (pieces_of found))) c.tiles.ensures
+    ∙ ap (λ k. old ++ text_of (layer_lines tech k (pieces_of tiles))) next
+    in
+    record {
+      pool = c.list_plane.ensures.pool ∙ so_far.pool;
+      from = omega arith;
+      text = text_up_to-more tech (strips_on layout) c.args.out.now.items old c.push_layer.new.out.items (kind - 1) listed.plane (pieces_of tiles) listed.place listed.tiles_are so_far.text appended
+          ∙ ap (λ n. c.args.out.now.items ++ text_of (lines_up_to tech (strips_on layout) n)) last;
+      lists = lists;
+    }
+
+pub returns-clause-text : goal.returns-clause-text
+returns-clause-text c =
+    let layout = layout_in c.args.workspace.now.pool c.args.self.now.planes in
+    let tech = c.args.tech.now in
+    let base = c.args.out.now.items in
+    let old = c.loop-kind.out.items in
+    let all : c.loop-kind.kind - 1 ≡ length tech.type_planes =
+    omega (arith, c.loop-kind-test.false, c.loop-kind.auto.kind-end, c.loop-kind.invariant.from, c.types-types.ensures.value)
+    in
+    let before = c.loop-kind.invariant.text ∙ ap (λ n. base ++ text_of (lines_up_to tech (strips_on layout) n)) all in
+    on_ok-map c.push_end.result _ _ (text_up_to-all tech (strips_on layout) base old c.push_end.new.out.items before) c.push_end.ensures.text
+
+pub returns-clause-kept : goal.returns-clause-kept
+returns-clause-kept c =
+    let base = c.args.out.now.items in
+    let old = c.loop-kind.out.items in
+    on_err-map c.push_end.result _ _ (Extends-trans base old c.push_end.new.out.items (Extends-appended base old _ c.loop-kind.invariant.text)) c.push_end.ensures.kept
+
+pub returns-in_err-push_header-clause-reads_back : goal.returns-in_err-push_header-clause-reads_back
+returns-in_err-push_header-clause-reads_back c =
+    saved-reads-back c.args.tech.now (layout_in c.args.workspace.now.pool c.args.self.now.planes) c.types-types.ensures.named c.push_header.ensures.unbroken
+
+pub returns-in_err-push_layer-clause-reads_back : goal.returns-in_err-push_layer-clause-reads_back
+returns-in_err-push_layer-clause-reads_back c =
+    saved-reads-back c.args.tech.now (layout_in c.args.workspace.now.pool c.args.self.now.planes) c.types-types.ensures.named c.push_header.ensures.unbroken
+
+pub returns-clause-reads_back : goal.returns-clause-reads_back
+returns-clause-reads_back c =
+    saved-reads-back c.args.tech.now (layout_in c.args.workspace.now.pool c.args.self.now.planes) c.types-types.ensures.named c.push_header.ensures.unbroken

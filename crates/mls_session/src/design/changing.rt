@@ -1,0 +1,175 @@
+//! Commands that change several planes: all of them, or none.
+ghost use Rattle.std.specs.Prelude.{◌≡◌, not, length};
+ghost use Rattle.mls_paint.specs.Owners.{ChangesAmong};
+ghost use Rattle.mls_paint.specs.Planes.{layout_in};
+ghost use Rattle.mls_session.specs.Inner.{CanChange, FitsQuota, IsApartFrom, changed_layout};
+ghost use Rattle.mls_session.specs.Own.{Config, are_types, change_step, edit_step, exceeds_quota};
+ghost use Rattle.mls_session.specs.OwnSteps.{design_step};
+ghost use Rattle.mls_session.specs.Setups.{config_of};
+
+use super::Design;
+use crate::bounds::dumped_rect;
+use crate::change::{Change, cell_leaves_world};
+use crate::{Command, Refusal, Reply, Setup};
+use mls_errorplane::Workspace;
+use mls_geom::Rect;
+use mls_kinds::KindSet;
+use mls_library::CellId;
+use mls_paint::{fits, overlay};
+use mls_tech::Tech;
+
+impl Design {
+    ghost use Rattle.mls_session.specs.Designs.{CanDump, AreAtHome, IsHome, IsMadeFor, KeepsPlanes, OnRefused, designed_of, drawn_of, owners_of};
+
+    /// Erases types in the box, on each plane.
+    #[tactic(auto, unfolding(crate::specs::OwnSteps::design_step))]
+    pub fn erase(
+        &mut self,
+        setup: &Setup,
+        kinds: Option<KindSet>,
+        workspace: &mut Workspace,
+    ) -> Reply
+        requires home { IsHome workspace.old.pool self.old }
+        requires made_for { IsMadeFor setup.now self.old }
+        ensures step { design_step (config_of setup.now workspace.old.pool)
+            (designed_of workspace.old.pool self.old) (Command.Erase kinds)
+            ≡ (designed_of workspace.new.pool self.new, result) }
+        ensures keeps { KeepsPlanes workspace.old.pool workspace.new.pool self.old self.new }
+        ensures refused { OnRefused result ((self.new ≡ self.old) × (workspace.new.pool ≡ workspace.old.pool)) }
+    {
+        let Some(rect) = self.box_rect else {
+            return Reply::Refused(Refusal::NoBox);
+        };
+        let Some(kinds) = kinds else {
+            return Reply::Refused(Refusal::UnknownType);
+        };
+        if !has_types(&setup.tech, kinds) {
+            return Reply::Refused(Refusal::UnknownType);
+        }
+        self.change(setup, &Change::Erase { rect, kinds }, Some(rect), workspace)
+    }
+
+    /// Dumps a cell of the library, moved to the right by `dx` and up by `dy`, on all planes.
+    #[tactic(auto, unfolding(crate::specs::OwnSteps::design_step))]
+    pub fn dump(
+        &mut self,
+        setup: &Setup,
+        cell: Option<CellId>,
+        dx: i32,
+        dy: i32,
+        workspace: &mut Workspace,
+    ) -> Reply
+        requires home { IsHome workspace.old.pool self.old }
+        requires made_for { IsMadeFor setup.now self.old }
+        requires can_dump { CanDump setup.now workspace.old.pool (owners_of self.old) }
+        ensures step { design_step (config_of setup.now workspace.old.pool)
+            (designed_of workspace.old.pool self.old) (Command.Dump cell dx dy)
+            ≡ (designed_of workspace.new.pool self.new, result) }
+        ensures keeps { KeepsPlanes workspace.old.pool workspace.new.pool self.old self.new }
+        ensures refused { OnRefused result ((self.new ≡ self.old) × (workspace.new.pool ≡ workspace.old.pool)) }
+    {
+        let Some(id) = cell else {
+            return Reply::Refused(Refusal::UnknownCell);
+        };
+        let Some(cell) = setup.library.get(id) else {
+            return Reply::Refused(Refusal::UnknownCell);
+        };
+        let planes = cell.planes();
+        let Workspace { pool, scratch, .. } = workspace;
+        if cell_leaves_world(pool, planes, dx, dy, scratch) {
+            return Reply::Refused(Refusal::CellOutside);
+        }
+        let rect = dumped_rect(pool, planes, dx, dy, scratch);
+        self.change(setup, &Change::Dump { planes, dx, dy }, rect, workspace)
+    }
+
+    /// Makes a change on all planes, unless one of them would then have more tiles than the quota. The rectangle that
+    /// it changes, if there is one, awaits checking then.
+    fn change(
+        &mut self,
+        setup: &Setup,
+        change: &Change<'_>,
+        rect: Option<Rect>,
+        workspace: &mut Workspace,
+    ) -> Reply
+        requires home { IsHome workspace.old.pool self.old }
+        requires made_for { IsMadeFor setup.now self.old }
+        requires can_change { CanChange workspace.old.pool change.now }
+        requires apart { IsApartFrom change.now self.old.planes }
+        ensures step { edit_step (config_of setup.now workspace.old.pool)
+            (designed_of workspace.old.pool self.old) rect
+            (change_step (config_of setup.now workspace.old.pool) (drawn_of workspace.old.pool self.old)
+            (changed_layout workspace.old.pool change.now (drawn_of workspace.old.pool self.old).layout))
+            ≡ (designed_of workspace.new.pool self.new, result) }
+        ensures keeps { KeepsPlanes workspace.old.pool workspace.new.pool self.old self.new }
+        ensures refused { OnRefused result ((self.new ≡ self.old) × (workspace.new.pool ≡ workspace.old.pool)) }
+    {
+        if !self.change_fits(change, workspace) {
+            return Reply::Refused(Refusal::Quota);
+        }
+        self.make_change(change, workspace);
+        self.soil(&setup.rules, rect);
+        Reply::Done
+    }
+
+    /// Returns whether no plane would have more tiles than the quota after a change.
+    fn change_fits(&mut self, change: &Change<'_>, workspace: &mut Workspace) -> bool
+        requires home { IsHome workspace.old.pool self.old }
+        requires can_change { CanChange workspace.old.pool change.now }
+        ensures fits { (config : Config) → config.tech.plane_count ≡ length self.old.planes
+            → config.quota ≡ self.old.quota
+            → result ≡ not (exceeds_quota config
+            (changed_layout workspace.old.pool change.now (drawn_of workspace.old.pool self.old).layout)) }
+        ensures same { self.new ≡ self.old }
+        ensures pool { workspace.new.pool ≡ workspace.old.pool }
+    {
+        let limit = self.quota.tiles();
+        for i in 0..self.planes.len() {
+            let Workspace {
+                pool,
+                scratch,
+                pieces,
+            } = workspace;
+            let plane = &mut self.planes[i];
+            change.list_pieces(pool, i, plane, pieces, scratch);
+            if !fits(pool, plane, pieces, limit, scratch) {
+                return false;
+            }
+        }
+        true
+    }
+
+    /// Makes a change on all planes. None of them has more tiles than the quota then.
+    fn make_change(&mut self, change: &Change<'_>, workspace: &mut Workspace)
+        requires home { IsHome workspace.old.pool self.old }
+        requires can_change { CanChange workspace.old.pool change.now }
+        requires apart { IsApartFrom change.now self.old.planes }
+        requires fits { FitsQuota (length self.old.planes) self.old.quota
+            (changed_layout workspace.old.pool change.now (drawn_of workspace.old.pool self.old).layout) }
+        ensures layout { layout_in workspace.new.pool self.old.planes
+            ≡ changed_layout workspace.old.pool change.now (drawn_of workspace.old.pool self.old).layout }
+        ensures home { AreAtHome workspace.new.pool self.old.quota self.old.planes }
+        ensures only { ChangesAmong workspace.old.pool workspace.new.pool self.old.planes }
+        ensures same { self.new ≡ self.old }
+    {
+        let limit = self.quota.tiles();
+        for i in 0..self.planes.len() {
+            let Workspace {
+                pool,
+                scratch,
+                pieces,
+            } = workspace;
+            let plane = &mut self.planes[i];
+            change.list_pieces(pool, i, plane, pieces, scratch);
+            overlay(pool, plane, pieces, limit, scratch).unwrap();
+        }
+    }
+}
+
+/// Returns whether the technology has all these types.
+fn has_types(tech: &Tech, kinds: KindSet) -> bool
+    ensures { result ≡ are_types tech.now kinds }
+{
+    let types = tech.types();
+    kinds.iter().all(|kind| usize::from(kind) <= types)
+}

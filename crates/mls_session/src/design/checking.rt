@@ -1,0 +1,145 @@
+//! Commands on what awaits checking, and on the marks.
+ghost use Rattle.std.specs.Prelude.{◌≡◌};
+ghost use Rattle.mls_errorplane.specs.DirtyLists.{IsDirtyList};
+ghost use Rattle.mls_errorplane.specs.ErrorPlanes.{checking_of};
+ghost use Rattle.mls_session.specs.Inner.{Counts, caught_up_reply, steps_of};
+ghost use Rattle.mls_session.specs.Own.{count_step, soiled_after};
+ghost use Rattle.mls_session.specs.OwnSteps.{DesignSteps, design_step};
+ghost use Rattle.mls_session.specs.Setups.{config_of};
+ghost use Rattle.mls_tilepool.specs.Pools.{Pool};
+
+use super::Design;
+use crate::executed::Executed;
+use crate::{Command, Refusal, Reply, Setup};
+use mls_edgerule::Rules;
+use mls_errorplane::{CaughtUp, Workspace, why};
+use mls_geom::Rect;
+use std::alloc::Global;
+
+impl Design {
+    ghost use Rattle.mls_session.specs.Designs.{IsHome, IsMadeFor, KeepsPlanes, OnRefused, designed_of};
+
+    /// The areas that await checking lie in the world, and are few. Does nothing: the contract is the law.
+    pub fn has_legal_areas(&self)
+        ensures { IsDirtyList self.now.errors.dirty }
+    {
+        self.errors.areas();
+    }
+
+    /// Adds the box to the areas that await checking.
+    #[tactic(auto, unfolding(crate::specs::OwnSteps::design_step))]
+    pub fn check(&mut self, setup: &Setup) -> Reply
+        ensures step { (pool : Pool) → design_step (config_of setup.now pool)
+            (designed_of pool self.old) Command.Check ≡ (designed_of pool self.new, result) }
+        ensures planes { self.new.planes ≡ self.old.planes }
+        ensures quota { self.new.quota ≡ self.old.quota }
+        ensures owner { self.new.errors.owner ≡ self.old.errors.owner }
+        ensures refused { OnRefused result (self.new ≡ self.old) }
+    {
+        let Some(rect) = self.box_rect else {
+            return Reply::Refused(Refusal::NoBox);
+        };
+        self.soil(&setup.rules, Some(rect));
+        Reply::Done
+    }
+
+    /// Adds the rectangle that an edit changed, if it changed one, to the areas that await checking.
+    pub(super) fn soil(&mut self, rules: &Rules, rect: Option<Rect>)
+        ensures checking { (pool : Pool) → checking_of pool self.new.errors
+            ≡ soiled_after rules.now rect Reply.Done (checking_of pool self.old.errors) }
+        ensures same { self.new ≡ record self.old { errors = self.new.errors } }
+        ensures owner { self.new.errors.owner ≡ self.old.errors.owner }
+    {
+        if let Some(rect) = rect {
+            self.errors.add(rules, rect);
+        }
+    }
+
+    /// Checks all areas that await checking, piece by piece.
+    pub fn catch_up(&mut self, alloc: Global, setup: &Setup, workspace: &mut Workspace) -> Executed
+        requires home { IsHome workspace.old.pool self.old }
+        requires made_for { IsMadeFor setup.now self.old }
+        requires areas { IsDirtyList self.old.errors.dirty }
+        ensures caught { DesignSteps (config_of setup.now workspace.old.pool)
+            (designed_of workspace.old.pool self.old) Command.CatchUp result.reply
+            (designed_of workspace.new.pool self.new) }
+        ensures counts { Counts (config_of setup.now workspace.old.pool)
+            (designed_of workspace.old.pool self.old) Command.CatchUp result
+            (designed_of workspace.new.pool self.new) }
+        ensures keeps { KeepsPlanes workspace.old.pool workspace.new.pool self.old self.new }
+        ensures not_refused { OnRefused result.reply ((self.new ≡ self.old)
+            × (workspace.new.pool ≡ workspace.old.pool)) }
+    {
+        let limit = self.quota.tiles();
+        let planes = &mut self.planes;
+        let ended = self
+            .errors
+            .catch_up(alloc, planes, &setup.rules, limit, workspace);
+        let pending = self.errors.areas();
+        Executed {
+            reply: caught_up_reply(ended, pending),
+            steps: steps_of(ended),
+        }
+    }
+
+    /// Returns the rules that forbid some square of the box.
+    #[tactic(auto, unfolding(crate::specs::OwnSteps::design_step))]
+    pub fn why(&mut self, alloc: Global, setup: &Setup, workspace: &mut Workspace) -> Reply
+        requires home { IsHome workspace.old.pool self.old }
+        ensures why { DesignSteps (config_of setup.now workspace.old.pool)
+            (designed_of workspace.old.pool self.old) Command.Why result (designed_of workspace.old.pool self.new) }
+        ensures same { self.new ≡ self.old }
+        ensures pool { workspace.new.pool ≡ workspace.old.pool }
+    {
+        let Some(rect) = self.box_rect else {
+            return Reply::Refused(Refusal::NoBox);
+        };
+        let Workspace { pool, scratch, .. } = workspace;
+        let planes = &mut self.planes;
+        match why(alloc, pool, planes, &setup.rules, rect, scratch) {
+            Ok(violated) => Reply::Why(violated),
+            Err(_) => Reply::Refused(Refusal::Memory),
+        }
+    }
+
+    /// Returns how many squares are marked, and how many areas await checking.
+    #[tactic(auto, unfolding(crate::specs::Own::marked_squares, mls_errorplane::specs::MarkPlanes::marked_count))]
+    pub fn count(&self, workspace: &mut Workspace) -> Reply
+        requires home { IsHome workspace.old.pool self.now }
+        ensures step { count_step (designed_of workspace.old.pool self.now)
+            ≡ (designed_of workspace.old.pool self.now, result) }
+        ensures pool { workspace.new.pool ≡ workspace.old.pool }
+    {
+        let Workspace { pool, scratch, .. } = workspace;
+        let errors = self.errors.marked(pool, scratch);
+        let pending = self.errors.areas();
+        Reply::Count { errors, pending }
+    }
+}
+
+/// Returns the reply to catching up that ended with this many areas left.
+fn caught_up_reply(ended: CaughtUp, pending: usize) -> Reply
+    ensures { result ≡ caught_up_reply pending ended }
+{
+    match ended {
+        CaughtUp::Done => Reply::Done,
+        CaughtUp::Full => Reply::Stopped {
+            refusal: Refusal::Quota,
+            pending,
+        },
+        CaughtUp::Memory { .. } => Reply::Stopped {
+            refusal: Refusal::Memory,
+            pending,
+        },
+    }
+}
+
+/// Returns how many check steps were done before memory ran out.
+fn steps_of(ended: CaughtUp) -> u64
+    ensures { result ≡ steps_of ended }
+{
+    match ended {
+        CaughtUp::Done | CaughtUp::Full => 0,
+        CaughtUp::Memory { steps } => steps,
+    }
+}

@@ -1,0 +1,111 @@
+//! The text of a design's layout, as a cell file.
+ghost use Rattle.std.specs.Prelude.{◌≡◌, ◌≤◌, ◌++◌, IfSome, OnOk, OnErr, length};
+ghost use Rattle.mls_library.specs.SavedCells.{Extends, HoldsOwnTypes, ReadsAs, saved_line_count, saved_text};
+ghost use Rattle.mls_tech.specs.Readings.{plane_of_type};
+ghost use Rattle.mls_session.specs.Inner.{ListsPlane};
+ghost use Rattle.mls_session.specs.Saving.{SavesText};
+
+use super::Design;
+use crate::{Refusal, Reply};
+use mls_errorplane::Workspace;
+use mls_library::{layer_line_count, push_end, push_header, push_layer};
+use mls_paint::strips_of;
+use mls_tech::Tech;
+use std::alloc::AllocError;
+
+/// The lines of each saved text that are in no type's section: the first two, and the last.
+const OTHER_LINES: usize = 3;
+
+impl Design {
+    ghost use Rattle.mls_session.specs.Designs.{IsHome, drawn_of};
+
+    /// Appends the text of the layout, as a cell file, and returns the number of its lines.
+    ///
+    /// Out of memory, appends nothing and returns a refusal.
+    pub fn save_text(&self, tech: &Tech, out: &mut Vec<u8>, workspace: &mut Workspace) -> Reply
+        requires home { IsHome workspace.old.pool self.now }
+        requires made_for { length self.now.planes ≡ tech.now.plane_count }
+        ensures saves { SavesText tech.now (drawn_of workspace.old.pool self.now).layout result out.old.items
+            out.new.items }
+        ensures reads_back { HoldsOwnTypes tech.now (drawn_of workspace.old.pool self.now).layout
+            → ReadsAs tech.now (saved_text tech.now (drawn_of workspace.old.pool self.now).layout)
+            (drawn_of workspace.old.pool self.now).layout }
+        ensures pool { workspace.new.pool ≡ workspace.old.pool }
+    {
+        let len = out.len();
+        match self.push_text(tech, out, workspace) {
+            Ok(()) => Reply::Saved(self.count_lines(tech, workspace)),
+            Err(_) => {
+                out.truncate(len);
+                Reply::Refused(Refusal::Memory)
+            }
+        }
+    }
+
+    /// Returns the number of lines of the layout's text.
+    pub fn count_lines(&self, tech: &Tech, workspace: &mut Workspace) -> usize
+        requires home { IsHome workspace.old.pool self.now }
+        requires made_for { length self.now.planes ≡ tech.now.plane_count }
+        ensures count { result ≡ saved_line_count tech.now (drawn_of workspace.old.pool self.now).layout }
+        ensures pool { workspace.new.pool ≡ workspace.old.pool }
+    {
+        let types = tech.types() as u8;
+        let mut lines = OTHER_LINES;
+        let mut listed = None;
+        for kind in 1..types + 1 {
+            self.list_plane(tech, kind, &mut listed, workspace);
+            lines += layer_line_count(workspace.scratch.tiles(), kind);
+        }
+        lines
+    }
+
+    /// Appends the text of the layout. Out of memory, leaves the beginning of it.
+    fn push_text(
+        &self,
+        tech: &Tech,
+        out: &mut Vec<u8>,
+        workspace: &mut Workspace,
+    ) -> Result<(), AllocError>
+        requires home { IsHome workspace.old.pool self.now }
+        requires made_for { length self.now.planes ≡ tech.now.plane_count }
+        ensures text { OnOk result (out.new.items ≡ out.old.items ++ saved_text tech.now
+            (drawn_of workspace.old.pool self.now).layout) }
+        ensures kept { OnErr result (Extends out.old.items out.new.items) }
+        ensures reads_back { HoldsOwnTypes tech.now (drawn_of workspace.old.pool self.now).layout
+            → ReadsAs tech.now (saved_text tech.now (drawn_of workspace.old.pool self.now).layout)
+            (drawn_of workspace.old.pool self.now).layout }
+        ensures pool { workspace.new.pool ≡ workspace.old.pool }
+    {
+        let types = tech.types() as u8;
+        push_header(tech, out)?;
+        let mut listed = None;
+        for kind in 1..types + 1 {
+            self.list_plane(tech, kind, &mut listed, workspace);
+            push_layer(tech, kind, workspace.scratch.tiles(), out)?;
+        }
+        push_end(out)
+    }
+
+    /// Lists the strips of a type's plane in the scratch, unless they are those that it lists already.
+    fn list_plane(&self, tech: &Tech, kind: u8, listed: &mut Option<u8>, workspace: &mut Workspace)
+        requires home { IsHome workspace.old.pool self.now }
+        requires made_for { length self.now.planes ≡ tech.now.plane_count }
+        requires is_type { (1 ≤ kind) × (kind ≤ length tech.now.type_planes) }
+        requires listed { IfSome listed.old (ListsPlane
+            (drawn_of workspace.old.pool self.now).layout workspace.old.scratch.tiles) }
+        ensures lists { IfSome listed.new (ListsPlane
+            (drawn_of workspace.old.pool self.now).layout workspace.new.scratch.tiles) }
+        ensures plane { listed.new ≡ plane_of_type tech.now.type_planes kind }
+        ensures pool { workspace.new.pool ≡ workspace.old.pool }
+    {
+        let plane = tech.plane_of(kind);
+        if plane == *listed {
+            return;
+        }
+        if let Some(number) = plane {
+            let Workspace { pool, scratch, .. } = workspace;
+            strips_of(pool, &self.planes[usize::from(number)], scratch);
+        }
+        *listed = plane;
+    }
+}

@@ -1,0 +1,111 @@
+//! Check steps of a session, and what a check outside it needs and leads to.
+ghost use Rattle.std.specs.Prelude.{◌≡◌, ℕ, length};
+ghost use Rattle.mls_errorplane.specs.ErrorPlanes.{UnlessDone};
+ghost use Rattle.mls_errorplane.specs.Jobs.{HasGrabbed};
+ghost use Rattle.mls_errorplane.specs.Outcomes.{UnlessFinished};
+ghost use Rattle.mls_session.specs.Designs.{HasRightMarks};
+ghost use Rattle.mls_session.specs.Inner.{done_steps, finished_steps};
+ghost use Rattle.mls_session.specs.Journals.{Finishes, IsLegal, StepsOnce};
+ghost use Rattle.mls_session.specs.Setups.{terms_of};
+
+use super::Session;
+use crate::Setup;
+use mls_checker::Finding;
+use mls_errorplane::{Job, Outcome, Stepped, Workspace};
+use std::alloc::{AllocError, Global};
+
+impl Session {
+    ghost use Rattle.mls_session.specs.Sessions.{IsHome, IsMadeFor, KeepsPlanes, kept_of, state_of};
+
+    /// Returns what a check of the first piece of the areas that await checking needs, if there is an area. Nothing
+    /// changes.
+    pub fn grab(
+        &mut self,
+        alloc: Global,
+        setup: &Setup,
+        workspace: &mut Workspace,
+    ) -> Result<Option<Job>, AllocError>
+        requires home { IsHome workspace.old.pool self.old }
+        ensures grabbed { HasGrabbed setup.now.rules (length self.old.design.planes)
+            (state_of workspace.old.pool self.old).design.drawn.layout
+            (state_of workspace.old.pool self.old).design.checking result }
+        ensures same { self.new ≡ self.old }
+        ensures pool { workspace.new.pool ≡ workspace.old.pool }
+    {
+        let design = &mut self.design;
+        let planes = &mut design.planes;
+        design.errors.grab(alloc, planes, &setup.rules, workspace)
+    }
+
+    /// Checks the first piece of the areas that await checking, and takes it out of them.
+    ///
+    /// Unless this is done, nothing changes.
+    pub fn step(&mut self, alloc: Global, setup: &Setup, workspace: &mut Workspace) -> Stepped
+        requires home { IsHome workspace.old.pool self.old }
+        requires made_for { IsMadeFor setup.now self.old }
+        ensures stepped { StepsOnce (terms_of setup.now workspace.old.pool)
+            (kept_of workspace.old.pool self.old) result (kept_of workspace.new.pool self.new) }
+        ensures legal { IsLegal (terms_of setup.now workspace.old.pool) (kept_of workspace.old.pool self.old)
+            → IsLegal (terms_of setup.now workspace.old.pool) (kept_of workspace.new.pool self.new) }
+        ensures marks_right { HasRightMarks setup.now.rules (state_of workspace.old.pool self.old).design
+            → HasRightMarks setup.now.rules (state_of workspace.new.pool self.new).design }
+        ensures unless_done { UnlessDone result (workspace.new.pool ≡ workspace.old.pool) }
+        ensures keeps { KeepsPlanes workspace.old.pool workspace.new.pool self.old self.new }
+    {
+        let design = &mut self.design;
+        let limit = design.quota.tiles();
+        let planes = &mut design.planes;
+        let stepped = design
+            .errors
+            .step(alloc, planes, &setup.rules, limit, workspace);
+        self.journal.count(done_steps(stepped));
+        stepped
+    }
+
+    /// Marks what a finding says of its piece, and takes the piece out of the areas that await checking, if the
+    /// finding is by the setup's rules and of the first piece, and the layout is still the one in which it was found;
+    /// it is stale otherwise.
+    ///
+    /// Unless this is finished, nothing changes. No memory is taken.
+    pub fn finish(&mut self, setup: &Setup, finding: &Finding, workspace: &mut Workspace) -> Outcome
+        requires home { IsHome workspace.old.pool self.old }
+        requires made_for { IsMadeFor setup.now self.old }
+        ensures finished { Finishes (terms_of setup.now workspace.old.pool)
+            (kept_of workspace.old.pool self.old) finding.now result (kept_of workspace.new.pool self.new) }
+        ensures legal { IsLegal (terms_of setup.now workspace.old.pool) (kept_of workspace.old.pool self.old)
+            → IsLegal (terms_of setup.now workspace.old.pool) (kept_of workspace.new.pool self.new) }
+        ensures marks_right { HasRightMarks setup.now.rules (state_of workspace.old.pool self.old).design
+            → HasRightMarks setup.now.rules (state_of workspace.new.pool self.new).design }
+        ensures unless_finished { UnlessFinished result (workspace.new.pool ≡ workspace.old.pool) }
+        ensures keeps { KeepsPlanes workspace.old.pool workspace.new.pool self.old self.new }
+    {
+        let design = &mut self.design;
+        let limit = design.quota.tiles();
+        let planes = &mut design.planes;
+        let outcome = design
+            .errors
+            .finish(planes, &setup.rules, finding, limit, workspace);
+        self.journal.count(finished_steps(outcome));
+        outcome
+    }
+}
+
+/// Returns how many check steps were done.
+fn done_steps(stepped: Stepped) -> u64
+    ensures { result ≡ done_steps stepped }
+{
+    match stepped {
+        Stepped::Done => 1,
+        Stepped::Idle | Stepped::Full | Stepped::Memory => 0,
+    }
+}
+
+/// Returns how many check steps were done where a finding was finished so.
+fn finished_steps(outcome: Outcome) -> u64
+    ensures { result ≡ finished_steps outcome }
+{
+    match outcome {
+        Outcome::Finished => 1,
+        Outcome::Stale | Outcome::Full => 0,
+    }
+}

@@ -1,0 +1,32 @@
+//! What sessions are opened with.
+ghost use Rattle.std.specs.Prelude.{◌≡◌, ◌*◌, ◌+◌};
+ghost use Rattle.mls_session.specs.Quotas.{plane_reserve};
+
+use crate::{JournalLimit, Quota};
+use mls_edgerule::Rules;
+use mls_library::Library;
+use mls_tech::Tech;
+
+/// What a session is opened with, and no command of it changes.
+#[derive(Drop)]
+pub struct Setup {
+    /// The technology, whose planes and types the session has.
+    pub tech: Tech,
+    /// The technology's compiled rules, by which the session's layout is checked.
+    pub rules: Rules,
+    /// The cells that can be dumped.
+    pub library: Library,
+    /// The most tiles that each plane may have.
+    pub quota: Quota,
+    /// The most entries that the journal may have.
+    pub limit: JournalLimit,
+}
+
+impl Setup {
+    /// Returns how many tiles the planes of a session reserve, its error plane among them.
+    pub fn reserve(&self) -> u32
+        ensures { result ≡ (self.now.tech.plane_count + 1) * plane_reserve self.now.quota }
+    {
+        (self.tech.planes() as u32 + 1) * self.quota.reserve()
+    }
+}
