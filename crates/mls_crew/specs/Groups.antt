@@ -30,7 +30,7 @@ abbrev pub is_save : Command → Bool
 is_save Save = true
 is_save _ = false
 
--- after a list of what was said, the command has this text and leaves this list. The reply is one that a session with a legal journal can have, or says that the
+-- after a list of commands and replies, the command has this text and leaves this list. The reply is one that a session with a legal journal can have, or says that the
 -- journal is full; that of a save is followed by the saved text
 abbrev pub SaysCommand : Terms → Names → List ℕ → List Said → Command → List ℕ → List Said → Type 0
 SaysCommand terms book name said command text now =
@@ -43,7 +43,7 @@ abbrev pub SaysAudit : Terms → Names → List ℕ → List Said → List ℕ �
 SaysAudit terms book name said text =
     ((text ≡ response_text book 0 (Audited name (length said))) × IsLegalList terms said) ⊎ (text ≡ differs_text name)
 
--- after a list of what was said, the line has this text and leaves this list
+-- after a list of commands and replies, the line has this text and leaves this list
 abbrev pub SaysLine : Terms → Names → List ℕ → List Said → SeatLine → List ℕ → List Said → Type 0
 SaysLine terms book name said (Run command) text now = SaysCommand terms book name said command text now
 SaysLine terms book name said Audit text now = SaysAudit terms book name said text × (now ≡ said)

@@ -48,15 +48,15 @@ struct Output {
 }
 
 impl Crew {
-    /// Serves a whole script: reads it to its end, opens its sessions, says the lines of each in a thread of its own while the workers
-    /// check, closes all sessions, and writes the replies. First come those to lines that no session has, in the order of the script, then
-    /// those of each session, in the order of opening.
+    /// Serves a whole script: reads it to its end, opens its sessions, says the lines of each in a thread of its own
+    /// while the workers check, closes all sessions, and writes the replies. First come those to lines that no
+    /// session has, in the order of the script, then those of each session, in the order of opening.
     ///
     /// # Errors
     ///
-    /// [`ServeFault::Read`] where the input failed: then no line was executed. [`ServeFault::Memory`] where memory ran out or a thread
-    /// couldn't be started. In both cases nothing was written. [`ServeFault::Write`] where the output failed: then a beginning of the
-    /// replies was written.
+    /// [`ServeFault::Read`] where the input failed: then no line was executed. [`ServeFault::Memory`] where memory
+    /// ran out or a thread couldn't be started. In both cases nothing was written. [`ServeFault::Write`] where the
+    /// output failed: then a beginning of the replies was written.
     pub fn serve<R: Read, W: Write, T: Threads + Wait + Sync>(
         self,
         rt: &T,
@@ -70,7 +70,8 @@ impl Crew {
         requires tech { self.tech ≡ (world_of self.server).setting.tech }
         ensures served { IfOk result (λ served. WritesCrew (world_of self.server) (R.remaining input.old.device)
             (W.contents output.old.device) (W.contents output.new.device) served.audited) }
-        ensures failed { IfErr result (λ fault. FailsCrew (world_of self.server) fault (R.remaining input.old.device) input.new
+        ensures failed { IfErr result (λ fault. FailsCrew (world_of self.server) fault
+            (R.remaining input.old.device) input.new
             W.contents output.old output.new) }
     {
         let script = read_script(alloc, &self.server, input)?;
@@ -94,7 +95,8 @@ fn say<N: Naming + Send + Sync, T: Threads + Wait + Sync>(
     requires idle { (world_of crew.server).seats ≡ [] }
     requires blank { (blank.name ≡ N.name) × (blank.parts ≡ N.parts) }
     requires parts { N.parts ≡ 65 }
-    ensures { IfOk result (λ output. TellsLines N.terms (labels_of crew.tech) script.now output.audited output.text.items) }
+    ensures { IfOk result (λ output. TellsLines N.terms
+        (labels_of crew.tech) script.now output.audited output.text.items) }
 {
     let Crew {
         server,

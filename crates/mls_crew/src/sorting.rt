@@ -30,8 +30,8 @@ pub struct Desk<'l, N: Naming> {
     pub notices: Sender<SessionId, Global>,
 }
 
-/// The lines of a script, sorted: the text of those that are answered at once, those that are handed to a session, and the names of
-/// the sessions that were opened.
+/// The lines of a script, sorted: the text of those that are answered at once, those that are handed to a session,
+/// and the names of the sessions that were opened.
 #[derive(Drop)]
 pub struct Sorting {
     head: Vec<u8>,
@@ -105,7 +105,8 @@ impl Sorting {
         seats: &mut Vec<Fresh<'l, N>>,
     ) -> Result<(), AllocError>
         requires paired { length self.old.opened ≡ vec_len seats.old }
-        ensures sorts { OnOk result ((sorted : _) × SortsLine (labels_of desk.now.labels.now) n self.old.opened said.now sorted × (self.new ≡ added self.old sorted)) }
+        ensures sorts { OnOk result ((sorted : _) × SortsLine
+            (labels_of desk.now.labels.now) n self.old.opened said.now sorted × (self.new ≡ added self.old sorted)) }
         ensures paired { OnOk result (length self.new.opened ≡ vec_len seats.new) }
     {
         match said {
@@ -124,7 +125,8 @@ impl Sorting {
         seats: &mut Vec<Fresh<'l, N>>,
     ) -> Result<(), AllocError>
         requires paired { length self.old.opened ≡ vec_len seats.old }
-        ensures sorts { OnOk result ((sorted : _) × SortsLine (labels_of desk.now.labels.now) n self.old.opened (Ok line.now) sorted × (self.new ≡ added self.old sorted)) }
+        ensures sorts { OnOk result ((sorted : _) × SortsLine (labels_of desk.now.labels.now) n self.old.opened
+            (Ok line.now) sorted × (self.new ≡ added self.old sorted)) }
         ensures paired { OnOk result (length self.new.opened ≡ vec_len seats.new) }
     {
         match line {
@@ -144,7 +146,8 @@ impl Sorting {
         n: u128,
         response: &Response,
     ) -> Result<(), AllocError>
-        ensures { OnOk result (self.new ≡ added self.old (at_once self.old.opened (response_text (labels_of desk.now.labels.now) n response.now))) }
+        ensures { OnOk result (self.new ≡ added self.old
+            (at_once self.old.opened (response_text (labels_of desk.now.labels.now) n response.now))) }
     {
         push_response(desk.labels, n, response, &mut self.head)
     }
@@ -156,7 +159,8 @@ impl Sorting {
         n: u128,
         fault: LineFault,
     ) -> Result<(), AllocError>
-        ensures { OnOk result (self.new ≡ added self.old (faulty (labels_of desk.now.labels.now) n fault self.old.opened)) }
+        ensures { OnOk result (self.new ≡ added self.old
+            (faulty (labels_of desk.now.labels.now) n fault self.old.opened)) }
     {
         self.answer(desk, n, &Response::Fault(fault))
     }
@@ -169,7 +173,8 @@ impl Sorting {
         name: &Name,
         line: SeatLine,
     ) -> Result<(), AllocError>
-        ensures { OnOk result (self.new ≡ added self.old (handed_to (labels_of desk.now.labels.now) n self.old.opened (session_of self.old.opened name.now) line)) }
+        ensures { OnOk result (self.new ≡ added self.old
+            (handed_to (labels_of desk.now.labels.now) n self.old.opened (session_of self.old.opened name.now) line)) }
     {
         let Some(session) = self.session(name) else {
             return self.refuse(desk, n, LineFault::NotOpen);
@@ -188,7 +193,8 @@ impl Sorting {
         seats: &mut Vec<Fresh<'l, N>>,
     ) -> Result<(), AllocError>
         requires paired { length self.old.opened ≡ vec_len seats.old }
-        ensures opens { OnOk result ((sorted : _) × Opens (labels_of desk.now.labels.now) n self.old.opened name.now sorted × (self.new ≡ added self.old sorted)) }
+        ensures opens { OnOk result ((sorted : _) × Opens
+            (labels_of desk.now.labels.now) n self.old.opened name.now sorted × (self.new ≡ added self.old sorted)) }
         ensures paired { OnOk result (length self.new.opened ≡ vec_len seats.new) }
     {
         if self.session(name).is_some() {
@@ -212,7 +218,9 @@ impl Sorting {
         name: &Name,
         fault: OpenFault,
     ) -> Result<(), AllocError>
-        ensures { OnOk result (self.new ≡ added self.old (at_once self.old.opened (response_text (labels_of desk.now.labels.now) n (Response.Answered name.now (Answer.Opened (Err fault)))))) }
+        ensures { OnOk result (self.new ≡ added self.old
+            (at_once self.old.opened (response_text (labels_of desk.now.labels.now) n
+            (Response.Answered name.now (Answer.Opened (Err fault)))))) }
     {
         self.answer(
             desk,

@@ -78,7 +78,8 @@ pub fn speak<'l, N: Naming, R: Wait>(
     name: Name,
     fresh: Fresh<'l, N>,
 ) -> Spoken<'l, N>
-    ensures { IfOk result.told (TellsGroup N.terms (labels_of part.entry.labels.now) name (lines_of part.entry.session part.entry.sorting.now.handed)) }
+    ensures { IfOk result.told (TellsGroup N.terms (labels_of part.entry.labels.now) name
+        (lines_of part.entry.session part.entry.sorting.now.handed)) }
 {
     let Fresh { mut seat } = fresh;
     let told = tell(rt, &part, &name, &mut seat);
@@ -93,7 +94,8 @@ fn tell<N: Naming, R: Wait>(
     seat: &mut Seat<'_, N>,
 ) -> Result<Told, AllocError>
     requires { length (list_of seat.old) ≡ 0 }
-    ensures { IfOk result (TellsGroup N.terms (labels_of part.now.labels.now) name.now (lines_of part.now.session part.now.sorting.now.handed)) }
+    ensures { IfOk result (TellsGroup N.terms (labels_of part.now.labels.now) name.now
+        (lines_of part.now.session part.now.sorting.now.handed)) }
 {
     let mut text = Vec::new(part.alloc);
     let opened = Response::Answered(*name, Answer::Opened(Ok(seat.id())));
@@ -111,7 +113,8 @@ fn say_lines<N: Naming, R: Wait>(
     seat: &mut Seat<'_, N>,
     out: &mut Vec<u8>,
 ) -> Result<(), AllocError>
-    ensures { OnOk result ((text : List ℕ) × SaysLines N.terms (labels_of part.now.labels.now) name.now (list_of seat.old)
+    ensures { OnOk result ((text : List ℕ) × SaysLines N.terms (labels_of part.now.labels.now) name.now
+        (list_of seat.old)
         (lines_of part.now.session part.now.sorting.now.handed) text (list_of seat.new)
         × (out.new.items ≡ out.old.items ++ text)) }
 {
@@ -133,7 +136,8 @@ fn say_line<N: Naming, R: Wait>(
     line: &SeatLine,
     out: &mut Vec<u8>,
 ) -> Result<(), AllocError>
-    ensures { OnOk result ((text : List ℕ) × SaysLine N.terms (labels_of part.now.labels.now) name.now (list_of seat.old) line.now text (list_of seat.new)
+    ensures { OnOk result ((text : List ℕ) × SaysLine N.terms (labels_of part.now.labels.now) name.now
+        (list_of seat.old) line.now text (list_of seat.new)
         × (out.new.items ≡ out.old.items ++ text)) }
 {
     match *line {
@@ -151,7 +155,8 @@ fn run<N: Naming, R: Wait>(
     command: Command,
     out: &mut Vec<u8>,
 ) -> Result<(), AllocError>
-    ensures { OnOk result ((text : List ℕ) × SaysCommand N.terms (labels_of part.now.labels.now) name.now (list_of seat.old) command text (list_of seat.new)
+    ensures { OnOk result ((text : List ℕ) × SaysCommand N.terms (labels_of part.now.labels.now) name.now
+        (list_of seat.old) command text (list_of seat.new)
         × (out.new.items ≡ out.old.items ++ text)) }
 {
     if is_save(&command) {
@@ -177,7 +182,8 @@ fn save<N: Naming, R: Wait>(
     seat: &mut Seat<'_, N>,
     out: &mut Vec<u8>,
 ) -> Result<(), AllocError>
-    ensures { OnOk result ((text : List ℕ) × SaysCommand N.terms (labels_of part.now.labels.now) name.now (list_of seat.old) Command.Save text (list_of seat.new)
+    ensures { OnOk result ((text : List ℕ) × SaysCommand N.terms (labels_of part.now.labels.now) name.now
+        (list_of seat.old) Command.Save text (list_of seat.new)
         × (out.new.items ≡ out.old.items ++ text)) }
 {
     let mut saved = Vec::new(part.alloc);
@@ -193,7 +199,8 @@ fn audit<N: Naming, R: Wait>(
     seat: &Seat<'_, N>,
     out: &mut Vec<u8>,
 ) -> Result<(), AllocError>
-    ensures { OnOk result ((text : List ℕ) × SaysAudit N.terms (labels_of part.now.labels.now) name.now (list_of seat.now) text
+    ensures { OnOk result ((text : List ℕ) × SaysAudit N.terms (labels_of part.now.labels.now) name.now
+        (list_of seat.now) text
         × (out.new.items ≡ out.old.items ++ text)) }
 {
     match seat.audit(rt) {

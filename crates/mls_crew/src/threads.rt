@@ -17,11 +17,12 @@ use std::thread::{Promise, PromisedHandle, Scope, Threads};
 impl<'s, 'l, N: Naming> Promise<Spoken<'l, N>> for Part<'s> {
     ghost use Rattle.mls_crew.specs.Scripts.{TellsPart};
 
-    ghost kept_by = { λ part spoken. IfOk spoken.told (TellsPart N.terms (labels_of part.labels.now) part.sorting.now part.session) };
+    ghost kept_by = { λ part spoken. IfOk spoken.told
+        (TellsPart N.terms (labels_of part.labels.now) part.sorting.now part.session) };
 }
 
-/// Says the lines of each session in a thread of its own while workers check, one for each receiver, closes the sessions, and returns
-/// their texts.
+/// Says the lines of each session in a thread of its own while workers check, one for each receiver, closes the
+/// sessions, and returns their texts.
 pub fn tell<'l, N: Naming + Send + Sync, R: Threads + Wait + Sync>(
     rt: &R,
     live: &'l Live<N>,
@@ -31,7 +32,8 @@ pub fn tell<'l, N: Naming + Send + Sync, R: Threads + Wait + Sync>(
 ) -> Result<Vec<Told>, AllocError>
     requires parts { N.parts ≡ 65 }
     requires paired { vec_len fresh ≡ length part.sorting.now.opened }
-    ensures { IfOk result (λ told. TellsGroups N.terms (labels_of part.entry.labels.now) part.entry.sorting.now told.items) }
+    ensures { IfOk result (λ told. TellsGroups N.terms
+        (labels_of part.entry.labels.now) part.entry.sorting.now told.items) }
 {
     thread::scope(
         thread::scope_env(),
@@ -39,7 +41,8 @@ pub fn tell<'l, N: Naming + Send + Sync, R: Threads + Wait + Sync>(
         move |scope| -> Result<Vec<Told>, AllocError>
             requires parts { N.parts ≡ 65 }
             requires paired { vec_len fresh ≡ length part.sorting.now.opened }
-            ensures { IfOk result (λ told. TellsGroups N.terms (labels_of part.entry.labels.now) part.entry.sorting.now told.items) }
+            ensures { IfOk result (λ told. TellsGroups N.terms
+                (labels_of part.entry.labels.now) part.entry.sorting.now told.items) }
         {
             let spoken = speak_all(rt, scope, live, part, receivers, fresh)?;
             // In the scope, since the workers wait for it.
@@ -83,8 +86,8 @@ struct AllSpoken<'s, 'l, N: Naming> {
 
 /// Says the lines of each session in a thread of its own, while workers check, one for each receiver.
 ///
-/// Where a thread can't be started, what runs ends all the same: the seats that are left drop their senders here, and the results
-/// of the others are taken, since one that isn't taken keeps its sender.
+/// Where a thread can't be started, what runs ends all the same: the seats that are left drop their senders here, and
+/// the results of the others are taken, since one that isn't taken keeps its sender.
 fn speak_all<'s, 'l: 's, E, N: Naming + Send + Sync + 's, R: Threads + Wait + Sync>(
     rt: &'s R,
     scope: &Scope<'s, E>,

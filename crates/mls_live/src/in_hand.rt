@@ -6,7 +6,8 @@ const MOST_NOTED: usize = 64;
 
 /// The sessions of which a worker checks a piece.
 ///
-/// It keeps workers from checking one piece twice. No clause rests on it: where it is full, or wrong, a finding is stale.
+/// It keeps workers from checking one piece twice. No clause rests on it: where it is full, or wrong, a finding is
+/// stale.
 #[derive(Drop)]
 pub struct InHand {
     /// The numbers of the sessions' ids, and 0 where there is none.

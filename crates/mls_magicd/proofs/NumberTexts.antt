@@ -1,9 +1,10 @@
 -- A number after an option that the parser lets through lies in the option's range.
-use Rattle.std.proofs.Common.{◌≡◌, ◌∙◌, ◌<◌, ℕ, zero, suc, ◌⊎◌, true, false, List, [], ◌∷◌, length, map, get_or, Option, Some, None, inl, inr, refl, sym, ap, subst, arith, codes}
+use Rattle.std.proofs.Common.{◌≡◌, ◌∙◌, ◌<◌, ◌==◌, ◌&&◌, ◌||◌, not, Bool, ℕ, zero, suc, ◌⊎◌, true, false, List, [], ◌∷◌, length, map, get_or, Option, Some, None, inl, inr, refl, sym, ap, subst, arith, codes}
 use Rattle.std.specs.Borrow.{Bor}
 use Rattle.std.specs.List.{All, slice_index_or}
 use Rattle.std.specs.Prelude.{option_map, slice_get, pos}
 use Rattle.std.specs.Str.{bytes_eq}
+use Rattle.std.proofs.lemmas.Bool.{cases_eq, eqb-true, eqb-false}
 use Rattle.std.proofs.lemmas.List.{get_or-map, length-map}
 use Rattle.std.proofs.lemmas.List.Elements.{All-get_or}
 use Rattle.std.proofs.lemmas.Slice.Eq.{bytes_eq-Decides}
@@ -36,83 +37,56 @@ pub record StandsAt (option : NumberOption) (place : ℕ) : Type 0 where
   pub named : option.name ≡ [] → ⊥
   pub own : (option.name ≡ codes "help") ⊎ (option.name ≡ codes "version") → ⊥
 
--- no name begins like `help` or like `version`
-not_added : (name : Text) (first : ℕ) → get_or name 0 0 ≡ first → (first ≡ 104 → ⊥) → (first ≡ 118 → ⊥)
-    → (name ≡ codes "help") ⊎ (name ≡ codes "version") → ⊥
-not_added name first is no_h no_v (inl help) = no_h (sym is ∙ ap (λ (t : Text). get_or t 0 0) help)
-not_added name first is no_h no_v (inr version) = no_v (sym is ∙ ap (λ (t : Text). get_or t 0 0) version)
+both : (a b : Bool) → (a && b) ≡ true → (a ≡ true) × (b ≡ true)
+both true b holds = (refl, holds)
+both false b holds = let bad : false ≡ true = holds in cc
 
-quota-alone : (j : ℕ) → j < 6 → bytes_eq (get_or own_rules j tech_rule).id (codes "quota") ≡ true → j ≡ 1
-quota-alone zero low same = let bad : false ≡ true = same in cc
-quota-alone (suc zero) low same = refl
-quota-alone (suc (suc zero)) low same = let bad : false ≡ true = same in cc
-quota-alone (suc (suc (suc zero))) low same = let bad : false ≡ true = same in cc
-quota-alone (suc (suc (suc (suc zero)))) low same = let bad : false ≡ true = same in cc
-quota-alone (suc (suc (suc (suc (suc zero))))) low same = let bad : false ≡ true = same in cc
-quota-alone (suc (suc (suc (suc (suc (suc j)))))) low same = absurd (omega (arith, low))
+implied : (a b : Bool) → (not a || b) ≡ true → a ≡ true → b ≡ true
+implied true b holds is = holds
+implied false b holds is = let bad : false ≡ true = is in cc
 
-pool-alone : (j : ℕ) → j < 6 → bytes_eq (get_or own_rules j tech_rule).id (codes "pool") ≡ true → j ≡ 2
-pool-alone zero low same = let bad : false ≡ true = same in cc
-pool-alone (suc zero) low same = let bad : false ≡ true = same in cc
-pool-alone (suc (suc zero)) low same = refl
-pool-alone (suc (suc (suc zero))) low same = let bad : false ≡ true = same in cc
-pool-alone (suc (suc (suc (suc zero)))) low same = let bad : false ≡ true = same in cc
-pool-alone (suc (suc (suc (suc (suc zero))))) low same = let bad : false ≡ true = same in cc
-pool-alone (suc (suc (suc (suc (suc (suc j)))))) low same = absurd (omega (arith, low))
+-- below this number the test holds at one place only, if anywhere
+abbrev holds_only : ℕ → (ℕ → Bool) → ℕ → Bool
+holds_only place test zero = true
+holds_only place test (suc n) = (not (test n) || (n == place)) && holds_only place test n
 
-journal-alone : (j : ℕ) → j < 6 → bytes_eq (get_or own_rules j tech_rule).id (codes "journal") ≡ true → j ≡ 3
-journal-alone zero low same = let bad : false ≡ true = same in cc
-journal-alone (suc zero) low same = let bad : false ≡ true = same in cc
-journal-alone (suc (suc zero)) low same = let bad : false ≡ true = same in cc
-journal-alone (suc (suc (suc zero))) low same = refl
-journal-alone (suc (suc (suc (suc zero)))) low same = let bad : false ≡ true = same in cc
-journal-alone (suc (suc (suc (suc (suc zero))))) low same = let bad : false ≡ true = same in cc
-journal-alone (suc (suc (suc (suc (suc (suc j)))))) low same = absurd (omega (arith, low))
+holds_only-at : (place : ℕ) (test : ℕ → Bool) (n : ℕ) → holds_only place test n ≡ true → (j : ℕ) → j < n → test j ≡ true → j ≡ place
+holds_only-at place test zero only j low holds = absurd (omega (arith, low))
+holds_only-at place test (suc n) only j low holds =
+    let (here, below) = both (not (test n) || (n == place)) (holds_only place test n) only in
+    elim (cases_eq j n) [
+      | inl same ↦ same ∙ eqb-true n place (implied (test n) (n == place) here (subst (λ (k : ℕ). test k ≡ true) same holds))
+      | inr differs ↦ holds_only-at place test n below j (omega (arith, low, differs)) holds
+    ]
 
-workers-alone : (j : ℕ) → j < 6 → bytes_eq (get_or own_rules j tech_rule).id (codes "workers") ≡ true → j ≡ 4
-workers-alone zero low same = let bad : false ≡ true = same in cc
-workers-alone (suc zero) low same = let bad : false ≡ true = same in cc
-workers-alone (suc (suc zero)) low same = let bad : false ≡ true = same in cc
-workers-alone (suc (suc (suc zero))) low same = let bad : false ≡ true = same in cc
-workers-alone (suc (suc (suc (suc zero)))) low same = refl
-workers-alone (suc (suc (suc (suc (suc zero))))) low same = let bad : false ≡ true = same in cc
-workers-alone (suc (suc (suc (suc (suc (suc j)))))) low same = absurd (omega (arith, low))
+-- texts with different first bytes differ
+first_byte : (name other : Text) → (get_or name 0 0 == get_or other 0 0) ≡ false → name ≡ other → ⊥
+first_byte name other differs same = eqb-false (get_or name 0 0) (get_or other 0 0) differs (ap (λ (t : Text). get_or t 0 0) same)
+
+-- an option's rule stands at a place where that is seen from the list of rules
+stands_at : (option : NumberOption) (place : ℕ) → place < 6 → get_or own_rules place tech_rule ≡ number_rule option
+    → holds_only place (λ j. bytes_eq (get_or own_rules j tech_rule).id option.name) 6 ≡ true
+    → (get_or option.name 0 0 == 0) ≡ false → (get_or option.name 0 0 == 104) ≡ false → (get_or option.name 0 0 == 118) ≡ false
+    → StandsAt option place
+stands_at option place within rule only some no_h no_v = record {
+  within = within;
+  rule = rule;
+  alone = holds_only-at place (λ j. bytes_eq (get_or own_rules j tech_rule).id option.name) 6 only;
+  named = first_byte option.name [] some;
+  own = λ is. elim is [ inl help ↦ first_byte option.name (codes "help") no_h help | inr version ↦ first_byte option.name (codes "version") no_v version ];
+}
 
 pub quota_stands : StandsAt quota_option 1
-quota_stands = record {
-  within = omega arith;
-  rule = refl;
-  alone = quota-alone;
-  named = λ empty. let bad : 5 ≡ 0 = ap length empty in absurd (omega (arith, bad));
-  own = not_added (codes "quota") 113 refl (λ e. absurd (omega (arith, e))) (λ e. absurd (omega (arith, e)));
-}
+quota_stands = stands_at quota_option 1 (omega arith) refl refl refl refl refl
 
 pub pool_stands : StandsAt pool_option 2
-pool_stands = record {
-  within = omega arith;
-  rule = refl;
-  alone = pool-alone;
-  named = λ empty. let bad : 4 ≡ 0 = ap length empty in absurd (omega (arith, bad));
-  own = not_added (codes "pool") 112 refl (λ e. absurd (omega (arith, e))) (λ e. absurd (omega (arith, e)));
-}
+pool_stands = stands_at pool_option 2 (omega arith) refl refl refl refl refl
 
 pub journal_stands : StandsAt journal_option 3
-journal_stands = record {
-  within = omega arith;
-  rule = refl;
-  alone = journal-alone;
-  named = λ empty. let bad : 7 ≡ 0 = ap length empty in absurd (omega (arith, bad));
-  own = not_added (codes "journal") 106 refl (λ e. absurd (omega (arith, e))) (λ e. absurd (omega (arith, e)));
-}
+journal_stands = stands_at journal_option 3 (omega arith) refl refl refl refl refl
 
 pub workers_stands : StandsAt workers_option 4
-workers_stands = record {
-  within = omega arith;
-  rule = refl;
-  alone = workers-alone;
-  named = λ empty. let bad : 7 ≡ 0 = ap length empty in absurd (omega (arith, bad));
-  own = not_added (codes "workers") 119 refl (λ e. absurd (omega (arith, e))) (λ e. absurd (omega (arith, e)));
-}
+workers_stands = stands_at workers_option 4 (omega arith) refl refl refl refl refl
 
 built-rules : (command : Command) → app_of command ≡ magicd → map rule_of (args_of command) ≡ own_rules
 unfolding magicd

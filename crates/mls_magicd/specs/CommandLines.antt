@@ -7,7 +7,7 @@ use Rattle.clap.specs.declared.builder.value_parser.ValueParser.TheVariants.{Sig
 use Rattle.clap.specs.declared.parser.matches.Found.{Found}
 use Rattle.mls_session.specs.JournalLimits.{most_entries, default_journal_limit}
 use Rattle.mls_session.specs.Quotas.{least_quota, most_quota, default_quota}
-use Rattle.mls_magicd.specs.Capacities.{most_tiles, default_capacity}
+use Rattle.mls_server.specs.Capacities.{most_tiles, default_capacity}
 use Rattle.mls_magicd.specs.WorkerCounts.{most_workers, default_workers}
 use Rattle.mls_magicd.specs.declared.cell_argument.CellArgument.{CellArgument}
 use Rattle.mls_magicd.specs.declared.options.Options.{Options}

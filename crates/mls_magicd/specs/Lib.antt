@@ -1,4 +1,3 @@
-pub mod Capacities
 pub mod Cells
 pub mod CommandLines
 pub mod FileReads

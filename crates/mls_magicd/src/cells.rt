@@ -32,8 +32,10 @@ pub fn load_cells<'a, F: Files>(
     cells: &[CellArgument<'a>],
 ) -> Result<(), LoadFault<'a>>
     requires idle { (world_of server.old).seats ≡ [] }
-    ensures loads { OnOk result (LoadsCells (F.reads_as files.now) (world_of server.old) (map file_of cells.now) (world_of server.new)) }
-    ensures stops { IfErr result (StopsAtCell (F.reads_as files.now) (F.may_fail files.now) (world_of server.old) (map file_of cells.now)) }
+    ensures loads { OnOk result (LoadsCells (F.reads_as files.now) (world_of server.old) (map file_of cells.now)
+        (world_of server.new)) }
+    ensures stops { IfErr result (StopsAtCell (F.reads_as files.now) (F.may_fail files.now) (world_of server.old)
+        (map file_of cells.now)) }
     ensures idle { (world_of server.new).seats ≡ [] }
 {
     for cell in cells {
@@ -50,7 +52,8 @@ fn load_cell<'a, F: Files>(
     cell: CellArgument<'a>,
 ) -> Result<(), LoadFault<'a>>
     requires idle { (world_of server.old).seats ≡ [] }
-    ensures loads { LoadsUnlessFault (F.reads_as files.now) (F.may_fail files.now) (world_of server.old) (file_of cell.entry) result (world_of server.new) }
+    ensures loads { LoadsUnlessFault (F.reads_as files.now) (F.may_fail files.now) (world_of server.old)
+        (file_of cell.entry) result (world_of server.new) }
     ensures idle { (world_of server.new).seats ≡ [] }
 {
     let CellArgument { name, path } = cell;

@@ -2,7 +2,6 @@
 //! streams.
 #![tactic(auto)]
 
-mod capacity;
 mod cell_argument;
 mod cells;
 mod fault;

@@ -228,9 +228,11 @@ fn joined(parts: &[&[u8]]) -> Option<ArrayVec<u8, MESSAGE_ROOM>>
 /// Writes the parts one after another.
 fn write_parts<E: Write>(faults: &mut Watched<E>, parts: &[&[u8]]) -> Result<(), WriteFault>
     ensures ok { OnOk result
-        (Appends (E.contents faults.old.device) (E.contents faults.new.device) (flat_map (λ part. part.now) parts.now)) }
+        (Appends (E.contents faults.old.device) (E.contents faults.new.device)
+        (flat_map (λ part. part.now) parts.now)) }
     ensures err { OnErr result
-        (AppendsFront (E.contents faults.old.device) (E.contents faults.new.device) (flat_map (λ part. part.now) parts.now)) }
+        (AppendsFront (E.contents faults.old.device) (E.contents faults.new.device)
+        (flat_map (λ part. part.now) parts.now)) }
     ensures cause { OnErr result (HasCause faults.new) }
 {
     for part in parts {

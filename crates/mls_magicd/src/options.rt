@@ -6,11 +6,11 @@ ghost use Rattle.clap.specs.Words.{app_of, found_of, kind_of, rule_of, IsPlain, 
 ghost use Rattle.clap.specs.declared.error.kind.ErrorKind.TheVariants.{OutOfMemory};
 ghost use Rattle.mls_magicd.specs.CommandLines.{NumberOption, magicd, tech_rule, number_rule, cells_rule, file_of, words_found, IsBadWord, IsParserFault, NamesFiles, ParsesWords};
 
-use crate::capacity::Capacity;
 use crate::cell_argument::CellArgument;
 use crate::workers::Workers;
 use clap::error::ErrorKind;
 use clap::{Arg, ArgAction, ArgMatches, Command, Error as ParseError, value_parser};
+use mls_server::Capacity;
 use mls_session::{JournalLimit, Quota};
 use std::alloc::{AllocError, AllocFailed, Global};
 use std::convert::AsStr;
@@ -113,19 +113,19 @@ fn command<'a>(alloc: Global) -> Result<Command<'a>, AllocError>
         .arg(number_option(
             alloc,
             "quota",
-            5..=16_384,
+            Quota::LEAST..=Quota::MOST,
             "Gives each plane N tiles, from 5 to 16384 [default: 1024]",
         ))?
         .arg(number_option(
             alloc,
             "pool",
-            1..=8_388_608,
+            Capacity::LEAST..=Capacity::MOST,
             "Gives all planes together N tiles, from 1 to 8388608 [default: 262144]",
         ))?
         .arg(number_option(
             alloc,
             "journal",
-            1..=65_536,
+            JournalLimit::LEAST..=JournalLimit::MOST,
             "Gives each journal N entries, from 1 to 65536 [default: 4096]",
         ))?
         .arg(number_option(
@@ -155,7 +155,8 @@ fn number_option<'a>(
     range: RangeInclusive<u32>,
     help: &'a str,
 ) -> Arg<'a>
-    ensures rule { (option : NumberOption) → name.entry.now ≡ option.name → range_inclusive_start range ≡ option.least → range_inclusive_end range ≡ option.most
+    ensures rule { (option : NumberOption) → name.entry.now ≡ option.name → range_inclusive_start range ≡ option.least
+        → range_inclusive_end range ≡ option.most
         → rule_of result ≡ number_rule option }
     ensures plain { IsPlainArg result }
     ensures local { result.global ≡ false }

@@ -28,8 +28,8 @@ use std::thread::Threads;
 /// The exit status after a whole script.
 const DONE: u8 = 0;
 
-/// Runs the program and returns its exit status: it serves the script of the input. `words` are those of the command line,
-/// of which the first is the program's name.
+/// Runs the program and returns its exit status: it serves the script of the input. `words` are those of the command
+/// line, of which the first is the program's name.
 pub fn run<T: Threads + Wait + Sync, S: AsStr, F: Files, R: Read, W: Write, E: Write>(
     rt: &T,
     alloc: Global,
@@ -43,39 +43,47 @@ pub fn run<T: Threads + Wait + Sync, S: AsStr, F: Files, R: Read, W: Write, E: W
     ensures status { result ≤ spec.bad_command_line }
 
     // The words have a fault, it was reported, and no line of the script was read.
-    ensures refused { result ≡ spec.bad_command_line → spec.RefusesWords (map S.text words.now) E.contents streams.old.faults streams.new.faults
+    ensures refused { result ≡ spec.bad_command_line
+        → spec.RefusesWords (map S.text words.now) E.contents streams.old.faults streams.new.faults
         × (streams.new.input ≡ streams.old.input) × (streams.new.output ≡ streams.old.output) }
 
-    // Without workers, the output is the reply text of the script's run over the technology, the cells and the limits that the words
-    // name, and the skipped lines of the technology were reported.
+    // Without workers, the output is the reply text of the script's run over the technology, the cells and the limits
+    // that the words name, and the skipped lines of the technology were reported.
     ensures served { IsNumberFor workers_option (map S.text words.now) 0 → result ≡ spec.done
         → (on : World) × spec.IsConfiguredBy (F.reads_as files.now) (map S.text words.now) on
-        × spec.ServesScript on (R.remaining streams.old.input.device) (W.contents streams.old.output.device) (W.contents streams.new.output.device)
+        × spec.ServesScript on (R.remaining streams.old.input.device) (W.contents streams.old.output.device)
+        (W.contents streams.new.output.device)
         × ReportsAll E.contents streams.old.faults streams.new.faults (spec.skipped_lines on.setting.tech) }
 
     // Either the start failed, for a reason that was reported, and no line of the script was read; or the script
     // was left before its end, for a reason that was reported, and the output is that of a run that was cut.
     ensures failed { IsNumberFor workers_option (map S.text words.now) 0 → result ≡ spec.failed →
-        (spec.EndsAtStart (F.reads_as files.now) (F.may_fail files.now) (map S.text words.now) E.contents streams.old.faults streams.new.faults
+        (spec.EndsAtStart (F.reads_as files.now) (F.may_fail files.now)
+        (map S.text words.now) E.contents streams.old.faults streams.new.faults
         × (streams.new.input ≡ streams.old.input) × (streams.new.output ≡ streams.old.output))
         ⊎ ((on : World) × spec.IsConfiguredBy (F.reads_as files.now) (map S.text words.now) on
         × spec.EndsInScript on (R.remaining streams.old.input.device) (R.remaining streams.new.input.device)
         (W.contents streams.old.output.device) (W.contents streams.new.output.device)
         streams.new.input streams.new.output E.contents streams.old.faults streams.new.faults) }
 
-    // With workers, the output is what the lines of each session give at its seat over that technology, those cells and limits, and the
-    // whole of it was audited.
-    ensures served_by_crew { (workers : ℕ) → IsNumberFor workers_option (map S.text words.now) workers → workers ≢ 0 → result ≡ spec.done
+    // With workers, the output is what the lines of each session give at its seat over that technology, those cells
+    // and limits, and the whole of it was audited.
+    ensures served_by_crew { (workers : ℕ) → IsNumberFor workers_option (map S.text words.now) workers → workers ≢ 0
+        → result ≡ spec.done
         → (on : World) × spec.IsConfiguredBy (F.reads_as files.now) (map S.text words.now) on
-        × WritesCrew on (R.remaining streams.old.input.device) (W.contents streams.old.output.device) (W.contents streams.new.output.device) true
+        × WritesCrew on (R.remaining streams.old.input.device) (W.contents streams.old.output.device)
+        (W.contents streams.new.output.device) true
         × ReportsAll E.contents streams.old.faults streams.new.faults (spec.skipped_lines on.setting.tech) }
 
     // Either the start failed, as above; or the script failed, for a reason that was reported.
-    ensures failed_by_crew { (workers : ℕ) → IsNumberFor workers_option (map S.text words.now) workers → workers ≢ 0 → result ≡ spec.failed →
-        (spec.EndsAtStart (F.reads_as files.now) (F.may_fail files.now) (map S.text words.now) E.contents streams.old.faults streams.new.faults
+    ensures failed_by_crew { (workers : ℕ) → IsNumberFor workers_option (map S.text words.now) workers → workers ≢ 0
+        → result ≡ spec.failed →
+        (spec.EndsAtStart (F.reads_as files.now) (F.may_fail files.now)
+        (map S.text words.now) E.contents streams.old.faults streams.new.faults
         × (streams.new.input ≡ streams.old.input) × (streams.new.output ≡ streams.old.output))
         ⊎ ((on : World) × spec.IsConfiguredBy (F.reads_as files.now) (map S.text words.now) on
-        × spec.EndsInCrew on (R.remaining streams.old.input.device) streams.new.input W.contents streams.old.output streams.new.output
+        × spec.EndsInCrew on (R.remaining streams.old.input.device) streams.new.input W.contents streams.old.output
+        streams.new.output
         E.contents streams.old.faults streams.new.faults) }
 {
     let options = match Options::parse(alloc, words) {
@@ -109,10 +117,12 @@ fn run_script<F: Files, R: Read, W: Write, E: Write>(
     ensures status { result ≤ spec.failed }
     ensures served { (words : List (List ℕ)) → ParsesAs words options.now → result ≡ spec.done
         → (on : World) × spec.IsConfiguredBy (F.reads_as files.now) words on
-        × spec.ServesScript on (R.remaining streams.old.input.device) (W.contents streams.old.output.device) (W.contents streams.new.output.device)
+        × spec.ServesScript on (R.remaining streams.old.input.device) (W.contents streams.old.output.device)
+        (W.contents streams.new.output.device)
         × ReportsAll E.contents streams.old.faults streams.new.faults (spec.skipped_lines on.setting.tech) }
     ensures failed { (words : List (List ℕ)) → ParsesAs words options.now → result ≡ spec.failed →
-        (spec.EndsAtStart (F.reads_as files.now) (F.may_fail files.now) words E.contents streams.old.faults streams.new.faults
+        (spec.EndsAtStart (F.reads_as files.now) (F.may_fail files.now) words E.contents streams.old.faults
+        streams.new.faults
         × (streams.new.input ≡ streams.old.input) × (streams.new.output ≡ streams.old.output))
         ⊎ ((on : World) × spec.IsConfiguredBy (F.reads_as files.now) words on
         × spec.EndsInScript on (R.remaining streams.old.input.device) (R.remaining streams.new.input.device)
@@ -134,11 +144,14 @@ fn serve_script<'a, F: Files, R: Read, W: Write, E: Write>(
 ) -> Result<(), Fault<'a>>
     requires input_sound { streams.old.input.failed ≡ false }
     requires output_sound { streams.old.output.failed ≡ false }
-    ensures ok { OnOk result ((words : List (List ℕ)) → ParsesAs words options.now → (on : World) × spec.IsConfiguredBy (F.reads_as files.now) words on
-        × spec.ServesScript on (R.remaining streams.old.input.device) (W.contents streams.old.output.device) (W.contents streams.new.output.device)
+    ensures ok { OnOk result ((words : List (List ℕ)) → ParsesAs words options.now → (on : World)
+        × spec.IsConfiguredBy (F.reads_as files.now) words on
+        × spec.ServesScript on (R.remaining streams.old.input.device) (W.contents streams.old.output.device)
+        (W.contents streams.new.output.device)
         × ReportsAll E.contents streams.old.faults streams.new.faults (spec.skipped_lines on.setting.tech)) }
     ensures err { IfErr result (λ fault. (words : List (List ℕ)) → ParsesAs words options.now →
-        (spec.FailsAtStart (F.reads_as files.now) (F.may_fail files.now) words E.contents streams.old.faults streams.new.faults fault
+        (spec.FailsAtStart (F.reads_as files.now) (F.may_fail files.now) words E.contents streams.old.faults
+        streams.new.faults fault
         × (streams.new.input ≡ streams.old.input) × (streams.new.output ≡ streams.old.output))
         ⊎ ((on : World) × (cause : ServeFault) × (fault ≡ Fault.Serve cause)
         × spec.IsConfiguredBy (F.reads_as files.now) words on
@@ -166,13 +179,16 @@ fn run_crew<T: Threads + Wait + Sync, F: Files, R: Read, W: Write, E: Write>(
     ensures status { result ≤ spec.failed }
     ensures served { (words : List (List ℕ)) → ParsesAs words options.now → result ≡ spec.done
         → (on : World) × spec.IsConfiguredBy (F.reads_as files.now) words on
-        × WritesCrew on (R.remaining streams.old.input.device) (W.contents streams.old.output.device) (W.contents streams.new.output.device) true
+        × WritesCrew on (R.remaining streams.old.input.device) (W.contents streams.old.output.device)
+        (W.contents streams.new.output.device) true
         × ReportsAll E.contents streams.old.faults streams.new.faults (spec.skipped_lines on.setting.tech) }
     ensures failed { (words : List (List ℕ)) → ParsesAs words options.now → result ≡ spec.failed →
-        (spec.EndsAtStart (F.reads_as files.now) (F.may_fail files.now) words E.contents streams.old.faults streams.new.faults
+        (spec.EndsAtStart (F.reads_as files.now) (F.may_fail files.now) words E.contents streams.old.faults
+        streams.new.faults
         × (streams.new.input ≡ streams.old.input) × (streams.new.output ≡ streams.old.output))
         ⊎ ((on : World) × spec.IsConfiguredBy (F.reads_as files.now) words on
-        × spec.EndsInCrew on (R.remaining streams.old.input.device) streams.new.input W.contents streams.old.output streams.new.output
+        × spec.EndsInCrew on (R.remaining streams.old.input.device) streams.new.input W.contents streams.old.output
+        streams.new.output
         E.contents streams.old.faults streams.new.faults) }
 {
     match serve_crew(rt, alloc, files, options, streams) {
@@ -191,14 +207,18 @@ fn serve_crew<'a, T: Threads + Wait + Sync, F: Files, R: Read, W: Write, E: Writ
 ) -> Result<(), Fault<'a>>
     requires input_sound { streams.old.input.failed ≡ false }
     requires output_sound { streams.old.output.failed ≡ false }
-    ensures ok { OnOk result ((words : List (List ℕ)) → ParsesAs words options.now → (on : World) × spec.IsConfiguredBy (F.reads_as files.now) words on
-        × WritesCrew on (R.remaining streams.old.input.device) (W.contents streams.old.output.device) (W.contents streams.new.output.device) true
+    ensures ok { OnOk result ((words : List (List ℕ)) → ParsesAs words options.now → (on : World)
+        × spec.IsConfiguredBy (F.reads_as files.now) words on
+        × WritesCrew on (R.remaining streams.old.input.device) (W.contents streams.old.output.device)
+        (W.contents streams.new.output.device) true
         × ReportsAll E.contents streams.old.faults streams.new.faults (spec.skipped_lines on.setting.tech)) }
     ensures err { IfErr result (λ fault. (words : List (List ℕ)) → ParsesAs words options.now →
-        (spec.FailsAtStart (F.reads_as files.now) (F.may_fail files.now) words E.contents streams.old.faults streams.new.faults fault
+        (spec.FailsAtStart (F.reads_as files.now) (F.may_fail files.now) words E.contents streams.old.faults
+        streams.new.faults fault
         × (streams.new.input ≡ streams.old.input) × (streams.new.output ≡ streams.old.output))
         ⊎ ((on : World) × spec.IsConfiguredBy (F.reads_as files.now) words on
-        × spec.FailsInCrew on (R.remaining streams.old.input.device) streams.new.input W.contents streams.old.output streams.new.output fault
+        × spec.FailsInCrew on (R.remaining streams.old.input.device) streams.new.input W.contents streams.old.output
+        streams.new.output fault
         × ReportsAll E.contents streams.old.faults streams.new.faults (spec.skipped_lines on.setting.tech))) }
     ensures status { IfErr result (λ fault. spec.status_after fault ≡ spec.failed) }
 {
@@ -210,7 +230,8 @@ fn serve_crew<'a, T: Threads + Wait + Sync, F: Files, R: Read, W: Write, E: Writ
     Ok(())
 }
 
-/// Does what comes before a script with workers: makes the server, loads the cells, and reads the technology for the crew.
+/// Does what comes before a script with workers: makes the server, loads the cells, and reads the technology for the
+/// crew.
 fn start_crew<'a, F: Files, E: Write>(
     alloc: Global,
     files: &F,
@@ -223,7 +244,8 @@ fn start_crew<'a, F: Files, E: Write>(
     ensures idle { IfOk result (λ crew. (world_of crew.server).seats ≡ []) }
     ensures tech { IfOk result (λ crew. crew.tech ≡ (world_of crew.server).setting.tech) }
     ensures err { IfErr result (λ fault. (words : List (List ℕ)) → ParsesAs words options.now
-        → spec.FailsAtStart (F.reads_as files.now) (F.may_fail files.now) words E.contents faults.old faults.new fault) }
+        → spec.FailsAtStart (F.reads_as files.now)
+        (F.may_fail files.now) words E.contents faults.old faults.new fault) }
     ensures status { IfErr result (λ fault. spec.status_after fault ≡ spec.failed) }
 {
     let (server, text) = start(alloc, files, options, faults)?;
@@ -251,7 +273,8 @@ fn start<'a, F: Files, E: Write>(
     ensures idle { IfOk result (λ r. (world_of r.0).seats ≡ []) }
     ensures text { IfOk result (λ r. reading_of (text_in r.1) ≡ Ok (world_of r.0).setting.tech) }
     ensures err { IfErr result (λ fault. (words : List (List ℕ)) → ParsesAs words options.now
-        → spec.FailsAtStart (F.reads_as files.now) (F.may_fail files.now) words E.contents faults.old faults.new fault) }
+        → spec.FailsAtStart (F.reads_as files.now)
+        (F.may_fail files.now) words E.contents faults.old faults.new fault) }
     ensures status { IfErr result (λ fault. spec.status_after fault ≡ spec.failed) }
 {
     let (mut server, text) = bare_server(alloc, files, options, faults)?;
@@ -259,8 +282,8 @@ fn start<'a, F: Files, E: Write>(
     Ok((server, text))
 }
 
-/// Reads the technology, reports its skipped lines, compiles its rules, and makes the server, which reserves its memory.
-/// Returns the text of the technology too.
+/// Reads the technology, reports its skipped lines, compiles its rules, and makes the server, which reserves its
+/// memory. Returns the text of the technology too.
 fn bare_server<'a, F: Files, E: Write>(
     alloc: Global,
     files: &F,
@@ -271,16 +294,24 @@ fn bare_server<'a, F: Files, E: Write>(
         → spec.IsBareFor (F.reads_as files.now) words (world_of r.0)) }
     ensures idle { IfOk result (λ r. (world_of r.0).seats ≡ []) }
     ensures text { IfOk result (λ r. reading_of (text_in r.1) ≡ Ok (world_of r.0).setting.tech) }
-    ensures reported { IfOk result (λ r. ReportsAll E.contents faults.old faults.new (spec.skipped_lines (world_of r.0).setting.tech)) }
+    ensures reported { IfOk result (λ r. ReportsAll E.contents faults.old faults.new
+        (spec.skipped_lines (world_of r.0).setting.tech)) }
     ensures err { IfErr result (λ fault. (words : List (List ℕ)) → ParsesAs words options.now
-        → spec.FailsAtStart (F.reads_as files.now) (F.may_fail files.now) words E.contents faults.old faults.new fault) }
+        → spec.FailsAtStart (F.reads_as files.now)
+        (F.may_fail files.now) words E.contents faults.old faults.new fault) }
     ensures status { IfErr result (λ fault. spec.status_after fault ≡ spec.failed) }
 {
     let text = TechnologyText::open(alloc, files, options.tech)?;
     let tech = text.read(alloc)?;
     report_skipped(faults, tech.skipped());
     let rules = compile(&tech)?;
-    let capacity = options.pool.tiles();
-    let server = Server::new(alloc, tech, rules, capacity, options.quota, options.journal)?;
+    let server = Server::new(
+        alloc,
+        tech,
+        rules,
+        options.pool,
+        options.quota,
+        options.journal,
+    )?;
     Ok((server, text))
 }

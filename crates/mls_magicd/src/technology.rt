@@ -37,7 +37,8 @@ impl TechnologyText {
         files: &F,
         path: Option<&'a str>,
     ) -> Result<TechnologyText, TechnologyFault<'a>>
-        ensures { OpensTechnology (F.reads_as files.now) (F.may_fail files.now) (option_map (λ text. text.now) path.entry) result }
+        ensures { OpensTechnology (F.reads_as files.now) (F.may_fail files.now)
+            (option_map (λ text. text.now) path.entry) result }
     {
         let Some(path) = path else {
             return Ok(TechnologyText::BuiltIn);

@@ -3,7 +3,6 @@ pub mod Chunks
 pub mod NextLineLemmas
 pub mod OpenLines
 pub mod Results
-pub mod RuleSets
 pub mod RunLemmas
 pub mod ScriptTexts
 pub mod ServingLemmas

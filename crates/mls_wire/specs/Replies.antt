@@ -1,8 +1,8 @@
 -- The text of a line's response. Each reply ends with a line feed. This project's own.
-use Rattle.std.specs.Prelude.{ℕ, ◌-◌, ◌==◌, List, [], ◌∷◌, ◌++◌, Ok, Err, length, codes}
-use Rattle.std.specs.Int.{bit_at}
-use Rattle.std.specs.List.{filter, flat_map, range_with_len}
+use Rattle.std.specs.Prelude.{ℕ, ◌==◌, List, [], ◌∷◌, ◌++◌, Ok, Err, length, codes}
+use Rattle.std.specs.List.{flat_map}
 use Rattle.std.specs.Option.{unwrap_or}
+use Rattle.mls_edgerule.specs.RuleSets.{rules_in}
 use Rattle.mls_errorplane.specs.declared.error_plane.Stepped.{Stepped as StepEnd}
 use Rattle.mls_errorplane.specs.declared.error_plane.Stepped.TheVariants.{Idle, Done as StepDone, Full, Memory as StepMemory}
 use Rattle.mls_kinds.specs.KindSets.{difference, members, set_of}
@@ -29,10 +29,6 @@ without_space kinds = difference kinds (set_of (λ kind. kind == 0))
 -- a space and the type's first name
 abbrev pub type_text : Names → ℕ → List ℕ
 type_text book kind = 32 ∷ unwrap_or (book.type_name kind) []
-
--- the rules of a set, which has rule n where its bit n - 1 is 1, in rising order
-unfoldable pub rules_in : ℕ → List ℕ
-rules_in set = filter (λ n. bit_at set (n - 1) == 1) (range_with_len 1 128)
 
 -- a space, the rule's number in brackets, and its why text
 abbrev pub rule_text : Names → ℕ → List ℕ

@@ -46,7 +46,8 @@ impl<N: Names> Names for Ahead<'_, N> {
 
 /// Reads a script to its end, and returns what each of its lines says before any session is open.
 ///
-/// `%close` and `%step` are no commands of such a script. A line's session has the id 0, whether it is opened later or not.
+/// `%close` and `%step` are no commands of such a script. A line's session has the id 0, whether it is opened later
+/// or not.
 ///
 /// # Errors
 ///

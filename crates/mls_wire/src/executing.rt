@@ -16,7 +16,8 @@ use std::alloc::Global;
 
 /// Executes a line, and returns the response to it.
 pub fn respond(alloc: Global, server: &mut Server, line: ScriptLine<'_>) -> Response
-    ensures executes { Executes (world_of server.old) (line_says (book_of (world_of server.old)) (text_of line.entry)) result (world_of server.new) }
+    ensures executes { Executes (world_of server.old)
+        (line_says (book_of (world_of server.old)) (text_of line.entry)) result (world_of server.new) }
     ensures setting { (world_of server.new).setting ≡ (world_of server.old).setting }
 {
     match parse_line(server, line) {

@@ -1,4 +1,4 @@
-//! What lines of a script say.
+//! The meaning of a line of a script.
 use mls_server::{Name, SessionId};
 use mls_session::Command;
 use thiserror::Error;

@@ -16,7 +16,8 @@ use std::marker::Model;
 /// The most bytes that a line may have, without its line feed and a carriage return before that.
 const LINE_LIMIT: usize = 1024;
 
-/// The most bytes that are kept of a line: enough to see that it is too long, even where the last of them is a carriage return.
+/// The most bytes that are kept of a line: enough to see that it is too long, even where the last of them is a
+/// carriage return.
 const KEPT: usize = LINE_LIMIT + 2;
 
 /// The most bytes that are read ahead.
@@ -35,7 +36,8 @@ pub enum NextLine {
 
 /// Reads the lines of a script one by one.
 ///
-/// It reads from the device only where no whole line is ahead, and it keeps at most 4096 bytes ahead and 1026 of a line.
+/// It reads from the device only where no whole line is ahead, and it keeps at most 4096 bytes ahead and 1026 of a
+/// line.
 #[derive(Drop)]
 pub struct LineReader {
     bytes: [u8; AHEAD],
@@ -129,7 +131,8 @@ impl LineReader {
         self.len > 0
     }
 
-    /// Moves what was read ahead to the line, up to the first line feed, which is dropped. Returns whether there was one.
+    /// Moves what was read ahead to the line, up to the first line feed, which is dropped. Returns whether there was
+    /// one.
     fn take_to_newline(&mut self) -> bool
         ensures fed { OnTrue result ((chunk : List ℕ) × IsUnbroken chunk
             × (self.old.ahead ≡ chunk ++ 10 ∷ self.new.ahead)
@@ -179,7 +182,8 @@ impl LineReader {
     }
 }
 
-/// Copies a chunk after the first `len` bytes of a line, as far as there is room, and returns the line's length with it.
+/// Copies a chunk after the first `len` bytes of a line, as far as there is room, and returns the line's length with
+/// it.
 fn append_within(line: &mut [u8], len: usize, chunk: &[u8]) -> usize
     requires { len ≤ length line.old }
     ensures within { result ≤ length line.old }

@@ -1,7 +1,7 @@
 //! The text of replies.
-ghost use Rattle.std.specs.Prelude.{◌≡◌, ◌+◌, ◌++◌, ◌∷◌, ◌<◌, ◌==◌, ◌≤◌, ◌-◌, OnOk, [], length, decimal, codes};
-ghost use Rattle.std.specs.Int.{bit_at};
+ghost use Rattle.std.specs.Prelude.{◌≡◌, ◌+◌, ◌++◌, ◌∷◌, ◌<◌, OnOk, [], decimal, codes};
 ghost use Rattle.std.specs.List.{flat_map};
+ghost use Rattle.mls_edgerule.specs.RuleSets.{rules_in};
 ghost use Rattle.mls_kinds.specs.KindSets.{members};
 ghost use Rattle.mls_server.specs.Faults.{open_fault_number, open_fault_text};
 ghost use Rattle.mls_session.specs.Refusals.{refusal_number, refusal_text};
@@ -10,6 +10,7 @@ ghost use Rattle.mls_wire.specs.SeatTexts.{differs_text};
 
 use crate::{Names, Response};
 use itoa::{Buffer, Integer};
+use mls_edgerule::RuleSet;
 use mls_errorplane::Stepped;
 use mls_kinds::KindSet;
 use mls_server::{Answer, Name, NotOpen, OpenFault};
@@ -54,7 +55,8 @@ pub fn push_saved<N: Names>(
     text: &[u8],
     out: &mut Vec<u8>,
 ) -> Result<(), AllocError>
-    ensures { OnOk result (out.new.items ≡ out.old.items ++ spec.answer_text (N.book names.now) name.now (Answer.Saved saved text.now)) }
+    ensures { OnOk result (out.new.items ≡ out.old.items
+        ++ spec.answer_text (N.book names.now) name.now (Answer.Saved saved text.now)) }
 {
     match saved {
         Ok(reply) => push_replied(names, name, reply, text, out),
@@ -125,7 +127,8 @@ fn push_replied<N: Names>(
     text: &[u8],
     out: &mut Vec<u8>,
 ) -> Result<(), AllocError>
-    ensures { OnOk result (out.new.items ≡ out.old.items ++ name.now ++ 32 ∷ spec.reply_text (N.book names.now) reply ++ 10 ∷ text.now) }
+    ensures { OnOk result (out.new.items ≡ out.old.items ++ name.now ++ 32 ∷ spec.reply_text (N.book names.now) reply
+        ++ 10 ∷ text.now) }
 {
     push_words(name, b" ", out)?;
     push_reply(names, reply, out)?;
@@ -175,7 +178,7 @@ fn push_reply<N: Names>(names: &N, reply: Reply, out: &mut Vec<u8>) -> Result<()
         }
         Reply::Why(rules) => {
             out.extend_from_slice(b"why ")?;
-            push_decimal(rule_count(rules), out)?;
+            push_decimal(rules.len() as u64, out)?;
             push_rules(names, rules, out)
         }
         Reply::Refused(refusal) => push_refusal(refusal, out),
@@ -188,7 +191,8 @@ fn push_reply<N: Names>(names: &N, reply: Reply, out: &mut Vec<u8>) -> Result<()
 
 /// Appends the number and the text of a refusal.
 fn push_refusal(refusal: Refusal, out: &mut Vec<u8>) -> Result<(), AllocError>
-    ensures { OnOk result (out.new.items ≡ out.old.items ++ codes "refused " ++ spec.numbered (refusal_number refusal) (refusal_text refusal)) }
+    ensures { OnOk result (out.new.items ≡ out.old.items ++ codes "refused "
+        ++ spec.numbered (refusal_number refusal) (refusal_text refusal)) }
 {
     out.extend_from_slice(b"refused ")?;
     push_numbered(refusal.number(), refusal.text().as_bytes(), out)
@@ -225,7 +229,8 @@ fn without_space(kinds: KindSet) -> KindSet
 
 /// Appends the name of each type after a space, in the order of their numbers.
 fn push_types<N: Names>(names: &N, types: KindSet, out: &mut Vec<u8>) -> Result<(), AllocError>
-    ensures { OnOk result (out.new.items ≡ out.old.items ++ flat_map (spec.type_text (N.book names.now)) (members types)) }
+    ensures { OnOk result (out.new.items ≡ out.old.items
+        ++ flat_map (spec.type_text (N.book names.now)) (members types)) }
 {
     for kind in types.iter() {
         push_type(names, kind, out)?;
@@ -244,35 +249,15 @@ fn push_type<N: Names>(names: &N, kind: u8, out: &mut Vec<u8>) -> Result<(), All
     Ok(())
 }
 
-/// The most rules that a set may have.
-const MOST_RULES: usize = 128;
-
-/// Returns how many rules the set has.
-fn rule_count(rules: u128) -> u32
-    ensures { result ≡ length (spec.rules_in rules) }
-{
-    rules.count_ones()
-}
-
 /// Appends the text of each rule of the set, in rising order.
-fn push_rules<N: Names>(names: &N, rules: u128, out: &mut Vec<u8>) -> Result<(), AllocError>
-    ensures { OnOk result (out.new.items ≡ out.old.items ++ flat_map (spec.rule_text (N.book names.now)) (spec.rules_in rules)) }
+fn push_rules<N: Names>(names: &N, rules: RuleSet, out: &mut Vec<u8>) -> Result<(), AllocError>
+    ensures { OnOk result (out.new.items ≡ out.old.items
+        ++ flat_map (spec.rule_text (N.book names.now)) (rules_in rules)) }
 {
-    for n in 1..=MOST_RULES {
-        if has_rule(rules, n) {
-            push_rule(names, n, out)?;
-        }
+    for n in rules.iter() {
+        push_rule(names, n, out)?;
     }
     Ok(())
-}
-
-/// Returns whether the set has rule `n`.
-fn has_rule(rules: u128, n: usize) -> bool
-    requires first { 1 ≤ n }
-    requires last { n ≤ 128 }
-    ensures { result ≡ (bit_at rules (n - 1) == 1) }
-{
-    (rules >> (n - 1)) & 1 == 1
 }
 
 /// Appends the number of a rule in brackets, and its why text.

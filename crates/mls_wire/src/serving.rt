@@ -73,8 +73,9 @@ impl From<AllocError> for ServeFault {
 
 /// Serves a script: runs its lines one after another, and writes and flushes the reply to each before more is read.
 ///
-/// At a [`ServeFault::Read`] the whole lines that were read have their replies, and a line of which only a beginning was read is lost.
-/// At the other faults the last line was run too, and a beginning of its reply was written, or nothing where memory ran out.
+/// At a [`ServeFault::Read`] the whole lines that were read have their replies, and a line of which only a beginning
+/// was read is lost. At the other faults the last line was run too, and a beginning of its reply was written, or
+/// nothing where memory ran out.
 pub fn serve<R: Read, W: Write>(
     alloc: Global,
     server: &mut Server,
@@ -89,12 +90,14 @@ pub fn serve<R: Read, W: Write>(
         (R.remaining input.old.device) (R.remaining input.new.device)
         (W.contents output.old.device) (W.contents output.new.device) (world_of server.new)) }
     ensures cause { IfErr result (λ fault. HasReason fault input.new output.new) }
+    ensures sound { OnOk result ((input.new.failed ≡ false) × (output.new.failed ≡ false)) }
     ensures marks_right { MarksAreRight (world_of server.new) }
     ensures marks_exact { MarksAreExact (world_of server.new) }
     ensures setting { (world_of server.new).setting ≡ (world_of server.old).setting }
 {
     prove!(!input.failed() && !output.failed());
-    server.is_sound();
+    // For its contract alone: the marks are exact at first, where nothing is read.
+    server.stays_sound();
     let mut reader = LineReader::new();
     let mut text = Vec::new(alloc);
     let mut n: u128 = 1;
@@ -131,11 +134,13 @@ fn serve_line<W: Write>(
     ensures marks_right { MarksAreRight (world_of server.new) }
     ensures marks_exact { MarksAreExact (world_of server.new) }
     ensures setting { (world_of server.new).setting ≡ (world_of server.old).setting }
+    ensures failed { OnOk result (output.new.failed ≡ output.old.failed) }
     ensures kind { IfErr result (λ fault. fault ≢ ServeFault.Read) }
     ensures cause { IfErr result (λ fault. fault ≡ ServeFault.Write → HasCause output.new) }
 {
     let response = respond(alloc, server, line);
-    server.is_sound();
+    // For its contract alone: the marks are exact after the line.
+    server.stays_sound();
     text.clear();
     push_response(server, n, &response, text)?;
     send(text, output)?;
@@ -150,6 +155,7 @@ fn serve_line<W: Write>(
 pub fn send<W: Write>(bytes: &[u8], output: &mut Watched<W>) -> Result<(), WriteFault>
     ensures ok { OnOk result (Appends (W.contents output.old.device) (W.contents output.new.device) bytes.now) }
     ensures err { OnErr result (AppendsFront (W.contents output.old.device) (W.contents output.new.device) bytes.now) }
+    ensures failed { OnOk result (output.new.failed ≡ output.old.failed) }
     ensures cause { OnErr result (HasCause output.new) }
 {
     output.write_whole(bytes)?;

@@ -71,8 +71,8 @@ impl<D> Watched<D> {
 }
 
 impl<R: Read> Watched<R> {
-    /// Reads once into the buffer, and returns the number of bytes read. If the buffer has room, none are read only at the end of the input.
-    /// At an `Err` no byte is lost.
+    /// Reads once into the buffer, and returns the number of bytes read. If the buffer has room, none are read only
+    /// at the end of the input. At an `Err` no byte is lost.
     pub fn read_some(&mut self, buffer: &mut [u8]) -> Result<usize, ReadFault>
         ensures bound { ReadsAtMost result buffer.new }
         ensures bytes { ReadConsumes (R.remaining self.old.device) (R.remaining self.new.device)

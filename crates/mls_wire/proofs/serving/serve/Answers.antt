@@ -1,4 +1,5 @@
 use Rattle.std.proofs.Common.{arith, ◌∙◌}
+use Rattle.std.proofs.lemmas.Result.{on_ok_weaker}
 use Rattle.mls_server.specs.Servers.{world_of}
 use Rattle.mls_wire.proofs.ServingLemmas.{served_all, failed_within, line_done, last_done, line_cut, last_cut}
 use Rattle.mls_wire.proofs.serving.serve.Goals as goal
@@ -15,6 +16,15 @@ pub returns-in-LastLine-clause-run : goal.returns-in-LastLine-clause-run
 returns-in-LastLine-clause-run g c =
     last_done _ (world_of c.lines.server) (world_of c.serve_line.new.server) c.lines.n _ _ c.line.ensures
     _ _ _ _ _ c.lines.invariant.served c.serve_line.result _ (rw c.in-LastLine.is at c.in_ok-next_line.ensures.taken) c.serve_line.ensures.done
+
+pub returns-in-End-clause-sound : goal.returns-in-End-clause-sound
+returns-in-End-clause-sound g c = (c.in_ok-next_line.ensures.failed ∙ c.lines.invariant.input_sound, c.lines.invariant.output_sound)
+
+pub returns-in-LastLine-clause-sound : goal.returns-in-LastLine-clause-sound
+returns-in-LastLine-clause-sound g c =
+    on_ok_weaker c.serve_line.result
+    (λ same. (c.in_ok-next_line.ensures.failed ∙ c.lines.invariant.input_sound, same ∙ c.lines.invariant.output_sound))
+    c.serve_line.ensures.failed
 
 pub returns-in-LastLine-clause-cut : goal.returns-in-LastLine-clause-cut
 returns-in-LastLine-clause-cut g c =
@@ -35,5 +45,7 @@ lines-preserved g c = record {
   marks_right = c.serve_line-in-Line.ensures.marks_right;
   marks_exact = c.serve_line-in-Line.ensures.marks_exact;
   setting = c.serve_line-in-Line.ensures.setting ∙ c.lines.invariant.setting;
+  input_sound = c.in_ok-next_line.ensures.failed ∙ c.lines.invariant.input_sound;
+  output_sound = c.in_ok-serve_line-in-Line.ensures.failed ∙ c.lines.invariant.output_sound;
   numbered = omega (arith, c.in_ok-next_line.ensures.fewer);
 }

@@ -1,4 +1,4 @@
-use Rattle.std.proofs.Common.{◌≡◌, ◌+◌, ◌≤◌}
+use Rattle.std.proofs.Common.{◌≡◌, ◌+◌, ◌≤◌, false}
 use Rattle.mls_server.specs.Servers.{world_of}
 use Rattle.mls_server.specs.Worlds.{MarksAreExact, MarksAreRight}
 use Rattle.mls_wire.specs.LineReaders.{script_ahead, lines_left}
@@ -12,6 +12,8 @@ invariant-lines g l = record {
   marks_right : MarksAreRight (world_of l.server);
   marks_exact : MarksAreExact (world_of l.server);
   setting : (world_of l.server).setting ≡ (world_of l.fn.server).setting;
+  input_sound : l.input.failed ≡ false;
+  output_sound : l.output.failed ≡ false;
   numbered : l.n + lines_left l.reader l.input ≤ 1 + lines_left l.initial.reader l.initial.input;
 }
 

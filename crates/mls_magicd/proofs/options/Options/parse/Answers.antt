@@ -7,7 +7,7 @@ use Rattle.mls_magicd.proofs.NumberLemmas.{IsFoundNumber, found-number}
 use Rattle.mls_magicd.proofs.NumberTexts.{StandsAt, journal_stands, pool_stands, quota_stands, workers_stands}
 use Rattle.mls_session.specs.JournalLimits.{IsJournalLimit}
 use Rattle.mls_session.specs.Quotas.{IsQuota}
-use Rattle.mls_magicd.specs.Capacities.{IsCapacity}
+use Rattle.mls_server.specs.Capacities.{IsCapacity}
 use Rattle.mls_magicd.specs.WorkerCounts.{IsWorkerCount}
 use Rattle.mls_magicd.specs.CommandLines.{NamesFiles, NumberOption, file_of, journal_option, pool_option, quota_option, workers_option}
 use Rattle.mls_magicd.proofs.options.Options.parse.Goals as goal
