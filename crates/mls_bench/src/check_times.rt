@@ -6,7 +6,7 @@ use crate::places::{CellGrid, checked_piece, looked_box};
 use crate::scene::Scene;
 use anyhow::{Result, ensure};
 use mls_checker::{Finding, check, why};
-use mls_edgerule::Rules;
+use mls_edgerule::{RuleSet, Rules};
 use mls_geom::Rect;
 use mls_plain_check::Forbidden;
 use std::alloc::Global;
@@ -48,12 +48,12 @@ fn check_plainly(
     Ok(forbidden)
 }
 
-/// Fails where the plain program found that other rules are violated, or where squares are marked and none is violated, or
-/// the other way round.
-fn expect_same(violated: u128, finding: &Finding, forbidden: &Forbidden) -> Result<()> {
+/// Fails where the plain program found that other rules are violated, or where squares are marked and none is
+/// violated, or the other way round.
+fn expect_same(violated: RuleSet, finding: &Finding, forbidden: &Forbidden) -> Result<()> {
     let has_marks = !finding.marks().areas().is_empty();
     ensure!(
-        violated == forbidden.why(finding.piece()) && has_marks == (violated != 0),
+        violated.bits() == forbidden.why(finding.piece()) && has_marks != violated.is_empty(),
         "the plain program found something else"
     );
     Ok(())
@@ -118,8 +118,8 @@ pub fn time_checks(rt: &HostRuntime, rules: &Rules, grid: CellGrid) -> Result<(u
     Ok((scene.strips(), times))
 }
 
-/// Reads what a box needs and finds the rules that are violated in it, and returns how many nanoseconds that takes. Fails
-/// where one is violated.
+/// Reads what a box needs and finds the rules that are violated in it, and returns how many nanoseconds that takes.
+/// Fails where one is violated.
 fn look(rt: &HostRuntime, scene: &mut Scene, rules: &Rules, looked: Rect) -> Result<u128>
     requires { scene.old ≡ zone_of rules.now looked }
     ensures { scene.new ≡ scene.old }
@@ -129,7 +129,7 @@ fn look(rt: &HostRuntime, scene: &mut Scene, rules: &Rules, looked: Rect) -> Res
     snapshot.stitch(rt.alloc())?;
     let violated = why(rules, &snapshot, looked);
     let nanos = start.elapsed(rt)?.as_nanos();
-    ensure!(violated == 0, "a rule is violated");
+    ensure!(violated.is_empty(), "a rule is violated");
     Ok(nanos)
 }
 
@@ -144,7 +144,8 @@ pub fn time_look(rt: &HostRuntime, rules: &Rules, grid: CellGrid) -> Result<(usi
     Ok((scene.strips(), nanos))
 }
 
-/// Checks a piece of a grid of cells once. Returns how many strips a plane has in the zone, and how many sides were looked at.
+/// Checks a piece of a grid of cells once. Returns how many strips a plane has in the zone, and how many sides were
+/// looked at.
 pub fn count_sides(alloc: Global, rules: &Rules, grid: CellGrid) -> Result<(usize, u64)> {
     let piece = checked_piece()?;
     let mut scene = Scene::new(alloc, grid, piece.grow(rules.halo()))?;

@@ -1,9 +1,9 @@
 //! `mls_bench`: times the calls on planes of stitched tiles, and checks of a piece of them.
 //!
-//! Takes each step once and prints how many tiles it finds or adds, and then how many sides of tiles a check looks at. With
-//! the argument `time` takes each step again and again, and prints how many nanoseconds one takes, the least of three times.
-//! With the argument `check` reads and checks a piece again and again, and prints the least nanoseconds of each step, beside
-//! those of a plain program.
+//! Takes each step once and prints how many tiles it finds or adds, and then how many sides of tiles a check looks
+//! at. With the argument `time` takes each step again and again, and prints how many nanoseconds one takes, the least
+//! of three times. With the argument `check` reads and checks a piece again and again, and prints the least
+//! nanoseconds of each step, beside those of a plain program.
 #![tactic(auto)]
 
 mod check_times;
@@ -109,8 +109,8 @@ fn print_times(rt: &HostRuntime, k: u8) -> Result<()> {
     Ok(())
 }
 
-/// Prints rows for each grid of cells: how many nanoseconds each step takes to check a piece by the rules of a file, and
-/// how many times as long the plain program takes; and then a row of a look at a box.
+/// Prints rows for each grid of cells: how many nanoseconds each step takes to check a piece by the rules of a file,
+/// and how many times as long the plain program takes; and then a row of a look at a box.
 fn print_checks(rt: &HostRuntime, file: &[u8]) -> Result<()> {
     let rules = rules_of(rt.alloc(), file)?;
     let count = rules.as_slice().len();

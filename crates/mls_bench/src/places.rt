@@ -104,8 +104,8 @@ pub fn looked_box() -> Result<Rect, RectFault> {
     square(LOOKED_LINE, LOOKED_LINE, LOOKED_SIDE)
 }
 
-/// Makes a rectangle in each cell, of two kinds in turn. Where there are 24 columns, rectangles are 6 squares wide and 4
-/// apart.
+/// Makes a rectangle in each cell, of two kinds in turn. Where there are 24 columns, rectangles are 6 squares wide
+/// and 4 apart.
 pub fn cells(alloc: Global, grid: CellGrid, kinds: [u8; 2]) -> Result<Vec<Piece>> {
     let height = PIECE_SIDE / i32::from(grid.rows.max(1));
     let width = PIECE_SIDE / i32::from(grid.columns.max(1));

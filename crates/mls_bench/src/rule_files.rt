@@ -5,17 +5,8 @@ use mls_tech::Tech;
 use std::alloc::{AllocError, Global};
 
 /// The planes and types of technology M.
-const HEAD: &str = "planes
- active
- metal1
-end
-types
- active poly
- active ndiff
- metal1 m1
-end
-drc
-";
+const HEAD: &str = "planes\n active\n metal1\nend\n\
+    types\n active poly\n active ndiff\n metal1 m1\nend\ndrc\n";
 
 /// What stands before and after the distance in a rule line.
 const LINES: [(&str, &str); 10] = [

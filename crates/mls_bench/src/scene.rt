@@ -28,7 +28,8 @@ fn painted(pool: &mut Pool, pieces: &[Piece], scratch: &mut Scratch) -> Result<P
     ensures plane { IfOk result (λ plane. HasPlane pool.new plane) }
     ensures reserve { IfOk result (λ plane. room_of pool.new plane ≡ Some 2048) }
     ensures others { IfOk result (λ _. (other : ℕ) → HasPlane pool.old other → HasPlane pool.new other) }
-    ensures reserves { IfOk result (λ _. (other : ℕ) → HasPlane pool.old other → room_of pool.new other ≡ room_of pool.old other) }
+    ensures reserves { IfOk result (λ _. (other : ℕ) → HasPlane pool.old other
+        → room_of pool.new other ≡ room_of pool.old other) }
     ensures rooms { KeepsRoom scratch.old scratch.new }
 {
     ensure!(pieces.len() <= scratch.pieces(), "too many pieces");

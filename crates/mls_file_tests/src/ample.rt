@@ -1,9 +1,18 @@
 //! Calls that take much memory: where there is memory, they succeed.
+use crate::hostile::fault_of;
+use crate::plain_tech::PlainFault;
 use crate::rules::rules_of;
 use mls_tech::Tech;
 use mls_text::Word;
 use std::alloc::{AllocError, Global};
 use std::test::Fail;
+
+const MILLION: usize = 1_000_000;
+
+/// The fault of this line.
+fn wanted(line: usize, number: u8) -> Option<PlainFault> {
+    Some(PlainFault { line, number })
+}
 
 /// Returns a technology of about 100 KB: 4 planes, 63 types of ten long names each, and 128 rules
 /// with long texts.
@@ -55,23 +64,100 @@ fn large_technologies(rt: HostRuntime) -> Result<(), Fail> {
     Ok(())
 }
 
-#[test]
-fn deep_lists(rt: HostRuntime) -> Result<(), Fail> {
-    let mut file = Vec::from_slice(
-        rt.alloc(),
-        b"planes\n p\nend\ntypes\n p q\nend\ndrc\n width ",
-    )?;
-    for _ in 0..10_000 {
+/// A beginning with one plane and one type, up to the list of a rule in line 8.
+const LIST_AHEAD: &[u8] = b"planes\n p\nend\ntypes\n p q\nend\ndrc\n width ";
+
+/// Returns a technology whose one rule has a list with so many parentheses, of which so many are closed.
+fn deep_list(alloc: Global, opened: usize, closed: usize) -> Result<Vec<u8>, AllocError> {
+    let mut file = Vec::from_slice(alloc, LIST_AHEAD)?;
+    for _ in 0..opened {
         file.extend_from_slice(b"~(")?;
     }
     file.push(b'q')?;
-    for _ in 0..10_000 {
-        file.push(b')')?;
-    }
+    file.extend_from_slice(&vec![in alloc; b')'; closed]?)?;
     file.extend_from_slice(b" 1 deep\nend\n")?;
+    Ok(file)
+}
+
+#[test]
+fn deep_lists(rt: HostRuntime) -> Result<(), Fail> {
+    let file = deep_list(rt.alloc(), MILLION, MILLION)?;
     let rules = rules_of(rt.alloc(), &file).ok_or("not read")??;
     let rule = rules.get(1).ok_or("no rule")?;
     assert_eq!(rt; rule.types2.bits(), 0b10);
+    for closed in [0, MILLION - 1, MILLION + 1] {
+        let file = deep_list(rt.alloc(), MILLION, closed)?;
+        assert_eq!(rt; fault_of(rt.alloc(), &file), wanted(8, 7));
+    }
+    Ok(())
+}
+
+/// Returns a beginning with so many skipped lines.
+fn skipped_lines(alloc: Global, count: usize) -> Result<Vec<u8>, AllocError> {
+    let mut file = Vec::from_slice(alloc, b"planes\n p\nend\ndrc\n")?;
+    for _ in 0..count {
+        file.extend_from_slice(b" overhang poly ndiff 2 \"oh\"\n")?;
+    }
+    Ok(file)
+}
+
+#[test]
+fn many_skipped_lines(rt: HostRuntime) -> Result<(), Fail> {
+    let mut file = skipped_lines(rt.alloc(), 10_000)?;
+    file.extend_from_slice(b"end\n")?;
+    let tech = Tech::read(rt.alloc(), &file)?;
+    assert_eq!(rt; tech.skipped().len(), 10_000);
+    assert_eq!(rt; tech.skipped().last().map(|line| line.line), Some(10_004));
+    Ok(())
+}
+
+/// Returns a technology with a word, a comment and an empty section of a million bytes each.
+fn long_lines(alloc: Global) -> Result<Vec<u8>, AllocError> {
+    let long = vec![in alloc; b'x'; MILLION]?;
+    let mut file = Vec::from_slice(alloc, b"planes\n ")?;
+    file.extend_from_slice(&long)?;
+    file.extend_from_slice(b"\n #")?;
+    file.extend_from_slice(&long)?;
+    file.extend_from_slice(b"\nend\nstyles ")?;
+    file.extend_from_slice(&long)?;
+    file.extend_from_slice(b"\nend\ntypes\n ")?;
+    file.extend_from_slice(&long)?;
+    Ok(file)
+}
+
+#[test]
+fn lines_of_a_million_bytes(rt: HostRuntime) -> Result<(), Fail> {
+    let file = long_lines(rt.alloc())?;
+    for (end, fault) in [
+        (b" q\nend\n".as_slice(), None),
+        (b" q q\nend\n", wanted(8, 8)),
+        (b"x q\nend\n", wanted(8, 3)),
+        (b" q\n", wanted(7, 2)),
+        (b" q\nend\n\n\xff", wanted(11, 1)),
+    ] {
+        let mut file = Vec::from_slice(rt.alloc(), &file)?;
+        file.extend_from_slice(end)?;
+        assert_eq!(rt; fault_of(rt.alloc(), &file), fault, "{end:?}");
+    }
+    Ok(())
+}
+
+/// Returns a technology of 16 megabytes: a million comments, and a section that is skipped after them.
+fn file_of_16_megabytes(alloc: Global) -> Result<Vec<u8>, AllocError> {
+    let mut file = Vec::new(alloc);
+    for _ in 0..MILLION {
+        file.extend_from_slice(b"# sixteen bytes\n")?;
+    }
+    file.extend_from_slice(b"styles\n")?;
+    Ok(file)
+}
+
+#[test]
+fn sixteen_megabytes(rt: HostRuntime) -> Result<(), Fail> {
+    let mut file = file_of_16_megabytes(rt.alloc())?;
+    assert_eq!(rt; fault_of(rt.alloc(), &file), wanted(MILLION + 1, 2));
+    file.extend_from_slice(b"end\nplanes\n a b\nend\n")?;
+    assert_eq!(rt; fault_of(rt.alloc(), &file), wanted(MILLION + 4, 8));
     Ok(())
 }
 

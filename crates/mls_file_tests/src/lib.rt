@@ -6,6 +6,16 @@ mod ample;
 #[cfg(test)]
 mod changed;
 #[cfg(test)]
+mod hostile;
+#[cfg(test)]
+mod plain_list;
+#[cfg(test)]
+mod plain_rule;
+#[cfg(test)]
+mod plain_tech;
+#[cfg(test)]
+mod plain_text;
+#[cfg(test)]
 mod rules;
 #[cfg(test)]
 mod technology;

@@ -43,33 +43,33 @@ impl Flag {
     }
 }
 
-/// A gate that holds each check until a paint was answered.
+/// A gate that holds each check until it is released.
 #[derive(Drop)]
-pub struct UntilPainted<'r, R> {
+pub struct UntilReleased<'r, R> {
     rt: &'r R,
     /// A check has come to the gate.
     pub began: Flag,
-    /// The paint was answered.
-    pub painted: Flag,
+    /// The checks are released.
+    pub released: Flag,
     /// A check was held as long as a test waits.
     pub late: Flag,
 }
 
-impl<'r, R> UntilPainted<'r, R> {
-    pub fn new(rt: &'r R) -> UntilPainted<'r, R> {
-        UntilPainted {
+impl<'r, R> UntilReleased<'r, R> {
+    pub fn new(rt: &'r R) -> UntilReleased<'r, R> {
+        UntilReleased {
             rt,
             began: Flag::new(),
-            painted: Flag::new(),
+            released: Flag::new(),
             late: Flag::new(),
         }
     }
 }
 
-impl<'r, R: Clock> Gate for UntilPainted<'r, R> {
+impl<'r, R: Clock> Gate for UntilReleased<'r, R> {
     fn check(&self, alloc: Global, id: SessionId, job: Job) -> Result<Finding, AllocError> {
         self.began.raise();
-        if !self.painted.wait(self.rt) {
+        if !self.released.wait(self.rt) {
             self.late.raise();
         }
         Plain.check(alloc, id, job)

@@ -4,7 +4,7 @@ ghost use Rattle.mls_server.specs.Servers.{world_of};
 ghost use Rattle.mls_server.specs.Settings.{terms_for};
 
 use crate::commands::{THIN_BAR, THIN_BAR_ERRORS};
-use crate::gates::{UntilOther, UntilPainted};
+use crate::gates::{UntilOther, UntilReleased};
 use crate::seats::{expect_audited, expect_count, expect_painted, expect_retired, retire, seat};
 use crate::servers::{SMALL, new_server};
 use crossbeam_channel::Receiver;
@@ -45,7 +45,7 @@ fn paint_held<N: Naming + Send + Sync, R: Threads + Wait + Clock + Abort + Sync>
 ) -> Result<(), Fail>
     requires { N.parts ≡ 65 }
 {
-    let gate = UntilPainted::new(rt);
+    let gate = UntilReleased::new(rt);
     paint_beside_worker(rt, alloc, live, &gate)?;
     assert!(rt; gate.began.is_raised(), "the gate was never called");
     assert!(rt;
@@ -60,7 +60,7 @@ fn paint_beside_worker<N: Naming + Send + Sync, R: Threads + Wait + Clock + Abor
     rt: &R,
     alloc: Global,
     live: &Live<N>,
-    gate: &UntilPainted<'_, R>,
+    gate: &UntilReleased<'_, R>,
 ) -> Result<(), Fail>
     requires { N.parts ≡ 65 }
 {
@@ -85,14 +85,14 @@ fn paint_in_mid_check<N: Naming, R: Wait + Clock + Abort>(
     alloc: Global,
     live: &Live<N>,
     mut painter: Seat<'_, N>,
-    gate: &UntilPainted<'_, R>,
+    gate: &UntilReleased<'_, R>,
 ) -> Result<(), Fail>
     requires { N.parts ≡ 65 }
 {
     expect_painted(rt, alloc, &mut painter, THIN_BAR);
     assert!(rt; gate.began.wait(rt), "no check has begun");
     expect_painted(rt, alloc, &mut painter, THIN_BAR);
-    gate.painted.raise();
+    gate.released.raise();
     expect_audited(rt, &painter, 4);
     expect_retired(rt, alloc, live, painter, 4)
 }

@@ -10,6 +10,8 @@ mod holding;
 #[cfg(test)]
 mod many_seats;
 #[cfg(test)]
+mod moments;
+#[cfg(test)]
 mod random_lines;
 #[cfg(test)]
 mod refused_seats;

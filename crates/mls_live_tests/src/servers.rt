@@ -3,7 +3,7 @@ ghost use Rattle.std.specs.Prelude.{◌≡◌, [], IfOk};
 ghost use Rattle.mls_server.specs.Servers.{world_of};
 
 use mls_edgerule::compile;
-use mls_server::Server;
+use mls_server::{Capacity, Server};
 use mls_session::{JournalLimit, Quota};
 use mls_tech::{TECHNOLOGY_M, Tech};
 use std::alloc::Global;
@@ -24,19 +24,14 @@ pub const SMALL: Room = Room {
     entries: 256,
 };
 
-/// The most tiles that a pool may have.
-const MOST_TILES: u32 = 8_388_608;
-
 /// Creates a server with technology M.
 pub fn new_server(alloc: Global, room: Room) -> Result<Server, Fail>
     ensures { IfOk result (λ server. (world_of server).seats ≡ []) }
 {
+    let capacity = Capacity::new(room.pool).ok_or("no pool")?;
     let quota = Quota::new(room.quota).ok_or("no quota")?;
     let limit = JournalLimit::new(room.entries).ok_or("no limit")?;
     let tech = Tech::read(alloc, TECHNOLOGY_M)?;
     let rules = compile(&tech)?;
-    if room.pool < 1 || room.pool > MOST_TILES {
-        return Err("no pool".into());
-    }
-    Ok(Server::new(alloc, tech, rules, room.pool, quota, limit)?)
+    Ok(Server::new(alloc, tech, rules, capacity, quota, limit)?)
 }

@@ -6,6 +6,10 @@ use Rattle.mls_stitch.specs.Tilings.{ChangesOnly, IsMaximal, IsPlane}
 use Rattle.mls_stitch.proofs.OtherPlanes.{apart_from_new}
 use Rattle.mls_paint.specs.Planes.{AddsOwner, HasStrips}
 
+-- a list grows by an owner, which is what it was before it was painted
+pub pushed : (owners : List ℕ) {items : List ℕ} {painted owner : ℕ} → items ≡ owners ++ painted ∷ [] → painted ≡ owner → items ≡ owners ++ owner ∷ []
+pushed owners grown same = grown ∙ ap (λ other. owners ++ other ∷ []) same
+
 room_of-kept :
     (old mid new : Pool) (owner other tiles : ℕ) → AddsOwner old mid owner tiles → ChangesOnly mid new owner → other ≢ owner
     → room_of new other ≡ room_of old other

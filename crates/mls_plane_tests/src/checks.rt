@@ -1,9 +1,10 @@
 //! Layouts whose forbidden squares were worked out by hand.
 use crate::layouts::Layout;
+use crate::rule_files::{TWO_PLANES, rules_of, rules_of_lines};
 use mls_checker::{Finding, check, why};
-use mls_edgerule::{Rules, compile};
+use mls_edgerule::Rules;
 use mls_geom::{Piece, Point, Rect, RectFault};
-use mls_tech::{TECHNOLOGY_M, Tech};
+use mls_tech::TECHNOLOGY_M;
 use std::alloc::{AllocError, Global};
 use std::process::Abort;
 use std::test::Fail;
@@ -19,17 +20,6 @@ const EVEN: [i32; 12] = [-8, -6, -4, -2, 0, 2, 4, 6, 8, 10, 12, 14];
 
 /// Four coordinates: left, bottom, right and top.
 pub type Sides = (i32, i32, i32, i32);
-
-/// The rules of a technology file.
-pub fn rules_of(alloc: Global, file: &[u8]) -> Result<Rules, Fail> {
-    let tech = Tech::read(alloc, file)?;
-    rules_of_tech(&tech)
-}
-
-/// The rules of a technology.
-fn rules_of_tech(tech: &Tech) -> Result<Rules, Fail> {
-    Ok(compile(tech)?)
-}
 
 /// A rectangle.
 fn rect(sides: Sides) -> Result<Rect, RectFault> {
@@ -101,16 +91,15 @@ fn expect_in_piece(
     expect_marked(rt, &finding, piece, marked)
 }
 
-/// Asserts the same by the rules of a technology file.
-fn expect_by_file(
+/// Asserts the same by the rules of technology M.
+fn expect_by_technology_m(
     rt: &impl Abort,
     alloc: Global,
-    file: &[u8],
     layout: &mut Layout,
     piece: Rect,
     marked: &[Sides],
 ) -> Result<(), Fail> {
-    let rules = rules_of(alloc, file)?;
+    let rules = rules_of(alloc, TECHNOLOGY_M)?;
     expect_in_piece(rt, alloc, &rules, layout, piece, marked)
 }
 
@@ -154,7 +143,7 @@ fn violated_in(
     looked: Rect,
 ) -> Result<u128, AllocError> {
     let snapshot = layout.snapshot(alloc, looked.grow(rules.halo()))?;
-    Ok(why(rules, &snapshot, looked))
+    Ok(why(rules, &snapshot, looked).bits())
 }
 
 /// The rules of technology M that forbid a square of a rectangle, in a layout of these pieces.
@@ -210,43 +199,21 @@ fn diffusion_in_a_world_of_poly(rt: HostRuntime) -> Result<(), Fail> {
     Ok(())
 }
 
-/// Technology M, with a rule that metal over poly breaks at its edges to all sides.
-const FOUR_SIDES: &[u8] = b"planes
- active,a
- metal1
-end
-types
- active poly,p
- active ndiff,nd
- metal1 m1
-end
-drc
- edge4way space m1 1 space,ndiff 0 0 \"m1 edge over poly\" active
-end
-";
+/// A rule that metal over poly breaks at its edges to all sides.
+const FOUR_SIDES: &str = "edge4way space m1 1 space,ndiff 0 0 \"m1 edge over poly\" active";
 
 /// The same of its left and lower edges alone.
-const TWO_SIDES: &[u8] = b"planes
- active,a
- metal1
-end
-types
- active poly,p
- active ndiff,nd
- metal1 m1
-end
-drc
- edge space m1 1 space,ndiff 0 0 \"m1 edge over poly\" active
-end
-";
+const TWO_SIDES: &str = "edge space m1 1 space,ndiff 0 0 \"m1 edge over poly\" active";
 
-/// Asserts what the rules of both files mark of a square of metal over poly.
+/// Asserts what either rule marks of a square of metal over poly.
 fn expect_metal_edges(rt: &impl Abort, alloc: Global, layout: &mut Layout) -> Result<(), Fail> {
     let whole = rect((-8, -8, 8, 8))?;
     let ring = [(0, 0, 4, 1), (0, 3, 4, 4), (0, 1, 1, 3), (3, 1, 4, 3)];
-    expect_by_file(rt, alloc, FOUR_SIDES, layout, whole, &ring)?;
+    let rules = rules_of_lines(alloc, TWO_PLANES, &[FOUR_SIDES])?;
+    expect_in_piece(rt, alloc, &rules, layout, whole, &ring)?;
     let corner = [(0, 0, 1, 4), (1, 0, 4, 1)];
-    expect_by_file(rt, alloc, TWO_SIDES, layout, whole, &corner)
+    let rules = rules_of_lines(alloc, TWO_PLANES, &[TWO_SIDES])?;
+    expect_in_piece(rt, alloc, &rules, layout, whole, &corner)
 }
 
 #[test]
@@ -271,7 +238,7 @@ fn expect_few_sides(
     layout: &mut Layout,
     piece: Rect,
 ) -> Result<(), Fail> {
-    expect_by_file(rt, alloc, TECHNOLOGY_M, layout, piece, &[])?;
+    expect_by_technology_m(rt, alloc, layout, piece, &[])?;
     let sides = sides_looked_at(alloc, layout, piece)?;
     assert!(rt; (1..=200).contains(&sides), "{sides} sides");
     Ok(())
@@ -297,7 +264,7 @@ fn expect_in_corners(rt: &impl Abort, alloc: Global, layout: &mut Layout) -> Res
         (32752, -32768, 32768, -32752),
         (32752, 32752, 32768, 32768),
     ] {
-        expect_by_file(rt, alloc, TECHNOLOGY_M, layout, rect(corner)?, &marked)?;
+        expect_by_technology_m(rt, alloc, layout, rect(corner)?, &marked)?;
     }
     Ok(())
 }
@@ -314,25 +281,16 @@ fn corners_of_the_world(rt: HostRuntime) -> Result<(), Fail> {
     expect_in_corners(&rt, rt.alloc(), &mut layout)
 }
 
-/// Four planes with a type each, the first of them with the widest rules that there may be.
-const WIDE_RULES: &[u8] = b"planes
- p0
- p1
- p2
- p3
-end
-types
- p0 wide
- p1 b
- p2 c
- p3 top
-end
-drc
- width wide 100 \"wide\"
- spacing top top 100 touching_ok \"top apart\"
- spacing top wide 100 touching_illegal \"top to wide\"
-end
-";
+/// Four planes with a type each.
+const FOUR_PLANES: &str = "planes\n p0\n p1\n p2\n p3\nend\n\
+    types\n p0 wide\n p1 b\n p2 c\n p3 top\nend\n";
+
+/// The widest rules that there may be, on the first and the last of them.
+const WIDE_RULES: [&str; 3] = [
+    "width wide 100 \"wide\"",
+    "spacing top top 100 touching_ok \"top apart\"",
+    "spacing top wide 100 touching_illegal \"top to wide\"",
+];
 
 /// A bar that is too thin, between two tops that are too close.
 fn wide_layout(alloc: Global) -> Result<Layout, Fail> {
@@ -359,7 +317,8 @@ fn expect_wide_marks(
     let marked = [
         // The bar is one square too thin.
         (149, 0, 150, 256),
-        // The left top is 90 squares from the bar, whose next 10 columns are too close, as are those of the right top's last.
+        // The left top is 90 squares from the bar, whose next 10 columns are too close, as are those of the right top's
+        // last.
         (50, 0, 60, 256),
         (148, 0, 149, 256),
     ];
@@ -369,7 +328,7 @@ fn expect_wide_marks(
 
 #[test]
 fn largest_piece_and_halo(rt: HostRuntime) -> Result<(), Fail> {
-    let rules = rules_of(rt.alloc(), WIDE_RULES)?;
+    let rules = rules_of_lines(rt.alloc(), FOUR_PLANES, &WIDE_RULES)?;
     let mut layout = wide_layout(rt.alloc())?;
     expect_wide_marks(&rt, rt.alloc(), &rules, &mut layout)
 }

@@ -1,8 +1,9 @@
 //! Pieces with as many marks, sides and tiles in a row as there may be.
-use crate::checks::{piece, rules_of};
+use crate::checks::piece;
 use crate::layouts::Layout;
+use crate::rule_files::{TWO_PLANES, rules_of_lines};
 use mls_checker::{check, why};
-use mls_edgerule::Rules;
+use mls_edgerule::{RuleSet, Rules};
 use mls_geom::{Piece, Point, Rect};
 use std::alloc::{AllocError, Global};
 use std::process::Abort;
@@ -15,21 +16,11 @@ const NDIFF: u8 = 2;
 
 const M1: u8 = 3;
 
-/// Technology M, with rules that mark poly under each row of metal, and diffusion under each row of space above one.
-const CHEQUER_RULES: &[u8] = b"planes
- active
- metal1
-end
-types
- active poly
- active ndiff
- metal1 m1
-end
-drc
- edge space m1 1 space,ndiff 0 0 \"poly under metal\" active
- edge m1 space 1 space,poly 0 0 \"diffusion beside metal\" active
-end
-";
+/// Rules that mark poly under each row of metal, and diffusion under each row of space above one.
+const CHEQUER_RULES: [&str; 2] = [
+    "edge space m1 1 space,ndiff 0 0 \"poly under metal\" active",
+    "edge m1 space 1 space,poly 0 0 \"diffusion beside metal\" active",
+];
 
 /// Returns columns one square wide beside each other, of poly and diffusion by turns.
 fn columns(alloc: Global, from: i32, to: i32) -> Result<Vec<Piece>, Fail> {
@@ -68,7 +59,7 @@ fn expect_chequer(
     looked: Rect,
 ) -> Result<(), Fail> {
     let snapshot = layout.snapshot(alloc, looked.grow(rules.halo()))?;
-    assert_eq!(rt; why(rules, &snapshot, looked), 0b11);
+    assert_eq!(rt; why(rules, &snapshot, looked).bits(), 0b11);
     let finding = check(alloc, rules, snapshot, looked)?;
     assert_eq!(rt; finding.marks().areas().len(), 33_800);
     for (x, y) in [(0, 0), (1, 1), (100, 100), (257, 257), (259, 259), (259, 1)] {
@@ -85,30 +76,20 @@ fn expect_chequer(
 
 #[test]
 fn chequer_of_marks(rt: HostRuntime) -> Result<(), Fail> {
-    let rules = rules_of(rt.alloc(), CHEQUER_RULES)?;
+    let rules = rules_of_lines(rt.alloc(), TWO_PLANES, &CHEQUER_RULES)?;
     let looked = Rect::new(0, 0, 260, 260)?;
     let mut layout = lattice(rt.alloc(), -10, 270)?;
     expect_chequer(&rt, rt.alloc(), &rules, &mut layout, looked)
 }
 
-/// Technology M with rules of the greatest distance.
-const FAR_RULES: &[u8] = b"planes
- active
- metal1
-end
-types
- active poly
- active ndiff
- metal1 m1
-end
-drc
- width poly 100 \"width\"
- spacing ndiff ndiff 100 touching_ok \"apart\"
- spacing poly ndiff 100 touching_illegal \"poly to ndiff\"
- spacing m1 m1 100 touching_illegal \"metal\"
- edge4way space m1 100 space,ndiff space,m1 100 \"poly under metal\" active
-end
-";
+/// Rules of the greatest distance.
+const FAR_RULES: [&str; 5] = [
+    "width poly 100 \"width\"",
+    "spacing ndiff ndiff 100 touching_ok \"apart\"",
+    "spacing poly ndiff 100 touching_illegal \"poly to ndiff\"",
+    "spacing m1 m1 100 touching_illegal \"metal\"",
+    "edge4way space m1 100 space,ndiff space,m1 100 \"poly under metal\" active",
+];
 
 /// The size of a small stack in bytes.
 const SMALL_STACK: usize = 256 * 1024;
@@ -119,7 +100,7 @@ fn violated_and_marked(
     rules: &Rules,
     layout: &mut Layout,
     looked: Rect,
-) -> Result<(u128, usize), AllocError> {
+) -> Result<(RuleSet, usize), AllocError> {
     let snapshot = layout.snapshot(alloc, looked.grow(rules.halo()))?;
     let violated = why(rules, &snapshot, looked);
     let finding = check(alloc, rules, snapshot, looked)?;
@@ -139,14 +120,14 @@ fn expect_on_small_stack<R: Abort + Threads>(
         violated_and_marked(alloc, &rules, &mut layout, looked)
     })?;
     let (violated, marked) = thread.join(rt)?;
-    assert_eq!(rt; violated, 0b11111);
+    assert_eq!(rt; violated.bits(), 0b11111);
     assert!(rt; marked != 0);
     Ok(())
 }
 
 #[test]
 fn largest_piece_on_a_small_stack(rt: HostRuntime) -> Result<(), Fail> {
-    let rules = rules_of(rt.alloc(), FAR_RULES)?;
+    let rules = rules_of_lines(rt.alloc(), TWO_PLANES, &FAR_RULES)?;
     assert_eq!(rt; rules.halo(), 101);
     // As far as the halo of the piece reaches.
     let layout = lattice(rt.alloc(), -101, 357)?;

@@ -4,8 +4,6 @@
 #[cfg(test)]
 mod checks;
 #[cfg(test)]
-mod covers;
-#[cfg(test)]
 mod dice;
 #[cfg(test)]
 mod grid;
@@ -16,4 +14,8 @@ mod layouts;
 #[cfg(test)]
 mod random_checks;
 #[cfg(test)]
+mod rule_files;
+#[cfg(test)]
 mod strips;
+#[cfg(test)]
+mod world;

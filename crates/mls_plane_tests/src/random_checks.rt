@@ -1,7 +1,8 @@
 //! Random layouts, in which the plain program finds the same forbidden squares.
-use crate::checks::{Sides, piece, rules_of};
+use crate::checks::{Sides, piece};
 use crate::dice::Dice;
 use crate::layouts::Layout;
+use crate::rule_files::{ONE_PLANE, TWO_PLANES, rules_of, rules_of_lines};
 use mls_checker::{Finding, check, why};
 use mls_edgerule::Rules;
 use mls_geom::{Piece, Point, Rect, RectFault};
@@ -21,10 +22,10 @@ const LAYOUTS_A_RULE: usize = 60;
 type Types = [u8; 4];
 
 /// `poly` and `ndiff` on the plane `active`, `m1` on the plane `metal1`.
-const TWO_PLANES: &[Types] = &[[1, 1, 2, 0], [3, 3, 3, 0]];
+const TWO_PLANES_TYPES: &[Types] = &[[1, 1, 2, 0], [3, 3, 3, 0]];
 
 /// `q` on the plane `p`.
-const ONE_PLANE: &[Types] = &[[1, 1, 1, 0]];
+const ONE_PLANE_TYPES: &[Types] = &[[1, 1, 1, 0]];
 
 /// 16 by 16 blocks on which pieces are painted: the lower-left corner, and the side of a block.
 #[derive(Clone, Copy)]
@@ -110,7 +111,7 @@ fn finding_by_same_rules(
 ) -> Result<Finding, AllocError> {
     let snapshot = layout.snapshot(alloc, piece.grow(rules.halo()))?;
     assert_eq!(rt;
-        why(rules, &snapshot, piece),
+        why(rules, &snapshot, piece).bits(),
         forbidden.why(piece),
         "in {piece:?}"
     );
@@ -260,45 +261,26 @@ fn expect_same_by_rules(
     Ok(())
 }
 
-/// Adds a line to a text.
-fn add_line(text: &mut String, line: &str) -> Result<(), AllocError> {
-    text.push_str(line)?;
-    text.push_str("\n")
-}
-
-/// The text of a technology with these rule lines.
-fn technology(alloc: Global, head: &str, lines: &[&str]) -> Result<String, AllocError> {
-    let mut text = String::from_str(alloc, head)?;
-    add_line(&mut text, "drc")?;
+/// Asserts the same by each of these rule lines alone, after these planes and types.
+fn expect_same_by_each(
+    rt: &impl Abort,
+    alloc: Global,
+    (planes, types): (&str, &[Types]),
+    lines: &[&str],
+    layouts: usize,
+) -> Result<(), Fail> {
     for line in lines {
-        add_line(&mut text, line)?;
+        let rules = rules_of_lines(alloc, planes, &[*line])?;
+        expect_same_by_rules(rt, alloc, &rules, types, layouts)?;
     }
-    add_line(&mut text, "end")?;
-    Ok(text)
-}
-
-/// The rules of a technology with these rule lines.
-fn rules_of_lines(alloc: Global, head: &str, lines: &[&str]) -> Result<Rules, Fail> {
-    let text = technology(alloc, head, lines)?;
-    rules_of(alloc, text.as_bytes())
+    Ok(())
 }
 
 #[test]
 fn technology_m(rt: HostRuntime) -> Result<(), Fail> {
     let rules = rules_of(rt.alloc(), TECHNOLOGY_M)?;
-    expect_same_by_rules(&rt, rt.alloc(), &rules, TWO_PLANES, LAYOUTS)
+    expect_same_by_rules(&rt, rt.alloc(), &rules, TWO_PLANES_TYPES, LAYOUTS)
 }
-
-const TWO_PLANES_HEAD: &str = "planes
- active
- metal1
-end
-types
- active poly
- active ndiff
- metal1 m1
-end
-";
 
 /// Rules of every kind: on one plane and on two, with and without corners, and with types on both sides of their edges.
 const LINES: [&str; 12] = [
@@ -318,17 +300,14 @@ const LINES: [&str; 12] = [
 
 #[test]
 fn rules_of_every_kind(rt: HostRuntime) -> Result<(), Fail> {
-    let rules = rules_of_lines(rt.alloc(), TWO_PLANES_HEAD, &LINES)?;
-    expect_same_by_rules(&rt, rt.alloc(), &rules, TWO_PLANES, LAYOUTS)
+    let rules = rules_of_lines(rt.alloc(), TWO_PLANES, &LINES)?;
+    expect_same_by_rules(&rt, rt.alloc(), &rules, TWO_PLANES_TYPES, LAYOUTS)
 }
 
 #[test]
 fn each_rule_alone(rt: HostRuntime) -> Result<(), Fail> {
-    for line in LINES {
-        let rules = rules_of_lines(rt.alloc(), TWO_PLANES_HEAD, &[line])?;
-        expect_same_by_rules(&rt, rt.alloc(), &rules, TWO_PLANES, LAYOUTS_A_RULE)?;
-    }
-    Ok(())
+    let head = (TWO_PLANES, TWO_PLANES_TYPES);
+    expect_same_by_each(&rt, rt.alloc(), head, &LINES, LAYOUTS_A_RULE)
 }
 
 /// Rules of every kind that reach as far as they may.
@@ -345,20 +324,12 @@ const FAR_LINES: [&str; 6] = [
 fn rules_that_reach_far(rt: HostRuntime) -> Result<(), Fail> {
     let mut dice = Dice::new(5);
     for (number, line) in FAR_LINES.iter().enumerate() {
-        let rules = rules_of_lines(rt.alloc(), TWO_PLANES_HEAD, &[*line])?;
+        let rules = rules_of_lines(rt.alloc(), TWO_PLANES, &[*line])?;
         let field = Field::of_layout(number, 16);
-        expect_same_in_layout(&rt, rt.alloc(), &rules, TWO_PLANES, &mut dice, field)?;
+        expect_same_in_layout(&rt, rt.alloc(), &rules, TWO_PLANES_TYPES, &mut dice, field)?;
     }
     Ok(())
 }
-
-const ONE_PLANE_HEAD: &str = "planes
- p
-end
-types
- p q
-end
-";
 
 /// Rules that have space on both sides of their edges, as only those of a single plane can.
 const SPACE_LINES: [&str; 3] = [
@@ -369,9 +340,6 @@ const SPACE_LINES: [&str; 3] = [
 
 #[test]
 fn space_beside_space(rt: HostRuntime) -> Result<(), Fail> {
-    for line in SPACE_LINES {
-        let rules = rules_of_lines(rt.alloc(), ONE_PLANE_HEAD, &[line])?;
-        expect_same_by_rules(&rt, rt.alloc(), &rules, ONE_PLANE, LAYOUTS)?;
-    }
-    Ok(())
+    let head = (ONE_PLANE, ONE_PLANE_TYPES);
+    expect_same_by_each(&rt, rt.alloc(), head, &SPACE_LINES, LAYOUTS)
 }

@@ -2,7 +2,7 @@
 use crate::checks::piece;
 use crate::dice::Dice;
 use crate::grid::{Grid, SIZE};
-use mls_geom::{Piece, RectFault, Scratch, fresh_strips, strips};
+use mls_geom::{Piece, Rect, RectFault, Scratch, TooMany, fresh_strips, strips};
 use std::alloc::Global;
 use std::process::Abort;
 use std::test::Fail;
@@ -162,4 +162,37 @@ fn strips_of_deep_pieces(rt: HostRuntime) -> Result<(), Fail> {
     assert_eq!(rt; count_strips(alloc, &shifted(alloc)?)?, 899);
     assert_eq!(rt; count_strips(alloc, &rows_over_columns(alloc)?)?, 450);
     Ok(())
+}
+
+/// Squares of 2 by 2 along a diagonal, each apart from the next.
+fn diagonal(alloc: Global, count: i32) -> Result<Vec<Piece>, Fail> {
+    let mut pieces = Vec::new(alloc);
+    for step in 0..count {
+        let low = step.saturating_mul(4).saturating_sub(16000);
+        let high = low.saturating_add(2);
+        let rect = Rect::new(low, low, high, high)?;
+        pieces.push(Piece { rect, kind: 7 })?;
+    }
+    Ok(pieces)
+}
+
+/// Asserts that pieces make 16,001 strips, for which 16,000 are too few.
+fn expect_many_strips(
+    rt: &impl Abort,
+    pieces: &[Piece],
+    scratch: &mut Scratch,
+) -> Result<(), TooMany> {
+    assert!(rt; scratch.holds(pieces.len(), 16001));
+    assert_eq!(rt; strips(&[], pieces, 16000, scratch).err(), Some(TooMany));
+    let count = strips(&[], pieces, 16001, scratch)?;
+    assert_eq!(rt; count, 16001);
+    Ok(())
+}
+
+#[test]
+fn plane_of_many_strips(rt: HostRuntime) -> Result<(), Fail> {
+    let pieces = diagonal(rt.alloc(), 4000)?;
+    assert_eq!(rt; pieces.len(), 4000);
+    let mut scratch = Scratch::new(rt.alloc(), 20000)?;
+    Ok(expect_many_strips(&rt, &pieces, &mut scratch)?)
 }

@@ -6,6 +6,7 @@ use crate::servers::{
 use mls_checker::Finding;
 use mls_errorplane::Outcome;
 use mls_geom::Rect;
+use mls_kinds::KindSet;
 use mls_server::{Answer, Event, GrabFault, Name, NotOpen, Server, SessionId};
 use mls_session::{Command, Quota, Reply};
 use mls_tech::TECHNOLOGY_M;
@@ -148,10 +149,12 @@ fn expect_stale_in_others(rt: &impl Abort, alloc: Global, server: &mut Server, f
     expect_count(rt, alloc, server, metal, 0, 1);
 }
 
-/// Asserts that a finding is marked in a session with the same layout.
+/// Asserts that a finding is marked once in a session with the same layout.
 fn expect_finished_in_same(rt: &impl Abort, alloc: Global, server: &mut Server, finding: Finding) {
     let same = open_with_bar(rt, alloc, server, b"same", POLY);
-    expect_outcome(rt, finish(server, same, finding), Outcome::Finished);
+    expect_outcome(rt, finish_ref(server, same, &finding), Outcome::Finished);
+    expect_count(rt, alloc, server, same, 10, 0);
+    expect_outcome(rt, finish(server, same, finding), Outcome::Stale);
     expect_count(rt, alloc, server, same, 10, 0);
 }
 
@@ -171,6 +174,80 @@ fn findings_of_other_sessions(rt: HostRuntime) -> Result<(), Fail> {
     expect_not_open(&rt, rt.alloc(), &mut server, SessionId::of(0));
     expect_not_open(&rt, rt.alloc(), &mut server, SessionId::of(5));
     Ok(())
+}
+
+/// Asserts that a finding is stale in a session with the bar that it was made for.
+fn expect_stale_in_same(rt: &impl Abort, alloc: Global, server: &mut Server, finding: Finding) {
+    let same = open_with_bar(rt, alloc, server, b"same", POLY);
+    expect_outcome(rt, finish(server, same, finding), Outcome::Stale);
+    expect_count(rt, alloc, server, same, 0, 1);
+}
+
+/// Rules other than those of technology M, with its planes and types and the same halo.
+const OTHER_RULES: &[u8] = b"planes\nactive\nmetal1\nend\n\
+    types\nactive poly\nactive ndiff\nmetal1 m1\nend\n\
+    drc\nwidth poly 3 \"poly width\"\nend\n";
+
+/// Returns what a server with other rules finds in the bar.
+fn found_under_other_rules(rt: &impl Abort, alloc: Global) -> Result<Finding, Fail> {
+    let mut other = new_server(alloc, OTHER_RULES, Quota::default())?;
+    let (_, finding) = found_in_bar(rt, alloc, &mut other, b"other")?;
+    assert_eq!(rt; Ok(finding.piece()), Rect::new(-4, -4, 5, 14));
+    Ok(finding)
+}
+
+#[test]
+fn finding_under_other_rules(rt: HostRuntime) -> Result<(), Fail> {
+    let finding = found_under_other_rules(&rt, rt.alloc())?;
+    let mut server = usual_server(rt.alloc())?;
+    expect_stale_in_same(&rt, rt.alloc(), &mut server, finding);
+    Ok(())
+}
+
+/// Returns what is found in a part of the bar, once the whole of it has been checked.
+fn found_in_part(rt: &impl Abort, alloc: Global, server: &mut Server) -> Result<Finding, Fail> {
+    let id = open_with_bar(rt, alloc, server, b"part", POLY);
+    expect_done(rt, command(alloc, server, id, Command::CatchUp));
+    let set = Command::Box {
+        left: 0,
+        bottom: 0,
+        right: 1,
+        top: 1,
+    };
+    expect_done(rt, command(alloc, server, id, set));
+    expect_done(rt, command(alloc, server, id, Command::Check));
+    let finding = found(alloc, server, id).ok_or("no finding")?;
+    assert_eq!(rt; Ok(finding.piece()), Rect::new(-4, -4, 5, 5));
+    Ok(finding)
+}
+
+#[test]
+fn finding_of_a_smaller_piece(rt: HostRuntime) -> Result<(), Fail> {
+    let mut server = usual_server(rt.alloc())?;
+    let finding = found_in_part(&rt, rt.alloc(), &mut server)?;
+    expect_stale_in_same(&rt, rt.alloc(), &mut server, finding);
+    Ok(())
+}
+
+/// Asserts that a finding is marked where its zone was painted and erased back meanwhile.
+fn expect_finished_after_erasing(
+    rt: &impl Abort,
+    alloc: Global,
+    server: &mut Server,
+) -> Result<(), Fail> {
+    let (id, finding) = found_in_bar(rt, alloc, server, b"a")?;
+    expect_done(rt, paint(alloc, server, id, 2, 4, 10, POLY));
+    let erase = Command::Erase(Some(KindSet::single(POLY)));
+    expect_done(rt, command(alloc, server, id, erase));
+    expect_outcome(rt, finish(server, id, finding), Outcome::Finished);
+    expect_count(rt, alloc, server, id, 10, 2);
+    Ok(())
+}
+
+#[test]
+fn finding_of_a_zone_that_was_erased_back(rt: HostRuntime) -> Result<(), Fail> {
+    let mut server = usual_server(rt.alloc())?;
+    expect_finished_after_erasing(&rt, rt.alloc(), &mut server)
 }
 
 /// Asserts that an id that was never given is open nowhere.

@@ -10,6 +10,8 @@ mod devices;
 #[cfg(test)]
 mod findings;
 #[cfg(test)]
+mod hostile_scripts;
+#[cfg(test)]
 mod large_runs;
 #[cfg(test)]
 mod programs;

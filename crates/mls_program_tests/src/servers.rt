@@ -6,7 +6,7 @@
 use mls_checker::{Finding, check};
 use mls_edgerule::compile;
 use mls_errorplane::{Outcome, Stepped};
-use mls_server::{Answer, Event, GrabFault, Name, NotOpen, Server, SessionId};
+use mls_server::{Answer, Capacity, Event, GrabFault, Name, NotOpen, Server, SessionId};
 use mls_session::{Command, Job, JournalLimit, Quota, Reply};
 use mls_tech::Tech;
 use mls_wire::{ServeFault, Watched, serve};
@@ -18,8 +18,9 @@ use std::test::Fail;
 pub fn new_server(alloc: Global, file: &[u8], quota: Quota) -> Result<Server, Fail> {
     let tech = Tech::read(alloc, file)?;
     let rules = compile(&tech)?;
+    let capacity = Capacity::default();
     let limit = JournalLimit::default();
-    Ok(Server::new(alloc, tech, rules, 262_144, quota, limit)?)
+    Ok(Server::new(alloc, tech, rules, capacity, quota, limit)?)
 }
 
 /// Opens a session.

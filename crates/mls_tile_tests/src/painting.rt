@@ -414,8 +414,8 @@ fn expect_not_rebuilt(
 /// painted at once without building the plane anew.
 fn expect_far_apart(rt: &impl Abort, alloc: Global, canvas: &mut Canvas) -> Result<(), Fail> {
     expect_not_rebuilt(rt, canvas, &bars(alloc, 1)?, 2003)?;
-    // 500 squares on each side, with space to the left and to the right of each; below, between and above them there are 500
-    // strips of space on the left side, where a square stands as low as the bars, and 501 on the right.
+    // 500 squares on each side, with space to the left and to the right of each; below, between and above them there
+    // are 500 strips of space on the left side, where a square stands as low as the bars, and 501 on the right.
     expect_not_rebuilt(rt, canvas, &squares_far_apart(alloc, 2)?, 6002)?;
     expect_not_rebuilt(rt, canvas, &squares_far_apart(alloc, 0)?, 2003)?;
     expect_not_rebuilt(rt, canvas, &bars(alloc, 0)?, 1)

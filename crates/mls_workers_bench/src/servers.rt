@@ -4,7 +4,7 @@ ghost use Rattle.mls_server.specs.Servers.{world_of};
 
 use anyhow::{Context, Result};
 use mls_edgerule::compile;
-use mls_server::Server;
+use mls_server::{Capacity, Server};
 use mls_session::{JournalLimit, Quota};
 use mls_tech::{TECHNOLOGY_M, Tech};
 use std::alloc::Global;
@@ -22,9 +22,10 @@ const ENTRIES: u32 = 65_536;
 pub fn new_server(alloc: Global) -> Result<Server>
     ensures { IfOk result (λ server. (world_of server).seats ≡ []) }
 {
+    let capacity = Capacity::new(POOL).context("no pool")?;
     let quota = Quota::new(QUOTA).context("no quota")?;
     let limit = JournalLimit::new(ENTRIES).context("no limit")?;
     let tech = Tech::read(alloc, TECHNOLOGY_M)?;
     let rules = compile(&tech)?;
-    Ok(Server::new(alloc, tech, rules, POOL, quota, limit)?)
+    Ok(Server::new(alloc, tech, rules, capacity, quota, limit)?)
 }
