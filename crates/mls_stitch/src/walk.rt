@@ -16,9 +16,6 @@ use mls_tilepool::{Owner, Pool, Tile, TileId};
 /// The greatest number of tiles that a walk goes through.
 const MOST_STEPS: u32 = 4096;
 
-/// How many tiles a walk goes through from a tile that may have many neighbours, before it starts from another one.
-const FEW_STEPS: u32 = 2;
-
 /// Returns the tile to which a stitch of the tile leads, where that is a tile of the world.
 pub(crate) fn neighbour(pool: &Pool, owner: &Owner, tile: &LaidTile, stitch: Stitch) -> LaidTile
     requires plane { HasPlane pool.now owner.now }
@@ -57,25 +54,49 @@ fn laid_with(pool: &Pool, owner: &Owner, id: TileId, at: Point) -> Option<LaidTi
     if tile.holds(at) { Some(tile) } else { None }
 }
 
-/// Walks from a tile to the one that holds the square (Ousterhout 1984, point finding). Gives up after `most` steps,
-/// and where the owner has no such tile to start from.
-fn walk(
+/// Walks from a tile to the one that holds the square (Ousterhout 1984, point finding). Gives up after many steps, and
+/// where the owner has no such tile to start from.
+fn walk(pool: &Pool, owner: &Owner, from: TileId, at: Point, steps: &mut Steps) -> Option<LaidTile>
+    requires { HasPlane pool.now owner.now }
+    ensures { IfSome result (λ tile. IsLaidAt (block_at (tiles_of pool.now owner.now)) at tile) }
+{
+    let mut id = from;
+    for _ in 0..MOST_STEPS {
+        steps.take();
+        let tile = pool.get(owner, id)?;
+        match next_towards(pool, owner, &tile, at) {
+            Some(next) => id = next,
+            None => return laid_with(pool, owner, id, at),
+        }
+    }
+    None
+}
+
+/// Walks from two tiles by turns to the one that holds the square, so that this takes at most twice the steps of the
+/// shorter way. Gives up as `walk` does.
+fn walk_by_turns(
     pool: &Pool,
     owner: &Owner,
-    from: TileId,
+    one: TileId,
+    other: TileId,
     at: Point,
-    most: u32,
     steps: &mut Steps,
 ) -> Option<LaidTile>
     requires { HasPlane pool.now owner.now }
     ensures { IfSome result (λ tile. IsLaidAt (block_at (tiles_of pool.now owner.now)) at tile) }
 {
-    let mut id = from;
-    for _ in 0..most {
+    let mut id = one;
+    let mut other = other;
+    for _ in 0..MOST_STEPS {
         steps.take();
-        let tile = pool.get(owner, id)?;
+        let Some(tile) = pool.get(owner, id) else {
+            return walk(pool, owner, other, at, steps);
+        };
         match next_towards(pool, owner, &tile, at) {
-            Some(next) => id = next,
+            Some(next) => {
+                id = other;
+                other = next;
+            }
             None => return laid_with(pool, owner, id, at),
         }
     }
@@ -107,14 +128,13 @@ pub(crate) fn find_tile(
     requires { HasPlane pool.now owner.now }
     ensures { IsLaidAt (block_at (tiles_of pool.now owner.now)) at result }
 {
-    match walk(pool, owner, from, at, MOST_STEPS, steps) {
+    match walk(pool, owner, from, at, steps) {
         Some(tile) => tile,
         None => scan(pool, owner, at, steps),
     }
 }
 
-/// Returns the tile that holds the square. The search starts at the tile `near`, and where that takes more than a few
-/// steps at the tile `from`, if the owner has these.
+/// Returns the tile that holds the square. The search goes from both tiles, if the owner has these.
 pub(crate) fn find_near(
     pool: &Pool,
     owner: &Owner,
@@ -126,10 +146,11 @@ pub(crate) fn find_near(
     requires { HasPlane pool.now owner.now }
     ensures { IsLaidAt (block_at (tiles_of pool.now owner.now)) at result }
 {
-    if near != from {
-        if let Some(tile) = walk(pool, owner, near, at, FEW_STEPS, steps) {
-            return tile;
-        }
+    if near == from {
+        return find_tile(pool, owner, from, at, steps);
     }
-    find_tile(pool, owner, from, at, steps)
+    match walk_by_turns(pool, owner, near, from, at, steps) {
+        Some(tile) => tile,
+        None => scan(pool, owner, at, steps),
+    }
 }
