@@ -8,6 +8,10 @@ mod changed;
 #[cfg(test)]
 mod hostile;
 #[cfg(test)]
+mod hostile_cells;
+#[cfg(test)]
+mod plain_cell;
+#[cfg(test)]
 mod plain_list;
 #[cfg(test)]
 mod plain_rule;
