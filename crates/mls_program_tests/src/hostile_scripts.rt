@@ -241,6 +241,22 @@ fn reply_len(replies: &[&[u8]]) -> usize {
     }
 }
 
+/// Asserts that the first reply is to a line of this number, if the line has one. Returns how many lines it has.
+fn expect_reply(
+    rt: &impl Abort,
+    alloc: Global,
+    line: &[u8],
+    number: usize,
+    replies: &[&[u8]],
+) -> Result<usize, Fail> {
+    if !has_reply(line) {
+        return Ok(0);
+    }
+    let reply = replies.first().copied().unwrap_or(b"");
+    assert!(rt; is_reply(alloc, line, number, reply)?, "line {number}");
+    Ok(reply_len(replies))
+}
+
 /// Asserts that each line has its reply or its fault, and nothing else was written.
 fn expect_each_reply(
     rt: &impl Abort,
@@ -250,16 +266,13 @@ fn expect_each_reply(
 ) -> Result<(), Fail> {
     let lines = pieces_of(alloc, script)?;
     let replies = pieces_of(alloc, output)?;
-    let mut rest = replies.as_slice();
+    let mut next: usize = 0;
     for (before, line) in lines.iter().enumerate() {
-        if has_reply(line) {
-            let number = before.saturating_add(1);
-            let reply = rest.first().copied().unwrap_or(b"");
-            assert!(rt; is_reply(alloc, line, number, reply)?, "line {number}");
-            rest = rest.get(reply_len(rest)..).ok_or("half a text")?;
-        }
+        let rest = replies.get(next..).ok_or("half a text")?;
+        let taken = expect_reply(rt, alloc, line, before.saturating_add(1), rest)?;
+        next = next.saturating_add(taken);
     }
-    assert_eq!(rt; rest.len(), 1);
+    assert_eq!(rt; next.saturating_add(1), replies.len());
     Ok(())
 }
 
