@@ -2,31 +2,39 @@
 //!
 //! Checks eight small layouts by two workers, and edits them and checks them again, and prints how many squares are marked
 //! each time. With the argument `shares` prints which part of their time workers hold the lock; with `workers` how long whole
-//! checks and edits take with one, two and four workers; and with `paints` how long a paint takes while they check.
+//! checks and edits take with one, two and four workers; and with `paints` how long a paint takes while they check. With
+//! `soak N` makes random commands at 64 seats beside four workers for N seconds, audits each session at its close, and
+//! prints what was done.
 #![tactic(auto)]
 
-ghost use Rattle.std.specs.Prelude.{◌≡◌, []};
+ghost use Rattle.std.specs.Prelude.{◌≡◌, [], IfOk};
 ghost use Rattle.mls_server.specs.Servers.{world_of};
 ghost use Rattle.mls_server.specs.Settings.{terms_for};
 
 mod crew;
 mod crews;
+mod dice;
 mod hundredths;
 mod layouts;
+mod painter;
 mod paints;
 mod rounds;
 mod servers;
+mod soak;
+mod tally;
 mod team;
 mod timer;
 
-use anyhow::Result;
+use anyhow::{Context, Result};
 use crews::{EDITS, Timed, time_edits, time_whole};
 use hundredths::Hundredths;
 use mls_live::{Live, Naming};
 use mls_server::Server;
+use mls_session::Command;
 use paints::time_paints;
 use rounds::{Round, check_all, check_edits, edit_all};
-use servers::new_server;
+use servers::{LARGE, dump_on, new_server, stocked_server};
+use soak::soak;
 use std::alloc::Global;
 use std::env;
 use std::marker::Brand;
@@ -56,25 +64,40 @@ enum Mode {
     Shares,
     Workers,
     Paints,
+    /// For so many seconds.
+    Soak(u64),
 }
 
 fn main(rt: HostRuntime) -> Result<()> {
     let mode = read_mode(&rt)?;
-    let server = new_server(rt.alloc())?;
-    run_at::<Brand, HostRuntime>(&rt, rt.alloc(), server, Blank::new(65), mode)
+    let server = server_for(rt.alloc(), &mode)?;
+    run_at::<Brand, HostRuntime>(&rt, rt.alloc(), server, Blank::new(65), &mode)
 }
 
 /// Reads what is to be printed from the words of the command line.
 fn read_mode(rt: &HostRuntime) -> Result<Mode> {
+    let mut soaks = false;
     for word in env::args(rt)? {
         match word.as_str() {
             "shares" => return Ok(Mode::Shares),
             "workers" => return Ok(Mode::Workers),
             "paints" => return Ok(Mode::Paints),
+            "soak" => soaks = true,
+            seconds if soaks => return Ok(Mode::Soak(seconds.parse().context("no seconds")?)),
             _ => {}
         }
     }
     Ok(Mode::Marks)
+}
+
+/// Creates a server for what is to be printed.
+fn server_for(alloc: Global, mode: &Mode) -> Result<Server>
+    ensures { IfOk result (λ server. (world_of server).seats ≡ []) }
+{
+    match mode {
+        Mode::Soak(_) => stocked_server(alloc),
+        _ => new_server(alloc, LARGE),
+    }
 }
 
 /// Puts a server under a lock, and prints what workers do there.
@@ -83,7 +106,7 @@ fn run_at<N: Naming + Send + Sync, R: Threads + Wait + Clock + Print + Sync>(
     alloc: Global,
     server: Server,
     blank: Blank,
-    mode: Mode,
+    mode: &Mode,
 ) -> Result<()>
     requires named { terms_for (world_of server).setting ≡ N.terms }
     requires idle { (world_of server).seats ≡ [] }
@@ -91,8 +114,9 @@ fn run_at<N: Naming + Send + Sync, R: Threads + Wait + Clock + Print + Sync>(
     requires parts { N.parts ≡ 65 }
 {
     let limit = server.journal_limit();
+    let dump = dump_on(&server);
     let live = Live::<N>::new(server, limit, blank);
-    run(rt, alloc, &live, mode)
+    run(rt, alloc, &live, &dump, mode)
 }
 
 /// Prints what workers do at a server under a lock.
@@ -100,13 +124,17 @@ fn run<N: Naming + Send + Sync, R: Threads + Wait + Clock + Print + Sync>(
     rt: &R,
     alloc: Global,
     live: &Live<N>,
-    mode: Mode,
-) -> Result<()> {
+    dump: &Command,
+    mode: &Mode,
+) -> Result<()>
+    requires { N.parts ≡ 65 }
+{
     match mode {
         Mode::Marks => print_marks(rt, alloc, new_team(rt, alloc, live, FEW_ROWS)?),
         Mode::Shares => print_shares(rt, alloc, new_team(rt, alloc, live, ROWS)?),
         Mode::Workers => print_crews(rt, alloc, new_team(rt, alloc, live, ROWS)?),
         Mode::Paints => print_paints(rt, alloc, new_team(rt, alloc, live, ROWS)?),
+        Mode::Soak(seconds) => soak(rt, alloc, live, dump, *seconds),
     }
 }
 

@@ -80,7 +80,7 @@ fn say<N: Naming, R: Wait>(
 }
 
 /// Carries out a command, and returns the reply.
-fn reply_to<N: Naming, R: Wait>(
+pub fn reply_to<N: Naming, R: Wait>(
     rt: &R,
     alloc: Global,
     seat: &mut Seat<'_, N>,

@@ -1,4 +1,4 @@
-//! A gate that adds up how long checks take.
+//! A gate that counts checks, and adds up how long they take.
 use mls_checker::Finding;
 use mls_live::{Gate, Plain};
 use mls_server::SessionId;
@@ -7,10 +7,11 @@ use std::alloc::{AllocError, Global};
 use std::sync::atomic::{AtomicU64, Ordering};
 use std::time::{Clock, Instant};
 
-/// Lets checks through, and adds up the nanoseconds that they take, all workers together.
+/// Lets checks through, counts them, and adds up the nanoseconds that they take, all workers together.
 #[derive(Drop)]
 pub struct Timer<'r, R> {
     rt: &'r R,
+    pieces: AtomicU64,
     nanos: AtomicU64,
 }
 
@@ -18,8 +19,14 @@ impl<'r, R: Clock> Timer<'r, R> {
     pub fn new(rt: &'r R) -> Timer<'r, R> {
         Timer {
             rt,
+            pieces: AtomicU64::new(0),
             nanos: AtomicU64::new(0),
         }
+    }
+
+    /// Returns how many pieces were checked.
+    pub fn pieces(&self) -> u64 {
+        self.pieces.load(Ordering::SeqCst)
     }
 
     /// Returns how many nanoseconds all checks took.
@@ -42,6 +49,7 @@ impl<'r, R: Clock> Gate for Timer<'r, R> {
         let start = Instant::now(self.rt).ok();
         let found = Plain.check(alloc, id, job);
         self.add_since(start);
+        self.pieces.fetch_add(1, Ordering::SeqCst);
         found
     }
 }
