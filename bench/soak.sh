@@ -11,9 +11,10 @@
 # a retirement lists more than there is, or the journals had other than all commands that weren't refused by 6 or 9.
 #
 # The rows are how many commands were made, and how many in a second; how many were refused by each number; how many
-# sessions were opened, audited and closed; how many pieces were checked, and of how many the layout had changed
-# meanwhile; and how many kilobytes the program held after one minute, or the first tenth of less than ten, and at most
-# after that. The script fails where the program does or doesn't end in time, or where that is 5 % more.
+# sessions were opened, audited and closed; how many pieces were checked, of how many the layout had changed meanwhile,
+# and of how many the marks had no room; and how many kilobytes the program held after one minute, or the first tenth of
+# less than ten, and at most after that. The script fails where the program does or doesn't end in time, or where the
+# last number is 5 % more than the one before.
 #
 # It runs the program that it builds, or PROGRAM. Nothing of it runs in the gate.
 set -eu
@@ -76,6 +77,7 @@ row 'sessions audited' "${counts[12]:-0}"
 row 'sessions closed' "${counts[13]:-0}"
 row 'pieces checked' "${counts[14]:-0}"
 row 'pieces stale' "$(awk -F'\t' '$1 == "worked" { print $3 }' "$work/rows")"
+row 'pieces without room' "$(awk -F'\t' '$1 == "worked" { print $4 }' "$work/rows")"
 row "kB after $warm seconds" "$base"
 row 'kB at most after that' "$most"
 if [ "$status" != 0 ]; then
