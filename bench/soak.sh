@@ -16,6 +16,9 @@
 # less than ten, and at most after that. The script fails where the program does or doesn't end in time, or where the
 # last number is 5 % more than the one before.
 #
+# The C library keeps freed blocks for the thread that freed them, and fills these caches up for hours; GLIBC_TUNABLES
+# turns them off here, so that what grows is what the program holds.
+#
 # It runs the program that it builds, or PROGRAM. Nothing of it runs in the gate.
 set -eu
 here=$(cd "$(dirname "${BASH_SOURCE[0]}")/.." && pwd)
@@ -48,7 +51,8 @@ warm=$((asked < 600 ? asked / 10 : 60))
 base=0
 most=0
 SECONDS=0
-"$program" soak "$asked" > "$work/rows" 2> "$work/messages" &
+GLIBC_TUNABLES=glibc.malloc.arena_max=1:glibc.malloc.tcache_count=0:glibc.malloc.mxfast=0 \
+    "$program" soak "$asked" > "$work/rows" 2> "$work/messages" &
 pid=$!
 while sleep 1; kb=$(held); [ -n "$kb" ]; do
     if [ "$SECONDS" -gt $((asked + late)) ]; then
