@@ -1,12 +1,13 @@
 -- The tiles round the touched ones, gathered from one search after another, or from one round all.
-use Rattle.std.proofs.Common.{◌≡◌, ◌⊎◌, ◌↔◌, ℕ, ◌+◌, ◌<◌, ◌==◌, Bool, true, false, not, cond, IsTrue, List, [], ◌∷◌, ◌++◌, length, take, drop, get_or, slice_get, Option, Some, None, Any, Contains, inl, inr, sym, ap, ◌∙◌, subst, append-nil, append_assoc, arith}
+use Rattle.std.proofs.Common.{◌≡◌, ◌⊎◌, ◌↔◌, ℕ, ◌+◌, ◌<◌, ◌≤◌, ◌==◌, Bool, true, false, not, cond, IsTrue, List, [], ◌∷◌, ◌++◌, length, take, get_or, slice_get, Option, Some, None, Any, Contains, inl, inr, sym, ap, ◌∙◌, subst, append-nil, append_assoc, arith}
 use Rattle.std.specs.List.{list_any}
-use Rattle.std.specs.Option.{IfSome, IsSomeAnd}
+use Rattle.std.specs.Option.{IfSome, IsSomeAnd, option_map}
+use Rattle.std.proofs.lemmas.Bool.{cases_lt}
 use Rattle.std.proofs.lemmas.List.Elements.{All-append, All-contains, All-filter, All-nil, Contains-push_cases, filter_more, filter_passes}
-use Rattle.std.proofs.lemmas.Option.{none-some, same_Some}
+use Rattle.std.proofs.lemmas.Option.{get_or_from_slice_get, same_Some, slice_get_within}
 use Rattle.mls_geom.specs.Rects.{Rect, Point, IsWithin, holds}
 use Rattle.mls_geom.specs.declared.piece.Piece.{Piece}
-use Rattle.mls_geom.proofs.Ascending.{Contains-filter, Contains-first}
+use Rattle.mls_geom.proofs.Ascending.{Contains-filter}
 use Rattle.mls_geom.proofs.Holds.{between_holds, holds_between}
 use Rattle.mls_geom.proofs.JoinedLists.{Any-append_left, Any-append_right}
 use Rattle.mls_stitch.specs.Gathering.{AreMet, EncloseBlocks, IsInPart}
@@ -18,7 +19,7 @@ use Rattle.mls_stitch.specs.Tilings.{AreBlocks}
 use Rattle.mls_stitch.specs.declared.laid_tile.LaidTile.{LaidTile}
 use Rattle.mls_stitch.proofs.CloseSquares.{close_in_grown}
 use Rattle.mls_stitch.proofs.DistinctNumbers.{cases_Contains}
-use Rattle.mls_stitch.proofs.FreshTiles.{Contains-first_or_rest, entry-keys_of, list_any-Contains, list_any-absent, nothing_in_nil}
+use Rattle.mls_stitch.proofs.FreshTiles.{entry-keys_of, list_any-Contains, list_any-absent}
 use Rattle.mls_stitch.proofs.Gathered.{IsRound, both_true, met_square}
 use Rattle.mls_stitch.proofs.Listings.{same_tile}
 use Rattle.mls_stitch.proofs.ReplacedStitches.{Any-contained}
@@ -50,11 +51,7 @@ unlisted_skip keys found i tile before entries within is there so_far =
     ∙ append-nil (unlisted_of keys (take i found)) in
     so_far ∙ ap (λ l. before ++ l) (sym more)
 
--- the list has all tiles round none of the squares
-pub Surround-none : (blocks : ℕ → Option Piece) (touched : List ℕ) → Surround blocks touched (IsHeld blocks []) []
-Surround-none blocks touched = record { each = All-nil _; apart = All-nil _; whole = λ p at (k, key, within, is, held). absurd (omega (arith, within)) }
-
--- or round fewer squares
+-- what lies round some squares lies round fewer
 pub Surround-fewer :
     (blocks : ℕ → Option Piece) (touched : List ℕ) (squares fewer : Point → Type 0) (list : List LaidTile) → Surround blocks touched squares list → ((p : Point) → fewer p → squares p)
     → Surround blocks touched fewer list
@@ -157,40 +154,27 @@ held_within blocks bounds keys p inside (k, key, within, is, held) =
     let reached : IsWithin bounds block.rect = subst (λ o. IfSome o (λ b. IsWithin bounds b.rect)) here (All-contains (λ j. IfSome (blocks j) (λ b. IsWithin bounds b.rect)) keys key inside (k, within, is)) in
     square_within bounds block.rect p reached in_block
 
--- one more tile was passed, round which these were found
-pub passed_more :
-    (blocks : ℕ → Option Piece) (keys passed : List ℕ) (key : ℕ) (block : Piece) (area : Rect) (found list : List LaidTile) → AreBlocks blocks → blocks key ≡ Some block
-    → IsRound block.rect area → AreMet blocks area found → Surround blocks keys (IsHeld blocks passed) list → Surround blocks keys (IsHeld blocks (passed ++ key ∷ [])) (list ++ unlisted_of keys found)
-passed_more blocks keys passed key block area found list tiling here around met so_far =
-    let last = Surround-met blocks keys (HoldsAt blocks key) block.rect area found tiling (λ p held. holds-HoldsAt blocks key block p here held) around met in
-    Surround-fewer blocks keys (λ p. IsHeld blocks passed p ⊎ HoldsAt blocks key p) (IsHeld blocks (passed ++ key ∷ [])) (list ++ unlisted_of keys found)
-    (Surround-more blocks keys (IsHeld blocks passed) (HoldsAt blocks key) list (unlisted_of keys found) so_far last)
-    (λ p (k, other, within, is, held). elim (Contains-push_cases passed key other (k, within, is)) [
-      | inl earlier ↦ inl (Any-contained (λ j. HoldsAt blocks j p) passed other earlier held)
-      | inr now ↦ inr (subst (λ j. HoldsAt blocks j p) (sym now) held)
-    ])
-
--- round these tiles, and round these parts
-abbrev pub IsHeldOrPart : (ℕ → Option Piece) → List ℕ → List (Option Rect) → Point → Type 0
-IsHeldOrPart blocks ids parts p = IsHeld blocks ids p ⊎ IsInPart parts p
+-- these squares, and those of these parts
+abbrev pub IsOneOrPart : (Point → Type 0) → List (Option Rect) → Point → Type 0
+IsOneOrPart squares parts p = squares p ⊎ IsInPart parts p
 
 pub parts_none :
-    (blocks : ℕ → Option Piece) (keys ids : List ℕ) (list : List LaidTile) → Surround blocks keys (IsHeld blocks ids) list → Surround blocks keys (IsHeldOrPart blocks ids []) list
-parts_none blocks keys ids list so_far =
-    Surround-fewer blocks keys (IsHeld blocks ids) (IsHeldOrPart blocks ids []) list so_far
+    (blocks : ℕ → Option Piece) (keys : List ℕ) (squares : Point → Type 0) (list : List LaidTile) → Surround blocks keys squares list → Surround blocks keys (IsOneOrPart squares []) list
+parts_none blocks keys squares list so_far =
+    Surround-fewer blocks keys squares (IsOneOrPart squares []) list so_far
     (λ p either. elim either [
-      | inl held ↦ held
+      | inl one ↦ one
       | inr (k, part, within, is, inside) ↦ absurd (omega (arith, within))
     ])
 
 -- a part without squares was passed
 pub parts_skip :
-    (blocks : ℕ → Option Piece) (keys ids : List ℕ) (passed : List (Option Rect)) (list : List LaidTile) → Surround blocks keys (IsHeldOrPart blocks ids passed) list
-    → Surround blocks keys (IsHeldOrPart blocks ids (passed ++ None ∷ [])) list
-parts_skip blocks keys ids passed list so_far =
-    Surround-fewer blocks keys (IsHeldOrPart blocks ids passed) (IsHeldOrPart blocks ids (passed ++ None ∷ [])) list so_far
+    (blocks : ℕ → Option Piece) (keys : List ℕ) (squares : Point → Type 0) (passed : List (Option Rect)) (list : List LaidTile) → Surround blocks keys (IsOneOrPart squares passed) list
+    → Surround blocks keys (IsOneOrPart squares (passed ++ None ∷ [])) list
+parts_skip blocks keys squares passed list so_far =
+    Surround-fewer blocks keys (IsOneOrPart squares passed) (IsOneOrPart squares (passed ++ None ∷ [])) list so_far
     (λ p either. elim either [
-      | inl held ↦ inl held
+      | inl one ↦ inl one
       | inr (k, part, within, is, inside) ↦ elim (Contains-push_cases passed None part (k, within, is)) [
         | inl earlier ↦ inr (Any-contained (λ o. IsSomeAnd o (λ r. IsTrue (holds r p.x p.y))) passed part earlier inside)
         | inr now ↦ absurd (subst (λ o. IsSomeAnd o (λ r. IsTrue (holds r p.x p.y))) (sym now) inside)
@@ -199,42 +183,60 @@ parts_skip blocks keys ids passed list so_far =
 
 -- one more part was passed, round which these were found
 pub parts_more :
-    (blocks : ℕ → Option Piece) (keys ids : List ℕ) (passed : List (Option Rect)) (part area : Rect) (found list : List LaidTile) → AreBlocks blocks → IsRound part area → AreMet blocks area found
-    → Surround blocks keys (IsHeldOrPart blocks ids passed) list → Surround blocks keys (IsHeldOrPart blocks ids (passed ++ Some part ∷ [])) (list ++ unlisted_of keys found)
-parts_more blocks keys ids passed part area found list tiling around met so_far =
+    (blocks : ℕ → Option Piece) (keys : List ℕ) (squares : Point → Type 0) (passed : List (Option Rect)) (part area : Rect) (found list : List LaidTile) → AreBlocks blocks → IsRound part area
+    → AreMet blocks area found → Surround blocks keys (IsOneOrPart squares passed) list → Surround blocks keys (IsOneOrPart squares (passed ++ Some part ∷ [])) (list ++ unlisted_of keys found)
+parts_more blocks keys squares passed part area found list tiling around met so_far =
     let last = Surround-met blocks keys (λ p. holds part p.x p.y ≡ true) part area found tiling (λ p inside. inside) around met in
-    Surround-fewer blocks keys (λ p. IsHeldOrPart blocks ids passed p ⊎ (holds part p.x p.y ≡ true)) (IsHeldOrPart blocks ids (passed ++ Some part ∷ [])) (list ++ unlisted_of keys found)
-    (Surround-more blocks keys (IsHeldOrPart blocks ids passed) (λ p. holds part p.x p.y ≡ true) list (unlisted_of keys found) so_far last)
+    Surround-fewer blocks keys (λ p. IsOneOrPart squares passed p ⊎ (holds part p.x p.y ≡ true)) (IsOneOrPart squares (passed ++ Some part ∷ [])) (list ++ unlisted_of keys found)
+    (Surround-more blocks keys (IsOneOrPart squares passed) (λ p. holds part p.x p.y ≡ true) list (unlisted_of keys found) so_far last)
     (λ p either. elim either [
-      | inl held ↦ inl (inl held)
+      | inl one ↦ inl (inl one)
       | inr (k, other, within, is, inside) ↦ elim (Contains-push_cases passed (Some part) other (k, within, is)) [
         | inl earlier ↦ inl (inr (Any-contained (λ o. IsSomeAnd o (λ r. IsTrue (holds r p.x p.y))) passed other earlier inside))
         | inr now ↦ inr (subst (λ o. IsSomeAnd o (λ r. IsTrue (holds r p.x p.y))) (sym now) inside)
       ]
     ])
 
--- a square that the tile loses is in one of the parts beside its piece
-pub lost_part :
-    (blocks : ℕ → Option Piece) (shrunk : LaidTile) (block : Piece) (parts : List (Option Rect)) (p : Point) → blocks shrunk.id ≡ Some block
-    → ((at : Point) → IsTrue (holds block.rect at.x at.y) → holds shrunk.piece.rect at.x at.y ≡ false → IsInPart parts at) → IsLost blocks (shrunk.id ∷ []) (Some shrunk) p → IsInPart parts p
-lost_part blocks shrunk block parts p here beside lost =
-    let (k, key, within, is, held) = lost.held in
-    let same : shrunk.id ≡ key = elim (Contains-first_or_rest shrunk.id key [] (k, within, is)) [
-      | inl first ↦ first
-      | inr rest ↦ absurd (nothing_in_nil key rest)
-    ] in
-    beside p (holds-HoldsAt blocks shrunk.id block p here (subst (λ j. HoldsAt blocks j p) (sym same) held)) lost.outside
+-- one of the touched tiles before the index loses the square
+abbrev pub IsLostBefore : (ℕ → Option Piece) → List ℕ → List Piece → ℕ → Point → Type 0
+IsLostBefore blocks touched fresh index p = (lost : IsLost blocks touched fresh p) × (lost.place < index)
 
--- a lost square is one of another touched tile, or one that the tile loses
-pub lost_cases :
-    (blocks : ℕ → Option Piece) (touched : List ℕ) (shrunk : LaidTile) (p : Point) → slice_get touched 0 ≡ Some shrunk.id → IsLost blocks touched (Some shrunk) p
-    → IsHeld blocks (drop 1 touched) p ⊎ IsLost blocks (shrunk.id ∷ []) (Some shrunk) p
-lost_cases blocks [] shrunk p first lost = absurd (none-some _ first)
-lost_cases blocks (key ∷ touched) shrunk p first lost =
-    let (k, other, within, is, held) = lost.held in
-    elim (Contains-first_or_rest key other touched (k, within, is)) [
-      | inl now ↦
-          let same : shrunk.id ≡ other = sym (same_Some key shrunk.id first) ∙ now in
-          inr (record { held = Any-contained (λ j. HoldsAt blocks j p) (shrunk.id ∷ []) other (Contains-first shrunk.id other [] same) held; outside = lost.outside })
-      | inr later ↦ inl (Any-contained (λ j. HoldsAt blocks j p) touched other later held)
-    ]
+pub lost_none : (blocks : ℕ → Option Piece) (keys touched : List ℕ) (fresh : List Piece) → Surround blocks keys (IsLostBefore blocks touched fresh 0) []
+lost_none blocks keys touched fresh = record { each = All-nil _; apart = All-nil _; whole = λ p at (lost, less). absurd (omega (arith, less)) }
+
+-- no other one loses any
+pub lost_all :
+    (blocks : ℕ → Option Piece) (keys touched : List ℕ) (fresh : List Piece) (index : ℕ) (list : List LaidTile) → length touched ≤ index → Surround blocks keys (IsLostBefore blocks touched fresh index) list
+    → Surround blocks keys (IsLost blocks touched fresh) list
+lost_all blocks keys touched fresh index list all so_far =
+    Surround-fewer blocks keys (IsLostBefore blocks touched fresh index) (IsLost blocks touched fresh) list so_far
+    (λ p lost. (lost, omega (arith, all, slice_get_within touched lost.place lost.key lost.there)))
+
+-- what the piece outside is is so of its rectangle
+outside_rect : (fresh : Option Piece) (p : Point) → IfSome fresh (λ piece. holds piece.rect p.x p.y ≡ false) → IfSome (option_map (λ (piece : Piece). piece.rect) fresh) (λ rect. holds rect p.x p.y ≡ false)
+outside_rect None p outside = tt
+outside_rect (Some piece) p outside = outside
+
+-- the squares that the tile at the index loses lie in these parts
+pub lost_more :
+    (blocks : ℕ → Option Piece) (keys touched : List ℕ) (fresh : List Piece) (index key : ℕ) (block : Piece) (other : Option Rect) (parts : List (Option Rect)) (list : List LaidTile)
+    → slice_get touched index ≡ Some key → blocks key ≡ Some block → other ≡ option_map (λ (piece : Piece). piece.rect) (slice_get fresh index)
+    → ((at : Point) → IsTrue (holds block.rect at.x at.y) → IfSome other (λ rect. holds rect at.x at.y ≡ false) → IsInPart parts at)
+    → Surround blocks keys (IsOneOrPart (IsLostBefore blocks touched fresh index) parts) list → Surround blocks keys (IsLostBefore blocks touched fresh (index + 1)) list
+lost_more blocks keys touched fresh index key block other parts list there here is_other beside so_far =
+    Surround-fewer blocks keys (IsOneOrPart (IsLostBefore blocks touched fresh index) parts) (IsLostBefore blocks touched fresh (index + 1)) list so_far
+    (λ p (lost, less). elim (cases_lt lost.place index) [
+      | inl earlier ↦ inl (lost, earlier)
+      | inr now ↦
+          let same : lost.place ≡ index = omega (arith, now, less) in
+          let its_key : lost.key ≡ key = same_Some lost.key key (sym lost.there ∙ ap (slice_get touched) same ∙ there) in
+          let inside = holds-HoldsAt blocks key block p here (subst (λ j. HoldsAt blocks j p) its_key lost.held) in
+          let outside = outside_rect (slice_get fresh index) p (subst (λ i. IfSome (slice_get fresh i) (λ piece. holds piece.rect p.x p.y ≡ false)) same lost.outside) in
+          inr (beside p inside (subst (λ o. IfSome o (λ rect. holds rect p.x p.y ≡ false)) (sym is_other) outside))
+    ])
+
+-- a lost square is one of a touched tile
+pub lost_held : (blocks : ℕ → Option Piece) (touched : List ℕ) (fresh : List Piece) (p : Point) → IsLost blocks touched fresh p → IsHeld blocks touched p
+lost_held blocks touched fresh p lost =
+    let within = slice_get_within touched lost.place lost.key lost.there in
+    (lost.place, lost.key, within, get_or_from_slice_get touched lost.place lost.key lost.key lost.there, lost.held)

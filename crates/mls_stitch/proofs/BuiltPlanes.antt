@@ -1,5 +1,5 @@
 -- The strips of a picture, laid as the tiles of an owner and stitched.
-use Rattle.std.proofs.Common.{◌≡◌, ◌≢◌, ℕ, ◌<◌, List, [], length, map, None, AllPairs, refl, sym, ap, ◌∙◌, subst, arith}
+use Rattle.std.proofs.Common.{◌≡◌, ◌≢◌, ℕ, ◌<◌, List, [], length, map, AllPairs, refl, sym, ap, ◌∙◌, subst, arith}
 use Rattle.mls_geom.specs.Locality.{AreUnorderedStrips}
 use Rattle.mls_geom.specs.Pictures.{picture_of}
 use Rattle.mls_geom.specs.World.{world}
@@ -19,30 +19,30 @@ pub some_strip : (pieces : List Piece) → AreUnorderedStrips world (picture_of 
 some_strip pieces strips = let (k, piece, within, is, held) = strips.whole world.left world.bottom refl in omega (arith, within)
 
 -- with no tile before, the laid tiles are the list
-listed_all : {mid : List (ℕ × Tile)} {pieces : List Piece} {after : List LaidTile} (a : Lays [] mid [] pieces None [] after) → map piece_of after ≡ pieces
+listed_all : {mid : List (ℕ × Tile)} {pieces : List Piece} {after : List LaidTile} (a : Lays [] mid [] pieces [] after) → map piece_of after ≡ pieces
 listed_all a = ap (map piece_of) a.listed ∙ a.pieces
 
-once_all : {mid : List (ℕ × Tile)} {pieces : List Piece} {after : List LaidTile} (a : Lays [] mid [] pieces None [] after) → AllPairs (λ p q. p.id ≢ q.id) after
+once_all : {mid : List (ℕ × Tile)} {pieces : List Piece} {after : List LaidTile} (a : Lays [] mid [] pieces [] after) → AllPairs (λ p q. p.id ≢ q.id) after
 once_all a = subst (AllPairs (λ (p q : LaidTile). p.id ≢ q.id)) (sym a.listed) a.ways.once
 
-strips_all : {mid : List (ℕ × Tile)} {pieces : List Piece} {after : List LaidTile} (a : Lays [] mid [] pieces None [] after) → AreUnorderedStrips world (picture_of pieces) pieces
+strips_all : {mid : List (ℕ × Tile)} {pieces : List Piece} {after : List LaidTile} (a : Lays [] mid [] pieces [] after) → AreUnorderedStrips world (picture_of pieces) pieces
     → AreUnorderedStrips world (picture_of (map piece_of after)) (map piece_of after)
 strips_all a strips = subst (λ list. AreUnorderedStrips world (picture_of list) list) (sym (listed_all a)) strips
 
 -- the strips are laid and wait for their stitches
 pub AwaitStitches-built :
-    {mid : List (ℕ × Tile)} (pieces : List Piece) (after : List LaidTile) → AreUnorderedStrips world (picture_of pieces) pieces → Lays [] mid [] pieces None [] after → AwaitStitches mid (fresh_at after) after
+    {mid : List (ℕ × Tile)} (pieces : List Piece) (after : List LaidTile) → AreUnorderedStrips world (picture_of pieces) pieces → Lays [] mid [] pieces [] after → AwaitStitches mid (fresh_at after) after
 AwaitStitches-built {mid} pieces after strips a =
     subst (λ list. AwaitStitches mid (fresh_at list) list) (sym a.listed)
     (AwaitStitches-strips (picture_of pieces) a.laid (subst (AreUnorderedStrips world (picture_of pieces)) (sym a.pieces) strips) a.ways.once mid a.ways)
 
 -- and once they are stitched, they show the picture, and are maximal
 pub shown-strips_laid :
-    {mid new : List (ℕ × Tile)} (pieces : List Piece) (after : List LaidTile) → AreUnorderedStrips world (picture_of pieces) pieces → Lays [] mid [] pieces None [] after → AreTiledAs new (fresh_at after)
+    {mid new : List (ℕ × Tile)} (pieces : List Piece) (after : List LaidTile) → AreUnorderedStrips world (picture_of pieces) pieces → Lays [] mid [] pieces [] after → AreTiledAs new (fresh_at after)
     → KeysDiffer new → shown new ≡ picture_of pieces
 shown-strips_laid {new = new} pieces after strips a tiled differ = shown-built new after (strips_all a strips) (once_all a) tiled differ ∙ ap picture_of (listed_all a)
 
 pub IsMaximal-strips_laid :
-    {mid new : List (ℕ × Tile)} (pieces : List Piece) (after : List LaidTile) → AreUnorderedStrips world (picture_of pieces) pieces → Lays [] mid [] pieces None [] after → AreTiledAs new (fresh_at after)
+    {mid new : List (ℕ × Tile)} (pieces : List Piece) (after : List LaidTile) → AreUnorderedStrips world (picture_of pieces) pieces → Lays [] mid [] pieces [] after → AreTiledAs new (fresh_at after)
     → KeysDiffer new → IsMaximal new
 IsMaximal-strips_laid {new = new} pieces after strips a tiled differ = IsMaximal-built new after (strips_all a strips) (once_all a) tiled differ

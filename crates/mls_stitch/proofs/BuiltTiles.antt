@@ -1,5 +1,5 @@
 -- Building: the strips of a picture, laid under keys of their own, are the blocks of a plane.
-use Rattle.std.proofs.Common.{◌≡◌, ◌≢◌, ℕ, true, List, [], map, get_or, Some, None, IsTrue, All, AllPairs, Contains, inl, inr, refl, sym, ap, ◌∙◌, subst, subst₂, le_refl}
+use Rattle.std.proofs.Common.{◌≡◌, ◌≢◌, ℕ, true, List, [], map, get_or, Some, IsTrue, All, AllPairs, Contains, inl, inr, refl, sym, ap, ◌∙◌, subst, subst₂, le_refl}
 use Rattle.std.specs.Option.{IfSome}
 use Rattle.std.proofs.lemmas.Bool.{cases_Bool}
 use Rattle.std.proofs.lemmas.List.Elements.{All-contains, All-map, Contains-get_or}
@@ -24,7 +24,6 @@ use Rattle.mls_stitch.proofs.DistinctNumbers.{cases_Contains}
 use Rattle.mls_stitch.proofs.FreshTiles.{AllPairs-either, AllPairs-from_map, Contains-from_map, IfSome-each, entry-keys_of, fresh_at-absent, fresh_at-entry, fresh_at-listed, keys_of-listed, nothing_in_nil}
 use Rattle.mls_stitch.proofs.MaximalTiles.{IsMaximal-strips, shown-strips}
 use Rattle.mls_stitch.proofs.ReplacedBlocks.{piece_of}
-use Rattle.mls_stitch.proofs.Laying.{placed_each}
 use Rattle.mls_stitch.proofs.ReplacedStitches.{Any-contained, ArePlaced-unstitched, no_stitch}
 use Rattle.mls_stitch.proofs.ShownTiles.{KeysDiffer}
 use Rattle.mls_stitch.proofs.Sides.{HoldsAt-block, IsPlane-AreTiledAs, block_at-AreTiledAs, there-IsSomeAnd}
@@ -76,14 +75,14 @@ module _ (picture : Picture) (laid : List LaidTile) (strips : AreUnorderedStrips
   pub AreBlocks-strips : AreBlocks (fresh_at laid)
   AreBlocks-strips = record { legal = legal; whole = whole; apart = apart }
 
-  module _ (tiles : List (ℕ × Tile)) (ways : GiveWay [] tiles [] None laid) where
+  module _ (tiles : List (ℕ × Tile)) (ways : GiveWay [] tiles [] laid) where
     placed : (key : ℕ) → ArePlaced (tile_in tiles key) (fresh_at laid key)
     placed key = elim (cases_Contains (keys_of laid) key) [
       | inl listed ↦
           let (entry, found, is) = entry-keys_of laid key listed in
           subst (λ k. ArePlaced (tile_in tiles k) (fresh_at laid k)) is
           (ArePlaced-unstitched (tile_in tiles entry.id) (fresh_at laid entry.id) entry.piece
-          (All-contains (λ e. tile_in tiles e.id ≡ Some (unstitched e.piece)) laid entry (placed_each ways) found) (fresh_at-entry laid entry once found))
+          (All-contains (λ e. tile_in tiles e.id ≡ Some (unstitched e.piece)) laid entry ways.placed found) (fresh_at-entry laid entry once found))
       | inr unlisted ↦ subst₂ ArePlaced (sym (ways.kept key (nothing_in_nil key) unlisted)) (sym (fresh_at-absent laid key unlisted)) refl
     ]
 
@@ -92,7 +91,7 @@ module _ (picture : Picture) (laid : List LaidTile) (strips : AreUnorderedStrips
         → IsRightOrListed (fresh_at laid) laid entry.id tile entry.piece stitch
     pending-entry entry tile stitch found is =
         let at = beyond stitch entry.piece.rect in
-        let none = no_stitch tiles laid entry tile stitch (placed_each ways) found is in
+        let none = no_stitch tiles laid entry tile stitch ways.placed found is in
         elim (cases_Bool (holds world at.x at.y)) [
           | inl inside ↦
               let (other, there, in_other) = entry_with at.x at.y inside in

@@ -1,7 +1,7 @@
 -- Squares that share a side or a corner, and the squares to which stitches lead.
 use Rattle.std.proofs.Common.{◌≡◌, ◌⊎◌, ◌-◌, true, false, inl, inr, ap, ◌∙◌, arith}
 use Rattle.std.proofs.lemmas.Bool.{both_ways, cases_lt, false_from_ne_true}
-use Rattle.mls_geom.specs.Rects.{Rect, Point, IsRectangleIn, IsWithin, grown, holds}
+use Rattle.mls_geom.specs.Rects.{Rect, Point, IsRectangleIn, grown, holds}
 use Rattle.mls_geom.specs.World.{world}
 use Rattle.mls_geom.proofs.Holds.{between_holds, holds_between}
 use Rattle.mls_stitch.specs.Placing.{AreClose}
@@ -18,25 +18,22 @@ close_in_grown e p q close inside =
     let lines = holds_between e p.x p.y inside in
     between_holds (grown 1 e) q.x q.y (omega (arith, lines.0, close.left)) (omega (arith, lines.1, close.right)) (omega (arith, lines.2, close.below)) (omega (arith, lines.3, close.above))
 
--- the stitch of a tile leads to a square that is close to one of the tile's
-pub inner_square : (stitch : Stitch) (outer e : Rect) → IsRectangleIn outer e → (p : Point) × (holds e p.x p.y ≡ true) × AreClose p (beyond stitch e)
-inner_square Lb outer e legal = (
-  record { x = e.left; y = e.bottom },
-  between_holds e e.left e.bottom (omega arith) legal.wide (omega arith) legal.tall,
-  record { left = omega arith; right = omega arith; below = omega arith; above = omega arith },
-)
-inner_square Bl outer e legal = (
-  record { x = e.left; y = e.bottom },
-  between_holds e e.left e.bottom (omega arith) legal.wide (omega arith) legal.tall,
-  record { left = omega arith; right = omega arith; below = omega arith; above = omega arith },
-)
-inner_square Tr outer e legal = (
-  record { x = e.right - 1; y = e.top - 1 },
+-- the square of a rectangle at the corner where the stitch begins
+abbrev pub corner_square : Stitch → Rect → Point
+corner_square Lb e = record { x = e.left; y = e.bottom }
+corner_square Bl e = record { x = e.left; y = e.bottom }
+corner_square Tr e = record { x = e.right - 1; y = e.top - 1 }
+corner_square Rt e = record { x = e.right - 1; y = e.top - 1 }
+
+-- the stitch of a tile leads to a square that is close to that one
+pub corner_close : (stitch : Stitch) (outer e : Rect) → IsRectangleIn outer e → (holds e (corner_square stitch e).x (corner_square stitch e).y ≡ true) × AreClose (corner_square stitch e) (beyond stitch e)
+corner_close Lb outer e legal = (between_holds e e.left e.bottom (omega arith) legal.wide (omega arith) legal.tall, record { left = omega arith; right = omega arith; below = omega arith; above = omega arith })
+corner_close Bl outer e legal = (between_holds e e.left e.bottom (omega arith) legal.wide (omega arith) legal.tall, record { left = omega arith; right = omega arith; below = omega arith; above = omega arith })
+corner_close Tr outer e legal = (
   between_holds e (e.right - 1) (e.top - 1) (omega (arith, legal.wide)) (omega (arith, legal.wide)) (omega (arith, legal.tall)) (omega (arith, legal.tall)),
   record { left = omega arith; right = omega arith; below = omega arith; above = omega arith },
 )
-inner_square Rt outer e legal = (
-  record { x = e.right - 1; y = e.top - 1 },
+corner_close Rt outer e legal = (
   between_holds e (e.right - 1) (e.top - 1) (omega (arith, legal.wide)) (omega (arith, legal.wide)) (omega (arith, legal.tall)) (omega (arith, legal.tall)),
   record { left = omega arith; right = omega arith; below = omega arith; above = omega arith },
 )
@@ -45,75 +42,71 @@ inner_square Rt outer e legal = (
 pub same_square : (a b : Point) → a.x ≡ b.x → a.y ≡ b.y → a ≡ b
 same_square a b across up = ap (λ x. record { x = x; y = a.y }) across ∙ ap (λ y. record { x = b.x; y = y }) up
 
--- beside the inner rectangle's stitch the outer one has a square more, and where the stitch leads out of the world, so does the outer one's
-pub record IsBesideLost (stitch : Stitch) (outer e : Rect) : Type 0 where
+-- a rectangle has a square more beside the stitch of another one
+pub record HasSquareBeside (stitch : Stitch) (outer e : Rect) : Type 0 where
   pub square : Point
   pub inside : holds outer square.x square.y ≡ true
   pub outside : holds e square.x square.y ≡ false
   pub close : AreClose square (beyond stitch e)
-  pub none : holds world (beyond stitch e).x (beyond stitch e).y ≡ false → holds world (beyond stitch outer).x (beyond stitch outer).y ≡ false
 
--- where a tile shrinks, a stitch leads into its old squares, or where it led before, or beside a square that the tile loses
-pub beyond_shrunk :
-    (stitch : Stitch) (outer e : Rect) → IsRectangleIn world outer → IsRectangleIn world e → IsWithin outer e
-    → (holds outer (beyond stitch e).x (beyond stitch e).y ≡ true) ⊎ ((beyond stitch e ≡ beyond stitch outer) ⊎ IsBesideLost stitch outer e)
-beyond_shrunk Lb outer e legal legal_e within = elim (cases_lt outer.bottom e.bottom) [
-  | inl lower ↦ inl (between_holds outer e.left (e.bottom - 1) within.left (omega (arith, legal_e.wide, within.right)) (omega (arith, lower)) (omega (arith, legal_e.tall, within.top)))
-  | inr same ↦ elim (cases_lt outer.left e.left) [
-    | inl further ↦ inr (inr (record {
-      square = record { x = e.left - 1; y = e.bottom };
-      inside = between_holds outer (e.left - 1) e.bottom (omega (arith, further)) (omega (arith, legal_e.wide, within.right)) within.bottom (omega (arith, legal_e.tall, within.top));
-      outside = false_from_ne_true _ (λ held. let lines = holds_between e (e.left - 1) e.bottom held in absurd (omega (arith, lines.0, further)));
-      close = record { left = omega arith; right = omega arith; below = omega arith; above = omega arith };
-      none = λ out. false_from_ne_true _ (λ held.
-          let lines = holds_between world outer.left (outer.bottom - 1) held in
-          both_ways _ out (between_holds world e.left (e.bottom - 1) legal_e.left_in (omega (arith, legal_e.wide, legal_e.right_in)) (omega (arith, lines.2, within.bottom)) (omega (arith, legal_e.tall, legal_e.top_in))));
-    }))
-    | inr alike ↦ inr (inl (same_square _ _ (omega (arith, alike, within.left)) (omega (arith, same, within.bottom))))
-  ]
-]
-beyond_shrunk Bl outer e legal legal_e within = elim (cases_lt outer.left e.left) [
-  | inl further ↦ inl (between_holds outer (e.left - 1) e.bottom (omega (arith, further)) (omega (arith, legal_e.wide, within.right)) within.bottom (omega (arith, legal_e.tall, within.top)))
-  | inr same ↦ elim (cases_lt outer.bottom e.bottom) [
-    | inl lower ↦ inr (inr (record {
-      square = record { x = e.left; y = e.bottom - 1 };
-      inside = between_holds outer e.left (e.bottom - 1) within.left (omega (arith, legal_e.wide, within.right)) (omega (arith, lower)) (omega (arith, legal_e.tall, within.top));
-      outside = false_from_ne_true _ (λ held. let lines = holds_between e e.left (e.bottom - 1) held in absurd (omega (arith, lines.2, lower)));
-      close = record { left = omega arith; right = omega arith; below = omega arith; above = omega arith };
-      none = λ out. false_from_ne_true _ (λ held.
-          let lines = holds_between world (outer.left - 1) outer.bottom held in
-          both_ways _ out (between_holds world (e.left - 1) e.bottom (omega (arith, lines.0, within.left)) (omega (arith, legal_e.wide, legal_e.right_in)) legal_e.bottom_in (omega (arith, legal_e.tall, legal_e.top_in))));
-    }))
-    | inr alike ↦ inr (inl (same_square _ _ (omega (arith, same, within.left)) (omega (arith, alike, within.bottom))))
-  ]
-]
-beyond_shrunk Tr outer e legal legal_e within = elim (cases_lt e.right outer.right) [
-  | inl nearer ↦ inl (between_holds outer e.right (e.top - 1) (omega (arith, legal_e.wide, within.left)) nearer (omega (arith, legal_e.tall, within.bottom)) (omega (arith, legal_e.tall, within.top)))
-  | inr same ↦ elim (cases_lt e.top outer.top) [
-    | inl lower ↦ inr (inr (record {
-      square = record { x = e.right - 1; y = e.top };
-      inside = between_holds outer (e.right - 1) e.top (omega (arith, legal_e.wide, within.left)) (omega (arith, legal_e.wide, within.right)) (omega (arith, legal_e.tall, within.bottom)) lower;
-      outside = false_from_ne_true _ (λ held. let lines = holds_between e (e.right - 1) e.top held in absurd (omega (arith, lines.3)));
-      close = record { left = omega arith; right = omega arith; below = omega arith; above = omega arith };
-      none = λ out. false_from_ne_true _ (λ held.
-          let lines = holds_between world outer.right (outer.top - 1) held in
-          both_ways _ out (between_holds world e.right (e.top - 1) (omega (arith, legal_e.wide, legal_e.left_in)) (omega (arith, lines.1, within.right)) (omega (arith, legal_e.tall, legal_e.bottom_in)) (omega (arith, legal_e.tall, legal_e.top_in))));
-    }))
-    | inr alike ↦ inr (inl (same_square _ _ (omega (arith, same, within.right)) (omega (arith, alike, within.top))))
-  ]
-]
-beyond_shrunk Rt outer e legal legal_e within = elim (cases_lt e.top outer.top) [
-  | inl lower ↦ inl (between_holds outer (e.right - 1) e.top (omega (arith, legal_e.wide, within.left)) (omega (arith, legal_e.wide, within.right)) (omega (arith, legal_e.tall, within.bottom)) lower)
-  | inr same ↦ elim (cases_lt e.right outer.right) [
-    | inl nearer ↦ inr (inr (record {
-      square = record { x = e.right; y = e.top - 1 };
-      inside = between_holds outer e.right (e.top - 1) (omega (arith, legal_e.wide, within.left)) nearer (omega (arith, legal_e.tall, within.bottom)) (omega (arith, legal_e.tall, within.top));
-      outside = false_from_ne_true _ (λ held. let lines = holds_between e e.right (e.top - 1) held in absurd (omega (arith, lines.1)));
-      close = record { left = omega arith; right = omega arith; below = omega arith; above = omega arith };
-      none = λ out. false_from_ne_true _ (λ held.
-          let lines = holds_between world (outer.right - 1) outer.top held in
-          both_ways _ out (between_holds world (e.right - 1) e.top (omega (arith, legal_e.wide, legal_e.left_in)) (omega (arith, legal_e.wide, legal_e.right_in)) (omega (arith, legal_e.tall, legal_e.bottom_in)) (omega (arith, lines.3, within.top))));
-    }))
-    | inr alike ↦ inr (inl (same_square _ _ (omega (arith, alike, within.right)) (omega (arith, same, within.top))))
-  ]
-]
+-- where a tile had the square at a rectangle's corner, but not the one to which the stitch there leads, it had the same stitch, or it had a square more
+-- beside that
+pub beyond_moved :
+    (stitch : Stitch) (outer e : Rect) → IsRectangleIn world e → holds outer (corner_square stitch e).x (corner_square stitch e).y ≡ true
+    → holds outer (beyond stitch e).x (beyond stitch e).y ≡ false → (beyond stitch e ≡ beyond stitch outer) ⊎ HasSquareBeside stitch outer e
+beyond_moved Lb outer e legal inside out =
+    let lines = holds_between outer e.left e.bottom inside in
+    elim (cases_lt outer.bottom e.bottom) [
+      | inl lower ↦ absurd (both_ways _ out (between_holds outer e.left (e.bottom - 1) lines.0 lines.1 (omega (arith, lower)) (omega (arith, lines.3))))
+      | inr same ↦ elim (cases_lt outer.left e.left) [
+        | inl further ↦ inr (record {
+          square = record { x = e.left - 1; y = e.bottom };
+          inside = between_holds outer (e.left - 1) e.bottom (omega (arith, further)) (omega (arith, lines.1)) lines.2 lines.3;
+          outside = false_from_ne_true _ (λ held. let sides = holds_between e (e.left - 1) e.bottom held in absurd (omega (arith, sides.0, further)));
+          close = record { left = omega arith; right = omega arith; below = omega arith; above = omega arith };
+        })
+        | inr alike ↦ inl (same_square _ _ (omega (arith, alike, lines.0)) (omega (arith, same, lines.2)))
+      ]
+    ]
+beyond_moved Bl outer e legal inside out =
+    let lines = holds_between outer e.left e.bottom inside in
+    elim (cases_lt outer.left e.left) [
+      | inl further ↦ absurd (both_ways _ out (between_holds outer (e.left - 1) e.bottom (omega (arith, further)) (omega (arith, lines.1)) lines.2 lines.3))
+      | inr same ↦ elim (cases_lt outer.bottom e.bottom) [
+        | inl lower ↦ inr (record {
+          square = record { x = e.left; y = e.bottom - 1 };
+          inside = between_holds outer e.left (e.bottom - 1) lines.0 lines.1 (omega (arith, lower)) (omega (arith, lines.3));
+          outside = false_from_ne_true _ (λ held. let sides = holds_between e e.left (e.bottom - 1) held in absurd (omega (arith, sides.2, lower)));
+          close = record { left = omega arith; right = omega arith; below = omega arith; above = omega arith };
+        })
+        | inr alike ↦ inl (same_square _ _ (omega (arith, same, lines.0)) (omega (arith, alike, lines.2)))
+      ]
+    ]
+beyond_moved Tr outer e legal inside out =
+    let lines = holds_between outer (e.right - 1) (e.top - 1) inside in
+    elim (cases_lt e.right outer.right) [
+      | inl nearer ↦ absurd (both_ways _ out (between_holds outer e.right (e.top - 1) (omega (arith, lines.0)) nearer lines.2 lines.3))
+      | inr same ↦ elim (cases_lt e.top outer.top) [
+        | inl lower ↦ inr (record {
+          square = record { x = e.right - 1; y = e.top };
+          inside = between_holds outer (e.right - 1) e.top lines.0 lines.1 (omega (arith, lines.2)) lower;
+          outside = false_from_ne_true _ (λ held. let sides = holds_between e (e.right - 1) e.top held in absurd (omega (arith, sides.3)));
+          close = record { left = omega arith; right = omega arith; below = omega arith; above = omega arith };
+        })
+        | inr alike ↦ inl (same_square _ _ (omega (arith, same, lines.1, legal.wide)) (omega (arith, alike, lines.3, legal.tall)))
+      ]
+    ]
+beyond_moved Rt outer e legal inside out =
+    let lines = holds_between outer (e.right - 1) (e.top - 1) inside in
+    elim (cases_lt e.top outer.top) [
+      | inl lower ↦ absurd (both_ways _ out (between_holds outer (e.right - 1) e.top lines.0 lines.1 (omega (arith, lines.2)) lower))
+      | inr same ↦ elim (cases_lt e.right outer.right) [
+        | inl nearer ↦ inr (record {
+          square = record { x = e.right; y = e.top - 1 };
+          inside = between_holds outer e.right (e.top - 1) (omega (arith, lines.0)) nearer lines.2 lines.3;
+          outside = false_from_ne_true _ (λ held. let sides = holds_between e e.right (e.top - 1) held in absurd (omega (arith, sides.1)));
+          close = record { left = omega arith; right = omega arith; below = omega arith; above = omega arith };
+        })
+        | inr alike ↦ inl (same_square _ _ (omega (arith, alike, lines.1, legal.wide)) (omega (arith, same, lines.3, legal.tall)))
+      ]
+    ]

@@ -4,17 +4,17 @@ use Rattle.std.specs.List.{slice_get, slice_index_or}
 use Rattle.std.proofs.lemmas.Bool.{cases_lt}
 use Rattle.std.proofs.lemmas.List.{get_or-drop, get_or-take, length-map, length-take, map-append, take-append-drop, take_more}
 use Rattle.std.proofs.lemmas.List.Elements.{All-append, All-cons, All-contains, All-drop, All-map, All-nil, Contains-append_cases, Contains-append_left, Contains-append_right, Contains-get_or}
-use Rattle.std.proofs.lemmas.Option.{none-some, same_Some}
+use Rattle.std.proofs.lemmas.Option.{get_or_from_slice_get, slice_get-get_or, slice_get_within}
 use Rattle.mls_geom.specs.declared.piece.Piece.{Piece}
 use Rattle.mls_geom.proofs.Ascending.{AllPairs-append, Contains-first}
 use Rattle.mls_tilepool.specs.Pools.{Changes, IsOwner, Pool, count_of, room_of, tile_at, tile_in, tiles_of}
 use Rattle.mls_tilepool.specs.declared.tile.Tile.{Tile}
 use Rattle.mls_stitch.specs.Pending.{keys_of}
-use Rattle.mls_stitch.specs.Placing.{GiveWay, HasShrunk, Lays, moved, unstitched}
+use Rattle.mls_stitch.specs.Placing.{GiveWay, Lays, moved, placed_at, unstitched}
 use Rattle.mls_stitch.specs.Tilings.{ChangesOnly}
 use Rattle.mls_stitch.specs.declared.laid_tile.LaidTile.{LaidTile}
 use Rattle.mls_stitch.proofs.DistinctNumbers.{cases_Contains}
-use Rattle.mls_stitch.proofs.FreshTiles.{AllPairs-either, Contains-first_or_rest, nothing_in_nil}
+use Rattle.mls_stitch.proofs.FreshTiles.{Contains-first_or_rest, nothing_in_nil}
 
 -- nothing is there
 nothing_there : (o : Option Tile) → o ≡ None → IsSome o → ⊥
@@ -23,54 +23,27 @@ nothing_there o none there = let h = subst IsSome none there in cc
 some_there : (o : Option Tile) (tile : Tile) → o ≡ Some tile → IsSome o
 some_there o tile is = rw is refl
 
--- a laid tile is the one that has shrunk, or has no stitch
-pub shrunk_or_placed :
-    {old new : List (ℕ × Tile)} {touched : List ℕ} {shrunk : Option LaidTile} {laid : List LaidTile} (way : GiveWay old new touched shrunk laid) (entry : LaidTile) → Contains laid entry
-    → (shrunk ≡ Some entry × HasShrunk old new laid entry) ⊎ ((shrunk ≢ Some entry) × (tile_in new entry.id ≡ Some (unstitched entry.piece)))
-shrunk_or_placed {old} {new} {touched} {shrunk} {laid} way entry found = go shrunk way.placed way.smaller where
-  go : (one : Option LaidTile) → All (λ (e : LaidTile). one ≢ Some e → tile_in new e.id ≡ Some (unstitched e.piece)) laid → IfSome one (HasShrunk old new laid)
-      → (one ≡ Some entry × HasShrunk old new laid entry) ⊎ ((one ≢ Some entry) × (tile_in new entry.id ≡ Some (unstitched entry.piece)))
-  go None placed smaller =
-      let differ : None ≢ Some entry = λ same. none-some entry same in
-      inr (differ, All-contains (λ (e : LaidTile). None ≢ Some e → tile_in new e.id ≡ Some (unstitched e.piece)) laid entry placed found differ)
-  go (Some one) placed smaller = elim (AllPairs-either (λ (p q : LaidTile). p.id ≢ q.id) laid one entry way.once smaller.listed found) [
-    | inl same ↦ inl (ap Some same, subst (HasShrunk old new laid) same smaller)
-    | inr apart ↦
-        let differ : Some one ≢ Some entry = λ same. elim apart [
-          | inl ids ↦ ids (ap (λ (e : LaidTile). e.id) (same_Some one entry same))
-          | inr ids ↦ ids (sym (ap (λ (e : LaidTile). e.id) (same_Some one entry same)))
-        ] in
-        inr (differ, All-contains (λ (e : LaidTile). Some one ≢ Some e → tile_in new e.id ≡ Some (unstitched e.piece)) laid entry placed found differ)
-  ]
-
--- so it is there
+-- a laid tile is there
 entry_there :
-    {old new : List (ℕ × Tile)} {touched : List ℕ} {shrunk : Option LaidTile} {laid : List LaidTile} (way : GiveWay old new touched shrunk laid) (entry : LaidTile) → Contains laid entry
+    {old new : List (ℕ × Tile)} {touched : List ℕ} {laid : List LaidTile} (way : GiveWay old new touched laid) (entry : LaidTile) → Contains laid entry
     → IsSome (tile_in new entry.id)
-entry_there way entry found = elim (shrunk_or_placed way entry found) [
-  | inl (is, smaller) ↦ some_there _ _ smaller.after
-  | inr (differ, placed) ↦ some_there _ _ placed
-]
-
--- where none shrinks, no laid tile has a stitch
-pub placed_each :
-    {old new : List (ℕ × Tile)} {touched : List ℕ} {laid : List LaidTile} (way : GiveWay old new touched None laid) → All (λ e. tile_in new e.id ≡ Some (unstitched e.piece)) laid
-placed_each way k d within = way.placed k d within (λ same. none-some _ same)
+entry_there {old} {new} {touched} {laid} way entry found =
+    some_there _ _ (All-contains (λ (e : LaidTile). tile_in new e.id ≡ Some (placed_at e.piece (tile_in old e.id))) laid entry way.placed found)
 
 -- the key of a laid tile was touched or unused, and now names a tile
-key_before : {old new : List (ℕ × Tile)} {touched : List ℕ} {shrunk : Option LaidTile} {laid : List LaidTile} (way : GiveWay old new touched shrunk laid) (key : ℕ) → Contains (keys_of laid) key → Contains touched key ⊎ (tile_in old key ≡ None)
-key_before {old} {new} {touched} {shrunk} {laid} way key listed =
+key_before : {old new : List (ℕ × Tile)} {touched : List ℕ} {laid : List LaidTile} (way : GiveWay old new touched laid) (key : ℕ) → Contains (keys_of laid) key → Contains touched key ⊎ (tile_in old key ≡ None)
+key_before {old} {new} {touched} {laid} way key listed =
     let P : ℕ → Type 0 = λ k. Contains touched k ⊎ (tile_in old k ≡ None) in
     All-contains P (keys_of laid) key (All-map P (λ (e : LaidTile). e.id) laid way.unused) listed
 
-key_after : {old new : List (ℕ × Tile)} {touched : List ℕ} {shrunk : Option LaidTile} {laid : List LaidTile} (way : GiveWay old new touched shrunk laid) (key : ℕ) → Contains (keys_of laid) key → IsSome (tile_in new key)
-key_after {old} {new} {touched} {shrunk} {laid} way key listed =
+key_after : {old new : List (ℕ × Tile)} {touched : List ℕ} {laid : List LaidTile} (way : GiveWay old new touched laid) (key : ℕ) → Contains (keys_of laid) key → IsSome (tile_in new key)
+key_after {old} {new} {touched} {laid} way key listed =
     let P : ℕ → Type 0 = λ k. IsSome (tile_in new k) in
     let there : All (λ (e : LaidTile). P e.id) laid = λ k d within. entry_there way (get_or laid k d) (Contains-get_or laid k d within) in
     All-contains P (keys_of laid) key (All-map P (λ (e : LaidTile). e.id) laid there) listed
 
 -- a tile that has not given way stays
-pub GiveWay-stays : {old new : List (ℕ × Tile)} {touched : List ℕ} {shrunk : Option LaidTile} {laid : List LaidTile} (way : GiveWay old new touched shrunk laid) (key : ℕ) → ¬ (Contains touched key) → IsSome (tile_in old key) → tile_in new key ≡ tile_in old key
+pub GiveWay-stays : {old new : List (ℕ × Tile)} {touched : List ℕ} {laid : List LaidTile} (way : GiveWay old new touched laid) (key : ℕ) → ¬ (Contains touched key) → IsSome (tile_in old key) → tile_in new key ≡ tile_in old key
 GiveWay-stays way key untouched there = way.kept key untouched (λ listed. elim (key_before way key listed) [
   | inl given ↦ untouched given
   | inr none ↦ nothing_there _ none there
@@ -78,9 +51,9 @@ GiveWay-stays way key untouched there = way.kept key untouched (λ listed. elim 
 
 -- a tile that is laid first stays where later ones are laid
 laid_stays :
-    {old mid new : List (ℕ × Tile)} {t1 t2 : List ℕ} {s1 : Option LaidTile} {l1 l2 : List LaidTile} (a : GiveWay old mid t1 s1 l1) (b : GiveWay mid new t2 None l2) → All (λ key. IsSome (tile_in old key)) t2
+    {old mid new : List (ℕ × Tile)} {t1 t2 : List ℕ} {l1 l2 : List LaidTile} (a : GiveWay old mid t1 l1) (b : GiveWay mid new t2 l2) → All (λ key. IsSome (tile_in old key)) t2
     → ((key : ℕ) → Contains t2 key → ¬ (Contains t1 key)) → (key : ℕ) → IsSome (tile_in mid key) → Contains t1 key ⊎ (tile_in old key ≡ None) → (¬ (Contains t2 key)) × (¬ (Contains (keys_of l2) key))
-laid_stays {old} {mid} {new} {t1} {t2} {s1} a b there apart key here before =
+laid_stays {old} {mid} {new} {t1} {t2} a b there apart key here before =
     let untouched : ¬ (Contains t2 key) = λ later. elim before [
       | inl first ↦ apart key later first
       | inr none ↦ nothing_there _ none (All-contains (λ k. IsSome (tile_in old k)) t2 key there later)
@@ -93,8 +66,8 @@ laid_stays {old} {mid} {new} {t1} {t2} {s1} a b there apart key here before =
     )
 
 -- a key that names no tile now was touched, or named none
-before : {old mid : List (ℕ × Tile)} {t1 : List ℕ} {s1 : Option LaidTile} {l1 : List LaidTile} (a : GiveWay old mid t1 s1 l1) (t2 : List ℕ) (key : ℕ) → tile_in mid key ≡ None → Contains (t1 ++ t2) key ⊎ (tile_in old key ≡ None)
-before {old} {mid} {t1} {s1} {l1} a t2 key none = elim (cases_Contains t1 key) [
+before : {old mid : List (ℕ × Tile)} {t1 : List ℕ} {l1 : List LaidTile} (a : GiveWay old mid t1 l1) (t2 : List ℕ) (key : ℕ) → tile_in mid key ≡ None → Contains (t1 ++ t2) key ⊎ (tile_in old key ≡ None)
+before {old} {mid} {t1} {l1} a t2 key none = elim (cases_Contains t1 key) [
   | inl touched ↦ inl (Contains-append_left t1 t2 key touched)
   | inr untouched ↦ inr (sym (a.kept key untouched (λ listed. nothing_there _ none (key_after a key listed))) ∙ none)
 ]
@@ -106,28 +79,24 @@ listed_first l1 l2 key found = rw map-append (Contains-append_left (keys_of l1) 
 listed_later : (l1 l2 : List LaidTile) (key : ℕ) → Contains (keys_of l2) key → Contains (keys_of (l1 ++ l2)) key
 listed_later l1 l2 key found = rw map-append (Contains-append_right (keys_of l1) (keys_of l2) key found)
 
--- a tile that has shrunk stays so
-still_shrunk :
-    {old mid new : List (ℕ × Tile)} {t1 t2 : List ℕ} {s1 : Option LaidTile} {l1 l2 : List LaidTile} (a : GiveWay old mid t1 s1 l1) (b : GiveWay mid new t2 None l2) → All (λ key. IsSome (tile_in old key)) t2
-    → ((key : ℕ) → Contains t2 key → ¬ (Contains t1 key)) → (one : Option LaidTile) → IfSome one (HasShrunk old mid l1) → IfSome one (HasShrunk old new (l1 ++ l2))
-still_shrunk a b there apart None smaller = tt
-still_shrunk {old} {mid} {new} {t1} {t2} {s1} {l1} {l2} a b there apart (Some one) smaller =
-    let stays =
-    laid_stays a b there apart one.id (some_there _ _ smaller.after)
-    (All-contains (λ (e : LaidTile). Contains t1 e.id ⊎ (tile_in old e.id ≡ None)) l1 one a.unused smaller.listed) in
-    record { listed = Contains-append_left l1 l2 one smaller.listed; tile = smaller.tile; before = smaller.before; after = b.kept one.id stays.0 stays.1 ∙ smaller.after }
-
 pub GiveWay-trans :
-    {old mid new : List (ℕ × Tile)} {t1 t2 : List ℕ} {s1 : Option LaidTile} {l1 l2 : List LaidTile} → GiveWay old mid t1 s1 l1 → GiveWay mid new t2 None l2 → All (λ key. IsSome (tile_in old key)) t2
-    → ((key : ℕ) → Contains t2 key → ¬ (Contains t1 key)) → GiveWay old new (t1 ++ t2) s1 (l1 ++ l2)
-GiveWay-trans {old} {mid} {new} {t1} {t2} {s1} {l1} {l2} a b there apart = record {
+    {old mid new : List (ℕ × Tile)} {t1 t2 : List ℕ} {l1 l2 : List LaidTile} → GiveWay old mid t1 l1 → GiveWay mid new t2 l2 → All (λ key. IsSome (tile_in old key)) t2
+    → ((key : ℕ) → Contains t2 key → ¬ (Contains t1 key)) → All (λ (e : LaidTile). ¬ (Contains t1 e.id)) l2 → GiveWay old new (t1 ++ t2) (l1 ++ l2)
+GiveWay-trans {old} {mid} {new} {t1} {t2} {l1} {l2} a b there apart later = record {
   placed =
-      All-append (λ (e : LaidTile). s1 ≢ Some e → tile_in new e.id ≡ Some (unstitched e.piece)) l1 l2
-      (λ k d within differ.
+      All-append (λ (e : LaidTile). tile_in new e.id ≡ Some (placed_at e.piece (tile_in old e.id))) l1 l2
+      (λ k d within.
       let stays = laid_stays a b there apart _ (entry_there a _ (Contains-get_or l1 k d within)) (a.unused k d within) in
-      b.kept _ stays.0 stays.1 ∙ a.placed k d within differ)
-      (λ k d within differ. placed_each b k d within);
-  smaller = still_shrunk a b there apart s1 a.smaller;
+      b.kept _ stays.0 stays.1 ∙ a.placed k d within)
+      (λ k d within.
+      let entry = get_or l2 k d in
+      subst (λ o. tile_in new entry.id ≡ Some (placed_at entry.piece o)) (a.kept entry.id (later k d within) (λ listed. elim (b.unused k d within) [
+        | inl touches ↦ elim (key_before a entry.id listed) [
+          | inl first ↦ later k d within first
+          | inr none ↦ nothing_there _ none (All-contains (λ key. IsSome (tile_in old key)) t2 entry.id there touches)
+        ]
+        | inr none ↦ nothing_there _ none (key_after a entry.id listed)
+      ])) (b.placed k d within));
   once =
       AllPairs-append (λ (p q : LaidTile). p.id ≢ q.id) l1 l2 a.once b.once
       (λ k d within. λ j e within'. λ same.
@@ -161,10 +130,9 @@ GiveWay-trans {old} {mid} {new} {t1} {t2} {s1} {l1} {l2} a b there apart = recor
 }
 
 -- nothing gives way
-pub GiveWay-refl : (tiles : List (ℕ × Tile)) → GiveWay tiles tiles [] None []
+pub GiveWay-refl : (tiles : List (ℕ × Tile)) → GiveWay tiles tiles [] []
 GiveWay-refl tiles = record {
   placed = All-nil _;
-  smaller = tt;
   once = λ i j d less within. absurd (omega arith);
   unused = All-nil _;
   gone = λ key touched. absurd (nothing_in_nil key touched);
@@ -181,8 +149,8 @@ one_pair R x = λ i j d less within. absurd (omega arith)
 one : {X : Type 0} (P : X → Type 0) (x : X) → P x → All P (x ∷ [])
 one P x holds = All-cons P x [] holds (All-nil P)
 
-abbrev IsLaidIn : List (ℕ × Tile) → LaidTile → Type 0
-IsLaidIn tiles entry = None ≢ Some entry → tile_in tiles entry.id ≡ Some (unstitched entry.piece)
+abbrev IsLaidIn : List (ℕ × Tile) → List (ℕ × Tile) → LaidTile → Type 0
+IsLaidIn old new entry = tile_in new entry.id ≡ Some (placed_at entry.piece (tile_in old entry.id))
 
 abbrev DiffersIn : LaidTile → LaidTile → Type 0
 DiffersIn p q = p.id ≢ q.id
@@ -193,10 +161,9 @@ WasUnused touched tiles entry = Contains touched entry.id ⊎ (tile_in tiles ent
 -- one tile is laid under a key that names none
 pub GiveWay-add :
     (old new : Pool) (owner key : ℕ) (piece : Piece) → tile_at old owner key ≡ None → Changes old new owner key (Some (unstitched piece)) → count_of new owner ≡ count_of old owner + 1
-    → GiveWay (tiles_of old owner) (tiles_of new owner) [] None (laid_tile key piece ∷ [])
+    → GiveWay (tiles_of old owner) (tiles_of new owner) [] (laid_tile key piece ∷ [])
 GiveWay-add old new owner key piece none changes count = record {
-  placed = one (IsLaidIn (tiles_of new owner)) (laid_tile key piece) (λ differ. changes.changed);
-  smaller = tt;
+  placed = one (IsLaidIn (tiles_of old owner) (tiles_of new owner)) (laid_tile key piece) (rw none changes.changed);
   once = one_pair DiffersIn (laid_tile key piece);
   unused = one (WasUnused [] (tiles_of old owner)) (laid_tile key piece) (inr none);
   gone = λ other touched. absurd (nothing_in_nil other touched);
@@ -204,13 +171,12 @@ GiveWay-add old new owner key piece none changes count = record {
   count = omega (arith, count);
 }
 
--- one tile is laid under the key of another
+-- the tile under a key moves to a piece
 pub GiveWay-set :
-    (old new : Pool) (owner key : ℕ) (piece : Piece) → Changes old new owner key (Some (unstitched piece)) → count_of new owner ≡ count_of old owner
-    → GiveWay (tiles_of old owner) (tiles_of new owner) (key ∷ []) None (laid_tile key piece ∷ [])
-GiveWay-set old new owner key piece changes count = record {
-  placed = one (IsLaidIn (tiles_of new owner)) (laid_tile key piece) (λ differ. changes.changed);
-  smaller = tt;
+    (old new : Pool) (owner key : ℕ) (piece : Piece) (tile : Tile) → tile_at old owner key ≡ Some tile → Changes old new owner key (Some (moved piece tile)) → count_of new owner ≡ count_of old owner
+    → GiveWay (tiles_of old owner) (tiles_of new owner) (key ∷ []) (laid_tile key piece ∷ [])
+GiveWay-set old new owner key piece tile here changes count = record {
+  placed = one (IsLaidIn (tiles_of old owner) (tiles_of new owner)) (laid_tile key piece) (rw here changes.changed);
   once = one_pair DiffersIn (laid_tile key piece);
   unused = one (WasUnused (key ∷ []) (tiles_of old owner)) (laid_tile key piece) (inl (Contains-first key key [] refl));
   gone = λ other touched listed. absurd (listed touched);
@@ -218,26 +184,11 @@ GiveWay-set old new owner key piece changes count = record {
   count = omega (arith, count);
 }
 
--- one tile shrinks
-pub GiveWay-shrink :
-    (old new : Pool) (owner : ℕ) (shrunk : LaidTile) (tile : Tile) → tile_at old owner shrunk.id ≡ Some tile → Changes old new owner shrunk.id (Some (moved shrunk.piece tile))
-    → count_of new owner ≡ count_of old owner → GiveWay (tiles_of old owner) (tiles_of new owner) (shrunk.id ∷ []) (Some shrunk) (shrunk ∷ [])
-GiveWay-shrink old new owner shrunk tile here changes count = record {
-  placed = one (λ (e : LaidTile). Some shrunk ≢ Some e → tile_at new owner e.id ≡ Some (unstitched e.piece)) shrunk (λ differ. absurd (differ refl));
-  smaller = record { listed = Contains-first shrunk shrunk [] refl; tile = tile; before = here; after = changes.changed };
-  once = one_pair DiffersIn shrunk;
-  unused = one (WasUnused (shrunk.id ∷ []) (tiles_of old owner)) shrunk (inl (Contains-first shrunk.id shrunk.id [] refl));
-  gone = λ other touched listed. absurd (listed touched);
-  kept = λ other untouched listed. changes.kept other (λ same. listed (Contains-first shrunk.id other [] (sym same)));
-  count = omega (arith, count);
-}
-
 -- one tile is removed
 pub GiveWay-remove :
-    (old new : Pool) (owner key : ℕ) → Changes old new owner key None → count_of new owner + 1 ≡ count_of old owner → GiveWay (tiles_of old owner) (tiles_of new owner) (key ∷ []) None []
+    (old new : Pool) (owner key : ℕ) → Changes old new owner key None → count_of new owner + 1 ≡ count_of old owner → GiveWay (tiles_of old owner) (tiles_of new owner) (key ∷ []) []
 GiveWay-remove old new owner key changes count = record {
   placed = All-nil _;
-  smaller = tt;
   once = λ i j d less within. absurd (omega arith);
   unused = All-nil _;
   gone = λ other touched listed. elim (Contains-first_or_rest key other [] touched) [
@@ -263,52 +214,71 @@ length_keys : (laid : List LaidTile) (fresh : List Piece) → map (λ (e : LaidT
 length_keys laid fresh pieces = length-map laid (λ (e : LaidTile). e.id) ∙ sym (length-map laid (λ (e : LaidTile). e.piece)) ∙ ap length pieces
 
 Lays-trans :
-    {old mid new : List (ℕ × Tile)} {t1 t2 : List ℕ} {f1 f2 : List Piece} {shrunk : Option LaidTile} {before between after : List LaidTile} (a : Lays old mid t1 f1 shrunk before between)
-    (b : Lays mid new t2 f2 None between after)
+    {old mid new : List (ℕ × Tile)} {t1 t2 : List ℕ} {f1 f2 : List Piece} {before between after : List LaidTile} (a : Lays old mid t1 f1 before between)
+    (b : Lays mid new t2 f2 between after)
     → All (λ key. IsSome (tile_in old key)) t2 → ((key : ℕ) → Contains t2 key → ¬ (Contains t1 key))
-    → ((i : ℕ) → i < length (t1 ++ t2) → i < length (f1 ++ f2) → slice_get (keys_of (a.laid ++ b.laid)) i ≡ slice_get (t1 ++ t2) i) → Lays old new (t1 ++ t2) (f1 ++ f2) shrunk before after
-Lays-trans {before = before} a b there apart again = record {
+    → All (λ (e : LaidTile). ¬ (Contains t1 e.id)) b.laid
+    → ((i : ℕ) → i < length (t1 ++ t2) → i < length (f1 ++ f2) → slice_get (keys_of (a.laid ++ b.laid)) i ≡ slice_get (t1 ++ t2) i) → Lays old new (t1 ++ t2) (f1 ++ f2) before after
+Lays-trans {before = before} a b there apart later again = record {
   laid = a.laid ++ b.laid;
   listed = b.listed ∙ ap (λ l. l ++ b.laid) a.listed ∙ append_assoc before a.laid b.laid;
   pieces = rw map-append (rw (a.pieces, b.pieces) refl);
-  ways = GiveWay-trans a.ways b.ways there apart;
+  ways = GiveWay-trans a.ways b.ways there apart later;
   again = again;
 }
 
+-- where as many pieces were laid as tiles touched, each of those keys serves again
+keys_again :
+    {old mid : List (ℕ × Tile)} {touched : List ℕ} {fresh : List Piece} {before between : List LaidTile} (a : Lays old mid touched fresh before between) → length touched ≡ length fresh → (key : ℕ)
+    → Contains touched key → Contains (keys_of a.laid) key
+keys_again {touched = touched} {fresh = fresh} a even key (i, within, is) =
+    let same : slice_get (keys_of a.laid) i ≡ Some key = a.again i within (omega (arith, within, even)) ∙ slice_get-get_or touched i key within ∙ ap Some is in
+    (i, slice_get_within (keys_of a.laid) i key same, get_or_from_slice_get (keys_of a.laid) i key key same)
+
+-- so none of them goes to a piece that is laid later
+laid_later :
+    {old mid new : List (ℕ × Tile)} {t1 t2 : List ℕ} {f1 : List Piece} {l2 before between : List LaidTile} (a : Lays old mid t1 f1 before between) → GiveWay mid new t2 l2 → ((key : ℕ) → Contains t2 key → ¬ (Contains t1 key))
+    → length t1 ≡ length f1 → All (λ (e : LaidTile). ¬ (Contains t1 e.id)) l2
+laid_later {l2 = l2} a b apart even = λ k d within. λ first. elim (b.unused k d within) [
+  | inl touches ↦ apart (get_or l2 k d).id touches first
+  | inr none ↦ nothing_there _ none (key_after a.ways (get_or l2 k d).id (keys_again a even (get_or l2 k d).id first))
+]
+
 -- pieces are laid in turn, at first as many as were touched
 pub Lays-even :
-    {old mid new : List (ℕ × Tile)} {t1 t2 : List ℕ} {f1 f2 : List Piece} {shrunk : Option LaidTile} {before between after : List LaidTile} (a : Lays old mid t1 f1 shrunk before between)
-    (b : Lays mid new t2 f2 None between after)
-    → All (λ key. IsSome (tile_in old key)) t2 → ((key : ℕ) → Contains t2 key → ¬ (Contains t1 key)) → length t1 ≡ length f1 → Lays old new (t1 ++ t2) (f1 ++ f2) shrunk before after
+    {old mid new : List (ℕ × Tile)} {t1 t2 : List ℕ} {f1 f2 : List Piece} {before between after : List LaidTile} (a : Lays old mid t1 f1 before between)
+    (b : Lays mid new t2 f2 between after)
+    → All (λ key. IsSome (tile_in old key)) t2 → ((key : ℕ) → Contains t2 key → ¬ (Contains t1 key)) → length t1 ≡ length f1 → Lays old new (t1 ++ t2) (f1 ++ f2) before after
 Lays-even {t1 = t1} {t2 = t2} {f1 = f1} {f2 = f2} a b there apart even =
-    Lays-trans a b there apart (λ i within within'.
+    Lays-trans a b there apart (laid_later a b.ways apart even) (λ i within within'.
     rw map-append (again_in_turn (keys_of a.laid) (keys_of b.laid) t1 t2 (length f2) (length_keys a.laid f1 a.pieces ∙ sym even) (λ j less. a.again j less (omega (arith, less, even))) b.again i within
     (omega (arith, within', even, length-append f1 f2))))
 
 -- nothing is touched
 pub Lays-untouched :
-    {old mid new : List (ℕ × Tile)} {f1 f2 : List Piece} {before between after : List LaidTile} (a : Lays old mid [] f1 None before between) (b : Lays mid new [] f2 None between after)
-    → Lays old new [] (f1 ++ f2) None before after
-Lays-untouched a b = Lays-trans a b (All-nil _) (λ key touched. absurd (nothing_in_nil key touched)) (λ i within. absurd (omega (arith, within)))
+    {old mid new : List (ℕ × Tile)} {f1 f2 : List Piece} {before between after : List LaidTile} (a : Lays old mid [] f1 before between) (b : Lays mid new [] f2 between after)
+    → Lays old new [] (f1 ++ f2) before after
+Lays-untouched a b =
+    Lays-trans a b (All-nil _) (λ key touched. absurd (nothing_in_nil key touched)) (λ k d within. λ first. nothing_in_nil _ first) (λ i within. absurd (omega (arith, within)))
 
-pub Lays-refl : (tiles : List (ℕ × Tile)) (before : List LaidTile) → Lays tiles tiles [] [] None before before
+pub Lays-refl : (tiles : List (ℕ × Tile)) (before : List LaidTile) → Lays tiles tiles [] [] before before
 Lays-refl tiles before = record { laid = []; listed = sym (append-nil before); pieces = refl; ways = GiveWay-refl tiles; again = λ i within. absurd (omega (arith, within)) }
 
 -- the touched tiles that nothing takes the place of
-pub Lays-gone : {old new : List (ℕ × Tile)} {touched : List ℕ} (before : List LaidTile) → GiveWay old new touched None [] → Lays old new touched [] None before before
+pub Lays-gone : {old new : List (ℕ × Tile)} {touched : List ℕ} (before : List LaidTile) → GiveWay old new touched [] → Lays old new touched [] before before
 Lays-gone before ways = record { laid = []; listed = sym (append-nil before); pieces = refl; ways = ways; again = λ i within within'. absurd (omega (arith, within')) }
 
-pub Lays-count : {old new : List (ℕ × Tile)} {touched : List ℕ} {fresh : List Piece} {shrunk : Option LaidTile} {before after : List LaidTile} → Lays old new touched fresh shrunk before after → length new + length touched ≡ length old + length fresh
+pub Lays-count : {old new : List (ℕ × Tile)} {touched : List ℕ} {fresh : List Piece} {before after : List LaidTile} → Lays old new touched fresh before after → length new + length touched ≡ length old + length fresh
 Lays-count a = omega (arith, a.ways.count, length_keys a.laid _ a.pieces, length-map a.laid (λ (e : LaidTile). e.id))
 
 -- one more piece is laid
-laid_one : {old new : List (ℕ × Tile)} {before after : List LaidTile} (touched : List ℕ) (entry : LaidTile) → GiveWay old new touched None (entry ∷ []) → after ≡ before ++ entry ∷ []
-    → ((i : ℕ) → i < length touched → i < 1 → slice_get (entry.id ∷ []) i ≡ slice_get touched i) → Lays old new touched (entry.piece ∷ []) None before after
+laid_one : {old new : List (ℕ × Tile)} {before after : List LaidTile} (touched : List ℕ) (entry : LaidTile) → GiveWay old new touched (entry ∷ []) → after ≡ before ++ entry ∷ []
+    → ((i : ℕ) → i < length touched → i < 1 → slice_get (entry.id ∷ []) i ≡ slice_get touched i) → Lays old new touched (entry.piece ∷ []) before after
 laid_one touched entry ways listed again = record { laid = entry ∷ []; listed = listed; pieces = refl; ways = ways; again = again }
 
 pub Lays-more :
     {old mid new : List (ℕ × Tile)} {before between after : List LaidTile} (pieces : List Piece) (i : ℕ) (entry : LaidTile) → i < length pieces → entry.piece ≡ get_or pieces i entry.piece
-    → Lays old mid [] (take i pieces) None before between → GiveWay mid new [] None (entry ∷ []) → after ≡ between ++ entry ∷ [] → Lays old new [] (take (i + 1) pieces) None before after
+    → Lays old mid [] (take i pieces) before between → GiveWay mid new [] (entry ∷ []) → after ≡ between ++ entry ∷ [] → Lays old new [] (take (i + 1) pieces) before after
 Lays-more {old} {mid} {new} {before} {between} {after} pieces i entry within is laid ways listed =
     let more : take (i + 1) pieces ≡ take i pieces ++ entry.piece ∷ [] = take_more pieces i entry.piece within ∙ ap (λ p. take i pieces ++ p ∷ []) (sym is) in
     rw more (Lays-untouched laid (laid_one [] entry ways listed (λ j less. absurd (omega (arith, less)))))
@@ -330,9 +300,9 @@ length_takes xs ys i within within' = omega (arith, length-take i xs, length-tak
 
 -- the tile of a touched key that is not among the first ones is still there
 pub GiveWay-next :
-    {old mid : List (ℕ × Tile)} {shrunk : Option LaidTile} {laid : List LaidTile} (ids : List ℕ) (i key : ℕ) → i < length ids → key ≡ get_or ids i key → AllPairs (λ a b. a ≢ b) ids → All (λ k. IsSome (tile_in old k)) ids
-    → GiveWay old mid (take i ids) shrunk laid → (¬ (Contains (take i ids) key)) × IsSome (tile_in old key) × IsSome (tile_in mid key)
-GiveWay-next {old} {mid} {shrunk} ids i key within is once there ways =
+    {old mid : List (ℕ × Tile)} {laid : List LaidTile} (ids : List ℕ) (i key : ℕ) → i < length ids → key ≡ get_or ids i key → AllPairs (λ a b. a ≢ b) ids → All (λ k. IsSome (tile_in old k)) ids
+    → GiveWay old mid (take i ids) laid → (¬ (Contains (take i ids) key)) × IsSome (tile_in old key) × IsSome (tile_in mid key)
+GiveWay-next {old} {mid} ids i key within is once there ways =
     let here : IsSome (tile_in old key) = rw is (there i key within) in
     let later : ¬ (Contains (take i ids) key) = not_before ids i key within is once in
     (later, here, subst IsSome (sym (GiveWay-stays ways key later here)) here)
@@ -341,7 +311,7 @@ GiveWay-next {old} {mid} {shrunk} ids i key within is once there ways =
 pub Lays-next :
     {old mid new : List (ℕ × Tile)} {before between after : List LaidTile} (ids : List ℕ) (pieces : List Piece) (i : ℕ) (entry : LaidTile) → i < length ids → i < length pieces
     → entry.id ≡ get_or ids i entry.id → entry.piece ≡ get_or pieces i entry.piece → AllPairs (λ a b. a ≢ b) ids → All (λ k. IsSome (tile_in old k)) ids
-    → Lays old mid (take i ids) (take i pieces) None before between → GiveWay mid new (entry.id ∷ []) None (entry ∷ []) → after ≡ between ++ entry ∷ [] → Lays old new (take (i + 1) ids) (take (i + 1) pieces) None before after
+    → Lays old mid (take i ids) (take i pieces) before between → GiveWay mid new (entry.id ∷ []) (entry ∷ []) → after ≡ between ++ entry ∷ [] → Lays old new (take (i + 1) ids) (take (i + 1) pieces) before after
 Lays-next {old} {mid} {new} {before} {between} {after} ids pieces i entry within within' is is' once there laid ways listed =
     let more_ids : take (i + 1) ids ≡ take i ids ++ entry.id ∷ [] = take_more ids i entry.id within ∙ ap (λ k. take i ids ++ k ∷ []) (sym is) in
     let more : take (i + 1) pieces ≡ take i pieces ++ entry.piece ∷ [] = take_more pieces i entry.piece within' ∙ ap (λ p. take i pieces ++ p ∷ []) (sym is') in
@@ -353,11 +323,11 @@ Lays-next {old} {mid} {new} {before} {between} {after} ids pieces i entry within
 -- one more tile is removed
 pub GiveWay-more :
     {old mid new : List (ℕ × Tile)} (ids : List ℕ) (i key : ℕ) → i < length ids → key ≡ get_or ids i key → AllPairs (λ a b. a ≢ b) ids → All (λ k. IsSome (tile_in old k)) ids
-    → GiveWay old mid (take i ids) None [] → GiveWay mid new (key ∷ []) None [] → GiveWay old new (take (i + 1) ids) None []
+    → GiveWay old mid (take i ids) [] → GiveWay mid new (key ∷ []) [] → GiveWay old new (take (i + 1) ids) []
 GiveWay-more {old} {mid} {new} ids i key within is once there first ways =
     let more_ids : take (i + 1) ids ≡ take i ids ++ key ∷ [] = take_more ids i key within ∙ ap (λ k. take i ids ++ k ∷ []) (sym is) in
     let next = GiveWay-next ids i key within is once there first in
-    rw more_ids (GiveWay-trans first ways (All-cons (λ k. IsSome (tile_in old k)) key [] next.1 (All-nil _)) (λ other touched. only_first key (take i ids) other touched next.0))
+    rw more_ids (GiveWay-trans first ways (All-cons (λ k. IsSome (tile_in old k)) key [] next.1 (All-nil _)) (λ other touched. only_first key (take i ids) other touched next.0) (All-nil _))
 
 -- an owner stays one, and keeps its room
 pub IsOwner-ChangesOnly : {old new : Pool} {owner : ℕ} (other : ℕ) → ChangesOnly old new owner → IsOwner old other → IsOwner new other
@@ -376,13 +346,19 @@ not_full old mid owner n only fit few full =
 
 -- touched tiles of which nothing takes the place, and then pieces with new keys; there are none of the one or of the other
 Lays-surplus :
-    {old mid new : List (ℕ × Tile)} {touched : List ℕ} {fresh : List Piece} {before after : List LaidTile} → GiveWay old mid touched None [] → Lays mid new [] fresh None before after
-    → length touched ≡ 0 ⊎ (length fresh ≡ 0) → Lays old new touched fresh None before after
+    {old mid new : List (ℕ × Tile)} {touched : List ℕ} {fresh : List Piece} {before after : List LaidTile} → GiveWay old mid touched [] → Lays mid new [] fresh before after
+    → length touched ≡ 0 ⊎ (length fresh ≡ 0) → Lays old new touched fresh before after
 Lays-surplus {touched = touched} {fresh = fresh} ways a either = record {
   laid = a.laid;
   listed = a.listed;
   pieces = a.pieces;
-  ways = let joined = GiveWay-trans ways a.ways (All-nil _) (λ key found. absurd (nothing_in_nil key found)) in rw append-nil at joined;
+  ways =
+      let later : All (λ (e : LaidTile). ¬ (Contains touched e.id)) a.laid = λ k d within. λ (j, less, is). elim either [
+        | inl none ↦ absurd (omega (arith, less, none))
+        | inr none ↦ absurd (omega (arith, within, none, length_keys a.laid fresh a.pieces, length-map a.laid (λ (e : LaidTile). e.id)))
+      ] in
+      let joined = GiveWay-trans ways a.ways (All-nil _) (λ key found. absurd (nothing_in_nil key found)) later in
+      rw append-nil at joined;
   again = λ i within within'. elim either [
     | inl none ↦ absurd (omega (arith, within, none))
     | inr none ↦ absurd (omega (arith, within', none))
@@ -397,17 +373,17 @@ one_part keys n key once (k, within, is) (j, less, same) =
 
 -- the later touched tiles are still there when the first ones have given way
 pub drop-there :
-    {old mid : List (ℕ × Tile)} {shrunk : Option LaidTile} {laid : List LaidTile} (touched : List ℕ) (n : ℕ) → AllPairs (λ a b. a ≢ b) touched → All (λ k. IsSome (tile_in old k)) touched → GiveWay old mid (take n touched) shrunk laid
+    {old mid : List (ℕ × Tile)} {laid : List LaidTile} (touched : List ℕ) (n : ℕ) → AllPairs (λ a b. a ≢ b) touched → All (λ k. IsSome (tile_in old k)) touched → GiveWay old mid (take n touched) laid
     → All (λ k. IsSome (tile_in mid k)) (drop n touched)
-drop-there {old} {mid} {shrunk} touched n once there ways k d within =
+drop-there {old} {mid} touched n once there ways k d within =
     let here = All-drop (λ key. IsSome (tile_in old key)) n touched there k d within in
     subst IsSome (sym (GiveWay-stays ways (get_or (drop n touched) k d) (one_part touched n (get_or (drop n touched) k d) once (Contains-get_or (drop n touched) k d within)) here)) here
 
 -- the first pieces under the first touched keys, and then the rest
 pub Lays-instead :
     {old mid low new : List (ℕ × Tile)} {before between after : List LaidTile} (touched : List ℕ) (fresh : List Piece) (n : ℕ) → n ≡ min (length touched) (length fresh)
-    → AllPairs (λ a b. a ≢ b) touched → All (λ k. IsSome (tile_in old k)) touched → Lays old mid (take n touched) (take n fresh) None before between → GiveWay mid low (drop n touched) None []
-    → Lays low new [] (drop n fresh) None between after → Lays old new touched fresh None before after
+    → AllPairs (λ a b. a ≢ b) touched → All (λ k. IsSome (tile_in old k)) touched → Lays old mid (take n touched) (take n fresh) before between → GiveWay mid low (drop n touched) []
+    → Lays low new [] (drop n fresh) between after → Lays old new touched fresh before after
 Lays-instead {old} {mid} {low} {new} {before} {between} {after} touched fresh n shared once there first gone rest =
     let either : length (drop n touched) ≡ 0 ⊎ (length (drop n fresh) ≡ 0) = elim (cases_lt (length touched) (length fresh)) [
       | inl less ↦ inl (omega (arith, less, shared, length-drop n touched))
@@ -418,24 +394,6 @@ Lays-instead {old} {mid} {low} {new} {before} {between} {after} touched fresh n 
     (length_takes touched fresh n (omega (arith, shared)) (omega (arith, shared))) in
     rw (take-append-drop n touched, take-append-drop n fresh) at joined
 
--- one tile shrinks, and the others give way in turn
-pub Lays-shrunk :
-    {old mid new : List (ℕ × Tile)} {before between after : List LaidTile} (touched : List ℕ) (fresh : List Piece) (shrunk : LaidTile) → slice_get touched 0 ≡ Some shrunk.id
-    → slice_get fresh 0 ≡ Some shrunk.piece → AllPairs (λ a b. a ≢ b) touched → All (λ k. IsSome (tile_in old k)) touched → GiveWay old mid (shrunk.id ∷ []) (Some shrunk) (shrunk ∷ [])
-    → between ≡ before ++ shrunk ∷ [] → Lays mid new (drop 1 touched) (drop 1 fresh) None between after → Lays old new touched fresh (Some shrunk) before after
-Lays-shrunk [] fresh shrunk key piece once there ways listed rest = absurd (none-some _ key)
-Lays-shrunk (first ∷ others) [] shrunk key piece once there ways listed rest = absurd (none-some _ piece)
-Lays-shrunk {old} {mid} {new} {before} {between} {after} (first ∷ others) (top ∷ pieces) shrunk key piece once there ways listed rest =
-    let key_is : shrunk.id ≡ first = sym (same_Some first shrunk.id key) in
-    let piece_is : shrunk.piece ≡ top = sym (same_Some top shrunk.piece piece) in
-    let alone : Lays old mid (shrunk.id ∷ []) (shrunk.piece ∷ []) (Some shrunk) before between =
-    record { laid = shrunk ∷ []; listed = listed; pieces = refl; ways = ways; again = λ i less less'. refl } in
-    let joined =
-    Lays-even alone rest (All-drop (λ k. IsSome (tile_in old k)) 1 (first ∷ others) there)
-    (λ other later front. one_part (first ∷ others) 1 other once later (subst (λ k. Contains (k ∷ []) other) key_is front)) refl in
-    subst (λ k. Lays old new (k ∷ others) (top ∷ pieces) (Some shrunk) before after) key_is
-    (subst (λ p. Lays old new (shrunk.id ∷ others) (p ∷ pieces) (Some shrunk) before after) piece_is joined)
-
 -- the list is longer by the pieces
-pub Lays-long : {old new : List (ℕ × Tile)} {touched : List ℕ} {fresh : List Piece} {shrunk : Option LaidTile} {before after : List LaidTile} → Lays old new touched fresh shrunk before after → length after ≡ length before + length fresh
+pub Lays-long : {old new : List (ℕ × Tile)} {touched : List ℕ} {fresh : List Piece} {before after : List LaidTile} → Lays old new touched fresh before after → length after ≡ length before + length fresh
 Lays-long {before = before} a = ap length a.listed ∙ length-append before a.laid ∙ omega (arith, length_keys a.laid _ a.pieces, length-map a.laid (λ (e : LaidTile). e.id))

@@ -1,25 +1,27 @@
 -- Fresh tiles laid in place of touched ones, and stitched with those around them.
-use Rattle.std.proofs.Common.{◌≡◌, ◌≢◌, ℕ, ◌+◌, ◌<◌, ◌≤◌, true, false, List, length, map, get_or, Option, Some, None, IsSome, IfSome, All, AllPairs, Contains, inl, inr, refl, sym, ap, subst, subst₂, arith}
-use Rattle.std.specs.Option.{IsSomeAnd, MatchOption, option_map}
+use Rattle.std.proofs.Common.{◌≡◌, ◌≢◌, ℕ, ◌+◌, ◌<◌, ◌≤◌, true, false, List, length, map, get_or, Option, Some, None, IsSome, IfSome, All, AllPairs, Contains, slice_get, inl, inr, refl, sym, ap, ◌∙◌, subst, arith}
+use Rattle.std.specs.Option.{IsSomeAnd, option_map}
 use Rattle.std.proofs.lemmas.Bool.{cases_lt}
-use Rattle.std.proofs.lemmas.List.{length-map}
-use Rattle.std.proofs.lemmas.Option.{none-some, same_Some}
+use Rattle.std.proofs.lemmas.List.{get_or_default, length-map}
+use Rattle.std.proofs.lemmas.Option.{none-some, same_Some, slice_get-get_or, slice_get-map, slice_get_within}
+use Rattle.mls_geom.specs.Rects.{Point, holds}
 use Rattle.mls_geom.specs.declared.piece.Piece.{Piece}
 use Rattle.mls_geom.proofs.Ascending.{Contains-map}
 use Rattle.mls_tilepool.specs.Pools.{tile_in}
 use Rattle.mls_tilepool.specs.declared.tile.Tile.{Tile}
 use Rattle.mls_tilepool.proofs.TileLists.{tile_in_contains}
 use Rattle.mls_stitch.specs.Fresh.{MayReplace, replaced}
-use Rattle.mls_stitch.specs.Pending.{AwaitStitches}
-use Rattle.mls_stitch.specs.Placing.{CanShrink, IsLost, Lays, Shrinks, Surround}
+use Rattle.mls_stitch.specs.Pending.{AwaitStitches, keys_of}
+use Rattle.mls_stitch.specs.Placing.{IsLost, Lays, Surround}
 use Rattle.mls_stitch.specs.Replacements.{Replaces, TakePlace}
 use Rattle.mls_stitch.specs.Tilings.{AreTiledAs, IsPlane, block_at, block_of}
 use Rattle.mls_stitch.specs.Walks.{laid_at}
 use Rattle.mls_stitch.specs.declared.laid_tile.LaidTile.{LaidTile}
-use Rattle.mls_stitch.specs.declared.replacement.Replacement.{Replacement}
+use Rattle.mls_stitch.proofs.AroundTiles.{Surround-fewer}
 use Rattle.mls_stitch.proofs.DistinctNumbers.{length-le-AllPairs}
+use Rattle.mls_stitch.proofs.FreshTiles.{IfSome-each}
 use Rattle.mls_stitch.proofs.Laying.{Lays-count}
-use Rattle.mls_stitch.proofs.ReplacedStitches.{AwaitStitches-replaced, MayReplace-GiveWay}
+use Rattle.mls_stitch.proofs.ReplacedStitches.{AwaitStitches-replaced, IsLostBy, MayReplace-GiveWay}
 use Rattle.mls_stitch.proofs.ReplacedTiles.{Replaces-replaced}
 use Rattle.mls_stitch.proofs.ShownTiles.{KeysDiffer}
 
@@ -69,57 +71,52 @@ touched_few tiles keys there once =
     Contains-map (λ (entry : ℕ × Tile). entry.0) tiles (get_or keys k d, tile) (tile_in_contains tiles (get_or keys k d) tile is) in
     omega (arith, length-le-AllPairs keys firsts once found, length-map tiles (λ (entry : ℕ × Tile). entry.0))
 
--- what holds of a value where there is one
-pub IfSome-match : {X : Type 0} (o : Option X) (P : Type 0) (Q : X → Type 0) → MatchOption o P Q → IfSome o Q
-IfSome-match None P Q holds = tt
-IfSome-match (Some x) P Q holds = holds
-
--- a tile that shrinks can do so
-can_shrink : (blocks : ℕ → Option Piece) (touched : List ℕ) (fresh : List Piece) (shrunk : Option LaidTile) → IfSome shrunk (Shrinks blocks touched fresh) → IfSome shrunk (CanShrink blocks)
-can_shrink blocks touched fresh None shrinks = tt
-can_shrink blocks touched fresh (Some tile) shrinks = shrinks.inside
+-- what the touched tiles lose to the pieces as they are laid they lose to the pieces that are to be laid
+lost-listed :
+    (blocks : ℕ → Option Piece) (touched : List ℕ) (fresh : List Piece) (laid : List LaidTile) (at : Point) → map (λ (e : LaidTile). e.piece) laid ≡ fresh
+    → ((i : ℕ) → i < length touched → i < length fresh → slice_get (keys_of laid) i ≡ slice_get touched i) → IsLostBy blocks touched laid at → IsLost blocks touched fresh at
+lost-listed blocks touched fresh laid at pieces again lost =
+    let (place, within, is) = lost.touches in
+    let there : slice_get touched place ≡ Some lost.key = slice_get-get_or touched place lost.key within ∙ ap Some is in
+    record {
+      place = place;
+      key = lost.key;
+      there = there;
+      held = lost.held;
+      outside = IfSome-each (slice_get fresh place) (λ piece. holds piece.rect at.x at.y ≡ false) (λ piece piece_is.
+          let entry : LaidTile = get_or laid place (named lost.key piece) in
+          let less : place < length laid = omega (arith, slice_get_within fresh place piece piece_is, ap length pieces, length-map laid (λ (e : LaidTile). e.piece)) in
+          let found : Contains laid entry = (place, less, get_or_default laid place _ _ less) in
+          let at_place : slice_get laid place ≡ Some entry = slice_get-get_or laid place (named lost.key piece) less in
+          let its_piece : entry.piece ≡ piece =
+          same_Some entry.piece piece (ap (option_map (λ (e : LaidTile). e.piece)) (sym at_place) ∙ sym (slice_get-map (λ (e : LaidTile). e.piece) laid place) ∙ ap (λ l. slice_get l place) pieces ∙ piece_is) in
+          let its_key : entry.id ≡ lost.key =
+          same_Some entry.id lost.key
+          (ap (option_map (λ (e : LaidTile). e.id)) (sym at_place) ∙ sym (slice_get-map (λ (e : LaidTile). e.id) laid place) ∙ again place within (slice_get_within fresh place piece piece_is) ∙ there) in
+          subst (λ (q : Piece). holds q.rect at.x at.y ≡ false) its_piece (lost.outside entry found its_key));
+    }
 
 module _
-    (old mid : List (ℕ × Tile)) (touched : List ℕ) (fresh : List Piece) (shrunk : Option LaidTile) (around after : List LaidTile) (plane : IsPlane old)
-    (takes : TakePlace (block_at old) touched fresh) (lays : Lays old mid touched fresh shrunk around after)
+    (old mid : List (ℕ × Tile)) (touched : List ℕ) (fresh : List Piece) (around after : List LaidTile) (plane : IsPlane old) (takes : TakePlace (block_at old) touched fresh)
+    (lays : Lays old mid touched fresh around after)
   where
     may : MayReplace (block_at old) touched lays.laid
-    may = MayReplace-GiveWay old mid (block_at old) touched shrunk lays.laid plane.placed (subst (TakePlace (block_at old) touched) (sym lays.pieces) takes) lays.ways
+    may = MayReplace-GiveWay old mid (block_at old) touched lays.laid plane.placed (subst (TakePlace (block_at old) touched) (sym lays.pieces) takes) lays.ways
 
     -- the fresh tiles and those around them wait for their stitches
     pub AwaitStitches-instead :
-        IfSome shrunk (Shrinks (block_at old) touched fresh) → Surround (block_at old) touched (IsLost (block_at old) touched shrunk) around → AllPairs (λ p q. p.id ≢ q.id) around
-        → AwaitStitches mid (replaced (block_at old) touched lays.laid) after
-    AwaitStitches-instead shrinks round once =
-        subst (AwaitStitches mid (replaced (block_at old) touched lays.laid)) (sym lays.listed)
-        (AwaitStitches-replaced old mid (block_at old) touched shrunk lays.laid around plane may lays.ways (can_shrink (block_at old) touched fresh shrunk shrinks) round once)
+        Surround (block_at old) touched (IsLost (block_at old) touched fresh) around → AllPairs (λ p q. p.id ≢ q.id) around → AwaitStitches mid (replaced (block_at old) touched lays.laid) after
+    AwaitStitches-instead round once =
+        let round' =
+        Surround-fewer (block_at old) touched (IsLost (block_at old) touched fresh) (IsLostBy (block_at old) touched lays.laid) around round
+        (λ p lost. lost-listed (block_at old) touched fresh lays.laid p lays.pieces lays.again lost) in
+        subst (AwaitStitches mid (replaced (block_at old) touched lays.laid)) (sym lays.listed) (AwaitStitches-replaced old mid (block_at old) touched lays.laid around plane may lays.ways round' once)
 
     -- and once they are stitched, the touched tiles are replaced
     pub Replaces-instead :
         (new : List (ℕ × Tile)) → AreTiledAs new (replaced (block_at old) touched lays.laid) → KeysDiffer old → KeysDiffer new → length new ≡ length mid → Replaces old new touched fresh
     Replaces-instead new tiled differ differ_after same =
         Replaces-replaced old new touched lays.laid plane may tiled differ differ_after fresh lays.pieces lays.again (omega (arith, same, Lays-count lays))
-
--- the same of a replacement that was made of these touched tiles and these pieces
-pub AwaitStitches-made :
-    (old mid : List (ℕ × Tile)) (touched : List ℕ) (fresh : List Piece) (made : Replacement) (around after : List LaidTile) → IsPlane old → TakePlace (block_at old) touched fresh
-    → made.touched.now ≡ touched → made.fresh.now ≡ fresh → IfSome made.shrunk (Shrinks (block_at old) touched fresh)
-    → (lays : Lays old mid made.touched.now made.fresh.now made.shrunk around after)
-    → Surround (block_at old) made.touched.now (IsLost (block_at old) made.touched.now made.shrunk) around → AllPairs (λ p q. p.id ≢ q.id) around
-    → AwaitStitches mid (replaced (block_at old) made.touched.now lays.laid) after
-AwaitStitches-made old mid touched fresh made around after plane takes is_touched is_fresh shrinks lays round once =
-    let takes' = subst₂ (TakePlace (block_at old)) (sym is_touched) (sym is_fresh) takes in
-    let shrinks' = subst₂ (λ t f. IfSome made.shrunk (Shrinks (block_at old) t f)) (sym is_touched) (sym is_fresh) shrinks in
-    AwaitStitches-instead old mid made.touched.now made.fresh.now made.shrunk around after plane takes' lays shrinks' round once
-
-pub Replaces-made :
-    (old mid new : List (ℕ × Tile)) (touched : List ℕ) (fresh : List Piece) (made : Replacement) (around after : List LaidTile) → IsPlane old → TakePlace (block_at old) touched fresh
-    → made.touched.now ≡ touched → made.fresh.now ≡ fresh → (lays : Lays old mid made.touched.now made.fresh.now made.shrunk around after)
-    → AreTiledAs new (replaced (block_at old) made.touched.now lays.laid) → KeysDiffer old → KeysDiffer new → length new ≡ length mid → Replaces old new touched fresh
-Replaces-made old mid new touched fresh made around after plane takes is_touched is_fresh lays tiled differ differ_after same =
-    subst₂ (Replaces old new) is_touched is_fresh
-    (Replaces-instead old mid made.touched.now made.fresh.now made.shrunk around after plane (subst₂ (TakePlace (block_at old)) (sym is_touched) (sym is_fresh) takes) lays new tiled differ
-    differ_after same)
 
 -- room that isn't enough, and room that is
 pub has_no_room : (room : Option ℕ) (wanted free : ℕ) → IsSome room → ¬ (IfSome room (λ n. wanted ≤ n + free)) → IsSomeAnd room (λ n. n + free < wanted)

@@ -1,34 +1,30 @@
 -- Stitches after replacement: each is right, or leads from a listed tile to a listed tile.
-use Rattle.std.proofs.Common.{◌≡◌, ◌≢◌, ◌⊎◌, ℕ, true, false, IsTrue, List, ◌++◌, map, get_or, Option, Some, None, inl, inr, refl, sym, ap, ◌∙◌, subst, subst₂, arith}
+use Rattle.std.proofs.Common.{◌≡◌, ◌≢◌, ◌⊎◌, ℕ, true, false, cond, IsTrue, List, ◌++◌, map, get_or, Option, Some, None, inl, inr, refl, sym, ap, ◌∙◌, subst, subst₂}
 use Rattle.std.specs.List.{All, AllPairs, Any, Contains}
-use Rattle.std.specs.Option.{IfSome}
-use Rattle.std.proofs.lemmas.Bool.{both_ways, cases_Bool}
+use Rattle.std.proofs.lemmas.Bool.{both_ways, cases_Bool, false_from_ne_true}
 use Rattle.std.proofs.lemmas.List.Elements.{All-append, All-contains, Contains-append_left, Contains-append_right, Contains-get_or}
 use Rattle.std.proofs.lemmas.Option.{none-some, same_Some}
-use Rattle.mls_geom.specs.Rects.{Point, IsWithin, holds}
+use Rattle.mls_geom.specs.Rects.{Point, holds}
 use Rattle.mls_geom.specs.World.{world}
 use Rattle.mls_geom.specs.declared.piece.Piece.{Piece}
 use Rattle.mls_geom.proofs.Ascending.{AllPairs-append}
-use Rattle.mls_geom.proofs.Holds.{between_holds, holds_between}
 use Rattle.mls_geom.proofs.PiecePictures.{holds_outer}
 use Rattle.mls_tilepool.specs.Pools.{tile_in}
 use Rattle.mls_tilepool.specs.declared.tile.Tile.{Tile}
 use Rattle.mls_stitch.specs.Fresh.{MayReplace, replaced}
 use Rattle.mls_stitch.specs.Pending.{AwaitStitches, IsRightOrListed, keys_of}
-use Rattle.mls_stitch.specs.Placing.{AreClose, CanShrink, GiveWay, HasShrunk, IsLost, Surround, moved, unstitched}
+use Rattle.mls_stitch.specs.Placing.{AreClose, GiveWay, Surround, inside_only, moved, placed_at, unstitched}
 use Rattle.mls_stitch.specs.Replacements.{IsHeld, TakePlace}
 use Rattle.mls_stitch.specs.Stitches.{HoldsAt, LeadsTo, beyond, stitch_of}
 use Rattle.mls_stitch.specs.Tilings.{AreTiledAs, ArePlaced}
 use Rattle.mls_stitch.specs.declared.laid_tile.LaidTile.{LaidTile}
 use Rattle.mls_stitch.specs.declared.stitch.Stitch.{Stitch}
 use Rattle.mls_stitch.specs.declared.stitch.Stitch.TheVariants.{Lb, Bl, Tr, Rt}
-use Rattle.mls_stitch.proofs.CloseSquares.{beyond_shrunk, close_back, inner_square}
+use Rattle.mls_stitch.proofs.CloseSquares.{beyond_moved, close_back, corner_close, corner_square}
 use Rattle.mls_stitch.proofs.DistinctNumbers.{cases_Contains}
-use Rattle.mls_stitch.proofs.FreshTiles.{entry-keys_of, keys_of-listed}
-use Rattle.mls_stitch.proofs.KeptStitches.{inside-HoldsAt}
-use Rattle.mls_stitch.proofs.Laying.{shrunk_or_placed}
+use Rattle.mls_stitch.proofs.FreshTiles.{AllPairs-either, cases_Option, entry-keys_of, keys_of-listed}
 use Rattle.mls_stitch.proofs.ReplacedBlocks.{AreBlocks-replaced, HoldsAt-entry, HoldsAt-stays, entry-held, held-entry, held-touched, kept-unlisted, legal-entry, one_entry, replaced-entry, replaced-gone, replaced-kept, replaced-stays, replaced_cases}
-use Rattle.mls_stitch.proofs.Sides.{HoldsAt-block, legal-AreBlocks, there-IsSomeAnd}
+use Rattle.mls_stitch.proofs.Sides.{HoldsAt-block, holds-HoldsAt, legal-AreBlocks, placed_block, there-IsSomeAnd}
 
 -- a fresh tile has no stitch
 pub stitch_of-unstitched : (stitch : Stitch) (piece : Piece) → stitch_of stitch (unstitched piece) ≡ None
@@ -44,8 +40,8 @@ no_stitch tiles laid entry tile stitch placed found is =
     let fresh = All-contains (λ e. tile_in tiles e.id ≡ Some (unstitched e.piece)) laid entry placed found in
     ap (stitch_of stitch) (same_Some tile (unstitched entry.piece) (sym is ∙ fresh)) ∙ stitch_of-unstitched stitch entry.piece
 
--- one that shrinks has the stitches that it had
-stitch_of-moved : (stitch : Stitch) (piece : Piece) (tile : Tile) → stitch_of stitch (moved piece tile) ≡ stitch_of stitch tile
+-- one that moves has those that lead into the world
+stitch_of-moved : (stitch : Stitch) (piece : Piece) (tile : Tile) → stitch_of stitch (moved piece tile) ≡ inside_only (beyond stitch piece.rect) (stitch_of stitch tile)
 stitch_of-moved Lb piece tile = refl
 stitch_of-moved Bl piece tile = refl
 stitch_of-moved Tr piece tile = refl
@@ -69,11 +65,16 @@ none_placed (Some tile) block placed none = absurd (none-some tile (sym none))
 pub Any-contained : {X : Type 0} (P : X → Type 0) (xs : List X) (x : X) → Contains xs x → P x → Any P xs
 Any-contained P xs x (k, within, is) here = (k, x, within, is, here)
 
+-- either lies where its piece does
+ArePlaced-placed_at : (slot : Option Tile) (block : Option Piece) (piece : Piece) (before : Option Tile) → slot ≡ Some (placed_at piece before) → block ≡ Some piece → ArePlaced slot block
+ArePlaced-placed_at slot block piece None slot_is block_is = ArePlaced-unstitched slot block piece slot_is block_is
+ArePlaced-placed_at slot block piece (Some tile) slot_is block_is = ArePlaced-moved slot block piece tile slot_is block_is
+
 -- tiles that were laid in place of the touched ones may replace them
 pub MayReplace-GiveWay :
-    (old new : List (ℕ × Tile)) (blocks : ℕ → Option Piece) (touched : List ℕ) (shrunk : Option LaidTile) (laid : List LaidTile) → ((key : ℕ) → ArePlaced (tile_in old key) (blocks key))
-    → TakePlace blocks touched (map (λ (e : LaidTile). e.piece) laid) → GiveWay old new touched shrunk laid → MayReplace blocks touched laid
-MayReplace-GiveWay old new blocks touched shrunk laid placed takes ways = record {
+    (old new : List (ℕ × Tile)) (blocks : ℕ → Option Piece) (touched : List ℕ) (laid : List LaidTile) → ((key : ℕ) → ArePlaced (tile_in old key) (blocks key))
+    → TakePlace blocks touched (map (λ (e : LaidTile). e.piece) laid) → GiveWay old new touched laid → MayReplace blocks touched laid
+MayReplace-GiveWay old new blocks touched laid placed takes ways = record {
   takes = takes;
   once = ways.once;
   unused = λ k d within. elim (ways.unused k d within) [
@@ -82,36 +83,32 @@ MayReplace-GiveWay old new blocks touched shrunk laid placed takes ways = record
   ];
 }
 
--- a square of the piece is one of the tile
-pub HoldsAt-shrunk : (blocks : ℕ → Option Piece) (tile : LaidTile) (at : Point) → CanShrink blocks tile → holds tile.piece.rect at.x at.y ≡ true → HoldsAt blocks tile.id at
-HoldsAt-shrunk blocks tile at can inside =
-    let (block, is, within) = there-IsSomeAnd (blocks tile.id) (λ b. IsWithin b.rect tile.piece.rect) can in
-    let lines = holds_between tile.piece.rect at.x at.y inside in
-    HoldsAt-block blocks tile.id block at is
-    (between_holds block.rect at.x at.y (omega (arith, lines.0, within.left)) (omega (arith, lines.1, within.right)) (omega (arith, lines.2, within.bottom)) (omega (arith, lines.3, within.top)))
+-- a touched tile has the square, and no piece that is laid under its key does
+pub record IsLostBy (blocks : ℕ → Option Piece) (touched : List ℕ) (laid : List LaidTile) (at : Point) : Type 0 where
+  pub key : ℕ
+  pub touches : Contains touched key
+  pub held : HoldsAt blocks key at
+  pub outside : (entry : LaidTile) → Contains laid entry → entry.id ≡ key → holds entry.piece.rect at.x at.y ≡ false
 
--- a square of a touched tile is lost, or in the piece to which one shrinks
-pub lost_or_kept :
-    (blocks : ℕ → Option Piece) (touched : List ℕ) (shrunk : Option LaidTile) (at : Point) → IsHeld blocks touched at
-    → IsLost blocks touched shrunk at ⊎ ((tile : LaidTile) × (shrunk ≡ Some tile) × (holds tile.piece.rect at.x at.y ≡ true))
-lost_or_kept blocks touched None at held = inl (record { held = held; outside = tt })
-lost_or_kept blocks touched (Some tile) at held = elim (cases_Bool (holds tile.piece.rect at.x at.y)) [
-  | inl inside ↦ inr (tile, refl, inside)
-  | inr outside ↦ inl (record { held = held; outside = outside })
+-- listed tiles with one key are one
+entry_same : (laid : List LaidTile) (a b : LaidTile) → AllPairs (λ p q. p.id ≢ q.id) laid → Contains laid a → Contains laid b → a.id ≡ b.id → a ≡ b
+entry_same laid a b once found_a found_b same = elim (AllPairs-either (λ (p q : LaidTile). p.id ≢ q.id) laid a b once found_a found_b) [
+  | inl is ↦ is
+  | inr (inl differ) ↦ absurd (differ same)
+  | inr (inr differ) ↦ absurd (differ (sym same))
 ]
 
-module _ (old new : List (ℕ × Tile)) (blocks : ℕ → Option Piece) (touched : List ℕ) (shrunk : Option LaidTile) (laid around : List LaidTile) (tiled : AreTiledAs old blocks)
-    (may : MayReplace blocks touched laid) (ways : GiveWay old new touched shrunk laid) (can : IfSome shrunk (CanShrink blocks))
-    (round : Surround blocks touched (IsLost blocks touched shrunk) around) (once : AllPairs (λ p q. p.id ≢ q.id) around)
+module _ (old new : List (ℕ × Tile)) (blocks : ℕ → Option Piece) (touched : List ℕ) (laid around : List LaidTile) (tiled : AreTiledAs old blocks) (may : MayReplace blocks touched laid)
+    (ways : GiveWay old new touched laid) (round : Surround blocks touched (IsLostBy blocks touched laid) around) (once : AllPairs (λ p q. p.id ≢ q.id) around)
   where
+    -- the tile of a laid piece
+    placed-tile : (entry : LaidTile) → Contains laid entry → tile_in new entry.id ≡ Some (placed_at entry.piece (tile_in old entry.id))
+    placed-tile entry found = All-contains (λ (e : LaidTile). tile_in new e.id ≡ Some (placed_at e.piece (tile_in old e.id))) laid entry ways.placed found
+
     -- each tile lies as its block
     placed-entry : (entry : LaidTile) → Contains laid entry → ArePlaced (tile_in new entry.id) (replaced blocks touched laid entry.id)
     placed-entry entry found =
-        let block_is = replaced-entry blocks touched laid entry may.once found in
-        elim (shrunk_or_placed ways entry found) [
-          | inl (is, smaller) ↦ ArePlaced-moved (tile_in new entry.id) (replaced blocks touched laid entry.id) entry.piece smaller.tile smaller.after block_is
-          | inr (differ, placed) ↦ ArePlaced-unstitched (tile_in new entry.id) (replaced blocks touched laid entry.id) entry.piece placed block_is
-        ]
+        ArePlaced-placed_at (tile_in new entry.id) (replaced blocks touched laid entry.id) entry.piece (tile_in old entry.id) (placed-tile entry found) (replaced-entry blocks touched laid entry may.once found)
 
     pub placed-replaced : (key : ℕ) → ArePlaced (tile_in new key) (replaced blocks touched laid key)
     placed-replaced key = elim (cases_Contains (keys_of laid) key) [
@@ -155,25 +152,33 @@ module _ (old new : List (ℕ × Tile)) (blocks : ℕ → Option Piece) (touched
               (here, Any-contained (λ e. IsTrue (holds e.piece.rect at.x at.y)) (around ++ laid) tile (Contains-append_left around laid tile (k, within, same)) in_tile)
         ]
 
-    -- a square of a tile that doesn't shrink is lost
-    lost-entry : (entry : LaidTile) (p : Point) → Contains laid entry → shrunk ≢ Some entry → holds entry.piece.rect p.x p.y ≡ true → IsLost blocks touched shrunk p
-    lost-entry entry p found differ inside = elim (lost_or_kept blocks touched shrunk p (held-entry blocks touched laid may entry p found inside)) [
-      | inl lost ↦ lost
-      | inr (tile, is, in_tile) ↦
-          let smaller : HasShrunk old new laid tile = subst (λ o. IfSome o (HasShrunk old new laid)) is ways.smaller in
-          absurd (differ (is ∙ ap Some (one_entry blocks touched laid may tile entry p smaller.listed found in_tile inside)))
-    ]
+    -- a square of a laid piece was the tile's under its key, or is lost
+    lost-entry :
+        (entry : LaidTile) (p : Point) → Contains laid entry → holds entry.piece.rect p.x p.y ≡ true → ¬ (HoldsAt blocks entry.id p) → IsLostBy blocks touched laid p
+    lost-entry entry p found inside not_own =
+        let (k, key, within, is, held) = held-entry blocks touched laid may entry p found inside in
+        record {
+          key = key;
+          touches = (k, within, is);
+          held = held;
+          outside = λ other there same. false_from_ne_true _ (λ in_other.
+              let one : other ≡ entry = one_entry blocks touched laid may other entry p there found in_other inside in
+              not_own (subst (λ n. HoldsAt blocks n p) (sym same ∙ ap (λ (e : LaidTile). e.id) one) held));
+        }
 
-    -- a fresh tile's stitch waits, if it is to lead anywhere
-    pending-entry :
-        (entry : LaidTile) (tile : Tile) (stitch : Stitch) → Contains laid entry → shrunk ≢ Some entry → stitch_of stitch tile ≡ None
+    -- the stitch of a tile with a new key waits, if it is to lead anywhere
+    pending-new :
+        (entry : LaidTile) (tile : Tile) (stitch : Stitch) → Contains laid entry → tile_in old entry.id ≡ None → stitch_of stitch tile ≡ None
         → IsRightOrListed (replaced blocks touched laid) (around ++ laid) entry.id tile entry.piece stitch
-    pending-entry entry tile stitch found differ none =
+    pending-new entry tile stitch found unused none =
         let at = beyond stitch entry.piece.rect in
+        let no_block : blocks entry.id ≡ None = none_placed (tile_in old entry.id) (blocks entry.id) (tiled.placed entry.id) unused in
         elim (cases_Bool (holds world at.x at.y)) [
           | inl inside ↦
-              let (p, in_piece, close) = inner_square stitch world entry.piece.rect (legal-entry blocks touched laid may entry found) in
-              inr (found-listed entry at found (round.whole p at (lost-entry entry p found differ in_piece) close inside))
+              let p : Point = corner_square stitch entry.piece.rect in
+              let (in_piece, close) = corner_close stitch world entry.piece.rect (legal-entry blocks touched laid may entry found) in
+              let not_own : ¬ (HoldsAt blocks entry.id p) = λ held. let (block, is, in_block) = there-IsSomeAnd (blocks entry.id) (λ b. holds b.rect p.x p.y ≡ true) held in none-some block (sym no_block ∙ is) in
+              inr (found-listed entry at found (round.whole p at (lost-entry entry p found in_piece not_own) close inside))
           | inr outside ↦ inl (subst (λ s. LeadsTo (replaced blocks touched laid) s at) (sym none) outside)
         ]
 
@@ -187,53 +192,81 @@ module _ (old new : List (ℕ × Tile)) (blocks : ℕ → Option Piece) (touched
       | inr kept ↦ inl (HoldsAt-stays blocks touched laid may other at kept leads)
     ]
 
-    -- a stitch that led out of the world is none
-    none-outside : (slot : Option ℕ) (at to : Point) → LeadsTo blocks slot to → holds world to.x to.y ≡ false → holds world at.x at.y ≡ false → LeadsTo (replaced blocks touched laid) slot at
-    none-outside None at to leads out out_too = out_too
-    none-outside (Some key) at to leads out out_too = absurd (both_ways _ out (inside-HoldsAt blocks key to tiled.tiling leads))
+    -- a square of the tile under a laid piece's key that the piece doesn't have is lost
+    lost-own :
+        (entry : LaidTile) (p : Point) → Contains laid entry → Contains touched entry.id → HoldsAt blocks entry.id p → holds entry.piece.rect p.x p.y ≡ false → IsLostBy blocks touched laid p
+    lost-own entry p found touches held out = record {
+      key = entry.id;
+      touches = touches;
+      held = held;
+      outside = λ other there same. subst (λ (e : LaidTile). holds e.piece.rect p.x p.y ≡ false) (sym (entry_same laid other entry may.once there found same)) out;
+    }
 
-    -- the stitch of a tile that shrinks stays right, or waits
-    pending-shrunk :
-        (entry : LaidTile) (tile : Tile) (block : Piece) (stitch : Stitch) → Contains laid entry → shrunk ≡ Some entry → blocks entry.id ≡ Some block → IsWithin block.rect entry.piece.rect
-        → LeadsTo blocks (stitch_of stitch tile) (beyond stitch block.rect) → IsRightOrListed (replaced blocks touched laid) (around ++ laid) entry.id tile entry.piece stitch
-    pending-shrunk entry tile block stitch found is here within leads =
+    -- the stitch that a tile had as it moves to a piece stays right, or waits, if it is to lead anywhere
+    pending-inside :
+        (entry : LaidTile) (block : Piece) (stitch : Stitch) (slot : Option ℕ) → Contains laid entry → blocks entry.id ≡ Some block → LeadsTo blocks slot (beyond stitch block.rect)
+        → holds world (beyond stitch entry.piece.rect).x (beyond stitch entry.piece.rect).y ≡ true
+        → LeadsTo (replaced blocks touched laid) slot (beyond stitch entry.piece.rect)
+        ⊎ (Contains (keys_of (around ++ laid)) entry.id × Any (λ e. IsTrue (holds e.piece.rect (beyond stitch entry.piece.rect).x (beyond stitch entry.piece.rect).y)) (around ++ laid))
+    pending-inside entry block stitch slot found here leads inside =
         let e = entry.piece.rect in
         let at = beyond stitch e in
+        let legal = legal-entry blocks touched laid may entry found in
+        let p : Point = corner_square stitch e in
+        let (in_piece, close) = corner_close stitch world e legal in
         let touches : Contains touched entry.id = elim (All-contains (λ t. Contains touched t.id ⊎ (blocks t.id ≡ None)) laid entry may.unused found) [
           | inl there ↦ there
           | inr none ↦ absurd (none-some block (sym none ∙ here))
         ] in
-        let held = λ (p : Point) (inside : holds block.rect p.x p.y ≡ true). Any-contained (λ k. HoldsAt blocks k p) touched entry.id touches (HoldsAt-block blocks entry.id block p here inside) in
-        elim (beyond_shrunk stitch block.rect e (legal-AreBlocks blocks entry.id block tiled.tiling here) (legal-entry blocks touched laid may entry found) within) [
-          | inl inside ↦ inr (found-listed entry at found (inl (held at inside)))
-          | inr (inl same) ↦ pending-same entry (stitch_of stitch tile) at found (subst (LeadsTo blocks (stitch_of stitch tile)) (sym same) leads)
-          | inr (inr beside) ↦ elim (cases_Bool (holds world at.x at.y)) [
-            | inl inside ↦
-                let lost : IsLost blocks touched shrunk beside.square =
-                record { held = held beside.square beside.inside; outside = subst (λ o. IfSome o (λ t. holds t.piece.rect beside.square.x beside.square.y ≡ false)) (sym is) beside.outside } in
-                inr (found-listed entry at found (round.whole beside.square at lost beside.close inside))
-            | inr outside ↦ inl (none-outside (stitch_of stitch tile) at (beyond stitch block.rect) leads (beside.none outside) outside)
+        elim (cases_Bool (holds block.rect p.x p.y)) [
+          | inr out ↦
+              let not_own : ¬ (HoldsAt blocks entry.id p) = λ held. both_ways _ out (holds-HoldsAt blocks entry.id block p here held) in
+              inr (found-listed entry at found (round.whole p at (lost-entry entry p found in_piece not_own) close inside))
+          | inl own ↦ elim (cases_Bool (holds block.rect at.x at.y)) [
+            | inl held ↦ inr (found-listed entry at found (inl (Any-contained (λ k. HoldsAt blocks k at) touched entry.id touches (HoldsAt-block blocks entry.id block at here held))))
+            | inr beyond_it ↦ elim (beyond_moved stitch block.rect e legal own beyond_it) [
+              | inl same ↦ pending-same entry slot at found (subst (LeadsTo blocks slot) (sym same) leads)
+              | inr beside ↦
+                  let lost = lost-own entry beside.square found touches (HoldsAt-block blocks entry.id block beside.square here beside.inside) beside.outside in
+                  inr (found-listed entry at found (round.whole beside.square at lost beside.close inside))
+            ]
           ]
+        ]
+
+    -- so does each of its stitches
+    pending-moved :
+        (entry : LaidTile) (tile before : Tile) (block : Piece) (stitch : Stitch) → Contains laid entry → blocks entry.id ≡ Some block
+        → LeadsTo blocks (stitch_of stitch before) (beyond stitch block.rect) → stitch_of stitch tile ≡ inside_only (beyond stitch entry.piece.rect) (stitch_of stitch before)
+        → IsRightOrListed (replaced blocks touched laid) (around ++ laid) entry.id tile entry.piece stitch
+    pending-moved entry tile before block stitch found here leads is =
+        let at = beyond stitch entry.piece.rect in
+        elim (cases_Bool (holds world at.x at.y)) [
+          | inl inside ↦
+              let kept : stitch_of stitch tile ≡ stitch_of stitch before = is ∙ ap (λ b. cond b (stitch_of stitch before) None) inside in
+              subst (λ slot. LeadsTo (replaced blocks touched laid) slot at ⊎ (Contains (keys_of (around ++ laid)) entry.id × Any (λ e. IsTrue (holds e.piece.rect at.x at.y)) (around ++ laid))) (sym kept)
+              (pending-inside entry block stitch (stitch_of stitch before) found here leads inside)
+          | inr outside ↦
+              let none : stitch_of stitch tile ≡ None = is ∙ ap (λ b. cond b (stitch_of stitch before) None) outside in
+              inl (subst (λ slot. LeadsTo (replaced blocks touched laid) slot at) (sym none) outside)
         ]
 
     -- so does that of each laid tile
     pending-laid :
         (entry : LaidTile) (tile : Tile) (stitch : Stitch) → Contains laid entry → tile_in new entry.id ≡ Some tile
         → IsRightOrListed (replaced blocks touched laid) (around ++ laid) entry.id tile entry.piece stitch
-    pending-laid entry tile stitch found is_tile = elim (shrunk_or_placed ways entry found) [
-      | inr (differ, placed) ↦
-          pending-entry entry tile stitch found differ (ap (stitch_of stitch) (same_Some tile (unstitched entry.piece) (sym is_tile ∙ placed)) ∙ stitch_of-unstitched stitch entry.piece)
-      | inl (is, smaller) ↦
-          let (block, here, within) = there-IsSomeAnd (blocks entry.id) (λ b. IsWithin b.rect entry.piece.rect) (subst (λ o. IfSome o (CanShrink blocks)) is can) in
-          let stitches : stitch_of stitch tile ≡ stitch_of stitch smaller.tile =
-          ap (stitch_of stitch) (same_Some tile (moved entry.piece smaller.tile) (sym is_tile ∙ smaller.after)) ∙ stitch_of-moved stitch entry.piece smaller.tile in
-          pending-shrunk entry tile block stitch found is here within
-          (subst (λ slot. LeadsTo blocks slot (beyond stitch block.rect)) (sym stitches) (tiled.stitched entry.id smaller.tile block stitch smaller.before here))
+    pending-laid entry tile stitch found is_tile = elim (cases_Option (tile_in old entry.id)) [
+      | inl unused ↦
+          let is : tile ≡ unstitched entry.piece = same_Some tile (unstitched entry.piece) (sym is_tile ∙ placed-tile entry found ∙ ap (λ o. Some (placed_at entry.piece o)) unused) in
+          pending-new entry tile stitch found unused (ap (stitch_of stitch) is ∙ stitch_of-unstitched stitch entry.piece)
+      | inr (before, there) ↦
+          let is : tile ≡ moved entry.piece before = same_Some tile (moved entry.piece before) (sym is_tile ∙ placed-tile entry found ∙ ap (λ o. Some (placed_at entry.piece o)) there) in
+          let (block, here, placed) = placed_block old blocks entry.id before (tiled.placed entry.id) there in
+          pending-moved entry tile before block stitch found here (tiled.stitched entry.id before block stitch there here) (ap (stitch_of stitch) is ∙ stitch_of-moved stitch entry.piece before)
     ]
 
     -- an untouched tile that has a square close to one that is lost is listed
     listed-close :
-        (key : ℕ) (block : Piece) (p q : Point) → ¬ (Contains touched key) → blocks key ≡ Some block → holds block.rect q.x q.y ≡ true → AreClose p q → IsLost blocks touched shrunk p
+        (key : ℕ) (block : Piece) (p q : Point) → ¬ (Contains touched key) → blocks key ≡ Some block → holds block.rect q.x q.y ≡ true → AreClose p q → IsLostBy blocks touched laid p
         → Contains (keys_of (around ++ laid)) key
     listed-close key block p q kept is inside close lost =
         let held_here = HoldsAt-block blocks key block q is inside in
@@ -245,12 +278,22 @@ module _ (old new : List (ℕ × Tile)) (blocks : ℕ → Option Piece) (touched
               subst (Contains (keys_of (around ++ laid))) key_is (keys_of-listed (around ++ laid) tile (Contains-append_left around laid tile (k, within, same)))
         ]
 
-    -- a stitch to a square that a tile keeps as it shrinks stays right
-    kept-square : (other : ℕ) (at : Point) (tile : LaidTile) → shrunk ≡ Some tile → holds tile.piece.rect at.x at.y ≡ true → HoldsAt blocks other at → HoldsAt (replaced blocks touched laid) other at
-    kept-square other at tile is inside leads =
-        let smaller : HasShrunk old new laid tile = subst (λ o. IfSome o (HasShrunk old new laid)) is ways.smaller in
-        let before = HoldsAt-shrunk blocks tile at (subst (λ o. IfSome o (CanShrink blocks)) is can) inside in
-        subst (λ k. HoldsAt (replaced blocks touched laid) k at) (tiled.tiling.apart tile.id other at before leads) (HoldsAt-entry blocks touched laid may tile at smaller.listed inside)
+    -- a square of a touched tile is lost, or the piece under its key has it
+    lost_or_kept : (other : ℕ) (at : Point) → Contains touched other → HoldsAt blocks other at → IsLostBy blocks touched laid at ⊎ HoldsAt (replaced blocks touched laid) other at
+    lost_or_kept other at touches held = elim (cases_Contains (keys_of laid) other) [
+      | inl listed ↦
+          let (entry, found, is) = entry-keys_of laid other listed in
+          elim (cases_Bool (holds entry.piece.rect at.x at.y)) [
+            | inl inside ↦ inr (subst (λ n. HoldsAt (replaced blocks touched laid) n at) is (HoldsAt-entry blocks touched laid may entry at found inside))
+            | inr out ↦ inl (lost-own entry at found (subst (Contains touched) (sym is) touches) (subst (λ n. HoldsAt blocks n at) (sym is) held) out)
+          ]
+      | inr unlisted ↦ inl (record {
+        key = other;
+        touches = touches;
+        held = held;
+        outside = λ entry found same. absurd (unlisted (subst (Contains (keys_of laid)) same (keys_of-listed laid entry found)));
+      })
+    ]
 
     -- an untouched tile's stitch stays right, unless its square is lost
     pending-stitch :
@@ -262,11 +305,12 @@ module _ (old new : List (ℕ × Tile)) (blocks : ℕ → Option Piece) (touched
       | inl (k, within, same) ↦
           let at = beyond stitch block.rect in
           let held : IsHeld blocks touched at = (k, other, within, same, leads) in
-          elim (lost_or_kept blocks touched shrunk at held) [
+          elim (lost_or_kept other at (k, within, same) leads) [
             | inl lost ↦
-                let (p, in_block, close) = inner_square stitch world block.rect (legal-AreBlocks blocks key block tiled.tiling is) in
+                let p : Point = corner_square stitch block.rect in
+                let (in_block, close) = corner_close stitch world block.rect (legal-AreBlocks blocks key block tiled.tiling is) in
                 inr (listed-close key block at p kept is in_block (close_back p at close) lost, covered at held)
-            | inr (tile, is_tile, inside) ↦ inl (kept-square other at tile is_tile inside leads)
+            | inr stays ↦ inl stays
           ]
       | inr other_kept ↦ inl (HoldsAt-stays blocks touched laid may other (beyond stitch block.rect) other_kept leads)
     ]

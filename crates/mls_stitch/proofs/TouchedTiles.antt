@@ -1,12 +1,13 @@
 -- The tiles that pieces touch, gathered from the search round one piece after another, or round all.
-use Rattle.std.proofs.Common.{◌≢◌, ℕ, List, [], ◌∷◌, ◌++◌, length, ◌≤◌, AllPairs, Contains, Option, inl, inr, sym, ◌∙◌, subst, arith}
+use Rattle.std.proofs.Common.{◌≡◌, ◌≢◌, ℕ, true, List, [], ◌∷◌, ◌++◌, length, ◌≤◌, AllPairs, Any, Contains, Option, inl, inr, refl, sym, ◌∙◌, subst, arith}
 use Rattle.std.proofs.lemmas.Bool.{or_cases}
+use Rattle.std.proofs.lemmas.Bool.Decides.{nat_tests}
 use Rattle.std.proofs.lemmas.List.Elements.{All-append, All-contains, All-nil, All-push, Contains-append_left, Contains-append_right}
-use Rattle.std.proofs.lemmas.List.Folds.{Any-from_list_any, list_any-append}
+use Rattle.std.proofs.lemmas.List.Folds.{Any-from_list_any, list_any-append, list_any-from_Any}
 use Rattle.mls_geom.specs.Locality.{is_touched, touches}
 use Rattle.mls_geom.specs.Rects.{Rect, IsWithin}
 use Rattle.mls_geom.specs.declared.piece.Piece.{Piece}
-use Rattle.mls_geom.proofs.Ascending.{Contains-map}
+use Rattle.mls_geom.proofs.Ascending.{Contains-first, Contains-map}
 use Rattle.mls_tilepool.specs.declared.tile.Tile.{Tile}
 use Rattle.mls_stitch.specs.Areas.{ListTouched}
 use Rattle.mls_stitch.specs.Gathering.{AreMet, EnclosePieces, HasTouched}
@@ -15,9 +16,10 @@ use Rattle.mls_stitch.specs.Placing.{KeepsKeys}
 use Rattle.mls_stitch.specs.Tilings.{IsPlane, block_at}
 use Rattle.mls_stitch.specs.Walks.{IsLaid}
 use Rattle.mls_stitch.specs.declared.laid_tile.LaidTile.{LaidTile}
-use Rattle.mls_stitch.proofs.FreshTiles.{Contains-from_map}
+use Rattle.mls_stitch.proofs.FreshTiles.{Contains-first_or_rest, Contains-from_map, nothing_in_nil}
 use Rattle.mls_stitch.proofs.Gathered.{IsRound, both_true, touched_met}
 use Rattle.mls_stitch.proofs.ListedTiles.{length-le-AreLaid}
+use Rattle.mls_stitch.proofs.ReplacedStitches.{Any-contained}
 use Rattle.mls_stitch.proofs.Sides.{legal-AreBlocks}
 
 -- a longer list has the keys of a shorter one
@@ -66,6 +68,48 @@ touched_more tiles passed piece area found list plane squares met so_far =
             | inr now ↦ more_keys found (list ++ found) key (λ t. Contains-append_right list found t) (last.whole key block here now)
           ];
     }
+
+-- what an inner rectangle touches the outer one touches
+touches_wider : (outer inner b : Rect) → IsWithin outer inner → touches inner b ≡ true → touches outer b ≡ true
+touches_wider outer inner b within near =
+    let left = within.left in
+    let bottom = within.bottom in
+    let right = within.right in
+    let top = within.top in
+    grind (arith, nat_tests)
+
+-- one of the passed pieces has this rectangle
+abbrev pub IsPassed : List Piece → Rect → Type 0
+IsPassed passed rect = Any (λ (p : Piece). p.rect ≡ rect) passed
+
+pub IsPassed-first : (passed : List Piece) (piece : Piece) → IsPassed (passed ++ piece ∷ []) piece.rect
+IsPassed-first passed piece = Any-contained (λ (p : Piece). p.rect ≡ piece.rect) (passed ++ piece ∷ []) piece (Contains-append_right passed (piece ∷ []) piece (Contains-first piece piece [] refl)) refl
+
+pub IsPassed-more : (passed : List Piece) (piece : Piece) (rect : Rect) → IsPassed passed rect → IsPassed (passed ++ piece ∷ []) rect
+IsPassed-more passed piece rect (k, p, within, is, same) =
+    Any-contained (λ (q : Piece). q.rect ≡ rect) (passed ++ piece ∷ []) p (Contains-append_left passed (piece ∷ []) p (k, within, is)) same
+
+-- one more piece was passed, inside an earlier one
+pub touched_inside :
+    (blocks : ℕ → Option Piece) (passed : List Piece) (piece : Piece) (outer : Rect) (list : List LaidTile) → IsPassed passed outer → IsWithin outer piece.rect → HasTouched blocks passed list
+    → HasTouched blocks (passed ++ piece ∷ []) list
+touched_inside blocks passed piece outer list (k, first, within, is, same) inside so_far = record {
+  each = so_far.each;
+  whole = λ key block here near.
+      let parts = sym (list_any-append (λ p. touches p.rect block.rect) passed (piece ∷ [])) ∙ near in
+      elim (or_cases (is_touched passed block) (is_touched (piece ∷ []) block) parts) [
+        | inl earlier ↦ so_far.whole key block here earlier
+        | inr now ↦
+            let (j, other, less, is_other, near_other) = Any-from_list_any (λ (p : Piece). touches p.rect block.rect) (piece ∷ []) now in
+            let only : piece ≡ other = elim (Contains-first_or_rest piece other [] (j, less, is_other)) [
+              | inl one ↦ one
+              | inr rest ↦ absurd (nothing_in_nil other rest)
+            ] in
+            let near_piece : touches piece.rect block.rect ≡ true = subst (λ (p : Piece). touches p.rect block.rect ≡ true) (sym only) near_other in
+            let near_first : touches first.rect block.rect ≡ true = subst (λ (r : Rect). touches r block.rect ≡ true) (sym same) (touches_wider outer piece.rect block.rect inside near_piece) in
+            so_far.whole key block here (list_any-from_Any (λ (p : Piece). touches p.rect block.rect) passed (k, first, within, is, near_first))
+      ];
+}
 
 -- without duplicates, a list of the tiles that the pieces touch
 pub ListTouched-passed :

@@ -1,9 +1,9 @@
 //! The tiles around touched ones.
-ghost use Rattle.std.specs.Prelude.{◌≡◌, ◌≢◌, ◌==◌, ◌↔◌, ◌⊎◌, ◌++◌, ℕ, ◌+◌, ◌≤◌, [], ◌∷◌, List, Some, IfSome, IsSome, IsTrue, length, vec_len, vec_capacity};
+ghost use Rattle.std.specs.Prelude.{◌≡◌, ◌≢◌, ◌==◌, ◌↔◌, ◌⊎◌, ◌++◌, ℕ, ◌+◌, ◌≤◌, IsSome, IsTrue, length, vec_len, vec_capacity};
 ghost use Rattle.std.specs.List.{All, AllPairs, Contains, list_any};
 ghost use Rattle.std.specs.List.Sorted.{IsNonDecreasing};
 ghost use Rattle.mls_tilepool.specs.Pools.{count_of, tile_at, tiles_of};
-ghost use Rattle.mls_stitch.specs.Placing.{CanShrink, IsLost, KeepsKeys, Shrinks, Surround, unlisted_of};
+ghost use Rattle.mls_stitch.specs.Placing.{IsLost, KeepsKeys, Surround, unlisted_of};
 ghost use Rattle.mls_stitch.specs.Replacements.{IsHeld};
 ghost use Rattle.mls_stitch.specs.Tilings.{HasPlane, block_at};
 
@@ -11,7 +11,7 @@ use crate::LaidTile;
 use crate::bounds::bounds_of_tiles;
 use crate::enumeration::list_tiles;
 use crate::laid_tile::laid;
-use crate::parts::parts_beside;
+use crate::parts::parts_lost;
 use crate::replacement::Replacement;
 use crate::scan::scan_area;
 use crate::steps::{Steps, are_many};
@@ -78,89 +78,6 @@ fn list_kept(found: &[LaidTile], keys: &[usize], entries: &mut Vec<LaidTile>)
     }
 }
 
-/// Lists the tiles round each of these in turn, other than the ones with the keys. A tile may be listed more than once.
-///
-/// Returns `false` if that takes more than a few steps for each tile of the plane, or there are many to go round.
-fn list_round_each(
-    pool: &Pool,
-    owner: &Owner,
-    ids: &[TileId],
-    keys: &[usize],
-    found: &mut Vec<LaidTile>,
-    entries: &mut Vec<LaidTile>,
-) -> bool
-    requires plane { HasPlane pool.now owner.now }
-    requires there { All (λ key. IsSome (tile_at pool.now owner.now key)) ids.now }
-    requires ascending { IsNonDecreasing keys.now }
-    requires found_fit { count_of pool.now owner.now ≤ vec_capacity found.old }
-    requires entries_fit { count_of pool.now owner.now + count_of pool.now owner.now
-        ≤ vec_capacity entries.old }
-    ensures around { IsTrue result → Surround (block_at (tiles_of pool.now owner.now)) keys.now
-        (IsHeld (block_at (tiles_of pool.now owner.now)) ids.now) entries.new.items }
-    ensures found_room { vec_capacity found.new ≡ vec_capacity found.old }
-    ensures entries_room { vec_capacity entries.new ≡ vec_capacity entries.old }
-{
-    let tiles = pool.count(owner) as usize;
-    if are_many(ids.len(), tiles) {
-        return false;
-    }
-    let mut steps = Steps::up_to(STEPS_FOR_EACH * tiles);
-    entries.clear();
-    for id in ids {
-        let area = laid(pool, owner, *id).unwrap().piece.rect.grow(1);
-        list_tiles(pool, owner, *id, area, found, &mut steps);
-        if steps.are_spent() {
-            return false;
-        }
-        free_room(entries, found.len());
-        list_kept(found, keys, entries);
-    }
-    true
-}
-
-/// Adds the tiles round the squares that a tile loses where it shrinks, other than the ones with the keys.
-///
-/// Returns `false` if that takes more than a few steps for each tile of the plane.
-fn list_round_parts(
-    pool: &Pool,
-    owner: &Owner,
-    shrunk: &LaidTile,
-    keys: &[usize],
-    found: &mut Vec<LaidTile>,
-    entries: &mut Vec<LaidTile>,
-) -> bool
-    requires plane { HasPlane pool.now owner.now }
-    requires inside { CanShrink (block_at (tiles_of pool.now owner.now)) shrunk.now }
-    requires ascending { IsNonDecreasing keys.now }
-    requires before { (ids : List ℕ) × Surround (block_at (tiles_of pool.now owner.now)) keys.now
-        (IsHeld (block_at (tiles_of pool.now owner.now)) ids) entries.old.items }
-    requires found_fit { count_of pool.now owner.now ≤ vec_capacity found.old }
-    requires entries_fit { count_of pool.now owner.now + count_of pool.now owner.now
-        ≤ vec_capacity entries.old }
-    ensures around { IsTrue result → (ids : List ℕ)
-        → Surround (block_at (tiles_of pool.now owner.now)) keys.now
-        (IsHeld (block_at (tiles_of pool.now owner.now)) ids) entries.old.items
-        → Surround (block_at (tiles_of pool.now owner.now)) keys.now
-        (λ at. IsHeld (block_at (tiles_of pool.now owner.now)) ids at
-        ⊎ IsLost (block_at (tiles_of pool.now owner.now)) (shrunk.now.id ∷ []) (Some shrunk.now) at) entries.new.items }
-    ensures found_room { vec_capacity found.new ≡ vec_capacity found.old }
-    ensures entries_room { vec_capacity entries.new ≡ vec_capacity entries.old }
-{
-    let whole = laid(pool, owner, shrunk.id).unwrap().piece.rect;
-    let mut steps = Steps::up_to(STEPS_FOR_EACH * pool.count(owner) as usize);
-    for part in &parts_beside(whole, shrunk.piece.rect) {
-        if let Some(part) = part {
-            list_tiles(pool, owner, shrunk.id, part.grow(1), found, &mut steps);
-            if steps.are_spent() {
-                return false;
-            }
-            free_room(entries, found.len());
-            list_kept(found, keys, entries);
-        }
-    }
-    true
-}
-
 /// Lists the tiles in the bounds of the touched ones and next to them, other than the touched ones.
 fn list_round_all(
     pool: &Pool,
@@ -187,7 +104,8 @@ fn list_round_all(
     }
 }
 
-/// Lists the tiles round each touched one in turn, of one that shrinks only those round the squares that it loses.
+/// Lists the tiles round the squares that each touched tile loses in turn, other than the ones with the keys. A tile may
+/// be listed more than once.
 ///
 /// Returns `false` if that takes more than a few steps for each tile of the plane, or there are many to go round.
 fn list_round_lost(
@@ -199,28 +117,44 @@ fn list_round_lost(
     entries: &mut Vec<LaidTile>,
 ) -> bool
     requires plane { HasPlane pool.now owner.now }
-    requires shrunk { IfSome replacement.now.shrunk
-        (Shrinks (block_at (tiles_of pool.now owner.now)) replacement.now.touched.now replacement.now.fresh.now) }
     requires there { All (λ key. IsSome (tile_at pool.now owner.now key)) replacement.now.touched.now }
     requires ascending { IsNonDecreasing keys.now }
     requires found_fit { count_of pool.now owner.now ≤ vec_capacity found.old }
     requires entries_fit { count_of pool.now owner.now + count_of pool.now owner.now
         ≤ vec_capacity entries.old }
     ensures around { IsTrue result → Surround (block_at (tiles_of pool.now owner.now)) keys.now
-        (IsLost (block_at (tiles_of pool.now owner.now)) replacement.now.touched.now replacement.now.shrunk)
+        (IsLost (block_at (tiles_of pool.now owner.now)) replacement.now.touched.now replacement.now.fresh.now)
         entries.new.items }
     ensures found_room { vec_capacity found.new ≡ vec_capacity found.old }
     ensures entries_room { vec_capacity entries.new ≡ vec_capacity entries.old }
 {
-    let touched = replacement.touched;
-    let Some(shrunk) = replacement.shrunk else {
-        return list_round_each(pool, owner, touched, keys, found, entries);
-    };
-    let (_, others) = touched.split_at(1);
-    if !list_round_each(pool, owner, others, keys, found, entries) {
+    let tiles = pool.count(owner) as usize;
+    let gone = replacement
+        .touched
+        .len()
+        .saturating_sub(replacement.fresh.len());
+    if are_many(gone, tiles) {
         return false;
     }
-    list_round_parts(pool, owner, &shrunk, keys, found, entries)
+    let mut steps = Steps::up_to(STEPS_FOR_EACH * tiles);
+    let mut index = 0;
+    entries.clear();
+    for id in replacement.touched {
+        let whole = laid(pool, owner, *id).unwrap().piece.rect;
+        let parts = parts_lost(whole, replacement.rect_at(index));
+        for part in &parts {
+            if let Some(part) = part {
+                list_tiles(pool, owner, *id, part.grow(1), found, &mut steps);
+                if steps.are_spent() {
+                    return false;
+                }
+                free_room(entries, found.len());
+                list_kept(found, keys, entries);
+            }
+        }
+        index += 1;
+    }
+    true
 }
 
 /// Lists tiles other than the touched ones, each once, and among them all that have a square close to one that a
@@ -234,15 +168,13 @@ pub(crate) fn list_around(
     entries: &mut Vec<LaidTile>,
 )
     requires plane { HasPlane pool.now owner.now }
-    requires shrunk { IfSome replacement.now.shrunk
-        (Shrinks (block_at (tiles_of pool.now owner.now)) replacement.now.touched.now replacement.now.fresh.now) }
     requires there { All (λ key. IsSome (tile_at pool.now owner.now key)) replacement.now.touched.now }
     requires keys_fit { length replacement.now.touched.now ≤ vec_capacity keys.old }
     requires found_fit { count_of pool.now owner.now ≤ vec_capacity found.old }
     requires entries_fit { count_of pool.now owner.now + count_of pool.now owner.now
         ≤ vec_capacity entries.old }
     ensures around { Surround (block_at (tiles_of pool.now owner.now)) replacement.now.touched.now
-        (IsLost (block_at (tiles_of pool.now owner.now)) replacement.now.touched.now replacement.now.shrunk)
+        (IsLost (block_at (tiles_of pool.now owner.now)) replacement.now.touched.now replacement.now.fresh.now)
         entries.new.items }
     ensures once { AllPairs (λ p q. p.id ≢ q.id) entries.new.items }
     ensures few { vec_len entries.new ≤ count_of pool.now owner.now }

@@ -4,6 +4,7 @@ ghost use Rattle.std.specs.List.{All, AllWithin};
 ghost use Rattle.std.specs.List.Sorted.{IsPermutation};
 ghost use Rattle.mls_geom.specs.Rects.{holds};
 ghost use Rattle.mls_geom.specs.declared.piece.Piece.{Piece};
+ghost use Rattle.mls_stitch.specs.Placing.{inside_only};
 ghost use Rattle.mls_stitch.specs.Lookups.{AreSortedFor, IsListedBeyond, first_square, is_up_to, place_of, start_of};
 ghost use Rattle.mls_stitch.specs.Stitches.{HoldsAt, beyond};
 ghost use Rattle.mls_stitch.specs.Tilings.{AreBlocks};
@@ -87,6 +88,17 @@ impl Square {
             && self.column < area.right
             && self.row >= area.bottom
             && self.row < area.top
+    }
+}
+
+/// Returns the stitch of a tile over the rectangle, if its square lies in the world.
+pub(crate) fn inside_only(stitch: Stitch, rect: Rect, to: Option<TileId>) -> Option<TileId>
+    ensures { result ≡ inside_only (beyond stitch rect) to }
+{
+    if Square::beyond(stitch, rect).is_in(Rect::world()) {
+        to
+    } else {
+        None
     }
 }
 

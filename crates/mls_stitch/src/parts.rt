@@ -1,5 +1,5 @@
 //! What is left of a rectangle beside another one inside it.
-ghost use Rattle.std.specs.Prelude.{◌≡◌, false, if◌then◌else◌, IsTrue, Some, None};
+ghost use Rattle.std.specs.Prelude.{◌≡◌, false, if◌then◌else◌, IfSome, IsTrue, Some, None};
 ghost use Rattle.mls_geom.specs.Rects.{Point, IsWithin, has_squares, holds};
 ghost use Rattle.mls_geom.specs.World.{world};
 ghost use Rattle.mls_stitch.specs.Gathering.{IsInPart};
@@ -20,7 +20,7 @@ fn part_of(area: Area) -> Option<Rect>
 
 /// Returns the parts of the rectangle below the inner one, above it, to the left and to the right, where it has
 /// squares there.
-pub(crate) fn parts_beside(whole: Rect, inner: Rect) -> [Option<Rect>; 4]
+fn parts_beside(whole: Rect, inner: Rect) -> [Option<Rect>; 4]
     requires { IsWithin whole inner }
     ensures { (at : Point) → IsTrue (holds whole at.x at.y) → holds inner at.x at.y ≡ false → IsInPart result at }
 {
@@ -49,4 +49,16 @@ pub(crate) fn parts_beside(whole: Rect, inner: Rect) -> [Option<Rect>; 4]
             ..middle
         }),
     ]
+}
+
+/// Returns the parts of the rectangle outside another one, or all of it where the two have no common square or there
+/// is no other one.
+pub(crate) fn parts_lost(whole: Rect, other: Option<Rect>) -> [Option<Rect>; 4]
+    ensures { (at : Point) → IsTrue (holds whole at.x at.y) → IfSome other (λ rect. holds rect at.x at.y ≡ false)
+        → IsInPart result at }
+{
+    match other.and_then(|other| whole.clip(other)) {
+        Some(inner) => parts_beside(whole, inner),
+        None => [Some(whole), None, None, None],
+    }
 }

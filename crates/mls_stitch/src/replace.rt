@@ -55,7 +55,7 @@ impl Plane {
         if !has_room(pool, &self.owner, touched.len(), fresh.len()) {
             return Err(NoRoom);
         }
-        let replacement = Replacement::new(pool, &self.owner, touched, fresh);
+        let replacement = Replacement { touched, fresh };
         list_around(
             pool,
             &self.owner,
@@ -64,7 +64,7 @@ impl Plane {
             &mut scratch.tiles,
             &mut scratch.entries,
         );
-        place_instead(pool, &self.owner, &replacement, &mut scratch.entries);
+        place_instead(pool, &self.owner, touched, fresh, &mut scratch.entries);
         self.hint = scratch.entries.last().map_or(self.hint, |tile| tile.id);
         stitch_listed(pool, &self.owner, &mut scratch.entries);
         Ok(())

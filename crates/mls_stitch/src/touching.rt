@@ -1,5 +1,6 @@
 //! The tiles that pieces touch.
-ghost use Rattle.std.specs.Prelude.{◌≡◌, ◌+◌, ◌++◌, ◌≤◌, IsTrue, length, vec_len, vec_capacity};
+ghost use Rattle.std.specs.Prelude.{◌≡◌, ◌+◌, ◌++◌, ◌≤◌, IsSomeAnd, IsTrue, length, vec_len, vec_capacity};
+ghost use Rattle.mls_geom.specs.Rects.{IsWithin};
 ghost use Rattle.mls_tilepool.specs.Pools.{count_of, tiles_of};
 ghost use Rattle.mls_stitch.specs.Areas.{ListTouched};
 ghost use Rattle.mls_stitch.specs.Gathering.{HasTouched};
@@ -11,7 +12,7 @@ use crate::enumeration::list_tiles;
 use crate::scan::scan_area;
 use crate::steps::{Steps, are_many};
 use crate::{LaidTile, Plane, Scratch};
-use mls_geom::Piece;
+use mls_geom::{Piece, Rect};
 use mls_tilepool::{Owner, Pool};
 
 /// Adds tiles to a list.
@@ -25,8 +26,18 @@ fn list_all(found: &[LaidTile], list: &mut Vec<LaidTile>)
     }
 }
 
-/// Lists the tiles round each piece in turn. A tile may be listed more than once. The search starts at the
-/// plane's tile in hand.
+/// Returns whether the rectangle lies in the one round which tiles were searched last.
+fn is_searched(last: &Option<Rect>, rect: Rect) -> bool
+    ensures { IsTrue result → IsSomeAnd last.now (λ outer. IsWithin outer rect) }
+{
+    match last {
+        Some(outer) => outer.encloses(rect),
+        None => false,
+    }
+}
+
+/// Lists the tiles round each piece in turn, but for those that lie in the one that was searched round last. A tile may
+/// be listed more than once. The search starts at the plane's tile in hand.
 ///
 /// Returns `false` if that takes more than the `turns`, or there are many pieces beside the plane's tiles.
 fn list_round_each(
@@ -51,21 +62,19 @@ fn list_round_each(
     let mut from = plane.hint;
     let mut steps = Steps::up_to(turns);
     entries.clear();
+    let mut last = None;
     for piece in over {
-        list_tiles(
-            pool,
-            &plane.owner,
-            from,
-            piece.rect.grow(1),
-            found,
-            &mut steps,
-        );
-        if steps.are_spent() {
-            return false;
+        let rect = piece.rect;
+        if !is_searched(&last, rect) {
+            last = Some(rect);
+            list_tiles(pool, &plane.owner, from, rect.grow(1), found, &mut steps);
+            if steps.are_spent() {
+                return false;
+            }
+            from = found.first().map_or(from, |tile| tile.id);
+            free_room(entries, found.len());
+            list_all(found, entries);
         }
-        from = found.first().map_or(from, |tile| tile.id);
-        free_room(entries, found.len());
-        list_all(found, entries);
     }
     true
 }

@@ -1,5 +1,5 @@
 -- Each piece is laid under the key beside it.
-use Rattle.std.proofs.Common.{◌≡◌, ◌+◌, length, take, refl, arith}
+use Rattle.std.proofs.Common.{◌≡◌, ◌+◌, length, take, refl, sym, ◌∙◌, arith}
 use Rattle.std.proofs.lemmas.List.{length_push, take_all}
 use Rattle.std.proofs.lemmas.Slice.Zip.{zip_end, zip_turn}
 use Rattle.mls_stitch.proofs.Laying.{GiveWay-next, GiveWay-set, Lays-next, Lays-refl}
@@ -9,17 +9,17 @@ use Rattle.mls_stitch.proofs.place.place_again.Goals as goal
 pub loop-id-init : goal.loop-id-init
 loop-id-init c = record { laid = Lays-refl _ _; only = ChangesOnly-refl _ _; len = omega arith; room = refl }
 
-pub set-requires : goal.set-requires
-set-requires c =
+pub unwrap-tile-requires : goal.unwrap-tile-requires
+unwrap-tile-requires c =
     let turn = zip_turn c.args.ids.now c.args.pieces.now c.loop-id.yielded c.into_iter-id-iterator.result c.loop-id.id-iterator c.next.new.self c.next.result (cc) (cc) c.loop-id.yielded_by (c.in-Some.id, c.in-Some.piece) c.in-Some.is c.next.ensures.steps in
-    (GiveWay-next c.args.ids.now (length c.loop-id.yielded) c.in-Some.id.now turn.0 (turn.2 _) c.requires.once c.requires.there c.loop-id.invariant.laid.ways).2
+    rw c.get.ensures (GiveWay-next c.args.ids.now (length c.loop-id.yielded) c.in-Some.id.now turn.0 (turn.2 _) c.requires.once c.requires.there c.loop-id.invariant.laid.ways).2
 
 pub loop-id-preserved : goal.loop-id-preserved
 loop-id-preserved c =
     let turn = zip_turn c.args.ids.now c.args.pieces.now c.loop-id.yielded c.into_iter-id-iterator.result c.loop-id.id-iterator c.next.new.self c.next.result (cc) (cc) c.loop-id.yielded_by (c.in-Some.id, c.in-Some.piece) c.in-Some.is c.next.ensures.steps in
     let long : length _ ≡ length c.loop-id.yielded + 1 = length_push c.loop-id.yielded (c.in-Some.id, c.in-Some.piece) in
-    let changes = rw c.unstitched_tile.ensures at c.set.ensures.changes in
-    let ways = GiveWay-set c.loop-id.pool c.set.new.self c.args.owner.now c.in-Some.id.now c.in-Some.piece.now changes c.set.ensures.count in
+    let changes = rw c.moved_tile.ensures at c.set.ensures.changes in
+    let ways = GiveWay-set c.loop-id.pool c.set.new.self c.args.owner.now c.in-Some.id.now c.in-Some.piece.now c.unwrap-tile.result (sym c.get.ensures ∙ c.unwrap-tile.ensures) changes c.set.ensures.count in
     record {
       laid = rw long (Lays-next c.args.ids.now c.args.pieces.now (length c.loop-id.yielded) (record { id = c.in-Some.id.now; piece = c.in-Some.piece.now }) turn.0 turn.1 (turn.2 _) (turn.3 _) c.requires.once c.requires.there
           c.loop-id.invariant.laid ways c.push_reserved.ensures.items);

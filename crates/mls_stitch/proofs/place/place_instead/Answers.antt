@@ -1,18 +1,15 @@
--- One tile shrinks, and the others give way to the other pieces.
-use Rattle.std.proofs.Common.{◌≡◌, Some, IfSome, subst}
-use Rattle.mls_tilepool.specs.Pools.{tiles_of}
-use Rattle.mls_stitch.specs.Placing.{Shrinks}
-use Rattle.mls_stitch.specs.Tilings.{block_at}
-use Rattle.mls_stitch.proofs.Laying.{Lays-shrunk}
+-- The first touched keys serve again, the others go, and the other pieces get new keys.
+use Rattle.mls_stitch.proofs.Laying.{Lays-instead, drop-there}
 use Rattle.mls_stitch.proofs.place.place_instead.Goals as goal
+
+pub remove_all-requires-clause-there : goal.remove_all-requires-clause-there
+remove_all-requires-clause-there c =
+    let first = rw c.split_at.ensures.front at c.place_again.ensures.laid in
+    rw c.split_at.ensures.back (drop-there c.args.touched.now c.min-shared.result c.requires.once c.requires.there first.ways)
 
 pub returns-clause-laid : goal.returns-clause-laid
 returns-clause-laid c =
-    let tiles = tiles_of c.args.pool.now c.args.owner.now in
-    let touched = c.args.replacement.now.touched.now in
-    let fresh = c.args.replacement.now.fresh.now in
-    let shrunk = c.in-Some.shrunk in
-    let is : c.args.replacement.now.shrunk ≡ Some shrunk = c.in-Some.is in
-    let shrinks : Shrinks (block_at tiles) touched fresh shrunk = subst (λ o. IfSome o (Shrinks (block_at tiles) touched fresh)) is c.requires.shrunk in
-    let rest = rw (c.split_at.ensures.back, c.split_at-2.ensures.back) at c.place_others-2.ensures.laid in
-    rw is (Lays-shrunk touched fresh shrunk shrinks.key shrinks.piece c.requires.once c.requires.there c.place_shrunk.ensures.ways c.place_shrunk.ensures.listed rest)
+    let first = rw (c.split_at.ensures.front, c.split_at-2.ensures.front) at c.place_again.ensures.laid in
+    let gone = rw c.split_at.ensures.back at c.remove_all.ensures.gone in
+    let rest = rw c.split_at-2.ensures.back at c.place_all.ensures.laid in
+    Lays-instead c.args.touched.now c.args.fresh.now c.min-shared.result c.min-shared.ensures c.requires.once c.requires.there first gone rest

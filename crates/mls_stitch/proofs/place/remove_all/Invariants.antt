@@ -1,4 +1,4 @@
-use Rattle.std.proofs.Common.{[], take, None}
+use Rattle.std.proofs.Common.{[], take}
 use Rattle.mls_tilepool.specs.Pools.{tiles_of}
 use Rattle.mls_stitch.specs.Placing.{GiveWay}
 use Rattle.mls_stitch.specs.Tilings.{ChangesOnly}
@@ -6,6 +6,6 @@ use Rattle.mls_stitch.proofs.place.remove_all.Given as goal
 
 abbrev pub invariant-loop-id : goal.invariant-loop-id
 invariant-loop-id l = record {
-  gone : GiveWay (tiles_of l.initial.pool l.owner) (tiles_of l.pool l.owner) (take l.id-index l.ids) None [];
+  gone : GiveWay (tiles_of l.initial.pool l.owner) (tiles_of l.pool l.owner) (take l.id-index l.ids) [];
   only : ChangesOnly l.initial.pool l.pool l.owner;
 }

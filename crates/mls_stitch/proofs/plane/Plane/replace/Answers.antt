@@ -1,14 +1,13 @@
 -- The fresh tiles lie in place of the touched ones, and with those around them wait for their stitches.
-use Rattle.std.proofs.Common.{◌+◌, IfSome, length, refl, ap, subst, arith}
+use Rattle.std.proofs.Common.{◌+◌, length, refl, ap, subst, arith}
 use Rattle.std.proofs.lemmas.Bool.{both_ways}
 use Rattle.mls_tilepool.specs.Pools.{count_of, room_of, tiles_of}
 use Rattle.mls_stitch.specs.Fresh.{replaced}
-use Rattle.mls_stitch.specs.Placing.{Shrinks}
 use Rattle.mls_stitch.specs.Replacements.{Replaces, TakePlace}
 use Rattle.mls_stitch.specs.Tilings.{HasPlane, block_at}
 use Rattle.mls_stitch.proofs.Laying.{IsOwner-ChangesOnly}
 use Rattle.mls_stitch.proofs.PoolChanges.{ChangesOnly-trans}
-use Rattle.mls_stitch.proofs.ReplacedPlanes.{AwaitStitches-made, IfSome-match, Replaces-made, has_enough, has_no_room, tiles_there, touched_few}
+use Rattle.mls_stitch.proofs.ReplacedPlanes.{AwaitStitches-instead, Replaces-instead, has_enough, has_no_room, tiles_there, touched_few}
 use Rattle.mls_stitch.proofs.ShownTiles.{KeysDiffer-tiles_of}
 use Rattle.mls_stitch.proofs.Sides.{IsPlane-AreTiledAs}
 use Rattle.mls_stitch.proofs.plane.Plane.replace.Goals as goal
@@ -27,16 +26,15 @@ returns-then-not-has_room-clause-no_room c =
 
 pub list_around-requires-clause-there : goal.list_around-requires-clause-there
 list_around-requires-clause-there c =
-    rw (c.self.view_is, c.new-replacement.ensures.touched) (tiles_there (tiles_of c.args.pool.now c.args.self.now) c.args.touched.now c.requires.pieces.there)
+    rw c.self.view_is (tiles_there (tiles_of c.args.pool.now c.args.self.now) c.args.touched.now c.requires.pieces.there)
 
 pub list_around-requires-clause-keys_fit : goal.list_around-requires-clause-keys_fit
 list_around-requires-clause-keys_fit c =
-    rw c.new-replacement.ensures.touched
     (omega (arith, touched_few (tiles_of c.args.pool.now c.args.self.now) c.args.touched.now c.requires.pieces.there c.requires.pieces.once, c.requires.tiles_fit, ap (λ s. s.room) c.scratch.view_is, c.scratch.invariant.2))
 
 pub place_instead-requires-clause-there : goal.place_instead-requires-clause-there
 place_instead-requires-clause-there c =
-    rw (c.self.view_is, c.new-replacement.ensures.touched) (tiles_there (tiles_of c.args.pool.now c.args.self.now) c.args.touched.now c.requires.pieces.there)
+    rw c.self.view_is (tiles_there (tiles_of c.args.pool.now c.args.self.now) c.args.touched.now c.requires.pieces.there)
 
 pub stitch_listed-requires : goal.stitch_listed-requires
 stitch_listed-requires c =
@@ -44,15 +42,13 @@ stitch_listed-requires c =
     let tiles = tiles_of c.args.pool.now owner in
     let touched = c.args.touched.now in
     let fresh = c.args.fresh.now in
-    let made = c.new-replacement in
     let home : HasPlane c.args.pool.now owner = rw c.self.view_is c.requires.plane in
     let takes : TakePlace (block_at tiles) touched fresh = rw c.self.view_is c.requires.pieces in
-    let shrinks : IfSome made.result.shrunk (Shrinks (block_at tiles) touched fresh) = IfSome-match made.result.shrunk _ _ made.ensures.shrunk in
     let lays = c.place_instead.ensures.laid in (
-      replaced (block_at tiles) made.result.touched.now lays.laid,
+      replaced (block_at tiles) touched lays.laid,
       rw c.deref_mut.ensures.value
-          (AwaitStitches-made tiles (tiles_of c.place_instead.new.pool owner) touched fresh made.result c.list_around.new.entries.items c.place_instead.new.entries.items home.plane takes
-          made.ensures.touched made.ensures.fresh shrinks lays c.list_around.ensures.around c.list_around.ensures.once),
+          (AwaitStitches-instead tiles (tiles_of c.place_instead.new.pool owner) touched fresh c.list_around.new.entries.items c.place_instead.new.entries.items home.plane takes lays
+          c.list_around.ensures.around c.list_around.ensures.once),
     )
 
 pub returns-clause-no_room : goal.returns-clause-no_room
@@ -73,19 +69,17 @@ returns-clause-replaced c =
     let mid = tiles_of c.place_instead.new.pool owner in
     let touched = c.args.touched.now in
     let fresh = c.args.fresh.now in
-    let made = c.new-replacement in
     let around = c.list_around.new.entries.items in
     let after = c.place_instead.new.entries.items in
     let home : HasPlane old owner = rw c.self.view_is c.requires.plane in
     let takes : TakePlace (block_at tiles) touched fresh = rw c.self.view_is c.requires.pieces in
-    let shrinks : IfSome made.result.shrunk (Shrinks (block_at tiles) touched fresh) = IfSome-match made.result.shrunk _ _ made.ensures.shrunk in
     let lays = c.place_instead.ensures.laid in
     let awaiting =
-    AwaitStitches-made tiles mid touched fresh made.result around after home.plane takes made.ensures.touched made.ensures.fresh shrinks lays c.list_around.ensures.around c.list_around.ensures.once in
-    let tiled = c.stitch_listed.ensures.stitched (replaced (block_at tiles) made.result.touched.now lays.laid) (rw c.deref_mut.ensures.value awaiting) in
+    AwaitStitches-instead tiles mid touched fresh around after home.plane takes lays c.list_around.ensures.around c.list_around.ensures.once in
+    let tiled = c.stitch_listed.ensures.stitched (replaced (block_at tiles) touched lays.laid) (rw c.deref_mut.ensures.value awaiting) in
     subst (λ o. Replaces (tiles_of old o) (tiles_of new o) touched fresh) c.self.view_is
-    (Replaces-made tiles mid (tiles_of new owner) touched fresh made.result around after home.plane takes made.ensures.touched made.ensures.fresh lays tiled (KeysDiffer-tiles_of old owner)
-    (KeysDiffer-tiles_of new owner) c.stitch_listed.ensures.count)
+    (Replaces-instead tiles mid touched fresh around after home.plane takes lays (tiles_of new owner) tiled (KeysDiffer-tiles_of old owner) (KeysDiffer-tiles_of new owner)
+    c.stitch_listed.ensures.count)
 
 pub returns-clause-home : goal.returns-clause-home
 returns-clause-home c =
@@ -96,18 +90,16 @@ returns-clause-home c =
     let mid = tiles_of c.place_instead.new.pool owner in
     let touched = c.args.touched.now in
     let fresh = c.args.fresh.now in
-    let made = c.new-replacement in
     let around = c.list_around.new.entries.items in
     let after = c.place_instead.new.entries.items in
     let home : HasPlane old owner = rw c.self.view_is c.requires.plane in
     let takes : TakePlace (block_at tiles) touched fresh = rw c.self.view_is c.requires.pieces in
-    let shrinks : IfSome made.result.shrunk (Shrinks (block_at tiles) touched fresh) = IfSome-match made.result.shrunk _ _ made.ensures.shrunk in
     let lays = c.place_instead.ensures.laid in
     let awaiting =
-    AwaitStitches-made tiles mid touched fresh made.result around after home.plane takes made.ensures.touched made.ensures.fresh shrinks lays c.list_around.ensures.around c.list_around.ensures.once in
-    let tiled = c.stitch_listed.ensures.stitched (replaced (block_at tiles) made.result.touched.now lays.laid) (rw c.deref_mut.ensures.value awaiting) in
+    AwaitStitches-instead tiles mid touched fresh around after home.plane takes lays c.list_around.ensures.around c.list_around.ensures.once in
+    let tiled = c.stitch_listed.ensures.stitched (replaced (block_at tiles) touched lays.laid) (rw c.deref_mut.ensures.value awaiting) in
     let here : HasPlane new owner = record {
       live = IsOwner-ChangesOnly owner (ChangesOnly-trans c.place_instead.ensures.only c.stitch_listed.ensures.only) home.live;
-      plane = IsPlane-AreTiledAs (tiles_of new owner) (replaced (block_at tiles) made.result.touched.now lays.laid) tiled;
+      plane = IsPlane-AreTiledAs (tiles_of new owner) (replaced (block_at tiles) touched lays.laid) tiled;
     } in
     subst (HasPlane new) c.self.view_is here
