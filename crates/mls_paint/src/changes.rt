@@ -5,7 +5,7 @@ ghost use Rattle.std.specs.List.Sorted.{IsPermutation};
 ghost use Rattle.mls_geom.specs.Strips.{comes_before};
 ghost use Rattle.mls_paint.specs.Changes.{AreInOrder, CornersDiffer, corner_of, gone_of, is_among, put_of};
 
-use crate::pairs::put_pair_first;
+use crate::pairs::pair_up;
 use mls_geom::Piece;
 use mls_stitch::LaidTile;
 use mls_tilepool::TileId;
@@ -54,18 +54,31 @@ fn is_among(pieces: &[Piece], piece: &Piece) -> bool
     pieces.get(before) == Some(piece)
 }
 
-/// Makes `names` the names of the tiles that are none of the strips.
-fn list_names(tiles: &[LaidTile], strips: &[Piece], names: &mut Vec<TileId>)
+/// Makes `gone` the tiles that are none of the strips.
+fn list_gone(tiles: &[LaidTile], strips: &[Piece], gone: &mut Vec<LaidTile>)
     requires order { AreInOrder strips.now }
+    requires room { length tiles.now ≤ vec_capacity gone.old }
+    ensures items { gone.new.items ≡ gone_of tiles.now strips.now }
+    ensures few { length gone.new.items ≤ length tiles.now }
+    ensures room { vec_capacity gone.new ≡ vec_capacity gone.old }
+{
+    gone.clear();
+    for tile in tiles {
+        if !is_among(strips, &tile.piece) {
+            gone.push_reserved(*tile);
+        }
+    }
+}
+
+/// Makes `names` the names of the tiles.
+fn list_names(tiles: &[LaidTile], names: &mut Vec<TileId>)
     requires room { length tiles.now ≤ vec_capacity names.old }
-    ensures items { names.new.items ≡ map (λ tile. tile.id) (gone_of tiles.now strips.now) }
+    ensures items { names.new.items ≡ map (λ tile. tile.id) tiles.now }
     ensures room { vec_capacity names.new ≡ vec_capacity names.old }
 {
     names.clear();
     for tile in tiles {
-        if !is_among(strips, &tile.piece) {
-            names.push_reserved(tile.id);
-        }
+        names.push_reserved(tile.id);
     }
 }
 
@@ -85,17 +98,20 @@ fn list_fresh(strips: &[Piece], touched: &[Piece], fresh: &mut Vec<Piece>)
 }
 
 /// Lists what changes where the strips take the place of the tiles: the names of the tiles that are none of the strips,
-/// and the strips that are none of the tiles, in any order. Sorts the tiles' pieces.
+/// and the strips that are none of the tiles, so that tiles go on as strips that have much of them. Sorts the tiles'
+/// pieces.
 pub(crate) fn list_changes(
     tiles: &[LaidTile],
     strips: &[Piece],
     touched: &mut Vec<Piece>,
+    gone: &mut Vec<LaidTile>,
     names: &mut Vec<TileId>,
     fresh: &mut Vec<Piece>,
 )
     requires order { AllPairs (λ p q. IsTrue (comes_before p q)) strips.now }
     requires touched { touched.old.items ≡ map (λ tile. tile.piece) tiles.now }
     requires corners { CornersDiffer touched.old.items }
+    requires gone_fit { length tiles.now ≤ vec_capacity gone.old }
     requires tiles_fit { length tiles.now ≤ vec_capacity names.old }
     requires strips_fit { length strips.now ≤ vec_capacity fresh.old }
     ensures names { IsPermutation (map (λ tile. tile.id) (gone_of tiles.now strips.now)) names.new.items }
@@ -103,11 +119,13 @@ pub(crate) fn list_changes(
     ensures few { length fresh.new.items ≤ length strips.now }
     ensures numbers { length fresh.new.items + length tiles.now ≡ length strips.now + length names.new.items }
     ensures touched_room { vec_capacity touched.new ≡ vec_capacity touched.old }
+    ensures gone_room { vec_capacity gone.new ≡ vec_capacity gone.old }
     ensures names_room { vec_capacity names.new ≡ vec_capacity names.old }
     ensures fresh_room { vec_capacity fresh.new ≡ vec_capacity fresh.old }
 {
     sort_pieces(touched);
-    list_names(tiles, strips, names);
+    list_gone(tiles, strips, gone);
     list_fresh(strips, touched, fresh);
-    put_pair_first(tiles, names, fresh);
+    pair_up(gone, fresh);
+    list_names(gone, names);
 }

@@ -100,12 +100,13 @@ pub fn overlay_within(
         search,
         sweep,
         touched,
+        gone,
         names,
         fresh,
         ..
     } = scratch;
     find_fresh(search.tiles(), over, count, limit, touched, sweep)?;
-    list_changes(search.tiles(), sweep.strips(), touched, names, fresh);
+    list_changes(search.tiles(), sweep.strips(), touched, gone, names, fresh);
     plane.replace(pool, names, fresh, search).unwrap();
     Ok(Painted {
         rebuilt: turns == 0,

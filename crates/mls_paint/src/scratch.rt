@@ -19,6 +19,7 @@ pub struct Scratch {
     pub(crate) sweep: Sweeps,
     pub(crate) touched: Vec<Piece>,
     // The tiles that are to give way, and the strips that are to take their place.
+    pub(crate) gone: Vec<LaidTile>,
     pub(crate) names: Vec<TileId>,
     pub(crate) fresh: Vec<Piece>,
 }
@@ -32,7 +33,8 @@ impl Model for Scratch {
     ghost view = { λ s. record { tiles = s.search.tiles; room = s.room; pieces = s.pieces } };
 
     ghost invariant = { λ s. (s.search.room ≡ s.room) × (s.sweep.room ≡ s.room + s.pieces)
-        × (s.room ≤ vec_capacity s.touched) × (s.room ≤ vec_capacity s.names) × (s.room ≤ vec_capacity s.fresh) };
+        × (s.room ≤ vec_capacity s.touched) × (s.room ≤ vec_capacity s.gone) × (s.room ≤ vec_capacity s.names)
+        × (s.room ≤ vec_capacity s.fresh) };
 }
 
 impl Scratch {
@@ -51,6 +53,7 @@ impl Scratch {
             search,
             sweep: Sweeps::new(alloc, room + pieces)?,
             touched: Vec::with_capacity(alloc, room)?,
+            gone: Vec::with_capacity(alloc, room)?,
             names: Vec::with_capacity(alloc, room)?,
             fresh: Vec::with_capacity(alloc, room)?,
         })

@@ -36,7 +36,7 @@ fn is_searched(last: &Option<Rect>, rect: Rect) -> bool
     }
 }
 
-/// Lists the tiles round each piece in turn, but for those that lie in the one that was searched round last. A tile may
+/// Lists the tiles round each piece in turn, except those inside the one that was searched round last. A tile may
 /// be listed more than once. The search starts at the plane's tile in hand.
 ///
 /// Returns `false` if that takes more than the `turns`, or there are many pieces beside the plane's tiles.
