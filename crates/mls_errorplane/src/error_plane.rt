@@ -4,6 +4,7 @@ ghost use Rattle.std.specs.List.{All};
 ghost use Rattle.mls_checker.specs.Forbids.{forbidden};
 ghost use Rattle.mls_checker.specs.Marking.{marks, no_squares};
 ghost use Rattle.mls_geom.specs.Rects.{holds};
+ghost use Rattle.mls_geom.specs.TileCounts.{tile_count};
 ghost use Rattle.mls_geom.specs.World.{world};
 ghost use Rattle.mls_paint.specs.Owners.{RemovesOwners};
 ghost use Rattle.mls_paint.specs.Planes.{AddsOwner, HasStrips, layout_in, picture_in};
@@ -19,7 +20,7 @@ use crate::{Dirty, MARK_ROOM, Workspace, count, mark};
 use mls_checker::{Finding, Snapshot, check};
 use mls_edgerule::Rules;
 use mls_geom::Rect;
-use mls_paint::{Scratch, release_plane, space_plane};
+use mls_paint::{Scratch, release_plane, space_plane, tile_count};
 use mls_stitch::Plane;
 use mls_tilepool::Pool;
 use std::alloc::{AllocError, Global};
@@ -65,7 +66,7 @@ impl Model for ErrorPlane {
 }
 
 impl ErrorPlane {
-    ghost use Rattle.mls_errorplane.specs.ErrorPlanes.{HasStepped, ShowsMarks, UnlessDone, checking_of};
+    ghost use Rattle.mls_errorplane.specs.ErrorPlanes.{HasStepped, ShowsMarks, UnlessDone, checking_of, marks_picture};
     ghost use Rattle.mls_errorplane.specs.Outcomes.{HasFinished, IsFresh, UnlessFinished};
 
     /// Creates an error plane without marks, which reserves this many tiles of the pool, with these areas.
@@ -214,6 +215,14 @@ impl ErrorPlane {
         ensures rooms { KeepsRoom scratch.old scratch.new }
     {
         count(pool, &self.plane, scratch)
+    }
+
+    /// Returns how many tiles the plane has.
+    pub fn tiles(&self, pool: &Pool) -> u32
+        requires { ShowsMarks pool.now self.now.owner }
+        ensures { result ≡ tile_count world (marks_picture (checking_of pool.now self.now).marks) }
+    {
+        tile_count(pool, &self.plane)
     }
 
     /// Gives the tiles and the reserve back to the pool.
