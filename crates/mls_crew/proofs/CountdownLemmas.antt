@@ -1,5 +1,5 @@
 -- Lists that count down, an item more or less at the end; and texts by their number, one more.
-use Rattle.std.proofs.Common.{◌≡◌, ◌++◌, ◌+◌, ◌<◌, ℕ, below_more, List, [], ◌∷◌, get_or, length, length-append, sym, ap, subst, arith}
+use Rattle.std.proofs.Common.{◌≡◌, ◌++◌, ◌+◌, ◌<◌, ℕ, below_more, List, [], ◌∷◌, get_or, length, length-append, sym, subst, arith}
 use Rattle.std.proofs.lemmas.List.{get_or_append_left, get_or_at}
 use Rattle.mls_crew.specs.Countdowns.{Counts, CountsDown}
 

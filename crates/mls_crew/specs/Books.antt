@@ -1,5 +1,5 @@
 -- What names mean to a script that is read whole, and what numbers are called in its replies. This project's own.
-use Rattle.std.specs.Prelude.{ℕ, Some, None}
+use Rattle.std.specs.Prelude.{None}
 use Rattle.mls_tech.specs.Readings.{Tech, name_of, why_of}
 use Rattle.mls_wire.specs.NameBooks.{Names}
 

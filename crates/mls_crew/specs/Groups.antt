@@ -1,18 +1,20 @@
 -- What the lines of a session give at its seat, whatever the other threads do meanwhile. This project's own.
-use Rattle.std.specs.Prelude.{◌≡◌, ◌⊎◌, ◌==◌, ℕ, Bool, true, false, List, [], ◌∷◌, ◌++◌, length, codes, map, Result, Ok, IfOk}
+use Rattle.std.specs.Prelude.{◌≡◌, ◌⊎◌, ◌==◌, ℕ, Bool, true, false, List, [], ◌∷◌, ◌++◌, length, map, Result, Ok, IfOk}
 use Rattle.std.specs.Bool.{MatchBool}
 use Rattle.std.specs.List.{filter}
 use Rattle.mls_session.specs.OwnSteps.{Terms}
 use Rattle.mls_session.specs.declared.command.Command.{Command}
 use Rattle.mls_session.specs.declared.command.Command.TheVariants.{Save}
 use Rattle.mls_session.specs.declared.journal.Said.{Said}
+use Rattle.mls_session.specs.declared.look.Look.{Look}
+use Rattle.mls_session.specs.declared.look.Looked.{Looked}
 use Rattle.mls_session.specs.declared.refusal.Refusal.TheVariants.{JournalFull}
 use Rattle.mls_session.specs.declared.reply.Reply.{Reply}
 use Rattle.mls_session.specs.declared.reply.Reply.TheVariants.{Refused}
 use Rattle.mls_server.specs.LegalLists.{IsLegalList}
-use Rattle.mls_server.specs.declared.answer.Answer.TheVariants.{Commanded, Opened, Saved}
+use Rattle.mls_server.specs.declared.answer.Answer.TheVariants.{Commanded, Looked as LookedAt, Opened, Saved}
 use Rattle.mls_server.specs.declared.fault.NotOpen.{NotOpen}
-use Rattle.mls_live.specs.Audits.{CanReply}
+use Rattle.mls_live.specs.Audits.{CanLookAt, CanReply}
 use Rattle.mls_live.specs.Lists.{added_by}
 use Rattle.mls_wire.specs.NameBooks.{Names}
 use Rattle.mls_wire.specs.Replies.{answer_text, response_text}
@@ -20,7 +22,7 @@ use Rattle.mls_wire.specs.SeatTexts.{differs_text}
 use Rattle.mls_wire.specs.declared.response.Response.TheVariants.{Audited}
 use Rattle.mls_crew.specs.declared.seat_line.Handed.{Handed}
 use Rattle.mls_crew.specs.declared.seat_line.SeatLine.{SeatLine}
-use Rattle.mls_crew.specs.declared.seat_line.SeatLine.TheVariants.{Audit, Run}
+use Rattle.mls_crew.specs.declared.seat_line.SeatLine.TheVariants.{Audit, Look as LookLine, Run}
 
 -- the lines that were handed to the session of this number, in order
 abbrev pub lines_of : ℕ → List Handed → List SeatLine
@@ -43,9 +45,15 @@ abbrev pub SaysAudit : Terms → Names → List ℕ → List Said → List ℕ �
 SaysAudit terms book name said text =
     ((text ≡ response_text book 0 (Audited name (length said))) × IsLegalList terms said) ⊎ (text ≡ differs_text name)
 
+-- the text is that of what a look at a session with a legal journal can return, and of the text that comes with it
+abbrev pub SaysLook : Terms → Names → List ℕ → Look → List ℕ → Type 0
+SaysLook terms book name look text =
+    (looked : Result Looked NotOpen) × (shown : List ℕ) × (text ≡ answer_text book name (LookedAt looked shown)) × CanLookAt terms look looked shown
+
 -- after a list of commands and replies, the line has this text and leaves this list
 abbrev pub SaysLine : Terms → Names → List ℕ → List Said → SeatLine → List ℕ → List Said → Type 0
 SaysLine terms book name said (Run command) text now = SaysCommand terms book name said command text now
+SaysLine terms book name said (LookLine look) text now = SaysLook terms book name look text × (now ≡ said)
 SaysLine terms book name said Audit text now = SaysAudit terms book name said text × (now ≡ said)
 
 -- the lines are said one after another

@@ -1,7 +1,6 @@
 -- Which lines of a script are answered at once, and which are handed to a session. This project's own.
-use Rattle.std.specs.Prelude.{◌≡◌, ◌⊎◌, ℕ, ◌+◌, ◌<◌, Option, Some, None, Result, Ok, Err, List, [], ◌∷◌, ◌++◌, length}
+use Rattle.std.specs.Prelude.{◌≡◌, ◌⊎◌, ℕ, ◌+◌, Option, Some, None, Result, Ok, Err, List, [], ◌∷◌, ◌++◌}
 use Rattle.std.specs.List.{position}
-use Rattle.mls_session.specs.declared.command.Command.{Command}
 use Rattle.mls_server.specs.declared.answer.Answer.TheVariants.{Opened}
 use Rattle.mls_server.specs.declared.fault.OpenFault.{OpenFault}
 use Rattle.mls_server.specs.declared.fault.OpenFault.TheVariants.{OpenAlready}
@@ -9,13 +8,13 @@ use Rattle.mls_text.specs.Words.{same_word}
 use Rattle.mls_wire.specs.NameBooks.{Names}
 use Rattle.mls_wire.specs.Replies.{response_text}
 use Rattle.mls_wire.specs.declared.line.Line.{Line}
-use Rattle.mls_wire.specs.declared.line.Line.TheVariants.{Silent, Open, Close, Step, Audit, Run}
+use Rattle.mls_wire.specs.declared.line.Line.TheVariants.{Silent, Open, Close, Step, Audit, Look, Run}
 use Rattle.mls_wire.specs.declared.line.LineFault.{LineFault}
 use Rattle.mls_wire.specs.declared.line.LineFault.TheVariants.{NotOpen, UnknownCommand}
 use Rattle.mls_wire.specs.declared.response.Response.TheVariants.{Answered, Fault}
 use Rattle.mls_crew.specs.declared.seat_line.Handed.{Handed}
 use Rattle.mls_crew.specs.declared.seat_line.SeatLine.{SeatLine}
-use Rattle.mls_crew.specs.declared.seat_line.SeatLine.TheVariants.{Audit as AuditLine, Run as RunLine}
+use Rattle.mls_crew.specs.declared.seat_line.SeatLine.TheVariants.{Audit as AuditLine, Look as LookLine, Run as RunLine}
 
 -- the number of the session of this name, in the order of opening
 abbrev pub session_of : List (List ℕ) → List ℕ → Option ℕ
@@ -60,6 +59,7 @@ SortsLine book n opened (Ok (Open name)) sorted = Opens book n opened name sorte
 SortsLine book n opened (Ok (Close name id)) sorted = sorted ≡ faulty book n UnknownCommand opened
 SortsLine book n opened (Ok (Step name id)) sorted = sorted ≡ faulty book n UnknownCommand opened
 SortsLine book n opened (Ok (Audit name id)) sorted = sorted ≡ handed_to book n opened (session_of opened name) AuditLine
+SortsLine book n opened (Ok (Look name id look)) sorted = sorted ≡ handed_to book n opened (session_of opened name) (LookLine look)
 SortsLine book n opened (Ok (Run name id command)) sorted = sorted ≡ handed_to book n opened (session_of opened name) (RunLine command)
 
 -- the lines from line n on are sorted one after another

@@ -1,11 +1,13 @@
 //! Lines that are said at seats.
-use mls_session::Command;
+use mls_session::{Command, Look};
 
 /// A line of a session's own.
 #[derive(Clone, Copy, Debug, PartialEq, Eq)]
 pub enum SeatLine {
     /// A command.
     Run(Command),
+    /// A look at the session as it is.
+    Look(Look),
     /// Asks for the audit.
     Audit,
 }

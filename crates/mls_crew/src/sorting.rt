@@ -135,6 +135,7 @@ impl Sorting {
             Line::Close(_, _) => self.refuse(desk, n, LineFault::UnknownCommand),
             Line::Step(_, _) => self.refuse(desk, n, LineFault::UnknownCommand),
             Line::Audit(name, _) => self.hand(desk, n, name, SeatLine::Audit),
+            Line::Look(name, _, look) => self.hand(desk, n, name, SeatLine::Look(*look)),
             Line::Run(name, _, command) => self.hand(desk, n, name, SeatLine::Run(*command)),
         }
     }

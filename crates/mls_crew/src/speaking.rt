@@ -2,15 +2,15 @@
 ghost use Rattle.std.specs.Prelude.{◌≡◌, ◌++◌, ℕ, List, [], IfOk, OnOk, length};
 ghost use Rattle.mls_live.specs.Lists.{list_of};
 ghost use Rattle.mls_crew.specs.Books.{labels_of};
-ghost use Rattle.mls_crew.specs.Groups.{SaysCommand, SaysLine, SaysLines, SaysAudit, TellsGroup, lines_of};
+ghost use Rattle.mls_crew.specs.Groups.{SaysCommand, SaysLine, SaysLines, SaysLook, SaysAudit, TellsGroup, lines_of};
 ghost use Rattle.mls_crew.specs.Groups as spec;
 
 use crate::sorting::{Fresh, Sorting};
 use crate::{Labels, SeatLine};
 use mls_live::{Naming, Seat};
 use mls_server::{Answer, Name};
-use mls_session::Command;
-use mls_wire::{Response, push_differs, push_response, push_saved};
+use mls_session::{Command, Look};
+use mls_wire::{Response, push_differs, push_looked, push_response, push_saved};
 use std::alloc::{AllocError, Global};
 use std::marker::Model;
 use std::sync::Wait;
@@ -142,6 +142,7 @@ fn say_line<N: Naming, R: Wait>(
 {
     match *line {
         SeatLine::Run(command) => run(rt, part, name, seat, command, out),
+        SeatLine::Look(asked) => look(rt, part, name, seat, asked, out),
         SeatLine::Audit => audit(rt, part, name, seat, out),
     }
 }
@@ -189,6 +190,23 @@ fn save<N: Naming, R: Wait>(
     let mut saved = Vec::new(part.alloc);
     let result = seat.save(rt, &mut saved);
     push_saved(part.labels, name, result, &saved, out)
+}
+
+/// Looks at the session of a seat, and appends the reply text and what comes with it.
+fn look<N: Naming, R: Wait>(
+    rt: &R,
+    part: &Part<'_>,
+    name: &Name,
+    seat: &Seat<'_, N>,
+    look: Look,
+    out: &mut Vec<u8>,
+) -> Result<(), AllocError>
+    ensures { OnOk result ((text : List ℕ) × SaysLook N.terms (labels_of part.now.labels.now) name.now look text
+        × (out.new.items ≡ out.old.items ++ text)) }
+{
+    let mut shown = Vec::new(part.alloc);
+    let result = seat.look(rt, part.alloc, look, &mut shown);
+    push_looked(part.labels, name, &result, &shown, out)
 }
 
 /// Audits a seat, and appends the reply text.

@@ -1,4 +1,4 @@
-//! Seats that are refused, lists that are full, saved texts, and a worker that ends early.
+//! Seats that are refused, lists that are full, looks, saved texts, and a worker that ends early.
 ghost use Rattle.std.specs.Prelude.{◌≡◌, []};
 ghost use Rattle.mls_server.specs.Servers.{world_of};
 ghost use Rattle.mls_server.specs.Settings.{terms_for};
@@ -12,7 +12,7 @@ use crate::servers::{Room, SMALL, new_server};
 use crossbeam_channel::Receiver;
 use mls_live::{Live, Naming, Plain, Seat, Worked, work};
 use mls_server::{NotOpen, OpenFault, Server, SessionId};
-use mls_session::{Command, Refusal, Reply};
+use mls_session::{Command, Look, Looked, Refusal, Reply};
 use std::alloc::Global;
 use std::marker::Brand;
 use std::process::Abort;
@@ -46,7 +46,7 @@ fn refuse_seats_at<N: Naming + Send + Sync, R: Threads + Wait + Clock + Abort + 
     refuse_seats(rt, alloc, &live)
 }
 
-/// A name is open already, or the pool is full. A list that is full refuses.
+/// A name is open already, or the pool is full. A list that is full refuses, though not a look.
 fn refuse_seats<N: Naming + Send + Sync, R: Threads + Wait + Clock + Abort + Sync>(
     rt: &R,
     alloc: Global,
@@ -59,6 +59,7 @@ fn refuse_seats<N: Naming + Send + Sync, R: Threads + Wait + Clock + Abort + Syn
     expect_refused(rt, alloc, live, b"a", OpenFault::OpenAlready)?;
     expect_refused(rt, alloc, live, b"c", OpenFault::PoolFull)?;
     expect_full(rt, alloc, &mut a);
+    expect_shown(rt, alloc, &a);
     let seats = vec![in alloc; b]?;
     assert_eq!(rt; retire(rt, live, seats).out, 1);
     let _c = seat(rt, alloc, live, b"c")?;
@@ -86,6 +87,27 @@ fn saved<N: Naming, R: Wait>(
     let mut text = Vec::new(alloc);
     let reply = seat.save(rt, &mut text);
     (reply, text)
+}
+
+/// Asserts that a look shows the thin bar.
+fn expect_shown<N: Naming, R: Wait + Abort>(rt: &R, alloc: Global, seat: &Seat<'_, N>) {
+    let (lines, text) = shown(rt, alloc, seat);
+    assert_eq!(rt; lines, Some(5));
+    assert_eq!(rt; text.as_slice(), SAVED_BAR);
+}
+
+/// Looks at the layout, and returns how many lines are saved, if any, and the text.
+fn shown<N: Naming, R: Wait>(
+    rt: &R,
+    alloc: Global,
+    seat: &Seat<'_, N>,
+) -> (Option<usize>, Vec<u8>) {
+    let mut text = Vec::new(alloc);
+    let lines = match seat.look(rt, alloc, Look::Save, &mut text) {
+        Ok(Looked::Saved(lines)) => Some(lines),
+        _ => None,
+    };
+    (lines, text)
 }
 
 #[test]

@@ -85,7 +85,7 @@ fn line_of_a_million_bytes(rt: HostRuntime) -> Result<(), Fail> {
 const RANDOM_LINES: u32 = 100_000;
 
 /// Lines that can be read.
-const READABLE: [&[u8]; 32] = [
+const READABLE: [&[u8]; 35] = [
     b"%open a",
     b"%open b",
     b"%open c",
@@ -95,6 +95,9 @@ const READABLE: [&[u8]; 32] = [
     b"%step b",
     b"%audit a",
     b"%audit c",
+    b"%save a",
+    b"%stat b",
+    b"%why c 0 0 9 9",
     b"a box 0 0 4 4",
     b"a box 3 0 9 9",
     b"b box 0 0 1 10",
@@ -121,11 +124,14 @@ const READABLE: [&[u8]; 32] = [
 ];
 
 /// Words of the language, and some that have no place in it.
-const WORDS: [&[u8]; 32] = [
+const WORDS: [&[u8]; 35] = [
     b"%open",
     b"%close",
     b"%step",
     b"%audit",
+    b"%save",
+    b"%stat",
+    b"%why",
     b"%foo",
     b"a",
     b"b",
@@ -157,8 +163,8 @@ const WORDS: [&[u8]; 32] = [
 ];
 
 /// Appends a random one of the texts.
-fn push_one(script: &mut Vec<u8>, texts: &[&[u8]; 32], rng: &mut Pcg32) -> Result<(), AllocError> {
-    let index: usize = rng.random_range(0..32);
+fn push_one(script: &mut Vec<u8>, texts: &[&[u8]; 35], rng: &mut Pcg32) -> Result<(), AllocError> {
+    let index: usize = rng.random_range(0..35);
     if let Some(text) = texts.get(index) {
         script.extend_from_slice(text)?;
     }

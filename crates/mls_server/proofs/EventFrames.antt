@@ -11,7 +11,7 @@ use Rattle.mls_server.specs.Settings.{terms_for}
 use Rattle.mls_server.specs.Worlds.{IsNumbered, World, kept_in, with_kept, with_session, without_session}
 use Rattle.mls_server.specs.declared.answer.Answer.{Answer}
 use Rattle.mls_server.specs.declared.event.Event.{Event}
-use Rattle.mls_server.specs.declared.event.Event.TheVariants.{Open, Close, Command, Save, Grab, Finish, Step}
+use Rattle.mls_server.specs.declared.event.Event.TheVariants.{Open, Close, Command, Save, Look, Grab, Finish, Step}
 use Rattle.mls_server.specs.declared.fault.GrabFault.{GrabFault}
 use Rattle.mls_server.specs.declared.fault.GrabFault.TheVariants.{NotOpen as NoSession, Memory as OutOfMemory}
 use Rattle.mls_server.specs.declared.fault.NotOpen.{NotOpen}
@@ -62,6 +62,7 @@ MayLead old (Open name) new = MayOpen old name new
 MayLead old (Close id) new = MayClose old id new
 MayLead old (Command id command) new = MayKeep old id new
 MayLead old (Save id) new = MayKeep old id new
+MayLead old (Look id look) new = new ≡ old
 MayLead old (Grab id) new = MayKeep old id new
 MayLead old (Finish id finding) new = MayKeep old id new
 MayLead old (Step id) new = MayKeep old id new
@@ -72,6 +73,7 @@ Happens-may old (Close id) answer new (result, is, closes) = Closes-may old id r
 Happens-may old (Command id command) answer new (result, is, does) =
     OnSeat-may old id (λ before reply after. Commands (terms_for old.setting) before command reply after) result new does
 Happens-may old (Save id) answer new (result, text, is, saves) = SavesText-may old id result text new saves
+Happens-may old (Look id look) answer new (result, text, is, looks, same) = same
 Happens-may old (Grab id) answer new (result, is, grabs) = DoesGrab-may old id result new grabs
 Happens-may old (Finish id finding) answer new (result, is, does) =
     OnSeat-may old id (λ before outcome after. Finishes (terms_for old.setting) before finding outcome after) result new does
@@ -99,6 +101,7 @@ module _ (old : World) where
   MayLead-keeps (Close id) new (inr is) = kept_all new is
   MayLead-keeps (Command id command) new may = keep_keeps id new may
   MayLead-keeps (Save id) new may = keep_keeps id new may
+  MayLead-keeps (Look id look) new is = kept_all new is
   MayLead-keeps (Grab id) new may = keep_keeps id new may
   MayLead-keeps (Finish id finding) new may = keep_keeps id new may
   MayLead-keeps (Step id) new may = keep_keeps id new may
@@ -150,6 +153,7 @@ module _ (old : World) (numbered : IsNumbered old) (other : ℕ) where
       by_event (Close id) not_of may = close_leaves id new not_of may
       by_event (Command id command) not_of may = keep_leaves id new not_of may
       by_event (Save id) not_of may = keep_leaves id new not_of may
+      by_event (Look id look) not_of is = left_all new is
       by_event (Grab id) not_of may = keep_leaves id new not_of may
       by_event (Finish id finding) not_of may = keep_leaves id new not_of may
       by_event (Step id) not_of may = keep_leaves id new not_of may
@@ -179,6 +183,7 @@ module _ (old : World) (id : ℕ) (new : World) (none : kept_in old id ≡ None)
   MayLead-closed (Close number) of may = MayClose-closed number of may
   MayLead-closed (Command number command) of may = MayKeep-closed number of may
   MayLead-closed (Save number) of may = MayKeep-closed number of may
+  MayLead-closed (Look number look) of is = same_closed is
   MayLead-closed (Grab number) of may = MayKeep-closed number of may
   MayLead-closed (Finish number finding) of may = MayKeep-closed number of may
   MayLead-closed (Step number) of may = MayKeep-closed number of may

@@ -12,14 +12,17 @@ use Rattle.mls_library.specs.Faults.{UnlessMemory}
 use Rattle.mls_library.specs.Libraries.{loading_of, tile_counts, total}
 use Rattle.mls_library.specs.declared.fault.CellFault.{CellFault}
 use Rattle.mls_session.specs.Journals.{Commands, Finishes, Kept, Saves, StepsOnce}
+use Rattle.mls_session.specs.Looks.{Looks}
 use Rattle.mls_session.specs.declared.command.Command.{Command as OwnCommand}
+use Rattle.mls_session.specs.declared.look.Look.{Look as OwnLook}
+use Rattle.mls_session.specs.declared.look.Looked.{Looked as OwnLooked}
 use Rattle.mls_session.specs.declared.reply.Reply.{Reply}
 use Rattle.mls_server.specs.Settings.{NamedLayout, cell_names, session_reserve, terms_for}
 use Rattle.mls_server.specs.Worlds.{World, kept_in, session_named, with_kept, with_session, without_session}
 use Rattle.mls_server.specs.declared.event.Event.{Event}
-use Rattle.mls_server.specs.declared.event.Event.TheVariants.{Open, Close, Command, Save, Grab, Finish, Step}
+use Rattle.mls_server.specs.declared.event.Event.TheVariants.{Open, Close, Command, Save, Look, Grab, Finish, Step}
 use Rattle.mls_server.specs.declared.answer.Answer.{Answer}
-use Rattle.mls_server.specs.declared.answer.Answer.TheVariants.{Opened, Closed, Commanded, Saved, Grabbed, Finished, Stepped}
+use Rattle.mls_server.specs.declared.answer.Answer.TheVariants.{Opened, Closed, Commanded, Saved, Looked, Grabbed, Finished, Stepped}
 use Rattle.mls_server.specs.declared.fault.OpenFault.{OpenFault}
 use Rattle.mls_server.specs.declared.fault.OpenFault.TheVariants.{OpenAlready, SessionsFull, PoolFull, Memory}
 use Rattle.mls_server.specs.declared.fault.GrabFault.{GrabFault}
@@ -83,6 +86,11 @@ abbrev pub SavesText : World → ℕ → Result Reply NotOpen → List ℕ → W
 SavesText old id (Ok reply) text new = OnSeat old id (λ before answer after. Saves (terms_for old.setting) before answer text after) (Ok reply) new
 SavesText old id (Err fault) text new = (kept_in old id ≡ None) × (text ≡ []) × (new ≡ old)
 
+-- what a look at what the session keeps returns, and the text that comes with it; or it isn't open
+abbrev pub LooksAt : World → ℕ → OwnLook → Result OwnLooked NotOpen → List ℕ → Type 0
+LooksAt on id look (Ok looked) text = (kept : Kept) × (kept_in on id ≡ Some kept) × Looks (terms_for on.setting) kept look looked text
+LooksAt on id look (Err fault) text = (kept_in on id ≡ None) × (text ≡ [])
+
 abbrev pub DoesStep : World → ℕ → Result StepEnd NotOpen → World → Type 0
 DoesStep old id result new = OnSeat old id (λ before end after. StepsOnce (terms_for old.setting) before end after) result new
 
@@ -104,6 +112,8 @@ Happens old (Open name) answer new = (result : Result ℕ OpenFault) × (answer 
 Happens old (Close id) answer new = (result : Result (Unit {0}) NotOpen) × (answer ≡ Closed result) × Closes old id result new
 Happens old (Command id command) answer new = (result : Result Reply NotOpen) × (answer ≡ Commanded result) × DoesCommand old id command result new
 Happens old (Save id) answer new = (result : Result Reply NotOpen) × (text : List ℕ) × (answer ≡ Saved result text) × SavesText old id result text new
+Happens old (Look id look) answer new =
+    (result : Result OwnLooked NotOpen) × (text : List ℕ) × (answer ≡ Looked result text) × LooksAt old id look result text × (new ≡ old)
 Happens old (Grab id) answer new = (result : Result (Option Job) GrabFault) × (answer ≡ Grabbed result) × DoesGrab old id result new
 Happens old (Finish id finding) answer new = (result : Result Outcome NotOpen) × (answer ≡ Finished result) × DoesFinish old id finding result new
 Happens old (Step id) answer new = (result : Result StepEnd NotOpen) × (answer ≡ Stepped result) × DoesStep old id result new

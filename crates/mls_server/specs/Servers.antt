@@ -1,5 +1,5 @@
 -- What a server keeps, and the world that it shows. This project's own.
-use Rattle.std.specs.Prelude.{◌≡◌, ℕ, ◌<◌, ◌≤◌, ◌==◌, if◌then◌else◌, List, [], ◌∷◌, length, map}
+use Rattle.std.specs.Prelude.{ℕ, ◌<◌, ◌≤◌, ◌==◌, if◌then◌else◌, List, [], ◌∷◌, length, map}
 use Rattle.std.specs.List.{All, AllPairs, Contains, position_or_len}
 use Rattle.mls_session.specs.Designs.{CanDump, HasRightMarks}
 use Rattle.mls_session.specs.Journals.{IsLegal}

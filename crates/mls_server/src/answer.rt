@@ -1,7 +1,7 @@
 //! What a server answers.
-use crate::{GrabFault, NotOpen, OpenFault, SavedText, SessionId};
+use crate::{GrabFault, NotOpen, OpenFault, ReplyText, SessionId};
 use mls_errorplane::{Outcome, Stepped};
-use mls_session::{Job, Reply};
+use mls_session::{Job, Looked, Reply};
 
 /// The answer to an event.
 #[derive(Drop)]
@@ -13,7 +13,9 @@ pub enum Answer {
     /// The reply to a command.
     Commanded(Result<Reply, NotOpen>),
     /// The reply to saving, and the text of the layout, which is empty unless it was saved.
-    Saved(Result<Reply, NotOpen>, SavedText),
+    Saved(Result<Reply, NotOpen>, ReplyText),
+    /// What a look returned, and the text that comes with it.
+    Looked(Result<Looked, NotOpen>, ReplyText),
     /// What a check of the first piece needs, if an area awaits checking.
     Grabbed(Result<Option<Job>, GrabFault>),
     /// How finishing ended.

@@ -1,7 +1,7 @@
 //! What a server is asked for.
 use crate::{Name, SessionId};
 use mls_checker::Finding;
-use mls_session::Command;
+use mls_session::{Command, Look};
 
 /// An event on a server.
 #[derive(Drop)]
@@ -14,6 +14,8 @@ pub enum Event {
     Command(SessionId, Command),
     /// Saves the layout of a session.
     Save(SessionId),
+    /// Looks at a session as it is.
+    Look(SessionId, Look),
     /// Asks for what a check of a session's first piece needs.
     Grab(SessionId),
     /// Marks what a check found in a session.

@@ -6,7 +6,7 @@ mod capacity;
 mod event;
 mod fault;
 mod name;
-mod saved_text;
+mod reply_text;
 mod server;
 mod session_id;
 
@@ -15,6 +15,6 @@ pub use capacity::Capacity;
 pub use event::Event;
 pub use fault::{GrabFault, NotOpen, OpenFault};
 pub use name::Name;
-pub use saved_text::SavedText;
+pub use reply_text::ReplyText;
 pub use server::Server;
 pub use session_id::SessionId;

@@ -1,9 +1,9 @@
 -- No run of commands and check steps makes a journal longer than its limit.
-use Rattle.std.proofs.Common.{◌≡◌, ◌≢◌, inl, inr, ℕ, ◌+◌, ◌≤◌, Option, Some, None, List, [], ◌∷◌, refl, ap, subst, sym, ◌∙◌, arith}
-use Rattle.std.specs.Option.{option_and_then, option_map}
+use Rattle.std.proofs.Common.{◌≡◌, inl, inr, ℕ, ◌+◌, ◌≤◌, Option, Some, None, List, [], ◌∷◌, refl, ap, subst, arith}
+use Rattle.std.specs.Option.{option_and_then}
 use Rattle.std.proofs.lemmas.Bool.{cases_eq}
 use Rattle.std.proofs.lemmas.Option.{same_Some}
-use Rattle.mls_session.specs.Journals.{IsLegal, Kept, Run, alone_run, run_from, said_next}
+use Rattle.mls_session.specs.Journals.{IsLegal, Kept, Run, run_from, said_next}
 use Rattle.mls_session.specs.OwnSteps.{OwnState, Terms, beginning, checks, own_step}
 use Rattle.mls_session.specs.declared.command.Command.{Command}
 use Rattle.mls_session.specs.declared.journal.Entry.{Entry}

@@ -40,5 +40,6 @@ pub mod Results
 pub mod RightMarks
 pub mod SavedCounts
 pub mod SavedPlanes
+pub mod SessionLooks
 pub mod SmallestRects
 pub mod TilePieces

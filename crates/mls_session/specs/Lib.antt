@@ -4,6 +4,7 @@ pub mod Designs
 pub mod Inner
 pub mod JournalLimits
 pub mod Journals
+pub mod Looks
 pub mod Own
 pub mod OwnSteps
 pub mod Quotas

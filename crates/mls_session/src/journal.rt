@@ -103,6 +103,13 @@ impl Journal {
         self.checks += steps;
     }
 
+    /// Returns how many check steps were done since the last entry.
+    pub fn checks(&self) -> u64
+        ensures { result ≡ self.now.checks }
+    {
+        self.checks
+    }
+
     /// Returns the entries.
     pub fn entries(&self) -> &[Entry]
         ensures { result.now ≡ self.now.entries }

@@ -11,6 +11,7 @@ ghost use Rattle.mls_session.specs.Setups.{cell_layouts, terms_of};
 ghost use Rattle.mls_tilepool.specs.Pools.{unreserved};
 
 mod checking;
+mod looking;
 
 use crate::design::Design;
 use crate::executed::Executed;
@@ -152,7 +153,7 @@ impl Session {
         if self.journal.is_full() {
             return Reply::Refused(Refusal::JournalFull);
         }
-        let executed = Executed::with(self.design.save_text(&setup.tech, out, workspace));
+        let executed = Executed::with(self.design.save(&setup.tech, out, workspace));
         self.journal.keep(&Command::Save, &executed);
         executed.reply
     }

@@ -5,16 +5,18 @@ use Rattle.std.proofs.lemmas.Bool.Decides.{nat_tests}
 use Rattle.mls_session.specs.Journals.{Kept}
 use Rattle.mls_session.specs.declared.command.Command.{Command}
 use Rattle.mls_session.specs.declared.command.Command.TheVariants.{Box, Paint, Erase, Dump, What, Save, Check, CatchUp, Why, Count}
+use Rattle.mls_session.specs.declared.look.Look.TheVariants.{Save as SaveLook, Why as WhyLook, Status as StatusLook}
 use Rattle.mls_server.specs.Worlds.{Seat, World, kept_in, named_in, seat_in, session_named}
 use Rattle.mls_server.specs.SessionNames.{is_session_name}
 use Rattle.mls_server.specs.declared.event.Event.TheVariants.{Command as CommandEvent}
 use Rattle.mls_text.specs.Words.{begins_with, words_of, same_word}
 use Rattle.mls_wire.specs.NameBooks.{book_of}
 use Rattle.mls_wire.specs.Runs.{CanExecute, Executes, command_event}
-use Rattle.mls_wire.specs.Says.{asked_of, asks_says, command_of, line_says, line_with, open_says, run_by, session_says, words_say}
+use Rattle.mls_wire.specs.Says.{asked_of, asks_says, command_of, line_says, line_with, look_line, open_says, run_by, session_says, sides_say, why_of, why_says, words_say}
 use Rattle.mls_wire.specs.declared.line.Line.{Line}
 use Rattle.mls_wire.specs.declared.line.Line.TheVariants.{Silent, Open, Close, Step, Audit}
 use Rattle.mls_wire.specs.declared.line.LineFault.{LineFault}
+use Rattle.mls_wire.specs.declared.parse.Sides.{Sides}
 use Rattle.mls_wire.specs.declared.line.LineFault.TheVariants.{UnknownCommand, BadName}
 use Rattle.mls_wire.specs.declared.response.Response.TheVariants.{Audited}
 
@@ -82,6 +84,16 @@ module _ (on : World) (make : List ℕ → ℕ → Line) (is_open : (name : List
   asks_executable (name ∷ []) = choice on (is_session_name name) _ (Err BadName) (asked_executable name (session_named on name) refl) tt
   asks_executable (name ∷ more ∷ words) = choice on (is_session_name name) (Err UnknownCommand) (Err BadName) tt tt
 
+why_of_executable : (on : World) (name : List ℕ) (r : Result Sides LineFault) → CanExecuteSaid on (why_of (book_of on) name r)
+why_of_executable on name (Ok sides) =
+    asked_executable on (look_line (WhyLook sides.left sides.bottom sides.right sides.top)) (λ name id h. h) name (session_named on name) refl
+why_of_executable on name (Err fault) = tt
+
+why_executable : (on : World) (words : List (List ℕ)) → CanExecuteSaid on (why_says (book_of on) words)
+unfolding why_says
+why_executable on [] = tt
+why_executable on (name ∷ words) = choice on (is_session_name name) _ (Err BadName) (why_of_executable on name (sides_say words)) tt
+
 words_executable : (on : World) (words : List (List ℕ)) → CanExecuteSaid on (words_say (book_of on) words)
 unfolding words_say
 words_executable on [] = tt
@@ -90,7 +102,10 @@ words_executable on (word ∷ words) =
     (choice on (same_word word (codes "%close")) _ _ (asks_executable on Close (λ name id h. h) words)
     (choice on (same_word word (codes "%step")) _ _ (asks_executable on Step (λ name id h. h) words)
     (choice on (same_word word (codes "%audit")) _ _ (asks_executable on Audit (λ name id h. h) words)
-    (choice on (begins_with 37 word) (Err UnknownCommand) _ tt (session_executable on word words)))))
+    (choice on (same_word word (codes "%save")) _ _ (asks_executable on (look_line SaveLook) (λ name id h. h) words)
+    (choice on (same_word word (codes "%stat")) _ _ (asks_executable on (look_line StatusLook) (λ name id h. h) words)
+    (choice on (same_word word (codes "%why")) _ _ (why_executable on words)
+    (choice on (begins_with 37 word) (Err UnknownCommand) _ tt (session_executable on word words))))))))
 
 line_executable : (on : World) (line : Option (List ℕ)) → CanExecuteSaid on (line_says (book_of on) line)
 unfolding line_says

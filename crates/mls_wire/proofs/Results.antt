@@ -1,6 +1,6 @@
 -- Facts on results.
-use Rattle.std.proofs.Common.{◌≡◌, Result, Ok, Err, OnErr, OnOk, IfErr, sym, subst}
-use Rattle.std.specs.Result.{IsErr, IsErrAnd}
+use Rattle.std.proofs.Common.{◌≡◌, ℕ, cond, List, ◌++◌, Result, Ok, Err, OnErr, OnOk, IfErr, sym, subst, ap, ◌∙◌, append_assoc}
+use Rattle.std.specs.Result.{IsErr, IsErrAnd, is_ok}
 
 -- what holds anyway holds at an error
 pub on_err : {T E : Type 0} (r : Result T E) (P : Type 0) → P → OnErr r P
@@ -21,3 +21,8 @@ if_err-map (Err e) P Q R f p q = f e p q
 pub on_ok-map : {T E : Type 0} (r : Result T E) (P Q : Type 0) → (P → Q) → OnOk r P → OnOk r Q
 on_ok-map (Ok x) P Q f p = f p
 on_ok-map (Err e) P Q f p = tt
+
+-- one text more, which is appended at a value alone
+pub on_ok-appended : {T E : Type 0} (r : Result T E) (old mid new xs ys : List ℕ) → mid ≡ old ++ xs → new ≡ cond (is_ok r) (mid ++ ys) mid → OnOk r (new ≡ old ++ (xs ++ ys))
+on_ok-appended (Ok x) old mid new xs ys so more = more ∙ ap (λ l. l ++ ys) so ∙ append_assoc old xs ys
+on_ok-appended (Err e) old mid new xs ys so more = tt

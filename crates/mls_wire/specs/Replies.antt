@@ -7,6 +7,9 @@ use Rattle.mls_errorplane.specs.declared.error_plane.Stepped.{Stepped as StepEnd
 use Rattle.mls_errorplane.specs.declared.error_plane.Stepped.TheVariants.{Idle, Done as StepDone, Full, Memory as StepMemory}
 use Rattle.mls_kinds.specs.KindSets.{difference, members, set_of}
 use Rattle.mls_session.specs.Refusals.{refusal_number, refusal_text}
+use Rattle.mls_session.specs.declared.look.Looked.{Looked}
+use Rattle.mls_session.specs.declared.look.Looked.TheVariants.{Saved as SavedLook, Why as WhyLook, Status as StatusLook, Refused as RefusedLook}
+use Rattle.mls_session.specs.declared.look.Status.{Status}
 use Rattle.mls_session.specs.declared.reply.Reply.{Reply}
 use Rattle.mls_session.specs.declared.reply.Reply.TheVariants.{Done, Kinds, Saved, Count, Why, Refused, Stopped}
 use Rattle.mls_wire.specs.NameBooks.{Names}
@@ -16,7 +19,7 @@ use Rattle.mls_wire.specs.declared.response.Response.{Response}
 use Rattle.mls_wire.specs.declared.response.Response.TheVariants.{Silent, Fault, Answered, Audited}
 use Rattle.mls_server.specs.Faults.{open_fault_number, open_fault_text}
 use Rattle.mls_server.specs.declared.answer.Answer.{Answer}
-use Rattle.mls_server.specs.declared.answer.Answer.TheVariants.{Opened, Closed, Commanded, Saved as SavedAs, Grabbed, Finished, Stepped}
+use Rattle.mls_server.specs.declared.answer.Answer.TheVariants.{Opened, Closed, Commanded, Saved as SavedAs, Looked as LookedAt, Grabbed, Finished, Stepped}
 
 -- a number and its text, with a space between
 abbrev pub numbered : ℕ → List ℕ → List ℕ
@@ -55,6 +58,37 @@ reply_text book (Why rules) = codes "why " ++ decimal (length (rules_in rules)) 
 reply_text book (Refused refusal) = codes "refused " ++ numbered (refusal_number refusal) (refusal_text refusal)
 reply_text book (Stopped refusal pending) = codes "refused " ++ numbered (refusal_number refusal) (refusal_text refusal) ++ pending_text pending
 
+-- a space and how many tiles a plane has
+abbrev pub tiles_text : ℕ → List ℕ
+tiles_text count = 32 ∷ decimal count
+
+-- so many of at most so many
+abbrev pub share_text : ℕ → ℕ → List ℕ
+share_text count limit = decimal count ++ codes " of " ++ decimal limit
+
+-- how many check steps were done since the last entry of the journal, and how many areas await checking
+unfoldable pub checks_text : Status → List ℕ
+checks_text status = decimal status.steps ++ codes " steps since, " ++ decimal status.areas ++ codes " dirty"
+
+-- how far a session has come
+abbrev pub progress_text : Status → List ℕ
+progress_text status = share_text status.entries status.limit ++ codes " entries, " ++ checks_text status
+
+-- how many tiles its planes have
+unfoldable pub room_text : Status → List ℕ
+room_text status =
+    flat_map tiles_text status.tiles ++ codes " of " ++ decimal status.quota ++ codes " tiles, " ++ share_text status.mark_tiles status.quota ++ codes " mark tiles"
+
+abbrev pub status_text : Status → List ℕ
+status_text status = codes "stat " ++ progress_text status ++ codes "," ++ room_text status
+
+-- what a look returned, without its line's first word and its line feed: a layout and rules as a command's reply has them
+unfoldable pub looked_text : Names → Looked → List ℕ
+looked_text book (SavedLook lines) = reply_text book (Saved lines)
+looked_text book (WhyLook rules) = reply_text book (Why rules)
+looked_text book (StatusLook status) = status_text status
+looked_text book (RefusedLook refusal) = reply_text book (Refused refusal)
+
 -- the reply text of an answer by the session's name; answers that no line has are of no text
 unfoldable pub answer_text : Names → List ℕ → Answer → List ℕ
 answer_text book name (Opened (Ok id)) = name ++ codes " opened" ++ 10 ∷ []
@@ -65,6 +99,8 @@ answer_text book name (Commanded (Ok reply)) = name ++ 32 ∷ reply_text book re
 answer_text book name (Commanded (Err fault)) = []
 answer_text book name (SavedAs (Ok reply) text) = name ++ 32 ∷ reply_text book reply ++ 10 ∷ text
 answer_text book name (SavedAs (Err fault) text) = []
+answer_text book name (LookedAt (Ok looked) text) = name ++ 32 ∷ looked_text book looked ++ 10 ∷ text
+answer_text book name (LookedAt (Err fault) text) = []
 answer_text book name (Grabbed result) = []
 answer_text book name (Finished result) = []
 answer_text book name (Stepped (Ok end)) = name ++ codes " step " ++ stepped_text end ++ 10 ∷ []

@@ -5,26 +5,37 @@ use Rattle.std.specs.Option.{option_map_or}
 use Rattle.mls_kinds.specs.KindSets.{set_of}
 use Rattle.mls_session.specs.declared.command.Command.{Command}
 use Rattle.mls_session.specs.declared.command.Command.TheVariants.{Box, Paint, Erase, Dump, What, Save, Check, CatchUp, Why, Count}
+use Rattle.mls_session.specs.declared.look.Look.{Look}
+use Rattle.mls_session.specs.declared.look.Look.TheVariants.{Save as SaveLook, Why as WhyLook, Status as StatusLook}
 use Rattle.mls_wire.specs.NameBooks.{Names}
 use Rattle.mls_wire.specs.Numbers.{number_of}
 use Rattle.mls_text.specs.Fields.{fields_of}
 use Rattle.mls_text.specs.Words.{begins_with, words_of, same_word}
 use Rattle.mls_server.specs.SessionNames.{is_session_name}
 use Rattle.mls_wire.specs.declared.line.Line.{Line}
-use Rattle.mls_wire.specs.declared.line.Line.TheVariants.{Silent, Open, Close, Step, Audit, Run}
+use Rattle.mls_wire.specs.declared.line.Line.TheVariants.{Silent, Open, Close, Step, Audit, Look as LookAt, Run}
 use Rattle.mls_wire.specs.declared.line.LineFault.{LineFault}
 use Rattle.mls_wire.specs.declared.parse.Asked.{Asked}
-use Rattle.mls_wire.specs.declared.parse.Asked.TheVariants.{Close as AsksClose, Step as AsksStep, Audit as AsksAudit}
+use Rattle.mls_wire.specs.declared.parse.Asked.TheVariants.{Close as AsksClose, Step as AsksStep, Audit as AsksAudit, Look as AsksLook}
+use Rattle.mls_wire.specs.declared.parse.Sides.{Sides}
 use Rattle.mls_wire.specs.declared.line.LineFault.TheVariants.{UnknownCommand, BadNumber, BadName, NotOpen}
 
--- the four lines of a box
-unfoldable pub box_of : Option ℤ → Option ℤ → Option ℤ → Option ℤ → Result Command LineFault
-box_of (Some left) (Some bottom) (Some right) (Some top) = Ok (Box left bottom right top)
-box_of _ _ _ _ = Err BadNumber
+-- the four lines round a rectangle
+unfoldable pub sides_of : Option ℤ → Option ℤ → Option ℤ → Option ℤ → Result Sides LineFault
+sides_of (Some left) (Some bottom) (Some right) (Some top) = Ok (record { left = left; bottom = bottom; right = right; top = top })
+sides_of _ _ _ _ = Err BadNumber
+
+unfoldable pub sides_say : List (List ℕ) → Result Sides LineFault
+sides_say (left ∷ bottom ∷ right ∷ top ∷ []) = sides_of (number_of left) (number_of bottom) (number_of right) (number_of top)
+sides_say _ = Err UnknownCommand
+
+-- the box between these lines
+abbrev pub box_of : Result Sides LineFault → Result Command LineFault
+box_of (Ok sides) = Ok (Box sides.left sides.bottom sides.right sides.top)
+box_of (Err fault) = Err fault
 
 abbrev pub box_says : List (List ℕ) → Result Command LineFault
-box_says (left ∷ bottom ∷ right ∷ top ∷ []) = box_of (number_of left) (number_of bottom) (number_of right) (number_of top)
-box_says _ = Err UnknownCommand
+box_says words = box_of (sides_say words)
 
 abbrev pub paint_says : Names → List (List ℕ) → Result Command LineFault
 paint_says book (name ∷ []) = Ok (Paint (book.type_of name))
@@ -112,18 +123,34 @@ abbrev pub asked_of : (List ℕ → ℕ → Line) → List ℕ → Option ℕ �
 asked_of make name (Some id) = Ok (make name id)
 asked_of make name None = Err NotOpen
 
--- the words after `%close`, `%step` or `%audit`: here too a fault of the name's form comes first, then one of the number of words, and last that no
--- session of the name is open
+-- the words after `%close`, `%step`, `%audit`, `%save` or `%stat`: here too a fault of the name's form comes first, then one of the number of words, and
+-- last that no session of the name is open
 unfoldable pub asks_says : Names → (List ℕ → ℕ → Line) → List (List ℕ) → Result Line LineFault
 asks_says book make [] = Err BadName
 asks_says book make (name ∷ []) = if is_session_name name then asked_of make name (book.session name) else Err BadName
 asks_says book make (name ∷ more ∷ words) = if is_session_name name then Err UnknownCommand else Err BadName
+
+-- the line that looks at a session
+abbrev pub look_line : Look → List ℕ → ℕ → Line
+look_line look name id = LookAt name id look
 
 -- the line that asks this
 abbrev pub asked_line : Asked → List ℕ → ℕ → Line
 asked_line AsksClose name id = Close name id
 asked_line AsksStep name id = Step name id
 asked_line AsksAudit name id = Audit name id
+asked_line (AsksLook look) name id = look_line look name id
+
+-- why a square between these lines is forbidden, in the open session of a name
+abbrev pub why_of : Names → List ℕ → Result Sides LineFault → Result Line LineFault
+why_of book name (Ok sides) = asked_of (look_line (WhyLook sides.left sides.bottom sides.right sides.top)) name (book.session name)
+why_of book name (Err fault) = Err fault
+
+-- the words after `%why`: a fault of the name's form comes first, then one of the number of words, then one of a number, and last that no session of the
+-- name is open
+unfoldable pub why_says : Names → List (List ℕ) → Result Line LineFault
+why_says book [] = Err BadName
+why_says book (name ∷ words) = if is_session_name name then why_of book name (sides_say words) else Err BadName
 
 unfoldable pub words_say : Names → List (List ℕ) → Result Line LineFault
 words_say book [] = Ok Silent
@@ -132,7 +159,10 @@ words_say book (word ∷ words) =
     else (if same_word word (codes "%close") then asks_says book Close words
     else (if same_word word (codes "%step") then asks_says book Step words
     else (if same_word word (codes "%audit") then asks_says book Audit words
-    else (if begins_with 37 word then Err UnknownCommand else session_says book word words))))
+    else (if same_word word (codes "%save") then asks_says book (look_line SaveLook) words
+    else (if same_word word (codes "%stat") then asks_says book (look_line StatusLook) words
+    else (if same_word word (codes "%why") then why_says book words
+    else (if begins_with 37 word then Err UnknownCommand else session_says book word words)))))))
 
 -- a line as it was read: one that is too long is a fault whatever it holds, and a comment begins with `#` in its very first byte
 unfoldable pub line_says : Names → Option (List ℕ) → Result Line LineFault

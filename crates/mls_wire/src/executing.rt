@@ -38,6 +38,7 @@ fn execute(alloc: Global, server: &mut Server, said: Line) -> Response
         Line::Close(name, id) => ask(alloc, server, name, Event::Close(id)),
         Line::Step(name, id) => ask(alloc, server, name, Event::Step(id)),
         Line::Audit(name, id) => Response::Audited(name, entries_of(server, id)),
+        Line::Look(name, id, look) => ask(alloc, server, name, Event::Look(id, look)),
         Line::Run(name, id, command) => ask(alloc, server, name, command_event(id, command)),
     }
 }

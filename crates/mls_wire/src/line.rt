@@ -1,6 +1,6 @@
 //! The meaning of a line of a script.
 use mls_server::{Name, SessionId};
-use mls_session::Command;
+use mls_session::{Command, Look};
 use thiserror::Error;
 
 /// What a line says. A session that must be open has its id beside its name.
@@ -16,6 +16,8 @@ pub enum Line {
     Step(Name, SessionId),
     /// Asks for the number of entries of a session's journal.
     Audit(Name, SessionId),
+    /// Looks at a session as it is, outside its journal.
+    Look(Name, SessionId, Look),
     /// Carries out a command in a session.
     Run(Name, SessionId, Command),
 }

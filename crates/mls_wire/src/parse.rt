@@ -1,14 +1,14 @@
 //! From a line to what it says.
 ghost use Rattle.std.specs.Prelude.{◌≡◌};
 ghost use Rattle.mls_text.specs.Fields.{fields_of};
-ghost use Rattle.mls_wire.specs.Says.{asked_line, asks_says, box_says, command_of, drc_says, dump_says, edit_of, erase_says, line_says, open_says, paint_says, save_says, session_says, types_named, what_says, words_say};
+ghost use Rattle.mls_wire.specs.Says.{asked_line, asks_says, box_says, command_of, drc_says, dump_says, edit_of, erase_says, line_says, open_says, paint_says, save_says, session_says, sides_say, types_named, what_says, why_says, words_say};
 ghost use Rattle.mls_wire.specs.ScriptLines.{text_of};
 
 use crate::number::number_of;
 use crate::{Line, LineFault, Names, ScriptLine};
 use mls_kinds::KindSet;
 use mls_server::{Name, SessionId};
-use mls_session::Command;
+use mls_session::{Command, Look};
 use mls_text::{Fields, Words};
 
 /// What a line asks of an open session by the session's name alone.
@@ -17,6 +17,7 @@ enum Asked {
     Close,
     Step,
     Audit,
+    Look(Look),
 }
 
 impl Asked {
@@ -28,8 +29,17 @@ impl Asked {
             Asked::Close => Line::Close(name, id),
             Asked::Step => Line::Step(name, id),
             Asked::Audit => Line::Audit(name, id),
+            Asked::Look(look) => Line::Look(name, id, look),
         }
     }
+}
+
+/// The four lines round a rectangle.
+struct Sides {
+    left: i32,
+    bottom: i32,
+    right: i32,
+    top: i32,
 }
 
 /// Returns what a line says, or its first fault.
@@ -55,6 +65,9 @@ fn parse_words<N: Names>(names: &N, mut words: Words) -> Result<Line, LineFault>
         Some(b"%close") => parse_asked(names, words, Asked::Close),
         Some(b"%step") => parse_asked(names, words, Asked::Step),
         Some(b"%audit") => parse_asked(names, words, Asked::Audit),
+        Some(b"%save") => parse_asked(names, words, Asked::Look(Look::Save)),
+        Some(b"%stat") => parse_asked(names, words, Asked::Look(Look::Status)),
+        Some(b"%why") => parse_why(names, words),
         Some([b'%', ..]) => Err(LineFault::UnknownCommand),
         Some(name) => parse_session(names, name, words),
     }
@@ -72,7 +85,7 @@ fn parse_open(mut words: Words) -> Result<Line, LineFault>
     }
 }
 
-/// Returns what the words after `%close`, `%step` or `%audit` say.
+/// Returns what the words after `%close`, `%step`, `%audit`, `%save` or `%stat` say.
 #[tactic(auto, unfolding(crate::specs::Says::asks_says))]
 fn parse_asked<N: Names>(names: &N, mut words: Words, asked: Asked) -> Result<Line, LineFault>
     ensures { result ≡ asks_says (N.book names.now) (asked_line asked) words.entry }
@@ -83,6 +96,28 @@ fn parse_asked<N: Names>(names: &N, mut words: Words, asked: Asked) -> Result<Li
     }
     let id = names.session(&name).ok_or(LineFault::NotOpen)?;
     Ok(asked.line(name, id))
+}
+
+/// Returns what the words after `%why` say.
+#[tactic(auto, unfolding(crate::specs::Says::why_says))]
+fn parse_why<N: Names>(names: &N, mut words: Words) -> Result<Line, LineFault>
+    ensures { result ≡ why_says (N.book names.now) words.entry }
+{
+    let name = words.next().and_then(Name::new).ok_or(LineFault::BadName)?;
+    let Sides {
+        left,
+        bottom,
+        right,
+        top,
+    } = parse_sides(words)?;
+    let id = names.session(&name).ok_or(LineFault::NotOpen)?;
+    let look = Look::Why {
+        left,
+        bottom,
+        right,
+        top,
+    };
+    Ok(Line::Look(name, id, look))
 }
 
 /// Returns what a session's name and the words after it say.
@@ -125,9 +160,27 @@ fn parse_edit<N: Names>(names: &N, verb: &[u8], words: Words) -> Result<Command,
 }
 
 /// Returns the command of the words after `box`.
-#[tactic(auto, unfolding(crate::specs::Says::box_of))]
-fn parse_box(mut words: Words) -> Result<Command, LineFault>
+fn parse_box(words: Words) -> Result<Command, LineFault>
     ensures { result ≡ box_says words.entry }
+{
+    let Sides {
+        left,
+        bottom,
+        right,
+        top,
+    } = parse_sides(words)?;
+    Ok(Command::Box {
+        left,
+        bottom,
+        right,
+        top,
+    })
+}
+
+/// Returns the four lines of the words.
+#[tactic(auto, unfolding(crate::specs::Says::sides_say, crate::specs::Says::sides_of))]
+fn parse_sides(mut words: Words) -> Result<Sides, LineFault>
+    ensures { result ≡ sides_say words.entry }
 {
     let (Some(left), Some(bottom), Some(right), Some(top), None) = (
         words.next(),
@@ -144,7 +197,7 @@ fn parse_box(mut words: Words) -> Result<Command, LineFault>
         number_of(right),
         number_of(top),
     ) {
-        (Some(left), Some(bottom), Some(right), Some(top)) => Ok(Command::Box {
+        (Some(left), Some(bottom), Some(right), Some(top)) => Ok(Sides {
             left,
             bottom,
             right,

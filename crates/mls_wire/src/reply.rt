@@ -14,7 +14,7 @@ use mls_edgerule::RuleSet;
 use mls_errorplane::Stepped;
 use mls_kinds::KindSet;
 use mls_server::{Answer, Name, NotOpen, OpenFault};
-use mls_session::{Refusal, Reply};
+use mls_session::{Looked, Refusal, Reply, Status};
 use std::alloc::AllocError;
 
 /// Appends the reply text of the response to line `n`.
@@ -64,6 +64,25 @@ pub fn push_saved<N: Names>(
     }
 }
 
+/// Appends the reply text to a look, and the text that comes with it.
+#[tactic(auto, unfolding(crate::specs::Replies::answer_text))]
+pub fn push_looked<N: Names>(
+    names: &N,
+    name: &Name,
+    looked: &Result<Looked, NotOpen>,
+    text: &[u8],
+    out: &mut Vec<u8>,
+) -> Result<(), AllocError>
+    ensures { OnOk result (out.new.items ≡ out.old.items
+        ++ spec.answer_text (N.book names.now) name.now (Answer.Looked looked.now text.now)) }
+{
+    let Ok(looked) = looked else { return Ok(()) };
+    push_words(name, b" ", out)?;
+    push_look(names, looked, out)?;
+    out.push(b'\n')?;
+    out.extend_from_slice(text)
+}
+
 /// Appends that the list of the session's seat isn't that of its journal.
 pub fn push_differs(name: &Name, out: &mut Vec<u8>) -> Result<(), AllocError>
     ensures { OnOk result (out.new.items ≡ out.old.items ++ differs_text name.now) }
@@ -87,6 +106,7 @@ fn push_answer<N: Names>(
         Answer::Closed(Ok(_)) => push_words(name, b" closed\n", out),
         Answer::Commanded(Ok(reply)) => push_replied(names, name, *reply, b"", out),
         Answer::Saved(Ok(reply), text) => push_replied(names, name, *reply, text.as_bytes(), out),
+        Answer::Looked(looked, text) => push_looked(names, name, looked, text.as_bytes(), out),
         Answer::Stepped(Ok(end)) => {
             push_words(name, b" step ", out)?;
             out.extend_from_slice(stepped_text(*end).as_bytes())?;
@@ -187,6 +207,82 @@ fn push_reply<N: Names>(names: &N, reply: Reply, out: &mut Vec<u8>) -> Result<()
             push_pending(pending, out)
         }
     }
+}
+
+/// Appends what a look returned, without its line's first word and its line feed.
+#[tactic(auto, unfolding(crate::specs::Replies::looked_text))]
+fn push_look<N: Names>(names: &N, looked: &Looked, out: &mut Vec<u8>) -> Result<(), AllocError>
+    ensures { OnOk result (out.new.items ≡ out.old.items ++ spec.looked_text (N.book names.now) looked.now) }
+{
+    match looked {
+        Looked::Saved(lines) => push_reply(names, Reply::Saved(*lines), out),
+        Looked::Why(rules) => push_reply(names, Reply::Why(*rules), out),
+        Looked::Status(status) => push_status(status, out),
+        Looked::Refused(refusal) => push_reply(names, Reply::Refused(*refusal), out),
+    }
+}
+
+/// Appends how far a session has come, and how many tiles its planes have.
+fn push_status(status: &Status, out: &mut Vec<u8>) -> Result<(), AllocError>
+    ensures { OnOk result (out.new.items ≡ out.old.items ++ spec.status_text status.now) }
+{
+    out.extend_from_slice(b"stat ")?;
+    push_progress(status, out)?;
+    out.extend_from_slice(b",")?;
+    push_room(status, out)
+}
+
+/// Appends how far a session has come.
+fn push_progress(status: &Status, out: &mut Vec<u8>) -> Result<(), AllocError>
+    ensures { OnOk result (out.new.items ≡ out.old.items ++ spec.progress_text status.now) }
+{
+    push_share(status.entries as u64, status.limit as u64, out)?;
+    out.extend_from_slice(b" entries, ")?;
+    push_checks(status, out)
+}
+
+/// Appends how many check steps a session did since its last entry, and how many areas await checking.
+#[tactic(auto, unfolding(crate::specs::Replies::checks_text))]
+fn push_checks(status: &Status, out: &mut Vec<u8>) -> Result<(), AllocError>
+    ensures { OnOk result (out.new.items ≡ out.old.items ++ spec.checks_text status.now) }
+{
+    push_decimal(status.steps, out)?;
+    out.extend_from_slice(b" steps since, ")?;
+    push_decimal(status.areas as u64, out)?;
+    out.extend_from_slice(b" dirty")
+}
+
+/// Appends how many tiles the planes of a session have.
+#[tactic(auto, unfolding(crate::specs::Replies::room_text))]
+fn push_room(status: &Status, out: &mut Vec<u8>) -> Result<(), AllocError>
+    ensures { OnOk result (out.new.items ≡ out.old.items ++ spec.room_text status.now) }
+{
+    push_tiles(status.tiles.as_slice(), out)?;
+    out.extend_from_slice(b" of ")?;
+    push_decimal(status.quota, out)?;
+    out.extend_from_slice(b" tiles, ")?;
+    push_share(status.mark_tiles as u64, status.quota as u64, out)?;
+    out.extend_from_slice(b" mark tiles")
+}
+
+/// Appends a number and the most that it may be.
+fn push_share(count: u64, limit: u64, out: &mut Vec<u8>) -> Result<(), AllocError>
+    ensures { OnOk result (out.new.items ≡ out.old.items ++ spec.share_text count limit) }
+{
+    push_decimal(count, out)?;
+    out.extend_from_slice(b" of ")?;
+    push_decimal(limit, out)
+}
+
+/// Appends the number of tiles of each plane after a space.
+fn push_tiles(counts: &[u32], out: &mut Vec<u8>) -> Result<(), AllocError>
+    ensures { OnOk result (out.new.items ≡ out.old.items ++ flat_map spec.tiles_text counts.now) }
+{
+    for count in counts {
+        out.push(b' ')?;
+        push_decimal(*count, out)?;
+    }
+    Ok(())
 }
 
 /// Appends the number and the text of a refusal.

@@ -3,7 +3,7 @@ ghost use Rattle.std.specs.Prelude.{◌≡◌, ◌++◌, ◌==◌, ℕ, List, ma
 ghost use Rattle.std.specs.List.{position};
 ghost use Rattle.std.specs.Option.{option_map};
 ghost use Rattle.mls_paint.specs.Owners.{ChangesAmong};
-ghost use Rattle.mls_server.specs.Events.{DoesCommand, DoesFinish, DoesGrab, DoesStep, SavesText};
+ghost use Rattle.mls_server.specs.Events.{DoesCommand, DoesFinish, DoesGrab, DoesStep, LooksAt, SavesText};
 ghost use Rattle.mls_server.specs.Servers.{owners_under, place_in, world_of};
 ghost use Rattle.mls_server.specs.Worlds.{kept_in};
 
@@ -11,7 +11,7 @@ use super::Server;
 use crate::{GrabFault, NotOpen, SessionId};
 use mls_checker::Finding;
 use mls_errorplane::{Outcome, Stepped};
-use mls_session::{Command, Entry, Job, Reply};
+use mls_session::{Command, Entry, Job, Look, Looked, Reply};
 use std::alloc::Global;
 
 impl Server {
@@ -56,6 +56,33 @@ impl Server {
             return Err(NotOpen);
         };
         Ok(asked.session.save(setup, out, workspace))
+    }
+
+    /// Looks at a session as it is: appends the text that a look asks for, and returns what goes before it. Nothing
+    /// changes, and nothing is appended where the look is refused.
+    pub fn look(
+        &mut self,
+        alloc: Global,
+        id: SessionId,
+        look: Look,
+        out: &mut Vec<u8>,
+    ) -> Result<Looked, NotOpen>
+        ensures looks { (text : List ℕ) × LooksAt (world_of self.old) id look result text
+            × (out.new.items ≡ out.old.items ++ text) }
+        ensures same { world_of self.new ≡ world_of self.old }
+        ensures frame { self.new.pool ≡ self.old.pool }
+    {
+        let place = self.place_of(id);
+        let Server {
+            setup,
+            workspace,
+            sessions,
+            ..
+        } = self;
+        let Some(asked) = sessions.get_index_mut(place) else {
+            return Err(NotOpen);
+        };
+        Ok(asked.session.look(alloc, setup, look, out, workspace))
     }
 
     /// Returns what a check of a session's first piece needs, if an area awaits checking. Nothing changes.

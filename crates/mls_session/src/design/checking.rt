@@ -1,5 +1,6 @@
 //! Commands on what awaits checking, and on the marks.
-ghost use Rattle.std.specs.Prelude.{◌≡◌};
+ghost use Rattle.std.specs.Prelude.{◌≡◌, IfOk};
+ghost use Rattle.mls_checker.specs.Findings.{violated_rules};
 ghost use Rattle.mls_errorplane.specs.DirtyLists.{IsDirtyList};
 ghost use Rattle.mls_errorplane.specs.ErrorPlanes.{checking_of};
 ghost use Rattle.mls_session.specs.Inner.{Counts, caught_up_reply, steps_of};
@@ -11,13 +12,13 @@ ghost use Rattle.mls_tilepool.specs.Pools.{Pool};
 use super::Design;
 use crate::executed::Executed;
 use crate::{Command, Refusal, Reply, Setup};
-use mls_edgerule::Rules;
+use mls_edgerule::{RuleSet, Rules};
 use mls_errorplane::{CaughtUp, Workspace, why};
 use mls_geom::Rect;
-use std::alloc::Global;
+use std::alloc::{AllocError, Global};
 
 impl Design {
-    ghost use Rattle.mls_session.specs.Designs.{IsHome, IsMadeFor, KeepsPlanes, OnRefused, designed_of};
+    ghost use Rattle.mls_session.specs.Designs.{IsHome, IsMadeFor, KeepsPlanes, OnRefused, designed_of, drawn_of};
 
     /// The areas that await checking lie in the world, and are few. Does nothing: the contract is the law.
     pub fn has_legal_areas(&self)
@@ -94,12 +95,28 @@ impl Design {
         let Some(rect) = self.box_rect else {
             return Reply::Refused(Refusal::NoBox);
         };
-        let Workspace { pool, scratch, .. } = workspace;
-        let planes = &mut self.planes;
-        match why(alloc, pool, planes, &setup.rules, rect, scratch) {
+        match self.why_in(alloc, setup, rect, workspace) {
             Ok(violated) => Reply::Why(violated),
             Err(_) => Reply::Refused(Refusal::Memory),
         }
+    }
+
+    /// Returns the rules that forbid some square of a rectangle.
+    pub fn why_in(
+        &mut self,
+        alloc: Global,
+        setup: &Setup,
+        rect: Rect,
+        workspace: &mut Workspace,
+    ) -> Result<RuleSet, AllocError>
+        requires home { IsHome workspace.old.pool self.old }
+        ensures value { IfOk result (λ violated. violated
+            ≡ violated_rules setup.now.rules rect (drawn_of workspace.old.pool self.old).layout) }
+        ensures same { self.new ≡ self.old }
+        ensures pool { workspace.new.pool ≡ workspace.old.pool }
+    {
+        let Workspace { pool, scratch, .. } = workspace;
+        why(alloc, pool, &mut self.planes, &setup.rules, rect, scratch)
     }
 
     /// Returns how many squares are marked, and how many areas await checking.

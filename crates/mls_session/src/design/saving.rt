@@ -1,5 +1,5 @@
 //! The text of a design's layout, as a cell file.
-ghost use Rattle.std.specs.Prelude.{◌≡◌, ◌≤◌, ◌++◌, IfSome, OnOk, OnErr, length};
+ghost use Rattle.std.specs.Prelude.{◌≡◌, ◌≤◌, ◌++◌, IfOk, IfSome, OnOk, OnErr, length};
 ghost use Rattle.mls_library.specs.SavedCells.{Extends, HoldsOwnTypes, ReadsAs, saved_line_count, saved_text};
 ghost use Rattle.mls_tech.specs.Readings.{plane_of_type};
 ghost use Rattle.mls_session.specs.Inner.{ListsPlane};
@@ -19,10 +19,10 @@ const OTHER_LINES: usize = 3;
 impl Design {
     ghost use Rattle.mls_session.specs.Designs.{IsHome, drawn_of};
 
-    /// Appends the text of the layout, as a cell file, and returns the number of its lines.
+    /// Carries out [`Command::Save`](crate::Command::Save), and appends the text of the layout, as a cell file.
     ///
     /// Out of memory, appends nothing and returns a refusal.
-    pub fn save_text(&self, tech: &Tech, out: &mut Vec<u8>, workspace: &mut Workspace) -> Reply
+    pub fn save(&self, tech: &Tech, out: &mut Vec<u8>, workspace: &mut Workspace) -> Reply
         requires home { IsHome workspace.old.pool self.now }
         requires made_for { length self.now.planes ≡ tech.now.plane_count }
         ensures saves { SavesText tech.now (drawn_of workspace.old.pool self.now).layout result out.old.items
@@ -32,12 +32,39 @@ impl Design {
             (drawn_of workspace.old.pool self.now).layout }
         ensures pool { workspace.new.pool ≡ workspace.old.pool }
     {
+        match self.save_text(tech, out, workspace) {
+            Ok(lines) => Reply::Saved(lines),
+            Err(_) => Reply::Refused(Refusal::Memory),
+        }
+    }
+
+    /// Appends the text of the layout, as a cell file, and returns the number of its lines.
+    ///
+    /// Out of memory, appends nothing.
+    pub fn save_text(
+        &self,
+        tech: &Tech,
+        out: &mut Vec<u8>,
+        workspace: &mut Workspace,
+    ) -> Result<usize, AllocError>
+        requires home { IsHome workspace.old.pool self.now }
+        requires made_for { length self.now.planes ≡ tech.now.plane_count }
+        ensures count { IfOk result (λ lines. lines
+            ≡ saved_line_count tech.now (drawn_of workspace.old.pool self.now).layout) }
+        ensures text { OnOk result (out.new.items ≡ out.old.items ++ saved_text tech.now
+            (drawn_of workspace.old.pool self.now).layout) }
+        ensures refused { OnErr result (out.new.items ≡ out.old.items) }
+        ensures reads_back { HoldsOwnTypes tech.now (drawn_of workspace.old.pool self.now).layout
+            → ReadsAs tech.now (saved_text tech.now (drawn_of workspace.old.pool self.now).layout)
+            (drawn_of workspace.old.pool self.now).layout }
+        ensures pool { workspace.new.pool ≡ workspace.old.pool }
+    {
         let len = out.len();
         match self.push_text(tech, out, workspace) {
-            Ok(()) => Reply::Saved(self.count_lines(tech, workspace)),
-            Err(_) => {
+            Ok(()) => Ok(self.count_lines(tech, workspace)),
+            Err(error) => {
                 out.truncate(len);
-                Reply::Refused(Refusal::Memory)
+                Err(error)
             }
         }
     }

@@ -1,4 +1,4 @@
-use Rattle.std.proofs.Common.{rules, ◌≡◌, ◌+◌, [], Result, subst, sym, arith}
+use Rattle.std.proofs.Common.{Result, subst, arith}
 use Rattle.mls_wire.specs.declared.line.Line.{Line}
 use Rattle.mls_wire.specs.declared.line.LineFault.{LineFault}
 use Rattle.mls_crew.specs.Books.{labels_of}

@@ -1,8 +1,6 @@
-use Rattle.std.proofs.Common.{rules, ◌≡◌, ◌++◌, ◌+◌, ℕ, List, [], take, take_all, append_assoc, append-nil, refl, sym, ap, subst, ◌∙◌}
+use Rattle.std.proofs.Common.{◌++◌, ℕ, List, [], append_assoc, append-nil, refl, sym, ap, ◌∙◌}
 use Rattle.mls_live.specs.Lists.{list_of}
 use Rattle.mls_crew.specs.Books.{labels_of}
-use Rattle.mls_crew.specs.Groups.{SaysLines, lines_of}
-use Rattle.mls_crew.specs.declared.seat_line.Handed.{Handed}
 use Rattle.mls_crew.proofs.LineLists.{says_mine, says_other}
 use Rattle.mls_crew.proofs.speaking.say_lines.Goals.{then-handed-part+in_ok-say_line, else-handed-part}
 use Rattle.mls_crew.proofs.speaking.say_lines.Goals as goal

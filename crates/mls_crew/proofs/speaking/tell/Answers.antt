@@ -1,4 +1,4 @@
-use Rattle.std.proofs.Common.{◌≡◌, ◌++◌, ℕ, List, [], true, sym, ap, subst, ◌∙◌}
+use Rattle.std.proofs.Common.{◌++◌, ℕ, List, sym, ap, subst, ◌∙◌}
 use Rattle.mls_live.specs.Lists.{list_of}
 use Rattle.mls_server.specs.LegalLists.{IsLegalList}
 use Rattle.mls_session.specs.declared.journal.Said.{Said}

@@ -1,4 +1,4 @@
-use Rattle.std.proofs.Common.{◌≡◌, ◌++◌, ◌∷◌, [], Option, Result, List, ℕ, sym, ap, subst, ◌∙◌}
+use Rattle.std.proofs.Common.{◌++◌, ◌∷◌, [], Option, Result, List, ℕ, sym, ap, subst, ◌∙◌}
 use Rattle.mls_wire.specs.Ahead.{SaysScript, ahead_says}
 use Rattle.mls_wire.specs.LineReaders.{script_ahead}
 use Rattle.mls_wire.specs.declared.line.Line.{Line}

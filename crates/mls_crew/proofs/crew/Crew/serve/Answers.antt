@@ -1,4 +1,4 @@
-use Rattle.std.proofs.Common.{◌≡◌, ℕ, List, Result, subst, sym}
+use Rattle.std.proofs.Common.{ℕ, List, Result, subst, sym}
 use Rattle.std.specs.Io.KnownBytes.{Appends}
 use Rattle.mls_server.specs.Servers.{world_of}
 use Rattle.mls_wire.proofs.Results.{if_err}

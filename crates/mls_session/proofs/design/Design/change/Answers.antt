@@ -1,7 +1,6 @@
 -- No plane is changed unless each would fit.
-use Rattle.std.proofs.Common.{◌≡◌, length, refl, sym, ap, ◌∙◌, subst}
+use Rattle.std.proofs.Common.{◌≡◌, length, refl, sym, ap, ◌∙◌}
 use Rattle.mls_tilepool.specs.Pools.{Pool}
-use Rattle.mls_paint.specs.Owners.{ChangesAmong}
 use Rattle.mls_paint.specs.Planes.{layout_in}
 use Rattle.mls_errorplane.specs.ErrorPlanes.{checking_of}
 use Rattle.mls_session.specs.Inner.{FitsQuota, changed_layout}

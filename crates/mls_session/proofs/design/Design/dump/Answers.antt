@@ -1,5 +1,5 @@
 -- The cell's planes are frozen, and none of the design's.
-use Rattle.std.proofs.Common.{◌≡◌, Some, All, Contains, List, [], ◌∷◌, length, refl, sym, ap, ◌∙◌, arith}
+use Rattle.std.proofs.Common.{◌≡◌, Some, All, Contains, [], ◌∷◌, length, refl, sym, ap, ◌∙◌, arith}
 use Rattle.std.proofs.lemmas.Int.{to_z-of_z}
 use Rattle.std.proofs.lemmas.List.Elements.{Contains-append_left}
 use Rattle.mls_library.specs.Libraries.{IsFrozen}

@@ -1,15 +1,15 @@
-//! Texts of layouts.
+//! Texts of replies.
 ghost use Rattle.std.specs.Prelude.{◌≡◌};
 
 use std::marker::Model;
 
-/// The text of a layout as a cell file.
+/// The lines that follow a reply's first line.
 #[derive(Drop)]
-pub struct SavedText {
+pub struct ReplyText {
     bytes: Vec<u8>,
 }
 
-impl Model for SavedText {
+impl Model for ReplyText {
     ghost use Rattle.std.specs.Prelude.{ℕ, List};
 
     ghost Value = { List ℕ };
@@ -17,12 +17,12 @@ impl Model for SavedText {
     ghost view = { λ text. text.bytes.items };
 }
 
-impl SavedText {
+impl ReplyText {
     /// Creates a text of these bytes.
-    pub(crate) fn new(bytes: Vec<u8>) -> SavedText
+    pub(crate) fn new(bytes: Vec<u8>) -> ReplyText
         ensures { result ≡ bytes.items }
     {
-        SavedText { bytes }
+        ReplyText { bytes }
     }
 
     /// Returns the bytes.

@@ -1,0 +1,101 @@
+//! What can be looked up of a session outside its journal.
+ghost use Rattle.std.specs.Prelude.{◌≡◌, IfOk, length};
+ghost use Rattle.std.specs.List.{All};
+ghost use Rattle.mls_paint.specs.Planes.{HasStrips, layout_in};
+ghost use Rattle.mls_session.specs.Looks.{tile_counts};
+
+use crate::Refusal;
+use mls_edgerule::RuleSet;
+use mls_paint::tile_count;
+use mls_stitch::Plane;
+use mls_tilepool::Pool;
+use std::alloc::{AllocError, Global};
+use std::marker::Model;
+
+/// A question about a session as it is now. It is no command: nothing changes, and the journal has no entry of it.
+#[derive(Clone, Copy, Debug, PartialEq, Eq)]
+pub enum Look {
+    /// The text of the layout, as a cell file.
+    Save,
+    /// The rules that forbid some square between these lines of the world.
+    Why {
+        left: i32,
+        bottom: i32,
+        right: i32,
+        top: i32,
+    },
+    /// How far the session has come, and how many tiles its planes have.
+    Status,
+}
+
+/// The answer to a look.
+#[derive(Drop)]
+pub enum Looked {
+    /// The number of lines of the layout's text.
+    Saved(usize),
+    /// The rules that forbid some square of the rectangle.
+    Why(RuleSet),
+    /// How far the session has come.
+    Status(Status),
+    /// There is no such rectangle, or memory ran out.
+    Refused(Refusal),
+}
+
+/// How far a session has come, and how many tiles its planes have.
+#[derive(Drop)]
+pub struct Status {
+    /// How many entries the journal has.
+    pub entries: usize,
+    /// How many it may have.
+    pub limit: usize,
+    /// How many check steps were done since the last entry.
+    pub steps: u64,
+    /// How many areas await checking.
+    pub areas: usize,
+    /// How many tiles each plane of the layout has.
+    pub tiles: TileCounts,
+    /// How many tiles each plane may have.
+    pub quota: u32,
+    /// How many tiles the error plane has.
+    pub mark_tiles: u32,
+}
+
+/// The number of tiles of each plane, in the order of the planes.
+#[derive(Drop)]
+pub struct TileCounts {
+    counts: Vec<u32>,
+}
+
+impl Model for TileCounts {
+    ghost use Rattle.std.specs.Prelude.{ℕ, List};
+
+    ghost Value = { List ℕ };
+
+    ghost view = { λ tiles. tiles.counts.items };
+}
+
+impl TileCounts {
+    /// Counts the tiles of each of these planes.
+    pub(crate) fn of_planes(
+        alloc: Global,
+        pool: &Pool,
+        planes: &[Plane],
+    ) -> Result<TileCounts, AllocError>
+        requires { All (λ owner. HasStrips pool.now owner) planes.now }
+        ensures { IfOk result (λ tiles. tiles
+            ≡ tile_counts (length planes.now) (layout_in pool.now planes.now)) }
+    {
+        let mut counts = Vec::with_capacity(alloc, planes.len())?;
+        for plane in planes {
+            counts.push_reserved(tile_count(pool, plane));
+        }
+        Ok(TileCounts { counts })
+    }
+
+    /// Returns the counts, a plane each.
+    pub fn as_slice(&self) -> &[u32]
+        ensures { result.now ≡ self.now }
+    {
+        self.counts.as_slice()
+    }
+}

@@ -1,0 +1,119 @@
+//! Looks at a session.
+ghost use Rattle.std.specs.Prelude.{◌≡◌, ◌++◌, ◌⊎◌, [], IfOk, List, ℕ};
+ghost use Rattle.mls_session.specs.Looks.{IsRect, Looks, status_of, why_in};
+ghost use Rattle.mls_session.specs.Setups.{terms_of};
+
+use super::Session;
+use crate::{Look, Looked, Refusal, Setup, Status, TileCounts};
+use mls_errorplane::Workspace;
+use mls_geom::{Rect, RectFault};
+use mls_tilepool::Pool;
+use std::alloc::{AllocError, Global};
+
+impl Session {
+    ghost use Rattle.mls_session.specs.Sessions.{IsHome, IsMadeFor, kept_of, state_of};
+
+    /// Returns what a look asks for, and appends the text that comes with it. Nothing of the session changes.
+    ///
+    /// Where the look is refused, as it is out of memory, nothing is appended.
+    pub fn look(
+        &mut self,
+        alloc: Global,
+        setup: &Setup,
+        look: Look,
+        out: &mut Vec<u8>,
+        workspace: &mut Workspace,
+    ) -> Looked
+        requires home { IsHome workspace.old.pool self.old }
+        requires made_for { IsMadeFor setup.now self.old }
+        ensures looks { (text : List ℕ) × Looks (terms_of setup.now workspace.old.pool)
+            (kept_of workspace.old.pool self.old) look result text × (out.new.items ≡ out.old.items ++ text) }
+        ensures same { self.new ≡ self.old }
+        ensures pool { workspace.new.pool ≡ workspace.old.pool }
+    {
+        match look {
+            Look::Save => self.look_at_text(setup, out, workspace),
+            Look::Why {
+                left,
+                bottom,
+                right,
+                top,
+            } => {
+                let made = Rect::new(left, bottom, right, top);
+                self.look_at_rules(alloc, setup, made, workspace)
+            }
+            Look::Status => self.look_at_status(alloc, setup, &workspace.pool),
+        }
+    }
+
+    /// Appends the text of the layout, and returns the number of its lines.
+    fn look_at_text(&self, setup: &Setup, out: &mut Vec<u8>, workspace: &mut Workspace) -> Looked
+        requires home { IsHome workspace.old.pool self.now }
+        requires made_for { IsMadeFor setup.now self.now }
+        ensures looks { (text : List ℕ) × Looks (terms_of setup.now workspace.old.pool)
+            (kept_of workspace.old.pool self.now) Look.Save result text × (out.new.items ≡ out.old.items ++ text) }
+        ensures pool { workspace.new.pool ≡ workspace.old.pool }
+    {
+        match self.design.save_text(&setup.tech, out, workspace) {
+            Ok(lines) => Looked::Saved(lines),
+            Err(_) => Looked::Refused(Refusal::Memory),
+        }
+    }
+
+    /// Returns the rules that forbid some square of a rectangle, or why there is no such rectangle.
+    fn look_at_rules(
+        &mut self,
+        alloc: Global,
+        setup: &Setup,
+        made: Result<Rect, RectFault>,
+        workspace: &mut Workspace,
+    ) -> Looked
+        requires home { IsHome workspace.old.pool self.old }
+        ensures looks { (result ≡ why_in setup.now.rules
+            (state_of workspace.old.pool self.old).design.drawn.layout made)
+            ⊎ (IsRect made × (result ≡ Looked.Refused Refusal.Memory)) }
+        ensures same { self.new ≡ self.old }
+        ensures pool { workspace.new.pool ≡ workspace.old.pool }
+    {
+        match made {
+            Ok(rect) => match self.design.why_in(alloc, setup, rect, workspace) {
+                Ok(violated) => Looked::Why(violated),
+                Err(_) => Looked::Refused(Refusal::Memory),
+            },
+            Err(RectFault::Empty) => Looked::Refused(Refusal::EmptyBox),
+            Err(RectFault::Outside) => Looked::Refused(Refusal::OutsideWorld),
+        }
+    }
+
+    /// Returns how far the session has come, and how many tiles its planes have.
+    fn look_at_status(&self, alloc: Global, setup: &Setup, pool: &Pool) -> Looked
+        requires home { IsHome pool.now self.now }
+        requires made_for { IsMadeFor setup.now self.now }
+        ensures { Looks (terms_of setup.now pool.now) (kept_of pool.now self.now) Look.Status result [] }
+    {
+        match self.status(alloc, setup, pool) {
+            Ok(status) => Looked::Status(status),
+            Err(_) => Looked::Refused(Refusal::Memory),
+        }
+    }
+
+    /// Returns how far the session has come, and how many tiles its planes have.
+    fn status(&self, alloc: Global, setup: &Setup, pool: &Pool) -> Result<Status, AllocError>
+        requires home { IsHome pool.now self.now }
+        requires made_for { IsMadeFor setup.now self.now }
+        ensures { IfOk result (λ status. status
+            ≡ status_of (terms_of setup.now pool.now) (kept_of pool.now self.now)) }
+    {
+        let tiles = TileCounts::of_planes(alloc, pool, &self.design.planes)?;
+        let errors = &self.design.errors;
+        Ok(Status {
+            entries: self.journal.entries().len(),
+            limit: setup.limit.entries(),
+            steps: self.journal.checks(),
+            areas: errors.areas(),
+            tiles,
+            quota: setup.quota.tiles(),
+            mark_tiles: errors.tiles(pool),
+        })
+    }
+}
