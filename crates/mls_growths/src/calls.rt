@@ -1,0 +1,245 @@
+//! Calls of a server.
+use crate::scene::Scene;
+use crate::servers::{
+    command, grab, id_a, id_b, load, open, print_reply, run, save, server_after, step,
+    stocked_server,
+};
+use crate::shown::{print_joined, show_server};
+use anyhow::{Context, Result};
+use mls_library::{CellFault, CellId};
+use mls_server::{Answer, Event, GrabFault, Name, NotOpen, Server, SessionId};
+use mls_session::{Command, Job, Reply};
+use std::alloc::{AllocError, Global};
+
+/// A call of a server.
+#[derive(Clone, Copy)]
+pub enum Call {
+    /// Loads a cell.
+    Load,
+    /// Opens session c.
+    Open,
+    Save,
+    Why,
+    CatchUp,
+    Grab,
+    Step,
+    /// Does so many check steps, and nothing else.
+    Steps(u8),
+    /// Answers all events, or those but one.
+    Run(Change),
+}
+
+/// What one of the events is replaced by.
+#[derive(Clone, Copy)]
+pub enum Change {
+    Nothing,
+    /// The event at this place is replaced by one that changes nothing.
+    LeftOut(u8),
+    /// Catching up is replaced by a check step.
+    OneStep,
+}
+
+/// The sessions that the events are of.
+const ASKED: [u8; 6] = *b"caaaab";
+
+/// What a call of a server returns.
+#[derive(Drop)]
+pub enum Told {
+    Loaded(Option<Result<CellId, CellFault>>),
+    Answered(u8, Answer),
+    Saved(Result<Reply, NotOpen>),
+    Ran(Result<Vec<Answer>, AllocError>),
+    LeftOut,
+}
+
+/// A server, and the two calls that are made of it.
+#[derive(Drop)]
+pub struct ServerScene {
+    server: Server,
+    first: Call,
+    again: Call,
+    /// What texts are appended to.
+    out: Vec<u8>,
+    first_events: Vec<Event>,
+    all_events: Vec<Event>,
+}
+
+impl ServerScene {
+    /// Serves a script on a server with the cell.
+    pub fn new(alloc: Global, script: &[u8], first: Call, again: Call) -> Result<ServerScene> {
+        let change = match first {
+            Call::Run(change) => change,
+            _ => Change::Nothing,
+        };
+        let first_events = events(alloc, change)?;
+        let all_events = events(alloc, Change::Nothing)?;
+        let out = Vec::from_slice(alloc, b"kept\n")?;
+        let server = server_after(alloc, script)?;
+        Ok(ServerScene {
+            server,
+            first,
+            again,
+            out,
+            first_events,
+            all_events,
+        })
+    }
+
+    /// As above, before any session is opened.
+    pub fn idle(alloc: Global, call: Call) -> Result<ServerScene> {
+        Ok(ServerScene {
+            server: stocked_server(alloc)?,
+            first: call,
+            again: call,
+            out: Vec::new(alloc),
+            first_events: Vec::new(alloc),
+            all_events: Vec::new(alloc),
+        })
+    }
+}
+
+/// Returns the events that `run` is given.
+fn events(alloc: Global, change: Change) -> Result<Vec<Event>> {
+    let name = Name::new(b"c").context("no name")?;
+    let mut all = vec![in alloc;
+        Event::Open(name),
+        Event::Command(id_a(), Command::Why),
+        Event::Save(id_a()),
+        Event::Grab(id_a()),
+        Event::Step(id_a()),
+        Event::Command(id_b(), Command::CatchUp),
+    ]?;
+    match change {
+        Change::Nothing => {}
+        Change::LeftOut(place) => {
+            if let Some(event) = all.get_mut(usize::from(place)) {
+                *event = Event::Close(SessionId::of(9));
+            }
+        }
+        Change::OneStep => {
+            if let Some(event) = all.last_mut() {
+                *event = Event::Step(id_b());
+            }
+        }
+    }
+    Ok(all)
+}
+
+impl<R: Print> Scene<R> for ServerScene {
+    type Answer = Told;
+
+    fn call(&mut self, _rt: &R, alloc: Global, turn: u8) -> Told {
+        let call = if turn == 0 { self.first } else { self.again };
+        let server = &mut self.server;
+        match call {
+            Call::Load => Told::Loaded(load(alloc, server, b"d")),
+            Call::Open => open_c(alloc, server),
+            Call::Save => Told::Saved(save(server, id_a(), &mut self.out)),
+            Call::Why => commanded(alloc, server, Command::Why),
+            Call::CatchUp => commanded(alloc, server, Command::CatchUp),
+            Call::Grab => Told::Answered(b'a', Answer::Grabbed(grab(alloc, server, id_a()))),
+            Call::Step => Told::Answered(b'a', Answer::Stepped(step(alloc, server, id_a()))),
+            Call::Steps(count) => {
+                for _ in 0..count {
+                    let _ = step(alloc, server, id_a());
+                }
+                Told::LeftOut
+            }
+            Call::Run(_) if turn == 0 => Told::Ran(run(alloc, server, &self.first_events)),
+            Call::Run(_) => Told::Ran(run(alloc, server, &self.all_events)),
+        }
+    }
+
+    fn tell(&mut self, rt: &R, alloc: Global, answer: Told) -> Result<()> {
+        match answer {
+            Told::Loaded(loaded) => print_loaded(rt, loaded),
+            Told::Answered(letter, answer) => print_answer(rt, alloc, &self.server, letter, answer),
+            Told::Saved(saved) => {
+                print_reply(rt, alloc, &self.server, b'a', Answer::Commanded(saved))?;
+                print_joined(rt, &self.out)
+            }
+            Told::Ran(Ok(answers)) => print_answers(rt, alloc, &self.server, answers),
+            Told::Ran(Err(_)) => Ok(println!(rt; "memory")?),
+            Told::LeftOut => Ok(println!(rt; "left out")?),
+        }
+    }
+
+    fn show(self, rt: &R, alloc: Global) -> Result<()> {
+        let ServerScene { mut server, .. } = self;
+        show_server(rt, alloc, &mut server)
+    }
+}
+
+/// Opens session c.
+fn open_c(alloc: Global, server: &mut Server) -> Told {
+    match Name::new(b"c") {
+        Some(name) => Told::Answered(b'c', Answer::Opened(open(alloc, server, name))),
+        None => Told::LeftOut,
+    }
+}
+
+/// Carries out a command in session a.
+fn commanded(alloc: Global, server: &mut Server, asked: Command) -> Told {
+    let reply = command(alloc, server, id_a(), asked);
+    Told::Answered(b'a', Answer::Commanded(reply))
+}
+
+/// Prints how loading a cell ended.
+fn print_loaded<R: Print>(rt: &R, loaded: Option<Result<CellId, CellFault>>) -> Result<()> {
+    match loaded {
+        Some(Ok(_)) => println!(rt; "loaded")?,
+        Some(Err(fault)) => {
+            let (line, number, text) = (fault.line, fault.kind.number(), fault.kind.text());
+            println!(rt; "line {line} fault {number} {text}")?;
+        }
+        None => println!(rt; "not idle")?,
+    }
+    Ok(())
+}
+
+/// Prints the answer to an event on a session.
+fn print_answer<R: Print>(
+    rt: &R,
+    alloc: Global,
+    server: &Server,
+    letter: u8,
+    answer: Answer,
+) -> Result<()> {
+    match answer {
+        Answer::Grabbed(grabbed) => print_grabbed(rt, letter, grabbed),
+        Answer::Closed(_) => Ok(println!(rt; "left out")?),
+        answer => print_reply(rt, alloc, server, letter, answer),
+    }
+}
+
+/// Prints the piece of a job.
+fn print_grabbed<R: Print>(
+    rt: &R,
+    letter: u8,
+    grabbed: Result<Option<Job>, GrabFault>,
+) -> Result<()> {
+    let name = char::from(letter);
+    match grabbed {
+        Ok(Some(job)) => {
+            let (left, bottom) = (job.piece.left(), job.piece.bottom());
+            let (right, top) = (job.piece.right(), job.piece.top());
+            println!(rt; "{name} grab {left} {bottom} {right} {top}")?;
+        }
+        Ok(None) => println!(rt; "{name} grab none")?,
+        Err(fault) => println!(rt; "{name} grab {fault}")?,
+    }
+    Ok(())
+}
+
+/// Prints the answers to the events.
+fn print_answers<R: Print>(
+    rt: &R,
+    alloc: Global,
+    server: &Server,
+    answers: Vec<Answer>,
+) -> Result<()> {
+    for (letter, answer) in ASKED.into_iter().zip(answers) {
+        print_answer(rt, alloc, server, letter, answer)?;
+    }
+    Ok(())
+}

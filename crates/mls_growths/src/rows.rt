@@ -1,0 +1,290 @@
+//! The rows.
+use crate::calls::{Call, Change, ServerScene};
+use crate::checks::CheckScene;
+use crate::frugal::{FrugalCall, FrugalScene};
+use crate::libraries::LibraryScene;
+use crate::making::{Made, Making};
+use crate::scene::play;
+use crate::scripts::ScriptScene;
+use crate::seats::{SeatCall, play_at};
+use crate::servers::stocked_server;
+use anyhow::{Context, Result};
+use std::alloc::Global;
+use std::marker::Brand;
+use std::sync::Wait;
+use std::sync::ledger::Blank;
+
+/// How many times the call of a row is made, each time it is set up.
+const CALLS: [u8; 3] = [0, 1, 2];
+
+/// What a row's call is made of.
+#[derive(Clone, Copy)]
+pub enum Row {
+    Make(Made),
+    /// Loads a cell into a library by itself.
+    LoadAlone,
+    /// Loads a cell into a server's library.
+    Load,
+    /// A call of a server after a script; and the call that is made the first time.
+    Ask {
+        script: &'static [u8],
+        first: Call,
+        again: Call,
+    },
+    Check,
+    Seat(SeatCall),
+    /// Serves so many of the lines first.
+    Serve(usize),
+    Frugal {
+        script: &'static [u8],
+        calls: &'static [FrugalCall],
+    },
+}
+
+/// A bar in session a, whose rules are asked for in a wider box, and one in session b.
+const TWO_BARS: &[u8] = b"%open a
+a box 0 0 1 10
+a paint poly
+a box 0 0 2 10
+%open b
+b box 0 0 2 10
+b paint m1
+";
+
+/// A bar in session a that takes two pieces, and one in session b.
+const LONG_BAR: &[u8] = b"%open a
+a box 0 0 300 1
+a paint poly
+%open b
+b box 0 0 2 10
+b paint m1
+";
+
+/// A bar in session a, and one in session b that takes two pieces.
+const BAR_AND_LONG_BAR: &[u8] = b"%open a
+a box 0 0 1 10
+a paint poly
+a box 0 0 2 10
+%open b
+b box 0 0 300 1
+b paint poly
+";
+
+const OPENED: &[u8] = b"%open a\n";
+
+/// A bar in session a, of which the check is made before the calls.
+const BAR: &[u8] = b"%open a\na box 0 0 1 10\na paint poly\n";
+
+/// A square under the least quota, one beside it, and one apart from them, which is refused.
+const SMALLEST_QUOTA: [FrugalCall; 8] = [
+    FrugalCall::Box(0, 0, 10, 10),
+    FrugalCall::Paint(1),
+    FrugalCall::Box(10, 0, 20, 10),
+    FrugalCall::Paint(1),
+    FrugalCall::Box(0, 20, 1, 21),
+    FrugalCall::Paint(1),
+    FrugalCall::What,
+    FrugalCall::Count,
+];
+
+/// The whole world under the least quota, two of its corners, and a square in its middle, which is refused.
+const WHOLE_WORLD: [FrugalCall; 9] = [
+    FrugalCall::Box(-32_768, -32_768, 32_768, 32_768),
+    FrugalCall::Paint(1),
+    FrugalCall::Box(-32_768, -32_768, -32_767, -32_767),
+    FrugalCall::Paint(2),
+    FrugalCall::Box(32_767, 32_767, 32_768, 32_768),
+    FrugalCall::Paint(2),
+    FrugalCall::Count,
+    FrugalCall::Box(0, 0, 1, 1),
+    FrugalCall::Paint(2),
+];
+
+/// Each other call that takes no memory.
+const OTHERS: [FrugalCall; 14] = [
+    FrugalCall::FinishRef,
+    FrugalCall::Count,
+    FrugalCall::FinishRef,
+    FrugalCall::Box(0, 0, 10, 10),
+    FrugalCall::Erase(1),
+    FrugalCall::Dump,
+    FrugalCall::What,
+    FrugalCall::Check,
+    FrugalCall::Count,
+    FrugalCall::Save,
+    FrugalCall::Finish,
+    FrugalCall::Close,
+    FrugalCall::What,
+    FrugalCall::Close,
+];
+
+/// Reads a row, and sets it up and makes its call once for each number of calls.
+pub fn take_all<R: Print + Wait>(rt: &R, alloc: Global, line: &str) -> Result<()> {
+    let row = read_row(line)?;
+    println!(rt; "{line}")?;
+    for calls in CALLS {
+        println!(rt; "setup")?;
+        take(rt, alloc, &row, calls)?;
+    }
+    Ok(())
+}
+
+/// Reads a row's name, and the number after it, if there is one.
+fn read_row(line: &str) -> Result<Row> {
+    let mut words = line.split_whitespace();
+    let name = words.next().context("no row")?;
+    let number = match words.next() {
+        Some(word) => Some(word.parse::<u8>().context("no number")?),
+        None => None,
+    };
+    row_named(name, number).context("no such row")
+}
+
+/// Returns the row of this name and number.
+fn row_named(name: &str, number: Option<u8>) -> Option<Row> {
+    Some(match name {
+        "tech_read" => Row::Make(Made::Tech),
+        "pool_new" => Row::Make(Made::Pool),
+        "server_new" => Row::Make(Made::Server),
+        "library_load" => Row::LoadAlone,
+        "server_load" => Row::Load,
+        "open" => asks(TWO_BARS, Call::Open),
+        "save" => asks(TWO_BARS, Call::Save),
+        "why" => asks(TWO_BARS, Call::Why),
+        "grab" => asks(TWO_BARS, Call::Grab),
+        "step" => asks(TWO_BARS, Call::Step),
+        "check" => Row::Check,
+        "catchup" => catches_up(TWO_BARS, number),
+        "catchup_in_two_pieces" => catches_up(LONG_BAR, number),
+        "run" => runs(number),
+        "seat" => Row::Seat(SeatCall::Seat),
+        "work" => Row::Seat(SeatCall::Work { left_out: number }),
+        "serve" => Row::Serve(number.map_or(usize::MAX, usize::from)),
+        "smallest_quota" => Row::Frugal {
+            script: OPENED,
+            calls: &SMALLEST_QUOTA,
+        },
+        "whole_world" => Row::Frugal {
+            script: OPENED,
+            calls: &WHOLE_WORLD,
+        },
+        "other_calls" => Row::Frugal {
+            script: BAR,
+            calls: &OTHERS,
+        },
+        _ => return None,
+    })
+}
+
+/// The row of a call of a server after a script.
+fn asks(script: &'static [u8], call: Call) -> Row {
+    Row::Ask {
+        script,
+        first: call,
+        again: call,
+    }
+}
+
+/// The row of catching up after a script; where there is a number, so many check steps are done first in its place.
+fn catches_up(script: &'static [u8], number: Option<u8>) -> Row {
+    Row::Ask {
+        script,
+        first: number.map_or(Call::CatchUp, Call::Steps),
+        again: Call::CatchUp,
+    }
+}
+
+/// The row of a list of events; where there is a number, the event at that place is left out first, or the last is a
+/// check step.
+fn runs(number: Option<u8>) -> Row {
+    let change = match number {
+        None => Change::Nothing,
+        Some(6) => Change::OneStep,
+        Some(place) => Change::LeftOut(place),
+    };
+    Row::Ask {
+        script: BAR_AND_LONG_BAR,
+        first: Call::Run(change),
+        again: Call::Run(Change::Nothing),
+    }
+}
+
+/// Sets a row up, makes its call so many times, and prints the results and what stands.
+fn take<R: Print + Wait>(rt: &R, alloc: Global, row: &Row, calls: u8) -> Result<()> {
+    match *row {
+        Row::Make(what) => take_making(rt, alloc, what, calls),
+        Row::LoadAlone => take_library(rt, alloc, calls),
+        Row::Load => take_idle_server(rt, alloc, calls),
+        Row::Ask {
+            script,
+            first,
+            again,
+        } => take_server(rt, alloc, script, [first, again], calls),
+        Row::Check => take_check(rt, alloc, calls),
+        Row::Seat(asked) => take_seat(rt, alloc, asked, calls),
+        Row::Serve(count) => take_script(rt, alloc, count, calls),
+        Row::Frugal {
+            script,
+            calls: made,
+        } => take_frugal(rt, alloc, script, made, calls),
+    }
+}
+
+/// Makes something new.
+fn take_making<R: Print>(rt: &R, alloc: Global, what: Made, calls: u8) -> Result<()> {
+    play(rt, alloc, Making::new(alloc, what)?, calls)
+}
+
+/// Loads a cell into a library by itself.
+fn take_library<R: Print>(rt: &R, alloc: Global, calls: u8) -> Result<()> {
+    play(rt, alloc, LibraryScene::new(alloc)?, calls)
+}
+
+/// Loads a cell into a server's library.
+fn take_idle_server<R: Print>(rt: &R, alloc: Global, calls: u8) -> Result<()> {
+    play(rt, alloc, ServerScene::idle(alloc, Call::Load)?, calls)
+}
+
+/// Makes a call of a server: first the one, and then the other.
+fn take_server<R: Print>(
+    rt: &R,
+    alloc: Global,
+    script: &'static [u8],
+    asked: [Call; 2],
+    calls: u8,
+) -> Result<()> {
+    let [first, again] = asked;
+    play(
+        rt,
+        alloc,
+        ServerScene::new(alloc, script, first, again)?,
+        calls,
+    )
+}
+
+/// Checks a piece.
+fn take_check<R: Print>(rt: &R, alloc: Global, calls: u8) -> Result<()> {
+    play(rt, alloc, CheckScene::new(alloc, TWO_BARS)?, calls)
+}
+
+/// Serves lines.
+fn take_script<R: Print>(rt: &R, alloc: Global, count: usize, calls: u8) -> Result<()> {
+    play(rt, alloc, ScriptScene::new(alloc, TWO_BARS, count)?, calls)
+}
+
+/// Makes calls that take no memory.
+fn take_frugal<R: Print>(
+    rt: &R,
+    alloc: Global,
+    script: &'static [u8],
+    made: &'static [FrugalCall],
+    calls: u8,
+) -> Result<()> {
+    play(rt, alloc, FrugalScene::new(alloc, script, made)?, calls)
+}
+
+/// Makes a call at a server under a lock.
+fn take_seat<R: Print + Wait>(rt: &R, alloc: Global, asked: SeatCall, calls: u8) -> Result<()> {
+    let server = stocked_server(alloc)?;
+    play_at::<Brand, R>(rt, alloc, server, Blank::new(65), asked, calls)
+}

@@ -1,0 +1,40 @@
+//! What every row goes through.
+use anyhow::Result;
+use std::alloc::Global;
+
+/// What a row sets up, and its call.
+pub trait Scene<R> {
+    /// What the call returns.
+    type Answer: Drop;
+
+    /// Makes the call: for the first time at turn 0.
+    fn call(&mut self, rt: &R, alloc: Global, turn: u8) -> Self::Answer;
+
+    /// Prints what a call has returned.
+    fn tell(&mut self, rt: &R, alloc: Global, answer: Self::Answer) -> Result<()>;
+
+    /// Prints all that stands.
+    fn show(self, rt: &R, alloc: Global) -> Result<()>;
+}
+
+/// Makes the call so many times, prints each answer, and then all that stands.
+pub fn play<R: Print, S: Scene<R> + Drop>(
+    rt: &R,
+    alloc: Global,
+    mut scene: S,
+    calls: u8,
+) -> Result<()> {
+    println!(rt; "made")?;
+    if calls == 0 {
+        println!(rt; "done")?;
+        return scene.show(rt, alloc);
+    }
+    let answer = scene.call(rt, alloc, 0);
+    println!(rt; "done")?;
+    scene.tell(rt, alloc, answer)?;
+    for turn in 1..calls {
+        let answer = scene.call(rt, alloc, turn);
+        scene.tell(rt, alloc, answer)?;
+    }
+    scene.show(rt, alloc)
+}

@@ -1,0 +1,175 @@
+//! Servers, and each call of them by itself.
+//!
+//! What a call of a server ensures speaks of all its sessions, and a proof carries it to the end of the function that
+//! makes the call. So each call stands apart, in a function that ensures nothing.
+ghost use Rattle.std.specs.Prelude.{◌≡◌, [], IfOk};
+ghost use Rattle.mls_server.specs.Servers.{world_of};
+
+use anyhow::{Context, Result};
+use mls_checker::Finding;
+use mls_edgerule::compile;
+use mls_errorplane::{Outcome, Stepped};
+use mls_library::{CellFault, CellId};
+use mls_server::{Answer, Capacity, Event, GrabFault, Name, NotOpen, OpenFault, Server, SessionId};
+use mls_session::{Command, Job, JournalLimit, Quota, Reply};
+use mls_tech::{TECHNOLOGY_M, Tech};
+use mls_wire::{Response, ServeFault, Watched, push_response, serve};
+use std::alloc::{AllocError, Global};
+
+/// How many tiles a session reserves under the least quota: 69 for each of three planes.
+const SESSION: u32 = 3 * 69;
+
+/// The name of the cell that servers have, and its file: 5 tiles on each of two planes.
+pub const CELL_NAME: &[u8] = b"c";
+
+pub const CELL: &[u8] = b"magic
+tech M
+<< poly >>
+rect 0 0 2 4
+<< m1 >>
+rect 1 0 4 3
+<< end >>
+";
+
+/// How many tiles the cell takes.
+const CELL_TILES: u32 = 10;
+
+/// The first two ids that a server gives.
+pub fn id_a() -> SessionId {
+    SessionId::of(1)
+}
+
+pub fn id_b() -> SessionId {
+    SessionId::of(2)
+}
+
+/// Creates a server with technology M and the least quota, whose pool has room for two cells and four sessions, and no
+/// tile more.
+pub fn new_server(alloc: Global) -> Result<Server>
+    ensures { IfOk result (λ server. (world_of server).seats ≡ []) }
+{
+    let capacity = Capacity::new(2 * CELL_TILES + 4 * SESSION).context("no pool")?;
+    let quota = Quota::new(5).context("no quota")?;
+    let limit = JournalLimit::new(64).context("no limit")?;
+    let tech = Tech::read(alloc, TECHNOLOGY_M)?;
+    let rules = compile(&tech)?;
+    Ok(Server::new(alloc, tech, rules, capacity, quota, limit)?)
+}
+
+/// Creates such a server with the cell.
+pub fn stocked_server(alloc: Global) -> Result<Server>
+    ensures { IfOk result (λ server. (world_of server).seats ≡ []) }
+{
+    let mut server = new_server(alloc)?;
+    server.load(alloc, CELL_NAME, CELL)?;
+    Ok(server)
+}
+
+/// Creates such a server with the cell, and serves a script.
+pub fn server_after(alloc: Global, script: &[u8]) -> Result<Server> {
+    let mut server = stocked_server(alloc)?;
+    replies(alloc, &mut server, script)?;
+    Ok(server)
+}
+
+/// Serves a script, and returns the replies.
+pub fn replies(alloc: Global, server: &mut Server, script: &[u8]) -> Result<Vec<u8>> {
+    let mut input = Watched::new(script);
+    let mut output = Watched::new(Vec::new(alloc));
+    serve(alloc, server, &mut input, &mut output)?;
+    Ok(output.into_inner())
+}
+
+/// Serves a script whose replies go to a list that is long enough, and returns how it ended.
+pub fn serve_into(
+    alloc: Global,
+    server: &mut Server,
+    script: &[u8],
+    output: Vec<u8>,
+) -> (Result<(), ServeFault>, Vec<u8>) {
+    let mut input = Watched::new(script);
+    let mut output = Watched::new(output);
+    let ended = serve(alloc, server, &mut input, &mut output);
+    (ended, output.into_inner())
+}
+
+/// Loads a cell of this name with the one file, or returns `None` where a session is open.
+pub fn load(alloc: Global, server: &mut Server, name: &[u8]) -> Option<Result<CellId, CellFault>> {
+    if !server.is_idle() {
+        return None;
+    }
+    Some(server.load(alloc, name, CELL))
+}
+
+/// Opens a session.
+pub fn open(alloc: Global, server: &mut Server, name: Name) -> Result<SessionId, OpenFault> {
+    server.open(alloc, name)
+}
+
+/// Closes a session.
+pub fn close(server: &mut Server, id: SessionId) -> Result<(), NotOpen> {
+    server.close(id)
+}
+
+/// Carries out a command.
+pub fn command(
+    alloc: Global,
+    server: &mut Server,
+    id: SessionId,
+    command: Command,
+) -> Result<Reply, NotOpen> {
+    server.command(alloc, id, command)
+}
+
+/// Saves a layout.
+pub fn save(server: &mut Server, id: SessionId, out: &mut Vec<u8>) -> Result<Reply, NotOpen> {
+    server.save(id, out)
+}
+
+/// Grabs a job.
+pub fn grab(alloc: Global, server: &mut Server, id: SessionId) -> Result<Option<Job>, GrabFault> {
+    server.grab(alloc, id)
+}
+
+/// Does a check step.
+pub fn step(alloc: Global, server: &mut Server, id: SessionId) -> Result<Stepped, NotOpen> {
+    server.step(alloc, id)
+}
+
+/// Finishes a check.
+pub fn finish(server: &mut Server, id: SessionId, finding: Finding) -> Result<Outcome, NotOpen> {
+    server.finish(id, finding)
+}
+
+/// Finishes a check, and leaves what it found to the caller.
+pub fn finish_ref(
+    server: &mut Server,
+    id: SessionId,
+    finding: &Finding,
+) -> Result<Outcome, NotOpen> {
+    server.finish_ref(id, finding)
+}
+
+/// Answers events.
+pub fn run(
+    alloc: Global,
+    server: &mut Server,
+    events: &[Event],
+) -> Result<Vec<Answer>, AllocError> {
+    server.run(alloc, events)
+}
+
+/// Prints the reply line of a session's answer.
+pub fn print_reply<R: Print>(
+    rt: &R,
+    alloc: Global,
+    server: &Server,
+    letter: u8,
+    answer: Answer,
+) -> Result<()> {
+    let name = Name::new(&[letter]).context("no name")?;
+    let mut text = Vec::new(alloc);
+    push_response(server, 1, &Response::Answered(name, answer), &mut text)?;
+    rt.write_all(&text)?;
+    Ok(())
+}
