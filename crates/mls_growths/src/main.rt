@@ -1,9 +1,9 @@
 //! `mls_growths`: makes calls that may run out of memory, and prints what they return and all that stands after them.
 //!
-//! Each line of the input names a row: a call, and what it is made on. A number after the name has something else done in
-//! place of the first call, which leaves what stands where that call is refused halfway. Each row is set up three times,
-//! and its call is made never, once and twice. `setup` is printed before anything is set up, `made` right before the
-//! first call and `done` right after it, so that whoever refuses growths from outside knows which are the call's.
+//! Each line of the input names a row: a call, and what it is made on. A number after the name has something else done
+//! in place of the first call, which leaves what stands where that call is refused halfway. Each row is set up three
+//! times, and its call is made never, once and twice. `setup` is printed before anything is set up, `made` right before
+//! the first call and `done` right after it, so that whoever refuses growths from outside knows which are the call's.
 #![tactic(auto)]
 
 mod calls;

@@ -16,8 +16,8 @@ pub enum Made {
     Server,
 }
 
-/// A technology file with lines of each kind: two names of a plane, joined lines, rules of each keyword, and one that is
-/// skipped.
+/// A technology file with lines of each kind: two names of a plane, joined lines, rules of each keyword, and one that
+/// is skipped.
 const FILE: &[u8] = b"tech
   growths
 end
