@@ -14,8 +14,8 @@ const MOST_PIECES: u8 = 4;
 /// Opens sessions until the pool is full: as many as its unreserved tiles allow.
 const FILL: &[u8] = b"%open p\n%open q\n%open r\n%open s\n%open t\n";
 
-/// Prints all that stands on a server: how many ids were given, each session with its journal, its marks, its layout and
-/// the pieces that await checking, what the cell shows, and how many more sessions the pool has room for.
+/// Prints all that stands on a server: how many ids were given, each session with its journal, its marks, its layout
+/// and the pieces that await checking, and how many more sessions the pool has room for.
 pub fn show_server<R: Print>(rt: &R, alloc: Global, server: &mut Server) -> Result<()> {
     print_ids(rt, server)?;
     for letter in LETTERS {
