@@ -84,10 +84,10 @@ const GROUPED: [(&[&str], &[&str], &str, &str); 3] = [
     ),
     // A saved text, and the same by a look at a journal that is full.
     (
-        &["magicd", "--quota", "9", "--journal", "4", "--workers", "2"],
-        &["magicd", "--quota", "9", "--journal", "4"],
-        "%open a\na box 0 0 10 10\na paint poly\na box 4 4 6 6\na erase poly\na save\n%save a\n%why a 3 3 4 9\n%why a 3 3 3 9\n",
-        "a opened\na ok\na ok\na ok\na ok\na refused 6 journal full\na saved 8\nmagic\ntech M\n<< poly >>\nrect 0 0 10 4\nrect 0 4 4 6\nrect 6 4 10 6\nrect 0 6 10 10\n<< end >>\na why 1 [2] poly spacing\na refused 1 empty box\n",
+        &["magicd", "--quota", "9", "--journal", "5", "--workers", "2"],
+        &["magicd", "--quota", "9", "--journal", "5"],
+        "%open a\na box 0 0 10 10\na paint poly\na box 4 4 6 6\na erase poly\na save\na save\n%save a\n%why a 3 3 4 9\n%why a 3 3 3 9\n",
+        "a opened\na ok\na ok\na ok\na ok\na saved 8\nmagic\ntech M\n<< poly >>\nrect 0 0 10 4\nrect 0 4 4 6\nrect 6 4 10 6\nrect 0 6 10 10\n<< end >>\na refused 6 journal full\na saved 8\nmagic\ntech M\n<< poly >>\nrect 0 0 10 4\nrect 0 4 4 6\nrect 6 4 10 6\nrect 0 6 10 10\n<< end >>\na why 1 [2] poly spacing\na refused 1 empty box\n",
     ),
     // A cell, a rule's text, refusals, and a full journal.
     (
