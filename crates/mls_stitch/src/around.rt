@@ -104,8 +104,8 @@ fn list_round_all(
     }
 }
 
-/// Lists the tiles round the squares that each touched tile loses in turn, other than the ones with the keys. A tile may
-/// be listed more than once.
+/// Lists the tiles round the squares that each touched tile loses in turn, other than the ones with the keys. A tile
+/// may be listed more than once.
 ///
 /// Returns `false` if that takes more than a few steps for each tile of the plane, or there are many to go round.
 fn list_round_lost(

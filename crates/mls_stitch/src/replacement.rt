@@ -5,7 +5,7 @@ ghost use Rattle.std.specs.Option.{option_map};
 use mls_geom::{Piece, Rect};
 use mls_tilepool::TileId;
 
-/// The names of tiles, and the pieces that are to take their place. A name goes to the piece that stands where it stands.
+/// The names of tiles, and the pieces that are to take their place. A name goes to the piece at the same index.
 #[derive(Drop)]
 pub(crate) struct Replacement<'a> {
     pub(crate) touched: &'a [TileId],
