@@ -12,6 +12,7 @@ mod swept;
 
 pub use paint::{Painted, TooManyTiles, fits, overlay, overlay_within};
 pub use planes::{
-    find_area, find_meeting, kinds, release_plane, space_plane, strips_of, tile_count,
+    find_area, find_meeting, find_meeting_in, kinds, release_plane, space_plane, strips_of,
+    tile_count,
 };
 pub use scratch::Scratch;

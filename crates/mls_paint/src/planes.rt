@@ -83,6 +83,18 @@ pub fn find_meeting(pool: &Pool, plane: &mut Plane, area: Rect, scratch: &mut Sc
     plane.meeting(pool, area, &mut scratch.search);
 }
 
+/// Finds the tiles that have a square of the area, in any order, and leaves them in the scratch, as [`find_meeting`]
+/// does, of a plane that may only be read.
+pub fn find_meeting_in(pool: &Pool, plane: &Plane, area: Rect, scratch: &mut Scratch)
+    requires plane { HasPlane pool.now plane.now }
+    requires room { HasRoomFor pool.now plane.now scratch.old }
+    ensures found { MeetArea (block_at (tiles_of pool.now plane.now)) area scratch.new.tiles }
+    ensures rooms { KeepsRoom scratch.old scratch.new }
+{
+    read_count(pool, plane, scratch);
+    plane.list_meeting(pool, area, &mut scratch.search);
+}
+
 /// Finds all tiles of the plane, by bottom and then left, and leaves them in the scratch.
 pub fn strips_of(pool: &Pool, plane: &Plane, scratch: &mut Scratch)
     requires strips { HasStrips pool.now plane.now }

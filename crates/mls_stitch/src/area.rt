@@ -36,10 +36,21 @@ impl Plane {
         ensures plane { self.new ≡ self.old }
         ensures scratch_room { scratch.new.room ≡ scratch.old.room }
     {
-        meeting_into(pool, &self.owner, self.hint, area, &mut scratch.tiles);
+        self.list_meeting(pool, area, scratch);
         if let Some(tile) = scratch.tiles.first() {
             self.hint = tile.id;
         }
+    }
+
+    /// Finds the tiles that have a square of the area, in any order, and leaves them in the scratch, as
+    /// [`meeting`](Plane::meeting) does, of a plane that may only be read.
+    pub fn list_meeting(&self, pool: &Pool, area: Rect, scratch: &mut Scratch)
+        requires plane { HasPlane pool.now self.now }
+        requires room { count_of pool.now self.now ≤ scratch.old.room }
+        ensures found { MeetArea (block_at (tiles_of pool.now self.now)) area scratch.new.tiles }
+        ensures scratch_room { scratch.new.room ≡ scratch.old.room }
+    {
+        meeting_into(pool, &self.owner, self.hint, area, &mut scratch.tiles);
     }
 
     /// Finds all tiles of the plane, by bottom and then left, and leaves them in the scratch.
