@@ -3,9 +3,10 @@ use Rattle.std.proofs.Common.{◌≡◌, ℕ, ◌≤◌, Option, Some, None, Lis
 use Rattle.std.specs.Prelude.{slice_get}
 use Rattle.std.specs.Option.{option_map}
 use Rattle.std.proofs.lemmas.Option.{get_or_from_slice_get, slice_get_within}
+use Rattle.mls_geom.specs.Rects.{Rect}
 use Rattle.mls_tilepool.specs.Pools.{Pool}
 use Rattle.mls_paint.specs.Scratches.{HasRoomFor, Scratch}
-use Rattle.mls_library.specs.Libraries.{IsCellHome, IsFrozen, IsHome, Library, NamedCell, most_tiles}
+use Rattle.mls_library.specs.Libraries.{IsCellHome, IsFrozen, IsHome, Library, NamedCell, ShowsWithin, cell_layout, most_tiles}
 
 -- the cell of which `Library::get` gives the planes
 found_in : (owners : List ℕ) (found : Option NamedCell) → Some owners ≡ option_map (λ cell. cell.planes) found
@@ -16,6 +17,16 @@ found_in owners (Some cell) e = (cell, refl, cc)
 pub cell_found : (cells : Library) (id : ℕ) (owners : List ℕ) → Some owners ≡ option_map (λ cell. cell.planes) (slice_get cells id)
     → (cell : NamedCell) × (slice_get cells id ≡ Some cell) × (cell.planes ≡ owners)
 cell_found cells id owners e = found_in owners (slice_get cells id) e
+
+-- the same of the cell of which it gives the bounds
+bounds_in : (bounds : Option Rect) (found : Option NamedCell) → Some bounds ≡ option_map (λ cell. cell.bounds) found
+    → (cell : NamedCell) × (found ≡ Some cell) × (cell.bounds ≡ bounds)
+bounds_in bounds None e = absurd (cc e)
+bounds_in bounds (Some cell) e = (cell, refl, cc)
+
+pub bounds_found : (cells : Library) (id : ℕ) (bounds : Option Rect) → Some bounds ≡ option_map (λ cell. cell.bounds) (slice_get cells id)
+    → (cell : NamedCell) × (slice_get cells id ≡ Some cell) × (cell.bounds ≡ bounds)
+bounds_found cells id bounds e = bounds_in bounds (slice_get cells id) e
 
 -- what holds of each cell holds of one that is found
 pub All-found : (P : NamedCell → Type 0) (cells : Library) (id : ℕ) (cell : NamedCell) → All P cells → slice_get cells id ≡ Some cell → P cell
@@ -28,6 +39,15 @@ pub IsFrozen-found :
 IsFrozen-found pool cells id owners home e =
     let found = cell_found cells id owners e in
     subst (All (IsFrozen pool)) found.2 (All-found (IsCellHome pool) cells id found.0 home.each found.1).frozen
+
+-- it shows nothing outside its bounds
+pub ShowsWithin-found :
+    (pool : Pool) (cells : Library) (id : ℕ) (bounds : Option Rect) → IsHome pool cells → Some bounds ≡ option_map (λ cell. cell.bounds) (slice_get cells id)
+    → (cell : NamedCell) × (slice_get cells id ≡ Some cell) × ((plane : ℕ) → ShowsWithin bounds (cell_layout pool cell plane))
+ShowsWithin-found pool cells id bounds home e =
+    let found = bounds_found cells id bounds e in
+    let bounded = (All-found (IsCellHome pool) cells id found.0 home.each found.1).bounded in
+    (found.0, found.1, λ plane. subst (λ within. ShowsWithin within (cell_layout pool found.0 plane)) found.2 (bounded plane))
 
 -- and a scratch for as many tiles as a cell's plane may have has room for each
 pub HasRoomFor-IsFrozen : (pool : Pool) (owner : ℕ) (scratch : Scratch) → IsFrozen pool owner → most_tiles ≤ scratch.room → HasRoomFor pool owner scratch

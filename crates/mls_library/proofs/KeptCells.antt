@@ -1,5 +1,6 @@
 -- Cells at home in a pool stay so, and show what they showed, as tiles of other owners change and as owners are added.
-use Rattle.std.proofs.Common.{◌≡◌, ℕ, List, get_or, All, Contains, ap}
+use Rattle.std.proofs.Common.{◌≡◌, ℕ, List, get_or, All, Contains, ap, ◌∙◌}
+use Rattle.mls_geom.specs.Layouts.{Layout}
 use Rattle.mls_stitch.specs.Tilings.{shown}
 use Rattle.mls_tilepool.specs.Pools.{Pool, room_of, tiles_of}
 use Rattle.mls_paint.specs.Owners.{AddsOwners, ChangesAmong}
@@ -25,6 +26,7 @@ module _ (old new : Pool) where
   IsCellHome-kept cell kept home = record {
     frozen = λ k d within. IsFrozen-kept old new (get_or cell.planes k d) (kept k d within).tiles (kept k d within).room (home.frozen k d within);
     apart = home.apart;
+    bounded = λ plane x y outside. ap (λ (layout : Layout). layout plane x y) (cell_layout-kept cell kept) ∙ home.bounded plane x y outside;
   }
 
   pub IsHome-kept : (cells : Library) → All (λ cell. All (IsKept old new) cell.planes) cells → IsHome old cells → IsHome new cells

@@ -1,4 +1,5 @@
 pub mod BuiltPlanes
+pub mod CellBounds
 pub mod CellLayouts
 pub mod CellNames
 pub mod FoundCells

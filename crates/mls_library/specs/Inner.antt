@@ -1,8 +1,9 @@
 -- The words of private contracts: how the reader goes about what the other modules define. A caller needs none of them.
-use Rattle.std.specs.Prelude.{◌≡◌, ◌≢◌, ℕ, ◌<◌, ◌≤◌, ℤ, ⊤, Result, Ok, Err, List, length, map, slice_index_or}
+use Rattle.std.specs.Prelude.{◌≡◌, ◌≢◌, ℕ, ◌<◌, ◌≤◌, ℤ, ⊤, false, Option, Result, Ok, Err, List, length, map, slice_index_or}
 use Rattle.std.specs.List.{All, AllPairs}
 use Rattle.mls_geom.specs.Locality.{AreUnorderedStrips}
 use Rattle.mls_geom.specs.Pictures.{Picture, picture_of}
+use Rattle.mls_geom.specs.Rects.{Rect}
 use Rattle.mls_geom.specs.World.{world}
 use Rattle.mls_geom.specs.declared.piece.Piece.{Piece}
 use Rattle.mls_text.specs.Digits.{value_at_most}
@@ -10,7 +11,7 @@ use Rattle.mls_tilepool.specs.Pools.{Pool}
 use Rattle.mls_paint.specs.Owners.{AddsOwners}
 use Rattle.mls_paint.specs.Planes.{picture_in}
 use Rattle.mls_library.specs.CellFiles.{layout_of, or_fault}
-use Rattle.mls_library.specs.Libraries.{IsFrozen, NamedCell, most_tiles, tile_counts, total}
+use Rattle.mls_library.specs.Libraries.{Cell, IsFrozen, NamedCell, holds_some, most_tiles, tile_counts, total}
 use Rattle.mls_library.specs.declared.cell_rect.CellRect.{CellRect}
 use Rattle.mls_library.specs.declared.fault.CellFaultKind.{CellFaultKind}
 use Rattle.mls_library.specs.declared.fault.CellFaultKind.TheVariants.{OutsideWorld}
@@ -42,9 +43,17 @@ abbrev pub at_distance : (ℕ → ℤ) → Result ℕ CellFaultKind → Result �
 at_distance side (Ok n) = Ok (side n)
 at_distance side (Err fault) = Err fault
 
+-- a cell under a name
+abbrev pub named_cell : List ℕ → Cell → NamedCell
+named_cell name cell = record { name = name; planes = cell.planes; bounds = cell.bounds }
+
 -- the entries of a map from names, as cells
-abbrev pub cells_in : {K V : Type 0} → (K → List ℕ) → (V → List ℕ) → List (K × V) → List NamedCell
-cells_in bytes planes entries = map (λ entry. record { name = bytes entry.0; planes = planes entry.1 }) entries
+abbrev pub cells_in : {K V : Type 0} → (K → List ℕ) → (V → Cell) → List (K × V) → List NamedCell
+cells_in bytes cell entries = map (λ entry. named_cell (bytes entry.0) (cell entry.1)) entries
+
+-- the wider bounds have each square of the others
+abbrev pub IsWider : Option Rect → Option Rect → Type 0
+IsWider bounds wider = (x y : ℕ) → holds_some wider x y ≡ false → holds_some bounds x y ≡ false
 
 -- the list has the strips of the picture, in any order, and shows it
 pub record ArePlaneStrips (picture : Picture) (list : List Piece) : Type 0 where

@@ -1,7 +1,9 @@
 -- What a caller sees of a library, its cells' planes in the pool, and what loading a cell does. This project's own.
-use Rattle.std.specs.Prelude.{◌≡◌, ◌≢◌, ℕ, ◌<◌, ◌≤◌, ◌==◌, Bool, not, ◌||◌, ◌&&◌, nat_lt, nat_le, if◌then◌else◌, is_some, Option, Some, None, Result, Ok, Err, List, [], ◌∷◌, ◌++◌, length, map, position, slice_get}
+use Rattle.std.specs.Prelude.{◌≡◌, ◌≢◌, ℕ, ◌<◌, ◌≤◌, ◌==◌, Bool, not, ◌||◌, ◌&&◌, false, nat_lt, nat_le, if◌then◌else◌, is_some, Option, Some, None, Result, Ok, Err, List, [], ◌∷◌, ◌++◌, length, map, position, slice_get}
 use Rattle.std.specs.List.{All, AllPairs, Contains, list_all, list_any, range_with_len, sum_by}
 use Rattle.mls_geom.specs.Layouts.{Layout}
+use Rattle.mls_geom.specs.Pictures.{Picture}
+use Rattle.mls_geom.specs.Rects.{Rect, holds}
 use Rattle.mls_geom.specs.TileCounts.{tile_count}
 use Rattle.mls_geom.specs.World.{world}
 use Rattle.mls_tech.specs.Readings.{Tech}
@@ -16,10 +18,16 @@ use Rattle.mls_library.specs.declared.fault.CellFault.{CellFault}
 use Rattle.mls_library.specs.declared.fault.CellFaultKind.{CellFaultKind}
 use Rattle.mls_library.specs.declared.fault.CellFaultKind.TheVariants.{Form, TooManyTiles, NameTwice, PoolFull, LibraryFull}
 
--- a cell's name, and the owners of its planes' tiles, the first of plane 0
+-- the owners of the tiles of a cell's planes, the first of plane 0, and a rectangle round all that the cell shows, if it shows anything
+pub record Cell : Type 0 where
+  pub planes : List ℕ
+  pub bounds : Option Rect
+
+-- a cell and its name
 pub record NamedCell : Type 0 where
   pub name : List ℕ
   pub planes : List ℕ
+  pub bounds : Option Rect
 
 -- the cells in the order in which they were loaded; a cell's number is its place
 abbrev pub Library : Type 0
@@ -47,10 +55,20 @@ pub record IsFrozen (pool : Pool) (owner : ℕ) : Type 0 where
   pub few : tile_count world (picture_in pool owner) ≤ most_tiles
   pub reserve : room_of pool owner ≡ Some (tile_count world (picture_in pool owner))
 
--- each plane of a cell is frozen, and they have different owners
+-- the square lies in the rectangle, if there is one
+abbrev pub holds_some : Option Rect → ℕ → ℕ → Bool
+holds_some None x y = false
+holds_some (Some rect) x y = holds rect x y
+
+-- each square outside the bounds is space
+abbrev pub ShowsWithin : Option Rect → Picture → Type 0
+ShowsWithin bounds picture = (x y : ℕ) → holds_some bounds x y ≡ false → picture x y ≡ 0
+
+-- each plane of a cell is frozen, they have different owners, and none shows anything outside the cell's bounds
 pub record IsCellHome (pool : Pool) (cell : NamedCell) : Type 0 where
   pub frozen : All (IsFrozen pool) cell.planes
   pub apart : AllPairs (λ a b. a ≢ b) cell.planes
+  pub bounded : (plane : ℕ) → ShowsWithin cell.bounds (cell_layout pool cell plane)
 
 -- no owner has planes of both cells
 abbrev pub AreApart : NamedCell → NamedCell → Type 0
@@ -115,7 +133,7 @@ with_room planes free (Err fault) = Err fault
 unfoldable pub loading_of : Tech → List (List ℕ) → ℕ → List ℕ → List ℕ → Result (List CellRect) CellFault
 loading_of tech names free name bytes = unless_fault (name_fault names name) (with_room tech.plane_count free (reading_of tech bytes))
 
--- each cell keeps its number, with its name and its planes
+-- each cell keeps its number, with its name, its planes and its bounds
 abbrev pub KeepsCells : Library → Library → Type 0
 KeepsCells before after = (id : ℕ) → id < length before → slice_get after id ≡ slice_get before id
 

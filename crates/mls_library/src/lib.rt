@@ -1,6 +1,7 @@
 //! Library cells: cell files (the `.mag` form of Magic, for flat cells), read into planes of a pool that never change.
 #![tactic(auto)]
 
+mod bounds;
 mod cell;
 mod cell_name;
 mod cell_rect;

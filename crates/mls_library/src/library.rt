@@ -5,6 +5,7 @@ ghost use Rattle.mls_tilepool.specs.Pools.{unreserved};
 ghost use Rattle.mls_library.specs.Inner.{AreBuilt, IsFrozenList};
 ghost use Rattle.mls_library.specs.Libraries as spec;
 
+use crate::bounds::bounds_of;
 use crate::cell::Cell;
 use crate::cell_name::is_cell_name;
 use crate::file::read_cell;
@@ -80,7 +81,10 @@ impl Library {
 
     /// Returns the cell of this number.
     pub fn get(&self, id: CellId) -> Option<&Cell>
-        ensures { option_map (λ cell. cell.now) result ≡ option_map (λ cell. cell.planes) (slice_get self.now id) }
+        ensures planes { option_map (λ cell. cell.now.planes) result
+            ≡ option_map (λ cell. cell.planes) (slice_get self.now id) }
+        ensures bounds { option_map (λ cell. cell.now.bounds) result
+            ≡ option_map (λ cell. cell.bounds) (slice_get self.now id) }
     {
         let (_, cell) = self.cells.get_index(id.index)?;
         Some(cell)
@@ -131,8 +135,10 @@ impl Library {
         let mut scratch = Scratch::new(alloc, MOST_TILES)?;
         self.cells.reserve(1)?;
         // Nothing below fails: the tiles and all memory are there.
+        let bounds = bounds_of(&strips);
         build_planes(pool, &strips, &mut planes, &mut scratch);
-        let (index, _) = self.cells.insert_full(name, Cell::new(planes)).unwrap();
+        let cell = Cell::new(planes, bounds);
+        let (index, _) = self.cells.insert_full(name, cell).unwrap();
         Ok(CellId { index })
     }
 

@@ -1,15 +1,17 @@
-use Rattle.std.proofs.Common.{◌≡◌, ◌<◌, ◌≤◌, [], ◌∷◌, ◌++◌, map, true, Some, None, Err, length, nat_lt, All, ap, sym, subst, ◌∙◌, arith}
+use Rattle.std.proofs.Common.{◌≡◌, ℕ, ◌<◌, ◌≤◌, [], ◌∷◌, ◌++◌, map, true, Some, None, Err, length, nat_lt, All, ap, sym, subst, ◌∙◌, arith}
 use Rattle.std.specs.List.{list_any}
 use Rattle.std.proofs.lemmas.List.{length-map}
 use Rattle.std.proofs.lemmas.List.Elements.{All-push}
+use Rattle.mls_geom.specs.Pictures.{picture_of}
 use Rattle.mls_tilepool.specs.Pools.{unreserved}
 use Rattle.mls_paint.specs.Owners.{AddsOwners}
 use Rattle.mls_library.specs.CellFiles.{reading_of}
-use Rattle.mls_library.specs.Inner.{AreBuilt, cells_in}
+use Rattle.mls_library.specs.Inner.{AreBuilt, cells_in, named_cell}
 use Rattle.mls_library.specs.Libraries as spec
-use Rattle.mls_library.specs.Libraries.{HavePlanes, IsHome, KeepsCells, NamedCell}
+use Rattle.mls_library.specs.Libraries.{HavePlanes, IsHome, KeepsCells, NamedCell, ShowsWithin, cell_layout}
 use Rattle.mls_library.specs.declared.fault.CellFault.{CellFault}
 use Rattle.mls_library.specs.declared.fault.CellFaultKind.TheVariants.{PoolFull, TooManyTiles}
+use Rattle.mls_library.proofs.CellBounds.{AreBuilt-within}
 use Rattle.mls_library.proofs.CellLayouts.{layout_in-rects}
 use Rattle.mls_library.proofs.CellNames.{KeepsCells-append, cells_in-new, place_of_new}
 use Rattle.mls_library.proofs.HomeCells.{IsHome-push}
@@ -80,7 +82,7 @@ build_planes-requires-clause-strips c =
     let strips = c.in_ok-strips.strips.items in
     let listed = rw c.deref.ensures.value at c.in_ok-strips.ensures.strips in
     let number : length strips ≡ c.args.tech.now.plane_count = c.in_ok-strips.ensures.count ∙ c.planes.ensures.value in
-    rw c.deref-3.ensures.value (lists_frozen (λ list. list.items) strips rects c.args.tech.now.plane_count listed number)
+    rw c.deref-4.ensures.value (lists_frozen (λ list. list.items) strips rects c.args.tech.now.plane_count listed number)
 
 pub returns : goal.returns
 returns c =
@@ -95,7 +97,7 @@ returns c =
     let free = unreserved c.args.pool.now in
     let planes = c.args.tech.now.plane_count in
     let built : AreBuilt c.args.pool.now new owners lists =
-    subst (λ found. AreBuilt c.args.pool.now new owners (map (λ list. list.items) found)) c.deref-3.ensures.value c.build_planes.ensures.built
+    subst (λ found. AreBuilt c.args.pool.now new owners (map (λ list. list.items) found)) c.deref-4.ensures.value c.build_planes.ensures.built
     in
     let listed = rw c.deref.ensures.value at c.in_ok-strips.ensures.strips in
     let number : length strips ≡ planes = c.in_ok-strips.ensures.count ∙ c.planes.ensures.value in
@@ -112,18 +114,25 @@ returns c =
     let same : cells_in (λ name. name.items) (λ cell. cell) entries ≡ cells =
     ap (cells_in (λ name. name.items) (λ cell. cell)) c.in_ok-reserve.ensures.entries ∙ c.self.view_is
     in
-    let grown : cells_in (λ name. name.items) (λ cell. cell) c.insert_full.new.self.entries ≡ cells ++ record { name = key.items; planes = owners } ∷ [] =
+    let bounds = c.bounds_of-bounds.result in
+    let cell : NamedCell = record { name = key.items; planes = owners; bounds = bounds } in
+    let grown : cells_in (λ name. name.items) (λ cell. cell) c.insert_full.new.self.entries ≡ cells ++ cell ∷ [] =
     ap (cells_in (λ name. name.items) (λ cell. cell)) inserted.entries
-    ∙ cells_in-new (λ name. name.items) (λ cell. cell) cells entries key same unnamed c.new-2.result
-    ∙ ap (λ planes. cells ++ record { name = key.items; planes = planes } ∷ []) c.new-2.ensures
+    ∙ cells_in-new (λ name. name.items) (λ cell. cell) cells entries key same unnamed c.new-cell.result
+    ∙ ap (λ made. cells ++ named_cell key.items made ∷ []) c.new-cell.ensures
     in
     -- each rectangle that is read lies on a plane of the technology
     let known : All (λ painted. painted.plane < length owners) rects =
     subst (λ n. All (λ painted. painted.plane < n) rects) (sym (built.count ∙ all)) c.in_ok-rects.ensures.known
     in
-    let cell : NamedCell = record { name = key.items; planes = owners } in
+    let within : All (λ list. ShowsWithin bounds (picture_of list.items)) strips =
+    subst (All (λ list. ShowsWithin bounds (picture_of list.items))) c.deref-3.ensures.value c.bounds_of-bounds.ensures
+    in
+    let bounded : (plane : ℕ) → ShowsWithin bounds (cell_layout new cell plane) =
+    AreBuilt-within c.args.pool.now new owners (λ list. list.items) strips bounds built within
+    in
     let home : IsHome new (cells ++ cell ∷ []) =
-    IsHome-push c.args.pool.now new cells cell _ c.requires.home built.added (record { frozen = built.frozen; apart = built.apart })
+    IsHome-push c.args.pool.now new cells cell _ c.requires.home built.added (record { frozen = built.frozen; apart = built.apart; bounded = bounded })
     in
     record {
       loads = (
