@@ -6,5 +6,5 @@ use Rattle.mls_file_tests.proofs.hostile_cells.is_same.Goals as goal
 pub tiles_of-requires : goal.tiles_of-requires
 tiles_of-requires c =
     let pool = c.args.pool.now in
-    let frozen = IsFrozen-found pool c.args.library.now c.args.id c.in-Some.cell.now c.requires c.in-Some.ensures in
+    let frozen = IsFrozen-found pool c.args.library.now c.args.id c.in-Some.cell.now.planes c.requires c.in-Some.ensures.planes in
     subst (All (IsFrozen pool)) (sym c.planes.ensures) frozen

@@ -18,14 +18,14 @@ pub cell_leaves_world-requires-clause-cell : goal.cell_leaves_world-requires-cla
 cell_leaves_world-requires-clause-cell c =
     let planes = c.planes-planes.result.now in
     let library = c.args.setup.now.library in
-    let there : HasPlanes library c.in-Some.id planes = ap (λ owners. Some owners) c.planes-planes.ensures ∙ c.in-Some-get.ensures in
+    let there : HasPlanes library c.in-Some.id planes = ap (λ owners. Some owners) c.planes-planes.ensures ∙ c.in-Some-get.ensures.planes in
     planes_there (All (IsFrozen c.args.workspace.now.pool)) library c.in-Some.id planes (λ k d within. (c.requires.can_dump.home.each k d within).frozen) there
 
 pub dumped_rect-rect-requires-clause-cell : goal.dumped_rect-rect-requires-clause-cell
 dumped_rect-rect-requires-clause-cell c =
     let planes = c.planes-planes.result.now in
     let library = c.args.setup.now.library in
-    let there : HasPlanes library c.in-Some.id planes = ap (λ owners. Some owners) c.planes-planes.ensures ∙ c.in-Some-get.ensures in
+    let there : HasPlanes library c.in-Some.id planes = ap (λ owners. Some owners) c.planes-planes.ensures ∙ c.in-Some-get.ensures.planes in
     planes_there (All (IsFrozen c.args.workspace.now.pool)) library c.in-Some.id planes (λ k d within. (c.requires.can_dump.home.each k d within).frozen) there
 
 pub returns-then-cell_leaves_world-clause-step : goal.returns-then-cell_leaves_world-clause-step
@@ -36,7 +36,7 @@ returns-then-cell_leaves_world-clause-step c =
     let setup = c.args.setup.now in
     let config = config_of setup pool in
     let planes = c.planes-planes.result.now in
-    let there : HasPlanes setup.library c.in-Some.id planes = ap (λ owners. Some owners) c.planes-planes.ensures ∙ c.in-Some-get.ensures in
+    let there : HasPlanes setup.library c.in-Some.id planes = ap (λ owners. Some owners) c.planes-planes.ensures ∙ c.in-Some-get.ensures.planes in
     let as_many = planes_there (λ owners. length owners ≡ setup.tech.plane_count) setup.library c.in-Some.id planes c.requires.can_dump.planes there in
     let along = c.ranges.dx in
     let up = c.ranges.dy in
@@ -52,7 +52,7 @@ change-requires-clause-can_change c =
     let pool = c.args.workspace.now.pool in
     let library = c.args.setup.now.library in
     let planes = c.planes-planes.result.now in
-    let there : HasPlanes library c.in-Some.id planes = ap (λ owners. Some owners) c.planes-planes.ensures ∙ c.in-Some-get.ensures in (
+    let there : HasPlanes library c.in-Some.id planes = ap (λ owners. Some owners) c.planes-planes.ensures ∙ c.in-Some-get.ensures.planes in (
       planes_there (All (IsFrozen pool)) library c.in-Some.id planes (λ k d within. (c.requires.can_dump.home.each k d within).frozen) there,
       each_stays pool planes _ _ (sym c.if-cell_leaves_world.ensures.leaves),
     )
@@ -62,7 +62,7 @@ change-requires-clause-apart c =
     let design = c.args.self.now in
     let setup = c.args.setup.now in
     let planes = c.planes-planes.result.now in
-    let there : HasPlanes setup.library c.in-Some.id planes = ap (λ owners. Some owners) c.planes-planes.ensures ∙ c.in-Some-get.ensures in
+    let there : HasPlanes setup.library c.in-Some.id planes = ap (λ owners. Some owners) c.planes-planes.ensures ∙ c.in-Some-get.ensures.planes in
     let as_many = planes_there (λ owners. length owners ≡ setup.tech.plane_count) setup.library c.in-Some.id planes c.requires.can_dump.planes there in (
       planes_there (All (λ owner. ¬ (Contains design.planes owner))) setup.library c.in-Some.id planes
           (λ k d within i e among found. c.requires.can_dump.apart k d within i e among (Contains-append_left design.planes (design.errors.owner ∷ []) _ found)) there,
@@ -77,7 +77,7 @@ returns-clause-step c =
     let setup = c.args.setup.now in
     let config = config_of setup pool in
     let planes = c.planes-planes.result.now in
-    let there : HasPlanes setup.library c.in-Some.id planes = ap (λ owners. Some owners) c.planes-planes.ensures ∙ c.in-Some-get.ensures in
+    let there : HasPlanes setup.library c.in-Some.id planes = ap (λ owners. Some owners) c.planes-planes.ensures ∙ c.in-Some-get.ensures.planes in
     let as_many = planes_there (λ owners. length owners ≡ setup.tech.plane_count) setup.library c.in-Some.id planes c.requires.can_dump.planes there in
     let found = cell_at-HasPlanes config pool setup.library c.in-Some.id planes refl there in
     let along = c.ranges.dx in
