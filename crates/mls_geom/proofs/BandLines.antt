@@ -44,6 +44,17 @@ HaveEnds-more extent pieces i bottom top lines piece within at legal bottom_is t
       ends = All-more (HaveEndsOf all) pieces i piece within both.ends (subst (HaveEndsOf all) at (has_bottom, has_top));
     }
 
+-- the ends of one piece more that are there already
+pub HaveEnds-again :
+    (extent : Rect) (pieces : List Piece) (i : ℕ) (lines : List ℕ) (piece : Piece) → i < length pieces → piece ≡ get_or pieces i piece
+    → Contains lines piece.rect.bottom → Contains lines piece.rect.top → HaveEnds extent (take i pieces) lines → HaveEnds extent (take (i + 1) pieces) lines
+HaveEnds-again extent pieces i lines piece within at bottom_in top_in have = record {
+  within = have.within;
+  bottom = have.bottom;
+  top = have.top;
+  ends = All-more (HaveEndsOf lines) pieces i piece within have.ends (subst (HaveEndsOf lines) at (bottom_in, top_in));
+}
+
 -- sorting keeps the ends
 pub AreBandLines-ascended :
     (extent : Rect) (pieces : List Piece) (listed lines : List ℕ) → HaveEnds extent pieces listed → IsStrictlyIncreasing lines

@@ -9,6 +9,7 @@ ghost use Rattle.mls_geom.specs.Sweep.Rows.{AreActive};
 ghost use Rattle.mls_geom.specs.Sweep.Slots.{AreBetweenLines, AreLinks, AreSlotKinds, AreSlots, IsBetweenLines, is_painted, kind_if_painted, slot_kind};
 
 use crate::Piece;
+use crate::lines::find_line;
 
 /// Fills `kinds` with the kind of each slot between the lines, in the row whose pieces are the active
 /// ones. A later piece wins, and a slot of no piece stays free.
@@ -75,13 +76,21 @@ fn paint_slots(
         → slot_kind kinds.new free.new slot (below x y)
         ≡ slot_kind kinds.old free.old slot (overlaid below pieces.now x y) }
 {
+    let mut near = 0;
     for i in active.iter().rev() {
-        paint_piece(pieces[*i], lines, kinds, free);
+        near = paint_piece(pieces[*i], lines, near, kinds, free);
     }
 }
 
-/// Paints the free slots among those of the piece.
-fn paint_piece(piece: Piece, lines: &[u32], kinds: &mut [u8], free: &mut [usize])
+/// Paints the free slots among those of the piece, and returns the index of its left line. Looks for its lines near
+/// the index `near` first.
+fn paint_piece(
+    piece: Piece,
+    lines: &[u32],
+    near: usize,
+    kinds: &mut [u8],
+    free: &mut [usize],
+) -> usize
     requires slots { AreSlots kinds.old free.old }
     requires count { length lines.now ≡ length kinds.old + 1 }
     requires ascending { IsStrictlyIncreasing lines.now }
@@ -97,19 +106,20 @@ fn paint_piece(piece: Piece, lines: &[u32], kinds: &mut [u8], free: &mut [usize]
         ≡ slot_kind kinds.old free.old slot (painted below piece x y) }
 {
     let edges = piece.rect.area();
-    let from = index_of(lines, edges.left);
-    let to = index_of(lines, edges.right);
+    let from = index_of(lines, edges.left, near);
+    let to = index_of(lines, edges.right, from);
     paint_below(kinds, free, from, to, piece.kind);
+    from
 }
 
-/// Returns the index of a line in an ascending list.
-fn index_of(lines: &[u32], line: u32) -> usize
+/// Returns the index of a line in an ascending list. Looks near the index `near` first.
+fn index_of(lines: &[u32], line: u32, near: usize) -> usize
     requires ascending { IsStrictlyIncreasing lines.now }
     requires member { Contains lines.now line }
     ensures within { result < length lines.now }
     ensures there { slice_index lines.now result ≡ line }
 {
-    lines.binary_search(&line).unwrap()
+    find_line(lines, line, near).unwrap()
 }
 
 /// Paints the free slots from index `from` up to, not including, `to`.

@@ -5,4 +5,5 @@ pub mod ListedTouched
 pub mod MovedLists
 pub mod OwnerFrames
 pub mod PaintedPlanes
+pub mod ReadPieces
 pub mod SortedPieces

@@ -1,6 +1,6 @@
 //! What changes where strips take the place of tiles: a tile that is itself one of the strips stays.
 ghost use Rattle.std.specs.Prelude.{◌≡◌, ◌+◌, ◌≤◌, false, IsTrue, length, map, vec_capacity};
-ghost use Rattle.std.specs.List.{AllPairs};
+ghost use Rattle.std.specs.List.{AllPairs, Contains};
 ghost use Rattle.std.specs.List.Sorted.{IsPermutation};
 ghost use Rattle.mls_geom.specs.Strips.{comes_before};
 ghost use Rattle.mls_paint.specs.Changes.{AreInOrder, CornersDiffer, corner_of, gone_of, is_among, put_of};
@@ -45,12 +45,25 @@ fn sort_pieces(pieces: &mut [Piece])
     pieces.sort_unstable_by_key(|piece| Corner::of(piece));
 }
 
-/// Returns whether the piece is one of these, which are in order.
-fn is_among(pieces: &[Piece], piece: &Piece) -> bool
+/// Returns whether the piece stands at the index.
+fn is_at(pieces: &[Piece], piece: &Piece, index: usize) -> bool
+    ensures { IsTrue result → Contains pieces.now piece.now }
+{
+    pieces.get(index) == Some(piece)
+}
+
+/// Returns whether the piece is one of these, which are in order. Looks first at the index `near`, and leaves there
+/// where to look for the next piece.
+fn is_among(pieces: &[Piece], piece: &Piece, near: &mut usize) -> bool
     requires { AreInOrder pieces.now }
     ensures { result ≡ is_among pieces.now piece.now }
 {
+    if is_at(pieces, piece, *near) {
+        *near = near.saturating_add(1);
+        return true;
+    }
     let before = pieces.partition_point(|other| comes_before(other, piece));
+    *near = before.saturating_add(1);
     pieces.get(before) == Some(piece)
 }
 
@@ -63,8 +76,9 @@ fn list_gone(tiles: &[LaidTile], strips: &[Piece], gone: &mut Vec<LaidTile>)
     ensures room { vec_capacity gone.new ≡ vec_capacity gone.old }
 {
     gone.clear();
+    let mut near = 0;
     for tile in tiles {
-        if !is_among(strips, &tile.piece) {
+        if !is_among(strips, &tile.piece, &mut near) {
             gone.push_reserved(*tile);
         }
     }
@@ -90,8 +104,9 @@ fn list_fresh(strips: &[Piece], touched: &[Piece], fresh: &mut Vec<Piece>)
     ensures room { vec_capacity fresh.new ≡ vec_capacity fresh.old }
 {
     fresh.clear();
+    let mut near = 0;
     for strip in strips {
-        if !is_among(touched, strip) {
+        if !is_among(touched, strip, &mut near) {
             fresh.push_reserved(*strip);
         }
     }

@@ -1,5 +1,5 @@
 //! Looking up the tile beyond another.
-ghost use Rattle.std.specs.Prelude.{◌≡◌, ◌≤◌, ℕ, true, false, Option, IfNone, IfSome, length};
+ghost use Rattle.std.specs.Prelude.{◌≡◌, ◌≤◌, ◌↔◌, ℕ, true, false, Option, IfNone, IfSome, IsSomeAnd, IsTrue, length, slice_get};
 ghost use Rattle.std.specs.List.{All, AllWithin};
 ghost use Rattle.std.specs.List.Sorted.{IsPermutation};
 ghost use Rattle.mls_geom.specs.Rects.{holds};
@@ -149,8 +149,35 @@ pub(crate) fn sort_for(stitch: Stitch, entries: &mut [LaidTile])
     entries.sort_unstable_by_key(|entry| start(stitch, entry));
 }
 
-/// Returns how many of the tiles begin at the place or before it.
-fn count_up_to(entries: &[LaidTile], stitch: Stitch, place: Place) -> usize
+/// Returns whether the tile at the index begins at the place or before it. None is at the index that ends the list.
+fn begins_up_to(entries: &[LaidTile], stitch: Stitch, place: Place, index: usize) -> bool
+    ensures { IsTrue result ↔ IsSomeAnd (slice_get entries.now index)
+        (λ entry. is_up_to (start_of stitch entry.piece.rect) place ≡ true) }
+{
+    match entries.get(index) {
+        Some(entry) => start(stitch, entry).is_up_to(place),
+        None => false,
+    }
+}
+
+/// Returns whether the tiles that begin at the place or before it are the first `count` ones.
+fn are_first(entries: &[LaidTile], stitch: Stitch, place: Place, count: usize) -> bool
+    requires { AreSortedFor stitch entries.now }
+    ensures bound { IsTrue result → count ≤ length entries.now }
+    ensures before { IsTrue result → AllWithin (λ entry. is_up_to (start_of stitch entry.piece.rect) place ≡ true)
+        entries.now 0 count }
+    ensures after { IsTrue result → AllWithin (λ entry. is_up_to (start_of stitch entry.piece.rect) place ≡ false)
+        entries.now count (length entries.now) }
+{
+    if count > entries.len() || begins_up_to(entries, stitch, place, count) {
+        return false;
+    }
+    count == 0 || begins_up_to(entries, stitch, place, count - 1)
+}
+
+/// Returns how many of the tiles begin at the place or before it. Looks first whether they are `near` ones, or one
+/// more.
+fn count_up_to(entries: &[LaidTile], stitch: Stitch, place: Place, near: usize) -> usize
     requires { AreSortedFor stitch entries.now }
     ensures bound { result ≤ length entries.now }
     ensures before { AllWithin (λ entry. is_up_to (start_of stitch entry.piece.rect) place ≡ true) entries.now 0
@@ -158,11 +185,24 @@ fn count_up_to(entries: &[LaidTile], stitch: Stitch, place: Place) -> usize
     ensures after { AllWithin (λ entry. is_up_to (start_of stitch entry.piece.rect) place ≡ false) entries.now result
         (length entries.now) }
 {
+    if are_first(entries, stitch, place, near) {
+        return near;
+    }
+    let more = near.saturating_add(1);
+    if are_first(entries, stitch, place, more) {
+        return more;
+    }
     entries.partition_point(|entry| start(stitch, entry).is_up_to(place))
 }
 
-/// Returns the tile to which the stitch of `tile` leads, or `None` if it is not one of the listed tiles.
-pub(crate) fn tile_beyond(entries: &[LaidTile], stitch: Stitch, tile: &LaidTile) -> Option<TileId>
+/// Returns the tile to which the stitch of `tile` leads, or `None` if it is not one of the listed tiles. Looks first
+/// behind the first `near` tiles, and leaves there where to look for the next one.
+pub(crate) fn tile_beyond(
+    entries: &[LaidTile],
+    stitch: Stitch,
+    tile: &LaidTile,
+    near: &mut usize,
+) -> Option<TileId>
     requires { AreSortedFor stitch entries.now }
     ensures found { IfSome result (λ id. (blocks : ℕ → Option Piece) → All (IsLaid blocks) entries.now
         → HoldsAt blocks id (beyond stitch tile.now.piece.rect)) }
@@ -170,7 +210,8 @@ pub(crate) fn tile_beyond(entries: &[LaidTile], stitch: Stitch, tile: &LaidTile)
         → IsLaid blocks tile.now → ¬ (IsListedBeyond stitch tile.now.piece.rect entries.now)) }
 {
     let square = Square::beyond(stitch, tile.piece.rect);
-    let reached = count_up_to(entries, stitch, Place::of(stitch, square));
+    let reached = count_up_to(entries, stitch, Place::of(stitch, square), *near);
+    *near = reached;
     let last = reached.checked_sub(1)?;
     let entry = entries.get(last)?;
     square.is_in(entry.piece.rect).then_some(entry.id)

@@ -35,8 +35,9 @@ fn stitch_sorted(pool: &mut Pool, owner: &Owner, stitch: Stitch, entries: &[Laid
     ensures count { count_of pool.new owner.now ≡ count_of pool.old owner.now }
     ensures only { ChangesOnly pool.old pool.new owner.now }
 {
+    let mut near = 0;
     for entry in entries {
-        if let Some(to) = tile_beyond(entries, stitch, entry) {
+        if let Some(to) = tile_beyond(entries, stitch, entry, &mut near) {
             set_stitch(pool, owner, entry.id, stitch, to);
         }
     }
@@ -65,8 +66,10 @@ pub(crate) fn stitch_listed(pool: &mut Pool, owner: &Owner, entries: &mut [LaidT
     ensures count { count_of pool.new owner.now ≡ count_of pool.old owner.now }
     ensures only { ChangesOnly pool.old pool.new owner.now }
 {
+    // Tiles of one height are in order for both stitches between rows at once, and those of one width for both between
+    // columns, so that the second sort of each two finds them sorted.
     stitch_all(pool, owner, Stitch::Lb, entries);
+    stitch_all(pool, owner, Stitch::Rt, entries);
     stitch_all(pool, owner, Stitch::Bl, entries);
     stitch_all(pool, owner, Stitch::Tr, entries);
-    stitch_all(pool, owner, Stitch::Rt, entries);
 }

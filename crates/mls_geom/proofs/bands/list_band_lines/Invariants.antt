@@ -1,4 +1,4 @@
-use Rattle.std.proofs.Common.{◌≡◌, ◌+◌, ◌*◌, take, vec_len, vec_capacity}
+use Rattle.std.proofs.Common.{◌≡◌, ◌+◌, ◌*◌, ◌≤◌, take, vec_len, vec_capacity}
 use Rattle.mls_geom.specs.Locality.{HaveKinds}
 use Rattle.mls_geom.specs.Sweep.BandLines.{HaveEnds}
 use Rattle.mls_geom.specs.World.{AreLegal, world}
@@ -9,6 +9,6 @@ invariant-loop-piece l = record {
   legal : AreLegal (take l.piece-index l.pieces);
   kinds : HaveKinds (take l.piece-index l.pieces);
   members : HaveEnds world (take l.piece-index l.pieces) l.lines.items;
-  len : vec_len l.lines ≡ 2 * l.piece-index + 2;
+  len : vec_len l.lines ≤ 2 * l.piece-index + 2;
   room : vec_capacity l.lines ≡ vec_capacity l.initial.lines;
 }

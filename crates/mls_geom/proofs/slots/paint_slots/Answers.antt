@@ -15,11 +15,11 @@ loop-i-preserved c =
     let (in_list, there) = YieldsList-turn (YieldsList-from_rev_slice c.args.active.now cc) c.loop-i.yielded _ c.loop-i.yielded_by _ _ c.in-Some.i c.in-Some.is c.next.ensures.steps in
     let turn = IsTurn-from_reverse (λ p. IsBetweenLines lines p.rect) c.args.pieces.now c.args.active.now _ _ piece c.requires.between in_list there c.index-pieces-i.is in
     record {
-      slots = c.paint_piece.ensures.slots;
+      slots = c.paint_piece-near.ensures.slots;
       slot_kinds = λ below slot x y meet in_row after before.
           (let (above, under) = rw turn.is at ((meet.members c.in-Some.i.now).0 turn.member) in
           rw (length_push c.loop-i.yielded c.in-Some.i, turn.more)
-          (c.paint_piece.ensures.slot_kinds below slot x y above under (omega arith) after before
+          (c.paint_piece-near.ensures.slot_kinds below slot x y above under (omega arith) after before
           ∙ c.loop-i.invariant.slot_kinds (painted below piece) slot x y meet (omega arith) after before));
     }
 

@@ -3,7 +3,7 @@ use Rattle.std.proofs.Common.{ℕ}
 use Rattle.mls_tilepool.specs.Pools.{tiles_of}
 use Rattle.mls_stitch.specs.Pending.{IsStitchedAt}
 use Rattle.mls_stitch.specs.declared.stitch.Stitch.{Stitch}
-use Rattle.mls_stitch.specs.declared.stitch.Stitch.TheVariants.{Lb, Bl, Tr}
+use Rattle.mls_stitch.specs.declared.stitch.Stitch.TheVariants.{Lb, Bl, Rt}
 use Rattle.mls_stitch.proofs.SettingStitches.{AreTiledAs-stitched, each_stitch}
 use Rattle.mls_stitch.proofs.stitching.stitch_listed.Goals as goal
 
@@ -15,6 +15,6 @@ returns-clause-stitched c = λ blocks waits.
     let fourth = c.stitch_all-4.ensures.stitched blocks third.awaiting in
     AreTiledAs-stitched fourth.awaiting (each_stitch (λ (stitch : Stitch). (key : ℕ) → IsStitchedAt (tiles_of c.stitch_all-4.new.pool c.args.owner.now) blocks stitch key)
     (λ key. fourth.kept Lb key (third.kept Lb key (second.kept Lb key (first.stitched key))))
-    (λ key. fourth.kept Bl key (third.kept Bl key (second.stitched key)))
-    (λ key. fourth.kept Tr key (third.stitched key))
-    (λ key. fourth.stitched key))
+    (λ key. fourth.kept Bl key (third.stitched key))
+    (λ key. fourth.stitched key)
+    (λ key. fourth.kept Rt key (third.kept Rt key (second.stitched key))))
