@@ -49,6 +49,7 @@ PLAIN = {
     "open": ["c refused open 4 memory"],
     "save": ["a refused 9 memory", "kept"],
     "why": ["a refused 9 memory"],
+    "what": ["a refused 9 memory"],
     "grab": ["a grab memory"],
     "step": ["a step memory"],
     "check": ["memory"],
@@ -79,7 +80,7 @@ HALFWAY = {
 }
 SERVED_LINES = 7
 # Rows of calls that take no memory.
-FRUGAL = ["smallest_quota", "whole_world", "other_calls"]
+FRUGAL = ["smallest_quota", "whole_world", "other_calls", "placed_cells"]
 ROWS = [*dict.fromkeys([*PLAIN, *HALFWAY, "serve"])]
 
 
@@ -178,6 +179,7 @@ a drc why
 b box 0 0 300 1
 b paint poly
 b dump inv 10 20
+b getcell inv 20 16
 # a comment
 b drc catchup
 a drc count
@@ -293,6 +295,7 @@ SAYS = {
     "open": (r"%open (\w+)", r"{} refused open 4 memory"),
     "save": (r"(\w+) save", r"{} refused 9 memory"),
     "why": (r"(\w+) drc why", r"{} refused 9 memory"),
+    "what": (r"(\w+) what", r"{} refused 9 memory"),
     "catchup": (r"(\w+) drc catchup", r"{} refused 9 memory (\d+) pending"),
     "step": (r"%step (\w+)", r"{} step memory"),
 }

@@ -5,10 +5,11 @@
 #
 # Eight threads take turns at eight seats each and make eight random commands a turn: boxes in the world, across its
 # border, beyond it and without squares, paints and erases of types and of what is none, dumps of a cell and of none,
-# and all that can be asked. A plane may have 64 tiles and a journal 256 entries, so that both refusals come. A session
-# ends where its journal is full, or after at most 64 turns: it is audited, its seat is retired, and one of its name is
-# opened. The program fails where a list isn't that of its journal, an area awaits checking just after a catching up,
-# a retirement lists more than there is, or the journals had other than all commands that weren't refused by 6 or 9.
+# the same placed, and all that can be asked. A plane may have 64 tiles and a journal 256 entries, so that both refusals
+# come. A session ends where its journal is full, or after at most 64 turns: it is audited, its seat is retired, and one
+# of its name is opened. The program fails where a list isn't that of its journal, an area awaits checking just after a
+# catching up, a retirement lists more than there is, or the journals had other than all commands that weren't refused
+# by 6 or 9.
 #
 # The rows are how many commands were made, and how many in a second; how many were refused by each number; how many
 # sessions were opened, audited and closed; how many pieces were checked, of how many the layout had changed meanwhile,
@@ -73,13 +74,13 @@ IFS=$'\t' read -r -a counts <<< "$(grep -v '^worked' "$work/rows" | tail -n 1)"
 row seconds "${counts[0]:-0}"
 row commands "${counts[1]:-0}"
 row 'commands a second' "$((${counts[1]:-0} / (${counts[0]:-0} > 0 ? counts[0] : 1)))"
-for n in 1 2 3 4 5 6 7 8 9; do
+for n in 1 2 3 4 5 6 7 8 9 10; do
     row "refused by $n" "${counts[n + 1]:-0}"
 done
-row 'sessions opened' "${counts[11]:-0}"
-row 'sessions audited' "${counts[12]:-0}"
-row 'sessions closed' "${counts[13]:-0}"
-row 'pieces checked' "${counts[14]:-0}"
+row 'sessions opened' "${counts[12]:-0}"
+row 'sessions audited' "${counts[13]:-0}"
+row 'sessions closed' "${counts[14]:-0}"
+row 'pieces checked' "${counts[15]:-0}"
 row 'pieces stale' "$(awk -F'\t' '$1 == "worked" { print $3 }' "$work/rows")"
 row 'pieces without room' "$(awk -F'\t' '$1 == "worked" { print $4 }' "$work/rows")"
 row "kB after $warm seconds" "$base"

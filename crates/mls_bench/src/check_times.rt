@@ -144,15 +144,24 @@ pub fn time_look(rt: &HostRuntime, rules: &Rules, grid: CellGrid) -> Result<(usi
     Ok((scene.strips(), nanos))
 }
 
-/// Checks a piece of a grid of cells once. Returns how many strips a plane has in the zone, and how many sides were
-/// looked at.
-pub fn count_sides(alloc: Global, rules: &Rules, grid: CellGrid) -> Result<(usize, u64)> {
-    let piece = checked_piece()?;
-    let mut scene = Scene::new(alloc, grid, piece.grow(rules.halo()))?;
+/// Reads a piece and checks it, and returns how many sides were looked at. Fails where the plain program found something
+/// else.
+fn sides_looked_at(alloc: Global, scene: &mut Scene, rules: &Rules, piece: Rect) -> Result<u64>
+    requires { scene.old ≡ zone_of rules.now piece }
+{
     let forbidden = scene.find_plainly(alloc, rules, piece)?;
     let snapshot = scene.read(alloc)?;
     let violated = why(rules, &snapshot, piece);
     let finding = check(alloc, rules, snapshot, piece)?;
     expect_same(violated, &finding, &forbidden)?;
-    Ok((scene.strips(), finding.edges()))
+    Ok(finding.edges())
+}
+
+/// Checks a piece of a grid of cells once. Returns how many strips a plane has in the zone, and how many sides were
+/// looked at.
+pub fn count_sides(alloc: Global, rules: &Rules, grid: CellGrid) -> Result<(usize, u64)> {
+    let piece = checked_piece()?;
+    let mut scene = Scene::new(alloc, grid, piece.grow(rules.halo()))?;
+    let sides = sides_looked_at(alloc, &mut scene, rules, piece)?;
+    Ok((scene.strips(), sides))
 }

@@ -1,6 +1,5 @@
 //! Two planes of which a piece is checked, as tiles and by their squares.
 ghost use Rattle.std.specs.Prelude.{◌≡◌, ℕ, IfOk, Some};
-ghost use Rattle.mls_paint.specs.Scratches.{KeepsRoom};
 ghost use Rattle.mls_stitch.specs.Tilings.{HasPlane};
 ghost use Rattle.mls_tilepool.specs.Pools.{room_of};
 
@@ -9,33 +8,43 @@ use anyhow::{Result, ensure};
 use mls_checker::Snapshot;
 use mls_edgerule::Rules;
 use mls_geom::{Piece, Rect};
-use mls_paint::{Scratch, find_area, overlay, space_plane};
+use mls_layout::{Uses, Workspace};
+use mls_library::Library;
+use mls_paint::{find_area, overlay, space_plane};
 use mls_plain_check::{Forbidden, Squares, find};
 use mls_stitch::Plane;
-use mls_tilepool::Pool;
 use std::alloc::{AllocError, Global};
 use std::marker::Model;
 
 /// How many tiles each plane may have.
 const ROOM: u32 = 2_048;
 
-/// How many pieces a plane may be made of.
-const PIECES: u32 = 512;
-
 /// Paints pieces on a new plane. All other planes stay.
-fn painted(pool: &mut Pool, pieces: &[Piece], scratch: &mut Scratch) -> Result<Plane>
-    requires room { scratch.old.room ≡ 2048 }
-    ensures plane { IfOk result (λ plane. HasPlane pool.new plane) }
-    ensures reserve { IfOk result (λ plane. room_of pool.new plane ≡ Some 2048) }
-    ensures others { IfOk result (λ _. (other : ℕ) → HasPlane pool.old other → HasPlane pool.new other) }
-    ensures reserves { IfOk result (λ _. (other : ℕ) → HasPlane pool.old other
-        → room_of pool.new other ≡ room_of pool.old other) }
-    ensures rooms { KeepsRoom scratch.old scratch.new }
+fn painted(workspace: &mut Workspace, pieces: &[Piece]) -> Result<Plane>
+    ensures plane { IfOk result (λ plane. HasPlane workspace.new.pool plane) }
+    ensures reserve { IfOk result (λ plane. room_of workspace.new.pool plane ≡ Some 2048) }
+    ensures others { IfOk result (λ _. (other : ℕ) → HasPlane workspace.old.pool other
+        → HasPlane workspace.new.pool other) }
+    ensures reserves { IfOk result (λ _. (other : ℕ) → HasPlane workspace.old.pool other
+        → room_of workspace.new.pool other ≡ room_of workspace.old.pool other) }
 {
+    let Workspace { pool, scratch, .. } = workspace;
     ensure!(pieces.len() <= scratch.pieces(), "too many pieces");
     let mut plane = space_plane(pool, ROOM, scratch)?;
     overlay(pool, &mut plane, pieces, ROOM, scratch)?;
     Ok(plane)
+}
+
+/// Returns how many strips of a plane lie in a zone.
+fn count_strips(workspace: &mut Workspace, plane: &mut Plane, zone: Rect) -> usize
+    requires plane { HasPlane workspace.old.pool plane.old }
+    requires reserve { room_of workspace.old.pool plane.old ≡ Some 2048 }
+    ensures owner { plane.new ≡ plane.old }
+    ensures pool { workspace.new.pool ≡ workspace.old.pool }
+{
+    let Workspace { pool, scratch, .. } = workspace;
+    find_area(pool, plane, zone, scratch);
+    scratch.tiles().len()
 }
 
 /// The types of the cells on the first plane, and on the second.
@@ -46,27 +55,27 @@ const UPPER_TYPES: [u8; 2] = [3, 3];
 /// Two planes of cells in one pool, and a zone of them by its squares.
 #[derive(Drop)]
 pub struct Scene {
-    pool: Pool,
+    workspace: Workspace,
+    library: Library,
     planes: [Plane; 2],
-    scratch: Scratch,
     zone: Rect,
     strips: usize,
     squares: Squares,
 }
 
 impl Model for Scene {
-    ghost use Rattle.std.specs.Prelude.{◌≡◌, Some};
+    ghost use Rattle.std.specs.Prelude.{◌≡◌, Some, []};
     ghost use Rattle.std.specs.List.{All};
     ghost use Rattle.mls_geom.specs.Rects.{Rect};
     ghost use Rattle.mls_stitch.specs.Tilings.{HasPlane};
-    ghost use Rattle.mls_tilepool.specs.Pools.{Pool, room_of};
+    ghost use Rattle.mls_tilepool.specs.Pools.{room_of};
 
     ghost Value = { Rect };
 
     ghost view = { λ s. s.zone };
 
-    ghost invariant = { λ s. All (λ owner. HasPlane s.pool owner) s.planes
-        × All (λ owner. room_of s.pool owner ≡ Some 2048) s.planes × (s.scratch.room ≡ 2048) };
+    ghost invariant = { λ s. All (λ owner. HasPlane s.workspace.pool owner) s.planes
+        × All (λ owner. room_of s.workspace.pool owner ≡ Some 2048) s.planes × (s.library ≡ []) };
 }
 
 impl Scene {
@@ -79,16 +88,14 @@ impl Scene {
         let mut squares = Squares::new(alloc, zone, 2)?;
         squares.paint(0, &lower);
         squares.paint(1, &upper);
-        let mut pool = Pool::new(alloc, 2 * ROOM)?;
-        let mut scratch = Scratch::new(alloc, ROOM, PIECES)?;
-        let mut first = painted(&mut pool, &lower, &mut scratch)?;
-        let second = painted(&mut pool, &upper, &mut scratch)?;
-        find_area(&pool, &mut first, zone, &mut scratch);
-        let strips = scratch.tiles().len();
+        let mut workspace = Workspace::new(alloc, 2 * ROOM)?;
+        let mut first = painted(&mut workspace, &lower)?;
+        let second = painted(&mut workspace, &upper)?;
+        let strips = count_strips(&mut workspace, &mut first, zone);
         Ok(Scene {
-            pool,
+            workspace,
+            library: Library::new(alloc),
             planes: [first, second],
-            scratch,
             zone,
             strips,
             squares,
@@ -105,13 +112,12 @@ impl Scene {
         ensures zone { IfOk result (λ snapshot. snapshot.zone ≡ self.old) }
         ensures stays { self.new ≡ self.old }
     {
-        Snapshot::read(
-            alloc,
-            &self.pool,
-            &mut self.planes,
-            self.zone,
-            &mut self.scratch,
-        )
+        let uses = Uses {
+            library: &self.library,
+            list: &[],
+        };
+        let planes = &mut self.planes;
+        Snapshot::read(alloc, planes, &uses, self.zone, &mut self.workspace)
     }
 
     /// Finds the forbidden squares of a piece, square by square.

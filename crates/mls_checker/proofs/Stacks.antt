@@ -1,14 +1,14 @@
 -- Words that stand for their own row and those above it.
-use Rattle.std.proofs.Common.{◌≡◌, ℕ, zero, suc, ◌+◌, ◌-◌, ◌<◌, ◌≤◌, inl, inr, Bool, true, false, ◌||◌, ◌&&◌, List, ◌++◌, length, set, take, drop, replicate, refl, sym, ap, ◌∙◌, arith}
+use Rattle.std.proofs.Common.{◌≡◌, ℕ, zero, suc, ◌+◌, ◌-◌, ◌<◌, ◌≤◌, inl, inr, Bool, true, false, ◌||◌, ◌&&◌, List, [], ◌∷◌, ◌++◌, length, set, take, drop, replicate, refl, sym, ap, ◌∙◌, arith}
 use Rattle.std.specs.Prelude.{bit_or, nat_le, nat_lt, slice_index}
 use Rattle.std.proofs.Math.Bool.{and-false, or-false}
 use Rattle.std.proofs.lemmas.Bool.{cases_lt, false≢true}
 use Rattle.std.proofs.lemmas.Bool.Decides.{nat_tests}
-use Rattle.std.proofs.lemmas.List.{append-nil, drop_all, get_or-replicate, get_or_past, length-replicate, take_all}
+use Rattle.std.proofs.lemmas.List.{append-nil, drop_all, get_or-replicate, get_or_append_left, get_or_past, get_or_push, length_push, length-replicate, length-take-le, take_all, take_more}
 use Rattle.mls_kinds.specs.KindSets.{holds as has_bit}
 use Rattle.mls_kinds.proofs.BitLemmas.{holds-zero}
 use Rattle.mls_checker.specs.Grids.{RowWords, has_column, has_lifted, has_square, is_between, stacked}
-use Rattle.mls_checker.proofs.WordRows.{fill-row}
+use Rattle.mls_checker.proofs.WordRows.{fill-row, past-end}
 
 -- ---- one word
 none-between : (row r : ℕ) → is_between row row r ≡ false
@@ -80,22 +80,69 @@ or_and true t a b = refl
 or_and false true a b = refl
 or_and false false a b = refl
 
-pub lay-more :
-    (old words now stacks : List ℕ) (by r c : ℕ) → length words ≡ length old
-    → has_column words r c ≡ (has_column old r c || (nat_lt r (length old) && stacked by stacks r c))
-    → has_column now r c ≡ (has_column words r c || (nat_lt r (length words) && has_lifted stacks by r c))
-    → has_column now r c ≡ (has_column old r c || (nat_lt r (length old) && stacked (by + 1) stacks r c))
-unfolding stacked
-lay-more old words now stacks by r c same before lifted =
-    let more : suc by ≡ by + 1 = omega arith in
-    lifted ∙ ap (λ n. has_column words r c || (nat_lt r n && has_lifted stacks by r c)) same
-    ∙ ap (λ b. b || (nat_lt r (length old) && has_lifted stacks by r c)) before
-    ∙ or_and (has_column old r c) (nat_lt r (length old)) (stacked by stacks r c) (has_lifted stacks by r c)
-    ∙ ap (λ n. has_column old r c || (nat_lt r (length old) && stacked n stacks r c)) more
+push-tests : (words : List ℕ) (r : ℕ) → r < length words → is_between (length words) (length words + 1) r ≡ false
+push-tests words r below = grind (arith, nat_tests)
 
-pub lay-none : (old stacks : List ℕ) (r c : ℕ) → has_column old r c ≡ (has_column old r c || (nat_lt r (length old) && stacked 0 stacks r c))
+past-tests : (words : List ℕ) (r : ℕ) → length words < r → is_between (length words) (length words + 1) r ≡ false
+past-tests words r above = grind (arith, nat_tests)
+
+here-tests : (words : List ℕ) (r : ℕ) → r ≡ length words → is_between (length words) (length words + 1) r ≡ true
+here-tests words r same = grind (arith, nat_tests)
+
+-- one word more has columns in its own row alone
+push-row : (words : List ℕ) (v r c : ℕ) → has_column (words ++ v ∷ []) r c ≡ (has_column words r c || (is_between (length words) (length words + 1) r && has_bit v c))
+push-row words v r c = elim (cases_lt r (length words)) [
+  | inl below ↦
+      ap (λ n. has_bit n c) (get_or_append_left words (v ∷ []) 0 r below) ∙ sym (or-false (has_column words r c))
+      ∙ ap (λ b. has_column words r c || (b && has_bit v c)) (sym (push-tests words r below))
+  | inr above ↦ elim (cases_lt (length words) r) [
+    | inl past ↦
+        past-end (words ++ v ∷ []) r c (omega (arith, length_push words v)) ∙ sym (past-end words r c above) ∙ sym (or-false (has_column words r c))
+        ∙ ap (λ b. has_column words r c || (b && has_bit v c)) (sym (past-tests words r past))
+    | inr on ↦
+        let same : length words ≡ r = omega (arith, above, on) in
+        ap (λ n. has_bit n c) (get_or_push words v 0 r same) ∙ ap (λ b. b && has_bit v c) (sym (here-tests words r (sym same)))
+        ∙ ap (λ b. b || (is_between (length words) (length words + 1) r && has_bit v c)) (sym (past-end words r c above))
+  ]
+]
+
+-- and stands for those above it
+stack-push :
+    (n : ℕ) (words : List ℕ) (v r c : ℕ) → stacked n (words ++ v ∷ []) r c ≡ (stacked n words r c || (is_between (length words) (length words + n) r && has_bit v c))
 unfolding stacked
-lay-none old stacks r c = sym (ap (λ b. has_column old r c || b) (and-false (nat_lt r (length old))) ∙ or-false (has_column old r c))
+stack-push zero words v r c = sym (ap (λ b. b && has_bit v c) (no-rows (length words) r))
+stack-push (suc n) words v r c =
+    let row = length words in
+    ap (λ b. b || has_lifted (words ++ v ∷ []) n r c) (stack-push n words v r c)
+    ∙ ap (λ b. (stacked n words r c || (is_between row (row + n) r && has_bit v c)) || (nat_le n r && b)) (push-row words v (r - n) c)
+    ∙ regroup (stacked n words r c) (is_between row (row + n) r) (has_bit v c) (nat_le n r) (has_column words (r - n) c) (is_between row (row + 1) (r - n))
+    ∙ ap (λ b. (stacked n words r c || (nat_le n r && has_column words (r - n) c)) || (b && has_bit v c)) (sym (row-more row n r))
+
+pub lay-more :
+    (old words now stacks : List ℕ) (row r c : ℕ) → length words ≡ length old → row < length stacks
+    → has_column words r c ≡ (has_column old r c || (nat_lt r (length old) && stacked 16 (take row stacks) r c))
+    → has_column now r c ≡ (has_column words r c || (nat_lt r (length words) && (is_between row (row + 16) r && has_bit (slice_index stacks row) c)))
+    → has_column now r c ≡ (has_column old r c || (nat_lt r (length old) && stacked 16 (take (row + 1) stacks) r c))
+lay-more old words now stacks row r c same within before laid =
+    let v = slice_index stacks row in
+    let at : length (take row stacks) ≡ row = length-take-le row stacks (omega arith) in
+    laid ∙ ap (λ n. has_column words r c || (nat_lt r n && (is_between row (row + 16) r && has_bit v c))) same
+    ∙ ap (λ b. b || (nat_lt r (length old) && (is_between row (row + 16) r && has_bit v c))) before
+    ∙ or_and (has_column old r c) (nat_lt r (length old)) (stacked 16 (take row stacks) r c) (is_between row (row + 16) r && has_bit v c)
+    ∙ ap (λ n. has_column old r c || (nat_lt r (length old) && (stacked 16 (take row stacks) r c || (is_between n (n + 16) r && has_bit v c)))) (sym at)
+    ∙ ap (λ b. has_column old r c || (nat_lt r (length old) && b)) (sym (stack-push 16 (take row stacks) v r c))
+    ∙ ap (λ (ws : List ℕ). has_column old r c || (nat_lt r (length old) && stacked 16 ws r c)) (sym (take_more stacks row 0 within))
+
+none-in-nil : (n r c : ℕ) → stacked n [] r c ≡ false
+unfolding stacked
+none-in-nil zero r c = refl
+none-in-nil (suc n) r c =
+    ap (λ b. b || has_lifted [] n r c) (none-in-nil n r c) ∙ ap (λ b. nat_le n r && b) (past-end [] (r - n) c (omega arith)) ∙ and-false (nat_le n r)
+
+pub lay-none : (old stacks : List ℕ) (r c : ℕ) → has_column old r c ≡ (has_column old r c || (nat_lt r (length old) && stacked 16 (take 0 stacks) r c))
+lay-none old stacks r c =
+    sym (ap (λ b. has_column old r c || (nat_lt r (length old) && b)) (none-in-nil 16 r c) ∙ ap (λ b. has_column old r c || b) (and-false (nat_lt r (length old)))
+    ∙ or-false (has_column old r c))
 
 -- ---- without columns
 zero-row : (n r c : ℕ) → has_column (replicate n 0) r c ≡ false

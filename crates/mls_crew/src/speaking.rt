@@ -175,7 +175,7 @@ fn is_save(command: &Command) -> bool
     matches!(command, Command::Save)
 }
 
-/// Saves the layout at a seat, and appends the reply text and what was saved.
+/// Saves the own paint at a seat, and appends the reply text and what was saved.
 fn save<N: Naming, R: Wait>(
     rt: &R,
     part: &Part<'_>,

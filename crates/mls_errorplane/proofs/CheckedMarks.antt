@@ -14,6 +14,9 @@ use Rattle.mls_tilepool.specs.Pools.{Pool, tiles_of}
 use Rattle.mls_stitch.specs.Tilings.{HasPlane}
 use Rattle.mls_stitch.proofs.ShownTiles.{KeysDiffer-tiles_of, shown-outside}
 use Rattle.mls_paint.specs.Planes.{layout_in, picture_at}
+use Rattle.mls_layout.specs.Uses.{flat_layout}
+use Rattle.mls_layout.specs.declared.uses.Uses.{Uses}
+use Rattle.mls_layout.proofs.FlatLayouts.{flat_layout-outside}
 use Rattle.mls_checker.specs.Copies.{Snapshot, copied_layout}
 use Rattle.mls_checker.specs.Findings.{Finding, IsExact}
 use Rattle.mls_checker.specs.Forbids.{forbidden}
@@ -138,5 +141,11 @@ space_at pool owners plane x y (Some owner) is have outside =
     let here : HasPlane pool owner = subst (HasPlane pool) (get_or_from_slice_get owners plane owner owner is) (have plane owner (slice_get_within owners plane owner is)) in
     shown-outside (tiles_of pool owner) x y here.plane (KeysDiffer-tiles_of pool owner) outside
 
-pub layout-AgreeOutside : (pool : Pool) (owners : List ℕ) → All (λ owner. HasPlane pool owner) owners → AgreeOutside world (layout_in pool owners) (λ plane x y. 0)
+layout-AgreeOutside : (pool : Pool) (owners : List ℕ) → All (λ owner. HasPlane pool owner) owners → AgreeOutside world (layout_in pool owners) (λ plane x y. 0)
 layout-AgreeOutside pool owners have plane x y outside = space_at pool owners plane x y (slice_get owners plane) refl have outside
+
+-- and so is what they show with uses
+pub flat-AgreeOutside :
+    (pool : Pool) (uses : Uses) (owners : List ℕ) → All (λ owner. HasPlane pool owner) owners → AgreeOutside world (flat_layout pool uses owners) (λ plane x y. 0)
+flat-AgreeOutside pool uses owners have plane x y outside =
+    flat_layout-outside pool uses owners plane x y outside ∙ layout-AgreeOutside pool owners have plane x y outside

@@ -6,8 +6,14 @@ use Rattle.mls_geom.specs.Rects.{Rect}
 use Rattle.mls_tilepool.specs.Pools.{Pool}
 use Rattle.mls_stitch.specs.Tilings.{ChangesOnly, HasPlane, shown}
 use Rattle.mls_stitch.proofs.OtherPlanes.{HasPlane-ChangesOnly}
+use Rattle.mls_paint.specs.Owners.{ChangesAmong}
 use Rattle.mls_paint.specs.Planes.{layout_in}
-use Rattle.mls_paint.proofs.OwnerFrames.{layout_in-kept}
+use Rattle.mls_paint.proofs.OwnerFrames.{ChangesAmong-ChangesOnly, layout_in-kept}
+use Rattle.mls_library.specs.Libraries.{Library}
+use Rattle.mls_library.proofs.KeptCells.{IsCellApart}
+use Rattle.mls_layout.specs.Uses.{HasCells, flat_layout}
+use Rattle.mls_layout.specs.declared.uses.Uses.{Uses}
+use Rattle.mls_layout.proofs.FlatLayouts.{HasCells-ChangesAmong, flat_layout-ChangesAmong}
 use Rattle.mls_errorplane.specs.CatchingUp.{AfterSteps, HasCaughtUp, Steps}
 use Rattle.mls_errorplane.specs.Checkings.{Checking, IsChecked}
 use Rattle.mls_errorplane.specs.DirtyLists.{IsDirtyList, area_of, dropped}
@@ -68,11 +74,26 @@ pub HasPlane-apart :
 HasPlane-apart old new owner planes changed apart have k d within =
     HasPlane-ChangesOnly old new owner (get_or planes k d) changed (apart k d within) (have k d within)
 
-pub layout_in-apart :
+layout_in-apart :
     (old new : Pool) (owner : ℕ) (planes : List ℕ) → ChangesOnly old new owner → All (λ other. other ≢ owner) planes
     → layout_in new planes ≡ layout_in old planes
 layout_in-apart old new owner planes changed apart =
     layout_in-kept old new planes (λ k d within. ap shown (changed.others (get_or planes k d) (apart k d within)))
+
+-- the cells of a library too, under owners of their own
+module _ (old new : Pool) (owner : ℕ) (changed : ChangesOnly old new owner) (cells : Library) (apart : All (IsCellApart (owner ∷ [])) cells) where
+  among : ChangesAmong old new (owner ∷ [])
+  among = ChangesAmong-ChangesOnly old new (owner ∷ []) owner (0, omega arith, refl) changed
+
+  pub HasCells-apart : (count : ℕ) → HasCells old count cells → HasCells new count cells
+  HasCells-apart count has = HasCells-ChangesAmong old new (owner ∷ []) among count cells apart has
+
+pub flat_layout-apart :
+    (old new : Pool) (owner : ℕ) (uses : Uses) (planes : List ℕ) → ChangesOnly old new owner → All (IsCellApart (owner ∷ [])) uses.library.now
+    → All (λ other. other ≢ owner) planes → flat_layout new uses planes ≡ flat_layout old uses planes
+flat_layout-apart old new owner uses planes changed cells_apart apart =
+    flat_layout-ChangesAmong old new (owner ∷ []) (among old new owner changed uses.library.now cells_apart) uses planes cells_apart
+    (layout_in-apart old new owner planes changed apart)
 
 -- ---- how catching up ends
 -- after the steps so far no area is left, or the next step isn't done

@@ -7,4 +7,3 @@ pub mod Jobs
 pub mod MarkPlanes
 pub mod Outcomes
 pub mod PaintedMarks
-pub mod Workspaces

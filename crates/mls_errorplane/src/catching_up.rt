@@ -1,15 +1,15 @@
 //! Checking all areas of a layout that await it.
-ghost use Rattle.std.specs.Prelude.{◌≡◌, ◌≢◌, ◌≤◌, IfSome};
-ghost use Rattle.std.specs.List.{All};
-ghost use Rattle.mls_paint.specs.Planes.{layout_in};
+ghost use Rattle.std.specs.Prelude.{◌≡◌, ◌≢◌, ◌≤◌, [], ◌∷◌, IfSome, length};
+ghost use Rattle.std.specs.List.{All, Contains};
+ghost use Rattle.mls_layout.specs.Uses.{HasCells, flat_layout};
+ghost use Rattle.mls_layout.specs.Workspaces.{FitsWorkspace};
 ghost use Rattle.mls_stitch.specs.Tilings.{ChangesOnly, HasPlane};
 ghost use Rattle.mls_tilepool.specs.Pools.{room_of};
 ghost use Rattle.mls_errorplane.specs.CatchingUp.{HasCaughtUp};
 ghost use Rattle.mls_errorplane.specs.ErrorPlanes.{ShowsMarks, checking_of};
-ghost use Rattle.mls_errorplane.specs.Workspaces.{FitsWorkspace};
 
-use crate::{ErrorPlane, Stepped, Workspace};
-use mls_edgerule::Rules;
+use crate::{Basis, ErrorPlane, Stepped};
+use mls_layout::Workspace;
 use mls_stitch::Plane;
 use std::alloc::Global;
 
@@ -25,24 +25,29 @@ pub enum CaughtUp {
 }
 
 impl ErrorPlane {
-    /// Checks piece after piece in a layout on these planes, until no area awaits checking or a step isn't done.
+    /// Checks piece after piece in a layout on these planes with the uses, until no area awaits checking or a step
+    /// isn't done.
     ///
-    /// The steps that were done stay so. The planes must be of other owners than the error plane.
+    /// The steps that were done stay so. The planes and the cells must be of other owners than the error plane.
     pub fn catch_up(
         &mut self,
         alloc: Global,
         planes: &mut [Plane],
-        rules: &Rules,
+        basis: &Basis<'_>,
         limit: u32,
         workspace: &mut Workspace,
     ) -> CaughtUp
         requires planes { All (HasPlane workspace.old.pool) planes.old }
         requires planes_fit { All (FitsWorkspace workspace.old.pool) planes.old }
         requires apart { All (λ owner. owner ≢ self.old.owner) planes.old }
+        requires cells { HasCells workspace.old.pool (length planes.old) basis.now.uses.library.now }
+        requires cells_apart { All (λ cell. All (λ owner. ¬ (Contains (self.old.owner ∷ []) owner)) cell.planes)
+            basis.now.uses.library.now }
         requires marks { ShowsMarks workspace.old.pool self.old.owner }
         requires marks_fit { FitsWorkspace workspace.old.pool self.old.owner }
         requires limit { IfSome (room_of workspace.old.pool self.old.owner) (λ room. limit ≤ room) }
-        ensures caught_up { HasCaughtUp rules.now (layout_in workspace.old.pool planes.old) limit
+        ensures caught_up { HasCaughtUp basis.now.rules.now
+            (flat_layout workspace.old.pool basis.now.uses planes.old) limit
             (checking_of workspace.old.pool self.old) result (checking_of workspace.new.pool self.new) }
         ensures marks { ShowsMarks workspace.new.pool self.new.owner }
         ensures only { ChangesOnly workspace.old.pool workspace.new.pool self.old.owner }
@@ -51,7 +56,7 @@ impl ErrorPlane {
     {
         let mut done = 0;
         'steps: while self.areas() > 0 {
-            match self.step(alloc, planes, rules, limit, workspace) {
+            match self.step(alloc, planes, basis, limit, workspace) {
                 Stepped::Done => done += 1,
                 Stepped::Idle => return CaughtUp::Done,
                 Stepped::Full => return CaughtUp::Full,

@@ -8,6 +8,7 @@ ghost use Rattle.mls_errorplane.specs.DirtyLists as spec;
 ghost use Rattle.mls_errorplane.specs.DirtyLists.{IsDirtyList, added, dropped, first_piece_of, united, zone_round};
 
 use mls_geom::Rect;
+use mls_layout::MARK_ROOM;
 use std::alloc::{AllocError, Global};
 use std::collections::VecDeque;
 use std::marker::Model;
@@ -17,9 +18,6 @@ const MOST_AREAS: usize = 64;
 
 /// A piece is at most this wide and this high.
 const PIECE_SIDE: u32 = 256;
-
-/// How many pieces [`mark`](crate::mark) takes at most for a finding whose piece is the first piece of a list.
-pub const MARK_ROOM: usize = 32_769;
 
 /// The areas of a layout that await checking, which are checked piece by piece, those added first before others.
 ///

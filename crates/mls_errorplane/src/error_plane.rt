@@ -6,20 +6,22 @@ ghost use Rattle.mls_checker.specs.Marking.{marks, no_squares};
 ghost use Rattle.mls_geom.specs.Rects.{holds};
 ghost use Rattle.mls_geom.specs.TileCounts.{tile_count};
 ghost use Rattle.mls_geom.specs.World.{world};
+ghost use Rattle.mls_layout.specs.Uses.{HasCells, flat_layout};
+ghost use Rattle.mls_layout.specs.Workspaces.{FitsWorkspace};
 ghost use Rattle.mls_paint.specs.Owners.{RemovesOwners};
-ghost use Rattle.mls_paint.specs.Planes.{AddsOwner, HasStrips, layout_in, picture_in};
+ghost use Rattle.mls_paint.specs.Planes.{AddsOwner, HasStrips, picture_in};
 ghost use Rattle.mls_paint.specs.Scratches.{HasRoomFor, KeepsRoom};
 ghost use Rattle.mls_stitch.specs.Tilings.{ChangesOnly, HasPlane};
 ghost use Rattle.mls_tilepool.specs.Pools.{IsOwner, Pool, room_of, unreserved};
 ghost use Rattle.mls_errorplane.specs.Checkings.{soiled};
 ghost use Rattle.mls_errorplane.specs.DirtyLists.{IsDirtyList};
 ghost use Rattle.mls_errorplane.specs.MarkPlanes.{marked_count, most_pieces};
-ghost use Rattle.mls_errorplane.specs.Workspaces.{FitsWorkspace};
 
-use crate::{Dirty, MARK_ROOM, Workspace, count, mark};
+use crate::{Basis, Dirty, count, mark};
 use mls_checker::{Finding, Snapshot, check};
 use mls_edgerule::Rules;
 use mls_geom::Rect;
+use mls_layout::{MARK_ROOM, Workspace};
 use mls_paint::{Scratch, release_plane, space_plane, tile_count};
 use mls_stitch::Plane;
 use mls_tilepool::Pool;
@@ -95,23 +97,25 @@ impl ErrorPlane {
         self.dirty.add(rect, rules.halo());
     }
 
-    /// Checks the first piece of the areas in a layout on these planes, and takes it out of them.
+    /// Checks the first piece of the areas in a layout on these planes with the uses, and takes it out of them.
     ///
     /// Unless this is done, nothing changes.
     pub fn step(
         &mut self,
         alloc: Global,
         planes: &mut [Plane],
-        rules: &Rules,
+        basis: &Basis<'_>,
         limit: u32,
         workspace: &mut Workspace,
     ) -> Stepped
         requires planes { All (HasPlane workspace.old.pool) planes.old }
         requires planes_fit { All (FitsWorkspace workspace.old.pool) planes.old }
+        requires cells { HasCells workspace.old.pool (length planes.old) basis.now.uses.library.now }
         requires marks { ShowsMarks workspace.old.pool self.old.owner }
         requires marks_fit { FitsWorkspace workspace.old.pool self.old.owner }
         requires limit { IfSome (room_of workspace.old.pool self.old.owner) (λ room. limit ≤ room) }
-        ensures stepped { HasStepped rules.now (layout_in workspace.old.pool planes.old) limit
+        ensures stepped { HasStepped basis.now.rules.now
+            (flat_layout workspace.old.pool basis.now.uses planes.old) limit
             (checking_of workspace.old.pool self.old) result (checking_of workspace.new.pool self.new) }
         ensures marks { ShowsMarks workspace.new.pool self.new.owner }
         ensures same { UnlessDone result ((self.new ≡ self.old) × (workspace.new.pool ≡ workspace.old.pool)) }
@@ -122,14 +126,15 @@ impl ErrorPlane {
         let Some(piece) = self.dirty.first_piece() else {
             return Stepped::Idle;
         };
+        let Ok(finding) = check_piece(alloc, planes, basis, piece, workspace) else {
+            return Stepped::Memory;
+        };
         let Workspace {
             pool,
             scratch,
             pieces,
+            ..
         } = workspace;
-        let Ok(finding) = check_piece(alloc, pool, planes, rules, piece, scratch) else {
-            return Stepped::Memory;
-        };
         let Ok(_) = mark(pool, &mut self.plane, &finding, limit, pieces, scratch) else {
             return Stepped::Full;
         };
@@ -140,24 +145,26 @@ impl ErrorPlane {
     /// Marks a finding that was made outside, and takes its piece out of the areas.
     ///
     /// Returns [`Outcome::Stale`] unless the finding is by these rules, of the first piece, and of the layout on these
-    /// planes as it is now in the finding's zone, and then [`Outcome::Full`] if the error plane would have more than
-    /// `limit` tiles. In both cases nothing changes.
+    /// planes with the uses as it is now in the finding's zone, and then [`Outcome::Full`] if the error plane would
+    /// have more than `limit` tiles. In both cases nothing changes.
     ///
     /// No memory is taken.
     pub fn finish(
         &mut self,
         planes: &mut [Plane],
-        rules: &Rules,
+        basis: &Basis<'_>,
         finding: &Finding,
         limit: u32,
         workspace: &mut Workspace,
     ) -> Outcome
         requires planes { All (HasPlane workspace.old.pool) planes.old }
         requires planes_fit { All (FitsWorkspace workspace.old.pool) planes.old }
+        requires cells { HasCells workspace.old.pool (length planes.old) basis.now.uses.library.now }
         requires marks { ShowsMarks workspace.old.pool self.old.owner }
         requires marks_fit { FitsWorkspace workspace.old.pool self.old.owner }
         requires limit { IfSome (room_of workspace.old.pool self.old.owner) (λ room. limit ≤ room) }
-        ensures finished { HasFinished rules.now (length planes.old) (layout_in workspace.old.pool planes.old) limit
+        ensures finished { HasFinished basis.now.rules.now (length planes.old)
+            (flat_layout workspace.old.pool basis.now.uses planes.old) limit
             (checking_of workspace.old.pool self.old) finding.now result (checking_of workspace.new.pool self.new) }
         ensures marks { ShowsMarks workspace.new.pool self.new.owner }
         ensures same { UnlessFinished result ((self.new ≡ self.old) × (workspace.new.pool ≡ workspace.old.pool)) }
@@ -165,14 +172,15 @@ impl ErrorPlane {
         ensures owner { self.new.owner ≡ self.old.owner }
         ensures owners { planes.new ≡ planes.old }
     {
+        if !self.is_fresh(planes, basis, finding, workspace) {
+            return Outcome::Stale;
+        }
         let Workspace {
             pool,
             scratch,
             pieces,
+            ..
         } = workspace;
-        if !self.is_fresh(pool, planes, rules, finding, scratch) {
-            return Outcome::Stale;
-        }
         let Ok(_) = mark(pool, &mut self.plane, finding, limit, pieces, scratch) else {
             return Outcome::Full;
         };
@@ -180,31 +188,32 @@ impl ErrorPlane {
         Outcome::Finished
     }
 
-    /// Returns whether the finding is by these rules, of the first piece, and of the layout on these planes as it is
-    /// now in the finding's zone.
+    /// Returns whether the finding is by these rules, of the first piece, and of the layout on these planes with the
+    /// uses as it is now in the finding's zone.
     fn is_fresh(
         &self,
-        pool: &Pool,
         planes: &mut [Plane],
-        rules: &Rules,
+        basis: &Basis<'_>,
         finding: &Finding,
-        scratch: &mut Scratch,
+        workspace: &mut Workspace,
     ) -> bool
-        requires planes { All (λ owner. HasPlane pool.now owner) planes.old }
-        requires planes_fit { All (λ owner. HasRoomFor pool.now owner scratch.old) planes.old }
-        ensures fresh { IsTrue result ↔ IsFresh rules.now (length planes.old) (layout_in pool.now planes.old)
-            (checking_of pool.now self.now) finding.now }
+        requires planes { All (HasPlane workspace.old.pool) planes.old }
+        requires planes_fit { All (FitsWorkspace workspace.old.pool) planes.old }
+        requires cells { HasCells workspace.old.pool (length planes.old) basis.now.uses.library.now }
+        ensures fresh { IsTrue result ↔ IsFresh basis.now.rules.now (length planes.old)
+            (flat_layout workspace.old.pool basis.now.uses planes.old)
+            (checking_of workspace.old.pool self.now) finding.now }
         ensures few { IsTrue result → most_pieces finding.now.piece ≤ MARK_ROOM }
         ensures owners { planes.new ≡ planes.old }
-        ensures rooms { KeepsRoom scratch.old scratch.new }
+        ensures pool { workspace.new.pool ≡ workspace.old.pool }
     {
         let Some(piece) = self.dirty.first_piece() else {
             return false;
         };
-        if !is_of(finding, piece, rules) {
+        if !is_of(finding, piece, basis.rules) {
             return false;
         }
-        finding.snapshot().same(pool, planes, scratch)
+        finding.snapshot().same(planes, &basis.uses, workspace)
     }
 
     /// Returns how many squares are marked.
@@ -243,26 +252,26 @@ impl ErrorPlane {
     }
 }
 
-/// Finds the squares of a piece that the rules forbid in the layout on these planes.
+/// Finds the squares of a piece that the rules forbid in the layout on these planes with the uses.
 fn check_piece(
     alloc: Global,
-    pool: &Pool,
     planes: &mut [Plane],
-    rules: &Rules,
+    basis: &Basis<'_>,
     piece: Rect,
-    scratch: &mut Scratch,
+    workspace: &mut Workspace,
 ) -> Result<Finding, AllocError>
-    requires planes { All (λ owner. HasPlane pool.now owner) planes.old }
-    requires planes_fit { All (λ owner. HasRoomFor pool.now owner scratch.old) planes.old }
+    requires planes { All (HasPlane workspace.old.pool) planes.old }
+    requires planes_fit { All (FitsWorkspace workspace.old.pool) planes.old }
+    requires cells { HasCells workspace.old.pool (length planes.old) basis.now.uses.library.now }
     ensures piece { IfOk result (λ finding. finding.piece ≡ piece) }
-    ensures marks { IfOk result (λ finding. (x y : ℕ) → holds piece x y ≡ true
-        → marks finding.marks x y ≡ forbidden rules.now (layout_in pool.now planes.old) x y) }
+    ensures marks { IfOk result (λ finding. (x y : ℕ) → holds piece x y ≡ true → marks finding.marks x y
+        ≡ forbidden basis.now.rules.now (flat_layout workspace.old.pool basis.now.uses planes.old) x y) }
     ensures owners { planes.new ≡ planes.old }
-    ensures rooms { KeepsRoom scratch.old scratch.new }
+    ensures pool { workspace.new.pool ≡ workspace.old.pool }
 {
-    let zone = piece.grow(rules.halo());
-    let snapshot = Snapshot::read(alloc, pool, planes, zone, scratch)?;
-    check(alloc, rules, snapshot, piece)
+    let zone = piece.grow(basis.rules.halo());
+    let snapshot = Snapshot::read(alloc, planes, &basis.uses, zone, workspace)?;
+    check(alloc, basis.rules, snapshot, piece)
 }
 
 /// Returns whether the finding is of this piece and by these rules.

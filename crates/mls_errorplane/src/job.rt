@@ -1,16 +1,17 @@
 //! Checks that are done outside an error plane.
 ghost use Rattle.std.specs.Prelude.{◌≡◌, length};
 ghost use Rattle.std.specs.List.{All};
-ghost use Rattle.mls_paint.specs.Planes.{layout_in};
+ghost use Rattle.mls_layout.specs.Uses.{HasCells, flat_layout};
+ghost use Rattle.mls_layout.specs.Workspaces.{FitsWorkspace};
 ghost use Rattle.mls_stitch.specs.Tilings.{HasPlane};
 ghost use Rattle.mls_errorplane.specs.ErrorPlanes.{checking_of};
 ghost use Rattle.mls_errorplane.specs.Jobs.{HasGrabbed};
-ghost use Rattle.mls_errorplane.specs.Workspaces.{FitsWorkspace};
 
-use crate::{ErrorPlane, Workspace};
+use crate::{Basis, ErrorPlane};
 use mls_checker::Snapshot;
 use mls_edgerule::Rules;
 use mls_geom::Rect;
+use mls_layout::Workspace;
 use mls_stitch::Plane;
 use std::alloc::{AllocError, Global};
 
@@ -26,20 +27,22 @@ pub struct Job {
 }
 
 impl ErrorPlane {
-    /// Copies what a check of the first piece needs, in a layout on these planes, or returns `None` if no area awaits
-    /// checking.
+    /// Copies what a check of the first piece needs, in a layout on these planes with the uses, or returns `None` if
+    /// no area awaits checking.
     ///
-    /// Fails if memory runs out. The search leaves in the scratch what it finds.
+    /// Fails if memory runs out.
     pub fn grab(
         &self,
         alloc: Global,
         planes: &mut [Plane],
-        rules: &Rules,
+        basis: &Basis<'_>,
         workspace: &mut Workspace,
     ) -> Result<Option<Job>, AllocError>
         requires planes { All (HasPlane workspace.old.pool) planes.old }
         requires planes_fit { All (FitsWorkspace workspace.old.pool) planes.old }
-        ensures grabbed { HasGrabbed rules.now (length planes.old) (layout_in workspace.old.pool planes.old)
+        requires cells { HasCells workspace.old.pool (length planes.old) basis.now.uses.library.now }
+        ensures grabbed { HasGrabbed basis.now.rules.now (length planes.old)
+            (flat_layout workspace.old.pool basis.now.uses planes.old)
             (checking_of workspace.old.pool self.now) result }
         ensures owners { planes.new ≡ planes.old }
         ensures pool { workspace.new.pool ≡ workspace.old.pool }
@@ -47,13 +50,12 @@ impl ErrorPlane {
         let Some(piece) = self.dirty.first_piece() else {
             return Ok(None);
         };
-        let Workspace { pool, scratch, .. } = workspace;
-        let zone = piece.grow(rules.halo());
-        let snapshot = Snapshot::read(alloc, pool, planes, zone, scratch)?;
+        let zone = piece.grow(basis.rules.halo());
+        let snapshot = Snapshot::read(alloc, planes, &basis.uses, zone, workspace)?;
         Ok(Some(Job {
             piece,
             snapshot,
-            rules: *rules,
+            rules: *basis.rules,
         }))
     }
 }

@@ -1,6 +1,7 @@
 //! Areas of a layout that await checking, and the marks that checks leave (Taylor and Ousterhout 1984).
 #![tactic(auto)]
 
+mod basis;
 mod catching_up;
 mod dirty;
 mod error_plane;
@@ -11,13 +12,12 @@ mod marks;
 mod opening;
 mod shown_marks;
 mod violated;
-mod workspace;
 
+pub use basis::Basis;
 pub use catching_up::CaughtUp;
-pub use dirty::{Dirty, MARK_ROOM};
+pub use dirty::Dirty;
 pub use error_plane::{ErrorPlane, Outcome, Stepped};
 pub use job::Job;
 pub use marks::{count, mark};
 pub use opening::opening_areas;
 pub use violated::why;
-pub use workspace::{PIECE_ROOM, TILE_ROOM, Workspace};

@@ -26,6 +26,8 @@ pub enum FrugalCall {
     Erase(u8),
     /// Dumps the cell.
     Dump,
+    /// Places the cell so far to the right.
+    GetCell(i32),
     What,
     Save,
     Check,
@@ -87,6 +89,11 @@ impl FrugalScene {
             FrugalCall::Dump => Command::Dump {
                 cell: self.cell,
                 dx: 0,
+                dy: 0,
+            },
+            FrugalCall::GetCell(dx) => Command::GetCell {
+                cell: self.cell,
+                dx,
                 dy: 0,
             },
             FrugalCall::What => Command::What,

@@ -70,6 +70,15 @@ b box 0 0 300 1
 b paint poly
 ";
 
+/// A cell that is placed in session a, under its box, and a bar in session b.
+const PLACED: &[u8] = b"%open a
+a getcell c 0 0
+a box 0 0 4 4
+%open b
+b box 0 0 2 10
+b paint m1
+";
+
 const OPENED: &[u8] = b"%open a\n";
 
 /// A bar in session a, of which the check is made before the calls.
@@ -118,6 +127,28 @@ const OTHERS: [FrugalCall; 14] = [
     FrugalCall::Close,
 ];
 
+/// A placed cell, of which the check is made before the calls.
+const PLACED_ALONE: &[u8] = b"%open a\na getcell c 0 0\n";
+
+/// The same cell placed over itself, which leaves the check fresh, to the right, which doesn't, and beyond the world; and
+/// own paint over it.
+const PLACED_CELLS: [FrugalCall; 14] = [
+    FrugalCall::FinishRef,
+    FrugalCall::Count,
+    FrugalCall::GetCell(0),
+    FrugalCall::FinishRef,
+    FrugalCall::GetCell(8),
+    FrugalCall::FinishRef,
+    FrugalCall::GetCell(32_765),
+    FrugalCall::Box(0, 0, 4, 4),
+    FrugalCall::Erase(1),
+    FrugalCall::Dump,
+    FrugalCall::Check,
+    FrugalCall::Count,
+    FrugalCall::Save,
+    FrugalCall::Finish,
+];
+
 /// Reads a row, and sets it up and makes its call once for each number of calls.
 pub fn take_all<R: Print + Wait>(rt: &R, alloc: Global, line: &str) -> Result<()> {
     let row = read_row(line)?;
@@ -151,6 +182,7 @@ fn row_named(name: &str, number: Option<u8>) -> Option<Row> {
         "open" => asks(TWO_BARS, Call::Open),
         "save" => asks(TWO_BARS, Call::Save),
         "why" => asks(TWO_BARS, Call::Why),
+        "what" => asks(PLACED, Call::What),
         "grab" => asks(TWO_BARS, Call::Grab),
         "step" => asks(TWO_BARS, Call::Step),
         "check" => Row::Check,
@@ -171,6 +203,10 @@ fn row_named(name: &str, number: Option<u8>) -> Option<Row> {
         "other_calls" => Row::Frugal {
             script: BAR,
             calls: &OTHERS,
+        },
+        "placed_cells" => Row::Frugal {
+            script: PLACED_ALONE,
+            calls: &PLACED_CELLS,
         },
         _ => return None,
     })

@@ -4,7 +4,7 @@ ghost use Rattle.mls_server.specs.Servers.{world_of};
 ghost use Rattle.mls_server.specs.Settings.{terms_for};
 
 use crate::seats::{audited, call, retire, seat};
-use crate::servers::{Room, new_server};
+use crate::servers::{CELL_TILES, Room, place_on, stocked_server};
 use crossbeam_channel::{Receiver, Sender};
 use mls_kinds::KindSet;
 use mls_live::{Live, Naming, Plain, Retired, Seat, work};
@@ -34,9 +34,9 @@ const NAMES: [u8; 8] = *b"abcdefgh";
 /// How many lines a session has, with a count after each that catches up.
 const LINES: u32 = 8;
 
-/// Room for eight sessions of so many lines, each with a count.
+/// Room for the cell and for eight sessions of so many lines, each with a count.
 const FEW: Room = Room {
-    pool: 8 * 3 * 192,
+    pool: CELL_TILES + 8 * 3 * 192,
     quota: 128,
     entries: 16,
 };
@@ -77,9 +77,23 @@ fn random_box(rng: &mut Pcg32) -> Command {
     }
 }
 
-/// Returns a command whose reply doesn't depend on check steps.
-fn random_command(rng: &mut Pcg32) -> Command {
-    let number: u32 = rng.random_range(0..16);
+/// Returns a command that places a cell, as the one given does, at another place.
+fn random_place(rng: &mut Pcg32, place: &Command) -> Command {
+    let dx: i32 = rng.random_range(0..20);
+    let dy: i32 = rng.random_range(0..20);
+    match place {
+        Command::GetCell { cell, .. } => Command::GetCell {
+            cell: *cell,
+            dx,
+            dy,
+        },
+        other => *other,
+    }
+}
+
+/// Returns a command whose reply doesn't depend on check steps. The one given places a cell.
+fn random_command(rng: &mut Pcg32, place: &Command) -> Command {
+    let number: u32 = rng.random_range(0..18);
     match number {
         0..=5 => random_box(rng),
         6..=9 => Command::Paint(Some(rng.random_range(0..5))),
@@ -88,15 +102,20 @@ fn random_command(rng: &mut Pcg32) -> Command {
         12 => Command::Save,
         13 => Command::Why,
         14 => Command::Check,
+        15 | 16 => random_place(rng, place),
         _ => Command::CatchUp,
     }
 }
 
 /// Returns random commands, with a count after each catching up.
-fn random_commands(alloc: Global, rng: &mut Pcg32) -> Result<Vec<Command>, AllocError> {
+fn random_commands(
+    alloc: Global,
+    rng: &mut Pcg32,
+    place: &Command,
+) -> Result<Vec<Command>, AllocError> {
     let mut commands = Vec::new(alloc);
     for _ in 0..LINES {
-        let command = random_command(rng);
+        let command = random_command(rng, place);
         commands.extend_from_slice(&[command])?;
         if is_catching_up(&command) {
             commands.extend_from_slice(&[Command::Count])?;
@@ -129,9 +148,10 @@ fn replies_alone(
 /// Returns random lines for each session of a run.
 fn all_lines(alloc: Global, number: u64, server: &mut Server) -> Result<Vec<Lines>, Fail> {
     let mut rng = Pcg32::new(number, 1);
+    let place = place_on(server);
     let mut all = Vec::new(alloc);
     for _ in NAMES {
-        let commands = random_commands(alloc, &mut rng)?;
+        let commands = random_commands(alloc, &mut rng, &place)?;
         let alone = replies_alone(alloc, server, &commands)?;
         all.push(Lines { commands, alone })?;
     }
@@ -332,7 +352,7 @@ fn retire_all<N: Naming, R: Threads + Wait>(
 
 /// Returns random lines for each session of a run, with what a server of its own replies to each session.
 fn lines_of_run(alloc: Global, number: u64) -> Result<Vec<Lines>, Fail> {
-    let mut server = new_server(alloc, FEW)?;
+    let mut server = stocked_server(alloc, FEW)?;
     all_lines(alloc, number, &mut server)
 }
 
@@ -343,7 +363,7 @@ fn random_run<R: Threads + Wait + Clock + Abort + Sync>(
     number: u64,
 ) -> Result<(), Fail> {
     let lines = lines_of_run(alloc, number)?;
-    let server = new_server(alloc, FEW)?;
+    let server = stocked_server(alloc, FEW)?;
     run_at::<Brand, R>(rt, alloc, server, Blank::new(65), lines)
 }
 

@@ -6,9 +6,10 @@ ghost use Rattle.mls_tilepool.specs.Pools.{room_of};
 
 use mls_checker::Snapshot;
 use mls_geom::{Piece, Rect};
-use mls_paint::{Scratch, overlay, space_plane};
+use mls_layout::{Uses, Workspace};
+use mls_library::Library;
+use mls_paint::{overlay, space_plane};
 use mls_stitch::Plane;
-use mls_tilepool::Pool;
 use std::alloc::{AllocError, Global};
 use std::marker::Model;
 use std::test::Fail;
@@ -16,25 +17,18 @@ use std::test::Fail;
 /// How many tiles each plane may have.
 const ROOM: u32 = 1_024;
 
-/// How many pieces each plane may be made of.
-const PIECES: u32 = 512;
-
 /// Adds a plane to those of a layout, over which pieces are painted.
 fn add_plane(
-    pool: &mut Pool,
+    workspace: &mut Workspace,
     planes: &mut Vec<Plane>,
-    scratch: &mut Scratch,
     pieces: &[Piece],
 ) -> Result<(), Fail>
-    requires strips { All (λ owner. HasStrips pool.old owner) planes.old.items }
-    requires rooms { All (λ owner. room_of pool.old owner ≡ Some 1024) planes.old.items }
-    requires scratch_room { scratch.old.room ≡ 1024 }
-    requires scratch_pieces { scratch.old.pieces ≡ 512 }
-    ensures strips { OnOk result (All (λ owner. HasStrips pool.new owner) planes.new.items) }
-    ensures rooms { OnOk result (All (λ owner. room_of pool.new owner ≡ Some 1024) planes.new.items) }
-    ensures scratch_room { OnOk result (scratch.new.room ≡ 1024) }
-    ensures scratch_pieces { OnOk result (scratch.new.pieces ≡ 512) }
+    requires strips { All (λ owner. HasStrips workspace.old.pool owner) planes.old.items }
+    requires rooms { All (λ owner. room_of workspace.old.pool owner ≡ Some 1024) planes.old.items }
+    ensures strips { OnOk result (All (λ owner. HasStrips workspace.new.pool owner) planes.new.items) }
+    ensures rooms { OnOk result (All (λ owner. room_of workspace.new.pool owner ≡ Some 1024) planes.new.items) }
 {
+    let Workspace { pool, scratch, .. } = workspace;
     if pieces.len() > scratch.pieces() {
         return Err(Fail::new("too many pieces"));
     }
@@ -44,51 +38,50 @@ fn add_plane(
     Ok(())
 }
 
-/// The planes of a layout, in a pool with room for four.
+/// The planes of a layout, in a pool with room for four. No cell is placed in it.
 #[derive(Drop)]
 pub struct Layout {
-    pool: Pool,
+    workspace: Workspace,
     planes: Vec<Plane>,
-    scratch: Scratch,
+    library: Library,
 }
 
 impl Model for Layout {
-    ghost use Rattle.std.specs.Prelude.{◌≡◌, Some};
+    ghost use Rattle.std.specs.Prelude.{◌≡◌, Some, []};
     ghost use Rattle.std.specs.List.{All};
     ghost use Rattle.mls_paint.specs.Planes.{HasStrips};
     ghost use Rattle.mls_tilepool.specs.Pools.{Pool, room_of};
 
     ghost Value = { Pool };
 
-    ghost view = { λ l. l.pool };
+    ghost view = { λ l. l.workspace.pool };
 
-    ghost invariant = { λ l. All (λ owner. HasStrips l.pool owner) l.planes.items
-        × All (λ owner. room_of l.pool owner ≡ Some 1024) l.planes.items
-        × (l.scratch.room ≡ 1024) × (l.scratch.pieces ≡ 512) };
+    ghost invariant = { λ l. All (λ owner. HasStrips l.workspace.pool owner) l.planes.items
+        × All (λ owner. room_of l.workspace.pool owner ≡ Some 1024) l.planes.items × (l.library ≡ []) };
 }
 
 impl Layout {
     /// A layout without planes.
     pub fn new(alloc: Global) -> Result<Layout, AllocError> {
         Ok(Layout {
-            pool: Pool::new(alloc, 4 * ROOM)?,
+            workspace: Workspace::new(alloc, 4 * ROOM)?,
             planes: Vec::new(alloc),
-            scratch: Scratch::new(alloc, ROOM, PIECES)?,
+            library: Library::new(alloc),
         })
     }
 
     /// The layout with one plane more, over which pieces are painted.
     pub fn with(self, pieces: &[Piece]) -> Result<Layout, Fail> {
         let Layout {
-            mut pool,
+            mut workspace,
             mut planes,
-            mut scratch,
+            library,
         } = self;
-        add_plane(&mut pool, &mut planes, &mut scratch, pieces)?;
+        add_plane(&mut workspace, &mut planes, pieces)?;
         Ok(Layout {
-            pool,
+            workspace,
             planes,
-            scratch,
+            library,
         })
     }
 
@@ -96,11 +89,19 @@ impl Layout {
     pub fn snapshot(&mut self, alloc: Global, zone: Rect) -> Result<Snapshot, AllocError>
         ensures { IfOk result (λ snapshot. snapshot.zone ≡ zone) }
     {
-        Snapshot::read(alloc, &self.pool, &mut self.planes, zone, &mut self.scratch)
+        let uses = Uses {
+            library: &self.library,
+            list: &[],
+        };
+        Snapshot::read(alloc, &mut self.planes, &uses, zone, &mut self.workspace)
     }
 
     /// Whether the layout still shows what was copied.
     pub fn same(&mut self, snapshot: &Snapshot) -> bool {
-        snapshot.same(&self.pool, &mut self.planes, &mut self.scratch)
+        let uses = Uses {
+            library: &self.library,
+            list: &[],
+        };
+        snapshot.same(&mut self.planes, &uses, &mut self.workspace)
     }
 }

@@ -1,7 +1,8 @@
 //! Findings that come back to a server after its sessions have changed.
+use crate::cells::CELL;
 use crate::servers::{
-    close, command, finish, finish_ref, found, grab_fault, has_journal, journal_len, new_server,
-    open, run, save, step,
+    cell_named, close, command, finish, finish_ref, found, grab_fault, has_journal, journal_len,
+    new_server, open, run, save, step, stocked_server,
 };
 use mls_checker::Finding;
 use mls_errorplane::Outcome;
@@ -248,6 +249,92 @@ fn expect_finished_after_erasing(
 fn finding_of_a_zone_that_was_erased_back(rt: HostRuntime) -> Result<(), Fail> {
     let mut server = usual_server(rt.alloc())?;
     expect_finished_after_erasing(&rt, rt.alloc(), &mut server)
+}
+
+/// The name of the cell that is placed.
+const NAME: &[u8] = b"c";
+
+/// Places the cell of 4 by 4 squares so far to the right.
+fn place(alloc: Global, server: &mut Server, id: SessionId, dx: i32) -> Result<Reply, NotOpen> {
+    let cell = cell_named(server, NAME);
+    command(alloc, server, id, Command::GetCell { cell, dx, dy: 0 })
+}
+
+/// A session with the bar, in which a cell is placed so far to the right while the bar is checked; how finishing ends,
+/// the squares that are marked then, and the areas that are left.
+#[derive(Clone, Copy)]
+struct PlacedMeanwhile {
+    name: &'static [u8],
+    dx: i32,
+    outcome: Outcome,
+    errors: u64,
+    pending: usize,
+}
+
+const PLACED: &[PlacedMeanwhile] = &[
+    // In the middle of the zone, in its last column, beside it, and far away.
+    PlacedMeanwhile {
+        name: b"in",
+        dx: 0,
+        outcome: Outcome::Stale,
+        errors: 0,
+        pending: 2,
+    },
+    PlacedMeanwhile {
+        name: b"last",
+        dx: 8,
+        outcome: Outcome::Stale,
+        errors: 0,
+        pending: 2,
+    },
+    PlacedMeanwhile {
+        name: b"beside",
+        dx: 9,
+        outcome: Outcome::Finished,
+        errors: 10,
+        pending: 1,
+    },
+    PlacedMeanwhile {
+        name: b"far",
+        dx: 1000,
+        outcome: Outcome::Finished,
+        errors: 10,
+        pending: 1,
+    },
+];
+
+/// Asserts how finishing ends where a cell was placed meanwhile.
+fn expect_judged(
+    rt: &impl Abort,
+    alloc: Global,
+    server: &mut Server,
+    row: &PlacedMeanwhile,
+) -> Result<(), Fail> {
+    let (id, finding) = found_in_bar(rt, alloc, server, row.name)?;
+    expect_done(rt, place(alloc, server, id, row.dx));
+    expect_outcome(rt, finish(server, id, finding), row.outcome);
+    expect_count(rt, alloc, server, id, row.errors, row.pending);
+    Ok(())
+}
+
+/// Asserts that a finding is marked where its cell was placed once more at its place, which shows nothing new.
+fn expect_finished_below(rt: &impl Abort, alloc: Global, server: &mut Server) -> Result<(), Fail> {
+    let id = open(alloc, server, b"twice");
+    expect_done(rt, place(alloc, server, id, 0));
+    let finding = found(alloc, server, id).ok_or("no finding")?;
+    expect_done(rt, place(alloc, server, id, 0));
+    expect_outcome(rt, finish(server, id, finding), Outcome::Finished);
+    expect_count(rt, alloc, server, id, 0, 1);
+    Ok(())
+}
+
+#[test]
+fn findings_beside_placed_cells(rt: HostRuntime) -> Result<(), Fail> {
+    let mut server = stocked_server(rt.alloc(), NAME, CELL)?;
+    for row in PLACED {
+        expect_judged(&rt, rt.alloc(), &mut server, row)?;
+    }
+    expect_finished_below(&rt, rt.alloc(), &mut server)
 }
 
 /// Asserts that an id that was never given is open nowhere.

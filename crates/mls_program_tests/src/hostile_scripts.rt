@@ -85,7 +85,7 @@ fn line_of_a_million_bytes(rt: HostRuntime) -> Result<(), Fail> {
 const RANDOM_LINES: u32 = 100_000;
 
 /// Lines that can be read.
-const READABLE: [&[u8]; 35] = [
+const READABLE: [&[u8]; 36] = [
     b"%open a",
     b"%open b",
     b"%open c",
@@ -112,6 +112,7 @@ const READABLE: [&[u8]; 35] = [
     b"b erase poly,m1",
     b"c erase gold",
     b"a dump c 0 0",
+    b"b getcell c 0 0",
     b"a what",
     b"b what",
     b"a save",
@@ -124,7 +125,7 @@ const READABLE: [&[u8]; 35] = [
 ];
 
 /// Words of the language, and some that have no place in it.
-const WORDS: [&[u8]; 35] = [
+const WORDS: [&[u8]; 36] = [
     b"%open",
     b"%close",
     b"%step",
@@ -141,6 +142,7 @@ const WORDS: [&[u8]; 35] = [
     b"paint",
     b"erase",
     b"dump",
+    b"getcell",
     b"what",
     b"save",
     b"drc",
@@ -163,8 +165,8 @@ const WORDS: [&[u8]; 35] = [
 ];
 
 /// Appends a random one of the texts.
-fn push_one(script: &mut Vec<u8>, texts: &[&[u8]; 35], rng: &mut Pcg32) -> Result<(), AllocError> {
-    let index: usize = rng.random_range(0..35);
+fn push_one(script: &mut Vec<u8>, texts: &[&[u8]; 36], rng: &mut Pcg32) -> Result<(), AllocError> {
+    let index: usize = rng.random_range(0..36);
     if let Some(text) = texts.get(index) {
         script.extend_from_slice(text)?;
     }

@@ -22,6 +22,8 @@ mod real_files;
 #[cfg(test)]
 mod same_as_covers;
 #[cfg(test)]
+mod same_as_dumped;
+#[cfg(test)]
 mod scripts;
 #[cfg(test)]
 mod servers;
@@ -31,5 +33,9 @@ mod sessions;
 mod streams;
 #[cfg(test)]
 mod three_sessions;
+#[cfg(test)]
+mod uses;
+#[cfg(test)]
+mod uses_on_squares;
 #[cfg(test)]
 mod workers;

@@ -3,12 +3,16 @@
 //! What a call of a server ensures speaks of all its sessions, and a proof carries it to the end of the function that
 //! makes the call. So each call stands apart, in a function that returns a plain value and ensures nothing, and what
 //! asserts such values is proved with no fact on the server.
+ghost use Rattle.std.specs.Prelude.{◌≡◌, [], IfOk};
+ghost use Rattle.mls_server.specs.Servers.{world_of};
+
 use mls_checker::{Finding, check};
 use mls_edgerule::compile;
 use mls_errorplane::{Outcome, Stepped};
+use mls_library::CellId;
 use mls_server::{Answer, Capacity, Event, GrabFault, Name, NotOpen, Server, SessionId};
 use mls_session::{Command, Job, JournalLimit, Quota, Reply};
-use mls_tech::Tech;
+use mls_tech::{TECHNOLOGY_M, Tech};
 use mls_wire::{ServeFault, Watched, serve};
 use std::alloc::{AllocError, Global};
 use std::io::{Read, Write};
@@ -21,6 +25,29 @@ pub fn new_server(alloc: Global, file: &[u8], quota: Quota) -> Result<Server, Fa
     let capacity = Capacity::default();
     let limit = JournalLimit::default();
     Ok(Server::new(alloc, tech, rules, capacity, quota, limit)?)
+}
+
+/// A server with technology M, on which no session is open.
+fn idle_server(alloc: Global) -> Result<Server, Fail>
+    ensures { IfOk result (λ server. (world_of server).seats ≡ []) }
+{
+    let tech = Tech::read(alloc, TECHNOLOGY_M)?;
+    let rules = compile(&tech)?;
+    let (capacity, quota) = (Capacity::default(), Quota::default());
+    let limit = JournalLimit::default();
+    Ok(Server::new(alloc, tech, rules, capacity, quota, limit)?)
+}
+
+/// A server with technology M and a cell.
+pub fn stocked_server(alloc: Global, name: &[u8], file: &[u8]) -> Result<Server, Fail> {
+    let mut server = idle_server(alloc)?;
+    server.load(alloc, name, file)?;
+    Ok(server)
+}
+
+/// The cell of this name.
+pub fn cell_named(server: &Server, name: &[u8]) -> Option<CellId> {
+    server.cell(name)
 }
 
 /// Opens a session.

@@ -10,7 +10,7 @@ use Rattle.mls_session.specs.Journals.{IsLegal, Kept, kept_at_opening}
 use Rattle.mls_session.specs.OwnSteps.{Terms}
 use Rattle.mls_session.specs.Quotas.{plane_reserve}
 use Rattle.mls_session.specs.Sessions.{IsHome, IsMadeFor, Session, kept_of, owners_of, state_of}
-use Rattle.mls_session.specs.Setups.{terms_of}
+use Rattle.mls_session.specs.Setups.{config_of, terms_of}
 use Rattle.mls_tilepool.specs.Pools.{Pool, unreserved}
 use Rattle.mls_server.specs.Servers.{AreApart, IsOpenIn, Server, seat_for, setting_of, world_of}
 use Rattle.mls_server.specs.Settings.{session_reserve}
@@ -43,7 +43,7 @@ module _ (server : Server) (are : AreOpenIn server) (session : Session) {new : P
   apart : All (λ entry. AreApart (owners_of entry.1.session) (owners_of session)) server.sessions
   apart k d within = apart-AddsOwners added (get_or server.sessions k d).1.session (are.made k d within).home
 
-  module _ (home : IsHome new session) (made_for : IsMadeFor server.setup session) (right : HasRightMarks server.setup.rules (state_of new session).design)
+  module _ (home : IsHome new session) (made_for : IsMadeFor server.setup session) (right : HasRightMarks (config_of server.setup new) (state_of new session).design)
       (opening : kept_of new session ≡ kept_at_opening server.setup.rules) where
     IsOpenIn-opened : IsOpenIn server.setup new session
     IsOpenIn-opened = record {

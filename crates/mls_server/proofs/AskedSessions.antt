@@ -118,7 +118,7 @@ module _ {now server : Server} {id place : ℕ} {before : OpenSession} (asked : 
         subst₂ (λ (pool : Pool) (owners : List ℕ). ChangesAmong pool new owners) (ap (λ (on : Server). on.pool) asked.shows) (sym asked.owners) keeps.planes.only
 
     pub AreOpen-changed :
-        (HasRightMarks server.setup.rules (state_of server.pool before.session).design → HasRightMarks server.setup.rules (state_of new after).design)
+        (HasRightMarks (own_terms server).config (state_of server.pool before.session).design → HasRightMarks (own_terms server).config (state_of new after).design)
         → (IsLegal (own_terms server) (kept_of server.pool before.session) → IsLegal (own_terms server) (kept_of new after)) → AreOpenIn changed
     AreOpen-changed right legal = record {
       cells_home = cells-beside (others-kept keeps);

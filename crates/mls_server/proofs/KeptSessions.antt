@@ -5,7 +5,7 @@ use Rattle.mls_session.specs.Designs.{CanDump, Design, HasRightMarks, IsHome as 
 use Rattle.mls_session.specs.Journals.{IsLegal}
 use Rattle.mls_session.specs.OwnSteps.{Terms}
 use Rattle.mls_session.specs.Sessions.{IsHome, KeepsPlanes, Session, kept_of, owners_of, state_of}
-use Rattle.mls_session.specs.Setups.{terms_of}
+use Rattle.mls_session.specs.Setups.{config_of, terms_of}
 use Rattle.mls_session.specs.declared.setup.Setup.{Setup}
 use Rattle.mls_tilepool.specs.Pools.{Pool}
 use Rattle.mls_server.specs.Servers.{IsOpenIn}
@@ -26,7 +26,7 @@ module _ {old new : Pool} {before after : Session} (keeps : KeepsPlanes old new 
     terms_of-kept = terms-same setup (cell_layouts-apart others-kept setup.library made.can_dump.apart)
 
     pub IsOpenIn-kept :
-        (HasRightMarks setup.rules (state_of old before).design → HasRightMarks setup.rules (state_of new after).design)
+        (HasRightMarks (config_of setup old) (state_of old before).design → HasRightMarks (config_of setup old) (state_of new after).design)
         → (IsLegal (terms_of setup old) (kept_of old before) → IsLegal (terms_of setup old) (kept_of new after))
         → IsOpenIn setup new after
     IsOpenIn-kept right legal = record {
@@ -39,7 +39,7 @@ module _ {old new : Pool} {before after : Session} (keeps : KeepsPlanes old new 
       };
       home = keeps.planes.home;
       can_dump = subst (λ (owners : List ℕ). CanDump setup new owners) (sym owners_of-kept) (CanDump-apart others-kept made.can_dump.apart made.can_dump);
-      marks_right = right made.marks_right;
+      marks_right = subst (λ (terms : Terms). HasRightMarks terms.config (state_of new after).design) (sym terms_of-kept) (right made.marks_right);
       legal = subst (λ (terms : Terms). IsLegal terms (kept_of new after)) (sym terms_of-kept) (legal made.legal);
     }
 

@@ -5,6 +5,7 @@ use Rattle.mls_errorplane.specs.ErrorPlanes.{ShowsMarks, marks_picture}
 use Rattle.mls_errorplane.specs.MarkPlanes.{is_marked}
 use Rattle.mls_geom.specs.Layouts.{Layout}
 use Rattle.mls_geom.specs.Pictures.{Picture}
+use Rattle.mls_layout.specs.Uses.{cell_layouts}
 use Rattle.mls_library.specs.Libraries.{Library, cell_layout}
 use Rattle.mls_library.specs.Libraries.{IsHome as AreCellsHome}
 use Rattle.mls_library.proofs.KeptCells.{IsCellApart, IsCellApart-AddsOwners, IsHome-kept, IsKept, cell_layout-kept}
@@ -15,7 +16,7 @@ use Rattle.mls_session.specs.Designs.{CanDump, HasRightMarks}
 use Rattle.mls_session.specs.Journals.{IsLegal, Kept}
 use Rattle.mls_session.specs.OwnSteps.{Terms}
 use Rattle.mls_session.specs.Sessions.{IsHome, Session, kept_of, owners_of}
-use Rattle.mls_session.specs.Setups.{cell_layouts, terms_of}
+use Rattle.mls_session.specs.Setups.{terms_of}
 use Rattle.mls_session.specs.declared.setup.Setup.{Setup}
 use Rattle.mls_tilepool.specs.Pools.{Pool, room_of, unreserved}
 use Rattle.mls_server.specs.Servers.{AreApart, AreOpen, IsOpenIn, Server, seat_for, setting_of, world_of}
@@ -81,6 +82,10 @@ module _ {old new : Pool} {owners : List ℕ} (others : KeepsOthers old new owne
   pub CanDump-apart : {setup : Setup} {list : List ℕ} → All (IsCellApart owners) setup.library → CanDump setup old list → CanDump setup new list
   CanDump-apart {setup} apart can = record { home = IsHome-kept old new setup.library (cells_kept setup.library apart) can.home; apart = can.apart; planes = can.planes }
 
+  -- planes of owners that are kept show what they showed
+  layout_in-same : (planes : List ℕ) → All (IsKept old new) planes → layout_in new planes ≡ layout_in old planes
+  layout_in-same planes kept = cell_layout-kept old new (record { name = []; planes = planes; bounds = None }) kept
+
   -- ---- a session none of whose owners is among these
   module _ (session : Session) (apart : AreApart (owners_of session) owners) where
     abbrev planes_of : List ℕ
@@ -99,13 +104,14 @@ module _ {old new : Pool} {owners : List ℕ} (others : KeepsOthers old new owne
     errors_shown : picture_in new errors_of ≡ picture_in old errors_of
     errors_shown =
         ap (λ (layout : Layout). layout 0)
-        (cell_layout-kept old new (record { name = []; planes = errors_of ∷ [] }) (All-push (IsKept old new) [] errors_of (λ k d within. absurd (omega (arith, within))) errors_kept))
+        (layout_in-same (errors_of ∷ []) (All-push (IsKept old new) [] errors_of (λ k d within. absurd (omega (arith, within))) errors_kept))
 
+    -- what it keeps, with this own paint and these marks
     abbrev kept_with : Layout → Picture → Kept
     kept_with layout picture = record {
       own = record {
         design = record {
-          drawn = record { box = session.design.box; layout = layout };
+          drawn = record { box = session.design.box; paint = layout; uses = session.design.uses };
           checking = record { marks = is_marked picture; dirty = session.design.errors.dirty };
         };
         entries = length session.journal;
@@ -117,7 +123,7 @@ module _ {old new : Pool} {owners : List ℕ} (others : KeepsOthers old new owne
     -- it keeps what it kept
     kept_of-apart : kept_of new session ≡ kept_of old session
     kept_of-apart =
-        ap (λ (layout : Layout). kept_with layout (picture_in new errors_of)) (cell_layout-kept old new (record { name = []; planes = planes_of }) planes_kept)
+        ap (λ (layout : Layout). kept_with layout (picture_in new errors_of)) (layout_in-same planes_of planes_kept)
         ∙ ap (λ (picture : Picture). kept_with (layout_in old planes_of) picture) errors_shown
 
     strips-apart : (owner : ℕ) → IsKept old new owner → HasStrips old owner → HasStrips new owner
@@ -153,7 +159,8 @@ module _ {old new : Pool} {owners : List ℕ} (others : KeepsOthers old new owne
         made_for = made.made_for;
         home = IsHome-apart made.home;
         can_dump = CanDump-apart cells_apart made.can_dump;
-        marks_right = subst (λ (kept : Kept). HasRightMarks setup.rules kept.own.design) (sym kept_of-apart) made.marks_right;
+        marks_right =
+            subst₂ (λ (terms : Terms) (kept : Kept). HasRightMarks terms.config kept.own.design) (sym terms_of-apart) (sym kept_of-apart) made.marks_right;
         legal = subst₂ (λ (terms : Terms) (kept : Kept). IsLegal terms kept) (sym terms_of-apart) (sym kept_of-apart) made.legal;
       }
 

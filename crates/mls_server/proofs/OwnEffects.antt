@@ -5,7 +5,7 @@ use Rattle.mls_session.proofs.OwnReplies.{own_step-not_memory}
 use Rattle.mls_session.specs.Journals.{ChecksOnce, Commands, Does, Kept, RunsOut, Saves, is_memory, is_refusal, text_with}
 use Rattle.mls_session.specs.OwnSteps.{OwnState, Terms, checks}
 use Rattle.mls_session.specs.declared.command.Command.{Command as OwnCommand}
-use Rattle.mls_session.specs.declared.command.Command.TheVariants.{Box, Paint, Erase, Dump, What, Save as SaveCommand, Check, CatchUp, Why as AskWhy, Count as AskCount}
+use Rattle.mls_session.specs.declared.command.Command.TheVariants.{Box, Paint, Erase, Dump, GetCell, What, Save as SaveCommand, Check, CatchUp, Why as AskWhy, Count as AskCount}
 use Rattle.mls_session.specs.declared.refusal.Refusal.TheVariants.{Memory}
 use Rattle.mls_session.specs.declared.reply.Reply.{Reply}
 use Rattle.mls_session.specs.declared.reply.Reply.TheVariants.{Done, Kinds, Saved as SavedLines, Count, Why, Refused, Stopped}
@@ -86,7 +86,8 @@ module _ (terms : Terms) where
   RunsOut-leads before (Paint kind) reply after never = absurd never
   RunsOut-leads before (Erase kinds) reply after never = absurd never
   RunsOut-leads before (Dump cell dx dy) reply after never = absurd never
-  RunsOut-leads before What reply after never = absurd never
+  RunsOut-leads before (GetCell cell dx dy) reply after never = absurd never
+  RunsOut-leads before What reply after (boxed, used, refused, kept) = none_led What before after reply refused kept
   RunsOut-leads before SaveCommand reply after never = absurd never
   RunsOut-leads before Check reply after never = absurd never
   RunsOut-leads before AskCount reply after never = absurd never
@@ -103,13 +104,13 @@ module _ (terms : Terms) where
   Saves-leads before reply text after (inl saves) = Does-leads before SaveCommand reply after saves.0
   Saves-leads before reply text after (inr (room, refused, empty, kept)) = none_led SaveCommand before after reply refused kept
 
-  -- a save has the text of the layout as it was
+  -- a save has the text of the own paint as it was
   pub Saves-text :
       (before : Kept) (reply : Reply) (text : List ℕ) (after : Kept) → Saves terms before reply text after
-      → text ≡ text_with terms.config.tech before.own.design.drawn.layout reply
+      → text ≡ text_with terms.config.tech before.own.design.drawn.paint reply
   Saves-text before reply text after (inl saves) = saves.1
   Saves-text before reply text after (inr (room, refused, empty, kept)) =
-      empty ∙ ap (text_with terms.config.tech before.own.design.drawn.layout) (sym refused)
+      empty ∙ ap (text_with terms.config.tech before.own.design.drawn.paint) (sym refused)
 
   -- ---- check steps
   -- one that was accepted

@@ -6,7 +6,9 @@ use Rattle.mls_checker.specs.Marking.{squares_of}
 use Rattle.mls_geom.specs.Rects.{holds}
 use Rattle.mls_geom.specs.World.{world}
 use Rattle.mls_session.specs.Designs.{HasRightMarks}
+use Rattle.mls_session.specs.Own.{layout_of}
 use Rattle.mls_server.specs.Events.{Happens, Runs}
+use Rattle.mls_server.specs.Settings.{config_for}
 use Rattle.mls_server.specs.Worlds.{MarksAreExact, MarksAreRight, Seat, World}
 use Rattle.mls_server.specs.declared.answer.Answer.{Answer}
 use Rattle.mls_server.specs.declared.event.Event.{Event}
@@ -36,7 +38,7 @@ Runs-next old mid new events answers index event answer within ran happens =
 -- where no area awaits checking, no square lies in one
 pub MarksAreExact-from_right : (on : World) → MarksAreRight on → MarksAreExact on
 MarksAreExact-from_right on right =
-    All-weaker (λ (seat : Seat). HasRightMarks on.setting.rules seat.kept.own.design)
+    All-weaker (λ (seat : Seat). HasRightMarks (config_for on.setting) seat.kept.own.design)
     (λ (seat : Seat). seat.kept.own.design.checking.dirty ≡ [] → (x y : ℕ) → holds world x y ≡ true
-    → seat.kept.own.design.checking.marks x y ≡ forbidden on.setting.rules seat.kept.own.design.drawn.layout x y)
+    → seat.kept.own.design.checking.marks x y ≡ forbidden on.setting.rules (layout_of (config_for on.setting) seat.kept.own.design.drawn) x y)
     (λ seat marks none x y inside. marks x y inside (ap (λ areas. squares_of areas x y) none)) on.seats right

@@ -8,7 +8,7 @@ use Rattle.mls_session.specs.OwnSteps.{Terms}
 use Rattle.mls_session.specs.Sessions.{Session, kept_of}
 use Rattle.mls_session.specs.Setups.{terms_of}
 use Rattle.mls_server.specs.Servers.{IsOpenIn, OpenSession, Server, seat_for, setting_of, world_of}
-use Rattle.mls_server.specs.Settings.{terms_for}
+use Rattle.mls_server.specs.Settings.{config_for, terms_for}
 use Rattle.mls_server.specs.Worlds.{IsNumbered, JournalsAreLegal, JournalsHaveRoom, MarksAreRight, Seat}
 use Rattle.mls_session.proofs.JournalRooms.{IsLegal-within}
 use Rattle.mls_server.proofs.OtherSessions.{AreOpenIn}
@@ -24,9 +24,11 @@ module _ (server : Server) (made : AreOpenIn server) where
 
   pub MarksAreRight-of : MarksAreRight (world_of server)
   MarksAreRight-of =
-      All-map (λ (seat : Seat). HasRightMarks server.setup.rules seat.kept.own.design) (seat_for server.pool) server.sessions
-      (All-weaker IsMade (λ (entry : List ℕ × OpenSession). HasRightMarks server.setup.rules (kept_of server.pool entry.1.session).own.design)
-      (λ entry is. is.marks_right) server.sessions made.made)
+      All-map (λ (seat : Seat). HasRightMarks (config_for (setting_of server)) seat.kept.own.design) (seat_for server.pool) server.sessions
+      (All-weaker IsMade (λ (entry : List ℕ × OpenSession). HasRightMarks (config_for (setting_of server)) (kept_of server.pool entry.1.session).own.design)
+      (λ entry is.
+      subst (λ (terms : Terms). HasRightMarks terms.config (kept_of server.pool entry.1.session).own.design) (terms_of-setting server) is.marks_right)
+      server.sessions made.made)
 
   pub JournalsAreLegal-of : JournalsAreLegal (world_of server)
   JournalsAreLegal-of =

@@ -7,17 +7,18 @@ use Rattle.mls_errorplane.specs.declared.job.Job.{Job}
 use Rattle.mls_checker.specs.Findings.{Finding}
 use Rattle.mls_errorplane.specs.declared.error_plane.Outcome.{Outcome}
 use Rattle.mls_errorplane.specs.declared.error_plane.Stepped.{Stepped as StepEnd}
-use Rattle.mls_library.specs.CellFiles.{layout_of}
+use Rattle.mls_library.specs.CellFiles.{layout_of as layout_of_rects}
 use Rattle.mls_library.specs.Faults.{UnlessMemory}
 use Rattle.mls_library.specs.Libraries.{loading_of, tile_counts, total}
 use Rattle.mls_library.specs.declared.fault.CellFault.{CellFault}
 use Rattle.mls_session.specs.Journals.{Commands, Finishes, Kept, Saves, StepsOnce}
 use Rattle.mls_session.specs.Looks.{Looks}
+use Rattle.mls_session.specs.Own.{layout_of}
 use Rattle.mls_session.specs.declared.command.Command.{Command as OwnCommand}
 use Rattle.mls_session.specs.declared.look.Look.{Look as OwnLook}
 use Rattle.mls_session.specs.declared.look.Looked.{Looked as OwnLooked}
 use Rattle.mls_session.specs.declared.reply.Reply.{Reply}
-use Rattle.mls_server.specs.Settings.{NamedLayout, cell_names, session_reserve, terms_for}
+use Rattle.mls_server.specs.Settings.{NamedLayout, cell_names, config_for, session_reserve, terms_for}
 use Rattle.mls_server.specs.Worlds.{World, kept_in, session_named, with_kept, with_session, without_session}
 use Rattle.mls_server.specs.declared.event.Event.{Event}
 use Rattle.mls_server.specs.declared.event.Event.TheVariants.{Open, Close, Command, Save, Look, Grab, Finish, Step}
@@ -38,7 +39,7 @@ with_cell on cell tiles = record on { setting = record on.setting { cells = on.s
 abbrev pub LoadsCell : World → List ℕ → List ℕ → Result ℕ CellFault → World → Type 0
 LoadsCell old name bytes (Ok id) new =
     IsOkAnd (loading_of old.setting.tech (cell_names old.setting) old.room name bytes)
-    (λ rects. (id ≡ length old.setting.cells) × (new ≡ with_cell old (record { name = name; layout = layout_of rects }) (total (tile_counts old.setting.tech.plane_count rects))))
+    (λ rects. (id ≡ length old.setting.cells) × (new ≡ with_cell old (record { name = name; layout = layout_of_rects rects }) (total (tile_counts old.setting.tech.plane_count rects))))
 LoadsCell old name bytes (Err fault) new =
     UnlessMemory fault.kind fault.line (loading_of old.setting.tech (cell_names old.setting) old.room name bytes ≡ Err fault) × (new ≡ old)
 
@@ -81,7 +82,7 @@ OnSeat old id Does (Err fault) new = (kept_in old id ≡ None) × (new ≡ old)
 abbrev pub DoesCommand : World → ℕ → OwnCommand → Result Reply NotOpen → World → Type 0
 DoesCommand old id command result new = OnSeat old id (λ before reply after. Commands (terms_for old.setting) before command reply after) result new
 
--- the text is that of the layout, or empty where it isn't saved
+-- the text is that of the own paint, or empty where it isn't saved
 abbrev pub SavesText : World → ℕ → Result Reply NotOpen → List ℕ → World → Type 0
 SavesText old id (Ok reply) text new = OnSeat old id (λ before answer after. Saves (terms_for old.setting) before answer text after) (Ok reply) new
 SavesText old id (Err fault) text new = (kept_in old id ≡ None) × (text ≡ []) × (new ≡ old)
@@ -97,11 +98,11 @@ DoesStep old id result new = OnSeat old id (λ before end after. StepsOnce (term
 abbrev pub DoesFinish : World → ℕ → Finding → Result Outcome NotOpen → World → Type 0
 DoesFinish old id finding result new = OnSeat old id (λ before outcome after. Finishes (terms_for old.setting) before finding outcome after) result new
 
--- the next job of the session, if any, and nothing changes
+-- the next job of the session's layout, if any, and nothing changes
 abbrev pub DoesGrab : World → ℕ → Result (Option Job) GrabFault → World → Type 0
 DoesGrab old id (Ok job) new =
     (kept : Kept) × (kept_in old id ≡ Some kept)
-    × IsNextJob old.setting.rules old.setting.tech.plane_count kept.own.design.drawn.layout kept.own.design.checking job × (new ≡ old)
+    × IsNextJob old.setting.rules old.setting.tech.plane_count (layout_of (config_for old.setting) kept.own.design.drawn) kept.own.design.checking job × (new ≡ old)
 DoesGrab old id (Err NoSession) new = (kept_in old id ≡ None) × (new ≡ old)
 DoesGrab old id (Err OutOfMemory) new = (kept : Kept) × (kept_in old id ≡ Some kept) × (kept.own.design.checking.dirty ≢ []) × (new ≡ old)
 

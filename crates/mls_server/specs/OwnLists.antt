@@ -82,10 +82,10 @@ told (Grabbed result) = []
 told (Finished result) = []
 told (Stepped result) = []
 
--- the text that comes with the reply to a save is that of the layout, as the session keeps it, or empty where it isn't saved; and a look returns, with its
+-- the text that comes with the reply to a save is that of the own paint, as the session keeps it, or empty where it isn't saved; and a look returns, with its
 -- text, what a look at what the session keeps does
 abbrev pub HasText : Terms → Event → Answer → Kept → Type 0
-HasText terms (Save id) (Saved (Ok reply) text) kept = text ≡ text_with terms.config.tech kept.own.design.drawn.layout reply
+HasText terms (Save id) (Saved (Ok reply) text) kept = text ≡ text_with terms.config.tech kept.own.design.drawn.paint reply
 HasText terms (Save id) (Saved (Err fault) text) kept = text ≡ []
 HasText terms (Look id look) (Looked (Ok looked) text) kept = Looks terms kept look looked text
 HasText terms (Look id look) (Looked (Err fault) text) kept = text ≡ []

@@ -4,7 +4,7 @@ use Rattle.std.specs.List.{All, AllPairs, Contains, position_or_len}
 use Rattle.mls_session.specs.Designs.{CanDump, HasRightMarks}
 use Rattle.mls_session.specs.Journals.{IsLegal}
 use Rattle.mls_session.specs.Sessions.{IsHome, IsMadeFor, Session, kept_of, owners_of, state_of}
-use Rattle.mls_session.specs.Setups.{terms_of}
+use Rattle.mls_session.specs.Setups.{config_of, terms_of}
 use Rattle.mls_session.specs.declared.setup.Setup.{Setup}
 use Rattle.mls_tilepool.specs.Pools.{Pool, unreserved}
 use Rattle.mls_server.specs.Settings.{Setting, named_layouts}
@@ -57,7 +57,7 @@ pub record IsOpenIn (setup : Setup) (pool : Pool) (session : Session) : Type 0 w
   pub made_for : IsMadeFor setup session
   pub home : IsHome pool session
   pub can_dump : CanDump setup pool (owners_of session)
-  pub marks_right : HasRightMarks setup.rules (state_of pool session).design
+  pub marks_right : HasRightMarks (config_of setup pool) (state_of pool session).design
   pub legal : IsLegal (terms_of setup pool) (kept_of pool session)
 
 -- no owner is of both

@@ -22,6 +22,7 @@ pub record Setting : Type 0 where
   pub journal : ℕ
   pub cells : List NamedLayout
 
+-- what no command of a session changes
 abbrev pub config_for : Setting → Config
 config_for setting = record { tech = setting.tech; rules = setting.rules; cells = map (λ cell. cell.layout) setting.cells; quota = setting.quota }
 

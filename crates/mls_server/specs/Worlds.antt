@@ -8,8 +8,9 @@ use Rattle.mls_geom.specs.Rects.{holds}
 use Rattle.mls_geom.specs.World.{world}
 use Rattle.mls_session.specs.Designs.{HasRightMarks}
 use Rattle.mls_session.specs.Journals.{IsLegal, Kept, kept_at_opening}
+use Rattle.mls_session.specs.Own.{layout_of}
 use Rattle.mls_text.specs.Words.{same_word}
-use Rattle.mls_server.specs.Settings.{Setting, session_reserve, terms_for}
+use Rattle.mls_server.specs.Settings.{Setting, config_for, session_reserve, terms_for}
 
 -- an open session: its id, its name, and what it keeps
 pub record Seat : Type 0 where
@@ -65,13 +66,13 @@ without_session on id = record on { seats = filter (λ seat. not (seat.id == id)
 -- ---- what every world keeps
 -- outside the areas that await checking, the marked squares of each open session are exactly those of its layout that the rules forbid
 abbrev pub MarksAreRight : World → Type 0
-MarksAreRight on = All (λ seat. HasRightMarks on.setting.rules seat.kept.own.design) on.seats
+MarksAreRight on = All (λ seat. HasRightMarks (config_for on.setting) seat.kept.own.design) on.seats
 
 -- where no area of an open session awaits checking, the marked squares of the world are exactly those of its layout that the rules forbid
 abbrev pub MarksAreExact : World → Type 0
 MarksAreExact on = All
     (λ seat. seat.kept.own.design.checking.dirty ≡ [] → (x y : ℕ) → holds world x y ≡ true
-    → seat.kept.own.design.checking.marks x y ≡ forbidden on.setting.rules seat.kept.own.design.drawn.layout x y)
+    → seat.kept.own.design.checking.marks x y ≡ forbidden on.setting.rules (layout_of (config_for on.setting) seat.kept.own.design.drawn) x y)
     on.seats
 
 -- the journal of each open session is legal

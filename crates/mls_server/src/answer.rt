@@ -12,7 +12,7 @@ pub enum Answer {
     Closed(Result<(), NotOpen>),
     /// The reply to a command.
     Commanded(Result<Reply, NotOpen>),
-    /// The reply to saving, and the text of the layout, which is empty unless it was saved.
+    /// The reply to saving, and the text of the own paint, which is empty unless it was saved.
     Saved(Result<Reply, NotOpen>, ReplyText),
     /// What a look returned, and the text that comes with it.
     Looked(Result<Looked, NotOpen>, ReplyText),

@@ -12,7 +12,7 @@ pub enum Event {
     Close(SessionId),
     /// Carries out a command in a session.
     Command(SessionId, Command),
-    /// Saves the layout of a session.
+    /// Saves the own paint of a session.
     Save(SessionId),
     /// Looks at a session as it is.
     Look(SessionId, Look),

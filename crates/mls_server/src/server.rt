@@ -13,7 +13,7 @@ mod sessions;
 use crate::{Capacity, Name, SessionId};
 use indexmap::IndexMap;
 use mls_edgerule::Rules;
-use mls_errorplane::Workspace;
+use mls_layout::Workspace;
 use mls_library::{CellFault, CellId, Library};
 use mls_session::{JournalLimit, Quota, Session, Setup};
 use mls_tech::Tech;

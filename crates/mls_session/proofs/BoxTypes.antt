@@ -6,7 +6,7 @@ use Rattle.mls_kinds.proofs.KindSetLemmas.{set_of_none, union-set_of}
 use Rattle.mls_geom.specs.Layouts.{Layout}
 use Rattle.mls_geom.specs.Rects.{Rect}
 use Rattle.mls_geom.specs.Pictures.{kinds_in, shows}
-use Rattle.mls_session.specs.Own.{Config, Drawn, shows_type, types_in, what_step}
+use Rattle.mls_session.specs.Own.{Config, Drawn, layout_of, shows_type, types_in, what_step}
 use Rattle.mls_session.specs.declared.reply.Reply.TheVariants.{Kinds}
 use Rattle.mls_session.proofs.FirstPlanes.{any_more}
 
@@ -21,6 +21,6 @@ types_more layout e n =
     ∙ sym (union-set_of (shows_type n layout e) (shows (layout n) e))
 
 pub what_step-Kinds :
-    (config : Config) (own : Drawn) (box : Option Rect) (e : Rect) (kinds : ℕ) → box ≡ Some e → kinds ≡ types_in config.tech.plane_count own.layout e
+    (config : Config) (own : Drawn) (box : Option Rect) (e : Rect) (kinds : ℕ) → box ≡ Some e → kinds ≡ types_in config.tech.plane_count (layout_of config own) e
     → what_step config own box ≡ (own, Kinds kinds)
 what_step-Kinds config own box e kinds is_set are_all = rw (is_set, are_all)

@@ -14,7 +14,8 @@ use Rattle.mls_library.proofs.BuiltPlanes.{IsFrozen-kept}
 use Rattle.mls_paint.specs.Owners.{ChangesAmong}
 use Rattle.mls_paint.specs.Planes.{HasStrips, layout_in, picture_at, picture_in}
 use Rattle.mls_paint.proofs.OwnerFrames.{ChangesAmong-ChangesOnly, ChangesAmong-refl, ChangesAmong-trans, layout_in-ChangesAmong, layout_in-at, picture_in-ChangesAmong, room_of-ChangesAmong}
-use Rattle.mls_session.specs.Changes.{dumped, kind_at, leaves_world, moved}
+use Rattle.mls_layout.specs.Moves.{kind_at, moved}
+use Rattle.mls_session.specs.Changes.{dumped, leaves_world}
 use Rattle.mls_session.specs.Inner.{CanChange, IsApartFrom, changed, changed_layout}
 use Rattle.mls_session.specs.Designs.{AreAtHome, Design}
 use Rattle.mls_session.specs.declared.change.Change.{Change}

@@ -90,16 +90,16 @@ pub change_step-Refused : (config : Config) (own : Drawn) (layout : Layout) (fit
 change_step-Refused config own layout fits tested failed =
     by (exceeds_quota config layout) (sym failed ∙ tested)
   where
-    by : (more : Bool) → false ≡ not more → ◌≡◌ {A = Drawn × Reply} (if more then (own, Refused Quota) else (record own { layout = layout }, Done)) (own, Refused Quota)
+    by : (more : Bool) → false ≡ not more → ◌≡◌ {A = Drawn × Reply} (if more then (own, Refused Quota) else (record own { paint = layout }, Done)) (own, Refused Quota)
     by true h = refl
     by false h = absurd (cc h)
 
 pub change_step-Done :
-    (config : Config) (own new : Drawn) (layout : Layout) (fits : Bool) → fits ≡ not (exceeds_quota config layout) → fits ≡ true → new ≡ record own { layout = layout }
+    (config : Config) (own new : Drawn) (layout : Layout) (fits : Bool) → fits ≡ not (exceeds_quota config layout) → fits ≡ true → new ≡ record own { paint = layout }
     → change_step config own layout ≡ (new, Done)
 change_step-Done config own new layout fits tested passed is =
     by (exceeds_quota config layout) (sym passed ∙ tested) ∙ ap (λ state. (state, Done)) (sym is)
   where
-    by : (more : Bool) → true ≡ not more → ◌≡◌ {A = Drawn × Reply} (if more then (own, Refused Quota) else (record own { layout = layout }, Done)) (record own { layout = layout }, Done)
+    by : (more : Bool) → true ≡ not more → ◌≡◌ {A = Drawn × Reply} (if more then (own, Refused Quota) else (record own { paint = layout }, Done)) (record own { paint = layout }, Done)
     by true h = absurd (cc h)
     by false h = refl

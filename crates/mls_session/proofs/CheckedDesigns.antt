@@ -8,7 +8,7 @@ use Rattle.mls_errorplane.specs.Checkings.{Checking}
 use Rattle.mls_errorplane.specs.ErrorPlanes.{HasStepped, exceeds}
 use Rattle.mls_errorplane.specs.declared.error_plane.Stepped.TheVariants as stepped
 use Rattle.mls_geom.specs.Rects.{Rect}
-use Rattle.mls_session.specs.Own.{Config, Designed}
+use Rattle.mls_session.specs.Own.{Config, Designed, layout_of}
 use Rattle.mls_session.specs.OwnSteps.{OwnState, Terms, checked, checked_times, checks, next_checking, own_check}
 
 -- ---- one step
@@ -58,7 +58,7 @@ module _ (config : Config) (own : Designed) where
 
   -- ---- the error plane's steps
   pub checked-Done :
-      (after : Checking) → HasStepped config.rules own.drawn.layout config.quota own.checking stepped.Done after
+      (after : Checking) → HasStepped config.rules (layout_of config own.drawn) config.quota own.checking stepped.Done after
       → checked config own ≡ Some (record own { checking = after })
   checked-Done after (some, fits, is) = checked-done some fits ∙ ap (λ (known : Checking). Some (record own { checking = known })) (sym is)
 
@@ -78,7 +78,7 @@ module _ (config : Config) (mid new : Designed) where
 
 -- those of the error plane
 pub checked_times-Steps :
-    (config : Config) (old : Designed) (count : ℕ) (after : Checking) → Steps config.rules old.drawn.layout config.quota count old.checking after
+    (config : Config) (old : Designed) (count : ℕ) (after : Checking) → Steps config.rules (layout_of config old.drawn) config.quota count old.checking after
     → checked_times count config old ≡ Some (record old { checking = after })
 checked_times-Steps config old zero after same = ap (λ (known : Checking). Some (record old { checking = known })) (sym same)
 checked_times-Steps config old (suc count) after (mid, steps, last) =

@@ -4,16 +4,15 @@ use Rattle.mls_edgerule.specs.declared.edge_rule.EdgeRule.{EdgeRule}
 use Rattle.mls_geom.specs.Rects.{Rect}
 use Rattle.mls_tilepool.specs.Pools.{Pool}
 use Rattle.mls_stitch.specs.Tilings.{ChangesOnly}
-use Rattle.mls_paint.specs.Planes.{layout_in}
 use Rattle.mls_errorplane.specs.CatchingUp.{HasCaughtUp}
 use Rattle.mls_errorplane.specs.Checkings.{Checking}
 use Rattle.mls_errorplane.specs.DirtyLists.{IsDirtyList}
 use Rattle.mls_errorplane.specs.ErrorPlanes.{checking_of}
 use Rattle.mls_errorplane.specs.declared.catching_up.CaughtUp.{CaughtUp}
 use Rattle.mls_session.specs.Inner.{Counts, caught_up_reply, steps_of}
-use Rattle.mls_session.specs.Own.{Config, Designed, Drawn, check_in, edit_step, soiled_after}
+use Rattle.mls_session.specs.Own.{Config, Designed, Drawn, check_in, edit_step, layout_of, soiled_after}
 use Rattle.mls_session.specs.OwnSteps.{DesignSteps}
-use Rattle.mls_session.specs.Designs.{Design, IsHome, designed_of}
+use Rattle.mls_session.specs.Designs.{Design, IsHome, designed_of, drawn_of}
 use Rattle.mls_session.specs.declared.command.Command.TheVariants.{CatchUp}
 use Rattle.mls_session.specs.declared.executed.Executed.{Executed}
 use Rattle.mls_session.specs.declared.refusal.Refusal.{Refusal}
@@ -50,16 +49,16 @@ check_in-Some drawn box rect is = ap (check_in drawn) is
 pub caught_up-errors :
     (config : Config) (pool new : Pool) (before after : Design) (limit : ℕ) (ended : CaughtUp) (pending : ℕ) (executed : Executed)
     → config.quota ≡ before.quota → limit ≡ before.quota → IsHome pool before → IsDirtyList before.errors.dirty
-    → ChangesOnly pool new before.errors.owner → after.box ≡ before.box → after.planes ≡ before.planes
-    → HasCaughtUp config.rules (layout_in pool before.planes) limit (checking_of pool before.errors) ended (checking_of new after.errors)
+    → ChangesOnly pool new before.errors.owner → after.box ≡ before.box → after.planes ≡ before.planes → after.uses ≡ before.uses
+    → HasCaughtUp config.rules (layout_of config (drawn_of pool before)) limit (checking_of pool before.errors) ended (checking_of new after.errors)
     → pending ≡ length after.errors.dirty → executed.reply ≡ caught_up_reply pending ended → executed.steps ≡ steps_of ended
     → DesignSteps config (designed_of pool before) CatchUp executed.reply (designed_of new after)
     × Counts config (designed_of pool before) CatchUp executed (designed_of new after)
-caught_up-errors config pool new before after limit ended pending executed quota same home areas changed box planes caught left is counted =
-    let here : HasCaughtUp config.rules (layout_in pool before.planes) config.quota (checking_of pool before.errors) ended (checking_of new after.errors) =
-    subst (λ (q : ℕ). HasCaughtUp config.rules (layout_in pool before.planes) q (checking_of pool before.errors) ended (checking_of new after.errors)) (same ∙ sym quota) caught in
+caught_up-errors config pool new before after limit ended pending executed quota same home areas changed box planes uses caught left is counted =
+    let here : HasCaughtUp config.rules (layout_of config (drawn_of pool before)) config.quota (checking_of pool before.errors) ended (checking_of new after.errors) =
+    subst (λ (q : ℕ). HasCaughtUp config.rules (layout_of config (drawn_of pool before)) q (checking_of pool before.errors) ended (checking_of new after.errors)) (same ∙ sym quota) caught in
     let reply : executed.reply ≡ caught_up_reply (length after.errors.dirty) ended = is ∙ ap (λ n. caught_up_reply n ended) left in
-    let drawn = drawn-errors pool new before after home changed box planes in (
+    let drawn = drawn-errors pool new before after home changed box planes uses in (
       DesignSteps-caught_up config (designed_of pool before) (designed_of new after) executed.reply ended areas here reply drawn,
       Counts-caught_up config (designed_of pool before) (designed_of new after) executed ended here reply counted drawn,
     )

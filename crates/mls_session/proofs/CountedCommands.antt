@@ -7,7 +7,7 @@ use Rattle.mls_session.specs.Journals.{is_memory, is_refusal}
 use Rattle.mls_session.specs.Own.{Config, Designed}
 use Rattle.mls_session.specs.OwnSteps.{DesignRunsOut, DesignSteps, checked_times}
 use Rattle.mls_session.specs.declared.command.Command.{Command}
-use Rattle.mls_session.specs.declared.command.Command.TheVariants.{CatchUp, Why}
+use Rattle.mls_session.specs.declared.command.Command.TheVariants.{CatchUp, What, Why}
 use Rattle.mls_session.specs.declared.executed.Executed.{Executed}
 use Rattle.mls_session.specs.declared.reply.Reply.{Reply}
 use Rattle.mls_session.proofs.CaughtUpDesigns.{checked_times-fewer}
@@ -21,6 +21,7 @@ ran_out :
     → Counts config old command executed new → is_refusal is_memory executed.reply ≡ true → checked_times executed.steps config old ≡ Some new
 ran_out config old new CatchUp executed out counts memory = counts memory
 ran_out config old new Why executed (boxed, refused, same) none memory = ap (λ (n : ℕ). checked_times n config old) none ∙ ap Some (sym same)
+ran_out config old new What executed (boxed, placed, refused, same) none memory = ap (λ (n : ℕ). checked_times n config old) none ∙ ap Some (sym same)
 ran_out config old new _ executed out none memory = absurd out
 
 counted_steps :

@@ -10,7 +10,7 @@ use Rattle.mls_errorplane.specs.declared.catching_up.CaughtUp.TheVariants.{Done 
 use Rattle.mls_geom.specs.Rects.{Rect}
 use Rattle.mls_session.specs.Inner.{Counts, caught_up_reply, steps_of}
 use Rattle.mls_session.specs.Journals.{is_memory, is_refusal}
-use Rattle.mls_session.specs.Own.{Config, Designed, Drawn}
+use Rattle.mls_session.specs.Own.{Config, Designed, Drawn, layout_of}
 use Rattle.mls_session.specs.OwnSteps.{DesignSteps, catch_up_step, checked_times, design_step, ending}
 use Rattle.mls_session.specs.declared.command.Command.TheVariants.{CatchUp}
 use Rattle.mls_session.specs.declared.executed.Executed.{Executed}
@@ -22,7 +22,7 @@ use Rattle.mls_session.proofs.CheckedDesigns.{checked-full, checked-none, checke
 
 module _ (config : Config) (old new : Designed) where
   steps_done :
-      (count : ℕ) → new.drawn ≡ old.drawn → Steps config.rules old.drawn.layout config.quota count old.checking new.checking → checked_times count config old ≡ Some new
+      (count : ℕ) → new.drawn ≡ old.drawn → Steps config.rules (layout_of config old.drawn) config.quota count old.checking new.checking → checked_times count config old ≡ Some new
   steps_done count same steps =
       checked_times-Steps config old count new.checking steps ∙ ap (λ (drawn : Drawn). Some (record { drawn = drawn; checking = new.checking })) (sym same)
 
@@ -31,7 +31,7 @@ module _ (config : Config) (old new : Designed) where
 
   pub DesignSteps-caught_up :
       (reply : Reply) (end : CaughtUp) → IsDirtyList old.checking.dirty
-      → HasCaughtUp config.rules old.drawn.layout config.quota old.checking end new.checking → reply ≡ caught_up_reply (length new.checking.dirty) end
+      → HasCaughtUp config.rules (layout_of config old.drawn) config.quota old.checking end new.checking → reply ≡ caught_up_reply (length new.checking.dirty) end
       → new.drawn ≡ old.drawn → DesignSteps config old CatchUp reply new
   unfolding design_step
   DesignSteps-caught_up reply AllChecked kept ((count, steps), none) is same =
@@ -39,13 +39,13 @@ module _ (config : Config) (old new : Designed) where
       inl (ended reply (catch_up_step-ends config count old new kept (steps_done count same steps) (checked-none config new none)) (is ∙ sym last))
   DesignSteps-caught_up reply MarksFull kept ((count, steps), some, full) is same =
       let last : ending new ≡ Stopped Quota (length new.checking.dirty) = cond-false _ _ _ (some_left new.checking.dirty some) in
-      let more = subst (λ (drawn : Drawn). exceeds config.quota (check_step config.rules drawn.layout new.checking).marks ≡ true) (sym same) full in
+      let more = subst (λ (drawn : Drawn). exceeds config.quota (check_step config.rules (layout_of config drawn) new.checking).marks ≡ true) (sym same) full in
       inl (ended reply (catch_up_step-ends config count old new kept (steps_done count same steps) (checked-full config new more)) (is ∙ sym last))
   DesignSteps-caught_up reply (OutOfMemory count) kept (steps, some) is same = inr (count, steps_done count same steps, some, is)
 
   -- the steps that are counted are those that were done before memory ran out
   pub Counts-caught_up :
-      (executed : Executed) (end : CaughtUp) → HasCaughtUp config.rules old.drawn.layout config.quota old.checking end new.checking
+      (executed : Executed) (end : CaughtUp) → HasCaughtUp config.rules (layout_of config old.drawn) config.quota old.checking end new.checking
       → executed.reply ≡ caught_up_reply (length new.checking.dirty) end → executed.steps ≡ steps_of end → new.drawn ≡ old.drawn
       → Counts config old CatchUp executed new
   Counts-caught_up executed AllChecked caught is counted same = λ memory. absurd (true≢false (sym memory ∙ ap (is_refusal is_memory) is))

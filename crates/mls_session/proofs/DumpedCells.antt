@@ -7,12 +7,12 @@ use Rattle.std.proofs.lemmas.List.{get_or_default}
 use Rattle.std.proofs.lemmas.Option.{get_or_from_slice_get, slice_get-map, slice_get_within}
 use Rattle.mls_geom.specs.Layouts.{Layout}
 use Rattle.mls_tilepool.specs.Pools.{Pool}
+use Rattle.mls_layout.specs.Uses.{cell_layouts}
 use Rattle.mls_library.specs.Libraries.{Library, NamedCell, cell_layout}
 use Rattle.mls_paint.specs.Planes.{layout_in, picture_in}
 use Rattle.mls_paint.proofs.OwnerFrames.{layout_in-at}
 use Rattle.mls_session.specs.Changes.{layout_leaves_world, leaves_world}
 use Rattle.mls_session.specs.Own.{Config, Drawn, cell_at, change_step, dump_step, dumped_layout}
-use Rattle.mls_session.specs.Setups.{cell_layouts}
 use Rattle.mls_session.specs.declared.reply.Reply.TheVariants.{Refused}
 use Rattle.mls_session.specs.declared.refusal.Refusal.TheVariants.{CellOutside}
 use Rattle.mls_session.proofs.FirstPlanes.{any_at}
@@ -57,5 +57,5 @@ module _ (config : Config) (own : Drawn) (cell : Option ℕ) (layout : Layout) (
   pub dump_step-CellOutside : layout_leaves_world planes layout dx dy ≡ true → dump_step config own (cell_at config cell) dx dy ≡ (own, Refused CellOutside)
   dump_step-CellOutside leaves = rw (found, count, leaves) refl
 
-  pub dump_step-change_step : layout_leaves_world planes layout dx dy ≡ false → dump_step config own (cell_at config cell) dx dy ≡ change_step config own (dumped_layout own.layout layout dx dy)
+  pub dump_step-change_step : layout_leaves_world planes layout dx dy ≡ false → dump_step config own (cell_at config cell) dx dy ≡ change_step config own (dumped_layout own.paint layout dx dy)
   dump_step-change_step stays = rw (found, count, stays) refl

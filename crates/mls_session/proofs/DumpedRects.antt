@@ -1,22 +1,16 @@
--- A dump of a cell whose planes are in the pool leaves a layout as it was outside the rectangle that the dump changes.
-use Rattle.std.proofs.Common.{◌≡◌, ℕ, ℤ, ◌≤◌, false, Some, None, List, All, get_or, length, inl, inr, ap, ◌∙◌}
+-- A cell whose planes lie in the pool shows nothing on other planes, and nothing outside the world.
+use Rattle.std.proofs.Common.{◌≡◌, ℕ, ◌≤◌, false, List, All, get_or, length, inl, inr, ap, ◌∙◌}
 use Rattle.std.proofs.lemmas.Bool.{cases_lt}
 use Rattle.std.proofs.lemmas.List.{get_or_default}
 use Rattle.std.proofs.lemmas.Option.{slice_get_past}
-use Rattle.mls_geom.specs.Layouts.{Layout}
 use Rattle.mls_geom.specs.Pictures.{Picture, empty_picture}
-use Rattle.mls_geom.specs.Rects.{Rect, holds}
+use Rattle.mls_geom.specs.Rects.{holds}
 use Rattle.mls_geom.specs.World.{world}
 use Rattle.mls_tilepool.specs.Pools.{Pool, tiles_of}
 use Rattle.mls_stitch.proofs.ShownTiles.{KeysDiffer-tiles_of, shown-outside}
-use Rattle.mls_checker.specs.ZoneLayouts.{AgreeOutside}
 use Rattle.mls_library.specs.Libraries.{IsFrozen}
 use Rattle.mls_paint.specs.Planes.{layout_in, picture_at}
 use Rattle.mls_paint.proofs.OwnerFrames.{layout_in-at}
-use Rattle.mls_session.specs.Bounds.{dumped_rect}
-use Rattle.mls_session.specs.Changes.{layout_leaves_world}
-use Rattle.mls_session.specs.Own.{dumped_layout}
-use Rattle.mls_session.proofs.EditedSquares.{AgreeOutside-dumped, dumped-None}
 
 -- every plane beyond a cell's is space
 pub layout_in-beyond : (pool : Pool) (owners : List ℕ) (plane : ℕ) → length owners ≤ plane → layout_in pool owners plane ≡ empty_picture
@@ -32,15 +26,3 @@ layout_in-outside pool owners frozen plane x y outside = elim (cases_lt plane (l
       ap (λ (picture : Picture). picture x y) shows
       ∙ shown-outside (tiles_of pool owner) x y (frozen plane 0 within).strips.plane.plane (KeysDiffer-tiles_of pool owner) outside
 ]
-
-module _ (pool : Pool) (owners : List ℕ) (frozen : All (IsFrozen pool) owners) (dx dy : ℤ) (layout : Layout) where
-  pub AgreeOutside-dumped_rect :
-      (rect : Rect) → dumped_rect (length owners) (layout_in pool owners) dx dy ≡ Some rect → AgreeOutside rect layout (dumped_layout layout (layout_in pool owners) dx dy)
-  AgreeOutside-dumped_rect rect is =
-      AgreeOutside-dumped (length owners) (layout_in pool owners) dx dy (layout_in-beyond pool owners) (layout_in-outside pool owners frozen) layout rect is
-
-  pub dumped_layout-no_rect :
-      layout_leaves_world (length owners) (layout_in pool owners) dx dy ≡ false → dumped_rect (length owners) (layout_in pool owners) dx dy ≡ None
-      → dumped_layout layout (layout_in pool owners) dx dy ≡ layout
-  dumped_layout-no_rect stays none =
-      dumped-None (length owners) (layout_in pool owners) dx dy (layout_in-beyond pool owners) (layout_in-outside pool owners frozen) layout stays none

@@ -13,6 +13,7 @@ use Rattle.mls_paint.specs.Owners.{ChangesAmong}
 use Rattle.mls_paint.specs.Planes.{layout_in, picture_in}
 use Rattle.mls_paint.proofs.OwnerFrames.{ChangesAmong-ChangesOnly}
 use Rattle.mls_errorplane.specs.ErrorPlanes.{checking_of}
+use Rattle.mls_layout.specs.declared.uses.CellUse.{CellUse}
 use Rattle.mls_session.specs.Own.{Config, change_step, edit_step, exceeds_quota, paint_step, soiled_after}
 use Rattle.mls_session.specs.Designs.{Design, IsHome, designed_of, drawn_of}
 use Rattle.mls_session.specs.declared.reply.Reply.TheVariants.{Done}
@@ -29,13 +30,14 @@ module _ (config : Config) (old new : Pool) (before after : Design) (rect : Opti
   -- all planes are changed
   pub change-Done :
       (layout : Layout) (fits : Bool) → fits ≡ not (exceeds_quota config layout) → fits ≡ true → layout_in new before.planes ≡ layout
-      → after.box ≡ before.box → after.planes ≡ before.planes
+      → after.box ≡ before.box → after.planes ≡ before.planes → after.uses ≡ before.uses
       → edit_step config (designed_of old before) rect (change_step config (drawn_of old before) layout) ≡ (designed_of new after, Done)
-  change-Done layout fits tested passed shows box planes =
-      let drawn : drawn_of new after ≡ record { box = before.box; layout = layout } =
-      ap (λ (b : Option Rect). record { box = b; layout = layout_in new after.planes }) box
-      ∙ ap (λ (owners : List ℕ). record { box = before.box; layout = layout_in new owners }) planes
-      ∙ ap (λ (l : Layout). record { box = before.box; layout = l }) shows in
+  change-Done layout fits tested passed shows box planes uses =
+      let drawn : drawn_of new after ≡ record { box = before.box; paint = layout; uses = before.uses } =
+      ap (λ (b : Option Rect). record { box = b; paint = layout_in new after.planes; uses = after.uses }) box
+      ∙ ap (λ (owners : List ℕ). record { box = before.box; paint = layout_in new owners; uses = after.uses }) planes
+      ∙ ap (λ (l : Layout). record { box = before.box; paint = l; uses = after.uses }) shows
+      ∙ ap (λ (placed : List CellUse). record { box = before.box; paint = layout; uses = placed }) uses in
       edit_step-Done config (designed_of old before) (designed_of new after) rect (change_step config (drawn_of old before) layout)
       (change_step-Done config (drawn_of old before) (drawn_of new after) layout fits tested passed drawn) checking
 
@@ -45,11 +47,11 @@ pub paint-Done :
     → plane_of_type config.tech.type_planes kind ≡ Some plane → pieces ≡ record { rect = e; kind = kind } ∷ [] → config.quota ≡ before.quota → plane < length before.planes
     → owner ≡ get_or before.planes plane owner → IsHome old before → ChangesOnly old new owner → picture_in new owner ≡ overlaid (picture_in old owner) pieces
     → ¬ (before.quota < tile_count world (overlaid (picture_in old owner) pieces)) → after.box ≡ before.box → after.planes ≡ before.planes
-    → checking_of new after.errors ≡ soiled_after config.rules (Some e) Done (checking_of new before.errors)
+    → after.uses ≡ before.uses → checking_of new after.errors ≡ soiled_after config.rules (Some e) Done (checking_of new before.errors)
     → edit_step config (designed_of old before) before.box (paint_step config (drawn_of old before) before.box named) ≡ (designed_of new after, Done)
-paint-Done config old new before after named e kind plane owner pieces is_set is_known lies_on one same_quota within is home changed shows few box planes soiled =
+paint-Done config old new before after named e kind plane owner pieces is_set is_known lies_on one same_quota within is home changed shows few box planes uses soiled =
     let only = ChangesAmong-ChangesOnly old new before.planes owner (plane, within, sym is) changed in
     edit_step-Done config (designed_of old before) (designed_of new after) before.box (paint_step config (drawn_of old before) before.box named)
-    (paint_step-Done config old before named e kind plane owner pieces is_set is_known lies_on one same_quota within is new after home.layout box planes changed shows few)
+    (paint_step-Done config old before named e kind plane owner pieces is_set is_known lies_on one same_quota within is new after home.layout box planes uses changed shows few)
     (soiled ∙ ap (soiled_after config.rules (Some e) Done) (checking_of-kept old new before home.errors only)
     ∙ ap (λ (rect : Option Rect). soiled_after config.rules rect Done (checking_of old before.errors)) (sym is_set))

@@ -1,4 +1,4 @@
--- An edit leaves a layout as it was outside the edit's rectangle.
+-- An edit leaves a layout as it was outside the edit's rectangle, and a cell shows nothing outside the rectangle to which it is moved.
 use Rattle.std.proofs.Common.{◌≡◌, Bool, true, false, ℕ, ℤ, pos, negsuc, ◌-◌, ◌<◌, ◌≤◌, ◌+ℤ◌, ◌-ℤ◌, ◌==◌, ◌&&◌, not, if◌then◌else◌, Option, Some, None, Contains, inl, inr, refl, sym, ap, subst, ◌∙◌, eqb-true, arith}
 use Rattle.std.specs.List.{range_with_len}
 use Rattle.std.specs.Option.{option_and_then}
@@ -15,7 +15,8 @@ use Rattle.mls_geom.proofs.Squares.{range_with_len-Contains}
 use Rattle.mls_kinds.specs.KindSets.{holds as has_kind}
 use Rattle.mls_checker.specs.ZoneLayouts.{AgreeOutside}
 use Rattle.mls_session.specs.Bounds.{dumped_rect, has_paint, moved_rect, painted_bounds}
-use Rattle.mls_session.specs.Changes.{has_square, kind_at, layout_leaves_world, leaves_world, moved}
+use Rattle.mls_layout.specs.Moves.{kind_at, moved}
+use Rattle.mls_session.specs.Changes.{has_square, layout_leaves_world, leaves_world}
 use Rattle.mls_session.specs.Own.{dumped_layout, erased_layout, with_plane}
 use Rattle.mls_session.proofs.FirstPlanes.{any_at}
 use Rattle.mls_session.proofs.MovedRects.{IsMoved, IsMoved-moved_rect, has_square-to, holds-IsMoved, holds_at, lines_moved, moved_rect-is, none_of, not_beyond}
@@ -89,7 +90,7 @@ module _ (planes : ℕ) (cell : Layout) (dx dy : ℤ) where
         (not_beyond (pos e.top +ℤ dy) (omega (arith, ints, top, top_square.2)) (omega (arith, ints, top, top_square.3))) in
         moved_rect-is e dx dy size.0 size.1 ∙ ap (λ beyond. if beyond then None else Some (lines_moved e dx dy)) inside
 
-  -- ---- what it paints
+  -- ---- what it shows
   module _ (beyond : (plane : ℕ) → planes ≤ plane → cell plane ≡ empty_picture) (outside : (plane x y : ℕ) → holds world x y ≡ false → cell plane x y ≡ 0) where
     space_at : (plane x y : ℕ) → ¬ (Passes (has_paint planes cell) x y) → cell plane x y ≡ 0
     space_at plane x y none = elim (cases_lt plane planes) [
@@ -103,62 +104,62 @@ module _ (planes : ℕ) (cell : Layout) (dx dy : ℤ) where
       ]
     ]
 
-    kept_square : (layout : Layout) (plane x y : ℕ) → moved (cell plane) dx dy x y ≡ 0 → layout plane x y ≡ dumped_layout layout cell dx dy plane x y
-    kept_square layout plane x y space = ap (λ kind. if kind == 0 then layout plane x y else kind) (sym space)
+    -- a cell without a square other than space shows nothing
+    none_at : ((a b : ℕ) → ¬ (Passes (has_paint planes cell) a b)) → (plane : ℕ) (zx zy : ℤ) → kind_at (cell plane) zx zy ≡ 0
+    none_at none plane (pos a) (pos b) = space_at plane a b (none a b)
+    none_at none plane (pos a) (negsuc b) = refl
+    none_at none plane (negsuc a) zy = refl
 
-    -- the dump of a cell without a square other than space changes nothing
-    pub dumped-nothing : (layout : Layout) → painted_bounds planes cell ≡ None → dumped_layout layout cell dx dy ≡ layout
+    moved-nothing : painted_bounds planes cell ≡ None → (plane x y : ℕ) → moved (cell plane) dx dy x y ≡ 0
     unfolding moved
-    dumped-nothing layout empty =
-        sym (fun_ext (λ plane. fun_ext (λ x. fun_ext (λ y. kept_square layout plane x y (at plane (pos x -ℤ dx) (pos y -ℤ dy))))))
-      where
-        none : (x y : ℕ) → ¬ (Passes (has_paint planes cell) x y)
-        none = subst (IsBounds (has_paint planes cell)) empty (IsBounds-bounds_of (has_paint planes cell))
+    moved-nothing empty plane x y =
+        none_at (subst (IsBounds (has_paint planes cell)) empty (IsBounds-bounds_of (has_paint planes cell))) plane (pos x -ℤ dx) (pos y -ℤ dy)
 
-        at : (plane : ℕ) (zx zy : ℤ) → kind_at (cell plane) zx zy ≡ 0
-        at plane (pos a) (pos b) = space_at plane a b (none a b)
-        at plane (pos a) (negsuc b) = refl
-        at plane (negsuc a) zy = refl
+    -- and another one shows nothing outside its moved rectangle
+    none_outside : (e : Rect) → IsSmallest (has_paint planes cell) e → (plane : ℕ) (zx zy : ℤ) → holds_at e zx zy ≡ false → kind_at (cell plane) zx zy ≡ 0
+    none_outside e smallest plane (pos a) (pos b) h = space_at plane a b (λ passes. absurd (cc (sym h ∙ smallest.each a b passes)))
+    none_outside e smallest plane (pos a) (negsuc b) h = refl
+    none_outside e smallest plane (negsuc a) zy h = refl
 
-    agrees_outside : (layout : Layout) (e rect : Rect) → IsSmallest (has_paint planes cell) e → IsMoved e rect dx dy → AgreeOutside rect layout (dumped_layout layout cell dx dy)
+    outside_moved :
+        (e rect : Rect) → IsSmallest (has_paint planes cell) e → IsMoved e rect dx dy → (plane x y : ℕ) → holds rect x y ≡ false
+        → moved (cell plane) dx dy x y ≡ 0
     unfolding moved
-    agrees_outside layout e rect smallest is plane x y out =
-        kept_square layout plane x y (at (pos x -ℤ dx) (pos y -ℤ dy) (sym (holds-IsMoved e rect dx dy x y is) ∙ out))
-      where
-        at : (zx zy : ℤ) → holds_at e zx zy ≡ false → kind_at (cell plane) zx zy ≡ 0
-        at (pos a) (pos b) h = space_at plane a b (λ passes. absurd (cc (sym h ∙ smallest.each a b passes)))
-        at (pos a) (negsuc b) h = refl
-        at (negsuc a) zy h = refl
+    outside_moved e rect smallest is plane x y out =
+        none_outside e smallest plane (pos x -ℤ dx) (pos y -ℤ dy) (sym (holds-IsMoved e rect dx dy x y is) ∙ out)
 
-    -- and that of another cell changes squares of the moved rectangle alone
-    pub dumped-bounds :
-        (layout : Layout) (bounds : Rect) → layout_leaves_world planes cell dx dy ≡ false → painted_bounds planes cell ≡ Some bounds
-        → (rect : Rect) × (moved_rect bounds dx dy ≡ Some rect) × AgreeOutside rect layout (dumped_layout layout cell dx dy)
-    dumped-bounds layout bounds stays found =
-        let smallest = bounds_there (has_paint planes cell) (painted_bounds planes cell) bounds (IsBounds-bounds_of (has_paint planes cell)) found in
-        let size = sized (has_paint planes cell) bounds smallest in
-        let rect = lines_moved bounds dx dy in
-        let is = moved_rect-smallest stays bounds smallest in
-        (rect, is, agrees_outside layout bounds rect smallest (IsMoved-moved_rect bounds rect dx dy size.0 size.1 is))
-
-    -- so it is of the rectangle that is asked for
-    pub AgreeOutside-dumped : (layout : Layout) (rect : Rect) → dumped_rect planes cell dx dy ≡ Some rect → AgreeOutside rect layout (dumped_layout layout cell dx dy)
-    AgreeOutside-dumped layout rect asked = by (painted_bounds planes cell) (IsBounds-bounds_of (has_paint planes cell)) asked
+    -- so it does outside the rectangle that is asked for
+    pub moved-outside : (rect : Rect) → dumped_rect planes cell dx dy ≡ Some rect → (plane x y : ℕ) → holds rect x y ≡ false → moved (cell plane) dx dy x y ≡ 0
+    moved-outside rect asked = by (painted_bounds planes cell) (IsBounds-bounds_of (has_paint planes cell)) asked
       where
         by :
             (found : Option Rect) → IsBounds (has_paint planes cell) found → option_and_then (λ bounds. moved_rect bounds dx dy) found ≡ Some rect
-            → AgreeOutside rect layout (dumped_layout layout cell dx dy)
+            → (plane x y : ℕ) → holds rect x y ≡ false → moved (cell plane) dx dy x y ≡ 0
         by None none h = absurd (cc h)
         by (Some bounds) smallest h =
             let size = sized (has_paint planes cell) bounds smallest in
-            agrees_outside layout bounds rect smallest (IsMoved-moved_rect bounds rect dx dy size.0 size.1 h)
+            outside_moved bounds rect smallest (IsMoved-moved_rect bounds rect dx dy size.0 size.1 h)
 
-    -- and a dump that has none changes nothing
-    pub dumped-None : (layout : Layout) → layout_leaves_world planes cell dx dy ≡ false → dumped_rect planes cell dx dy ≡ None → dumped_layout layout cell dx dy ≡ layout
-    dumped-None layout stays asked = by (painted_bounds planes cell) refl asked
+    -- and where there is none, it shows nothing
+    pub moved-None : layout_leaves_world planes cell dx dy ≡ false → dumped_rect planes cell dx dy ≡ None → (plane x y : ℕ) → moved (cell plane) dx dy x y ≡ 0
+    moved-None stays asked = by (painted_bounds planes cell) refl asked
       where
-        by : (found : Option Rect) → painted_bounds planes cell ≡ found → option_and_then (λ bounds. moved_rect bounds dx dy) found ≡ None → dumped_layout layout cell dx dy ≡ layout
-        by None empty h = dumped-nothing layout empty
+        by :
+            (found : Option Rect) → painted_bounds planes cell ≡ found → option_and_then (λ bounds. moved_rect bounds dx dy) found ≡ None
+            → (plane x y : ℕ) → moved (cell plane) dx dy x y ≡ 0
+        by None empty h = moved-nothing empty
         by (Some bounds) found h =
-            let (rect, is, agrees) = dumped-bounds layout bounds stays found in
-            absurd (cc (sym h ∙ is))
+            let smallest = bounds_there (has_paint planes cell) (painted_bounds planes cell) bounds (IsBounds-bounds_of (has_paint planes cell)) found in
+            absurd (cc (sym h ∙ moved_rect-smallest stays bounds smallest))
+
+    -- ---- what a dump of it changes
+    kept_square : (layout : Layout) (plane x y : ℕ) → moved (cell plane) dx dy x y ≡ 0 → layout plane x y ≡ dumped_layout layout cell dx dy plane x y
+    kept_square layout plane x y space = ap (λ kind. if kind == 0 then layout plane x y else kind) (sym space)
+
+    -- squares of the rectangle that is asked for
+    pub AgreeOutside-dumped : (layout : Layout) (rect : Rect) → dumped_rect planes cell dx dy ≡ Some rect → AgreeOutside rect layout (dumped_layout layout cell dx dy)
+    AgreeOutside-dumped layout rect asked plane x y out = kept_square layout plane x y (moved-outside rect asked plane x y out)
+
+    -- and nothing, where there is none
+    pub dumped-None : (layout : Layout) → layout_leaves_world planes cell dx dy ≡ false → dumped_rect planes cell dx dy ≡ None → dumped_layout layout cell dx dy ≡ layout
+    dumped-None layout stays asked = sym (fun_ext (λ plane. fun_ext (λ x. fun_ext (λ y. kept_square layout plane x y (moved-None stays asked plane x y)))))

@@ -10,7 +10,8 @@ use Rattle.mls_paint.specs.Planes.{AddsOwner, layout_in, picture_in}
 use Rattle.mls_paint.proofs.OwnerFrames.{ChangesAmong-ChangesOnly, ChangesAmong-more, ChangesAmong-refl, HasStrips-AddsOwner, HasStrips-ChangesAmong, layout_in-kept, picture_in-ChangesAmong, room_of-ChangesAmong}
 use Rattle.mls_errorplane.specs.ErrorPlanes.{ShowsMarks, checking_of, marks_picture}
 use Rattle.mls_errorplane.specs.MarkPlanes.{is_marked}
-use Rattle.mls_errorplane.specs.Workspaces.{FitsWorkspace}
+use Rattle.mls_layout.specs.Workspaces.{FitsWorkspace}
+use Rattle.mls_layout.specs.declared.uses.CellUse.{CellUse}
 use Rattle.mls_session.specs.Designs.{AreAtHome, Design, HasErrorPlane, IsHome, KeepsPlanes, drawn_of, owners_of}
 use Rattle.mls_session.specs.Quotas.{most_quota, plane_reserve}
 use Rattle.mls_session.proofs.HomePlanes.{AreAtHome-ChangesOnly, AreAtHome-same, differ_from_new}
@@ -112,14 +113,15 @@ module _ (old new : Pool) (design : Design) (errors : HasErrorPlane old design) 
   layout-kept = layout_in-kept old new design.planes (λ k d within. ap shown (changed.others (get_or design.planes k d) (errors.apart k d within)))
 
   pub drawn-kept : drawn_of new design ≡ drawn_of old design
-  drawn-kept = ap (λ layout. record { box = design.box; layout = layout }) layout-kept
+  drawn-kept = ap (λ paint. record { box = design.box; paint = paint; uses = design.uses }) layout-kept
 
 pub drawn-errors :
     (old new : Pool) (before after : Design) → IsHome old before → ChangesOnly old new before.errors.owner → after.box ≡ before.box → after.planes ≡ before.planes
-    → drawn_of new after ≡ drawn_of old before
-drawn-errors old new before after home changed box planes =
-    ap (λ (b : Option Rect). record { box = b; layout = layout_in new after.planes }) box
-    ∙ ap (λ (owners : List ℕ). record { box = before.box; layout = layout_in new owners }) planes
+    → after.uses ≡ before.uses → drawn_of new after ≡ drawn_of old before
+drawn-errors old new before after home changed box planes uses =
+    ap (λ (b : Option Rect). record { box = b; paint = layout_in new after.planes; uses = after.uses }) box
+    ∙ ap (λ (owners : List ℕ). record { box = before.box; paint = layout_in new owners; uses = after.uses }) planes
+    ∙ ap (λ (placed : List CellUse). record { box = before.box; paint = layout_in new before.planes; uses = placed }) uses
     ∙ drawn-kept old new before home.errors changed
 
 pub KeepsPlanes-errors :
@@ -151,7 +153,7 @@ module _ (old new : Pool) (quota : ℕ) (planes : List ℕ) (owner : ℕ) (home 
 
   pub IsHome-added : (design : Design) → design.planes ≡ planes → design.quota ≡ quota → design.errors.owner ≡ owner → ShowsMarks new owner → IsHome new design
   IsHome-added design same_planes same_quota same_owner shows =
-      let added_to : Design = record { box = design.box; planes = planes; quota = quota; errors = record { owner = owner; dirty = design.errors.dirty } } in
+      let added_to : Design = record { box = design.box; planes = planes; uses = design.uses; quota = quota; errors = record { owner = owner; dirty = design.errors.dirty } } in
       IsHome-same new added_to design same_planes same_quota same_owner (record {
         layout = record {
           strips = λ k d within. HasStrips-AddsOwner old new owner (get_or planes k d) (plane_reserve quota) added (home.strips k d within);

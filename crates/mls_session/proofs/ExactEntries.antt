@@ -8,7 +8,7 @@ use Rattle.mls_session.specs.contracts.journal.EntryPartialEq.TheImpl as entry_t
 use Rattle.mls_session.specs.contracts.journal.SaidPartialEq.TheImpl as said_test
 use Rattle.mls_session.specs.contracts.reply.ReplyPartialEq.TheImpl as reply_test
 use Rattle.mls_session.specs.declared.command.Command.{Command}
-use Rattle.mls_session.specs.declared.command.Command.TheVariants.{Box, Paint, Erase, Dump, What, Save, Check, CatchUp, Why, Count}
+use Rattle.mls_session.specs.declared.command.Command.TheVariants.{Box, Paint, Erase, Dump, GetCell, What, Save, Check, CatchUp, Why, Count}
 use Rattle.mls_session.specs.declared.journal.Entry.{Entry}
 use Rattle.mls_session.specs.declared.journal.Said.{Said}
 use Rattle.mls_session.specs.declared.reply.Reply.{Reply}
@@ -31,6 +31,7 @@ command_exact (Box left bottom right top) b = (λ is. absurd cc, λ is. absurd c
 command_exact (Paint kind) b = search (rules, tests)
 command_exact (Erase kinds) b = search (rules, tests)
 command_exact (Dump cell dx dy) b = search (rules, tests)
+command_exact (GetCell cell dx dy) b = search (rules, tests)
 command_exact What b = search (rules, tests)
 command_exact Save b = search (rules, tests)
 command_exact Check b = search (rules, tests)

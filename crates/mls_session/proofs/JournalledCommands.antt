@@ -6,7 +6,7 @@ use Rattle.mls_session.specs.Journals.{Commands, Does, Kept, RunsOut, is_journal
 use Rattle.mls_session.specs.Own.{Designed}
 use Rattle.mls_session.specs.OwnSteps.{DesignRunsOut, DesignSteps, OwnState, Terms, checks, design_step, own_step}
 use Rattle.mls_session.specs.declared.command.Command.{Command}
-use Rattle.mls_session.specs.declared.command.Command.TheVariants.{CatchUp, Why}
+use Rattle.mls_session.specs.declared.command.Command.TheVariants.{CatchUp, What, Why}
 use Rattle.mls_session.specs.declared.executed.Executed.{Executed}
 use Rattle.mls_session.specs.declared.journal.Entry.{Entry}
 use Rattle.mls_session.specs.declared.refusal.Refusal.TheVariants.{JournalFull}
@@ -75,6 +75,12 @@ module _ (terms : Terms) (old new : Designed) (journal : Journal) (executed : Ex
       let with_checks : ℕ → Kept = λ n. kept_with new (record journal { checks = n }) in
       let no_more : journal.checks + executed.steps ≡ journal.checks = omega (arith, none) in
       (boxed, refused, counted terms old new journal Why executed room memory ∙ ap with_checks no_more ∙ ap (λ own. kept_with own journal) same)
+  -- nor does `what`
+  RunsOut-executed What (boxed, placed, refused, same) none =
+      let memory : is_refusal is_memory executed.reply ≡ true = ap (is_refusal is_memory) refused in
+      let with_checks : ℕ → Kept = λ n. kept_with new (record journal { checks = n }) in
+      let no_more : journal.checks + executed.steps ≡ journal.checks = omega (arith, none) in
+      (boxed, placed, refused, counted terms old new journal What executed room memory ∙ ap with_checks no_more ∙ ap (λ own. kept_with own journal) same)
   -- catching up keeps the check steps that it did
   RunsOut-executed CatchUp (count, steps, left, stopped) counts =
       let memory : is_refusal is_memory executed.reply ≡ true = ap (is_refusal is_memory) stopped in

@@ -26,18 +26,18 @@ Saves-full terms kept out full = ([], inl (Does-full terms kept Save full, refl)
 
 module _ (terms : Terms) (own : Designed) (journal : Journal) (steps : ℕ) (out longer : List ℕ) (room : length journal.entries ≢ terms.journal) (none : steps ≡ 0) where
   saved :
-      (lines : ℕ) → SavesText terms.config.tech own.drawn.layout (Saved lines) out longer
+      (lines : ℕ) → SavesText terms.config.tech own.drawn.paint (Saved lines) out longer
       → SavesMore terms (kept_with own journal) (Saved lines) out longer (kept_with own (after_command journal Save (record { reply = Saved lines; steps = steps })))
   unfolding design_step
   saved lines (count, appended) =
       let taken : save_step terms.config own ≡ (own, Saved lines) = ap (λ (n : ℕ). (own, Saved n)) (sym count) in (
-        saved_text terms.config.tech own.drawn.layout,
+        saved_text terms.config.tech own.drawn.paint,
         inl (Does-executed terms own own journal Save (record { reply = Saved lines; steps = steps }) room taken, refl),
         appended,
       )
 
   refused :
-      (refusal : Refusal) → SavesText terms.config.tech own.drawn.layout (Refused refusal) out longer
+      (refusal : Refusal) → SavesText terms.config.tech own.drawn.paint (Refused refusal) out longer
       → SavesMore terms (kept_with own journal) (Refused refusal) out longer (kept_with own (after_command journal Save (record { reply = Refused refusal; steps = steps })))
   refused refusal (memory, same) =
       let with_checks : ℕ → Kept = λ n. kept_with own (record journal { checks = n }) in
@@ -47,7 +47,7 @@ module _ (terms : Terms) (own : Designed) (journal : Journal) (steps : ℕ) (out
       ([], inr (room, ap Refused memory, refl, kept), same ∙ sym (append-nil out))
 
   saves :
-      (reply : Reply) → SavesText terms.config.tech own.drawn.layout reply out longer
+      (reply : Reply) → SavesText terms.config.tech own.drawn.paint reply out longer
       → SavesMore terms (kept_with own journal) reply out longer (kept_with own (after_command journal Save (record { reply = reply; steps = steps })))
   saves (Saved lines) text = saved lines text
   saves (Refused refusal) text = refused refusal text
@@ -60,9 +60,9 @@ module _ (terms : Terms) (own : Designed) (journal : Journal) (steps : ℕ) (out
 -- where the journal has room
 pub Saves-saved :
     (terms : Terms) (tech : Tech) (own : Designed) (journal after : Journal) (executed : Executed) (out longer : List ℕ) → terms.config.tech ≡ tech
-    → length journal.entries ≢ terms.journal → SavesText tech own.drawn.layout executed.reply out longer → executed.steps ≡ 0
+    → length journal.entries ≢ terms.journal → SavesText tech own.drawn.paint executed.reply out longer → executed.steps ≡ 0
     → after ≡ after_command journal Save executed → SavesMore terms (kept_with own journal) executed.reply out longer (kept_with own after)
 Saves-saved terms tech own journal after executed out longer by room text none is =
-    let here = subst (λ (t : Tech). SavesText t own.drawn.layout executed.reply out longer) (sym by) text in
+    let here = subst (λ (t : Tech). SavesText t own.drawn.paint executed.reply out longer) (sym by) text in
     subst (λ (j : Journal). SavesMore terms (kept_with own journal) executed.reply out longer (kept_with own j)) (sym is)
     (saves terms own journal executed.steps out longer room none executed.reply here)

@@ -12,7 +12,7 @@ use Rattle.mls_errorplane.specs.declared.error_plane.Stepped.{Stepped}
 use Rattle.mls_errorplane.specs.declared.error_plane.Stepped.TheVariants as stepped
 use Rattle.mls_session.specs.Inner.{Journal, after_steps, done_steps, finished_steps}
 use Rattle.mls_session.specs.Journals.{ChecksOnce, Finishes, Kept, StepsOnce}
-use Rattle.mls_session.specs.Own.{Designed, Drawn}
+use Rattle.mls_session.specs.Own.{Designed, Drawn, layout_of}
 use Rattle.mls_session.specs.OwnSteps.{Terms, checked, own_check}
 use Rattle.mls_session.proofs.CheckedDesigns.{checked-done, checked-full}
 use Rattle.mls_session.proofs.CountedSteps.{HasStepped-Finished}
@@ -36,18 +36,18 @@ module _ (terms : Terms) (old new : Designed) (journal : Journal) (drawn : new.d
   own_check_done done = ap (option_map (λ design. record { design = design; entries = length journal.entries })) done
 
   ChecksOnce-Done :
-      HasStepped terms.config.rules old.drawn.layout terms.config.quota old.checking stepped.Done new.checking
+      HasStepped terms.config.rules (layout_of terms.config old.drawn) terms.config.quota old.checking stepped.Done new.checking
       → ChecksOnce terms (kept_with old journal) (kept_with new (after_steps journal 1))
   ChecksOnce-Done (some, fits, is) =
-      let done : checked terms.config old ≡ Some new = checked-done terms.config old some fits ∙ ap Some (sym (design_of (check_step terms.config.rules old.drawn.layout old.checking) is)) in
+      let done : checked terms.config old ≡ Some new = checked-done terms.config old some fits ∙ ap Some (sym (design_of (check_step terms.config.rules (layout_of terms.config old.drawn) old.checking) is)) in
       (record { design = new; entries = length journal.entries }, own_check_done done, refl)
 
-  own_check_full : exceeds terms.config.quota (check_step terms.config.rules old.drawn.layout old.checking).marks ≡ true → own_check terms (kept_with old journal).own ≡ None
+  own_check_full : exceeds terms.config.quota (check_step terms.config.rules (layout_of terms.config old.drawn) old.checking).marks ≡ true → own_check terms (kept_with old journal).own ≡ None
   unfolding own_check
   own_check_full full = ap (option_map (λ design. record { design = design; entries = length journal.entries })) (checked-full terms.config old full)
 
   steps_once :
-      (ended : Stepped) → HasStepped terms.config.rules old.drawn.layout terms.config.quota old.checking ended new.checking
+      (ended : Stepped) → HasStepped terms.config.rules (layout_of terms.config old.drawn) terms.config.quota old.checking ended new.checking
       → StepsOnce terms (kept_with old journal) ended (kept_with new (after_steps journal (done_steps ended)))
   steps_once stepped.Idle (none, same) = (none, kept same)
   steps_once stepped.Done step = ChecksOnce-Done step
@@ -56,12 +56,12 @@ module _ (terms : Terms) (old new : Designed) (journal : Journal) (drawn : new.d
 
   finishes :
       (finding : Finding) (ended : Outcome)
-      → HasFinished terms.config.rules terms.config.tech.plane_count old.drawn.layout terms.config.quota old.checking finding ended new.checking
+      → HasFinished terms.config.rules terms.config.tech.plane_count (layout_of terms.config old.drawn) terms.config.quota old.checking finding ended new.checking
       → Finishes terms (kept_with old journal) finding ended (kept_with new (after_steps journal (finished_steps ended)))
   finishes finding outcome.Finished done = (
     done.0,
     ChecksOnce-Done
-        (HasStepped-Finished terms.config.rules terms.config.tech.plane_count old.drawn.layout terms.config.quota old.checking new.checking finding done),
+        (HasStepped-Finished terms.config.rules terms.config.tech.plane_count (layout_of terms.config old.drawn) terms.config.quota old.checking new.checking finding done),
   )
   finishes finding outcome.Stale (stale, same) = (stale, kept same)
   finishes finding outcome.Full (fresh, full, same) = (fresh, own_check_full full, kept same)
@@ -70,21 +70,21 @@ module _ (terms : Terms) (old new : Designed) (journal : Journal) (drawn : new.d
 -- a check step of the design is one of the session
 pub StepsOnce-stepped :
     (terms : Terms) (rules : List EdgeRule) (quota : ℕ) (old new : Designed) (journal after : Journal) (ended : Stepped)
-    → terms.config.rules ≡ rules → terms.config.quota ≡ quota → HasStepped rules old.drawn.layout quota old.checking ended new.checking
+    → terms.config.rules ≡ rules → terms.config.quota ≡ quota → HasStepped rules (layout_of terms.config old.drawn) quota old.checking ended new.checking
     → new.drawn ≡ old.drawn → after ≡ after_steps journal (done_steps ended) → StepsOnce terms (kept_with old journal) ended (kept_with new after)
 StepsOnce-stepped terms rules quota old new journal after ended by limit step drawn is =
-    let here = subst (λ (r : List EdgeRule). HasStepped r old.drawn.layout terms.config.quota old.checking ended new.checking) (sym by)
-    (subst (λ (q : ℕ). HasStepped rules old.drawn.layout q old.checking ended new.checking) (sym limit) step) in
+    let here = subst (λ (r : List EdgeRule). HasStepped r (layout_of terms.config old.drawn) terms.config.quota old.checking ended new.checking) (sym by)
+    (subst (λ (q : ℕ). HasStepped rules (layout_of terms.config old.drawn) q old.checking ended new.checking) (sym limit) step) in
     subst (λ (j : Journal). StepsOnce terms (kept_with old journal) ended (kept_with new j)) (sym is) (steps_once terms old new journal drawn ended here)
 
 -- and so is a finding that it finishes
 pub Finishes-finished :
     (terms : Terms) (rules : List EdgeRule) (planes quota : ℕ) (old new : Designed) (journal after : Journal) (finding : Finding) (ended : Outcome)
     → terms.config.tech.plane_count ≡ planes → terms.config.rules ≡ rules → terms.config.quota ≡ quota
-    → HasFinished rules planes old.drawn.layout quota old.checking finding ended new.checking → new.drawn ≡ old.drawn
+    → HasFinished rules planes (layout_of terms.config old.drawn) quota old.checking finding ended new.checking → new.drawn ≡ old.drawn
     → after ≡ after_steps journal (finished_steps ended) → Finishes terms (kept_with old journal) finding ended (kept_with new after)
 Finishes-finished terms rules planes quota old new journal after finding ended count by limit done drawn is =
-    let here = subst (λ (r : List EdgeRule). HasFinished r terms.config.tech.plane_count old.drawn.layout terms.config.quota old.checking finding ended new.checking) (sym by)
-    (subst (λ (p : ℕ). HasFinished rules p old.drawn.layout terms.config.quota old.checking finding ended new.checking) (sym count)
-    (subst (λ (q : ℕ). HasFinished rules planes old.drawn.layout q old.checking finding ended new.checking) (sym limit) done)) in
+    let here = subst (λ (r : List EdgeRule). HasFinished r terms.config.tech.plane_count (layout_of terms.config old.drawn) terms.config.quota old.checking finding ended new.checking) (sym by)
+    (subst (λ (p : ℕ). HasFinished rules p (layout_of terms.config old.drawn) terms.config.quota old.checking finding ended new.checking) (sym count)
+    (subst (λ (q : ℕ). HasFinished rules planes (layout_of terms.config old.drawn) q old.checking finding ended new.checking) (sym limit) done)) in
     subst (λ (j : Journal). Finishes terms (kept_with old journal) finding ended (kept_with new j)) (sym is) (finishes terms old new journal drawn finding ended here)

@@ -12,7 +12,7 @@ use Rattle.mls_errorplane.specs.declared.error_plane.Stepped.TheVariants as step
 use Rattle.mls_session.specs.Journals.{ChecksOnce, Commands, Does, Finishes, IsLegal, Kept, RunsOut, Saves, StepsOnce, is_journalled, kept_at_opening, noted, said_of}
 use Rattle.mls_session.specs.OwnSteps.{OwnState, Terms, checks, own_step}
 use Rattle.mls_session.specs.declared.command.Command.{Command}
-use Rattle.mls_session.specs.declared.command.Command.TheVariants.{Box, Paint, Erase, Dump, What, Save, Check, CatchUp, Why, Count}
+use Rattle.mls_session.specs.declared.command.Command.TheVariants.{Box, Paint, Erase, Dump, GetCell, What, Save, Check, CatchUp, Why, Count}
 use Rattle.mls_session.specs.declared.journal.Entry.{Entry}
 use Rattle.mls_session.specs.declared.refusal.Refusal.TheVariants.{JournalFull}
 use Rattle.mls_session.specs.declared.reply.Reply.{Reply}
@@ -105,7 +105,8 @@ module _ (terms : Terms) where
     RunsOut-legal (Paint kind) reply none legal = absurd none
     RunsOut-legal (Erase kinds) reply none legal = absurd none
     RunsOut-legal (Dump cell dx dy) reply none legal = absurd none
-    RunsOut-legal What reply none legal = absurd none
+    RunsOut-legal (GetCell cell dx dy) reply none legal = absurd none
+    RunsOut-legal What reply (some, placed, refused, same) legal = unchanged same legal
     RunsOut-legal Save reply none legal = absurd none
     RunsOut-legal Check reply none legal = absurd none
     RunsOut-legal Count reply none legal = absurd none
@@ -157,7 +158,8 @@ module _ (terms : Terms) where
     RunsOut-entries (Paint kind) reply none counts = absurd none
     RunsOut-entries (Erase kinds) reply none counts = absurd none
     RunsOut-entries (Dump cell dx dy) reply none counts = absurd none
-    RunsOut-entries What reply none counts = absurd none
+    RunsOut-entries (GetCell cell dx dy) reply none counts = absurd none
+    RunsOut-entries What reply (some, placed, refused, same) counts = uncounted same counts
     RunsOut-entries Save reply none counts = absurd none
     RunsOut-entries Check reply none counts = absurd none
     RunsOut-entries Count reply none counts = absurd none

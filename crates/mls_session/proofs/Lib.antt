@@ -19,6 +19,7 @@ pub mod EditedDesigns
 pub mod ErrorPlanes
 pub mod ExactEntries
 pub mod FirstPlanes
+pub mod FlatDesigns
 pub mod FoundTiles
 pub mod HomePlanes
 pub mod JournalRooms
@@ -35,6 +36,7 @@ pub mod Openings
 pub mod OwnReplies
 pub mod Painting
 pub mod PartialFacts
+pub mod PlacedCells
 pub mod RepaintedPlanes
 pub mod Results
 pub mod RightMarks

@@ -20,7 +20,8 @@ use Rattle.mls_stitch.specs.Tilings.{IsPlane, block_at, shown}
 use Rattle.mls_stitch.specs.declared.laid_tile.LaidTile.{LaidTile}
 use Rattle.mls_stitch.proofs.ShownTiles.{KeysDiffer, shown-inside, shown-outside}
 use Rattle.mls_stitch.proofs.Sides.{legal-AreBlocks}
-use Rattle.mls_session.specs.Changes.{dumped, has_square, kind_at, leaves_world, moved}
+use Rattle.mls_layout.specs.Moves.{kind_at, moved}
+use Rattle.mls_session.specs.Changes.{dumped, has_square, leaves_world}
 use Rattle.mls_session.specs.Bounds.{moved_rect}
 use Rattle.mls_session.proofs.MovedRects.{IsMoved-moved_rect, has_square-IsMoved, holds-IsMoved, holds_at, square-leaves}
 use Rattle.mls_session.proofs.TilePieces.{ArePatches, is_covered}

@@ -1,14 +1,19 @@
 -- A design is opened plane by plane.
-use Rattle.std.proofs.Common.{◌≡◌, ◌≢◌, ℕ, zero, suc, ◌+◌, ◌*◌, List, [], ◌∷◌, ◌++◌, length, get_or, All, refl, ap, ◌∙◌, subst, length-append, add-mul, arith}
+use Rattle.std.proofs.Common.{◌≡◌, ◌≢◌, ℕ, zero, suc, ◌+◌, ◌*◌, List, [], ◌∷◌, ◌++◌, length, get_or, All, refl, sym, ap, ◌∙◌, subst, length-append, add-mul, arith}
 use Rattle.std.proofs.Math.Path.{fun_ext}
 use Rattle.std.proofs.lemmas.List.Elements.{All-push}
+use Rattle.mls_geom.specs.Layouts.{Layout}
 use Rattle.mls_geom.specs.Pictures.{empty_picture}
 use Rattle.mls_tilepool.specs.Pools.{Pool, unreserved}
 use Rattle.mls_stitch.specs.Tilings.{shown}
 use Rattle.mls_paint.specs.Owners.{AddsOwners}
 use Rattle.mls_paint.specs.Planes.{AddsOwner, layout_in, picture_in}
 use Rattle.mls_paint.proofs.OwnerFrames.{AddsOwners-push}
-use Rattle.mls_session.specs.Own.{blank}
+use Rattle.mls_layout.proofs.PlacedUses.{flattened-no_uses}
+use Rattle.mls_errorplane.specs.Checkings.{IsChecked, opening_checking}
+use Rattle.mls_errorplane.proofs.EmptyLayouts.{opening-IsChecked}
+use Rattle.mls_session.specs.Own.{Config, blank, layout_of, opening}
+use Rattle.mls_session.specs.Designs.{HasRightMarks}
 
 -- the planes show nothing
 abbrev pub AreSpace : Pool → List ℕ → Type 0
@@ -20,8 +25,17 @@ layout_in-AreSpace pool (owner ∷ owners) space zero = space 0 owner (omega ari
 layout_in-AreSpace pool (owner ∷ owners) space (suc plane) = layout_in-AreSpace pool owners (λ k d within. space (suc k) d (omega (arith, within))) plane
 
 -- so their layout is blank
-pub layout_in-blank : (pool : Pool) (owners : List ℕ) → AreSpace pool owners → layout_in pool owners ≡ blank.layout
+pub layout_in-blank : (pool : Pool) (owners : List ℕ) → AreSpace pool owners → layout_in pool owners ≡ blank.paint
 layout_in-blank pool owners space = fun_ext (layout_in-AreSpace pool owners space)
+
+-- with no uses the layout is the own paint
+layout_of-blank : (config : Config) → ◌≡◌ {A = Layout} (layout_of config blank) (λ plane. empty_picture)
+layout_of-blank config = flattened-no_uses config.cells (λ plane. empty_picture)
+
+-- so at first the marks are right
+pub HasRightMarks-opening : (config : Config) → HasRightMarks config (opening config.rules)
+HasRightMarks-opening config =
+    subst (λ (layout : Layout). IsChecked config.rules layout (opening_checking config.rules)) (sym (layout_of-blank config)) (opening-IsChecked config.rules)
 
 -- one plane of space more
 pub AreSpace-push :

@@ -18,7 +18,7 @@ use Rattle.mls_session.proofs.RepaintedPlanes.{repaint_step-Done, repaint_step-R
 
 paint_step-repaint_step : (config : Config) (own : Drawn) (box : Option Rect) (named : Option ℕ) (e : Rect) (kind plane : ℕ) (pieces : List Piece) (next : Drawn × Reply)
     → box ≡ Some e → named ≡ Some kind → plane_of_type config.tech.type_planes kind ≡ Some plane → pieces ≡ record { rect = e; kind = kind } ∷ []
-    → repaint_step config own plane (overlaid (own.layout plane) pieces) ≡ next → paint_step config own box named ≡ next
+    → repaint_step config own plane (overlaid (own.paint plane) pieces) ≡ next → paint_step config own box named ≡ next
 paint_step-repaint_step config own box named e kind plane pieces next is_set is_known lies_on one repainted =
     rw (is_set, is_known, lies_on) (rw one at repainted)
 
@@ -32,9 +32,9 @@ module _ (config : Config) (old : Pool) (design : Design) (named : Option ℕ) (
 
   -- any other shows the box
   pub paint_step-Done :
-      (new : Pool) (after : Design) → AreAtHome old design.quota design.planes → after.box ≡ design.box → after.planes ≡ design.planes → ChangesOnly old new owner
+      (new : Pool) (after : Design) → AreAtHome old design.quota design.planes → after.box ≡ design.box → after.planes ≡ design.planes → after.uses ≡ design.uses → ChangesOnly old new owner
       → picture_in new owner ≡ overlaid (picture_in old owner) pieces → ¬ (design.quota < tile_count world (overlaid (picture_in old owner) pieces))
       → paint_step config (drawn_of old design) design.box named ≡ (drawn_of new after, Done)
-  paint_step-Done new after home same_box same_planes changed shows few =
+  paint_step-Done new after home same_box same_planes same_uses changed shows few =
       paint_step-repaint_step config (drawn_of old design) design.box named e kind plane pieces (drawn_of new after, Done) is_set is_known lies_on one
-      (repaint_step-Done config old new design after.box after.planes plane owner pieces same_quota home within is same_box same_planes changed shows few)
+      (repaint_step-Done config old new design after.box after.planes after.uses plane owner pieces same_quota home within is same_box same_planes same_uses changed shows few)

@@ -13,6 +13,7 @@ use Rattle.mls_tilepool.specs.Pools.{Pool}
 use Rattle.mls_stitch.specs.Tilings.{ChangesOnly, shown}
 use Rattle.mls_paint.specs.Planes.{layout_in, picture_at, picture_in}
 use Rattle.mls_paint.proofs.OwnerFrames.{layout_in-at}
+use Rattle.mls_layout.specs.declared.uses.CellUse.{CellUse}
 use Rattle.mls_session.specs.Own.{Config, repaint_step, with_plane}
 use Rattle.mls_session.specs.Designs.{AreAtHome, Design, drawn_of}
 use Rattle.mls_session.specs.declared.refusal.Refusal.TheVariants.{Quota}
@@ -47,17 +48,17 @@ layout_in-with_plane old new owners plane owner picture apart within is changed 
 
 -- a plane that shows the picture, with no more tiles than the quota, is what a repaint leads to
 pub repaint_step-Done :
-    (config : Config) (old new : Pool) (design : Design) (box : Option Rect) (planes : List ℕ) (plane owner : ℕ) (pieces : List Piece)
+    (config : Config) (old new : Pool) (design : Design) (box : Option Rect) (planes : List ℕ) (uses : List CellUse) (plane owner : ℕ) (pieces : List Piece)
     → config.quota ≡ design.quota → AreAtHome old design.quota design.planes → plane < length design.planes → owner ≡ get_or design.planes plane owner → box ≡ design.box
-    → planes ≡ design.planes → ChangesOnly old new owner → picture_in new owner ≡ overlaid (picture_in old owner) pieces
+    → planes ≡ design.planes → uses ≡ design.uses → ChangesOnly old new owner → picture_in new owner ≡ overlaid (picture_in old owner) pieces
     → ¬ (design.quota < tile_count world (overlaid (picture_in old owner) pieces))
     → repaint_step config (drawn_of old design) plane (overlaid (layout_in old design.planes plane) pieces)
-    ≡ (record { box = box; layout = layout_in new planes }, Done)
-repaint_step-Done config old new design box planes plane owner pieces same_quota home within is same_box same_planes changed shows few =
+    ≡ (record { box = box; paint = layout_in new planes; uses = uses }, Done)
+repaint_step-Done config old new design box planes uses plane owner pieces same_quota home within is same_box same_planes same_uses changed shows few =
     let before = layout_in-at old design.planes plane owner within is in
     let layout = layout_in-with_plane old new design.planes plane owner (overlaid (picture_in old owner) pieces) home.apart within is changed shows in
     let fits : nat_lt config.quota (tile_count world (overlaid (picture_in old owner) pieces)) ≡ false = grind (arith, nat_tests, same_quota, few) in
-    rw (before, fits, same_planes, same_box, layout) refl
+    rw (before, fits, same_planes, same_box, same_uses, layout) refl
 
 -- where the plane would have more, nothing changes
 pub repaint_step-Refused :

@@ -4,6 +4,7 @@ use Rattle.mls_geom.specs.World.{rect_of}
 use Rattle.mls_library.specs.SavedCells.{saved_line_count, saved_text}
 use Rattle.mls_session.specs.Journals.{Kept}
 use Rattle.mls_session.specs.Looks.{IsRect, Looks, look_of, status_of, why_in}
+use Rattle.mls_session.specs.Own.{layout_of}
 use Rattle.mls_session.specs.OwnSteps.{Terms}
 use Rattle.mls_session.specs.declared.look.Look.{Look}
 use Rattle.mls_session.specs.declared.look.Look.TheVariants.{Save, Why, Status as AskStatus}
@@ -18,11 +19,11 @@ LooksMore terms kept look looked out longer = (text : List ℕ) × Looks terms k
 
 -- at the layout, as text
 pub Looks-save :
-    (terms : Terms) (kept : Kept) (lines : ℕ) (out longer : List ℕ) → lines ≡ saved_line_count terms.config.tech kept.own.design.drawn.layout
-    → longer ≡ out ++ saved_text terms.config.tech kept.own.design.drawn.layout → LooksMore terms kept Save (Saved lines) out longer
+    (terms : Terms) (kept : Kept) (lines : ℕ) (out longer : List ℕ) → lines ≡ saved_line_count terms.config.tech kept.own.design.drawn.paint
+    → longer ≡ out ++ saved_text terms.config.tech kept.own.design.drawn.paint → LooksMore terms kept Save (Saved lines) out longer
 unfolding look_of
 Looks-save terms kept lines out longer count appended =
-    let text = saved_text terms.config.tech kept.own.design.drawn.layout in
+    let text = saved_text terms.config.tech kept.own.design.drawn.paint in
     let with_text : ℕ → Looked × List ℕ = λ n. (Saved n, text) in
     (text, inl (ap with_text (sym count)), appended)
 
@@ -32,7 +33,7 @@ without_text looked = (looked, [])
 -- at the rules that forbid a square of the rectangle between these lines
 pub Looks-why :
     (terms : Terms) (kept : Kept) (left bottom right top : ℤ) (looked : Looked)
-    → (looked ≡ why_in terms.config.rules kept.own.design.drawn.layout (rect_of left bottom right top)) ⊎ (IsRect (rect_of left bottom right top) × (looked ≡ Refused Memory))
+    → (looked ≡ why_in terms.config.rules (layout_of terms.config kept.own.design.drawn) (rect_of left bottom right top)) ⊎ (IsRect (rect_of left bottom right top) × (looked ≡ Refused Memory))
     → Looks terms kept (Why left bottom right top) looked []
 unfolding look_of
 Looks-why terms kept left bottom right top looked (inl is) = inl (ap without_text (sym is))

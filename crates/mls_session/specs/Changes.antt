@@ -1,24 +1,16 @@
 -- What erasing and dumping make of a picture, square by square. This project's own.
-use Rattle.std.specs.Prelude.{ℕ, ℤ, pos, ◌+ℤ◌, ◌-ℤ◌, ◌==◌, int_le, int_lt, Bool, not, ◌&&◌, if◌then◌else◌}
+use Rattle.std.specs.Prelude.{ℕ, ℤ, pos, ◌+ℤ◌, ◌==◌, int_le, int_lt, Bool, not, ◌&&◌, if◌then◌else◌}
 use Rattle.std.specs.List.{list_any, range_with_len}
 use Rattle.mls_geom.specs.Layouts.{Layout}
 use Rattle.mls_geom.specs.Pictures.{Picture, columns, rows}
 use Rattle.mls_geom.specs.Rects.{Rect, holds}
 use Rattle.mls_geom.specs.World.{world}
 use Rattle.mls_kinds.specs.KindSets.{holds as has_kind}
+use Rattle.mls_layout.specs.Moves.{moved}
 
 -- the picture with space in the squares of the rectangle that have one of these kinds
 abbrev pub erased : Picture → Rect → ℕ → Picture
 erased below e kinds x y = if holds e x y && has_kind kinds (below x y) then 0 else below x y
-
--- the kind of the square at a column and a row, which may lie below 0, where all is space
-abbrev pub kind_at : Picture → ℤ → ℤ → ℕ
-kind_at picture (pos x) (pos y) = picture x y
-kind_at picture x y = 0
-
--- the picture moved to the right by dx columns and up by dy rows
-unfoldable pub moved : Picture → ℤ → ℤ → Picture
-moved picture dx dy x y = kind_at picture (pos x -ℤ dx) (pos y -ℤ dy)
 
 -- the picture with the squares of another one, moved, that aren't space, painted over it
 abbrev pub dumped : Picture → Picture → ℤ → ℤ → Picture

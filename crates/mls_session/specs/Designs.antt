@@ -1,30 +1,31 @@
 -- What a caller sees of a design, its own state, and its planes in the pool.
 use Rattle.std.specs.Prelude.{◌≡◌, ◌≢◌, ℕ, Option, Some, List, [], ◌∷◌, ◌++◌, length, ⊤}
 use Rattle.std.specs.List.{All, AllPairs, Contains}
-use Rattle.mls_edgerule.specs.declared.edge_rule.EdgeRule.{EdgeRule}
 use Rattle.mls_geom.specs.Rects.{Rect}
+use Rattle.mls_layout.specs.declared.uses.CellUse.{CellUse}
 use Rattle.mls_library.specs.Libraries.{HavePlanes, IsHome as AreCellsHome}
 use Rattle.mls_tilepool.specs.Pools.{Pool, room_of}
 use Rattle.mls_paint.specs.Owners.{ChangesAmong}
 use Rattle.mls_paint.specs.Planes.{HasStrips, layout_in}
 use Rattle.mls_errorplane.specs.Checkings.{IsChecked}
 use Rattle.mls_errorplane.specs.ErrorPlanes.{ErrorPlane, ShowsMarks, checking_of}
-use Rattle.mls_session.specs.Own.{Designed, Drawn}
+use Rattle.mls_session.specs.Own.{Config, Designed, Drawn, layout_of}
 use Rattle.mls_session.specs.Quotas.{plane_reserve}
 use Rattle.mls_session.specs.declared.setup.Setup.{Setup}
 use Rattle.mls_session.specs.declared.reply.Reply.{Reply}
 use Rattle.mls_session.specs.declared.reply.Reply.TheVariants.{Done, Kinds, Saved, Count, Why, Refused, Stopped}
 
--- the box, the owners of the layout's planes, the most tiles that a plane may have, and the error plane
+-- the box, the owners of the planes of own paint, the cells that are placed, the most tiles that a plane may have, and the error plane
 pub record Design : Type 0 where
   pub box : Option Rect
   pub planes : List ℕ
+  pub uses : List CellUse
   pub quota : ℕ
   pub errors : ErrorPlane
 
--- the layout and the marks are what the tiles of the design's planes show
+-- the own paint and the marks are what the tiles of the design's planes show
 abbrev pub drawn_of : Pool → Design → Drawn
-drawn_of pool design = record { box = design.box; layout = layout_in pool design.planes }
+drawn_of pool design = record { box = design.box; paint = layout_in pool design.planes; uses = design.uses }
 
 abbrev pub designed_of : Pool → Design → Designed
 designed_of pool design = record { drawn = drawn_of pool design; checking = checking_of pool design.errors }
@@ -80,5 +81,5 @@ OnRefused (Refused refusal) P = P
 OnRefused (Stopped refusal pending) P = ⊤
 
 -- outside the areas that await checking, the marked squares are exactly those of the layout that the rules forbid
-abbrev pub HasRightMarks : List EdgeRule → Designed → Type 0
-HasRightMarks rules own = IsChecked rules own.drawn.layout own.checking
+abbrev pub HasRightMarks : Config → Designed → Type 0
+HasRightMarks config own = IsChecked config.rules (layout_of config own.drawn) own.checking

@@ -13,13 +13,14 @@ use Rattle.mls_geom.specs.Layouts.{Layout}
 use Rattle.mls_library.specs.SavedCells.{saved_text}
 use Rattle.mls_tech.specs.Readings.{Tech}
 use Rattle.mls_edgerule.specs.declared.edge_rule.EdgeRule.{EdgeRule}
+use Rattle.mls_session.specs.Own.{layout_of}
 use Rattle.mls_session.specs.OwnSteps.{OwnState, Terms, beginning, checks, own_check, own_step}
 use Rattle.mls_session.specs.declared.command.Command.{Command}
-use Rattle.mls_session.specs.declared.command.Command.TheVariants.{Box, Paint, Erase, Dump, What, Save, Check, CatchUp, Why, Count}
+use Rattle.mls_session.specs.declared.command.Command.TheVariants.{Box, Paint, Erase, Dump, GetCell, What, Save, Check, CatchUp, Why, Count}
 use Rattle.mls_session.specs.declared.journal.Entry.{Entry}
 use Rattle.mls_session.specs.declared.journal.Said.{Said}
 use Rattle.mls_session.specs.declared.refusal.Refusal.{Refusal}
-use Rattle.mls_session.specs.declared.refusal.Refusal.TheVariants.{EmptyBox, OutsideWorld, NoBox, UnknownType, Quota, JournalFull, UnknownCell, CellOutside, Memory}
+use Rattle.mls_session.specs.declared.refusal.Refusal.TheVariants.{EmptyBox, OutsideWorld, NoBox, UnknownType, Quota, JournalFull, UnknownCell, CellOutside, Memory, TooManyUses}
 use Rattle.mls_session.specs.declared.reply.Reply.{Reply}
 use Rattle.mls_session.specs.declared.reply.Reply.TheVariants.{Done, Kinds, Saved, Count as Counted, Why as WhyRules, Refused, Stopped}
 
@@ -45,6 +46,7 @@ is_memory Quota = false
 is_memory JournalFull = false
 is_memory UnknownCell = false
 is_memory CellOutside = false
+is_memory TooManyUses = false
 
 -- the journal was full
 abbrev pub is_full : Refusal → Bool
@@ -57,6 +59,7 @@ is_full UnknownType = false
 is_full Quota = false
 is_full UnknownCell = false
 is_full CellOutside = false
+is_full TooManyUses = false
 
 -- the reply is a refusal of this kind
 abbrev pub is_refusal : (Refusal → Bool) → Reply → Bool
@@ -87,7 +90,7 @@ noted kept own command reply =
 abbrev pub Does : Terms → Kept → Command → Reply → Kept → Type 0
 Does terms old command reply new = (own : OwnState) × (own_step terms old.own command ≡ (own, reply)) × (new ≡ noted old own command reply)
 
--- memory ran out: `why` changes nothing, and catching up keeps the check steps that it did, with some areas left
+-- memory ran out: `why`, and `what` where cells are placed, change nothing, and catching up keeps the check steps that it did, with some areas left
 abbrev pub RunsOut : Terms → Kept → Command → Reply → Kept → Type 0
 RunsOut terms old CatchUp reply new =
     (count : ℕ) × (own : OwnState) × (checks terms count old.own ≡ Some own) × (own.design.checking.dirty ≢ [])
@@ -97,7 +100,9 @@ RunsOut terms old (Box left bottom right top) reply new = ⊥
 RunsOut terms old (Paint kind) reply new = ⊥
 RunsOut terms old (Erase kinds) reply new = ⊥
 RunsOut terms old (Dump cell dx dy) reply new = ⊥
-RunsOut terms old What reply new = ⊥
+RunsOut terms old (GetCell cell dx dy) reply new = ⊥
+RunsOut terms old What reply new =
+    (old.own.design.drawn.box ≢ None) × (old.own.design.drawn.uses ≢ []) × (reply ≡ Refused Memory) × (new ≡ old)
 RunsOut terms old Save reply new = ⊥
 RunsOut terms old Check reply new = ⊥
 RunsOut terms old Count reply new = ⊥
@@ -116,10 +121,10 @@ text_with tech layout (Kinds kinds) = []
 text_with tech layout (Counted errors pending) = []
 text_with tech layout (WhyRules rules) = []
 
--- the layout is saved, as the command's own step says; or memory ran out, and nothing changed
+-- the own paint is saved, as the command's own step says; or memory ran out, and nothing changed
 abbrev pub Saves : Terms → Kept → Reply → List ℕ → Kept → Type 0
 Saves terms old reply text new =
-    (Does terms old Save reply new × (text ≡ text_with terms.config.tech old.own.design.drawn.layout reply))
+    (Does terms old Save reply new × (text ≡ text_with terms.config.tech old.own.design.drawn.paint reply))
     ⊎ ((old.own.entries ≢ terms.journal) × (reply ≡ Refused Memory) × (text ≡ []) × (new ≡ old))
 
 -- one accepted check step, which is counted
@@ -135,7 +140,7 @@ StepsOnce terms old StepMemory new = (old.own.design.checking.dirty ≢ []) × (
 
 -- the finding is by the rules, of the first piece, and of the layout as it is now in the finding's zone
 abbrev pub IsFreshFor : Terms → Kept → Finding → Type 0
-IsFreshFor terms kept finding = IsFresh terms.config.rules terms.config.tech.plane_count kept.own.design.drawn.layout kept.own.design.checking finding
+IsFreshFor terms kept finding = IsFresh terms.config.rules terms.config.tech.plane_count (layout_of terms.config kept.own.design.drawn) kept.own.design.checking finding
 
 -- how finishing a finding ended, and what is kept after it
 abbrev pub Finishes : Terms → Kept → Finding → Outcome → Kept → Type 0

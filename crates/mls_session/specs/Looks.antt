@@ -12,6 +12,7 @@ use Rattle.mls_geom.specs.declared.rect.RectFault.{RectFault}
 use Rattle.mls_geom.specs.declared.rect.RectFault.TheVariants.{Empty, Outside}
 use Rattle.mls_library.specs.SavedCells.{saved_line_count, saved_text}
 use Rattle.mls_session.specs.Journals.{Kept}
+use Rattle.mls_session.specs.Own.{layout_of}
 use Rattle.mls_session.specs.OwnSteps.{Terms}
 use Rattle.mls_session.specs.declared.look.Look.{Look}
 use Rattle.mls_session.specs.declared.look.Look.TheVariants.{Save, Why, Status as AskStatus}
@@ -31,7 +32,7 @@ status_of terms kept = record {
   limit = terms.journal;
   steps = kept.checks;
   areas = length kept.own.design.checking.dirty;
-  tiles = tile_counts terms.config.tech.plane_count kept.own.design.drawn.layout;
+  tiles = tile_counts terms.config.tech.plane_count kept.own.design.drawn.paint;
   quota = terms.config.quota;
   mark_tiles = tile_count world (marks_picture kept.own.design.checking.marks);
 }
@@ -45,8 +46,8 @@ why_in rules layout (Err Outside) = Refused OutsideWorld
 -- what the look returns, and the text that comes with it
 unfoldable pub look_of : Terms → Kept → Look → Looked × List ℕ
 look_of terms kept Save =
-    (Saved (saved_line_count terms.config.tech kept.own.design.drawn.layout), saved_text terms.config.tech kept.own.design.drawn.layout)
-look_of terms kept (Why left bottom right top) = (why_in terms.config.rules kept.own.design.drawn.layout (rect_of left bottom right top), [])
+    (Saved (saved_line_count terms.config.tech kept.own.design.drawn.paint), saved_text terms.config.tech kept.own.design.drawn.paint)
+look_of terms kept (Why left bottom right top) = (why_in terms.config.rules (layout_of terms.config kept.own.design.drawn) (rect_of left bottom right top), [])
 look_of terms kept AskStatus = (HasStatus (status_of terms kept), [])
 
 -- memory may run out in any look but at a rectangle that there isn't

@@ -1,5 +1,5 @@
 -- What a design's commands do to a box, a layout and what is known of it. This project's own.
-use Rattle.std.specs.Prelude.{ℕ, ℤ, ◌==◌, nat_le, nat_lt, if◌then◌else◌, Bool, not, Option, Some, None, Result, Ok, Err, List, length, slice_get}
+use Rattle.std.specs.Prelude.{ℕ, ℤ, ◌==◌, nat_le, nat_lt, if◌then◌else◌, Bool, not, Option, Some, None, Result, Ok, Err, List, [], ◌∷◌, ◌++◌, length, slice_get}
 use Rattle.std.specs.List.{count_by, list_all, list_any, range_with_len, sum_by}
 use Rattle.std.specs.Option.{option_and_then}
 use Rattle.mls_edgerule.specs.declared.edge_rule.EdgeRule.{EdgeRule}
@@ -14,13 +14,15 @@ use Rattle.mls_geom.specs.World.{world}
 use Rattle.mls_geom.specs.declared.rect.RectFault.{RectFault}
 use Rattle.mls_geom.specs.declared.rect.RectFault.TheVariants.{Empty, Outside}
 use Rattle.mls_kinds.specs.KindSets.{members, set_of}
+use Rattle.mls_layout.specs.Uses.{flattened, most_uses}
+use Rattle.mls_layout.specs.declared.uses.CellUse.{CellUse}
 use Rattle.mls_library.specs.SavedCells.{saved_line_count}
 use Rattle.mls_tech.specs.Readings.{Tech, plane_of_type}
 use Rattle.mls_session.specs.Bounds.{dumped_rect}
 use Rattle.mls_session.specs.Changes.{dumped, erased, layout_leaves_world}
 use Rattle.mls_session.specs.declared.reply.Reply.{Reply}
 use Rattle.mls_session.specs.declared.reply.Reply.TheVariants.{Done, Kinds, Saved, Count as Counted, Why as WhyRules, Refused}
-use Rattle.mls_session.specs.declared.refusal.Refusal.TheVariants.{EmptyBox, OutsideWorld, NoBox, UnknownType, Quota, UnknownCell, CellOutside}
+use Rattle.mls_session.specs.declared.refusal.Refusal.TheVariants.{EmptyBox, OutsideWorld, NoBox, UnknownType, Quota, UnknownCell, CellOutside, TooManyUses}
 
 -- what no command changes: the technology, its compiled rules, the layouts of the library's cells, and the most tiles that a plane may have
 pub record Config : Type 0 where
@@ -29,16 +31,21 @@ pub record Config : Type 0 where
   pub cells : List Layout
   pub quota : ℕ
 
--- the box, if one is set, and the layout
+-- the box, if one is set, the own paint, and the cells that are placed, in the order in which they were
 pub record Drawn : Type 0 where
   pub box : Option Rect
-  pub layout : Layout
+  pub paint : Layout
+  pub uses : List CellUse
 
--- no box, and nothing but space
+-- no box, nothing but space, and no uses
 abbrev pub blank : Drawn
-blank = record { box = None; layout = λ plane. empty_picture }
+blank = record { box = None; paint = λ plane. empty_picture; uses = [] }
 
--- what is drawn, and what is known of which squares of it the rules forbid: the marked squares, and the areas that await checking
+-- the layout: the own paint where that isn't space, and else what the uses show
+abbrev pub layout_of : Config → Drawn → Layout
+layout_of config drawn = flattened config.cells drawn.uses drawn.paint
+
+-- what is drawn, and what is known of which squares of the layout the rules forbid: the marked squares, and the areas that await checking
 pub record Designed : Type 0 where
   pub drawn : Drawn
   pub checking : Checking
@@ -47,7 +54,7 @@ pub record Designed : Type 0 where
 abbrev pub opening : List EdgeRule → Designed
 opening rules = record { drawn = blank; checking = opening_checking rules }
 
--- ---- the layout that commands make
+-- ---- the own paint that commands make
 -- the layout with one plane's picture in place of its own
 abbrev pub with_plane : Layout → ℕ → Picture → Layout
 with_plane layout plane picture p = if p == plane then picture else layout p
@@ -84,16 +91,16 @@ box_step own (Ok e) = (record own { box = Some e }, Done)
 box_step own (Err Empty) = (own, Refused EmptyBox)
 box_step own (Err Outside) = (own, Refused OutsideWorld)
 
--- the plane becomes the picture, unless it would have more tiles than the quota
+-- the plane's own paint becomes the picture, unless it would have more tiles than the quota
 abbrev pub repaint_step : Config → Drawn → ℕ → Picture → Drawn × Reply
 repaint_step config own plane picture =
     if nat_lt config.quota (tile_count world picture) then (own, Refused Quota)
-    else (record own { layout = with_plane own.layout plane picture }, Done)
+    else (record own { paint = with_plane own.paint plane picture }, Done)
 
 -- the box is painted with the type, on the type's plane
 abbrev pub paint_on : Config → Drawn → Rect → ℕ → Option ℕ → Drawn × Reply
 paint_on config own e kind None = (own, Refused UnknownType)
-paint_on config own e kind (Some plane) = repaint_step config own plane (painted (own.layout plane) (record { rect = e; kind = kind }))
+paint_on config own e kind (Some plane) = repaint_step config own plane (painted (own.paint plane) (record { rect = e; kind = kind }))
 
 abbrev pub paint_in : Config → Drawn → Rect → Option ℕ → Drawn × Reply
 paint_in config own e None = (own, Refused UnknownType)
@@ -103,15 +110,15 @@ abbrev pub paint_step : Config → Drawn → Option Rect → Option ℕ → Draw
 paint_step config own None kind = (own, Refused NoBox)
 paint_step config own (Some e) kind = paint_in config own e kind
 
--- the layout becomes another one on all planes, unless one of them would have more tiles than the quota
+-- the own paint becomes another one on all planes, unless one of them would have more tiles than the quota
 abbrev pub change_step : Config → Drawn → Layout → Drawn × Reply
-change_step config own layout = if exceeds_quota config layout then (own, Refused Quota) else (record own { layout = layout }, Done)
+change_step config own layout = if exceeds_quota config layout then (own, Refused Quota) else (record own { paint = layout }, Done)
 
 -- these types are erased in the box, on each plane
 abbrev pub erase_in : Config → Drawn → Rect → Option ℕ → Drawn × Reply
 erase_in config own e None = (own, Refused UnknownType)
 erase_in config own e (Some kinds) =
-    if not (are_types config.tech kinds) then (own, Refused UnknownType) else change_step config own (erased_layout own.layout e kinds)
+    if not (are_types config.tech kinds) then (own, Refused UnknownType) else change_step config own (erased_layout own.paint e kinds)
 
 abbrev pub erase_step : Config → Drawn → Option Rect → Option ℕ → Drawn × Reply
 erase_step config own None kinds = (own, Refused NoBox)
@@ -122,12 +129,24 @@ abbrev pub dump_step : Config → Drawn → Option Layout → ℤ → ℤ → Dr
 dump_step config own None dx dy = (own, Refused UnknownCell)
 dump_step config own (Some cell) dx dy =
     if layout_leaves_world config.tech.plane_count cell dx dy then (own, Refused CellOutside)
-    else change_step config own (dumped_layout own.layout cell dx dy)
+    else change_step config own (dumped_layout own.paint cell dx dy)
+
+-- the cell of this number is placed, unless a square of it would leave the world, or there are as many uses as there may be
+abbrev pub get_in : Config → Drawn → ℕ → Option Layout → ℤ → ℤ → Drawn × Reply
+get_in config own id None dx dy = (own, Refused UnknownCell)
+get_in config own id (Some cell) dx dy =
+    if layout_leaves_world config.tech.plane_count cell dx dy then (own, Refused CellOutside)
+    else (if nat_le most_uses (length own.uses) then (own, Refused TooManyUses)
+    else (record own { uses = own.uses ++ record { cell = id; dx = dx; dy = dy } ∷ [] }, Done))
+
+abbrev pub get_step : Config → Drawn → Option ℕ → ℤ → ℤ → Drawn × Reply
+get_step config own None dx dy = (own, Refused UnknownCell)
+get_step config own (Some id) dx dy = get_in config own id (slice_get config.cells id) dx dy
 
 -- the types in the box
 abbrev pub what_step : Config → Drawn → Option Rect → Drawn × Reply
 what_step config own None = (own, Refused NoBox)
-what_step config own (Some e) = (own, Kinds (types_in config.tech.plane_count own.layout e))
+what_step config own (Some e) = (own, Kinds (types_in config.tech.plane_count (layout_of config own) e))
 
 -- the layout of the cell of this number
 abbrev pub cell_at : Config → Option ℕ → Option Layout
@@ -164,8 +183,8 @@ count_step own = (own, Counted (marked_squares own.checking.marks) (length own.c
 -- the rules that forbid a square of the box, in the layout as it is now
 abbrev pub why_step : Config → Designed → Option Rect → Designed × Reply
 why_step config own None = (own, Refused NoBox)
-why_step config own (Some e) = (own, WhyRules (violated_rules config.rules e own.drawn.layout))
+why_step config own (Some e) = (own, WhyRules (violated_rules config.rules e (layout_of config own.drawn)))
 
--- the number of lines of the layout's text
+-- the number of lines of the own paint's text
 abbrev pub save_step : Config → Designed → Designed × Reply
-save_step config own = (own, Saved (saved_line_count config.tech own.drawn.layout))
+save_step config own = (own, Saved (saved_line_count config.tech own.drawn.paint))

@@ -7,9 +7,9 @@ use Rattle.mls_errorplane.specs.Checkings.{Checking, check_step}
 use Rattle.mls_errorplane.specs.DirtyLists.{area_of}
 use Rattle.mls_errorplane.specs.ErrorPlanes.{exceeds}
 use Rattle.mls_geom.specs.World.{rect_of}
-use Rattle.mls_session.specs.Own.{Config, Designed, box_step, cell_at, check_in, count_step, dump_step, dumped_in, edit_step, erase_step, opening, paint_step, save_step, what_step, why_step}
+use Rattle.mls_session.specs.Own.{Config, Designed, box_step, cell_at, check_in, count_step, dump_step, dumped_in, edit_step, erase_step, get_step, layout_of, opening, paint_step, save_step, what_step, why_step}
 use Rattle.mls_session.specs.declared.command.Command.{Command}
-use Rattle.mls_session.specs.declared.command.Command.TheVariants.{Box, Paint, Erase, Dump, What, Save, Check, CatchUp, Why, Count}
+use Rattle.mls_session.specs.declared.command.Command.TheVariants.{Box, Paint, Erase, Dump, GetCell, What, Save, Check, CatchUp, Why, Count}
 use Rattle.mls_session.specs.declared.reply.Reply.{Reply}
 use Rattle.mls_session.specs.declared.reply.Reply.TheVariants.{Done, Refused, Stopped}
 use Rattle.mls_session.specs.declared.refusal.Refusal.TheVariants.{JournalFull, Memory, Quota}
@@ -31,7 +31,7 @@ beginning rules = record { design = opening rules; entries = 0 }
 -- ---- check steps
 -- what is known of the layout once the first piece is checked
 abbrev pub next_checking : Config → Designed → Checking
-next_checking config own = check_step config.rules own.drawn.layout own.checking
+next_checking config own = check_step config.rules (layout_of config own.drawn) own.checking
 
 -- the first piece is checked, unless no area awaits checking, or the error plane would then have more tiles than the quota
 unfoldable pub checked : Config → Designed → Option Designed
@@ -64,6 +64,7 @@ design_step config own (Box left bottom right top) = edit_step config own None (
 design_step config own (Paint kind) = edit_step config own own.drawn.box (paint_step config own.drawn own.drawn.box kind)
 design_step config own (Erase kinds) = edit_step config own own.drawn.box (erase_step config own.drawn own.drawn.box kinds)
 design_step config own (Dump cell dx dy) = edit_step config own (dumped_in config (cell_at config cell) dx dy) (dump_step config own.drawn (cell_at config cell) dx dy)
+design_step config own (GetCell cell dx dy) = edit_step config own (dumped_in config (cell_at config cell) dx dy) (get_step config own.drawn cell dx dy)
 design_step config own What = edit_step config own None (what_step config own.drawn own.drawn.box)
 design_step config own Save = save_step config own
 design_step config own Check = edit_step config own own.drawn.box (check_in own.drawn own.drawn.box)
@@ -71,7 +72,7 @@ design_step config own CatchUp = catch_up_step config own
 design_step config own Why = why_step config own own.drawn.box
 design_step config own Count = count_step own
 
--- memory ran out: `why` changes nothing, and catching up keeps the check steps that it did, with some areas left
+-- memory ran out: `why`, and `what` where cells are placed, change nothing, and catching up keeps the check steps that it did, with some areas left
 abbrev pub DesignRunsOut : Config → Designed → Command → Reply → Designed → Type 0
 DesignRunsOut config old CatchUp reply new =
     (count : ℕ) × (checked_times count config old ≡ Some new) × (new.checking.dirty ≢ []) × (reply ≡ Stopped Memory (length new.checking.dirty))
@@ -80,7 +81,8 @@ DesignRunsOut config old (Box left bottom right top) reply new = ⊥
 DesignRunsOut config old (Paint kind) reply new = ⊥
 DesignRunsOut config old (Erase kinds) reply new = ⊥
 DesignRunsOut config old (Dump cell dx dy) reply new = ⊥
-DesignRunsOut config old What reply new = ⊥
+DesignRunsOut config old (GetCell cell dx dy) reply new = ⊥
+DesignRunsOut config old What reply new = (old.drawn.box ≢ None) × (old.drawn.uses ≢ []) × (reply ≡ Refused Memory) × (new ≡ old)
 DesignRunsOut config old Save reply new = ⊥
 DesignRunsOut config old Check reply new = ⊥
 DesignRunsOut config old Count reply new = ⊥

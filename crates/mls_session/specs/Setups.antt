@@ -1,15 +1,9 @@
 -- What no command of a session changes. This project's own.
-use Rattle.std.specs.Prelude.{List, map}
-use Rattle.mls_geom.specs.Layouts.{Layout}
-use Rattle.mls_library.specs.Libraries.{Library, cell_layout}
+use Rattle.mls_layout.specs.Uses.{cell_layouts}
 use Rattle.mls_tilepool.specs.Pools.{Pool}
 use Rattle.mls_session.specs.Own.{Config}
 use Rattle.mls_session.specs.OwnSteps.{Terms}
 use Rattle.mls_session.specs.declared.setup.Setup.{Setup}
-
--- the layouts of a library's cells
-abbrev pub cell_layouts : Pool → Library → List Layout
-cell_layouts pool cells = map (cell_layout pool) cells
 
 -- what no command of a design changes, with the cells that lie in this pool
 abbrev pub config_of : Setup → Pool → Config

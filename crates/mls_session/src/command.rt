@@ -23,9 +23,16 @@ pub enum Command {
         dx: i32,
         dy: i32,
     },
-    /// Asks for the types in the box.
+    /// Places a cell, moved to the right by `dx` and up by `dy`, below the own paint and over the cells that were
+    /// placed before. The cell is `None` if none has the name that the user wrote.
+    GetCell {
+        cell: Option<CellId>,
+        dx: i32,
+        dy: i32,
+    },
+    /// Asks for the types in the box, in the layout as it is now.
     What,
-    /// Asks for the number of lines of the layout's text as a cell file.
+    /// Asks for the number of lines of the own paint's text as a cell file.
     Save,
     /// Adds the box to the areas that await checking.
     Check,

@@ -1,4 +1,4 @@
-//! One design: a box, the planes of a layout, its error plane, and what each command does to them.
+//! One design: a box, the planes of its own paint, its uses, its error plane, and what each command does to them.
 ghost use Rattle.std.specs.Prelude.{◌≡◌, ◌*◌, ◌+◌, ◌≤◌, IfOk, OnErr, length};
 ghost use Rattle.mls_errorplane.specs.DirtyLists.{IsDirtyList};
 ghost use Rattle.mls_paint.specs.Owners.{AddsOwners, RemovesOwners};
@@ -18,39 +18,50 @@ mod saving;
 
 use crate::executed::Executed;
 use crate::{Command, Quota, Reply, Setup};
-use mls_errorplane::{ErrorPlane, Workspace, opening_areas};
+use mls_errorplane::{ErrorPlane, opening_areas};
 use mls_geom::Rect;
+use mls_layout::{CellUse, MOST_USES, Workspace};
 use mls_paint::{release_plane, space_plane};
 use mls_stitch::Plane;
 use mls_tilepool::Pool;
 use std::alloc::{AllocError, Global};
 use std::marker::Model;
 
-/// A design: a box, the planes of a layout, and what is known of which squares of it the rules forbid. The tiles of its
-/// planes lie in the pool of a workspace.
+/// A design: a box, the planes of its own paint, the cells that are placed, and what is known of which squares of the
+/// layout that they make the rules forbid. The tiles of its planes lie in the pool of a workspace.
 #[derive(Drop)]
 pub(crate) struct Design {
     pub(crate) quota: Quota,
     box_rect: Option<Rect>,
     pub(crate) planes: Vec<Plane>,
+    /// The cells that are placed, in the order in which they were. There is room for as many as there may be.
+    uses: Vec<CellUse>,
     pub(crate) errors: ErrorPlane,
 }
 
 impl Model for Design {
+    ghost use Rattle.std.specs.Prelude.{◌≤◌, vec_capacity};
+    ghost use Rattle.mls_layout.specs.Uses.{most_uses};
     ghost use Rattle.mls_session.specs.Designs.{Design};
     ghost use Rattle.mls_session.specs.Quotas.{IsQuota};
 
     ghost Value = { Design };
 
-    ghost view = { λ s. record { box = s.box_rect; planes = s.planes.items; quota = s.quota; errors = s.errors } };
+    ghost view = { λ s. record {
+      box = s.box_rect;
+      planes = s.planes.items;
+      uses = s.uses.items;
+      quota = s.quota;
+      errors = s.errors;
+    } };
 
-    ghost invariant = { λ s. IsQuota s.quota };
+    ghost invariant = { λ s. IsQuota s.quota × (most_uses ≤ vec_capacity s.uses) };
 }
 
 impl Design {
     ghost use Rattle.mls_session.specs.Designs.{CanDump, HasRightMarks, IsHome, IsMadeFor, KeepsPlanes, OnRefused, designed_of, owners_of};
 
-    /// Opens a design with no box, an empty layout and no marks. Nothing awaits checking, unless the rules forbid
+    /// Opens a design with no box, no paint, no uses and no marks. Nothing awaits checking, unless the rules forbid
     /// squares of the empty layout.
     ///
     /// Each plane, and the error plane, reserves 64 tiles more than the quota. The pool must have room for them.
@@ -62,7 +73,7 @@ impl Design {
         requires room { (setup.now.tech.plane_count + 1) * plane_reserve setup.now.quota
             ≤ unreserved workspace.old.pool }
         ensures opening { IfOk result (λ design. designed_of workspace.new.pool design ≡ opening setup.now.rules) }
-        ensures marks_right { IfOk result (λ design. HasRightMarks setup.now.rules
+        ensures marks_right { IfOk result (λ design. HasRightMarks (config_of setup.now workspace.new.pool)
             (designed_of workspace.new.pool design)) }
         ensures areas { IfOk result (λ design. IsDirtyList design.errors.dirty) }
         ensures home { IfOk result (λ design. IsHome workspace.new.pool design) }
@@ -72,6 +83,7 @@ impl Design {
         ensures refused { OnErr result (workspace.new.pool ≡ workspace.old.pool) }
     {
         let dirty = opening_areas(alloc, &setup.rules)?;
+        let uses = Vec::with_capacity(alloc, MOST_USES)?;
         let planes = space_planes(alloc, setup, workspace)?;
         let errors = ErrorPlane::new(dirty, setup.quota.reserve(), workspace);
         // For its contract alone: the areas lie in the world, and are few.
@@ -80,11 +92,12 @@ impl Design {
             quota: setup.quota,
             box_rect: None,
             planes,
+            uses,
             errors,
         })
     }
 
-    /// Gives the tiles and the reserves of the layout's planes and of the error plane back to the pool.
+    /// Gives the tiles and the reserves of the own paint's planes and of the error plane back to the pool.
     pub fn close(self, pool: &mut Pool)
         requires home { IsHome pool.old self }
         ensures removed { RemovesOwners pool.old pool.new (owners_of self)
@@ -100,7 +113,8 @@ impl Design {
     /// Carries out a command, or refuses it and changes nothing. Only catching up that stops before its end keeps
     /// what it did.
     ///
-    /// Only [`Command::Why`] and [`Command::CatchUp`] allocate, for one piece at a time.
+    /// Only [`Command::Why`] and [`Command::CatchUp`] allocate, for one piece at a time, and [`Command::What`] where
+    /// cells are placed.
     pub fn command(
         &mut self,
         alloc: Global,
@@ -133,7 +147,10 @@ impl Design {
             Command::Dump { cell, dx, dy } => {
                 Executed::with(self.dump(setup, cell, dx, dy, workspace))
             }
-            Command::What => Executed::with(self.what(workspace)),
+            Command::GetCell { cell, dx, dy } => {
+                Executed::with(self.get_cell(setup, cell, dx, dy, workspace))
+            }
+            Command::What => Executed::with(self.what(alloc, setup, workspace)),
             Command::Save => {
                 Executed::with(Reply::Saved(self.count_lines(&setup.tech, workspace)))
             }
@@ -152,7 +169,7 @@ fn space_planes(
     workspace: &mut Workspace,
 ) -> Result<Vec<Plane>, AllocError>
     requires room { setup.now.tech.plane_count * plane_reserve setup.now.quota ≤ unreserved workspace.old.pool }
-    ensures blank { IfOk result (λ planes. layout_in workspace.new.pool planes.items ≡ blank.layout) }
+    ensures blank { IfOk result (λ planes. layout_in workspace.new.pool planes.items ≡ blank.paint) }
     ensures home { IfOk result (λ planes. AreAtHome workspace.new.pool setup.now.quota planes.items) }
     ensures count { IfOk result (λ planes. length planes.items ≡ setup.now.tech.plane_count) }
     ensures added { IfOk result (λ planes. AddsOwners workspace.old.pool workspace.new.pool planes.items

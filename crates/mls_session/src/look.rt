@@ -15,7 +15,7 @@ use std::marker::Model;
 /// A question about a session as it is now. It is no command: nothing changes, and the journal has no entry of it.
 #[derive(Clone, Copy, Debug, PartialEq, Eq)]
 pub enum Look {
-    /// The text of the layout, as a cell file.
+    /// The text of the own paint, as a cell file.
     Save,
     /// The rules that forbid some square between these lines of the world.
     Why {
@@ -31,7 +31,7 @@ pub enum Look {
 /// The answer to a look.
 #[derive(Drop)]
 pub enum Looked {
-    /// The number of lines of the layout's text.
+    /// The number of lines of the own paint's text.
     Saved(usize),
     /// The rules that forbid some square of the rectangle.
     Why(RuleSet),
@@ -52,7 +52,7 @@ pub struct Status {
     pub steps: u64,
     /// How many areas await checking.
     pub areas: usize,
-    /// How many tiles each plane of the layout has.
+    /// How many tiles each plane of the own paint has.
     pub tiles: TileCounts,
     /// How many tiles each plane may have.
     pub quota: u32,

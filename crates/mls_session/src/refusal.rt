@@ -25,12 +25,14 @@ pub enum Refusal {
     CellOutside,
     /// Memory ran out.
     Memory,
+    /// As many cells are placed as there may be.
+    TooManyUses,
 }
 
 impl Refusal {
     ghost use Rattle.mls_session.specs.Refusals as spec;
 
-    /// The refusal's number, from 1 to 9.
+    /// The refusal's number, from 1 to 10.
     pub fn number(self) -> u8
         ensures { result ≡ spec.refusal_number self }
     {
@@ -51,6 +53,7 @@ impl Refusal {
             Refusal::UnknownCell => "unknown cell",
             Refusal::CellOutside => "cell outside the world",
             Refusal::Memory => "memory",
+            Refusal::TooManyUses => "too many uses",
         }
     }
 }

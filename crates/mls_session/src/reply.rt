@@ -13,7 +13,7 @@ pub enum Reply {
     Done,
     /// The types in the box, space among them.
     Kinds(KindSet),
-    /// The number of lines of the layout's text as a cell file.
+    /// The number of lines of the own paint's text as a cell file.
     Saved(usize),
     /// How many squares are marked, and how many areas await checking.
     Count { errors: u64, pending: usize },

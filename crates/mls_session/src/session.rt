@@ -1,5 +1,6 @@
 //! Sessions: what each command and each check step does to a design, and what the journal keeps of it.
 ghost use Rattle.std.specs.Prelude.{◌≡◌, ◌*◌, ◌+◌, ◌++◌, ◌≤◌, IfOk, OnErr, List, ℕ, length};
+ghost use Rattle.mls_layout.specs.Uses.{cell_layouts};
 ghost use Rattle.mls_library.specs.Libraries as library_spec;
 ghost use Rattle.mls_library.specs.SavedCells.{HoldsOwnTypes, ReadsAs, saved_text};
 ghost use Rattle.mls_paint.specs.Owners.{AddsOwners, RemovesOwners};
@@ -7,7 +8,7 @@ ghost use Rattle.mls_session.specs.Designs.{CanDump, HasRightMarks, OnRefused};
 ghost use Rattle.mls_session.specs.Journals.{Commands, IsLegal, Saves, kept_at_opening};
 ghost use Rattle.mls_session.specs.Quotas.{plane_reserve};
 ghost use Rattle.mls_session.specs.Saving.{OnSaved};
-ghost use Rattle.mls_session.specs.Setups.{cell_layouts, terms_of};
+ghost use Rattle.mls_session.specs.Setups.{config_of, terms_of};
 ghost use Rattle.mls_tilepool.specs.Pools.{unreserved};
 
 mod checking;
@@ -17,7 +18,7 @@ use crate::design::Design;
 use crate::executed::Executed;
 use crate::journal::Journal;
 use crate::{Command, Entry, Refusal, Reply, Setup};
-use mls_errorplane::Workspace;
+use mls_layout::Workspace;
 use mls_tilepool::Pool;
 use std::alloc::{AllocError, Global};
 use std::marker::Model;
@@ -51,8 +52,8 @@ impl Model for Session {
 impl Session {
     ghost use Rattle.mls_session.specs.Sessions.{IsHome, IsMadeFor, KeepsPlanes, kept_of, owners_of, state_of};
 
-    /// Opens a session with no box, an empty layout, no marks and an empty journal. Nothing awaits checking, unless the
-    /// rules forbid squares of the empty layout.
+    /// Opens a session with no box, no paint, no uses, no marks and an empty journal. Nothing awaits checking, unless
+    /// the rules forbid squares of the empty layout.
     ///
     /// Each plane, and the error plane, reserves 64 tiles more than the quota. The pool must have room for them.
     pub fn open(
@@ -64,7 +65,7 @@ impl Session {
             ≤ unreserved workspace.old.pool }
         ensures opening { IfOk result (λ session. kept_of workspace.new.pool session
             ≡ kept_at_opening setup.now.rules) }
-        ensures marks_right { IfOk result (λ session. HasRightMarks setup.now.rules
+        ensures marks_right { IfOk result (λ session. HasRightMarks (config_of setup.now workspace.new.pool)
             (state_of workspace.new.pool session).design) }
         ensures home { IfOk result (λ session. IsHome workspace.new.pool session) }
         ensures made_for { IfOk result (λ session. IsMadeFor setup.now session) }
@@ -93,10 +94,11 @@ impl Session {
     ///
     /// Types are those of the setup's technology, and cells those of its library. Pass the setup that the session was
     /// opened with: another technology with as many planes may put a type on another plane, and marks are right by
-    /// one list of rules alone.
+    /// one list of rules and one library alone.
     ///
     /// Unless the journal is full or memory runs out, the command and its reply go into the journal. Only
-    /// [`Command::Why`] and [`Command::CatchUp`] allocate, for one piece at a time.
+    /// [`Command::Why`] and [`Command::CatchUp`] allocate, for one piece at a time, and [`Command::What`] where cells
+    /// are placed.
     pub fn command(
         &mut self,
         alloc: Global,
@@ -111,8 +113,9 @@ impl Session {
             (kept_of workspace.old.pool self.old) command result (kept_of workspace.new.pool self.new) }
         ensures legal { IsLegal (terms_of setup.now workspace.old.pool) (kept_of workspace.old.pool self.old)
             → IsLegal (terms_of setup.now workspace.old.pool) (kept_of workspace.new.pool self.new) }
-        ensures marks_right { HasRightMarks setup.now.rules (state_of workspace.old.pool self.old).design
-            → HasRightMarks setup.now.rules (state_of workspace.new.pool self.new).design }
+        ensures marks_right { HasRightMarks (config_of setup.now workspace.old.pool)
+            (state_of workspace.old.pool self.old).design
+            → HasRightMarks (config_of setup.now workspace.old.pool) (state_of workspace.new.pool self.new).design }
         ensures keeps { KeepsPlanes workspace.old.pool workspace.new.pool self.old self.new }
         ensures cells_home { library_spec.IsHome workspace.new.pool setup.now.library }
         ensures cells { cell_layouts workspace.new.pool setup.now.library
@@ -130,7 +133,7 @@ impl Session {
         executed.reply
     }
 
-    /// Carries out [`Command::Save`], and appends the text of the layout, as a cell file, where it is not refused.
+    /// Carries out [`Command::Save`], and appends the text of the own paint, as a cell file, where it is not refused.
     ///
     /// Out of memory, appends nothing, leaves the journal, and returns a refusal.
     pub fn save(&mut self, setup: &Setup, out: &mut Vec<u8>, workspace: &mut Workspace) -> Reply
@@ -142,10 +145,10 @@ impl Session {
         ensures legal { IsLegal (terms_of setup.now workspace.old.pool) (kept_of workspace.old.pool self.old)
             → IsLegal (terms_of setup.now workspace.old.pool) (kept_of workspace.old.pool self.new) }
         ensures reads_back { OnSaved result (HoldsOwnTypes setup.now.tech
-            (state_of workspace.old.pool self.old).design.drawn.layout
+            (state_of workspace.old.pool self.old).design.drawn.paint
             → ReadsAs setup.now.tech (saved_text setup.now.tech
-            (state_of workspace.old.pool self.old).design.drawn.layout)
-            (state_of workspace.old.pool self.old).design.drawn.layout) }
+            (state_of workspace.old.pool self.old).design.drawn.paint)
+            (state_of workspace.old.pool self.old).design.drawn.paint) }
         ensures design { self.new.design ≡ self.old.design }
         ensures limit { self.new.limit ≡ self.old.limit }
         ensures pool { workspace.new.pool ≡ workspace.old.pool }

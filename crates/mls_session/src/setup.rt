@@ -4,6 +4,8 @@ ghost use Rattle.mls_session.specs.Quotas.{plane_reserve};
 
 use crate::{JournalLimit, Quota};
 use mls_edgerule::Rules;
+use mls_errorplane::Basis;
+use mls_layout::{CellUse, Uses};
 use mls_library::Library;
 use mls_tech::Tech;
 
@@ -14,7 +16,7 @@ pub struct Setup {
     pub tech: Tech,
     /// The technology's compiled rules, by which the session's layout is checked.
     pub rules: Rules,
-    /// The cells that can be dumped.
+    /// The cells that can be dumped and placed.
     pub library: Library,
     /// The most tiles that each plane may have.
     pub quota: Quota,
@@ -28,5 +30,21 @@ impl Setup {
         ensures { result ≡ (self.now.tech.plane_count + 1) * plane_reserve self.now.quota }
     {
         (self.tech.planes() as u32 + 1) * self.quota.reserve()
+    }
+
+    /// Returns what a layout with these uses is checked by.
+    pub(crate) fn basis<'a>(&'a self, uses: &'a [CellUse]) -> Basis<'a>
+        ensures rules { result.rules.now ≡ self.now.rules }
+        ensures library { result.uses.library.now ≡ self.now.library }
+        ensures list { result.uses.list.now ≡ uses.now }
+    {
+        let uses = Uses {
+            library: &self.library,
+            list: uses,
+        };
+        Basis {
+            rules: &self.rules,
+            uses,
+        }
     }
 }

@@ -4,7 +4,7 @@ use Rattle.std.specs.Option.{option_map}
 use Rattle.std.proofs.lemmas.Bool.Decides.{nat_tests}
 use Rattle.mls_session.specs.Journals.{Kept}
 use Rattle.mls_session.specs.declared.command.Command.{Command}
-use Rattle.mls_session.specs.declared.command.Command.TheVariants.{Box, Paint, Erase, Dump, What, Save, Check, CatchUp, Why, Count}
+use Rattle.mls_session.specs.declared.command.Command.TheVariants.{Box, Paint, Erase, Dump, GetCell, What, Save, Check, CatchUp, Why, Count}
 use Rattle.mls_session.specs.declared.look.Look.TheVariants.{Save as SaveLook, Why as WhyLook, Status as StatusLook}
 use Rattle.mls_server.specs.Worlds.{Seat, World, kept_in, named_in, seat_in, session_named}
 use Rattle.mls_server.specs.SessionNames.{is_session_name}
@@ -121,6 +121,7 @@ command_event-other id (Box left bottom right top) other = refl
 command_event-other id (Paint kind) other = refl
 command_event-other id (Erase kinds) other = refl
 command_event-other id (Dump cell dx dy) other = refl
+command_event-other id (GetCell cell dx dy) other = refl
 command_event-other id What other = refl
 command_event-other id Save other = absurd (other refl)
 command_event-other id Check other = refl

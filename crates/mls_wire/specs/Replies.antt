@@ -82,7 +82,7 @@ room_text status =
 abbrev pub status_text : Status → List ℕ
 status_text status = codes "stat " ++ progress_text status ++ codes "," ++ room_text status
 
--- what a look returned, without its line's first word and its line feed: a layout and rules as a command's reply has them
+-- what a look returned, without its line's first word and its line feed: a text and rules as a command's reply has them
 unfoldable pub looked_text : Names → Looked → List ℕ
 looked_text book (SavedLook lines) = reply_text book (Saved lines)
 looked_text book (WhyLook rules) = reply_text book (Why rules)

@@ -2,7 +2,7 @@
 use Rattle.std.specs.Prelude.{◌≡◌, ◌≢◌, ℕ, ◌+◌, Option, Some, None, Result, Ok, Err, List, [], ◌∷◌, ◌++◌, length}
 use Rattle.mls_session.specs.Journals.{Kept}
 use Rattle.mls_session.specs.declared.command.Command.{Command}
-use Rattle.mls_session.specs.declared.command.Command.TheVariants.{Box, Paint, Erase, Dump, What, Save as SaveCommand, Check, CatchUp, Why, Count}
+use Rattle.mls_session.specs.declared.command.Command.TheVariants.{Box, Paint, Erase, Dump, GetCell, What, Save as SaveCommand, Check, CatchUp, Why, Count}
 use Rattle.mls_server.specs.Events.{Happens}
 use Rattle.mls_server.specs.OwnLists.{IsToldAlone}
 use Rattle.mls_server.specs.Worlds.{World, kept_in}
@@ -25,6 +25,7 @@ command_event id (Box left bottom right top) = CommandEvent id (Box left bottom 
 command_event id (Paint kind) = CommandEvent id (Paint kind)
 command_event id (Erase kinds) = CommandEvent id (Erase kinds)
 command_event id (Dump cell dx dy) = CommandEvent id (Dump cell dx dy)
+command_event id (GetCell cell dx dy) = CommandEvent id (GetCell cell dx dy)
 command_event id What = CommandEvent id What
 command_event id SaveCommand = SaveEvent id
 command_event id Check = CommandEvent id Check

@@ -4,7 +4,7 @@ use Rattle.std.specs.List.{list_all, list_any}
 use Rattle.std.specs.Option.{option_map_or}
 use Rattle.mls_kinds.specs.KindSets.{set_of}
 use Rattle.mls_session.specs.declared.command.Command.{Command}
-use Rattle.mls_session.specs.declared.command.Command.TheVariants.{Box, Paint, Erase, Dump, What, Save, Check, CatchUp, Why, Count}
+use Rattle.mls_session.specs.declared.command.Command.TheVariants.{Box, Paint, Erase, Dump, GetCell, What, Save, Check, CatchUp, Why, Count}
 use Rattle.mls_session.specs.declared.look.Look.{Look}
 use Rattle.mls_session.specs.declared.look.Look.TheVariants.{Save as SaveLook, Why as WhyLook, Status as StatusLook}
 use Rattle.mls_wire.specs.NameBooks.{Names}
@@ -17,6 +17,7 @@ use Rattle.mls_wire.specs.declared.line.Line.TheVariants.{Silent, Open, Close, S
 use Rattle.mls_wire.specs.declared.line.LineFault.{LineFault}
 use Rattle.mls_wire.specs.declared.parse.Asked.{Asked}
 use Rattle.mls_wire.specs.declared.parse.Asked.TheVariants.{Close as AsksClose, Step as AsksStep, Audit as AsksAudit, Look as AsksLook}
+use Rattle.mls_wire.specs.declared.parse.MovedCell.{MovedCell}
 use Rattle.mls_wire.specs.declared.parse.Sides.{Sides}
 use Rattle.mls_wire.specs.declared.line.LineFault.TheVariants.{UnknownCommand, BadNumber, BadName, NotOpen}
 
@@ -55,14 +56,31 @@ abbrev pub erase_says : Names → List (List ℕ) → Result Command LineFault
 erase_says book (names ∷ []) = Ok (Erase (types_named book (fields_of names)))
 erase_says book _ = Err UnknownCommand
 
-unfoldable pub dump_by : Option ℕ → Option ℤ → Option ℤ → Result Command LineFault
-dump_by cell (Some dx) (Some dy) = Ok (Dump cell dx dy)
-dump_by cell _ _ = Err BadNumber
+-- the cell, moved so far
+unfoldable pub moved_by : Option ℕ → Option ℤ → Option ℤ → Result MovedCell LineFault
+moved_by cell (Some dx) (Some dy) = Ok (record { cell = cell; dx = dx; dy = dy })
+moved_by cell _ _ = Err BadNumber
 
 -- a cell's name, and how far it is moved to the right and up
+unfoldable pub moved_cell_says : Names → List (List ℕ) → Result MovedCell LineFault
+moved_cell_says book (name ∷ dx ∷ dy ∷ []) = moved_by (book.cell_of name) (number_of dx) (number_of dy)
+moved_cell_says book _ = Err UnknownCommand
+
+-- the cell is dumped
+abbrev pub dump_of : Result MovedCell LineFault → Result Command LineFault
+dump_of (Ok moved) = Ok (Dump moved.cell moved.dx moved.dy)
+dump_of (Err fault) = Err fault
+
 abbrev pub dump_says : Names → List (List ℕ) → Result Command LineFault
-dump_says book (name ∷ dx ∷ dy ∷ []) = dump_by (book.cell_of name) (number_of dx) (number_of dy)
-dump_says book _ = Err UnknownCommand
+dump_says book words = dump_of (moved_cell_says book words)
+
+-- the cell is placed
+abbrev pub getcell_of : Result MovedCell LineFault → Result Command LineFault
+getcell_of (Ok moved) = Ok (GetCell moved.cell moved.dx moved.dy)
+getcell_of (Err fault) = Err fault
+
+abbrev pub getcell_says : Names → List (List ℕ) → Result Command LineFault
+getcell_says book words = getcell_of (moved_cell_says book words)
 
 abbrev pub save_says : List (List ℕ) → Result Command LineFault
 save_says [] = Ok Save
@@ -84,12 +102,17 @@ abbrev pub drc_says : List (List ℕ) → Result Command LineFault
 drc_says (word ∷ []) = drc_of word
 drc_says _ = Err UnknownCommand
 
+-- a command that brings a cell into the layout, and the words after its own
+unfoldable pub cell_edit_of : Names → List ℕ → List (List ℕ) → Result Command LineFault
+cell_edit_of book verb words =
+    if same_word verb (codes "dump") then dump_says book words
+    else (if same_word verb (codes "getcell") then getcell_says book words else Err UnknownCommand)
+
 -- a command that changes the layout, and the words after its own
 unfoldable pub edit_of : Names → List ℕ → List (List ℕ) → Result Command LineFault
 edit_of book verb words =
     if same_word verb (codes "paint") then paint_says book words
-    else (if same_word verb (codes "erase") then erase_says book words
-    else (if same_word verb (codes "dump") then dump_says book words else Err UnknownCommand))
+    else (if same_word verb (codes "erase") then erase_says book words else cell_edit_of book verb words)
 
 -- the words after a session's name
 unfoldable pub command_of : Names → List (List ℕ) → Result Command LineFault

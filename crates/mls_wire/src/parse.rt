@@ -1,12 +1,13 @@
 //! From a line to what it says.
 ghost use Rattle.std.specs.Prelude.{◌≡◌};
 ghost use Rattle.mls_text.specs.Fields.{fields_of};
-ghost use Rattle.mls_wire.specs.Says.{asked_line, asks_says, box_says, command_of, drc_says, dump_says, edit_of, erase_says, line_says, open_says, paint_says, save_says, session_says, sides_say, types_named, what_says, why_says, words_say};
+ghost use Rattle.mls_wire.specs.Says.{asked_line, asks_says, box_says, cell_edit_of, command_of, drc_says, dump_says, edit_of, erase_says, getcell_says, line_says, moved_cell_says, open_says, paint_says, save_says, session_says, sides_say, types_named, what_says, why_says, words_say};
 ghost use Rattle.mls_wire.specs.ScriptLines.{text_of};
 
 use crate::number::number_of;
 use crate::{Line, LineFault, Names, ScriptLine};
 use mls_kinds::KindSet;
+use mls_library::CellId;
 use mls_server::{Name, SessionId};
 use mls_session::{Command, Look};
 use mls_text::{Fields, Words};
@@ -40,6 +41,13 @@ struct Sides {
     bottom: i32,
     right: i32,
     top: i32,
+}
+
+/// A cell, or `None` if none has the name that the user wrote, and how far it is moved to the right and up.
+struct MovedCell {
+    cell: Option<CellId>,
+    dx: i32,
+    dy: i32,
 }
 
 /// Returns what a line says, or its first fault.
@@ -146,7 +154,7 @@ fn parse_command<N: Names>(names: &N, mut words: Words) -> Result<Command, LineF
     }
 }
 
-/// Returns the command of `paint`, `erase` or `dump`, and of the words after it.
+/// Returns the command of `paint`, `erase`, `dump` or `getcell`, and of the words after it.
 #[tactic(auto, unfolding(crate::specs::Says::edit_of))]
 fn parse_edit<N: Names>(names: &N, verb: &[u8], words: Words) -> Result<Command, LineFault>
     ensures { result ≡ edit_of (N.book names.now) verb.now words.entry }
@@ -154,8 +162,21 @@ fn parse_edit<N: Names>(names: &N, verb: &[u8], words: Words) -> Result<Command,
     match verb {
         b"paint" => parse_paint(names, words),
         b"erase" => parse_erase(names, words),
-        b"dump" => parse_dump(names, words),
-        _ => Err(LineFault::UnknownCommand),
+        verb => parse_cell_edit(names, verb, words),
+    }
+}
+
+/// Returns the command of `dump` or `getcell`, and of the words after it.
+#[tactic(auto, unfolding(crate::specs::Says::cell_edit_of))]
+fn parse_cell_edit<N: Names>(names: &N, verb: &[u8], words: Words) -> Result<Command, LineFault>
+    ensures { result ≡ cell_edit_of (N.book names.now) verb.now words.entry }
+{
+    if verb == b"dump".as_slice() {
+        parse_dump(names, words)
+    } else if verb == b"getcell".as_slice() {
+        parse_getcell(names, words)
+    } else {
+        Err(LineFault::UnknownCommand)
     }
 }
 
@@ -240,9 +261,25 @@ fn types_of<N: Names>(names: &N, list: &[u8]) -> Option<KindSet>
 }
 
 /// Returns the command of the words after `dump`.
-#[tactic(auto, unfolding(crate::specs::Says::dump_by))]
-fn parse_dump<N: Names>(names: &N, mut words: Words) -> Result<Command, LineFault>
+fn parse_dump<N: Names>(names: &N, words: Words) -> Result<Command, LineFault>
     ensures { result ≡ dump_says (N.book names.now) words.entry }
+{
+    let MovedCell { cell, dx, dy } = parse_moved_cell(names, words)?;
+    Ok(Command::Dump { cell, dx, dy })
+}
+
+/// Returns the command of the words after `getcell`.
+fn parse_getcell<N: Names>(names: &N, words: Words) -> Result<Command, LineFault>
+    ensures { result ≡ getcell_says (N.book names.now) words.entry }
+{
+    let MovedCell { cell, dx, dy } = parse_moved_cell(names, words)?;
+    Ok(Command::GetCell { cell, dx, dy })
+}
+
+/// Returns the cell of the first word, moved by the two others.
+#[tactic(auto, unfolding(crate::specs::Says::moved_cell_says, crate::specs::Says::moved_by))]
+fn parse_moved_cell<N: Names>(names: &N, mut words: Words) -> Result<MovedCell, LineFault>
+    ensures { result ≡ moved_cell_says (N.book names.now) words.entry }
 {
     let (Some(name), Some(dx), Some(dy), None) = (
         words.next(),
@@ -253,7 +290,7 @@ fn parse_dump<N: Names>(names: &N, mut words: Words) -> Result<Command, LineFaul
         return Err(LineFault::UnknownCommand);
     };
     match (number_of(dx), number_of(dy)) {
-        (Some(dx), Some(dy)) => Ok(Command::Dump {
+        (Some(dx), Some(dy)) => Ok(MovedCell {
             cell: names.cell_of(name),
             dx,
             dy,

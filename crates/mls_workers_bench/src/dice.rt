@@ -23,13 +23,14 @@ impl Dice {
         first % sides.max(1)
     }
 
-    /// Returns a command. The one given dumps a cell of the library.
+    /// Returns a command. The one given dumps a cell of the library, which others dump or place too.
     pub fn command(&mut self, dump: &Command) -> Command {
         match self.roll(32) {
             0..=9 => self.set_box(),
             10..=17 => Command::Paint(self.kind()),
             18..=20 => Command::Erase(self.kinds()),
-            21 | 22 => self.dump(dump),
+            21 => self.dump(dump),
+            22 => self.place(dump),
             23 => Command::What,
             24 => Command::Save,
             25 | 26 => Command::Check,
@@ -103,5 +104,13 @@ impl Dice {
             _ => None,
         };
         Command::Dump { cell, dx, dy }
+    }
+
+    /// Returns a command that places what such a dump would paint.
+    fn place(&mut self, dump: &Command) -> Command {
+        match self.dump(dump) {
+            Command::Dump { cell, dx, dy } => Command::GetCell { cell, dx, dy },
+            other => other,
+        }
     }
 }

@@ -4,20 +4,20 @@ use mls_session::{Refusal, Reply};
 use std::array;
 use std::sync::atomic::{AtomicBool, AtomicU64, Ordering};
 
-/// The place of the commands. Refusals have the places of their numbers, from 1 to 9.
+/// The place of the commands. Refusals have the places of their numbers, from 1 to 10.
 pub const COMMANDS: usize = 0;
 
 /// The places of the sessions that were opened, audited and closed.
-pub const OPENED: usize = 10;
+pub const OPENED: usize = 11;
 
-pub const AUDITED: usize = 11;
+pub const AUDITED: usize = 12;
 
-pub const CLOSED: usize = 12;
+pub const CLOSED: usize = 13;
 
 /// What all painters together have done so far, and whether they are to end.
 #[derive(Drop)]
 pub struct Tally {
-    counts: [AtomicU64; 13],
+    counts: [AtomicU64; 14],
     ended: AtomicBool,
 }
 

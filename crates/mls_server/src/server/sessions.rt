@@ -38,8 +38,8 @@ impl Server {
         Ok(asked.session.command(alloc, setup, command, workspace))
     }
 
-    /// Saves the layout of a session: appends its text, as a cell file, and returns the number of its lines. Nothing is
-    /// appended where it is refused.
+    /// Saves the own paint of a session: appends its text, as a cell file, and returns the number of its lines. Nothing
+    /// is appended where it is refused.
     pub fn save(&mut self, id: SessionId, out: &mut Vec<u8>) -> Result<Reply, NotOpen>
         ensures saves { (text : List ℕ) × SavesText (world_of self.old) id result text (world_of self.new)
             × (out.new.items ≡ out.old.items ++ text) }

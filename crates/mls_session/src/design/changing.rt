@@ -11,9 +11,9 @@ use super::Design;
 use crate::bounds::dumped_rect;
 use crate::change::{Change, cell_leaves_world};
 use crate::{Command, Refusal, Reply, Setup};
-use mls_errorplane::Workspace;
 use mls_geom::Rect;
 use mls_kinds::KindSet;
+use mls_layout::{CellUse, MOST_USES, Workspace};
 use mls_library::CellId;
 use mls_paint::{fits, overlay};
 use mls_tech::Tech;
@@ -83,6 +83,45 @@ impl Design {
         self.change(setup, &Change::Dump { planes, dx, dy }, rect, workspace)
     }
 
+    /// Places a cell of the library, moved to the right by `dx` and up by `dy`.
+    #[tactic(auto, unfolding(crate::specs::OwnSteps::design_step))]
+    pub fn get_cell(
+        &mut self,
+        setup: &Setup,
+        cell: Option<CellId>,
+        dx: i32,
+        dy: i32,
+        workspace: &mut Workspace,
+    ) -> Reply
+        requires home { IsHome workspace.old.pool self.old }
+        requires made_for { IsMadeFor setup.now self.old }
+        requires can_dump { CanDump setup.now workspace.old.pool (owners_of self.old) }
+        ensures step { design_step (config_of setup.now workspace.old.pool)
+            (designed_of workspace.old.pool self.old) (Command.GetCell cell dx dy)
+            ≡ (designed_of workspace.new.pool self.new, result) }
+        ensures keeps { KeepsPlanes workspace.old.pool workspace.new.pool self.old self.new }
+        ensures refused { OnRefused result ((self.new ≡ self.old) × (workspace.new.pool ≡ workspace.old.pool)) }
+    {
+        let Some(id) = cell else {
+            return Reply::Refused(Refusal::UnknownCell);
+        };
+        let Some(cell) = setup.library.get(id) else {
+            return Reply::Refused(Refusal::UnknownCell);
+        };
+        let planes = cell.planes();
+        let Workspace { pool, scratch, .. } = workspace;
+        if cell_leaves_world(pool, planes, dx, dy, scratch) {
+            return Reply::Refused(Refusal::CellOutside);
+        }
+        if self.uses.len() >= MOST_USES {
+            return Reply::Refused(Refusal::TooManyUses);
+        }
+        let rect = dumped_rect(pool, planes, dx, dy, scratch);
+        self.uses.push_reserved(CellUse { cell: id, dx, dy });
+        self.soil(&setup.rules, rect);
+        Reply::Done
+    }
+
     /// Makes a change on all planes, unless one of them would then have more tiles than the quota. The rectangle that
     /// it changes, if there is one, awaits checking then.
     fn change(
@@ -99,7 +138,7 @@ impl Design {
         ensures step { edit_step (config_of setup.now workspace.old.pool)
             (designed_of workspace.old.pool self.old) rect
             (change_step (config_of setup.now workspace.old.pool) (drawn_of workspace.old.pool self.old)
-            (changed_layout workspace.old.pool change.now (drawn_of workspace.old.pool self.old).layout))
+            (changed_layout workspace.old.pool change.now (drawn_of workspace.old.pool self.old).paint))
             ≡ (designed_of workspace.new.pool self.new, result) }
         ensures keeps { KeepsPlanes workspace.old.pool workspace.new.pool self.old self.new }
         ensures refused { OnRefused result ((self.new ≡ self.old) × (workspace.new.pool ≡ workspace.old.pool)) }
@@ -119,7 +158,7 @@ impl Design {
         ensures fits { (config : Config) → config.tech.plane_count ≡ length self.old.planes
             → config.quota ≡ self.old.quota
             → result ≡ not (exceeds_quota config
-            (changed_layout workspace.old.pool change.now (drawn_of workspace.old.pool self.old).layout)) }
+            (changed_layout workspace.old.pool change.now (drawn_of workspace.old.pool self.old).paint)) }
         ensures same { self.new ≡ self.old }
         ensures pool { workspace.new.pool ≡ workspace.old.pool }
     {
@@ -129,6 +168,7 @@ impl Design {
                 pool,
                 scratch,
                 pieces,
+                ..
             } = workspace;
             let plane = &mut self.planes[i];
             change.list_pieces(pool, i, plane, pieces, scratch);
@@ -145,9 +185,9 @@ impl Design {
         requires can_change { CanChange workspace.old.pool change.now }
         requires apart { IsApartFrom change.now self.old.planes }
         requires fits { FitsQuota (length self.old.planes) self.old.quota
-            (changed_layout workspace.old.pool change.now (drawn_of workspace.old.pool self.old).layout) }
+            (changed_layout workspace.old.pool change.now (drawn_of workspace.old.pool self.old).paint) }
         ensures layout { layout_in workspace.new.pool self.old.planes
-            ≡ changed_layout workspace.old.pool change.now (drawn_of workspace.old.pool self.old).layout }
+            ≡ changed_layout workspace.old.pool change.now (drawn_of workspace.old.pool self.old).paint }
         ensures home { AreAtHome workspace.new.pool self.old.quota self.old.planes }
         ensures only { ChangesAmong workspace.old.pool workspace.new.pool self.old.planes }
         ensures same { self.new ≡ self.old }
@@ -158,6 +198,7 @@ impl Design {
                 pool,
                 scratch,
                 pieces,
+                ..
             } = workspace;
             let plane = &mut self.planes[i];
             change.list_pieces(pool, i, plane, pieces, scratch);

@@ -1,10 +1,12 @@
 //! Commands on what awaits checking, and on the marks.
-ghost use Rattle.std.specs.Prelude.{◌≡◌, IfOk};
+ghost use Rattle.std.specs.Prelude.{◌≡◌, IfOk, length};
 ghost use Rattle.mls_checker.specs.Findings.{violated_rules};
 ghost use Rattle.mls_errorplane.specs.DirtyLists.{IsDirtyList};
-ghost use Rattle.mls_errorplane.specs.ErrorPlanes.{checking_of};
+ghost use Rattle.mls_errorplane.specs.ErrorPlanes.{HasStepped, UnlessDone, checking_of};
+ghost use Rattle.mls_errorplane.specs.Jobs.{HasGrabbed};
+ghost use Rattle.mls_errorplane.specs.Outcomes.{HasFinished, UnlessFinished};
 ghost use Rattle.mls_session.specs.Inner.{Counts, caught_up_reply, steps_of};
-ghost use Rattle.mls_session.specs.Own.{count_step, soiled_after};
+ghost use Rattle.mls_session.specs.Own.{count_step, layout_of, soiled_after};
 ghost use Rattle.mls_session.specs.OwnSteps.{DesignSteps, design_step};
 ghost use Rattle.mls_session.specs.Setups.{config_of};
 ghost use Rattle.mls_tilepool.specs.Pools.{Pool};
@@ -12,13 +14,15 @@ ghost use Rattle.mls_tilepool.specs.Pools.{Pool};
 use super::Design;
 use crate::executed::Executed;
 use crate::{Command, Refusal, Reply, Setup};
+use mls_checker::Finding;
 use mls_edgerule::{RuleSet, Rules};
-use mls_errorplane::{CaughtUp, Workspace, why};
+use mls_errorplane::{CaughtUp, Job, Outcome, Stepped, why};
 use mls_geom::Rect;
+use mls_layout::Workspace;
 use std::alloc::{AllocError, Global};
 
 impl Design {
-    ghost use Rattle.mls_session.specs.Designs.{IsHome, IsMadeFor, KeepsPlanes, OnRefused, designed_of, drawn_of};
+    ghost use Rattle.mls_session.specs.Designs.{CanDump, IsHome, IsMadeFor, KeepsPlanes, OnRefused, designed_of, drawn_of, owners_of};
 
     /// The areas that await checking lie in the world, and are few. Does nothing: the contract is the law.
     pub fn has_legal_areas(&self)
@@ -56,10 +60,75 @@ impl Design {
         }
     }
 
+    /// Returns what a check of the first piece of the areas that await checking needs, if there is an area.
+    pub fn grab(
+        &mut self,
+        alloc: Global,
+        setup: &Setup,
+        workspace: &mut Workspace,
+    ) -> Result<Option<Job>, AllocError>
+        requires home { IsHome workspace.old.pool self.old }
+        requires made_for { IsMadeFor setup.now self.old }
+        requires can_dump { CanDump setup.now workspace.old.pool (owners_of self.old) }
+        ensures grabbed { HasGrabbed setup.now.rules (length self.old.planes)
+            (layout_of (config_of setup.now workspace.old.pool) (drawn_of workspace.old.pool self.old))
+            (checking_of workspace.old.pool self.old.errors) result }
+        ensures same { self.new ≡ self.old }
+        ensures pool { workspace.new.pool ≡ workspace.old.pool }
+    {
+        let basis = setup.basis(&self.uses);
+        let planes = &mut self.planes;
+        self.errors.grab(alloc, planes, &basis, workspace)
+    }
+
+    /// Checks the first piece of the areas that await checking, and takes it out of them.
+    ///
+    /// Unless this is done, nothing changes.
+    pub fn step(&mut self, alloc: Global, setup: &Setup, workspace: &mut Workspace) -> Stepped
+        requires home { IsHome workspace.old.pool self.old }
+        requires made_for { IsMadeFor setup.now self.old }
+        requires can_dump { CanDump setup.now workspace.old.pool (owners_of self.old) }
+        ensures stepped { HasStepped setup.now.rules
+            (layout_of (config_of setup.now workspace.old.pool) (drawn_of workspace.old.pool self.old))
+            self.old.quota (checking_of workspace.old.pool self.old.errors) result
+            (checking_of workspace.new.pool self.new.errors) }
+        ensures drawn { drawn_of workspace.new.pool self.new ≡ drawn_of workspace.old.pool self.old }
+        ensures unless_done { UnlessDone result (workspace.new.pool ≡ workspace.old.pool) }
+        ensures keeps { KeepsPlanes workspace.old.pool workspace.new.pool self.old self.new }
+    {
+        let limit = self.quota.tiles();
+        let basis = setup.basis(&self.uses);
+        let planes = &mut self.planes;
+        self.errors.step(alloc, planes, &basis, limit, workspace)
+    }
+
+    /// Marks what a finding says of its piece, unless it is stale, and takes the piece out of the areas.
+    ///
+    /// Unless this is finished, nothing changes. No memory is taken.
+    pub fn finish(&mut self, setup: &Setup, finding: &Finding, workspace: &mut Workspace) -> Outcome
+        requires home { IsHome workspace.old.pool self.old }
+        requires made_for { IsMadeFor setup.now self.old }
+        requires can_dump { CanDump setup.now workspace.old.pool (owners_of self.old) }
+        ensures finished { HasFinished setup.now.rules (length self.old.planes)
+            (layout_of (config_of setup.now workspace.old.pool) (drawn_of workspace.old.pool self.old))
+            self.old.quota (checking_of workspace.old.pool self.old.errors) finding.now result
+            (checking_of workspace.new.pool self.new.errors) }
+        ensures drawn { drawn_of workspace.new.pool self.new ≡ drawn_of workspace.old.pool self.old }
+        ensures unless_finished { UnlessFinished result (workspace.new.pool ≡ workspace.old.pool) }
+        ensures keeps { KeepsPlanes workspace.old.pool workspace.new.pool self.old self.new }
+    {
+        let limit = self.quota.tiles();
+        let basis = setup.basis(&self.uses);
+        let planes = &mut self.planes;
+        self.errors
+            .finish(planes, &basis, finding, limit, workspace)
+    }
+
     /// Checks all areas that await checking, piece by piece.
     pub fn catch_up(&mut self, alloc: Global, setup: &Setup, workspace: &mut Workspace) -> Executed
         requires home { IsHome workspace.old.pool self.old }
         requires made_for { IsMadeFor setup.now self.old }
+        requires can_dump { CanDump setup.now workspace.old.pool (owners_of self.old) }
         requires areas { IsDirtyList self.old.errors.dirty }
         ensures caught { DesignSteps (config_of setup.now workspace.old.pool)
             (designed_of workspace.old.pool self.old) Command.CatchUp result.reply
@@ -72,10 +141,11 @@ impl Design {
             × (workspace.new.pool ≡ workspace.old.pool)) }
     {
         let limit = self.quota.tiles();
+        let basis = setup.basis(&self.uses);
         let planes = &mut self.planes;
         let ended = self
             .errors
-            .catch_up(alloc, planes, &setup.rules, limit, workspace);
+            .catch_up(alloc, planes, &basis, limit, workspace);
         let pending = self.errors.areas();
         Executed {
             reply: caught_up_reply(ended, pending),
@@ -87,6 +157,8 @@ impl Design {
     #[tactic(auto, unfolding(crate::specs::OwnSteps::design_step))]
     pub fn why(&mut self, alloc: Global, setup: &Setup, workspace: &mut Workspace) -> Reply
         requires home { IsHome workspace.old.pool self.old }
+        requires made_for { IsMadeFor setup.now self.old }
+        requires can_dump { CanDump setup.now workspace.old.pool (owners_of self.old) }
         ensures why { DesignSteps (config_of setup.now workspace.old.pool)
             (designed_of workspace.old.pool self.old) Command.Why result (designed_of workspace.old.pool self.new) }
         ensures same { self.new ≡ self.old }
@@ -110,13 +182,16 @@ impl Design {
         workspace: &mut Workspace,
     ) -> Result<RuleSet, AllocError>
         requires home { IsHome workspace.old.pool self.old }
+        requires made_for { IsMadeFor setup.now self.old }
+        requires can_dump { CanDump setup.now workspace.old.pool (owners_of self.old) }
         ensures value { IfOk result (λ violated. violated
-            ≡ violated_rules setup.now.rules rect (drawn_of workspace.old.pool self.old).layout) }
+            ≡ violated_rules setup.now.rules rect (layout_of (config_of setup.now workspace.old.pool)
+            (drawn_of workspace.old.pool self.old))) }
         ensures same { self.new ≡ self.old }
         ensures pool { workspace.new.pool ≡ workspace.old.pool }
     {
-        let Workspace { pool, scratch, .. } = workspace;
-        why(alloc, pool, &mut self.planes, &setup.rules, rect, scratch)
+        let basis = setup.basis(&self.uses);
+        why(alloc, &mut self.planes, &basis, rect, workspace)
     }
 
     /// Returns how many squares are marked, and how many areas await checking.

@@ -1,19 +1,26 @@
 //! Commands on the box.
-ghost use Rattle.std.specs.Prelude.{◌≡◌, None, length};
-ghost use Rattle.mls_session.specs.Own.{Config, box_step, edit_step};
-ghost use Rattle.mls_session.specs.OwnSteps.{design_step};
+ghost use Rattle.std.specs.Prelude.{◌≡◌, [], IfOk, IsOk, None, length};
+ghost use Rattle.std.specs.List.{All};
+ghost use Rattle.mls_layout.specs.Uses.{flat_layout};
+ghost use Rattle.mls_layout.specs.Workspaces.{FitsWorkspace};
+ghost use Rattle.mls_library.specs.Libraries.{IsHome as AreCellsHome};
+ghost use Rattle.mls_session.specs.Own.{Config, box_step, edit_step, types_in};
+ghost use Rattle.mls_session.specs.OwnSteps.{DesignSteps, design_step};
 ghost use Rattle.mls_session.specs.Setups.{config_of};
+ghost use Rattle.mls_stitch.specs.Tilings.{HasPlane};
 ghost use Rattle.mls_tilepool.specs.Pools.{Pool};
 
 use super::Design;
 use crate::{Command, Refusal, Reply, Setup};
-use mls_errorplane::Workspace;
 use mls_geom::{Piece, Rect, RectFault};
 use mls_kinds::KindSet;
-use mls_paint::{kinds, overlay};
+use mls_layout::{Uses, Workspace, kinds};
+use mls_paint::overlay;
+use mls_stitch::Plane;
+use std::alloc::{AllocError, Global};
 
 impl Design {
-    ghost use Rattle.mls_session.specs.Designs.{IsHome, IsMadeFor, KeepsPlanes, OnRefused, designed_of, drawn_of};
+    ghost use Rattle.mls_session.specs.Designs.{CanDump, IsHome, IsMadeFor, KeepsPlanes, OnRefused, designed_of, drawn_of, owners_of};
 
     /// Sets the box, or refuses it by the fault of its lines.
     pub fn set_box(&mut self, made: Result<Rect, RectFault>) -> Reply
@@ -21,6 +28,7 @@ impl Design {
             → edit_step config (designed_of pool self.old) None (box_step (drawn_of pool self.old) made)
             ≡ (designed_of pool self.new, result) }
         ensures planes { self.new.planes ≡ self.old.planes }
+        ensures uses { self.new.uses ≡ self.old.uses }
         ensures quota { self.new.quota ≡ self.old.quota }
         ensures errors { self.new.errors ≡ self.old.errors }
         ensures refused { OnRefused result (self.new ≡ self.old) }
@@ -59,6 +67,7 @@ impl Design {
             pool,
             scratch,
             pieces,
+            ..
         } = workspace;
         pieces.clear();
         pieces.push_reserved(Piece { rect, kind });
@@ -71,25 +80,53 @@ impl Design {
         Reply::Done
     }
 
-    /// Returns the types in the box, space among them.
+    /// Returns the types in the box, space among them, in the layout as it is now.
+    ///
+    /// Runs out of memory only where cells are placed.
     #[tactic(auto, unfolding(crate::specs::OwnSteps::design_step))]
-    pub fn what(&mut self, workspace: &mut Workspace) -> Reply
+    pub fn what(&mut self, alloc: Global, setup: &Setup, workspace: &mut Workspace) -> Reply
         requires home { IsHome workspace.old.pool self.old }
-        // It depends on the number of planes alone of what no command changes.
-        ensures step { (config : Config) → config.tech.plane_count ≡ length self.old.planes
-            → design_step config (designed_of workspace.old.pool self.old) Command.What
-            ≡ (designed_of workspace.old.pool self.old, result) }
+        requires made_for { IsMadeFor setup.now self.old }
+        requires can_dump { CanDump setup.now workspace.old.pool (owners_of self.old) }
+        ensures step { DesignSteps (config_of setup.now workspace.old.pool)
+            (designed_of workspace.old.pool self.old) Command.What result (designed_of workspace.old.pool self.new) }
         ensures same { self.new ≡ self.old }
         ensures pool { workspace.new.pool ≡ workspace.old.pool }
     {
         let Some(rect) = self.box_rect else {
             return Reply::Refused(Refusal::NoBox);
         };
-        let mut found = KindSet::empty();
-        for i in 0..self.planes.len() {
-            let Workspace { pool, scratch, .. } = workspace;
-            found = found.union(kinds(pool, &mut self.planes[i], rect, scratch));
+        let basis = setup.basis(&self.uses);
+        match types_in(alloc, &mut self.planes, &basis.uses, rect, workspace) {
+            Ok(found) => Reply::Kinds(found),
+            Err(_) => Reply::Refused(Refusal::Memory),
         }
-        Reply::Kinds(found)
     }
+}
+
+/// Returns the types in a rectangle, space among them, in the layout on these planes with the uses.
+///
+/// Runs out of memory only where there are uses.
+fn types_in(
+    alloc: Global,
+    planes: &mut [Plane],
+    uses: &Uses<'_>,
+    rect: Rect,
+    workspace: &mut Workspace,
+) -> Result<KindSet, AllocError>
+    requires planes { All (HasPlane workspace.old.pool) planes.old }
+    requires planes_fit { All (FitsWorkspace workspace.old.pool) planes.old }
+    requires cells { AreCellsHome workspace.old.pool uses.now.library.now }
+    ensures value { IfOk result (λ found. found
+        ≡ types_in (length planes.old) (flat_layout workspace.old.pool uses.now planes.old) rect) }
+    ensures without_uses { uses.now.list.now ≡ [] → IsOk result }
+    ensures owners { planes.new ≡ planes.old }
+    ensures pool { workspace.new.pool ≡ workspace.old.pool }
+{
+    let mut found = KindSet::empty();
+    for number in 0..planes.len() {
+        let more = kinds(alloc, number, &mut planes[number], uses, rect, workspace)?;
+        found = found.union(more);
+    }
+    Ok(found)
 }

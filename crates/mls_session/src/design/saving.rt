@@ -1,4 +1,4 @@
-//! The text of a design's layout, as a cell file.
+//! The text of a design's own paint, as a cell file.
 ghost use Rattle.std.specs.Prelude.{◌≡◌, ◌≤◌, ◌++◌, IfOk, IfSome, OnOk, OnErr, length};
 ghost use Rattle.mls_library.specs.SavedCells.{Extends, HoldsOwnTypes, ReadsAs, saved_line_count, saved_text};
 ghost use Rattle.mls_tech.specs.Readings.{plane_of_type};
@@ -7,7 +7,7 @@ ghost use Rattle.mls_session.specs.Saving.{SavesText};
 
 use super::Design;
 use crate::{Refusal, Reply};
-use mls_errorplane::Workspace;
+use mls_layout::Workspace;
 use mls_library::{layer_line_count, push_end, push_header, push_layer};
 use mls_paint::strips_of;
 use mls_tech::Tech;
@@ -19,17 +19,17 @@ const OTHER_LINES: usize = 3;
 impl Design {
     ghost use Rattle.mls_session.specs.Designs.{IsHome, drawn_of};
 
-    /// Carries out [`Command::Save`](crate::Command::Save), and appends the text of the layout, as a cell file.
+    /// Carries out [`Command::Save`](crate::Command::Save), and appends the text of the own paint, as a cell file.
     ///
     /// Out of memory, appends nothing and returns a refusal.
     pub fn save(&self, tech: &Tech, out: &mut Vec<u8>, workspace: &mut Workspace) -> Reply
         requires home { IsHome workspace.old.pool self.now }
         requires made_for { length self.now.planes ≡ tech.now.plane_count }
-        ensures saves { SavesText tech.now (drawn_of workspace.old.pool self.now).layout result out.old.items
+        ensures saves { SavesText tech.now (drawn_of workspace.old.pool self.now).paint result out.old.items
             out.new.items }
-        ensures reads_back { HoldsOwnTypes tech.now (drawn_of workspace.old.pool self.now).layout
-            → ReadsAs tech.now (saved_text tech.now (drawn_of workspace.old.pool self.now).layout)
-            (drawn_of workspace.old.pool self.now).layout }
+        ensures reads_back { HoldsOwnTypes tech.now (drawn_of workspace.old.pool self.now).paint
+            → ReadsAs tech.now (saved_text tech.now (drawn_of workspace.old.pool self.now).paint)
+            (drawn_of workspace.old.pool self.now).paint }
         ensures pool { workspace.new.pool ≡ workspace.old.pool }
     {
         match self.save_text(tech, out, workspace) {
@@ -38,7 +38,7 @@ impl Design {
         }
     }
 
-    /// Appends the text of the layout, as a cell file, and returns the number of its lines.
+    /// Appends the text of the own paint, as a cell file, and returns the number of its lines.
     ///
     /// Out of memory, appends nothing.
     pub fn save_text(
@@ -50,13 +50,13 @@ impl Design {
         requires home { IsHome workspace.old.pool self.now }
         requires made_for { length self.now.planes ≡ tech.now.plane_count }
         ensures count { IfOk result (λ lines. lines
-            ≡ saved_line_count tech.now (drawn_of workspace.old.pool self.now).layout) }
+            ≡ saved_line_count tech.now (drawn_of workspace.old.pool self.now).paint) }
         ensures text { OnOk result (out.new.items ≡ out.old.items ++ saved_text tech.now
-            (drawn_of workspace.old.pool self.now).layout) }
+            (drawn_of workspace.old.pool self.now).paint) }
         ensures refused { OnErr result (out.new.items ≡ out.old.items) }
-        ensures reads_back { HoldsOwnTypes tech.now (drawn_of workspace.old.pool self.now).layout
-            → ReadsAs tech.now (saved_text tech.now (drawn_of workspace.old.pool self.now).layout)
-            (drawn_of workspace.old.pool self.now).layout }
+        ensures reads_back { HoldsOwnTypes tech.now (drawn_of workspace.old.pool self.now).paint
+            → ReadsAs tech.now (saved_text tech.now (drawn_of workspace.old.pool self.now).paint)
+            (drawn_of workspace.old.pool self.now).paint }
         ensures pool { workspace.new.pool ≡ workspace.old.pool }
     {
         let len = out.len();
@@ -69,11 +69,11 @@ impl Design {
         }
     }
 
-    /// Returns the number of lines of the layout's text.
+    /// Returns the number of lines of the own paint's text.
     pub fn count_lines(&self, tech: &Tech, workspace: &mut Workspace) -> usize
         requires home { IsHome workspace.old.pool self.now }
         requires made_for { length self.now.planes ≡ tech.now.plane_count }
-        ensures count { result ≡ saved_line_count tech.now (drawn_of workspace.old.pool self.now).layout }
+        ensures count { result ≡ saved_line_count tech.now (drawn_of workspace.old.pool self.now).paint }
         ensures pool { workspace.new.pool ≡ workspace.old.pool }
     {
         let types = tech.types() as u8;
@@ -86,7 +86,7 @@ impl Design {
         lines
     }
 
-    /// Appends the text of the layout. Out of memory, leaves the beginning of it.
+    /// Appends the text of the own paint. Out of memory, leaves the beginning of it.
     fn push_text(
         &self,
         tech: &Tech,
@@ -96,11 +96,11 @@ impl Design {
         requires home { IsHome workspace.old.pool self.now }
         requires made_for { length self.now.planes ≡ tech.now.plane_count }
         ensures text { OnOk result (out.new.items ≡ out.old.items ++ saved_text tech.now
-            (drawn_of workspace.old.pool self.now).layout) }
+            (drawn_of workspace.old.pool self.now).paint) }
         ensures kept { OnErr result (Extends out.old.items out.new.items) }
-        ensures reads_back { HoldsOwnTypes tech.now (drawn_of workspace.old.pool self.now).layout
-            → ReadsAs tech.now (saved_text tech.now (drawn_of workspace.old.pool self.now).layout)
-            (drawn_of workspace.old.pool self.now).layout }
+        ensures reads_back { HoldsOwnTypes tech.now (drawn_of workspace.old.pool self.now).paint
+            → ReadsAs tech.now (saved_text tech.now (drawn_of workspace.old.pool self.now).paint)
+            (drawn_of workspace.old.pool self.now).paint }
         ensures pool { workspace.new.pool ≡ workspace.old.pool }
     {
         let types = tech.types() as u8;
@@ -119,9 +119,9 @@ impl Design {
         requires made_for { length self.now.planes ≡ tech.now.plane_count }
         requires is_type { (1 ≤ kind) × (kind ≤ length tech.now.type_planes) }
         requires listed { IfSome listed.old (ListsPlane
-            (drawn_of workspace.old.pool self.now).layout workspace.old.scratch.tiles) }
+            (drawn_of workspace.old.pool self.now).paint workspace.old.scratch.tiles) }
         ensures lists { IfSome listed.new (ListsPlane
-            (drawn_of workspace.old.pool self.now).layout workspace.new.scratch.tiles) }
+            (drawn_of workspace.old.pool self.now).paint workspace.new.scratch.tiles) }
         ensures plane { listed.new ≡ plane_of_type tech.now.type_planes kind }
         ensures pool { workspace.new.pool ≡ workspace.old.pool }
     {

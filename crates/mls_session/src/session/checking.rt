@@ -3,19 +3,21 @@ ghost use Rattle.std.specs.Prelude.{◌≡◌, ℕ, length};
 ghost use Rattle.mls_errorplane.specs.ErrorPlanes.{UnlessDone};
 ghost use Rattle.mls_errorplane.specs.Jobs.{HasGrabbed};
 ghost use Rattle.mls_errorplane.specs.Outcomes.{UnlessFinished};
-ghost use Rattle.mls_session.specs.Designs.{HasRightMarks};
+ghost use Rattle.mls_session.specs.Designs.{CanDump, HasRightMarks};
 ghost use Rattle.mls_session.specs.Inner.{done_steps, finished_steps};
 ghost use Rattle.mls_session.specs.Journals.{Finishes, IsLegal, StepsOnce};
-ghost use Rattle.mls_session.specs.Setups.{terms_of};
+ghost use Rattle.mls_session.specs.Own.{layout_of};
+ghost use Rattle.mls_session.specs.Setups.{config_of, terms_of};
 
 use super::Session;
 use crate::Setup;
 use mls_checker::Finding;
-use mls_errorplane::{Job, Outcome, Stepped, Workspace};
+use mls_errorplane::{Job, Outcome, Stepped};
+use mls_layout::Workspace;
 use std::alloc::{AllocError, Global};
 
 impl Session {
-    ghost use Rattle.mls_session.specs.Sessions.{IsHome, IsMadeFor, KeepsPlanes, kept_of, state_of};
+    ghost use Rattle.mls_session.specs.Sessions.{IsHome, IsMadeFor, KeepsPlanes, kept_of, owners_of, state_of};
 
     /// Returns what a check of the first piece of the areas that await checking needs, if there is an area. Nothing
     /// changes.
@@ -26,15 +28,16 @@ impl Session {
         workspace: &mut Workspace,
     ) -> Result<Option<Job>, AllocError>
         requires home { IsHome workspace.old.pool self.old }
+        requires made_for { IsMadeFor setup.now self.old }
+        requires can_dump { CanDump setup.now workspace.old.pool (owners_of self.old) }
         ensures grabbed { HasGrabbed setup.now.rules (length self.old.design.planes)
-            (state_of workspace.old.pool self.old).design.drawn.layout
+            (layout_of (config_of setup.now workspace.old.pool)
+            (state_of workspace.old.pool self.old).design.drawn)
             (state_of workspace.old.pool self.old).design.checking result }
         ensures same { self.new ≡ self.old }
         ensures pool { workspace.new.pool ≡ workspace.old.pool }
     {
-        let design = &mut self.design;
-        let planes = &mut design.planes;
-        design.errors.grab(alloc, planes, &setup.rules, workspace)
+        self.design.grab(alloc, setup, workspace)
     }
 
     /// Checks the first piece of the areas that await checking, and takes it out of them.
@@ -43,21 +46,18 @@ impl Session {
     pub fn step(&mut self, alloc: Global, setup: &Setup, workspace: &mut Workspace) -> Stepped
         requires home { IsHome workspace.old.pool self.old }
         requires made_for { IsMadeFor setup.now self.old }
+        requires can_dump { CanDump setup.now workspace.old.pool (owners_of self.old) }
         ensures stepped { StepsOnce (terms_of setup.now workspace.old.pool)
             (kept_of workspace.old.pool self.old) result (kept_of workspace.new.pool self.new) }
         ensures legal { IsLegal (terms_of setup.now workspace.old.pool) (kept_of workspace.old.pool self.old)
             → IsLegal (terms_of setup.now workspace.old.pool) (kept_of workspace.new.pool self.new) }
-        ensures marks_right { HasRightMarks setup.now.rules (state_of workspace.old.pool self.old).design
-            → HasRightMarks setup.now.rules (state_of workspace.new.pool self.new).design }
+        ensures marks_right { HasRightMarks (config_of setup.now workspace.old.pool)
+            (state_of workspace.old.pool self.old).design
+            → HasRightMarks (config_of setup.now workspace.old.pool) (state_of workspace.new.pool self.new).design }
         ensures unless_done { UnlessDone result (workspace.new.pool ≡ workspace.old.pool) }
         ensures keeps { KeepsPlanes workspace.old.pool workspace.new.pool self.old self.new }
     {
-        let design = &mut self.design;
-        let limit = design.quota.tiles();
-        let planes = &mut design.planes;
-        let stepped = design
-            .errors
-            .step(alloc, planes, &setup.rules, limit, workspace);
+        let stepped = self.design.step(alloc, setup, workspace);
         self.journal.count(done_steps(stepped));
         stepped
     }
@@ -70,21 +70,18 @@ impl Session {
     pub fn finish(&mut self, setup: &Setup, finding: &Finding, workspace: &mut Workspace) -> Outcome
         requires home { IsHome workspace.old.pool self.old }
         requires made_for { IsMadeFor setup.now self.old }
+        requires can_dump { CanDump setup.now workspace.old.pool (owners_of self.old) }
         ensures finished { Finishes (terms_of setup.now workspace.old.pool)
             (kept_of workspace.old.pool self.old) finding.now result (kept_of workspace.new.pool self.new) }
         ensures legal { IsLegal (terms_of setup.now workspace.old.pool) (kept_of workspace.old.pool self.old)
             → IsLegal (terms_of setup.now workspace.old.pool) (kept_of workspace.new.pool self.new) }
-        ensures marks_right { HasRightMarks setup.now.rules (state_of workspace.old.pool self.old).design
-            → HasRightMarks setup.now.rules (state_of workspace.new.pool self.new).design }
+        ensures marks_right { HasRightMarks (config_of setup.now workspace.old.pool)
+            (state_of workspace.old.pool self.old).design
+            → HasRightMarks (config_of setup.now workspace.old.pool) (state_of workspace.new.pool self.new).design }
         ensures unless_finished { UnlessFinished result (workspace.new.pool ≡ workspace.old.pool) }
         ensures keeps { KeepsPlanes workspace.old.pool workspace.new.pool self.old self.new }
     {
-        let design = &mut self.design;
-        let limit = design.quota.tiles();
-        let planes = &mut design.planes;
-        let outcome = design
-            .errors
-            .finish(planes, &setup.rules, finding, limit, workspace);
+        let outcome = self.design.finish(setup, finding, workspace);
         self.journal.count(finished_steps(outcome));
         outcome
     }

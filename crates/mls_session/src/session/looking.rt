@@ -1,17 +1,19 @@
 //! Looks at a session.
 ghost use Rattle.std.specs.Prelude.{◌≡◌, ◌++◌, ◌⊎◌, [], IfOk, List, ℕ};
+ghost use Rattle.mls_session.specs.Designs.{CanDump};
 ghost use Rattle.mls_session.specs.Looks.{IsRect, Looks, status_of, why_in};
-ghost use Rattle.mls_session.specs.Setups.{terms_of};
+ghost use Rattle.mls_session.specs.Own.{layout_of};
+ghost use Rattle.mls_session.specs.Setups.{config_of, terms_of};
 
 use super::Session;
 use crate::{Look, Looked, Refusal, Setup, Status, TileCounts};
-use mls_errorplane::Workspace;
 use mls_geom::{Rect, RectFault};
+use mls_layout::Workspace;
 use mls_tilepool::Pool;
 use std::alloc::{AllocError, Global};
 
 impl Session {
-    ghost use Rattle.mls_session.specs.Sessions.{IsHome, IsMadeFor, kept_of, state_of};
+    ghost use Rattle.mls_session.specs.Sessions.{IsHome, IsMadeFor, kept_of, owners_of, state_of};
 
     /// Returns what a look asks for, and appends the text that comes with it. Nothing of the session changes.
     ///
@@ -26,6 +28,7 @@ impl Session {
     ) -> Looked
         requires home { IsHome workspace.old.pool self.old }
         requires made_for { IsMadeFor setup.now self.old }
+        requires can_dump { CanDump setup.now workspace.old.pool (owners_of self.old) }
         ensures looks { (text : List ℕ) × Looks (terms_of setup.now workspace.old.pool)
             (kept_of workspace.old.pool self.old) look result text × (out.new.items ≡ out.old.items ++ text) }
         ensures same { self.new ≡ self.old }
@@ -46,7 +49,7 @@ impl Session {
         }
     }
 
-    /// Appends the text of the layout, and returns the number of its lines.
+    /// Appends the text of the own paint, and returns the number of its lines.
     fn look_at_text(&self, setup: &Setup, out: &mut Vec<u8>, workspace: &mut Workspace) -> Looked
         requires home { IsHome workspace.old.pool self.now }
         requires made_for { IsMadeFor setup.now self.now }
@@ -69,8 +72,11 @@ impl Session {
         workspace: &mut Workspace,
     ) -> Looked
         requires home { IsHome workspace.old.pool self.old }
+        requires made_for { IsMadeFor setup.now self.old }
+        requires can_dump { CanDump setup.now workspace.old.pool (owners_of self.old) }
         ensures looks { (result ≡ why_in setup.now.rules
-            (state_of workspace.old.pool self.old).design.drawn.layout made)
+            (layout_of (config_of setup.now workspace.old.pool)
+            (state_of workspace.old.pool self.old).design.drawn) made)
             ⊎ (IsRect made × (result ≡ Looked.Refused Refusal.Memory)) }
         ensures same { self.new ≡ self.old }
         ensures pool { workspace.new.pool ≡ workspace.old.pool }

@@ -6,7 +6,7 @@ use Rattle.mls_bench.proofs.scene.painted.Goals as goal
 
 pub returns-2-clause-others : goal.returns-2-clause-others
 returns-2-clause-others c other home =
-    let old = c.args.pool.now in
+    let old = c.args.workspace.now.pool in
     let made = c.space_plane.new.pool in
     let owner = c.in_ok-plane.plane in
     let added = c.in_ok-plane.ensures.added in

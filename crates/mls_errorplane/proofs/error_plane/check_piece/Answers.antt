@@ -1,12 +1,12 @@
 use Rattle.std.proofs.Common.{sym, ap, ◌∙◌}
 use Rattle.mls_geom.specs.Rects.{Rect}
 use Rattle.mls_checker.specs.ZoneLayouts.{within}
-use Rattle.mls_paint.specs.Planes.{layout_in}
-use Rattle.mls_errorplane.proofs.CheckedMarks.{found-forbidden, layout-AgreeOutside}
+use Rattle.mls_layout.specs.Uses.{flat_layout}
+use Rattle.mls_errorplane.proofs.CheckedMarks.{flat-AgreeOutside, found-forbidden}
 use Rattle.mls_errorplane.proofs.error_plane.check_piece.Goals as goal
 
 pub returns-clause-marks : goal.returns-clause-marks
 returns-clause-marks c =
-    let layout = layout_in c.args.pool.now c.args.planes.now in
-    found-forbidden c.args.rules.now c.args.piece layout c.in_ok-snapshot.snapshot c.check.result (c.in_ok-snapshot.ensures.layout ∙ ap (λ (z : Rect). within z layout) (sym c.in_ok-snapshot.ensures.zone))
-    (layout-AgreeOutside c.args.pool.now c.args.planes.now c.requires.planes) c.check.ensures.piece c.check.ensures.snapshot c.check.ensures.rules c.check.ensures.exact
+    let layout = flat_layout c.args.workspace.now.pool c.args.basis.now.uses c.args.planes.now in
+    found-forbidden c.args.basis.now.rules.now c.args.piece layout c.in_ok-snapshot.snapshot c.check.result (c.in_ok-snapshot.ensures.layout ∙ ap (λ (z : Rect). within z layout) (sym c.in_ok-snapshot.ensures.zone))
+    (flat-AgreeOutside c.args.workspace.now.pool c.args.basis.now.uses c.args.planes.now c.requires.planes) c.check.ensures.piece c.check.ensures.snapshot c.check.ensures.rules c.check.ensures.exact

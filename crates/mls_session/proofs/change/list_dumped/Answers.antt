@@ -7,7 +7,7 @@ use Rattle.mls_tilepool.specs.Pools.{tiles_of}
 use Rattle.mls_stitch.specs.Areas.{AreInArea}
 use Rattle.mls_stitch.specs.Tilings.{block_at, shown}
 use Rattle.mls_stitch.proofs.ShownTiles.{KeysDiffer-tiles_of}
-use Rattle.mls_session.specs.Changes.{moved}
+use Rattle.mls_layout.specs.Moves.{moved}
 use Rattle.mls_session.proofs.FoundTiles.{length-strips}
 use Rattle.mls_session.proofs.MovedTiles.{dumps, dumps-space, holds-moved, kind-dumps, legal_there, moved_rect-some, overlaid-dumps}
 use Rattle.mls_session.proofs.TilePieces.{ArePatches, ArePatches-left, ArePatches-made, few-ArePatches}

@@ -1,6 +1,6 @@
 use Rattle.std.proofs.Common.{◌≡◌, take, vec_capacity}
 use Rattle.mls_paint.specs.Planes.{picture_in}
-use Rattle.mls_session.specs.Changes.{moved}
+use Rattle.mls_layout.specs.Moves.{moved}
 use Rattle.mls_session.proofs.MovedTiles.{dumps}
 use Rattle.mls_session.proofs.TilePieces.{ArePatches}
 use Rattle.mls_session.proofs.change.list_dumped.Given as goal

@@ -1,6 +1,6 @@
 use Rattle.std.proofs.Common.{◌≡◌, ◌+◌, ◌*◌, ◌^◌, ◌≤◌}
 use Rattle.mls_stitch.specs.Tilings.{ChangesOnly}
-use Rattle.mls_paint.specs.Planes.{layout_in}
+use Rattle.mls_layout.specs.Uses.{flat_layout}
 use Rattle.mls_errorplane.specs.CatchingUp.{Steps}
 use Rattle.mls_errorplane.specs.DirtyLists.{IsDirtyList, area_of}
 use Rattle.mls_errorplane.specs.ErrorPlanes.{ShowsMarks, checking_of}
@@ -9,7 +9,7 @@ use Rattle.mls_errorplane.proofs.error_plane.ErrorPlane.catch_up.Given as goal
 -- all steps so far were done, in the layout as it was, and their number and the squares that still await checking aren't too many to count
 abbrev pub invariant-steps : goal.invariant-steps
 invariant-steps l = record {
-  after : Steps l.rules (layout_in l.fn.workspace.pool l.fn.planes) l.limit l.done (checking_of l.fn.workspace.pool l.fn.self) (checking_of l.workspace.pool l.self);
+  after : Steps l.fn.basis.rules.now (flat_layout l.fn.workspace.pool l.fn.basis.uses l.fn.planes) l.limit l.done (checking_of l.fn.workspace.pool l.fn.self) (checking_of l.workspace.pool l.self);
   few : IsDirtyList l.self.dirty → l.done + area_of l.self.dirty ≤ 65 * 2 ^ 32;
   marks : ShowsMarks l.workspace.pool l.self.owner;
   only : ChangesOnly l.fn.workspace.pool l.workspace.pool l.fn.self.owner;

@@ -20,7 +20,7 @@ returns-in_default-clause-finishes c =
 pub finish-requires : goal.finish-requires
 finish-requires c =
     let is = asked (goal.at.finish-requires c).After-asked in
-    record { home = is.made.home; made_for = is.made.made_for }
+    record { home = is.made.home; made_for = is.made.made_for; can_dump = is.made.can_dump }
 
 pub invariant_of-self-2 : goal.invariant_of-self-2
 invariant_of-self-2 c =

@@ -2,7 +2,10 @@ use Rattle.std.proofs.Common.{◌≡◌, ℕ, List, Some, sym, ap, subst, subst�
 use Rattle.std.specs.Option.{option_copied_mut}
 use Rattle.indexmap.specs.Layout.{set_value_at}
 use Rattle.mls_errorplane.specs.Jobs.{IsNextJob}
+use Rattle.mls_session.specs.Own.{layout_of}
+use Rattle.mls_session.specs.OwnSteps.{Terms}
 use Rattle.mls_session.specs.Sessions.{kept_of}
+use Rattle.mls_session.specs.Setups.{config_of}
 use Rattle.mls_server.specs.contracts.server.OpenSession.{the_view as session_view}
 use Rattle.mls_server.specs.contracts.server.Server.{the_view}
 use Rattle.mls_server.specs.Events.{DoesGrab}
@@ -25,7 +28,7 @@ returns-in_default-clause-grabs c =
 pub grab-requires : goal.grab-requires
 grab-requires c =
     let is = asked (goal.at.grab-requires c).After-asked in
-    record { home = is.made.home }
+    record { home = is.made.home; made_for = is.made.made_for; can_dump = is.made.can_dump }
 
 pub invariant_of-self-2 : goal.invariant_of-self-2
 invariant_of-self-2 c =
@@ -45,11 +48,16 @@ returns-clause-grabs c =
     ∙ ap (λ sessions. world_of (record server { sessions = sessions })) (sessions-same is c.grab.new.self c.grab.ensures.same) ∙ ap world_of c.self.view_is in
     elim c.match-grab.branch [
       | in-Ok w ↦
+          let shown = layout_of (config_of server.setup server.pool) kept.own.design.drawn in
           let next =
-          subst (λ (count : ℕ). IsNextJob server.setup.rules count kept.own.design.drawn.layout kept.own.design.checking w.in-Ok.job) is.made.made_for.design.planes w.in-Ok.ensures.grabbed
+          subst (λ (count : ℕ). IsNextJob server.setup.rules count shown kept.own.design.checking w.in-Ok.job) is.made.made_for.design.planes w.in-Ok.ensures.grabbed
           in
-          subst (λ result. DoesGrab (world_of c.args.self.now) c.args.id result (world_of new)) (sym w.result-is)
-          (kept, is.kept, subst (λ (on : Server). IsNextJob on.setup.rules on.setup.tech.plane_count kept.own.design.drawn.layout kept.own.design.checking w.in-Ok.job) c.self.view_is next, stays)
+          subst (λ result. DoesGrab (world_of c.args.self.now) c.args.id result (world_of new)) (sym w.result-is) (
+            kept,
+            is.kept,
+            subst (λ (terms : Terms). IsNextJob terms.config.rules terms.config.tech.plane_count (layout_of terms.config kept.own.design.drawn) kept.own.design.checking w.in-Ok.job) is.terms next,
+            stays,
+          )
       | in-Err w ↦
           subst (λ result. DoesGrab (world_of c.args.self.now) c.args.id result (world_of new)) (sym w.result-is) (kept, is.kept, w.in-Err.ensures.grabbed, stays)
     ]

@@ -3,6 +3,7 @@ use Rattle.std.specs.Option.{option_copied_mut}
 use Rattle.mls_session.specs.Designs.{Design, HasRightMarks, designed_of}
 use Rattle.indexmap.specs.Layout.{set_value_at}
 use Rattle.mls_session.specs.Journals.{Saves}
+use Rattle.mls_session.specs.Setups.{config_of}
 use Rattle.mls_tilepool.specs.Pools.{Pool}
 use Rattle.mls_server.specs.Events.{SavesText}
 use Rattle.mls_server.specs.Servers.{AreOpen, world_of}
@@ -37,7 +38,7 @@ invariant_of-self-2 c =
     subst (λ (pool : Pool). AreOpen c.self.inside.setup pool c.self.inside.given (set_value_at c.self.inside.sessions.entries c.place_of-place.result (record (session_view c.asked.inside) { session = c.save.new.self })))
     (sym done.pool)
     (AreOpen-changed is (keeps-same is c.save.new.self done.design done.limit)
-    (subst (λ (design : Design). HasRightMarks c.self.inside.setup.rules (designed_of c.self.inside.workspace.pool design)) (sym done.design)) done.legal)
+    (subst (λ (design : Design). HasRightMarks (config_of c.self.inside.setup c.self.inside.workspace.pool) (designed_of c.self.inside.workspace.pool design)) (sym done.design)) done.legal)
 
 pub returns-clause-saves : goal.returns-clause-saves
 returns-clause-saves c =

@@ -1,24 +1,37 @@
-use Rattle.std.proofs.Common.{◌≡◌, ℕ, List, length, sym, ap, subst, ◌∙◌}
+use Rattle.std.proofs.Common.{◌≡◌, length, sym, ap, subst, ◌∙◌}
 use Rattle.std.specs.Vec.{with_items}
 use Rattle.std.proofs.lemmas.List.{with_items_is}
 use Rattle.mls_errorplane.specs.CatchingUp.{HasCaughtUp}
 use Rattle.mls_errorplane.specs.ErrorPlanes.{ErrorPlane, ShowsMarks, checking_of}
-use Rattle.mls_paint.specs.Planes.{layout_in}
 use Rattle.mls_session.specs.Inner.{Counts}
+use Rattle.mls_session.specs.Own.{layout_of}
 use Rattle.mls_session.specs.OwnSteps.{DesignSteps}
 use Rattle.mls_session.specs.declared.command.Command.TheVariants.{CatchUp}
 use Rattle.mls_session.specs.declared.executed.Executed.{Executed}
-use Rattle.mls_session.specs.Designs.{Design, designed_of}
+use Rattle.mls_session.specs.Designs.{Design, designed_of, drawn_of}
 use Rattle.mls_session.specs.Setups.{config_of}
 use Rattle.mls_stitch.specs.Tilings.{ChangesOnly}
 use Rattle.mls_session.proofs.CommandSteps.{caught_up-errors}
 use Rattle.mls_session.proofs.ErrorPlanes.{KeepsPlanes-errors}
+use Rattle.mls_session.proofs.FlatDesigns.{HasCells-CanDump, cells_apart-CanDump, flat_layout-design}
 use Rattle.mls_session.proofs.design.Design.catch_up.Goals as goal
+
+pub catch_up-ended-requires-clause-cells : goal.catch_up-ended-requires-clause-cells
+catch_up-ended-requires-clause-cells c =
+    let lent = c.deref_mut.ensures.value ∙ ap (λ (d : Design). d.planes) c.self.view_is in
+    HasCells-CanDump c.args.setup.now c.args.workspace.now.pool c.args.self.now c.requires.can_dump c.basis-basis.result.uses.library.now c.basis-basis.ensures.library
+    c.deref_mut.result.now c.requires.made_for lent
+
+pub catch_up-ended-requires-clause-cells_apart : goal.catch_up-ended-requires-clause-cells_apart
+catch_up-ended-requires-clause-cells_apart c =
+    cells_apart-CanDump c.args.setup.now c.args.workspace.now.pool c.args.self.now c.requires.can_dump c.basis-basis.result.uses.library.now c.basis-basis.ensures.library
+    c.self.inside.errors.owner (ap (λ (d : Design). d.errors.owner) c.self.view_is)
 
 abbrev after : goal.After-steps_of → Design
 after c = record {
   box = c.self.inside.box_rect;
   planes = (with_items c.self.inside.planes c.catch_up-ended.new.planes).items;
+  uses = c.self.inside.uses.items;
   quota = c.self.inside.quota;
   errors = c.catch_up-ended.new.self;
 }
@@ -45,16 +58,18 @@ caught c =
     let pool = c.args.workspace.now.pool in
     let new = c.catch_up-ended.new.workspace.pool in
     let design = c.args.self.now in
-    let rules = c.args.setup.now.rules in
+    let config = config_of c.args.setup.now pool in
     let ended = c.catch_up-ended.result in
     let limit = c.tiles-limit.result in
     let now = checking_of new c.catch_up-ended.new.self in
     let lent = c.deref_mut.ensures.value ∙ ap (λ (d : Design). d.planes) c.self.view_is in
-    let steps : HasCaughtUp rules (layout_in pool design.planes) limit (checking_of pool design.errors) ended now =
-    subst (λ (e : ErrorPlane). HasCaughtUp rules (layout_in pool design.planes) limit (checking_of pool e) ended now) (ap (λ (d : Design). d.errors) c.self.view_is)
-    (subst (λ (owners : List ℕ). HasCaughtUp rules (layout_in pool owners) limit (checking_of pool c.self.inside.errors) ended now) lent c.catch_up-ended.ensures.caught_up) in
-    caught_up-errors (config_of c.args.setup.now pool) pool new design (after c) limit ended c.areas-pending.result (executed c) (sym c.requires.made_for.quota)
-    (c.tiles-limit.ensures.value ∙ ap (λ (d : Design). d.quota) c.self.view_is) c.requires.home c.requires.areas (only c) (ap (λ (d : Design). d.box) c.self.view_is) (planes c) steps
+    let list = c.basis-basis.ensures.list ∙ c.deref.ensures.value ∙ ap (λ (d : Design). d.uses) c.self.view_is in
+    let shown = flat_layout-design c.args.setup.now pool design c.basis-basis.result.uses c.basis-basis.ensures.library list c.deref_mut.result.now lent in
+    let all = rw (c.basis-basis.ensures.rules, shown) at c.catch_up-ended.ensures.caught_up in
+    let steps : HasCaughtUp config.rules (layout_of config (drawn_of pool design)) limit (checking_of pool design.errors) ended now =
+    subst (λ (e : ErrorPlane). HasCaughtUp config.rules (layout_of config (drawn_of pool design)) limit (checking_of pool e) ended now) (ap (λ (d : Design). d.errors) c.self.view_is) all in
+    caught_up-errors config pool new design (after c) limit ended c.areas-pending.result (executed c) (sym c.requires.made_for.quota)
+    (c.tiles-limit.ensures.value ∙ ap (λ (d : Design). d.quota) c.self.view_is) c.requires.home c.requires.areas (only c) (ap (λ (d : Design). d.box) c.self.view_is) (planes c) (ap (λ (d : Design). d.uses) c.self.view_is) steps
     c.areas-pending.ensures.value c.caught_up_reply.ensures c.steps_of.ensures
 
 pub returns-clause-caught : goal.returns-clause-caught

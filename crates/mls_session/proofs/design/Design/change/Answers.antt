@@ -63,6 +63,7 @@ returns-clause-step c =
     (c.soil.ensures.checking new ∙ ap (λ (d : Design). soiled_after config.rules c.args.rect Done (checking_of new d.errors)) made.same) layout c.change_fits.result
     (tested.fits config (sym c.requires.made_for.planes) (sym c.requires.made_for.quota)) c.if-not-change_fits.false made.layout
     (ap (λ (d : Design). d.box) same ∙ ap (λ (d : Design). d.box) made.same) (ap (λ (d : Design). d.planes) same ∙ ap (λ (d : Design). d.planes) made.same)
+    (ap (λ (d : Design). d.uses) same ∙ ap (λ (d : Design). d.uses) made.same)
 
 pub returns-clause-keeps : goal.returns-clause-keeps
 returns-clause-keeps c =

@@ -73,7 +73,8 @@ loop-i-preserved c =
     let layout = changed_layout pool change (layout_in pool design.planes) in
     record {
       pool = turn.invariant.pool;
-      same = ap (λ (planes : List ℕ). record { box = turn.self-inside.box_rect; planes = planes; quota = turn.self-inside.quota; errors = turn.self-inside.errors }) kept ∙ turn.invariant.same;
+      same = ap (λ (planes : List ℕ). record { box = turn.self-inside.box_rect; planes = planes; uses = turn.self-inside.uses.items; quota = turn.self-inside.quota; errors = turn.self-inside.errors }) kept ∙ turn.invariant.same;
+      room = turn.invariant.room;
       few =
           any_more (exceeds design.quota layout) i ∙ ap (λ before. before || exceeds design.quota layout i) turn.invariant.few
           ∙ exceeds-fits pool design change i owner c.tiles-limit.result (overlaid below c.deref.result.now) (omega (arith, whole)) is limit made

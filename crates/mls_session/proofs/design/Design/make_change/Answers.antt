@@ -54,7 +54,8 @@ loop-i-preserved c =
     let shows = rw c.unwrap.ensures at c.overlay.ensures.picture in
     let kept = planes_kept turn.self-inside.planes.items i owner c.overlay.new.plane c.index_mut-plane.ensures.value (c.overlay.ensures.plane ∙ same_plane) in
     record {
-      same = ap (λ (planes : List ℕ). record { box = turn.self-inside.box_rect; planes = planes; quota = turn.self-inside.quota; errors = turn.self-inside.errors }) kept ∙ so_far.same;
+      same = ap (λ (planes : List ℕ). record { box = turn.self-inside.box_rect; planes = planes; uses = turn.self-inside.uses.items; quota = turn.self-inside.quota; errors = turn.self-inside.errors }) kept ∙ so_far.same;
+      room = so_far.room;
       made =
           IsMade-more old mid design change i owner c.requires.apart so_far.made (omega (arith, whole)) is new (rw same_plane at c.overlay.ensures.only)
           (rw same_plane at c.overlay.ensures.strips) (ap (picture_in new) (sym same_plane) ∙ shows ∙ made);

@@ -1,10 +1,12 @@
-use Rattle.std.proofs.Common.{◌≡◌}
+use Rattle.std.proofs.Common.{◌≡◌, ◌≤◌, vec_capacity}
+use Rattle.mls_layout.specs.Uses.{most_uses}
 use Rattle.mls_session.proofs.ChangedPlanes.{IsMade}
 use Rattle.mls_session.proofs.design.Design.make_change.Given as goal
 
--- the change is made on the first planes
+-- the change is made on the first planes, and there is room for uses
 abbrev pub invariant-loop-i : goal.invariant-loop-i
 invariant-loop-i l = record {
-  same : record { box = l.self-inside.box_rect; planes = l.self-inside.planes.items; quota = l.self-inside.quota; errors = l.self-inside.errors } ≡ l.fn.self;
+  same : record { box = l.self-inside.box_rect; planes = l.self-inside.planes.items; uses = l.self-inside.uses.items; quota = l.self-inside.quota; errors = l.self-inside.errors } ≡ l.fn.self;
+  room : most_uses ≤ vec_capacity l.self-inside.uses;
   made : IsMade l.fn.workspace.pool l.workspace.pool l.fn.self l.change l.i;
 }

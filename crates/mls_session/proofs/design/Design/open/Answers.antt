@@ -1,4 +1,4 @@
-use Rattle.std.proofs.Common.{◌≡◌, ◌+◌, ℕ, List, None, refl, ap, ◌∙◌, sym, subst}
+use Rattle.std.proofs.Common.{◌≡◌, ◌+◌, ℕ, List, None, refl, ap, ◌∙◌, sym, subst, arith}
 use Rattle.mls_geom.specs.Layouts.{Layout}
 use Rattle.mls_geom.specs.Rects.{Rect}
 use Rattle.mls_checker.specs.Marking.{no_squares}
@@ -6,12 +6,13 @@ use Rattle.mls_tilepool.specs.Pools.{unreserved}
 use Rattle.mls_paint.specs.Planes.{AddsOwner}
 use Rattle.mls_errorplane.specs.Checkings.{Checking, opening_checking}
 use Rattle.mls_errorplane.specs.ErrorPlanes.{checking_of}
-use Rattle.mls_errorplane.proofs.EmptyLayouts.{opening-IsChecked}
+use Rattle.mls_layout.specs.declared.uses.CellUse.{CellUse}
 use Rattle.mls_session.specs.Own.{Designed, blank, opening}
 use Rattle.mls_session.specs.Designs.{Design, HasRightMarks, designed_of}
 use Rattle.mls_session.specs.Quotas.{plane_reserve}
+use Rattle.mls_session.specs.Setups.{config_of}
 use Rattle.mls_session.proofs.ErrorPlanes.{IsHome-added, differs, layout-added}
-use Rattle.mls_session.proofs.Openings.{AddsOwners-plane}
+use Rattle.mls_session.proofs.Openings.{AddsOwners-plane, HasRightMarks-opening}
 use Rattle.mls_session.proofs.design.Design.open.Goals as goal
 
 -- the error plane has as many tiles as each other plane
@@ -19,7 +20,7 @@ reserved : (c : goal.After-result-1) → AddsOwner c.space_planes.new.workspace.
 reserved c = subst (AddsOwner c.space_planes.new.workspace.pool c.new-errors.new.workspace.pool c.new-errors.result.owner) c.reserve.ensures.value c.new-errors.ensures.added
 
 abbrev opened : goal.After-result-1 → Design
-opened c = record { box = None; planes = c.in_ok-planes.planes.items; quota = c.args.setup.now.quota; errors = c.new-errors.result }
+opened c = record { box = None; planes = c.in_ok-planes.planes.items; uses = c.in_ok-uses.uses.items; quota = c.args.setup.now.quota; errors = c.new-errors.result }
 
 begins : (c : goal.After-result-1) → designed_of c.new-errors.new.workspace.pool (opened c) ≡ opening c.args.setup.now.rules
 begins c =
@@ -29,14 +30,18 @@ begins c =
     let layout = layout-added mid new c.args.setup.now.quota planes c.new-errors.result.owner c.in_ok-planes.ensures.home (reserved c) ∙ c.in_ok-planes.ensures.blank in
     let known : checking_of new c.new-errors.result ≡ opening_checking c.args.setup.now.rules =
     c.new-errors.ensures.begins ∙ ap (λ (areas : List Rect). record { marks = no_squares; dirty = areas }) c.in_ok-dirty.ensures in
-    let own : Layout → Checking → Designed = λ l k. record { drawn = record { box = None; layout = l }; checking = k } in
-    ap (λ l. own l (checking_of new c.new-errors.result)) layout ∙ ap (own blank.layout) known
+    let own : Layout → List CellUse → Checking → Designed = λ paint uses k. record { drawn = record { box = None; paint = paint; uses = uses }; checking = k } in
+    ap (λ paint. own paint c.in_ok-uses.uses.items (checking_of new c.new-errors.result)) layout
+    ∙ ap (λ uses. own blank.paint uses (checking_of new c.new-errors.result)) c.in_ok-uses.ensures.items
+    ∙ ap (own blank.paint blank.uses) known
 
 pub returns-clause-opening : goal.returns-clause-opening
 returns-clause-opening c = begins c
 
 pub returns-clause-marks_right : goal.returns-clause-marks_right
-returns-clause-marks_right c = subst (HasRightMarks c.args.setup.now.rules) (sym (begins c)) (opening-IsChecked c.args.setup.now.rules)
+returns-clause-marks_right c =
+    let config = config_of c.args.setup.now c.new-errors.new.workspace.pool in
+    subst (HasRightMarks config) (sym (begins c)) (HasRightMarks-opening config)
 
 pub returns-clause-home : goal.returns-clause-home
 returns-clause-home c =
@@ -55,4 +60,4 @@ returns-clause-added c =
     AddsOwners-plane c.args.workspace.now.pool mid new planes owner (plane_reserve quota) c.in_ok-planes.ensures.added apart (reserved c) taken
 
 pub invariant_of-result : goal.invariant_of-result
-invariant_of-result c = c.reserve.ensures.legal
+invariant_of-result c = (c.reserve.ensures.legal, omega (arith, c.in_ok-uses.ensures.exact))

@@ -48,8 +48,8 @@ returns-in_default-overlay-clause-step c =
     edit_step-Refused config (designed_of pool design) design.box (paint_step config (drawn_of pool design) design.box c.args.kind) Quota
     (paint_step-Refused config pool design c.args.kind rect kind plane owner c.deref.result.now is_set c.in-Some-kind.is lies_on one (sym c.requires.made_for.quota) within is many)
     ∙ ap (λ (d : Design). (designed_of pool d, Refused Quota)) (sym view)
-    ∙ ap (λ (owners : List ℕ). (designed_of pool (record { box = c.self.inside.box_rect; planes = owners; quota = c.self.inside.quota; errors = c.self.inside.errors }), Refused Quota)) (sym back)
-    ∙ ap (λ (now : Pool). (designed_of now (record { box = c.self.inside.box_rect; planes = set c.self.inside.planes.items plane c.overlay.new.plane; quota = c.self.inside.quota; errors = c.self.inside.errors }), Refused Quota)) (sym done.refused)
+    ∙ ap (λ (owners : List ℕ). (designed_of pool (record { box = c.self.inside.box_rect; planes = owners; uses = c.self.inside.uses.items; quota = c.self.inside.quota; errors = c.self.inside.errors }), Refused Quota)) (sym back)
+    ∙ ap (λ (now : Pool). (designed_of now (record { box = c.self.inside.box_rect; planes = set c.self.inside.planes.items plane c.overlay.new.plane; uses = c.self.inside.uses.items; quota = c.self.inside.quota; errors = c.self.inside.errors }), Refused Quota)) (sym done.refused)
 
 pub returns-clause-step : goal.returns-clause-step
 unfolding design_step
@@ -75,9 +75,9 @@ returns-clause-step c =
     let few = λ (over : design.quota < _). absurd (false≢true (done.too_many.1 (omega (arith, over, quota, c.tiles-limit.ensures.value)))) in
     let soiled = c.add.ensures.added new ∙ ap (λ (d : Design). soiled_after config.rules (Some rect) Done (checking_of new d.errors)) view in
     let after : Design =
-    record { box = c.self.inside.box_rect; planes = set c.self.inside.planes.items plane c.overlay.new.plane; quota = c.self.inside.quota; errors = c.add.new.self } in
+    record { box = c.self.inside.box_rect; planes = set c.self.inside.planes.items plane c.overlay.new.plane; uses = c.self.inside.uses.items; quota = c.self.inside.quota; errors = c.add.new.self } in
     paint-Done config pool new design after c.args.kind rect kind plane owner c.deref.result.now is_set c.in-Some-kind.is lies_on one (sym c.requires.made_for.quota) within is c.requires.home
-    done.only done.picture few (ap (λ (d : Design). d.box) view) planes soiled
+    done.only done.picture few (ap (λ (d : Design). d.box) view) planes (ap (λ (d : Design). d.uses) view) soiled
 
 pub returns-clause-keeps : goal.returns-clause-keeps
 returns-clause-keeps c =
@@ -92,7 +92,7 @@ returns-clause-keeps c =
     let done = c.in-Ok.ensures in
     let planes = planes_kept c.self.inside.planes.items plane owner c.overlay.new.plane c.index_mut-plane.ensures.value done.plane ∙ ap (λ (d : Design). d.planes) view in
     let after : Design =
-    record { box = c.self.inside.box_rect; planes = set c.self.inside.planes.items plane c.overlay.new.plane; quota = c.self.inside.quota; errors = c.add.new.self } in
+    record { box = c.self.inside.box_rect; planes = set c.self.inside.planes.items plane c.overlay.new.plane; uses = c.self.inside.uses.items; quota = c.self.inside.quota; errors = c.add.new.self } in
     KeepsPlanes-layout pool new design after c.requires.home (AreAtHome-ChangesOnly pool new design.quota design.planes owner done.only done.strips c.requires.home.layout)
     (ChangesAmong-ChangesOnly pool new design.planes owner (plane, within, sym is) done.only) planes (ap (λ (d : Design). d.quota) view)
     (c.add.ensures.owner ∙ ap (λ (d : Design). d.errors.owner) view)

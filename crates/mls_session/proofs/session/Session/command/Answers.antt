@@ -74,10 +74,11 @@ returns-clause-marks_right c =
     let new = c.command-executed.new in
     let can = c.requires.can_dump in
     let step = c.command-executed.ensures.step in
-    let right : HasRightMarks setup.rules (designed_of pool c.self.inside.design) → HasRightMarks setup.rules (designed_of new.workspace.pool new.self) =
-    HasRightMarks-DesignSteps (config_of setup pool) (designed_of pool c.self.inside.design) (designed_of new.workspace.pool new.self) c.command-executed.result.reply c.args.command
+    let config = config_of setup pool in
+    let right : HasRightMarks config (designed_of pool c.self.inside.design) → HasRightMarks config (designed_of new.workspace.pool new.self) =
+    HasRightMarks-DesignSteps config (designed_of pool c.self.inside.design) (designed_of new.workspace.pool new.self) c.command-executed.result.reply c.args.command
     (λ cell layout is. IsCellLayout-at pool setup.library setup.tech.plane_count cell layout can.home can.planes is) step in
-    subst (λ (s : Session). HasRightMarks setup.rules (designed_of pool s.design) → HasRightMarks setup.rules (designed_of new.workspace.pool new.self)) c.self.view_is right
+    subst (λ (s : Session). HasRightMarks config (designed_of pool s.design) → HasRightMarks config (designed_of new.workspace.pool new.self)) c.self.view_is right
 
 pub returns-clause-cells_home : goal.returns-clause-cells_home
 returns-clause-cells_home c =

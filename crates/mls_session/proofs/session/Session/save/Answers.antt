@@ -31,8 +31,8 @@ returns-clause-saves c =
     let later : Session = record { design = inside.design; journal = c.keep.new.self.entries; limit = c.keep.new.self.limit; checks = c.keep.new.self.checks } in
     let longer = c.save.new.out.items in
     let room : length inside.journal.entries ≢ inside.journal.limit = eqb-false (length inside.journal.entries) inside.journal.limit (sym c.if-is_full.ensures) in
-    let text : SavesText tech own.drawn.layout c.with-executed.result.reply c.args.out.now.items longer =
-    subst (λ (r : Reply). SavesText tech own.drawn.layout r c.args.out.now.items longer) (sym c.with-executed.ensures.reply) c.save.ensures.saves in
+    let text : SavesText tech own.drawn.paint c.with-executed.result.reply c.args.out.now.items longer =
+    subst (λ (r : Reply). SavesText tech own.drawn.paint r c.args.out.now.items longer) (sym c.with-executed.ensures.reply) c.save.ensures.saves in
     subst (λ (s : Session). s.limit ≡ terms.journal → SavesMore terms (kept_of pool s) c.with-executed.result.reply c.args.out.now.items longer (kept_of pool later)) c.self.view_is
     (λ limit.
     Saves-saved terms tech own inside.journal c.keep.new.self c.with-executed.result c.args.out.now.items longer refl (λ full. room (full ∙ sym limit)) text c.with-executed.ensures.steps

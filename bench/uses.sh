@@ -1,0 +1,200 @@
+#!/usr/bin/env bash
+# Cells that are placed, beside the same cells dumped.
+#
+#     bench/uses.sh
+#
+# A layout is 256 uses of one cell, or 256 dumps of it at the same places:
+#
+#   apart     a cell of 5 by 5 squares of poly with a side of 4, 8 from one to the next, so that 16 by 16 of them are a
+#             grid of 80 by 80 squares, 12,961 tiles when dumped; technology M forbids nothing in it
+#   on top    the same cell, each time at the same place: 25 squares, 61 tiles when dumped
+#   deep      a cell of 88 by 23 squares of 1, 2 from one to the next, each time at the same place: 4,095 tiles in one
+#             piece, one less than a plane of a cell may have
+#   shifted   the same cell at 16 by 16 places, 2 from one to the next: 103 by 38 squares, 7,905 tiles when dumped, and
+#             a million strips of cells in one piece
+#
+# The rule of the last two is `spacing poly poly 1 touching_illegal` alone, which forbids nothing in them. The rows of
+# the first two layouts are:
+#
+#   place             a line `getcell` or `dump`
+#   first check       all areas that the 256 lines left are checked
+#   check the box     the box round all is checked once more, ten times
+#   edit              a square of 2 by 2 of ndiff in a gap is painted or erased, at 20 places by turns
+#   edit, catch up    the same, and checked after each edit; less the time of the edits
+#   what, why         the types, and the rules that are violated, in a box of 20 by 20 somewhere in the layout; less the
+#                     time of its `box`
+#   of all, of the world      the same in the box round all, and in that of the world
+#
+# Those of the last two, where the layout was checked before, are:
+#
+#   what, why         in a box of 250 by 250, the whole of a piece but for its halo
+#   step              `drc check` of that box, and the check step of the one piece that it is
+#
+# Each time is the processor's, in the program and in the system: that of a script less that of one without the lines,
+# of each the least of three runs that take turns. The columns are the row, the layout, the microseconds a line with
+# cells that are placed and with cells that are dumped, and how many times as long the first take. It runs the program
+# that it builds, or PROGRAM. With ROWS=PATTERN it takes only the rows whose text and layout have the pattern.
+set -eu
+TIMEFORMAT='%U %S'
+here=$(cd "$(dirname "${BASH_SOURCE[0]}")/.." && pwd)
+work=$(mktemp -d)
+trap 'rm -rf "$work"' EXIT
+
+# cell COLUMNS ROWS SIDE PITCH: squares of poly as a cell file
+cell() {
+    awk -v columns="$1" -v rows="$2" -v side="$3" -v pitch="$4" 'BEGIN {
+        print "magic\n<< poly >>"
+        for (j = 0; j < rows; j++) for (i = 0; i < columns; i++)
+            printf "rect %d %d %d %d\n", pitch * i, pitch * j, pitch * i + side, pitch * j + side
+        print "<< end >>"
+    }'
+}
+
+# laid LAYOUT: opens a session, and places the cell 256 times; PLACE stands for the word that places it or dumps it
+laid() {
+    awk -v layout="$1" 'BEGIN {
+        pitch = layout == "apart" ? 40 : layout == "shifted" ? 2 : 0
+        print "%open a"
+        for (i = 0; i < 256; i++) printf "a PLACE c %d %d\n", pitch * (i % 16), pitch * int(i / 16)
+    }'
+}
+
+# edits K TIMES [LINE]: edits in the gaps of a grid of K by K squares, and this line after each, if there is one
+edits() {
+    awk -v k="$1" -v times="$2" -v line="${3:-}" '
+        function roll(limit) { seed = seed * 16807 % 2147483647; return seed % limit }
+        BEGIN {
+            seed = 2026
+            for (r = 0; r < 20; r++) { left[r] = 8 * roll(k - 1) + 5; bottom[r] = 8 * roll(k - 1) + 5 }
+            for (r = 0; r < times; r++) {
+                l = left[r % 20]; b = bottom[r % 20]
+                printf "a box %d %d %d %d\n", l, b, l + 2, b + 2
+                print int(r / 20) % 2 == 0 ? "a paint ndiff" : "a erase ndiff"
+                if (line != "") print line
+            }
+        }'
+}
+
+# looks K TIMES [LINE]: boxes of 20 by 20 in a grid of K by K squares, and this line after each, if there is one
+looks() {
+    awk -v k="$1" -v times="$2" -v line="${3:-}" '
+        function roll(limit) { seed = seed * 16807 % 2147483647; return seed % limit }
+        BEGIN {
+            seed = 2026
+            for (r = 0; r < times; r++) {
+                l = roll(8 * k - 23); b = roll(8 * k - 23)
+                printf "a box %d %d %d %d\n", l, b, l + 20, b + 20
+                if (line != "") print line
+            }
+        }'
+}
+
+# repeated TIMES LINE..: these lines, so many times
+repeated() {
+    local times=$1
+    shift
+    for ((i = 0; i < times; i++)); do printf '%s\n' "$@"; done
+}
+
+# took I SCRIPT: runs magicd on a script, and keeps the least microseconds of all runs with this I
+took() {
+    local us
+    { time "$program" "${words[@]}" < "$2" > "$work/out" 2> "$work/messages"; } 2> "$work/time"
+    if grep -qE 'refused|fault|full' "$work/out"; then
+        echo "a line was refused" >&2
+        grep -E -m 1 'refused|fault|full' "$work/out" >&2
+        exit 1
+    fi
+    us=$(awk '{ printf "%d", 1e6 * ($1 + $2) }' "$work/time")
+    if [ -z "${least[$1]:-}" ] || [ "$us" -lt "${least[$1]}" ]; then least[$1]=$us; fi
+}
+
+# row TEXT TIMES: the row of what the script "more" takes longer than the script "less", by lines taken so many times
+row() {
+    local word
+    if ! [[ "$1, $layout" =~ ${ROWS:-} ]]; then return 0; fi
+    least=()
+    for word in getcell dump; do
+        sed "s/PLACE/$word/" "$work/less" > "$work/less.$word"
+        sed "s/PLACE/$word/" "$work/more" > "$work/more.$word"
+    done
+    for _ in 1 2 3; do
+        took 0 "$work/less.getcell"
+        took 1 "$work/more.getcell"
+        took 2 "$work/less.dump"
+        took 3 "$work/more.dump"
+    done
+    awk -v OFS='\t' -v text="$1" -v layout="$layout" -v n="$2" -v placed="$((least[1] - least[0]))" \
+        -v dumped="$((least[3] - least[2]))" 'BEGIN {
+            times = dumped > 0 ? sprintf("%.2f", placed / dumped) : "-"
+            print text, layout, sprintf("%.2f", placed / n), sprintf("%.2f", dumped / n), times
+        }'
+}
+
+# checked LINE..: the script of the layout, checked, and these lines
+checked() {
+    laid "$layout"
+    printf '%s\n' 'a drc catchup' "$@"
+}
+
+# usual K: the rows of a layout that is a grid of K by K squares
+usual() {
+    local k=$1 line all="a box 0 0 $((8 * $1)) $((8 * $1))"
+    words=(--quota 16384 --journal 65536 "c=$work/small.mag")
+    echo '%open a' > "$work/less"
+    laid "$layout" > "$work/more"
+    row place 256
+    laid "$layout" > "$work/less"
+    checked > "$work/more"
+    row 'first check' 1
+    checked "$all" > "$work/less"
+    { cat "$work/less"; repeated 10 'a drc check' 'a drc catchup'; } > "$work/more"
+    row 'check the box' 10
+    checked > "$work/less"
+    { checked; edits "$k" 5000; } > "$work/more"
+    row edit 5000
+    cp "$work/more" "$work/less"
+    { checked; edits "$k" 5000 'a drc catchup'; } > "$work/more"
+    row 'edit, catch up' 5000
+    for line in what 'drc why'; do
+        { checked; looks "$k" 15000; } > "$work/less"
+        { checked; looks "$k" 15000 "a $line"; } > "$work/more"
+        row "${line#drc }" 15000
+        checked "$all" > "$work/less"
+        { cat "$work/less"; repeated 50 "a $line"; } > "$work/more"
+        row "${line#drc } of all" 50
+        checked 'a box -32768 -32768 32768 32768' > "$work/less"
+        { cat "$work/less"; repeated 5 "a $line"; } > "$work/more"
+        row "${line#drc } of the world" 5
+    done
+}
+
+# worst: the rows of cells with as many tiles as they may have
+worst() {
+    local line
+    words=(--tech "$work/tech" --quota 16384 --journal 65536 "c=$work/large.mag")
+    checked 'a box 3 3 253 253' > "$work/less"
+    for line in what 'drc why'; do
+        { cat "$work/less"; repeated 10 "a $line"; } > "$work/more"
+        row "${line#drc }" 10
+    done
+    { cat "$work/less"; repeated 10 'a drc check' '%step a'; } > "$work/more"
+    row step 10
+}
+
+program=${PROGRAM:-}
+if [ -z "$program" ]; then
+    "$here/magicd" < /dev/null
+    program=$here/crates/magicd/out/magicd
+fi
+cell 5 5 4 8 > "$work/small.mag"
+cell 88 23 1 2 > "$work/large.mag"
+printf '%s\n' planes active metal1 end types 'active poly' 'active ndiff' 'metal1 m1' end \
+    drc 'spacing poly poly 1 touching_illegal "d"' end > "$work/tech"
+
+printf '%s\t%s\t%s\t%s\t%s\n' row layout 'us placed' 'us dumped' times
+layout=apart
+usual 80
+layout='on top'
+usual 5
+for layout in deep shifted; do worst; done

@@ -1,0 +1,15 @@
+-- The copies so far are those of the planes read so far, and no owner has changed.
+use Rattle.std.proofs.Common.{◌≡◌, take}
+use Rattle.std.specs.List.{AllZip}
+use Rattle.mls_paint.specs.Scratches.{KeepsRoom}
+use Rattle.mls_checker.specs.Copies.{AreOfZone}
+use Rattle.mls_checker.proofs.CopiedLayouts.{IsCopyOf}
+use Rattle.mls_checker.proofs.zone_planes.read_own.Given as goal
+
+abbrev pub invariant-loop-index : goal.invariant-loop-index
+invariant-loop-index l = record {
+  zone : AreOfZone l.fn.zone l.copies.items;
+  copies : AllZip (IsCopyOf l.fn.pool l.fn.zone) l.copies.items (take l.index l.fn.planes);
+  owners : l.planes ≡ l.fn.planes;
+  rooms : KeepsRoom l.fn.scratch l.scratch;
+}

@@ -1,0 +1,31 @@
+-- Zones of layouts that show uses: their tiles, copies of their planes, and what is compared in them.
+use Rattle.std.specs.Prelude.{◌≡◌, ℕ, true, List, ◌++◌, length, map, slice_get}
+use Rattle.std.specs.Option.{unwrap_or}
+use Rattle.mls_geom.specs.Layouts.{Layout}
+use Rattle.mls_geom.specs.Pictures.{Picture}
+use Rattle.mls_geom.specs.Rects.{Rect, common, holds}
+use Rattle.mls_geom.specs.declared.piece.Piece.{Piece}
+use Rattle.mls_checker.specs.Copies.{AreOfZone, PlaneTiles, no_plane, picture_of}
+use Rattle.mls_checker.specs.Tiles.{Tile, clipped_tile, space_round}
+
+-- space round the zone, and pieces as far as they lie in it
+abbrev pub piece_tiles : Rect → Rect → List Piece → List Tile
+piece_tiles extent zone pieces = space_round extent zone ++ map (clipped_tile zone) pieces
+
+-- the layout that these planes show
+abbrev pub planes_layout : List PlaneTiles → Layout
+planes_layout planes plane = picture_of (unwrap_or (slice_get planes plane) no_plane)
+
+-- as many planes as these, which show this layout, and space outside the zone
+pub record AreCopies (zone : Rect) (count : ℕ) (layout : Layout) (planes : List PlaneTiles) : Type 0 where
+  pub of_zone : AreOfZone zone planes
+  pub as_many : length planes ≡ count
+  pub shown : planes_layout planes ≡ layout
+
+-- the pictures are the same in the area
+abbrev pub SameIn : Rect → Picture → Picture → Type 0
+SameIn area picture other = (x y : ℕ) → holds area x y ≡ true → picture x y ≡ other x y
+
+-- the picture has the tile's kind in each square of the tile that lies in the area
+abbrev pub HasTileIn : Rect → Picture → Tile → Type 0
+HasTileIn area picture tile = (x y : ℕ) → holds (common tile.area area) x y ≡ true → picture x y ≡ tile.kind

@@ -1,0 +1,5 @@
+pub mod Grids
+pub mod Inner
+pub mod Moves
+pub mod Uses
+pub mod Workspaces

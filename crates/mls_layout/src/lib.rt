@@ -1,0 +1,21 @@
+//! Layouts as they are seen and checked: planes of own paint, and cells of a library placed beside it.
+#![tactic(auto)]
+
+mod flattening;
+mod front;
+mod grid_pieces;
+mod kind_grid;
+mod moves;
+mod painting;
+mod pieces;
+mod rows;
+mod shown_kinds;
+mod uses;
+mod workspace;
+
+pub use flattening::flatten;
+pub use kind_grid::{BLOCK_SIDE, KindGrid};
+pub use pieces::push_flat;
+pub use shown_kinds::kinds;
+pub use uses::{CellUse, MOST_USES, Uses};
+pub use workspace::{MARK_ROOM, PIECE_ROOM, TILE_ROOM, Workspace};

@@ -1,0 +1,47 @@
+-- A design's layout is what its planes show with the uses of its cells, and these lie in the pool beside them.
+use Rattle.std.proofs.Common.{◌≡◌, ℕ, ◌<◌, List, [], ◌∷◌, length, get_or, All, Contains, sym, ap, ◌∙◌, subst, arith}
+use Rattle.std.proofs.lemmas.List.Elements.{Contains-append_right}
+use Rattle.mls_geom.specs.Pictures.{Picture}
+use Rattle.mls_layout.specs.Uses.{HasCells, cell_layouts, flat_layout, flat_plane, flattened, over, uses_layout}
+use Rattle.mls_layout.specs.declared.uses.CellUse.{CellUse}
+use Rattle.mls_layout.specs.declared.uses.Uses.{Uses}
+use Rattle.mls_library.specs.Libraries.{Library}
+use Rattle.mls_paint.specs.Planes.{layout_in}
+use Rattle.mls_paint.proofs.OwnerFrames.{layout_in-at}
+use Rattle.mls_tilepool.specs.Pools.{Pool}
+use Rattle.mls_session.specs.Designs.{CanDump, Design, IsMadeFor, drawn_of, owners_of}
+use Rattle.mls_session.specs.Own.{layout_of}
+use Rattle.mls_session.specs.Setups.{config_of}
+use Rattle.mls_session.specs.declared.setup.Setup.{Setup}
+
+-- ---- what it shows
+pub flat_layout-design :
+    (setup : Setup) (pool : Pool) (design : Design) (uses : Uses) → uses.library.now ≡ setup.library → uses.list.now ≡ design.uses → (planes : List ℕ) → planes ≡ design.planes
+    → flat_layout pool uses planes ≡ layout_of (config_of setup pool) (drawn_of pool design)
+flat_layout-design setup pool design uses library list planes same =
+    ap (λ (cells : Library). flattened (cell_layouts pool cells) uses.list.now (layout_in pool planes)) library
+    ∙ ap (λ (placed : List CellUse). flattened (cell_layouts pool setup.library) placed (layout_in pool planes)) list
+    ∙ ap (λ (owners : List ℕ). flattened (cell_layouts pool setup.library) design.uses (layout_in pool owners)) same
+
+-- on one plane
+pub flat_plane-at :
+    (pool : Pool) (uses : Uses) (planes : List ℕ) (plane owner : ℕ) → plane < length planes → owner ≡ get_or planes plane owner
+    → flat_plane pool uses plane owner ≡ flat_layout pool uses planes plane
+unfolding flattened
+flat_plane-at pool uses planes plane owner within is =
+    ap (λ (own : Picture). over own (uses_layout (cell_layouts pool uses.library.now) uses.list.now plane)) (sym (layout_in-at pool planes plane owner within is))
+
+-- ---- what its calls ask for of the cells
+module _ (setup : Setup) (pool : Pool) (design : Design) (can : CanDump setup pool (owners_of design)) (library : Library) (same : library ≡ setup.library) where
+  -- they lie in the pool, and none has more planes than the design
+  pub HasCells-CanDump : (planes : List ℕ) → IsMadeFor setup design → planes ≡ design.planes → HasCells pool (length planes) library
+  HasCells-CanDump planes made_for is =
+      let count = ap length is in
+      subst (HasCells pool (length planes)) (sym same) (record { home = can.home; few = λ k d within. omega (arith, count, made_for.planes, can.planes k d within) })
+
+  -- the owner of the error plane has none of their planes
+  pub cells_apart-CanDump : (owner : ℕ) → owner ≡ design.errors.owner → All (λ cell. All (λ other. ¬ (Contains (owner ∷ []) other)) cell.planes) library
+  cells_apart-CanDump owner is =
+      subst (λ (cells : Library). All (λ cell. All (λ other. ¬ (Contains (owner ∷ []) other)) cell.planes) cells) (sym same)
+      (subst (λ (errors : ℕ). All (λ cell. All (λ other. ¬ (Contains (errors ∷ []) other)) cell.planes) setup.library) (sym is)
+      (λ k d within i e among found. can.apart k d within i e among (Contains-append_right design.planes (design.errors.owner ∷ []) _ found)))
