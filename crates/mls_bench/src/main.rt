@@ -15,6 +15,7 @@ mod steps;
 
 use anyhow::Result;
 use check_times::{Times, count_sides, time_checks, time_look};
+use mls_edgerule::Rules;
 use mls_tech::TECHNOLOGY_M;
 use places::CellGrid;
 use rule_files::{forty_rules, rules_of};
@@ -109,27 +110,39 @@ fn print_times(rt: &HostRuntime, k: u8) -> Result<()> {
     Ok(())
 }
 
-/// Prints rows for each grid of cells: how many nanoseconds each step takes to check a piece by the rules of a file,
-/// and how many times as long the plain program takes; and then a row of a look at a box.
+/// Prints rows for each grid of cells, and then a row of a look at a box, by the rules of a file.
 fn print_checks(rt: &HostRuntime, file: &[u8]) -> Result<()> {
     let rules = rules_of(rt.alloc(), file)?;
-    let count = rules.as_slice().len();
     for (rows, columns) in CELLS {
-        let (strips, times) = time_checks(rt, &rules, CellGrid { rows, columns })?;
-        let Times {
-            read,
-            check,
-            why,
-            plain,
-        } = times;
-        println!(rt; "read\t{count}\t{strips}\t{read}")?;
-        for (step, nanos) in [("check", check), ("why", why), ("plain", plain)] {
-            let tenths = plain.saturating_mul(10) / nanos.max(1);
-            let (whole, tenth) = (tenths / 10, tenths % 10);
-            println!(rt; "{step}\t{count}\t{strips}\t{nanos}\t{whole}.{tenth}")?;
-        }
+        print_check(rt, &rules, CellGrid { rows, columns })?;
     }
-    let (strips, nanos) = time_look(rt, &rules, DENSE)?;
+    print_look(rt, &rules)
+}
+
+/// Prints a row for each step of a check of a grid of cells: how many nanoseconds it takes, and how many times as long
+/// the plain program takes.
+fn print_check(rt: &HostRuntime, rules: &Rules, grid: CellGrid) -> Result<()> {
+    let count = rules.as_slice().len();
+    let (strips, times) = time_checks(rt, rules, grid)?;
+    let Times {
+        read,
+        check,
+        why,
+        plain,
+    } = times;
+    println!(rt; "read\t{count}\t{strips}\t{read}")?;
+    for (step, nanos) in [("check", check), ("why", why), ("plain", plain)] {
+        let tenths = plain.saturating_mul(10) / nanos.max(1);
+        let (whole, tenth) = (tenths / 10, tenths % 10);
+        println!(rt; "{step}\t{count}\t{strips}\t{nanos}\t{whole}.{tenth}")?;
+    }
+    Ok(())
+}
+
+/// Prints how many nanoseconds a look at a box takes.
+fn print_look(rt: &HostRuntime, rules: &Rules) -> Result<()> {
+    let count = rules.as_slice().len();
+    let (strips, nanos) = time_look(rt, rules, DENSE)?;
     println!(rt; "look\t{count}\t{strips}\t{nanos}")?;
     Ok(())
 }
