@@ -1,9 +1,9 @@
 -- Pieces that leave no square of a rectangle out, part by part.
-use Rattle.std.proofs.Common.{◌≡◌, ℕ, ◌<◌, ◌≤◌, ◌+◌, ◌⊎◌, Option, true, List, [], ◌∷◌, ◌++◌, map, take, length, get_or, inl, inr, refl, ap, sym, ◌∙◌, subst, append_assoc, arith}
+use Rattle.std.proofs.Common.{◌≡◌, ℕ, ◌<◌, ◌+◌, ◌⊎◌, Option, true, List, [], ◌∷◌, ◌++◌, map, take, length, get_or, inl, inr, refl, ap, sym, ◌∙◌, append_assoc, arith}
 use Rattle.std.specs.List.{All}
-use Rattle.std.proofs.lemmas.Bool.{and_from, and_parts, cases_lt}
-use Rattle.std.proofs.lemmas.List.{append-nil, take_more}
-use Rattle.std.proofs.lemmas.List.Elements.{All-append, All-map, All-nil, All-weaker}
+use Rattle.std.proofs.lemmas.Bool.{and_from, and_parts}
+use Rattle.std.proofs.lemmas.List.{take_more}
+use Rattle.std.proofs.lemmas.List.Elements.{All-append, All-map, All-weaker}
 use Rattle.mls_geom.specs.Pictures.{Picture}
 use Rattle.mls_geom.specs.Rects.{IsRectangleIn, IsWithin, Rect, common, has_squares, holds}
 use Rattle.mls_geom.specs.declared.piece.Piece.{Piece}
@@ -13,14 +13,6 @@ use Rattle.mls_geom.proofs.JoinedLists.{Any-append_left, Any-append_right}
 use Rattle.mls_stitch.specs.Areas.{MeetArea}
 use Rattle.mls_stitch.specs.declared.laid_tile.LaidTile.{LaidTile}
 use Rattle.mls_layout.specs.Grids.{Appends, CoverBlock, Shows}
-
--- ---- parts of a rectangle
--- the part of a rectangle below a row, and before a column
-abbrev pub below : ℕ → Rect → Rect
-below row e = record { left = e.left; bottom = e.bottom; right = e.right; top = row }
-
-abbrev pub before : ℕ → Rect → Rect
-before column e = record { left = e.left; bottom = e.bottom; right = column; top = e.top }
 
 inner_rectangle : (extent part e : Rect) → IsWithin extent part → IsRectangleIn part e → IsRectangleIn extent e
 inner_rectangle extent part e within legal = record {
@@ -52,62 +44,12 @@ CoverBlock-joined extent one other picture first second in_one in_other parts co
   ];
 }
 
-Appends-joined :
+pub Appends-joined :
     (extent one other : Rect) (picture : Picture) (old mid new : List Piece) → IsWithin extent one → IsWithin extent other
     → ((x y : ℕ) → holds extent x y ≡ true → (holds one x y ≡ true) ⊎ (holds other x y ≡ true)) → Appends one picture old mid → Appends other picture mid new
     → Appends extent picture old new
 Appends-joined extent one other picture old mid new in_one in_other parts (first, is, cover) (second, next, covers) =
     (first ++ second, next ∙ ap (λ list. list ++ second) is ∙ append_assoc old first second, CoverBlock-joined extent one other picture first second in_one in_other parts cover covers)
-
--- ---- row by row, and block by block
--- nothing is needed where there is no square
-Appends-empty : (extent : Rect) (picture : Picture) (old : List Piece) → ((x y : ℕ) → ¬ (holds extent x y ≡ true)) → Appends extent picture old old
-Appends-empty extent picture old none = (
-  [],
-  sym (append-nil old),
-  record {
-    bounded = All-nil (λ piece. IsRectangleIn extent piece.rect);
-    shown = All-nil (λ piece. Shows picture piece);
-    whole = λ x y inside. absurd (none x y inside);
-  },
-)
-
-pub Appends-no_rows : (e : Rect) (row : ℕ) (picture : Picture) (old : List Piece) → row ≡ e.bottom → Appends (below row e) picture old old
-Appends-no_rows e row picture old at = Appends-empty (below row e) picture old (λ x y inside. let lines = holds_between (below row e) x y inside in omega (arith, lines.2, lines.3, at))
-
-pub Appends-no_columns : (e : Rect) (column : ℕ) (picture : Picture) (old : List Piece) → column ≡ e.left → Appends (before column e) picture old old
-Appends-no_columns e column picture old at =
-    Appends-empty (before column e) picture old (λ x y inside. let lines = holds_between (before column e) x y inside in omega (arith, lines.0, lines.1, at))
-
-pub Appends-rows :
-    (e row : Rect) (line next : ℕ) (picture : Picture) (old mid new : List Piece) → e.bottom ≤ line → line ≤ next
-    → row ≡ record { left = e.left; bottom = line; right = e.right; top = next } → Appends (below line e) picture old mid → Appends row picture mid new
-    → Appends (below next e) picture old new
-Appends-rows e row line next picture old mid new from to is so_far here =
-    let above : Rect = record { left = e.left; bottom = line; right = e.right; top = next } in
-    Appends-joined (below next e) (below line e) above picture old mid new
-    (record { left = omega arith; bottom = omega arith; right = omega arith; top = to })
-    (record { left = omega arith; bottom = from; right = omega arith; top = omega arith })
-    (λ x y inside. let lines = holds_between (below next e) x y inside in elim (cases_lt y line) [
-      | inl lower ↦ inl (between_holds (below line e) x y lines.0 lines.1 lines.2 lower)
-      | inr higher ↦ inr (between_holds above x y lines.0 lines.1 higher lines.3)
-    ])
-    so_far (subst (λ (r : Rect). Appends r picture mid new) is here)
-
-pub Appends-columns :
-    (e block : Rect) (line next : ℕ) (picture : Picture) (old mid new : List Piece) → e.left ≤ line → line ≤ next
-    → block ≡ record { left = line; bottom = e.bottom; right = next; top = e.top } → Appends (before line e) picture old mid → Appends block picture mid new
-    → Appends (before next e) picture old new
-Appends-columns e block line next picture old mid new from to is so_far here =
-    let beyond : Rect = record { left = line; bottom = e.bottom; right = next; top = e.top } in
-    Appends-joined (before next e) (before line e) beyond picture old mid new
-    (record { left = omega arith; bottom = omega arith; right = to; top = omega arith })
-    (record { left = from; bottom = omega arith; right = omega arith; top = omega arith })
-    (λ x y inside. let lines = holds_between (before next e) x y inside in elim (cases_lt x line) [
-      | inl earlier ↦ inl (between_holds (before line e) x y lines.0 earlier lines.2 lines.3)
-      | inr later ↦ inr (between_holds beyond x y later lines.1 lines.2 lines.3)
-    ])
-    so_far (subst (λ (r : Rect). Appends r picture mid new) is here)
 
 -- ---- pictures that agree
 agreeing : (extent : Rect) (one other : Picture) (piece : Piece) → ((x y : ℕ) → holds extent x y ≡ true → one x y ≡ other x y) → IsRectangleIn extent piece.rect → Shows one piece → Shows other piece

@@ -86,3 +86,14 @@ module _ (e extent lines : Rect) (image_x image_y : ℕ → ℤ) (left : LiesAs 
       by false none = λ x y inside.
           false_from_ne_true (holds_at e (image_x x) (image_y y))
           (λ there. true≢false (sym (square_has_squares lines x y (same_squares x y inside ∙ there)) ∙ none))
+
+-- ---- where a moved rectangle has no square
+pub column-apart : (e : Rect) (zx zy : ℤ) → ((a : ℕ) → zx ≡ pos a → e.left ≤ a → a < e.right → ⊥) → holds_at e zx zy ≡ false
+column-apart e (pos a) (pos b) none = false_from_ne_true (holds e a b) (λ here. let lines = holds_between e a b here in none a refl lines.0 lines.1)
+column-apart e (pos a) (negsuc b) none = refl
+column-apart e (negsuc a) zy none = refl
+
+pub row-apart : (e : Rect) (zx zy : ℤ) → ((b : ℕ) → zy ≡ pos b → e.bottom ≤ b → b < e.top → ⊥) → holds_at e zx zy ≡ false
+row-apart e (pos a) (pos b) none = false_from_ne_true (holds e a b) (λ here. let lines = holds_between e a b here in none b refl lines.2 lines.3)
+row-apart e (pos a) (negsuc b) none = refl
+row-apart e (negsuc a) zy none = refl

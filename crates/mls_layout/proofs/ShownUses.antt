@@ -6,10 +6,10 @@ use Rattle.std.proofs.lemmas.Bool.{cond-false, cond-true, true≢false}
 use Rattle.std.proofs.lemmas.List.Elements.{All-cons, All-contains, All-head, All-nil, All-tail}
 use Rattle.mls_geom.specs.Layouts.{Layout}
 use Rattle.mls_geom.specs.Pictures.{Picture}
-use Rattle.mls_geom.specs.Rects.{Rect, holds}
+use Rattle.mls_geom.specs.Rects.{IsRectangleIn, Rect, holds}
 use Rattle.mls_geom.specs.World.{world}
 use Rattle.mls_geom.proofs.Holds.{between_holds, holds_between}
-use Rattle.mls_layout.specs.Grids.{IsBlock, grid_kind, grid_picture}
+use Rattle.mls_layout.specs.Grids.{grid_kind, grid_picture}
 use Rattle.mls_layout.specs.Uses.{over, use_layout, uses_layout}
 use Rattle.mls_layout.specs.declared.uses.CellUse.{CellUse}
 use Rattle.mls_layout.proofs.FlatLayouts.{over-space}
@@ -38,12 +38,12 @@ over-same upper one other x y same = ap (λ (kind : ℕ). if upper x y == 0 then
 pub over-as : (upper top lower bottom : Picture) (x y : ℕ) → upper x y ≡ top x y → lower x y ≡ bottom x y → over upper lower x y ≡ over top bottom x y
 over-as upper top lower bottom x y above below = over-same upper lower bottom x y below ∙ ap (λ (kind : ℕ). if kind == 0 then bottom x y else kind) above
 
--- a square of a block is one of the world
-pub block_in_world : (block : Rect) (x y : ℕ) → IsBlock block → holds block x y ≡ true → holds world x y ≡ true
-block_in_world block x y is inside =
-    let lines = holds_between block x y inside in
-    between_holds world x y (omega (arith, lines.0, is.legal.left_in)) (omega (arith, lines.1, is.legal.right_in)) (omega (arith, lines.2, is.legal.bottom_in))
-    (omega (arith, lines.3, is.legal.top_in))
+-- a square of a rectangle of the world is one of the world
+pub inside_world : (e : Rect) (x y : ℕ) → IsRectangleIn world e → holds e x y ≡ true → holds world x y ≡ true
+inside_world e x y legal inside =
+    let lines = holds_between e x y inside in
+    between_holds world x y (omega (arith, lines.0, legal.left_in)) (omega (arith, lines.1, legal.right_in)) (omega (arith, lines.2, legal.bottom_in))
+    (omega (arith, lines.3, legal.top_in))
 
 -- a grid shows space outside its block
 pub grid_picture-outside : (squares : List ℕ) (block : Rect) (x y : ℕ) → holds block x y ≡ false → grid_picture squares block x y ≡ 0

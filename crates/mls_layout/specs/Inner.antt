@@ -1,13 +1,13 @@
 -- The words of private contracts. A caller needs none of them.
-use Rattle.std.specs.Prelude.{◌≡◌, ◌≢◌, ℕ, ℤ, ◌==◌, ◌&&◌, Bool, false, true, not, Option, Some, None, List, drop}
+use Rattle.std.specs.Prelude.{◌≡◌, ◌≢◌, ℕ, ℤ, ◌+◌, ◌-◌, ◌<◌, ◌⊎◌, ◌==◌, ◌&&◌, Bool, false, true, not, Option, Some, None, List, drop}
 use Rattle.std.specs.List.{All, Any}
 use Rattle.mls_geom.specs.Pictures.{Picture}
-use Rattle.mls_geom.specs.Rects.{Rect, holds}
+use Rattle.mls_geom.specs.Rects.{IsRectangleIn, Rect, holds}
 use Rattle.mls_geom.specs.declared.piece.Piece.{Piece}
 use Rattle.mls_stitch.specs.declared.laid_tile.LaidTile.{LaidTile}
 use Rattle.mls_layout.specs.Grids.{Shows}
 use Rattle.mls_tilepool.specs.Pools.{Pool}
-use Rattle.mls_layout.specs.Uses.{cell_layouts, uses_layout}
+use Rattle.mls_layout.specs.Uses.{cell_layouts, over, uses_layout}
 use Rattle.mls_layout.specs.declared.uses.Uses.{Uses}
 use Rattle.mls_layout.specs.Moves.{is_moved, moved}
 
@@ -28,3 +28,19 @@ pub record ShowMoved (picture : Picture) (dx dy : ℤ) (block : Rect) (tiles : L
 -- what the uses from this one on show, a later one over those before
 abbrev pub later_uses : Pool → Uses → ℕ → ℕ → Picture
 later_uses pool uses index plane = uses_layout (cell_layouts pool uses.library.now) (drop index uses.list.now) plane
+
+-- the tiles show a picture, and what it shows, moved so and painted over what lies below, is what the use of this index does
+pub record FindsUse (pool : Pool) (uses : Uses) (index number : ℕ) (rect : Rect) (dx dy : ℤ) (tiles : List LaidTile) : Type 0 where
+  pub picture : Picture
+  pub show : ShowMoved picture dx dy rect tiles
+  pub painted :
+      (below above : Picture) (x y : ℕ) → holds rect x y ≡ true → above x y ≡ over (moved picture dx dy) below x y
+      → over (later_uses pool uses (index + 1) number) above x y ≡ over (later_uses pool uses index number) below x y
+
+-- two smaller rectangles that lie in one, and have each of its squares
+pub record AreParts (e one other : Rect) : Type 0 where
+  pub one_in : IsRectangleIn e one
+  pub other_in : IsRectangleIn e other
+  pub whole : (x y : ℕ) → holds e x y ≡ true → (holds one x y ≡ true) ⊎ (holds other x y ≡ true)
+  pub one_less : (one.right - one.left) + (one.top - one.bottom) < (e.right - e.left) + (e.top - e.bottom)
+  pub other_less : (other.right - other.left) + (other.top - other.bottom) < (e.right - e.left) + (e.top - e.bottom)

@@ -1,23 +1,19 @@
 //! What a plane shows in a block with the cells that are placed in its layout.
 ghost use Rattle.std.specs.Prelude.{◌≡◌, ◌+◌, ◌<◌, ℕ, true, if◌then◌else◌, length};
-ghost use Rattle.std.specs.List.{Contains};
 ghost use Rattle.mls_geom.specs.Rects.{holds};
 ghost use Rattle.mls_geom.specs.World.{world};
 ghost use Rattle.mls_layout.specs.Grids.{IsBlock, grid_picture};
 ghost use Rattle.mls_layout.specs.Inner.{later_uses};
-ghost use Rattle.mls_layout.specs.Moves.{moved};
 ghost use Rattle.mls_layout.specs.Uses.{flat_plane, over};
 ghost use Rattle.mls_layout.specs.Workspaces.{FitsWorkspace};
-ghost use Rattle.mls_library.specs.Libraries.{IsFrozen, IsHome};
-ghost use Rattle.mls_paint.specs.Planes.{picture_in};
+ghost use Rattle.mls_library.specs.Libraries.{IsHome};
 ghost use Rattle.mls_stitch.specs.Tilings.{HasPlane};
 
-use crate::moves::part_moved_into;
 use crate::painting::paint_tiles;
-use crate::uses::reaches;
-use crate::{CellUse, Uses, Workspace};
+use crate::used_tiles::find_use;
+use crate::{Uses, Workspace};
 use mls_geom::Rect;
-use mls_paint::{find_meeting, find_meeting_in};
+use mls_paint::find_meeting;
 use mls_stitch::Plane;
 
 /// Fills the workspace's grid with what a plane shows in a block with the uses. The plane has this number among those
@@ -63,43 +59,8 @@ fn paint_use(uses: &Uses<'_>, index: usize, number: usize, block: Rect, workspac
         ≡ over (later_uses workspace.old.pool uses.now index number) (grid_picture workspace.old.grid block) x y }
     ensures pool { workspace.new.pool ≡ workspace.old.pool }
 {
-    let cell_use = &uses.list[index];
-    let Some(cell) = uses.library.get(cell_use.cell) else {
-        return;
-    };
-    if !reaches(cell, cell_use, block) || is_among(cell_use, &uses.list[index + 1..]) {
-        return;
+    if let Some(cell_use) = find_use(uses, index, number, block, workspace) {
+        let Workspace { scratch, grid, .. } = workspace;
+        paint_tiles(scratch.tiles(), cell_use.dx, cell_use.dy, block, grid);
     }
-    if let Some(plane) = cell.planes().get(number) {
-        paint_plane(plane, cell_use, block, workspace);
-    }
-}
-
-/// Returns whether one of the uses is the same: the same cell at the same place.
-fn is_among(cell_use: &CellUse, list: &[CellUse]) -> bool
-    ensures { result ≡ true → Contains list.now cell_use.now }
-{
-    list.contains(cell_use)
-}
-
-/// Paints what a cell's plane shows over a block of the workspace's grid, moved as in the use.
-fn paint_plane(plane: &Plane, cell_use: &CellUse, block: Rect, workspace: &mut Workspace)
-    requires block { IsBlock block }
-    requires frozen { IsFrozen workspace.old.pool plane.now }
-    ensures painted { (x y : ℕ) → holds block x y ≡ true → grid_picture workspace.new.grid block x y
-        ≡ over (moved (picture_in workspace.old.pool plane.now) cell_use.now.dx cell_use.now.dy)
-        (grid_picture workspace.old.grid block) x y }
-    ensures pool { workspace.new.pool ≡ workspace.old.pool }
-{
-    let Some(area) = part_moved_into(block, cell_use.dx, cell_use.dy, Rect::world()) else {
-        return;
-    };
-    let Workspace {
-        pool,
-        scratch,
-        grid,
-        ..
-    } = workspace;
-    find_meeting_in(pool, plane, area, scratch);
-    paint_tiles(scratch.tiles(), cell_use.dx, cell_use.dy, block, grid);
 }

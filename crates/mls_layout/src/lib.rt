@@ -1,15 +1,18 @@
 //! Layouts as they are seen and checked: planes of own paint, and cells of a library placed beside it.
 #![tactic(auto)]
 
+mod cut;
 mod flattening;
 mod front;
 mod grid_pieces;
 mod kind_grid;
+mod listing;
 mod moves;
 mod painting;
 mod pieces;
 mod rows;
 mod shown_kinds;
+mod used_tiles;
 mod uses;
 mod workspace;
 

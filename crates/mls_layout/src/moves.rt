@@ -1,6 +1,6 @@
 //! Rectangles that are moved.
-ghost use Rattle.std.specs.Prelude.{◌≡◌, ◌≤◌, ◌<◌, ◌+ℤ◌, ◌-ℤ◌, ℕ, None, Some, if◌then◌else◌, int_le, nat_le, pos};
-ghost use Rattle.mls_geom.specs.Rects.{IsWithin, has_squares};
+ghost use Rattle.std.specs.Prelude.{◌≡◌, ◌≤◌, ◌<◌, ◌+ℤ◌, ◌-ℤ◌, ℕ, None, Some, false, true, if◌then◌else◌, int_le, nat_le, pos};
+ghost use Rattle.mls_geom.specs.Rects.{IsWithin, has_squares, holds};
 ghost use Rattle.mls_geom.specs.World.{world};
 ghost use Rattle.mls_layout.specs.Moves.{IsPartOf, is_moved, moves_into};
 
@@ -19,6 +19,24 @@ pub(crate) fn moved_part(rect: Rect, dx: i32, dy: i32, extent: Rect) -> Option<R
         right: moved_line(lines.right, dx, around.left, around.right),
         top: moved_line(lines.top, dy, around.bottom, around.top),
     })
+}
+
+/// Returns whether the rectangle, moved to the right by `dx` and up by `dy`, has a square of the extent.
+pub(crate) fn is_moved_into(rect: Rect, dx: i32, dy: i32, extent: Rect) -> bool
+    ensures { result ≡ false → (x y : ℕ) → holds extent x y ≡ true → is_moved rect dx dy x y ≡ false }
+{
+    let lines = rect.area();
+    let around = extent.area();
+    lies_across(lines.left, lines.right, dx, around.left, around.right)
+        && lies_across(lines.bottom, lines.top, dy, around.bottom, around.top)
+}
+
+/// Returns whether the squares between two lines, moved by this many, meet those between the lines `low` and `high`.
+fn lies_across(from: u32, to: u32, by: i32, low: u32, high: u32) -> bool
+    ensures { result ≡ false → (x a : ℕ) → low ≤ x → x < high → pos x -ℤ by ≡ pos a → from ≤ a → a < to → ⊥ }
+{
+    let by = by as i64;
+    from as i64 + by < high as i64 && (low as i64) < to as i64 + by
 }
 
 /// Returns the squares of the extent that lie in the rectangle once they are moved to the right by `dx` and up by `dy`,

@@ -1,5 +1,5 @@
 //! Pieces of what a plane shows with the cells that are placed in its layout.
-ghost use Rattle.std.specs.Prelude.{◌≡◌, ◌+◌, ◌≤◌, ℕ, OnOk, true};
+ghost use Rattle.std.specs.Prelude.{◌≡◌, ℕ, IfOk, OnOk, false, true};
 ghost use Rattle.mls_geom.specs.Rects.{holds};
 ghost use Rattle.mls_layout.specs.Grids.{Appends, IsBlock};
 ghost use Rattle.mls_layout.specs.Uses.{cell_layouts, flat_plane, uses_layout};
@@ -7,16 +7,25 @@ ghost use Rattle.mls_layout.specs.Workspaces.{FitsWorkspace};
 ghost use Rattle.mls_library.specs.Libraries.{IsHome};
 ghost use Rattle.mls_stitch.specs.Tilings.{HasPlane};
 
+use crate::cut::cut;
+use crate::listing::list_pieces;
 use crate::{BLOCK_SIDE, Uses, Workspace, flatten};
 use mls_geom::{Piece, Rect};
-use mls_paint::find_meeting;
+use mls_paint::{find_meeting, push_covered};
 use mls_stitch::Plane;
 use std::alloc::AllocError;
+
+/// How many pieces are swept at once at most.
+const MOST_SWEPT: usize = 8192;
+
+/// How many squares there are to each piece, or more, where a sweep is quicker than a grid.
+const SQUARES_FOR_A_PIECE: u64 = 512;
 
 /// Appends pieces in the zone, each of one kind, that leave no square of it out, of what a plane shows with the uses. The
 /// plane has this number among those of its layout.
 ///
-/// The zone is read block by block. Out of memory, some pieces may have been appended.
+/// The zone is cut until each part is one that no use meets, or has few pieces, or is a block. Out of memory, some pieces
+/// may have been appended.
 pub fn push_flat(
     number: usize,
     plane: &mut Plane,
@@ -33,51 +42,24 @@ pub fn push_flat(
     ensures owner { plane.new ≡ plane.old }
     ensures pool { workspace.new.pool ≡ workspace.old.pool }
 {
+    if !uses.meet(zone) {
+        return push_apart(number, plane, uses, zone, workspace, out);
+    }
     let lines = zone.area();
-    let mut bottom = lines.bottom;
-    'rows: while bottom < lines.top {
-        let top = lines.top.min(bottom + BLOCK_SIDE);
-        let row = Rect::between(lines.left, bottom, lines.right, top);
-        push_row(number, plane, uses, row, workspace, out)?;
-        bottom = top;
+    if lines.right - lines.left <= BLOCK_SIDE && lines.top - lines.bottom <= BLOCK_SIDE {
+        return push_block(number, plane, uses, zone, workspace, out);
     }
-    Ok(())
-}
-
-/// Appends such pieces of a row of blocks.
-fn push_row(
-    number: usize,
-    plane: &mut Plane,
-    uses: &Uses<'_>,
-    row: Rect,
-    workspace: &mut Workspace,
-    out: &mut Vec<Piece>,
-) -> Result<(), AllocError>
-    requires low { row.top ≤ row.bottom + 512 }
-    requires plane { HasPlane workspace.old.pool plane.old }
-    requires plane_fits { FitsWorkspace workspace.old.pool plane.old }
-    requires cells { IsHome workspace.old.pool uses.now.library.now }
-    ensures appended { OnOk result (Appends row (flat_plane workspace.old.pool uses.now number plane.old)
-        out.old.items out.new.items) }
-    ensures owner { plane.new ≡ plane.old }
-    ensures pool { workspace.new.pool ≡ workspace.old.pool }
-{
-    if !uses.meet(row) {
-        return push_apart(number, plane, uses, row, workspace, out);
+    let met = uses.part_met(zone);
+    if met == zone && push_swept(number, plane, uses, zone, workspace, out)? {
+        return Ok(());
     }
-    let lines = row.area();
-    let mut left = lines.left;
-    'columns: while left < lines.right {
-        let right = lines.right.min(left + BLOCK_SIDE);
-        let block = Rect::between(left, lines.bottom, right, lines.top);
-        push_block(number, plane, uses, block, workspace, out)?;
-        left = right;
-    }
-    Ok(())
+    let (one, other) = cut(zone, met);
+    push_flat(number, plane, uses, one, workspace, out)?;
+    push_flat(number, plane, uses, other, workspace, out)
 }
 
 /// Appends such pieces of a block.
-fn push_block(
+pub(crate) fn push_block(
     number: usize,
     plane: &mut Plane,
     uses: &Uses<'_>,
@@ -94,11 +76,42 @@ fn push_block(
     ensures owner { plane.new ≡ plane.old }
     ensures pool { workspace.new.pool ≡ workspace.old.pool }
 {
-    if !uses.meet(block) {
-        return push_apart(number, plane, uses, block, workspace, out);
+    if push_swept(number, plane, uses, block, workspace, out)? {
+        return Ok(());
     }
     flatten(number, plane, uses, block, workspace);
     workspace.grid.push_pieces(block, out)
+}
+
+/// Appends such pieces of a rectangle, the maximal strips of what is shown in it, where few pieces lie in it. Returns
+/// whether it did, and appends none where it didn't.
+fn push_swept(
+    number: usize,
+    plane: &mut Plane,
+    uses: &Uses<'_>,
+    rect: Rect,
+    workspace: &mut Workspace,
+    out: &mut Vec<Piece>,
+) -> Result<bool, AllocError>
+    requires plane { HasPlane workspace.old.pool plane.old }
+    requires plane_fits { FitsWorkspace workspace.old.pool plane.old }
+    requires cells { IsHome workspace.old.pool uses.now.library.now }
+    ensures appended { IfOk result (λ done. done ≡ true
+        → Appends rect (flat_plane workspace.old.pool uses.now number plane.old) out.old.items out.new.items) }
+    ensures none { IfOk result (λ done. done ≡ false → out.new.items ≡ out.old.items) }
+    ensures owner { plane.new ≡ plane.old }
+    ensures pool { workspace.new.pool ≡ workspace.old.pool }
+{
+    let most = MOST_SWEPT.min((rect.area().size() / SQUARES_FOR_A_PIECE) as usize);
+    if !list_pieces(number, plane, uses, rect, most, workspace) {
+        return Ok(false);
+    }
+    let Workspace {
+        scratch,
+        pieces,
+        ..
+    } = workspace;
+    push_covered(pieces, scratch, out)
 }
 
 /// Appends such pieces of a rectangle in which the uses show nothing: the parts of the plane's tiles that lie in it.

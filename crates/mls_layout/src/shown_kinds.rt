@@ -8,7 +8,8 @@ ghost use Rattle.mls_layout.specs.Workspaces.{FitsWorkspace};
 ghost use Rattle.mls_library.specs.Libraries.{IsHome};
 ghost use Rattle.mls_stitch.specs.Tilings.{HasPlane};
 
-use crate::{Uses, Workspace, push_flat};
+use crate::pieces::push_block;
+use crate::{BLOCK_SIDE, Uses, Workspace, push_flat};
 use mls_geom::{Piece, Rect};
 use mls_kinds::KindSet;
 use mls_stitch::Plane;
@@ -40,7 +41,12 @@ pub fn kinds(
         return Ok(mls_paint::kinds(pool, plane, rect, scratch));
     }
     let mut pieces = Vec::new(alloc);
-    push_flat(number, plane, uses, rect, workspace, &mut pieces)?;
+    let lines = rect.area();
+    if lines.right - lines.left <= BLOCK_SIDE && lines.top - lines.bottom <= BLOCK_SIDE {
+        push_block(number, plane, uses, rect, workspace, &mut pieces)?;
+    } else {
+        push_flat(number, plane, uses, rect, workspace, &mut pieces)?;
+    }
     Ok(kinds_of(&pieces))
 }
 

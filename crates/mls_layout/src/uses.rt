@@ -6,7 +6,7 @@ ghost use Rattle.mls_layout.specs.Uses.{cell_layouts, use_layout, uses_layout};
 ghost use Rattle.mls_library.specs.Libraries.{IsHome};
 ghost use Rattle.mls_tilepool.specs.Pools.{Pool};
 
-use crate::moves::moved_part;
+use crate::moves::{is_moved_into, moved_part};
 use mls_geom::Rect;
 use mls_library::{Cell, CellId, Library};
 
@@ -44,6 +44,31 @@ impl Uses<'_> {
         }
         false
     }
+
+    /// Returns the rectangle round the parts of the area in which uses may show something, or the area where there is
+    /// none. It is where to look first: nothing is promised of it.
+    pub(crate) fn part_met(&self, area: Rect) -> Rect {
+        let mut met = None;
+        for cell_use in self.list {
+            met = join(met, part_of(self.library, cell_use, area));
+        }
+        met.unwrap_or(area)
+    }
+}
+
+/// Returns the rectangle round both, or the one of them that there is.
+fn join(one: Option<Rect>, other: Option<Rect>) -> Option<Rect> {
+    match (one, other) {
+        (Some(one), Some(other)) => Some(one.joined(other)),
+        (None, found) => found,
+        (found, None) => found,
+    }
+}
+
+/// Returns the part of the area in which a use may show something.
+fn part_of(library: &Library, cell_use: &CellUse, area: Rect) -> Option<Rect> {
+    let bounds = library.get(cell_use.cell)?.bounds()?;
+    moved_part(bounds, cell_use.dx, cell_use.dy, area)
 }
 
 /// Returns whether a use may show something in the area.
@@ -64,7 +89,7 @@ pub(crate) fn reaches(cell: &Cell, cell_use: &CellUse, area: Rect) -> bool
         → bounds_hold cell.now.bounds cell_use.now.dx cell_use.now.dy x y ≡ false }
 {
     match cell.bounds() {
-        Some(bounds) => moved_part(bounds, cell_use.dx, cell_use.dy, area).is_some(),
+        Some(bounds) => is_moved_into(bounds, cell_use.dx, cell_use.dy, area),
         None => false,
     }
 }

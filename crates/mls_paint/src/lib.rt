@@ -3,6 +3,7 @@
 #![tactic(auto)]
 
 mod changes;
+mod covered;
 mod paint;
 mod pairs;
 mod planes;
@@ -10,6 +11,7 @@ mod scratch;
 mod sweeps;
 mod swept;
 
+pub use covered::push_covered;
 pub use paint::{Painted, TooManyTiles, fits, overlay, overlay_within};
 pub use planes::{
     find_area, find_meeting, find_meeting_in, kinds, release_plane, space_plane, strips_of,

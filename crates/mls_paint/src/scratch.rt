@@ -13,8 +13,8 @@ use std::marker::Model;
 /// All memory is reserved when the scratch is made.
 #[derive(Drop)]
 pub struct Scratch {
-    room: usize,
-    pieces: usize,
+    pub(crate) room: usize,
+    pub(crate) pieces: usize,
     pub(crate) search: Search,
     pub(crate) sweep: Sweeps,
     pub(crate) touched: Vec<Piece>,

@@ -1,0 +1,39 @@
+use Rattle.std.proofs.Common.{List, if◌then◌else◌, ap, sym, subst, to_z, of_z, w32, ◌∙◌}
+use Rattle.std.proofs.lemmas.Int.{to_z-of_z}
+use Rattle.std.proofs.lemmas.List.{take_all}
+use Rattle.mls_geom.specs.Locality.{laid}
+use Rattle.mls_stitch.specs.declared.laid_tile.LaidTile.{LaidTile}
+use Rattle.mls_layout.specs.Grids.{Shows}
+use Rattle.mls_layout.specs.Moves.{moved}
+use Rattle.mls_layout.proofs.PaintedTiles.{painted-all, painted-more, some_dumps}
+use Rattle.mls_layout.proofs.listing.push_tiles.Goals as goal
+
+pub loop-tile-preserved : goal.loop-tile-preserved
+loop-tile-preserved c = record {
+  shown = λ picture has x y inside.
+      let tiles = c.args.tiles.now in
+      let tile = c.tile-item.result in
+      let i = c.loop-tile.tile-index in
+      let shows = subst (λ (t : LaidTile). Shows picture t.piece) (sym c.tile-item.is) (has i tile c.loop-tile-test.true) in
+      painted-more picture (to_z w32 (of_z w32 c.args.dx)) (to_z w32 (of_z w32 c.args.dy)) tiles i tile x y (laid c.args.pieces.now.items x y) _ _ c.loop-tile-test.true c.tile-item.is shows
+      (c.loop-tile.invariant.shown picture has x y inside) (c.push_piece.ensures.laid c.if-not-push_piece.false x y inside);
+  inside = λ all. c.push_piece.ensures.inside (c.loop-tile.invariant.inside all);
+  covered = λ x y some. c.push_piece.ensures.covered x y (c.loop-tile.invariant.covered x y some);
+  few = c.push_piece.ensures.few;
+  room = c.push_piece.ensures.room ∙ c.loop-tile.invariant.room;
+}
+
+pub returns-clause-laid : goal.returns-clause-laid
+returns-clause-laid c = λ done picture show x y inside.
+    let along = c.ranges.dx in
+    let up = c.ranges.dy in
+    let tiles = c.args.tiles.now in
+    let dx = c.args.dx in
+    let dy = c.args.dy in
+    let so_far = simp to_z-of_z at (c.loop-tile.invariant.shown picture show.each x y inside) in
+    let all = ap (λ (list : List LaidTile). if some_dumps list dx dy x y then moved picture dx dy x y else laid c.args.pieces.now.items x y)
+    (take_all c.loop-tile.tile-index tiles c.loop-tile-test.false) in
+    painted-all picture dx dy c.args.rect tiles x y show (laid c.args.pieces.now.items) _ inside (so_far ∙ all)
+
+pub returns-then-not-push_piece-clause-inside : goal.returns-then-not-push_piece-clause-inside
+returns-then-not-push_piece-clause-inside c = λ all. c.push_piece.ensures.inside (c.loop-tile.invariant.inside all)

@@ -1,0 +1,49 @@
+use Rattle.std.proofs.Common.{◌≡◌, ℕ, List, ap, subst, ◌∙◌}
+use Rattle.std.proofs.lemmas.Result.{on_ok_weaker}
+use Rattle.mls_geom.specs.Rects.{IsRectangleIn, IsWithin, Rect}
+use Rattle.mls_geom.specs.declared.piece.Piece.{Piece}
+use Rattle.mls_tilepool.specs.Pools.{Pool}
+use Rattle.mls_layout.specs.Grids.{Appends}
+use Rattle.mls_layout.specs.Uses.{flat_plane}
+use Rattle.mls_layout.proofs.CoveredBlocks.{Appends-joined}
+use Rattle.mls_layout.proofs.pieces.+push_flat.Goals as goal
+use Rattle.mls_layout.proofs.pieces.+push_flat.Goals.{else-eq-via-then-eq+in_ok-push_swept+else-branch, else-eq-via-else-eq}
+
+within : (e part : Rect) → IsRectangleIn e part → IsWithin e part
+within e part legal = record { left = legal.left_in; bottom = legal.bottom_in; right = legal.right_in; top = legal.top_in }
+
+pub returns-clause-appended : goal.returns-clause-appended
+returns-clause-appended t c =
+    let zone = c.args.zone in
+    let pool = c.args.workspace.now.pool in
+    let owner = c.args.plane.now in
+    let uses = c.args.uses.now in
+    let number = c.args.number in
+    let one = c.cut-one.result.0 in
+    let other = c.cut-one.result.1 in
+    let old = c.args.out.now.items in
+    let mid = c.push_flat.new.out.items in
+    let new = c.push_flat-2.new.out.items in
+    let picture = flat_plane pool uses number owner in
+    let parts = c.cut-one.ensures in
+    let same_owner : c.else-eq.plane ≡ owner = elim c.else-eq.branch [
+      | else-eq-via-then-eq+in_ok-push_swept+else-branch w ↦ w.plane-is ∙ w.in_ok-push_swept.ensures.owner
+      | else-eq-via-else-eq w ↦ w.plane-is
+    ] in
+    let same_pool : c.else-eq.workspace.pool ≡ pool = elim c.else-eq.branch [
+      | else-eq-via-then-eq+in_ok-push_swept+else-branch w ↦ ap (λ workspace. workspace.pool) w.workspace-is ∙ w.in_ok-push_swept.ensures.pool
+      | else-eq-via-else-eq w ↦ ap (λ workspace. workspace.pool) w.workspace-is
+    ] in
+    let same_out : c.else-eq.out.items ≡ old = elim c.else-eq.branch [
+      | else-eq-via-then-eq+in_ok-push_swept+else-branch w ↦ ap (λ out. out.items) w.out-is ∙ w.in_ok-push_swept.ensures.none w.if-branch.false
+      | else-eq-via-else-eq w ↦ ap (λ out. out.items) w.out-is
+    ] in
+    let first = subst (λ (list : List Piece). Appends one picture list mid) same_out
+    (subst (λ (p : Pool). Appends one (flat_plane p uses number owner) c.else-eq.out.items mid) same_pool
+    (subst (λ (o : ℕ). Appends one (flat_plane c.else-eq.workspace.pool uses number o) c.else-eq.out.items mid) same_owner c.in_ok-push_flat.ensures.appended)) in
+    on_ok_weaker c.push_flat-2.result
+    (λ appended.
+    Appends-joined zone one other picture old mid new (within zone one parts.one_in) (within zone other parts.other_in) parts.whole first
+    (subst (λ (p : Pool). Appends other (flat_plane p uses number owner) mid new) (c.in_ok-push_flat.ensures.pool ∙ same_pool)
+    (subst (λ (o : ℕ). Appends other (flat_plane c.push_flat.new.workspace.pool uses number o) mid new) (c.in_ok-push_flat.ensures.owner ∙ same_owner) appended)))
+    c.push_flat-2.ensures.appended
