@@ -12,8 +12,10 @@
 #             piece, one less than a plane of a cell may have
 #   shifted   the same cell at 16 by 16 places, 2 from one to the next: 103 by 38 squares, 7,905 tiles when dumped, and
 #             a million strips of cells in one piece
+#   far       one use of a cell of two squares of 4, in opposite corners of the world
+#   spread    one use of a cell of 44 by 44 squares of 1, 1,400 from one to the next, all over the world
 #
-# The rule of the last two is `spacing poly poly 1 touching_illegal` alone, which forbids nothing in them. The rows of
+# The rule of the last four is `spacing poly poly 1 touching_illegal` alone, which forbids nothing in them. The rows of
 # the first two layouts are:
 #
 #   place             a line `getcell` or `dump`
@@ -25,10 +27,12 @@
 #                     time of its `box`
 #   of all, of the world      the same in the box round all, and in that of the world
 #
-# Those of the last two, where the layout was checked before, are:
+# Those of the others, where the layout was checked before, are:
 #
 #   what, why         in a box of 250 by 250, the whole of a piece but for its halo
 #   step              `drc check` of that box, and the check step of the one piece that it is
+#
+# of deep and shifted, and `what` and `why` of the world of far and spread.
 #
 # Each time is the processor's, in the program and in the system: that of a script less that of one without the lines,
 # of each the least of three runs that take turns. The columns are the row, the layout, the microseconds a line with
@@ -40,22 +44,23 @@ here=$(cd "$(dirname "${BASH_SOURCE[0]}")/.." && pwd)
 work=$(mktemp -d)
 trap 'rm -rf "$work"' EXIT
 
-# cell COLUMNS ROWS SIDE PITCH: squares of poly as a cell file
+# cell COLUMNS ROWS SIDE PITCH [FROM]: squares of poly as a cell file, the first at (FROM, FROM), or at (0, 0)
 cell() {
-    awk -v columns="$1" -v rows="$2" -v side="$3" -v pitch="$4" 'BEGIN {
+    awk -v columns="$1" -v rows="$2" -v side="$3" -v pitch="$4" -v from="${5:-0}" 'BEGIN {
         print "magic\n<< poly >>"
         for (j = 0; j < rows; j++) for (i = 0; i < columns; i++)
-            printf "rect %d %d %d %d\n", pitch * i, pitch * j, pitch * i + side, pitch * j + side
+            printf "rect %d %d %d %d\n", from + pitch * i, from + pitch * j, from + pitch * i + side, from + pitch * j + side
         print "<< end >>"
     }'
 }
 
-# laid LAYOUT: opens a session, and places the cell 256 times; PLACE stands for the word that places it or dumps it
+# laid LAYOUT: opens a session, and places the cell as often as the layout has it; PLACE stands for the word that places it or dumps it
 laid() {
     awk -v layout="$1" 'BEGIN {
         pitch = layout == "apart" ? 40 : layout == "shifted" ? 2 : 0
+        uses = layout == "far" || layout == "spread" ? 1 : 256
         print "%open a"
-        for (i = 0; i < 256; i++) printf "a PLACE c %d %d\n", pitch * (i % 16), pitch * int(i / 16)
+        for (i = 0; i < uses; i++) printf "a PLACE c %d %d\n", pitch * (i % 16), pitch * int(i / 16)
     }'
 }
 
@@ -182,6 +187,17 @@ worst() {
     row step 10
 }
 
+# wide: the rows of a cell whose squares lie all over the world
+wide() {
+    local line
+    words=(--tech "$work/tech" --quota 16384 "c=$work/$layout.mag")
+    checked 'a box -32768 -32768 32768 32768' > "$work/less"
+    for line in what 'drc why'; do
+        { cat "$work/less"; repeated 10 "a $line"; } > "$work/more"
+        row "${line#drc } of the world" 10
+    done
+}
+
 program=${PROGRAM:-}
 if [ -z "$program" ]; then
     "$here/magicd" < /dev/null
@@ -189,6 +205,9 @@ if [ -z "$program" ]; then
 fi
 cell 5 5 4 8 > "$work/small.mag"
 cell 88 23 1 2 > "$work/large.mag"
+printf '%s\n' magic '<< poly >>' 'rect -32768 -32768 -32764 -32764' 'rect 32764 32764 32768 32768' '<< end >>' \
+    > "$work/far.mag"
+cell 44 44 1 1400 -30000 > "$work/spread.mag"
 printf '%s\n' planes active metal1 end types 'active poly' 'active ndiff' 'metal1 m1' end \
     drc 'spacing poly poly 1 touching_illegal "d"' end > "$work/tech"
 
@@ -198,3 +217,4 @@ usual 80
 layout='on top'
 usual 5
 for layout in deep shifted; do worst; done
+for layout in far spread; do wide; done
