@@ -15,6 +15,7 @@ pub mod SavedLines
 pub mod SavedNumbers
 pub mod SavedNames
 pub mod SavedReading
+pub mod SavedRooms
 pub mod SavedLayouts
 pub mod SavedCells
 pub mod SavedTexts

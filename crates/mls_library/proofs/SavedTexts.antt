@@ -8,7 +8,7 @@ use Rattle.std.specs.Option.{option_map_or}
 use Rattle.std.proofs.lemmas.Int.{ints, to_z-of_z}
 use Rattle.std.proofs.lemmas.List.{length-map, length-take, map-append}
 use Rattle.std.proofs.lemmas.List.Concat.{flat_map-append}
-use Rattle.std.proofs.lemmas.List.Elements.{filter_more}
+use Rattle.std.proofs.lemmas.List.Elements.{filter-append, filter_more}
 use Rattle.std.proofs.lemmas.List.Sums.{length-filter}
 use mathlib.Core.List.{append_assoc, append-nil}
 use Rattle.mls_geom.specs.Rects.{Rect, IsRectangleIn}
@@ -53,13 +53,13 @@ Extends-after old first second new more others one two rest =
 abbrev pub passed : ℤ → ℤ
 passed z = to_z w32 (of_z w32 z)
 
-coordinate_text-of : (line : ℕ) (z : ℤ) → world.left ≤ line → line ≤ world.right → pos line ≡ z +ℤ pos origin → signed_decimal (passed z) ≡ coordinate_text line
+pub coordinate_text-of : (line : ℕ) (z : ℤ) → world.left ≤ line → line ≤ world.right → pos line ≡ z +ℤ pos origin → signed_decimal (passed z) ≡ coordinate_text line
 coordinate_text-of line z from to tied =
     let same : user_line line ≡ z = omega (arith, ints, tied) in
     let fits : SFits w32 z = subst (SFits w32) same (record { sfits = short_line line from to }) in
     ap signed_decimal (to_z-of_z w32 z fits ∙ sym same)
 
-line_of_words : (old l b r t : List ℕ)
+pub line_of_words : (old l b r t : List ℕ)
     → ((((old ++ codes "rect ") ++ (l ++ 32 ∷ [])) ++ (b ++ 32 ∷ [])) ++ (r ++ 32 ∷ [])) ++ (t ++ 10 ∷ []) ≡ old ++ (spaced (codes "rect" ∷ l ∷ b ∷ r ∷ t ∷ []) ++ 10 ∷ [])
 line_of_words old l b r t = simp append_assoc
 
@@ -121,6 +121,15 @@ module _ (kind : ℕ) where
 
   tiles_text-filter : (tiles : List LaidTile) → tiles_text tiles ≡ text_of (strip_lines (pieces_of (filter (λ tile. tile.piece.kind == kind) tiles)))
   tiles_text-filter tiles = ap (λ pieces. text_of (strip_lines pieces)) (of_kind-pieces tiles)
+
+  pub tiles_text-append : (xs ys : List LaidTile) → tiles_text (xs ++ ys) ≡ tiles_text xs ++ tiles_text ys
+  tiles_text-append xs ys =
+      let kept = λ (tiles : List LaidTile). filter (λ tile. tile.piece.kind == kind) tiles in
+      tiles_text-filter (xs ++ ys) ∙ ap (λ tiles. text_of (strip_lines (pieces_of tiles))) (filter-append (λ tile. tile.piece.kind == kind) xs ys)
+      ∙ ap (λ pieces. text_of (strip_lines pieces)) (map-append (λ tile. tile.piece) (kept xs) (kept ys))
+      ∙ ap text_of (map-append (λ strip. spaced (rect_words strip.rect)) (pieces_of (kept xs)) (pieces_of (kept ys)))
+      ∙ text_of-append (strip_lines (pieces_of (kept xs))) (strip_lines (pieces_of (kept ys)))
+      ∙ ap (λ text. text ++ text_of (strip_lines (pieces_of (kept ys)))) (sym (tiles_text-filter xs)) ∙ ap (λ text. tiles_text xs ++ text) (sym (tiles_text-filter ys))
 
   module _ (tiles : List LaidTile) (i : ℕ) (d : LaidTile) (within : i < length tiles) where
     more : (b : Bool) → ((get_or tiles i d).piece.kind == kind) ≡ b
@@ -192,7 +201,7 @@ abbrev pub lines_up_to : Tech → (ℕ → List Piece) → ℕ → List (List �
 lines_up_to tech strips types = header_lines tech ++ layers_lines tech strips (range_with_len 1 types)
 
 module _ (tech : Tech) (strips : ℕ → List Piece) where
-  abbrev type_lines : ℕ → List (List ℕ)
+  abbrev pub type_lines : ℕ → List (List ℕ)
   type_lines kind = layer_lines tech kind (option_map_or strips (plane_of_type tech.type_planes kind) [])
 
   layers_lines-push : (kinds : List ℕ) (kind : ℕ) → layers_lines tech strips (kinds ++ kind ∷ []) ≡ layers_lines tech strips kinds ++ type_lines kind
@@ -202,6 +211,12 @@ module _ (tech : Tech) (strips : ℕ → List Piece) where
   layers_lines-none : layers_lines tech strips [] ≡ []
   unfolding layers_lines
   layers_lines-none = refl
+
+  pub lines_up_to-next : (types : ℕ) → lines_up_to tech strips (suc types) ≡ lines_up_to tech strips types ++ type_lines (1 + types)
+  lines_up_to-next types =
+      ap (λ kinds. header_lines tech ++ layers_lines tech strips kinds) (range-push 1 types)
+      ∙ ap (λ l. header_lines tech ++ l) (layers_lines-push (range_with_len 1 types) (1 + types))
+      ∙ sym (append_assoc (header_lines tech) (layers_lines tech strips (range_with_len 1 types)) (type_lines (1 + types)))
 
   -- before the first type
   pub lines_up_to-none : lines_up_to tech strips 0 ≡ header_lines tech

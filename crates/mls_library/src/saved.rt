@@ -1,5 +1,5 @@
 //! The writing of cell files.
-ghost use Rattle.std.specs.Prelude.{◌≡◌, ◌++◌, ◌∷◌, ◌==◌, ◌≤◌, [], IfSome, OnErr, OnOk, count_by, length, map};
+ghost use Rattle.std.specs.Prelude.{◌≡◌, ◌+◌, ◌++◌, ◌∷◌, ◌==◌, ◌≤◌, ◌<◌, [], IfSome, OnErr, OnOk, count_by, length, map, vec_capacity, vec_len};
 ghost use Rattle.std.specs.Fmt.{signed_decimal};
 ghost use Rattle.mls_library.specs.SavedCells as spec;
 ghost use Rattle.mls_tech.specs.Readings.{Tech};
@@ -33,11 +33,14 @@ fn count_strips(tiles: &[LaidTile], kind: u8) -> usize
 ///
 /// # Errors
 ///
-/// Out of memory. What the text had before is still in front of it.
+/// Out of memory, where the text had no room for all that is appended. What it had before is still in front of it.
 #[tactic(auto, unfolding(crate::specs::SavedCells::text_of))]
 pub fn push_header(tech: &Tech, out: &mut Vec<u8>) -> Result<(), AllocError>
     ensures text { OnOk result (out.new.items ≡ out.old.items ++ spec.text_of (spec.header_lines tech.now)) }
     ensures kept { OnErr result (spec.Extends out.old.items out.new.items) }
+    ensures room { OnErr result (vec_capacity out.old
+        < vec_len out.old + length (spec.text_of (spec.header_lines tech.now))) }
+    ensures capacity { vec_capacity out.old ≤ vec_capacity out.new }
     // The technology's name stands on one line.
     ensures unbroken { IfSome tech.now.name IsUnbroken }
 {
@@ -53,7 +56,7 @@ pub fn push_header(tech: &Tech, out: &mut Vec<u8>) -> Result<(), AllocError>
 ///
 /// # Errors
 ///
-/// Out of memory. What the text had before is still in front of it.
+/// Out of memory, where the text had no room for all that is appended. What it had before is still in front of it.
 pub fn push_layer(
     tech: &Tech,
     kind: u8,
@@ -63,6 +66,9 @@ pub fn push_layer(
     ensures text { OnOk result (out.new.items
         ≡ out.old.items ++ spec.text_of (spec.layer_lines tech.now kind (map (λ tile. tile.piece) tiles.now))) }
     ensures kept { OnErr result (spec.Extends out.old.items out.new.items) }
+    ensures room { OnErr result (vec_capacity out.old < vec_len out.old
+        + length (spec.text_of (spec.layer_lines tech.now kind (map (λ tile. tile.piece) tiles.now)))) }
+    ensures capacity { vec_capacity out.old ≤ vec_capacity out.new }
 {
     if layer_line_count(tiles, kind) == 0 {
         return Ok(());
@@ -82,10 +88,12 @@ fn first_name(tech: &Tech, kind: u8) -> &[u8]
 ///
 /// # Errors
 ///
-/// Out of memory. What the text had before is still in front of it.
+/// Out of memory, where the text had no room for all that is appended. What it had before is still in front of it.
 pub fn push_end(out: &mut Vec<u8>) -> Result<(), AllocError>
     ensures text { OnOk result (out.new.items ≡ out.old.items ++ spec.text_of spec.end_lines) }
     ensures kept { OnErr result (spec.Extends out.old.items out.new.items) }
+    ensures room { OnErr result (vec_capacity out.old < vec_len out.old + length (spec.text_of spec.end_lines)) }
+    ensures capacity { vec_capacity out.old ≤ vec_capacity out.new }
 {
     push_section(b"end", out)
 }
@@ -96,6 +104,9 @@ fn push_section(name: &[u8], out: &mut Vec<u8>) -> Result<(), AllocError>
     ensures text { OnOk result (out.new.items
         ≡ out.old.items ++ spec.text_of (spec.spaced (spec.section_words name.now) ∷ [])) }
     ensures kept { OnErr result (spec.Extends out.old.items out.new.items) }
+    ensures room { OnErr result (vec_capacity out.old
+        < vec_len out.old + length (spec.text_of (spec.spaced (spec.section_words name.now) ∷ []))) }
+    ensures capacity { vec_capacity out.old ≤ vec_capacity out.new }
 {
     out.extend_from_slice(b"<< ")?;
     out.extend_from_slice(name)?;
@@ -107,6 +118,9 @@ fn push_strips(kind: u8, tiles: &[LaidTile], out: &mut Vec<u8>) -> Result<(), Al
     ensures text { OnOk result (out.new.items
         ≡ out.old.items ++ spec.text_of (spec.strip_lines (spec.of_kind kind (map (λ tile. tile.piece) tiles.now)))) }
     ensures kept { OnErr result (spec.Extends out.old.items out.new.items) }
+    ensures room { OnErr result (vec_capacity out.old < vec_len out.old
+        + length (spec.text_of (spec.strip_lines (spec.of_kind kind (map (λ tile. tile.piece) tiles.now))))) }
+    ensures capacity { vec_capacity out.old ≤ vec_capacity out.new }
 {
     for tile in tiles {
         if tile.piece.kind == kind {
@@ -120,6 +134,9 @@ fn push_strips(kind: u8, tiles: &[LaidTile], out: &mut Vec<u8>) -> Result<(), Al
 fn push_rect(rect: Rect, out: &mut Vec<u8>) -> Result<(), AllocError>
     ensures text { OnOk result (out.new.items ≡ out.old.items ++ (spec.spaced (spec.rect_words rect) ++ 10 ∷ [])) }
     ensures kept { OnErr result (spec.Extends out.old.items out.new.items) }
+    ensures room { OnErr result (vec_capacity out.old
+        < vec_len out.old + length (spec.spaced (spec.rect_words rect) ++ 10 ∷ [])) }
+    ensures capacity { vec_capacity out.old ≤ vec_capacity out.new }
 {
     out.extend_from_slice(b"rect ")?;
     push_coordinate(rect.left(), b' ', out)?;
@@ -132,6 +149,9 @@ fn push_rect(rect: Rect, out: &mut Vec<u8>) -> Result<(), AllocError>
 fn push_coordinate(coordinate: i32, end: u8, out: &mut Vec<u8>) -> Result<(), AllocError>
     ensures text { OnOk result (out.new.items ≡ out.old.items ++ (signed_decimal coordinate ++ end ∷ [])) }
     ensures kept { OnErr result (spec.Extends out.old.items out.new.items) }
+    ensures room { OnErr result (vec_capacity out.old
+        < vec_len out.old + length (signed_decimal coordinate ++ end ∷ [])) }
+    ensures capacity { vec_capacity out.old ≤ vec_capacity out.new }
 {
     let mut buffer = Buffer::new();
     out.extend_from_slice(buffer.format(coordinate).as_bytes())?;

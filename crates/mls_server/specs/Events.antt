@@ -1,6 +1,7 @@
 -- What each event does to a world, and how it is answered. An event on a session depends on what that session keeps, and on no other; only opening
 -- depends on what the others hold. This project's own.
 use Rattle.std.specs.Prelude.{◌≡◌, ◌≢◌, ℕ, ◌+◌, ◌-◌, ◌||◌, ◌^◌, nat_le, nat_lt, is_some, if◌then◌else◌, Option, Some, None, Result, Ok, Err, List, [], ◌∷◌, ◌++◌, length}
+use Rattle.std.specs.Option.{option_map_or}
 use Rattle.std.specs.Result.{IsOkAnd}
 use Rattle.mls_errorplane.specs.Jobs.{IsNextJob}
 use Rattle.mls_errorplane.specs.declared.job.Job.{Job}
@@ -10,6 +11,7 @@ use Rattle.mls_errorplane.specs.declared.error_plane.Stepped.{Stepped as StepEnd
 use Rattle.mls_library.specs.CellFiles.{layout_of as layout_of_rects}
 use Rattle.mls_library.specs.Faults.{UnlessMemory}
 use Rattle.mls_library.specs.Libraries.{loading_of, tile_counts, total}
+use Rattle.mls_library.specs.SavedCells.{saved_text}
 use Rattle.mls_library.specs.declared.fault.CellFault.{CellFault}
 use Rattle.mls_session.specs.Journals.{Commands, Finishes, Kept, Saves, StepsOnce}
 use Rattle.mls_session.specs.Looks.{Looks}
@@ -86,6 +88,10 @@ DoesCommand old id command result new = OnSeat old id (λ before reply after. Co
 abbrev pub SavesText : World → ℕ → Result Reply NotOpen → List ℕ → World → Type 0
 SavesText old id (Ok reply) text new = OnSeat old id (λ before answer after. Saves (terms_for old.setting) before answer text after) (Ok reply) new
 SavesText old id (Err fault) text new = (kept_in old id ≡ None) × (text ≡ []) × (new ≡ old)
+
+-- the text of the session's own paint
+abbrev pub own_text : World → ℕ → List ℕ
+own_text on id = option_map_or (λ kept. saved_text on.setting.tech kept.own.design.drawn.paint) (kept_in on id) []
 
 -- what a look at what the session keeps returns, and the text that comes with it; or it isn't open
 abbrev pub LooksAt : World → ℕ → OwnLook → Result OwnLooked NotOpen → List ℕ → Type 0

@@ -1,5 +1,5 @@
 //! Sessions: what each command and each check step does to a design, and what the journal keeps of it.
-ghost use Rattle.std.specs.Prelude.{◌≡◌, ◌*◌, ◌+◌, ◌++◌, ◌≤◌, IfOk, OnErr, List, ℕ, length};
+ghost use Rattle.std.specs.Prelude.{◌≡◌, ◌*◌, ◌+◌, ◌++◌, ◌≤◌, ◌<◌, IfOk, OnErr, List, ℕ, length, vec_capacity, vec_len};
 ghost use Rattle.mls_layout.specs.Uses.{cell_layouts};
 ghost use Rattle.mls_library.specs.Libraries as library_spec;
 ghost use Rattle.mls_library.specs.SavedCells.{HoldsOwnTypes, ReadsAs, saved_text};
@@ -9,6 +9,8 @@ ghost use Rattle.mls_session.specs.Journals.{Commands, IsLegal, Saves, kept_at_o
 ghost use Rattle.mls_session.specs.Quotas.{plane_reserve};
 ghost use Rattle.mls_session.specs.Saving.{OnSaved};
 ghost use Rattle.mls_session.specs.Setups.{config_of, terms_of};
+ghost use Rattle.mls_session.specs.declared.refusal.Refusal.TheVariants.{Memory};
+ghost use Rattle.mls_session.specs.declared.reply.Reply.TheVariants.{Refused};
 ghost use Rattle.mls_tilepool.specs.Pools.{unreserved};
 
 mod checking;
@@ -135,13 +137,16 @@ impl Session {
 
     /// Carries out [`Command::Save`], and appends the text of the own paint, as a cell file, where it is not refused.
     ///
-    /// Out of memory, appends nothing, leaves the journal, and returns a refusal.
+    /// Out of memory, appends nothing, leaves the journal, and returns a refusal. Where there is room for the text, no
+    /// memory is taken.
     pub fn save(&mut self, setup: &Setup, out: &mut Vec<u8>, workspace: &mut Workspace) -> Reply
         requires home { IsHome workspace.old.pool self.old }
         requires made_for { IsMadeFor setup.now self.old }
         ensures saves { (text : List ℕ) × Saves (terms_of setup.now workspace.old.pool)
             (kept_of workspace.old.pool self.old) result text (kept_of workspace.old.pool self.new)
             × (out.new.items ≡ out.old.items ++ text) }
+        ensures room { result ≡ Refused Memory → vec_capacity out.old < vec_len out.old
+            + length (saved_text setup.now.tech (state_of workspace.old.pool self.old).design.drawn.paint) }
         ensures legal { IsLegal (terms_of setup.now workspace.old.pool) (kept_of workspace.old.pool self.old)
             → IsLegal (terms_of setup.now workspace.old.pool) (kept_of workspace.old.pool self.new) }
         ensures reads_back { OnSaved result (HoldsOwnTypes setup.now.tech

@@ -1,11 +1,13 @@
 //! What an open session is asked.
-ghost use Rattle.std.specs.Prelude.{◌≡◌, ◌++◌, ◌==◌, ℕ, List, map};
+ghost use Rattle.std.specs.Prelude.{◌≡◌, ◌+◌, ◌++◌, ◌==◌, ◌<◌, ℕ, IfOk, List, length, map, vec_capacity, vec_len};
 ghost use Rattle.std.specs.List.{position};
 ghost use Rattle.std.specs.Option.{option_map};
 ghost use Rattle.mls_paint.specs.Owners.{ChangesAmong};
-ghost use Rattle.mls_server.specs.Events.{DoesCommand, DoesFinish, DoesGrab, DoesStep, LooksAt, SavesText};
+ghost use Rattle.mls_server.specs.Events.{DoesCommand, DoesFinish, DoesGrab, DoesStep, LooksAt, SavesText, own_text};
 ghost use Rattle.mls_server.specs.Servers.{owners_under, place_in, world_of};
 ghost use Rattle.mls_server.specs.Worlds.{kept_in};
+ghost use Rattle.mls_session.specs.declared.refusal.Refusal.TheVariants.{Memory};
+ghost use Rattle.mls_session.specs.declared.reply.Reply.TheVariants.{Refused};
 
 use super::Server;
 use crate::{GrabFault, NotOpen, SessionId};
@@ -39,10 +41,12 @@ impl Server {
     }
 
     /// Saves the own paint of a session: appends its text, as a cell file, and returns the number of its lines. Nothing
-    /// is appended where it is refused.
+    /// is appended where it is refused. Where there is room for the text, no memory is taken.
     pub fn save(&mut self, id: SessionId, out: &mut Vec<u8>) -> Result<Reply, NotOpen>
         ensures saves { (text : List ℕ) × SavesText (world_of self.old) id result text (world_of self.new)
             × (out.new.items ≡ out.old.items ++ text) }
+        ensures room { IfOk result (λ reply. reply ≡ Refused Memory
+            → vec_capacity out.old < vec_len out.old + length (own_text (world_of self.old) id)) }
         ensures frame { self.new.pool ≡ self.old.pool }
     {
         let place = self.place_of(id);

@@ -1,5 +1,5 @@
 //! The text of a design's own paint, as a cell file.
-ghost use Rattle.std.specs.Prelude.{◌≡◌, ◌≤◌, ◌++◌, IfOk, IfSome, OnOk, OnErr, length};
+ghost use Rattle.std.specs.Prelude.{◌≡◌, ◌+◌, ◌≤◌, ◌<◌, ◌++◌, IfOk, IfSome, OnOk, OnErr, length, vec_capacity, vec_len};
 ghost use Rattle.mls_library.specs.SavedCells.{Extends, HoldsOwnTypes, ReadsAs, saved_line_count, saved_text};
 ghost use Rattle.mls_tech.specs.Readings.{plane_of_type};
 ghost use Rattle.mls_session.specs.Inner.{ListsPlane};
@@ -17,16 +17,18 @@ use std::alloc::AllocError;
 const OTHER_LINES: usize = 3;
 
 impl Design {
-    ghost use Rattle.mls_session.specs.Designs.{IsHome, drawn_of};
+    ghost use Rattle.mls_session.specs.Designs.{IsHome, OnRefused, drawn_of};
 
     /// Carries out [`Command::Save`](crate::Command::Save), and appends the text of the own paint, as a cell file.
     ///
-    /// Out of memory, appends nothing and returns a refusal.
+    /// Out of memory, appends nothing and returns a refusal. Where there is room for the text, no memory is taken.
     pub fn save(&self, tech: &Tech, out: &mut Vec<u8>, workspace: &mut Workspace) -> Reply
         requires home { IsHome workspace.old.pool self.now }
         requires made_for { length self.now.planes ≡ tech.now.plane_count }
         ensures saves { SavesText tech.now (drawn_of workspace.old.pool self.now).paint result out.old.items
             out.new.items }
+        ensures room { OnRefused result (vec_capacity out.old < vec_len out.old
+            + length (saved_text tech.now (drawn_of workspace.old.pool self.now).paint)) }
         ensures reads_back { HoldsOwnTypes tech.now (drawn_of workspace.old.pool self.now).paint
             → ReadsAs tech.now (saved_text tech.now (drawn_of workspace.old.pool self.now).paint)
             (drawn_of workspace.old.pool self.now).paint }
@@ -40,7 +42,7 @@ impl Design {
 
     /// Appends the text of the own paint, as a cell file, and returns the number of its lines.
     ///
-    /// Out of memory, appends nothing.
+    /// Out of memory, appends nothing. Where there is room for the text, no memory is taken.
     pub fn save_text(
         &self,
         tech: &Tech,
@@ -53,6 +55,8 @@ impl Design {
             ≡ saved_line_count tech.now (drawn_of workspace.old.pool self.now).paint) }
         ensures text { OnOk result (out.new.items ≡ out.old.items ++ saved_text tech.now
             (drawn_of workspace.old.pool self.now).paint) }
+        ensures room { OnErr result (vec_capacity out.old < vec_len out.old
+            + length (saved_text tech.now (drawn_of workspace.old.pool self.now).paint)) }
         ensures refused { OnErr result (out.new.items ≡ out.old.items) }
         ensures reads_back { HoldsOwnTypes tech.now (drawn_of workspace.old.pool self.now).paint
             → ReadsAs tech.now (saved_text tech.now (drawn_of workspace.old.pool self.now).paint)
@@ -97,6 +101,8 @@ impl Design {
         requires made_for { length self.now.planes ≡ tech.now.plane_count }
         ensures text { OnOk result (out.new.items ≡ out.old.items ++ saved_text tech.now
             (drawn_of workspace.old.pool self.now).paint) }
+        ensures room { OnErr result (vec_capacity out.old < vec_len out.old
+            + length (saved_text tech.now (drawn_of workspace.old.pool self.now).paint)) }
         ensures kept { OnErr result (Extends out.old.items out.new.items) }
         ensures reads_back { HoldsOwnTypes tech.now (drawn_of workspace.old.pool self.now).paint
             → ReadsAs tech.now (saved_text tech.now (drawn_of workspace.old.pool self.now).paint)

@@ -1,12 +1,15 @@
-use Rattle.std.proofs.Common.{◌≡◌, ℕ, List, [], ◌++◌, append-nil, Some, Ok, refl, sym, ap, subst, ◌∙◌}
-use Rattle.std.specs.Option.{option_copied_mut}
+use Rattle.std.proofs.Common.{◌≡◌, ℕ, List, [], ◌++◌, append-nil, length, Some, Ok, refl, sym, ap, subst, ◌∙◌, arith}
+use Rattle.std.specs.Option.{option_copied_mut, option_map_or}
 use Rattle.mls_session.specs.Designs.{Design, HasRightMarks, designed_of}
 use Rattle.indexmap.specs.Layout.{set_value_at}
 use Rattle.mls_session.specs.Journals.{Saves}
 use Rattle.mls_session.specs.Setups.{config_of}
 use Rattle.mls_tilepool.specs.Pools.{Pool}
-use Rattle.mls_server.specs.Events.{SavesText}
-use Rattle.mls_server.specs.Servers.{AreOpen, world_of}
+use Rattle.mls_library.specs.SavedCells.{saved_text}
+use Rattle.mls_session.specs.OwnSteps.{Terms}
+use Rattle.mls_session.specs.Sessions.{kept_of}
+use Rattle.mls_server.specs.Events.{SavesText, own_text}
+use Rattle.mls_server.specs.Servers.{AreOpen, setting_of, world_of}
 use Rattle.mls_server.specs.contracts.server.OpenSession.{the_view as session_view}
 use Rattle.mls_server.specs.contracts.server.Server.{the_view}
 use Rattle.mls_server.proofs.AskedSessions.{AreOpen-changed, IsAsked, OnSeat-changed, is_asked, keeps-same, not_open}
@@ -50,3 +53,12 @@ returns-clause-saves c =
     subst (λ (pool : Pool). (text : List ℕ) × SavesText (world_of c.args.self.now) c.args.id (Ok c.save.result) text (world_of (record server { pool = pool; sessions = sessions })) × (c.save.new.out.items ≡ c.args.out.now.items ++ text))
     (sym done.pool)
     (said.0, OnSeat-changed is (keeps-same is c.save.new.self done.design done.limit) (λ terms before reply after. Saves terms before reply said.0 after) c.save.result said.1, said.2)
+
+pub returns-clause-room : goal.returns-clause-room
+returns-clause-room c =
+    let is = asked (goal.at.returns-clause-room c).After-asked in
+    let kept = kept_of c.self.inside.workspace.pool (session_view c.asked.inside).session in
+    let text : own_text (world_of c.args.self.now) c.args.id ≡ saved_text c.self.inside.setup.tech kept.own.design.drawn.paint =
+    ap (λ found. option_map_or (λ keeps. saved_text (setting_of c.args.self.now).tech keeps.own.design.drawn.paint) found []) is.kept
+    ∙ ap (λ (terms : Terms). saved_text terms.config.tech kept.own.design.drawn.paint) (sym is.terms) in
+    λ memory. omega (arith, c.save.ensures.room memory, ap length text)

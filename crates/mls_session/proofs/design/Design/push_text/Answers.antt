@@ -1,8 +1,9 @@
 -- Each turn appends the text of one type's section.
-use Rattle.std.proofs.Common.{◌≡◌, ◌+◌, ◌-◌, ◌++◌, length, refl, sym, ap, subst, ◌∙◌, arith}
+use Rattle.std.proofs.Common.{◌≡◌, ◌+◌, ◌-◌, ◌++◌, ◌<◌, length, vec_len, vec_capacity, refl, sym, ap, subst, ◌∙◌, arith}
 use Rattle.std.specs.Prelude.{IfSome}
-use Rattle.mls_library.specs.SavedCells.{layer_lines, strips_on, text_of}
+use Rattle.mls_library.specs.SavedCells.{layer_lines, saved_text, strips_on, text_of}
 use Rattle.mls_library.proofs.SavedCells.{saved-reads-back}
+use Rattle.mls_library.proofs.SavedRooms.{end_fits, grown, header_fits, layer_fits}
 use Rattle.mls_library.proofs.SavedTexts.{Extends-appended, Extends-trans, lines_up_to, lines_up_to-none, on_err, pieces_of, text_up_to-all, text_up_to-more}
 use Rattle.mls_paint.specs.Planes.{layout_in}
 use Rattle.mls_tilepool.specs.Pools.{Pool}
@@ -17,6 +18,7 @@ loop-kind-init c = record {
   pool = refl;
   from = omega arith;
   text = c.in_ok-push_header.ensures.text ∙ ap (λ lines. c.args.out.now.items ++ text_of lines) (sym (lines_up_to-none c.args.tech.now (strips_on (layout_in c.args.workspace.now.pool c.args.self.now.planes))));
+  capacity = c.in_ok-push_header.ensures.capacity;
   lists = tt;
 }
 
@@ -60,6 +62,7 @@ loop-kind-preserved c =
       from = omega arith;
       text = text_up_to-more tech (strips_on layout) c.args.out.now.items old c.push_layer.new.out.items (kind - 1) listed.plane (pieces_of tiles) listed.place listed.tiles_are so_far.text appended
           ∙ ap (λ n. c.args.out.now.items ++ text_of (lines_up_to tech (strips_on layout) n)) last;
+      capacity = omega (arith, so_far.capacity, c.in_ok-push_layer.ensures.capacity);
       lists = lists;
     }
 
@@ -92,3 +95,48 @@ returns-in_err-push_layer-clause-reads_back c =
 pub returns-clause-reads_back : goal.returns-clause-reads_back
 returns-clause-reads_back c =
     saved-reads-back c.args.tech.now (layout_in c.args.workspace.now.pool c.args.self.now.planes) c.types-types.ensures.named c.push_header.ensures.unbroken
+
+pub returns-in_err-push_header-clause-room : goal.returns-in_err-push_header-clause-room
+returns-in_err-push_header-clause-room c =
+    let layout = layout_in c.args.workspace.now.pool c.args.self.now.planes in
+    on_err c.from_residual.result (vec_capacity c.args.out.now < vec_len c.args.out.now + length (saved_text c.args.tech.now layout))
+    (omega (arith, header_fits c.args.tech.now (strips_on layout), c.in_err-push_header.ensures.room))
+
+pub returns-in_err-push_layer-clause-room : goal.returns-in_err-push_layer-clause-room
+returns-in_err-push_layer-clause-room c =
+    let layout = layout_in c.args.workspace.now.pool c.args.self.now.planes in
+    let tech = c.args.tech.now in
+    let kind = c.loop-kind.kind in
+    let tiles = c.list_plane.new.workspace.scratch.tiles in
+    let so_far = c.loop-kind.invariant in
+    let out = c.loop-kind.out in
+    let lists =
+    subst (λ (pool : Pool). IfSome c.list_plane.new.listed (ListsPlane (layout_in pool c.args.self.now.planes) tiles)) so_far.pool c.list_plane.ensures.lists in
+    let listed = listed_plane tech.type_planes kind layout tiles c.list_plane.new.listed so_far.from
+    (omega (arith, c.loop-kind-test.true, c.types-types.ensures.value)) c.list_plane.ensures.plane lists
+    in
+    let next : kind ≡ kind - 1 + 1 = omega (arith, so_far.from) in
+    let few : kind - 1 < length tech.type_planes = omega (arith, so_far.from, c.loop-kind-test.true, c.types-types.ensures.value) in
+    let before = grown c.args.out.now.items out.items (text_of (lines_up_to tech (strips_on layout) (kind - 1))) c.args.out.now.ok.0 out.ok.0 so_far.text in
+    let size = ap (λ found. length (text_of (layer_lines tech kind (pieces_of found)))) c.tiles.ensures ∙ ap (λ k. length (text_of (layer_lines tech k (pieces_of tiles)))) next in
+    on_err c.from_residual-in_err-push_layer.result (vec_capacity c.args.out.now < vec_len c.args.out.now + length (saved_text tech layout))
+    (omega (
+      arith,
+      layer_fits tech (strips_on layout) (kind - 1) listed.plane (pieces_of tiles) few listed.place listed.tiles_are,
+      size,
+      before,
+      so_far.capacity,
+      c.in_err-push_layer.ensures.room,
+    ))
+
+pub returns-clause-room : goal.returns-clause-room
+returns-clause-room c =
+    let layout = layout_in c.args.workspace.now.pool c.args.self.now.planes in
+    let tech = c.args.tech.now in
+    let out = c.loop-kind.out in
+    let all : c.loop-kind.kind - 1 ≡ length tech.type_planes =
+    omega (arith, c.loop-kind-test.false, c.loop-kind.auto.kind-end, c.loop-kind.invariant.from, c.types-types.ensures.value)
+    in
+    let text = c.loop-kind.invariant.text ∙ ap (λ n. c.args.out.now.items ++ text_of (lines_up_to tech (strips_on layout) n)) all in
+    let before = grown c.args.out.now.items out.items (text_of (lines_up_to tech (strips_on layout) (length tech.type_planes))) c.args.out.now.ok.0 out.ok.0 text in
+    on_err-map c.push_end.result _ _ (λ lacks. omega (arith, end_fits tech (strips_on layout), before, c.loop-kind.invariant.capacity, lacks)) c.push_end.ensures.room

@@ -1,4 +1,4 @@
-use Rattle.std.proofs.Common.{◌≡◌, ◌≤◌, ◌-◌, ◌++◌}
+use Rattle.std.proofs.Common.{◌≡◌, ◌≤◌, ◌-◌, ◌++◌, vec_capacity}
 use Rattle.std.specs.Prelude.{IfSome}
 use Rattle.mls_library.specs.SavedCells.{strips_on, text_of}
 use Rattle.mls_library.proofs.SavedTexts.{lines_up_to}
@@ -12,5 +12,6 @@ invariant-loop-kind l = record {
   pool : l.workspace.pool ≡ l.fn.workspace.pool;
   from : 1 ≤ l.kind;
   text : l.out.items ≡ l.fn.out.items ++ text_of (lines_up_to l.tech (strips_on (layout_in l.fn.workspace.pool l.self.planes)) (l.kind - 1));
+  capacity : vec_capacity l.fn.out ≤ vec_capacity l.out;
   lists : IfSome l.listed (ListsPlane (layout_in l.fn.workspace.pool l.self.planes) l.workspace.scratch.tiles);
 }
