@@ -48,6 +48,9 @@ PLAIN = {
     "server_load": ["line 0 fault 9 memory"],
     "open": ["c refused open 4 memory"],
     "save": ["a refused 9 memory", "kept"],
+    "look_save": ["a refused 9 memory", "kept"],
+    "look_why": ["a refused 9 memory", "kept"],
+    "look_stat": ["a refused 9 memory", "kept"],
     "why": ["a refused 9 memory"],
     "what": ["a refused 9 memory"],
     "grab": ["a grab memory"],
@@ -80,7 +83,7 @@ HALFWAY = {
 }
 SERVED_LINES = 7
 # Rows of calls that take no memory.
-FRUGAL = ["smallest_quota", "whole_world", "other_calls", "placed_cells"]
+FRUGAL = ["retire", "smallest_quota", "whole_world", "other_calls", "placed_cells"]
 ROWS = [*dict.fromkeys([*PLAIN, *HALFWAY, "serve"])]
 
 
@@ -187,6 +190,9 @@ b drc count
 b save
 a erase poly,m1
 a what
+%stat a
+%save b
+%why b 0 0 300 1
 %audit a
 b box 0 0 400 20
 b what
@@ -227,6 +233,43 @@ three drc catchup
 three save
 three what
 """
+# Each count follows a catchup, so that it depends on no check step of the workers.
+WORKERS = """%open a
+%open b
+%open a
+a box 0 0 300 1
+b box 0 0 2 10
+a paint poly
+b paint m1
+a drc why
+%step a
+a drc catchup
+a drc count
+a save
+b getcell c 0 0
+b box 0 0 4 4
+b what
+b drc why
+b drc catchup
+b drc count
+c what
+%save b
+%why b 0 0 2 10
+%audit a
+%open c
+c dump c 5 5
+c box 5 5 400 50
+a box 300 0 301 9
+c drc catchup
+c drc count
+c save
+a paint m1
+a drc catchup
+a drc count
+%audit b
+%audit a
+%audit c
+"""
 
 CELL = """magic
 tech M
@@ -243,10 +286,10 @@ SMALL = ["--quota", "5", "--pool", "424", "--journal", "4"]
 
 
 class Script:
-    """A script with the words of its command line."""
+    """A script with the words of its command line, and how it is tried."""
 
-    def __init__(self, name, words, text):
-        self.name, self.words, self.lines = name, words, text.splitlines()
+    def __init__(self, name, words, text, trial=None):
+        self.name, self.words, self.lines, self.trial = name, words, text.splitlines(), trial or Trial
         self.replying = replying_in(self.lines)
 
 
@@ -272,6 +315,7 @@ def scripts(folder):
         example("two_sessions"),
         example("wells", "--tech", f"{examples}/wells.tech", "--quota", "9"),
         example("library", f"inv={examples}/inv.mag"),
+        Script("workers", ["--workers", "2", f"c={folder}/c.mag"], WORKERS, WorkersTrial),
     ]
 
 
@@ -298,6 +342,7 @@ SAYS = {
     "what": (r"(\w+) what", r"{} refused 9 memory"),
     "catchup": (r"(\w+) drc catchup", r"{} refused 9 memory (\d+) pending"),
     "step": (r"%step (\w+)", r"{} step memory"),
+    "look": (r"%(?:save|why|stat) (\w+).*", r"{} refused 9 memory"),
 }
 MOST_STEPS = 12
 
@@ -335,10 +380,10 @@ class Trial:
         found = re.fullmatch(rf"{name} count \d+ errors (\d+) pending", reply)
         return int(found[1]) if found else None
 
-    def alone(self, told):
+    def alone(self, said):
         """Yields the replies of the script without the lines that say memory, or with check steps in their place."""
         choices = [()]
-        for at, (line, reply) in enumerate(told):
+        for at, (line, reply) in enumerate(said):
             sort, pending = self.said_of(line, reply)
             if sort != "catchup":
                 continue
@@ -346,19 +391,19 @@ class Trial:
                 raise Failed("catching up was stopped with no area pending")
             choices = [(*steps, (at, count)) for steps in choices for count in range(MOST_STEPS)]
         for steps in choices:
-            replies = self.alone_with(told, dict(steps))
+            replies = self.alone_with(said, dict(steps))
             if replies is not None:
                 yield replies
 
-    def alone_with(self, told, steps):
+    def alone_with(self, said, steps):
         """Returns the replies with so many check steps in the place of each `drc catchup` that was stopped, or None
         where these don't leave as many areas as it says."""
         lines, added, shift = [], set(), []
-        answers = dict(zip(self.script.replying, range(len(told))))
+        answers = dict(zip(self.script.replying, range(len(said))))
         for at, line in enumerate(self.script.lines):
             sort, pending, number = None, 0, answers.get(at)
             if number is not None:
-                sort, pending = self.said_of(line, told[number][1])
+                sort, pending = self.said_of(line, said[number][1])
             if sort == "catchup":
                 name = line.split()[0]
                 for _ in range(steps[number]):
@@ -381,27 +426,34 @@ class Trial:
             kept.append(re.sub(r"\Aline (\d+)", lambda it, moved=moved: f"line {int(it[1]) - moved}", reply))
         return kept
 
+    def new_messages(self, ran):
+        """Returns the messages of a run after the usual ones, if it has these."""
+        usual = self.usual.messages
+        return ran.messages[len(usual) :] if ran.messages.startswith(usual) else None
+
+    def judge_start(self, ran):
+        """Returns what a run without a reply met, or fails."""
+        for sort, says in {
+            "start": r"magicd: memory\n",
+            "tech": r"magicd: tech line \d+ fault 10 memory\n",
+            "cell": r"magicd: cell \w+ line 0 fault 9 memory\n",
+        }.items():
+            if ran.status == 1 and re.fullmatch(says, self.new_messages(ran) or ran.messages):
+                return [sort]
+        raise Failed(f"no reply, status {ran.status}, and the messages {ran.messages!r}")
+
     def judge(self, ran):
         """Returns what the run met, or fails."""
-        skipped = self.usual.messages
-        lines = ran.messages[len(skipped) :] if ran.messages.startswith(skipped) else None
-        if not ran.out and ran.status == 1:
-            # at the start, or before the first reply
-            for sort, says in {
-                "reply": r"magicd: memory\n",
-                "tech": r"magicd: tech line \d+ fault 10 memory\n",
-                "cell": r"magicd: cell \w+ line 0 fault 9 memory\n",
-            }.items():
-                if lines is not None and re.fullmatch(says, lines) or re.fullmatch(says, ran.messages):
-                    return [sort if sort != "reply" else "start"]
-            raise Failed(f"no reply, and the messages {ran.messages!r}")
+        if not ran.out:
+            return self.judge_start(ran)
+        lines = self.new_messages(ran)
         replies = replies_in(ran.out)
-        told = [(self.script.lines[at], reply) for at, reply in zip(self.script.replying, replies)]
+        said = [(self.script.lines[at], reply) for at, reply in zip(self.script.replying, replies)]
         if len(replies) > len(self.script.replying):
             raise Failed("more replies than lines")
-        says = [it for it in (self.said_of(*both)[0] for both in told) if it]
-        kept = [reply for both, reply in zip(told, replies) if not self.said_of(*both)[0]]
-        if not any(wanted[: len(kept)] == kept for wanted in self.alone(told)):
+        says = [it for it in (self.said_of(*both)[0] for both in said) if it]
+        kept = [reply for both, reply in zip(said, replies) if not self.said_of(*both)[0]]
+        if not any(wanted[: len(kept)] == kept for wanted in self.alone(said)):
             raise Failed("the replies are no front of those of the alone runs:\n" + "\n".join(replies))
         whole = len(replies) == len(self.script.replying)
         if (ran.status, lines) != ((0, "") if whole else (1, "magicd: memory\n")):
@@ -423,6 +475,73 @@ class Trial:
                     self.met[it] += 1
             except Failed as why:
                 raise Failed(f"growth {n}{' and all later ones' if on else ''}: {why}") from None
+
+
+class WorkersTrial(Trial):
+    """A script with workers whose growths are refused. Which growth is the n-th varies from run to run."""
+
+    def __init__(self, program, folder, script):
+        super().__init__(program, folder, script)
+        self.usual_said = self.by_line(self.replies)
+
+    def by_line(self, replies):
+        """Returns the reply to each `%open` and to each line of a session, by the line's place. The replies to the other
+        lines must come first, in the order of the script, and then those of each session."""
+        rest, said, groups = iter([*replies, None]), {}, {}
+        reply = next(rest)
+        for at in self.script.replying:
+            words = self.script.lines[at].split()
+            name = words[1] if words[0].startswith("%") else words[0]
+            if words[0] in ("%step", "%close"):
+                wanted = f"line {at + 1} fault 1 unknown command"
+            elif words[0] != "%open":
+                wanted = f"line {at + 1} fault 4 not open"
+                if name in groups:
+                    groups[name].append(at)
+                    continue
+            elif name in groups:
+                wanted = f"{name} refused open 1 open already"
+            elif reply == f"{name} refused open 4 memory":
+                wanted = said[at] = reply
+            else:
+                groups[name] = [at]
+                continue
+            if reply != wanted:
+                raise Failed(f"{reply!r} in the place of {wanted!r}")
+            reply = next(rest)
+        for at in itertools.chain(*groups.values()):
+            said[at], reply = reply, next(rest, None)
+        if None in said.values() or reply is not None:
+            raise Failed("the sessions have fewer replies than lines, or more")
+        return said
+
+    def judge(self, ran):
+        """Returns what the run met, or fails."""
+        if not ran.out:
+            return self.judge_start(ran)
+        if ran.status or self.new_messages(ran) != "":
+            raise Failed(f"replies, status {ran.status}, and the messages {ran.messages!r}")
+        met, lost, stopped = [], {}, {}
+        for at, reply in self.by_line(replies_in(ran.out)).items():
+            line, name = self.script.lines[at], reply.split()[0]
+            usual = self.usual_said.get(at, f"{name} opened")
+            sort, pending = self.said_of(line, reply)
+            if sort:
+                met.append(sort)
+                if sort == "catchup" and not pending:
+                    raise Failed("catching up was stopped with no area pending")
+                # Such a line is in no journal, and a look never is.
+                lost[name] = lost.get(name, 0) + (sort not in ("open", "look"))
+            elif line.startswith("%audit"):
+                count = int(usual.split()[2]) - lost.get(name, 0)
+                usual = f"{name} audited {count}"
+            elif line.endswith("drc count") and stopped.get(name):
+                usual = reply if re.fullmatch(rf"{name} count \d+ errors \d+ pending", reply) else usual
+            if not sort and reply != usual:
+                raise Failed(f"{reply!r} in the place of {usual!r}")
+            if line.endswith("drc catchup"):
+                stopped[name] = bool(sort)
+        return met or ["usual"]
 
 
 # ---- all of it
@@ -468,7 +587,7 @@ def main(words):
         for on in (False, True):
 
             def try_it(script=script, on=on):
-                trial = Trial(program, folder, script)
+                trial = script.trial(program, folder, script)
                 count = trial.refuse(10**6, on)
                 name = f"{script.name}{', and later' if on else ''}"
                 print(f"{name:24} {count:8}  " + " ".join(f"{trial.met[it]:8}" for it in sorts))

@@ -1,14 +1,14 @@
 //! Calls of a server.
 use crate::scene::Scene;
 use crate::servers::{
-    command, grab, id_a, id_b, load, open, print_reply, run, save, server_after, step,
-    stocked_server,
+    CELL_TILES, command, grab, id_a, id_b, load, look, open, print_look, print_reply, run, save,
+    server_after, step, stocked_server,
 };
 use crate::shown::{print_joined, show_server};
 use anyhow::{Context, Result};
 use mls_library::{CellFault, CellId};
 use mls_server::{Answer, Event, GrabFault, Name, NotOpen, Server, SessionId};
-use mls_session::{Command, Job, Reply};
+use mls_session::{Command, Job, Look, Looked, Reply};
 use std::alloc::{AllocError, Global};
 
 /// A call of a server.
@@ -19,6 +19,7 @@ pub enum Call {
     /// Opens session c.
     Open,
     Save,
+    Look(Look),
     Why,
     What,
     CatchUp,
@@ -45,10 +46,11 @@ const ASKED: [u8; 6] = *b"caaaab";
 
 /// What a call of a server returns.
 #[derive(Drop)]
-pub enum Told {
+pub enum Returned {
     Loaded(Option<Result<CellId, CellFault>>),
     Answered(u8, Answer),
     Saved(Result<Reply, NotOpen>),
+    Looked(Result<Looked, NotOpen>),
     Ran(Result<Vec<Answer>, AllocError>),
     LeftOut,
 }
@@ -89,7 +91,7 @@ impl ServerScene {
     /// As above, before any session is opened.
     pub fn idle(alloc: Global, call: Call) -> Result<ServerScene> {
         Ok(ServerScene {
-            server: stocked_server(alloc)?,
+            server: stocked_server(alloc, CELL_TILES)?,
             first: call,
             again: call,
             out: Vec::new(alloc),
@@ -127,42 +129,55 @@ fn events(alloc: Global, change: Change) -> Result<Vec<Event>> {
 }
 
 impl<R: Print> Scene<R> for ServerScene {
-    type Answer = Told;
+    type Answer = Returned;
 
-    fn call(&mut self, _rt: &R, alloc: Global, turn: u8) -> Told {
+    fn call(&mut self, _rt: &R, alloc: Global, turn: u8) -> Returned {
         let call = if turn == 0 { self.first } else { self.again };
         let server = &mut self.server;
         match call {
-            Call::Load => Told::Loaded(load(alloc, server, b"d")),
+            Call::Load => Returned::Loaded(load(alloc, server, b"d")),
             Call::Open => open_c(alloc, server),
-            Call::Save => Told::Saved(save(server, id_a(), &mut self.out)),
+            Call::Save => Returned::Saved(save(server, id_a(), &mut self.out)),
+            Call::Look(asked) => {
+                Returned::Looked(look(alloc, server, id_a(), asked, &mut self.out))
+            }
             Call::Why => commanded(alloc, server, Command::Why),
             Call::What => commanded(alloc, server, Command::What),
             Call::CatchUp => commanded(alloc, server, Command::CatchUp),
-            Call::Grab => Told::Answered(b'a', Answer::Grabbed(grab(alloc, server, id_a()))),
-            Call::Step => Told::Answered(b'a', Answer::Stepped(step(alloc, server, id_a()))),
+            Call::Grab => Returned::Answered(b'a', Answer::Grabbed(grab(alloc, server, id_a()))),
+            Call::Step => Returned::Answered(b'a', Answer::Stepped(step(alloc, server, id_a()))),
             Call::Steps(count) => {
                 for _ in 0..count {
                     let _ = step(alloc, server, id_a());
                 }
-                Told::LeftOut
+                Returned::LeftOut
             }
-            Call::Run(_) if turn == 0 => Told::Ran(run(alloc, server, &self.first_events)),
-            Call::Run(_) => Told::Ran(run(alloc, server, &self.all_events)),
+            Call::Run(_) if turn == 0 => Returned::Ran(run(alloc, server, &self.first_events)),
+            Call::Run(_) => Returned::Ran(run(alloc, server, &self.all_events)),
         }
     }
 
-    fn tell(&mut self, rt: &R, alloc: Global, answer: Told) -> Result<()> {
+    fn print(&mut self, rt: &R, alloc: Global, answer: Returned) -> Result<()> {
         match answer {
-            Told::Loaded(loaded) => print_loaded(rt, loaded),
-            Told::Answered(letter, answer) => print_answer(rt, alloc, &self.server, letter, answer),
-            Told::Saved(saved) => {
+            Returned::Loaded(loaded) => print_loaded(rt, loaded),
+            Returned::Answered(letter, answer) => print_answer(
+                rt,
+                alloc,
+                &self.server,
+                letter,
+                answer,
+            ),
+            Returned::Saved(saved) => {
                 print_reply(rt, alloc, &self.server, b'a', Answer::Commanded(saved))?;
                 print_joined(rt, &self.out)
             }
-            Told::Ran(Ok(answers)) => print_answers(rt, alloc, &self.server, answers),
-            Told::Ran(Err(_)) => Ok(println!(rt; "memory")?),
-            Told::LeftOut => Ok(println!(rt; "left out")?),
+            Returned::Looked(looked) => {
+                print_look(rt, alloc, &self.server, b'a', &looked)?;
+                print_joined(rt, &self.out)
+            }
+            Returned::Ran(Ok(answers)) => print_answers(rt, alloc, &self.server, answers),
+            Returned::Ran(Err(_)) => Ok(println!(rt; "memory")?),
+            Returned::LeftOut => Ok(println!(rt; "left out")?),
         }
     }
 
@@ -173,17 +188,17 @@ impl<R: Print> Scene<R> for ServerScene {
 }
 
 /// Opens session c.
-fn open_c(alloc: Global, server: &mut Server) -> Told {
+fn open_c(alloc: Global, server: &mut Server) -> Returned {
     match Name::new(b"c") {
-        Some(name) => Told::Answered(b'c', Answer::Opened(open(alloc, server, name))),
-        None => Told::LeftOut,
+        Some(name) => Returned::Answered(b'c', Answer::Opened(open(alloc, server, name))),
+        None => Returned::LeftOut,
     }
 }
 
 /// Carries out a command in session a.
-fn commanded(alloc: Global, server: &mut Server, asked: Command) -> Told {
+fn commanded(alloc: Global, server: &mut Server, asked: Command) -> Returned {
     let reply = command(alloc, server, id_a(), asked);
-    Told::Answered(b'a', Answer::Commanded(reply))
+    Returned::Answered(b'a', Answer::Commanded(reply))
 }
 
 /// Prints how loading a cell ended.

@@ -37,7 +37,7 @@ impl<R: Print> Scene<R> for CheckScene {
         Some(ready?.check(alloc))
     }
 
-    fn tell(
+    fn print(
         &mut self,
         rt: &R,
         _alloc: Global,

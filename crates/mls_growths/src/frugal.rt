@@ -142,7 +142,7 @@ impl<R: Print> Scene<R> for FrugalScene {
         answers
     }
 
-    fn tell(&mut self, rt: &R, alloc: Global, answer: ArrayVec<FrugalAnswer, MOST>) -> Result<()> {
+    fn print(&mut self, rt: &R, alloc: Global, answer: ArrayVec<FrugalAnswer, MOST>) -> Result<()> {
         for made in &answer {
             print_made(rt, alloc, &self.server, *made)?;
         }

@@ -108,7 +108,7 @@ impl<R: Print> Scene<R> for LibraryScene {
         library.load(alloc, pool, tech, b"d", CELL)
     }
 
-    fn tell(&mut self, rt: &R, _alloc: Global, answer: Result<CellId, CellFault>) -> Result<()> {
+    fn print(&mut self, rt: &R, _alloc: Global, answer: Result<CellId, CellFault>) -> Result<()> {
         match answer {
             Ok(_) => println!(rt; "loaded")?,
             Err(fault) => {

@@ -11,6 +11,7 @@ mod checks;
 mod frugal;
 mod libraries;
 mod making;
+mod marks;
 mod ready;
 mod rows;
 mod scene;

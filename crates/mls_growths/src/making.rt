@@ -97,7 +97,7 @@ impl<R: Print> Scene<R> for Making {
         }
     }
 
-    fn tell(&mut self, rt: &R, _alloc: Global, answer: MadeAnswer) -> Result<()> {
+    fn print(&mut self, rt: &R, _alloc: Global, answer: MadeAnswer) -> Result<()> {
         match answer {
             MadeAnswer::Tech(Ok(tech)) => print_tech(rt, &tech),
             MadeAnswer::Tech(Err(fault)) => print_fault(rt, fault),

@@ -9,6 +9,7 @@ use crate::scripts::ScriptScene;
 use crate::seats::{SeatCall, play_at};
 use crate::servers::stocked_server;
 use anyhow::{Context, Result};
+use mls_session::Look;
 use std::alloc::Global;
 use std::marker::Brand;
 use std::sync::Wait;
@@ -50,6 +51,14 @@ a box 0 0 2 10
 b box 0 0 2 10
 b paint m1
 ";
+
+/// Which rules forbid some square of the bar.
+const BAR_WHY: Look = Look::Why {
+    left: 0,
+    bottom: 0,
+    right: 2,
+    top: 10,
+};
 
 /// A bar in session a that takes two pieces, and one in session b.
 const LONG_BAR: &[u8] = b"%open a
@@ -181,6 +190,9 @@ fn row_named(name: &str, number: Option<u8>) -> Option<Row> {
         "server_load" => Row::Load,
         "open" => asks(TWO_BARS, Call::Open),
         "save" => asks(TWO_BARS, Call::Save),
+        "look_save" => asks(TWO_BARS, Call::Look(Look::Save)),
+        "look_why" => asks(TWO_BARS, Call::Look(BAR_WHY)),
+        "look_stat" => asks(TWO_BARS, Call::Look(Look::Status)),
         "why" => asks(TWO_BARS, Call::Why),
         "what" => asks(PLACED, Call::What),
         "grab" => asks(TWO_BARS, Call::Grab),
@@ -191,6 +203,7 @@ fn row_named(name: &str, number: Option<u8>) -> Option<Row> {
         "run" => runs(number),
         "seat" => Row::Seat(SeatCall::Seat),
         "work" => Row::Seat(SeatCall::Work { left_out: number }),
+        "retire" => Row::Seat(SeatCall::Retire),
         "serve" => Row::Serve(number.map_or(usize::MAX, usize::from)),
         "smallest_quota" => Row::Frugal {
             script: OPENED,
@@ -321,6 +334,6 @@ fn take_frugal<R: Print>(
 
 /// Makes a call at a server under a lock.
 fn take_seat<R: Print + Wait>(rt: &R, alloc: Global, asked: SeatCall, calls: u8) -> Result<()> {
-    let server = stocked_server(alloc)?;
+    let server = stocked_server(alloc, 0)?;
     play_at::<Brand, R>(rt, alloc, server, Blank::new(65), asked, calls)
 }

@@ -11,7 +11,7 @@ pub trait Scene<R> {
     fn call(&mut self, rt: &R, alloc: Global, turn: u8) -> Self::Answer;
 
     /// Prints what a call has returned.
-    fn tell(&mut self, rt: &R, alloc: Global, answer: Self::Answer) -> Result<()>;
+    fn print(&mut self, rt: &R, alloc: Global, answer: Self::Answer) -> Result<()>;
 
     /// Prints all that stands.
     fn show(self, rt: &R, alloc: Global) -> Result<()>;
@@ -31,10 +31,10 @@ pub fn play<R: Print, S: Scene<R> + Drop>(
     }
     let answer = scene.call(rt, alloc, 0);
     println!(rt; "done")?;
-    scene.tell(rt, alloc, answer)?;
+    scene.print(rt, alloc, answer)?;
     for turn in 1..calls {
         let answer = scene.call(rt, alloc, turn);
-        scene.tell(rt, alloc, answer)?;
+        scene.print(rt, alloc, answer)?;
     }
     scene.show(rt, alloc)
 }

@@ -84,7 +84,7 @@ impl<R: Print> Scene<R> for ScriptScene {
         })
     }
 
-    fn tell(
+    fn print(
         &mut self,
         rt: &R,
         _alloc: Global,

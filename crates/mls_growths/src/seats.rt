@@ -3,14 +3,16 @@ ghost use Rattle.std.specs.Prelude.{◌≡◌, []};
 ghost use Rattle.mls_server.specs.Servers.{world_of};
 ghost use Rattle.mls_server.specs.Settings.{terms_for};
 
+use crate::marks::{Asked, Window, print_marks};
 use crate::scene::{Scene, play};
 use crate::shown::print_joined;
 use anyhow::Result;
 use crossbeam_channel::Receiver;
-use mls_live::{Live, Naming, Plain, Seat, Worked, work};
+use mls_live::{Live, Naming, Plain, Retired, Seat, Worked, work};
 use mls_server::{Name, NotOpen, OpenFault, Server, SessionId};
 use mls_session::{Command, Reply};
 use std::alloc::Global;
+use std::mem;
 use std::sync::Wait;
 use std::sync::ledger::Blank;
 
@@ -21,6 +23,8 @@ pub enum SeatCall {
     Seat,
     /// Checks the sessions of two notices; first only one, where the other is left out.
     Work { left_out: Option<u8> },
+    /// Audits all seats, and retires them.
+    Retire,
 }
 
 /// What such a call returns.
@@ -28,14 +32,19 @@ pub enum SeatCall {
 pub enum SeatAnswer<'l, N: Naming> {
     Seat(Option<Result<Seat<'l, N>, OpenFault>>),
     Worked(Worked),
+    /// How many seats had the list of the journal, and how the journals stand to the lists.
+    Retired(usize, Retired),
     /// The notices were used up.
     NoNotices,
 }
 
-/// The lower left corner of the bar that is painted at each seat is at 0 0; it is as wide and as high as this.
-const WIDTH: i32 = 1;
-
-const HEIGHT: i32 = 10;
+/// The bar that is painted at each seat.
+const BAR: Window = Window {
+    left: 0,
+    bottom: 0,
+    right: 1,
+    top: 10,
+};
 
 /// The most checks that a worker does in one call.
 const TURNS: u64 = 8;
@@ -47,6 +56,7 @@ struct SeatScene<'l, N: Naming> {
     asked: SeatCall,
     seats: Vec<Seat<'l, N>>,
     notices: Vec<Receiver<SessionId, Global>>,
+    ghost parts: { N.parts ≡ 65 },
 }
 
 /// Makes a call at a server under a lock so many times, and prints its answers and what stands.
@@ -75,13 +85,15 @@ fn play_seated<N: Naming, R: Print + Wait>(
     live: &Live<N>,
     asked: SeatCall,
     calls: u8,
-) -> Result<()> {
+) -> Result<()>
+    requires parts { N.parts ≡ 65 }
+{
     let a = painted(rt, alloc, live, b'a')?;
     let b = painted(rt, alloc, live, b'b')?;
     let ids = [a.id(), b.id()];
     let left_out = match asked {
         SeatCall::Work { left_out } => left_out,
-        SeatCall::Seat => None,
+        SeatCall::Seat | SeatCall::Retire => None,
     };
     let first = notices(rt, alloc, ids, left_out)?;
     let second = notices(rt, alloc, ids, None)?;
@@ -106,13 +118,7 @@ fn painted<'l, N: Naming, R: Wait>(
         Some(opened) => opened?,
         None => anyhow::bail!("no name"),
     };
-    let set = Command::Box {
-        left: 0,
-        bottom: 0,
-        right: WIDTH,
-        top: HEIGHT,
-    };
-    for command in [set, Command::Paint(Some(1))] {
+    for command in [BAR.set(), Command::Paint(Some(1))] {
         let _ = called(rt, alloc, &mut seat, command);
     }
     Ok(seat)
@@ -165,6 +171,13 @@ fn worked<N: Naming, R: Wait>(
     work(rt, alloc, live, notices, &Plain, TURNS)
 }
 
+/// Retires seats.
+fn retired<N: Naming, R: Wait>(rt: &R, live: &Live<N>, seats: Vec<Seat<'_, N>>) -> Retired
+    requires parts { N.parts ≡ 65 }
+{
+    live.retire(rt, seats)
+}
+
 /// Returns notices of sessions, but for the one at this place.
 fn notices<R: Wait>(
     rt: &R,
@@ -183,6 +196,20 @@ fn notices<R: Wait>(
     Ok(from)
 }
 
+impl<'l, N: Naming> SeatScene<'l, N> {
+    /// Audits all seats, and retires them.
+    fn retire<R: Wait>(&mut self, rt: &R, alloc: Global) -> SeatAnswer<'l, N> {
+        let mut alike: usize = 0;
+        for seat in &self.seats {
+            if audited(rt, seat).is_some() {
+                alike = alike.saturating_add(1);
+            }
+        }
+        let seats = mem::replace(&mut self.seats, Vec::new(alloc));
+        SeatAnswer::Retired(alike, retired(rt, self.live, seats))
+    }
+}
+
 impl<'l, N: Naming, R: Print + Wait> Scene<R> for SeatScene<'l, N> {
     type Answer = SeatAnswer<'l, N>;
 
@@ -193,10 +220,11 @@ impl<'l, N: Naming, R: Print + Wait> Scene<R> for SeatScene<'l, N> {
                 Some(notices) => SeatAnswer::Worked(worked(rt, alloc, self.live, notices)),
                 None => SeatAnswer::NoNotices,
             },
+            SeatCall::Retire => self.retire(rt, alloc),
         }
     }
 
-    fn tell(&mut self, rt: &R, _alloc: Global, answer: SeatAnswer<'l, N>) -> Result<()> {
+    fn print(&mut self, rt: &R, _alloc: Global, answer: SeatAnswer<'l, N>) -> Result<()> {
         match answer {
             SeatAnswer::Seat(Some(Ok(seat))) => {
                 println!(rt; "c seat {}", seat.id().number())?;
@@ -206,6 +234,14 @@ impl<'l, N: Naming, R: Print + Wait> Scene<R> for SeatScene<'l, N> {
                 println!(rt; "c refused open {} {}", fault.number(), fault.text())?;
             }
             SeatAnswer::Worked(worked) => print_worked(rt, worked)?,
+            SeatAnswer::Retired(audited, retired) => {
+                let Retired {
+                    entries,
+                    listed,
+                    out,
+                } = retired;
+                println!(rt; "{audited} audited: {entries} entries {listed} listed {out} out")?;
+            }
             SeatAnswer::Seat(None) | SeatAnswer::NoNotices => println!(rt; "nothing")?,
         }
         Ok(())
@@ -246,7 +282,7 @@ fn print_worked<R: Print>(rt: &R, worked: Worked) -> Result<()> {
     Ok(())
 }
 
-/// Prints the list of a seat, its marks and its layout.
+/// Prints the list of a seat, its layout, the number of its marks, and which squares are marked once all is checked.
 fn show_seat<N: Naming, R: Print + Wait>(
     rt: &R,
     alloc: Global,
@@ -267,5 +303,22 @@ fn show_seat<N: Naming, R: Print + Wait>(
     if saved(rt, seat, &mut text).is_ok() {
         print_joined(rt, &text)?;
     }
-    Ok(())
+    let mut at_seat = AtSeat { rt, alloc, seat };
+    at_seat.ask(Command::CatchUp)?;
+    print!(rt; "marks:")?;
+    print_marks(rt, &mut at_seat, BAR)
+}
+
+/// A session at its seat.
+#[derive(Drop)]
+struct AtSeat<'s, 'l, N: Naming, R: Wait> {
+    rt: &'s R,
+    alloc: Global,
+    seat: &'s mut Seat<'l, N>,
+}
+
+impl<N: Naming, R: Wait> Asked for AtSeat<'_, '_, N, R> {
+    fn ask(&mut self, asked: Command) -> Result<Reply> {
+        Ok(called(self.rt, self.alloc, self.seat, asked)?)
+    }
 }

@@ -11,9 +11,9 @@ use mls_edgerule::compile;
 use mls_errorplane::{Outcome, Stepped};
 use mls_library::{CellFault, CellId};
 use mls_server::{Answer, Capacity, Event, GrabFault, Name, NotOpen, OpenFault, Server, SessionId};
-use mls_session::{Command, Job, JournalLimit, Quota, Reply};
+use mls_session::{Command, Job, JournalLimit, Look, Looked, Quota, Reply};
 use mls_tech::{TECHNOLOGY_M, Tech};
-use mls_wire::{Response, ServeFault, Watched, push_response, serve};
+use mls_wire::{Response, ServeFault, Watched, push_looked, push_response, serve};
 use std::alloc::{AllocError, Global};
 
 /// How many tiles a session reserves under the least quota: 69 for each of three planes.
@@ -32,7 +32,7 @@ rect 1 0 4 3
 ";
 
 /// How many tiles the cell takes.
-const CELL_TILES: u32 = 10;
+pub const CELL_TILES: u32 = 10;
 
 /// The first two ids that a server gives.
 pub fn id_a() -> SessionId {
@@ -43,31 +43,33 @@ pub fn id_b() -> SessionId {
     SessionId::of(2)
 }
 
-/// Creates a server with technology M and the least quota, whose pool has room for two cells and four sessions, and no
-/// tile more.
-pub fn new_server(alloc: Global) -> Result<Server>
+/// Creates a server with technology M and the least quota, whose pool has room for one cell and four sessions, and so
+/// many tiles more.
+fn new_server(alloc: Global, more: u32) -> Result<Server>
     ensures { IfOk result (λ server. (world_of server).seats ≡ []) }
 {
-    let capacity = Capacity::new(2 * CELL_TILES + 4 * SESSION).context("no pool")?;
+    let capacity = Capacity::new((CELL_TILES + 4 * SESSION).saturating_add(more)).context(
+        "no pool",
+    )?;
     let quota = Quota::new(5).context("no quota")?;
-    let limit = JournalLimit::new(64).context("no limit")?;
     let tech = Tech::read(alloc, TECHNOLOGY_M)?;
     let rules = compile(&tech)?;
+    let limit = JournalLimit::default();
     Ok(Server::new(alloc, tech, rules, capacity, quota, limit)?)
 }
 
 /// Creates such a server with the cell.
-pub fn stocked_server(alloc: Global) -> Result<Server>
+pub fn stocked_server(alloc: Global, more: u32) -> Result<Server>
     ensures { IfOk result (λ server. (world_of server).seats ≡ []) }
 {
-    let mut server = new_server(alloc)?;
+    let mut server = new_server(alloc, more)?;
     server.load(alloc, CELL_NAME, CELL)?;
     Ok(server)
 }
 
 /// Creates such a server with the cell, and serves a script.
 pub fn server_after(alloc: Global, script: &[u8]) -> Result<Server> {
-    let mut server = stocked_server(alloc)?;
+    let mut server = stocked_server(alloc, 0)?;
     replies(alloc, &mut server, script)?;
     Ok(server)
 }
@@ -126,6 +128,17 @@ pub fn save(server: &mut Server, id: SessionId, out: &mut Vec<u8>) -> Result<Rep
     server.save(id, out)
 }
 
+/// Looks at a session.
+pub fn look(
+    alloc: Global,
+    server: &mut Server,
+    id: SessionId,
+    asked: Look,
+    out: &mut Vec<u8>,
+) -> Result<Looked, NotOpen> {
+    server.look(alloc, id, asked, out)
+}
+
 /// Grabs a job.
 pub fn grab(alloc: Global, server: &mut Server, id: SessionId) -> Result<Option<Job>, GrabFault> {
     server.grab(alloc, id)
@@ -157,6 +170,21 @@ pub fn run(
     events: &[Event],
 ) -> Result<Vec<Answer>, AllocError> {
     server.run(alloc, events)
+}
+
+/// Prints the reply line to a look at a session, without the text that comes with it.
+pub fn print_look<R: Print>(
+    rt: &R,
+    alloc: Global,
+    server: &Server,
+    letter: u8,
+    looked: &Result<Looked, NotOpen>,
+) -> Result<()> {
+    let name = Name::new(&[letter]).context("no name")?;
+    let mut text = Vec::new(alloc);
+    push_looked(server, &name, looked, b"", &mut text)?;
+    rt.write_all(&text)?;
+    Ok(())
 }
 
 /// Prints the reply line of a session's answer.

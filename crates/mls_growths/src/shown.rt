@@ -1,26 +1,39 @@
 //! What stands on a server.
-use crate::servers::{grab, replies};
+use crate::marks::{Asked, Window, print_marks};
+use crate::servers::{command, grab, replies};
 use anyhow::{Context, Result};
 use mls_geom::Rect;
 use mls_server::{GrabFault, Name, Server, SessionId};
+use mls_session::{Command, Reply};
 use std::alloc::Global;
 
 /// The sessions that rows open.
 const LETTERS: [u8; 3] = *b"abc";
 
 /// How many pieces of a session are shown at most.
-const MOST_PIECES: u8 = 4;
+const MOST_PIECES: u8 = 16;
+
+/// Shows the cells that rows load, each by itself in a session.
+const CELLS: &[u8] = b"%open p
+p dump c 0 0
+p save
+p box 0 0 4 4
+p erase poly,m1
+p dump d 0 0
+p save
+";
 
 /// Opens sessions until the pool is full: as many as its unreserved tiles allow.
-const FILL: &[u8] = b"%open p\n%open q\n%open r\n%open s\n%open t\n";
+const FILL: &[u8] = b"%open q\n%open r\n%open s\n%open t\n";
 
-/// Prints all that stands on a server: how many ids were given, each session with its journal, its marks, its layout
-/// and the pieces that await checking, and how many more sessions the pool has room for.
+/// Prints all that stands on a server: how many ids were given, each session with its journal, its layout, its marks
+/// and the pieces that await checking, the cells, and how many more sessions the pool has room for.
 pub fn show_server<R: Print>(rt: &R, alloc: Global, server: &mut Server) -> Result<()> {
     print_ids(rt, server)?;
     for letter in LETTERS {
         show_session(rt, alloc, server, letter)?;
     }
+    print_joined(rt, &replies(alloc, server, CELLS)?)?;
     print_joined(rt, &replies(alloc, server, FILL)?)
 }
 
@@ -48,14 +61,14 @@ fn print_ids<R: Print>(rt: &R, server: &Server) -> Result<()> {
     Ok(())
 }
 
-/// Prints what a session of this name shows, and checks its pieces one after another.
+/// Prints what a session of this name shows, checks its pieces one after another, and prints its marks.
 fn show_session<R: Print>(rt: &R, alloc: Global, server: &mut Server, letter: u8) -> Result<()> {
     let Some(id) = id_of(server, letter)? else {
         return Ok(());
     };
     print_journal(rt, server, letter, id)?;
     let name = char::from(letter);
-    let looks = format!(in alloc; "{name} drc count\n{name} save\n")?;
+    let looks = format!(in alloc; "%stat {name}\n{name} drc count\n{name} save\n")?;
     print_joined(rt, &replies(alloc, server, looks.as_bytes())?)?;
     let step = format!(in alloc; "%step {name}\n{name} drc count\n")?;
     for _ in 0..MOST_PIECES {
@@ -67,7 +80,48 @@ fn show_session<R: Print>(rt: &R, alloc: Global, server: &mut Server, letter: u8
         print!(rt; "{name} piece {left} {bottom} {right} {top}: ")?;
         print_joined(rt, &replies(alloc, server, step.as_bytes())?)?;
     }
-    Ok(())
+    let Some(window) = window_of(server, id)? else {
+        return Ok(());
+    };
+    print!(rt; "{name} marks:")?;
+    print_marks(rt, &mut OnServer { alloc, server, id }, window)
+}
+
+/// A session on a server.
+#[derive(Drop)]
+struct OnServer<'s> {
+    alloc: Global,
+    server: &'s mut Server,
+    id: SessionId,
+}
+
+impl Asked for OnServer<'_> {
+    fn ask(&mut self, asked: Command) -> Result<Reply> {
+        Ok(command(self.alloc, self.server, self.id, asked)?)
+    }
+}
+
+/// Returns the smallest window round all boxes that a session has set, if it has set one.
+fn window_of(server: &Server, id: SessionId) -> Result<Option<Window>> {
+    let mut window: Option<Window> = None;
+    for entry in server.journal(id).context("no journal")? {
+        if let Command::Box {
+            left,
+            bottom,
+            right,
+            top,
+        } = entry.said.command
+        {
+            let set = Window {
+                left,
+                bottom,
+                right,
+                top,
+            };
+            window = Some(window.map_or(set, |so_far| so_far.with(set)));
+        }
+    }
+    Ok(window)
 }
 
 /// Returns the id of the session of this name, if it is open.
