@@ -12,7 +12,6 @@ use mls_live::{Live, Naming, Plain, Retired, Seat, Worked, work};
 use mls_server::{Name, NotOpen, OpenFault, Server, SessionId};
 use mls_session::{Command, Reply};
 use std::alloc::Global;
-use std::mem;
 use std::sync::Wait;
 use std::sync::ledger::Blank;
 
@@ -32,8 +31,6 @@ pub enum SeatCall {
 pub enum SeatAnswer<'l, N: Naming> {
     Seat(Option<Result<Seat<'l, N>, OpenFault>>),
     Worked(Worked),
-    /// How many seats had the list of the journal, and how the journals stand to the lists.
-    Retired(usize, Retired),
     /// The notices were used up.
     NoNotices,
 }
@@ -56,7 +53,6 @@ struct SeatScene<'l, N: Naming> {
     asked: SeatCall,
     seats: Vec<Seat<'l, N>>,
     notices: Vec<Receiver<SessionId, Global>>,
-    ghost parts: { N.parts ≡ 65 },
 }
 
 /// Makes a call at a server under a lock so many times, and prints its answers and what stands.
@@ -93,7 +89,8 @@ fn play_seated<N: Naming, R: Print + Wait>(
     let ids = [a.id(), b.id()];
     let left_out = match asked {
         SeatCall::Work { left_out } => left_out,
-        SeatCall::Seat | SeatCall::Retire => None,
+        SeatCall::Seat => None,
+        SeatCall::Retire => return play_retired(rt, alloc, live, vec![in alloc; a, b]?, calls),
     };
     let first = notices(rt, alloc, ids, left_out)?;
     let second = notices(rt, alloc, ids, None)?;
@@ -105,6 +102,42 @@ fn play_seated<N: Naming, R: Print + Wait>(
         notices: vec![in alloc; second, first]?,
     };
     play(rt, alloc, scene, calls)
+}
+
+/// Retires seats, and then no seat, so many times in all, and prints what this returns and what stands.
+fn play_retired<'l, N: Naming, R: Print + Wait>(
+    rt: &R,
+    alloc: Global,
+    live: &'l Live<N>,
+    seats: Vec<Seat<'l, N>>,
+    calls: u8,
+) -> Result<()>
+    requires parts { N.parts ≡ 65 }
+{
+    println!(rt; "made")?;
+    if calls == 0 {
+        println!(rt; "done")?;
+        return show_seats(rt, alloc, live, seats);
+    }
+    let first = retired(rt, live, seats);
+    println!(rt; "done")?;
+    print_retired(rt, first)?;
+    for _ in 1..calls {
+        print_retired(rt, retired(rt, live, Vec::new(alloc)))?;
+    }
+    show_seats(rt, alloc, live, Vec::new(alloc))
+}
+
+/// Prints how many seats had the list of the journal, and how the journals stand to the lists.
+fn print_retired<R: Print>(rt: &R, retired: (usize, Retired)) -> Result<()> {
+    let (alike, retired) = retired;
+    let Retired {
+        entries,
+        listed,
+        out,
+    } = retired;
+    println!(rt; "{alike} audited: {entries} entries {listed} listed {out} out")?;
+    Ok(())
 }
 
 /// Opens a session, and paints a bar in it.
@@ -171,11 +204,17 @@ fn worked<N: Naming, R: Wait>(
     work(rt, alloc, live, notices, &Plain, TURNS)
 }
 
-/// Retires seats.
-fn retired<N: Naming, R: Wait>(rt: &R, live: &Live<N>, seats: Vec<Seat<'_, N>>) -> Retired
+/// Audits seats, and retires them.
+fn retired<N: Naming, R: Wait>(rt: &R, live: &Live<N>, seats: Vec<Seat<'_, N>>) -> (usize, Retired)
     requires parts { N.parts ≡ 65 }
 {
-    live.retire(rt, seats)
+    let mut alike: usize = 0;
+    for seat in &seats {
+        if audited(rt, seat).is_some() {
+            alike = alike.saturating_add(1);
+        }
+    }
+    (alike, live.retire(rt, seats))
 }
 
 /// Returns notices of sessions, but for the one at this place.
@@ -196,20 +235,6 @@ fn notices<R: Wait>(
     Ok(from)
 }
 
-impl<'l, N: Naming> SeatScene<'l, N> {
-    /// Audits all seats, and retires them.
-    fn retire<R: Wait>(&mut self, rt: &R, alloc: Global) -> SeatAnswer<'l, N> {
-        let mut alike: usize = 0;
-        for seat in &self.seats {
-            if audited(rt, seat).is_some() {
-                alike = alike.saturating_add(1);
-            }
-        }
-        let seats = mem::replace(&mut self.seats, Vec::new(alloc));
-        SeatAnswer::Retired(alike, retired(rt, self.live, seats))
-    }
-}
-
 impl<'l, N: Naming, R: Print + Wait> Scene<R> for SeatScene<'l, N> {
     type Answer = SeatAnswer<'l, N>;
 
@@ -220,7 +245,7 @@ impl<'l, N: Naming, R: Print + Wait> Scene<R> for SeatScene<'l, N> {
                 Some(notices) => SeatAnswer::Worked(worked(rt, alloc, self.live, notices)),
                 None => SeatAnswer::NoNotices,
             },
-            SeatCall::Retire => self.retire(rt, alloc),
+            SeatCall::Retire => SeatAnswer::NoNotices,
         }
     }
 
@@ -234,40 +259,38 @@ impl<'l, N: Naming, R: Print + Wait> Scene<R> for SeatScene<'l, N> {
                 println!(rt; "c refused open {} {}", fault.number(), fault.text())?;
             }
             SeatAnswer::Worked(worked) => print_worked(rt, worked)?,
-            SeatAnswer::Retired(audited, retired) => {
-                let Retired {
-                    entries,
-                    listed,
-                    out,
-                } = retired;
-                println!(rt; "{audited} audited: {entries} entries {listed} listed {out} out")?;
-            }
             SeatAnswer::Seat(None) | SeatAnswer::NoNotices => println!(rt; "nothing")?,
         }
         Ok(())
     }
 
     fn show(self, rt: &R, alloc: Global) -> Result<()> {
-        let SeatScene {
-            live,
-            mut seats,
-            ..
-        } = self;
-        for seat in &mut seats {
-            show_seat(rt, alloc, seat)?;
-        }
-        for letter in *b"pqrst" {
-            match opened(rt, alloc, live, letter) {
-                Some(Ok(seat)) => {
-                    println!(rt; "seat {}", seat.id().number())?;
-                    seats.push(seat)?;
-                }
-                Some(Err(fault)) => println!(rt; "{fault}")?,
-                None => {}
-            }
-        }
-        Ok(())
+        let SeatScene { live, seats, .. } = self;
+        show_seats(rt, alloc, live, seats)
     }
+}
+
+/// Prints what stands at seats, and the ids of as many more as there is room for.
+fn show_seats<'l, N: Naming, R: Print + Wait>(
+    rt: &R,
+    alloc: Global,
+    live: &'l Live<N>,
+    mut seats: Vec<Seat<'l, N>>,
+) -> Result<()> {
+    for seat in &mut seats {
+        show_seat(rt, alloc, seat)?;
+    }
+    for letter in *b"pqrst" {
+        match opened(rt, alloc, live, letter) {
+            Some(Ok(seat)) => {
+                println!(rt; "seat {}", seat.id().number())?;
+                seats.push(seat)?;
+            }
+            Some(Err(fault)) => println!(rt; "{fault}")?,
+            None => {}
+        }
+    }
+    Ok(())
 }
 
 /// Prints what a worker did.
