@@ -22,9 +22,11 @@ impl Plane {
         ensures plane { self.new ≡ self.old }
         ensures scratch_room { scratch.new.room ≡ scratch.old.room }
     {
-        area_into(pool, &self.owner, self.hint, area, &mut scratch.tiles);
+        let corner = area.corner();
+        let from = self.hints.start(pool, &self.owner, corner);
+        area_into(pool, &self.owner, from, area, &mut scratch.tiles);
         if let Some(tile) = scratch.tiles.first() {
-            self.hint = tile.id;
+            self.hints.keep(corner, tile.id);
         }
     }
 
@@ -38,7 +40,7 @@ impl Plane {
     {
         self.list_meeting(pool, area, scratch);
         if let Some(tile) = scratch.tiles.first() {
-            self.hint = tile.id;
+            self.hints.keep(area.corner(), tile.id);
         }
     }
 
@@ -50,7 +52,8 @@ impl Plane {
         ensures found { MeetArea (block_at (tiles_of pool.now self.now)) area scratch.new.tiles }
         ensures scratch_room { scratch.new.room ≡ scratch.old.room }
     {
-        meeting_into(pool, &self.owner, self.hint, area, &mut scratch.tiles);
+        let from = self.hints.start(pool, &self.owner, area.corner());
+        meeting_into(pool, &self.owner, from, area, &mut scratch.tiles);
     }
 
     /// Finds all tiles of the plane, by bottom and then left, and leaves them in the scratch.
@@ -65,6 +68,7 @@ impl Plane {
         ensures scratch_room { scratch.new.room ≡ scratch.old.room }
     {
         let world = Rect::world();
-        area_into(pool, &self.owner, self.hint, world, &mut scratch.tiles);
+        let from = self.hints.start(pool, &self.owner, world.corner());
+        area_into(pool, &self.owner, from, world, &mut scratch.tiles);
     }
 }

@@ -21,8 +21,9 @@ impl Plane {
         ensures plane { self.new ≡ self.old }
     {
         let mut steps = Steps::up_to(usize::MAX);
-        let tile = find_tile(pool, &self.owner, self.hint, at, &mut steps);
-        self.hint = tile.id;
+        let from = self.hints.start(pool, &self.owner, at);
+        let tile = find_tile(pool, &self.owner, from, at, &mut steps);
+        self.hints.keep(at, tile.id);
         tile.id
     }
 }

@@ -7,6 +7,7 @@ mod bounds;
 mod build;
 mod enumeration;
 mod find;
+mod hints;
 mod laid_tile;
 mod lookup;
 mod parts;

@@ -1,15 +1,16 @@
 //! Planes of stitched tiles.
 ghost use Rattle.std.specs.Prelude.{◌≡◌};
 
-use mls_tilepool::{Owner, TileId};
+use crate::hints::Hints;
+use mls_tilepool::Owner;
 use std::marker::Model;
 
 /// A plane of kinds, covered completely by the stitched tiles of one owner in a pool.
 #[derive(Drop)]
 pub struct Plane {
     pub(crate) owner: Owner,
-    // A tile in hand, from which searches start. It may have been removed.
-    pub(crate) hint: TileId,
+    // Tiles from which searches start.
+    pub(crate) hints: Hints,
 }
 
 impl Model for Plane {

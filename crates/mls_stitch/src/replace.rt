@@ -65,7 +65,7 @@ impl Plane {
             &mut scratch.entries,
         );
         place_instead(pool, &self.owner, touched, fresh, &mut scratch.entries);
-        self.hint = scratch.entries.last().map_or(self.hint, |tile| tile.id);
+        self.hints.keep_last(&scratch.entries);
         stitch_listed(pool, &self.owner, &mut scratch.entries);
         Ok(())
     }

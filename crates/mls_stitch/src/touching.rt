@@ -59,7 +59,8 @@ fn list_round_each(
     if are_many(over.len(), pool.count(&plane.owner) as usize) {
         return false;
     }
-    let mut from = plane.hint;
+    let first = over.first().map_or(Rect::world(), |piece| piece.rect);
+    let mut from = plane.hints.start(pool, &plane.owner, first.corner());
     let mut steps = Steps::up_to(turns);
     entries.clear();
     let mut last = None;
@@ -137,6 +138,9 @@ impl Plane {
         list_touched(pool, self, over, turns, tiles, entries);
         scratch.tiles.clear();
         list_all(&scratch.entries, &mut scratch.tiles);
-        self.hint = scratch.tiles.first().map_or(self.hint, |tile| tile.id);
+        if let Some(tile) = scratch.tiles.first() {
+            let first = over.first().map_or(tile.piece.rect, |piece| piece.rect);
+            self.hints.keep(first.corner(), tile.id);
+        }
     }
 }

@@ -89,6 +89,8 @@ IsPool-written capacity reserved old new rows owner row row' is found room space
       within = is.within;
       place_room = omega (arith, is.place_room, space);
       row_room = is.row_room;
+      place_keys = omega (arith, is.place_keys, space);
+      row_keys = is.row_keys;
       tiles = omega (arith, is.tiles, counts, ap count_or found, ap count_or here, len);
       owners = λ other r at.
           elim (cases_eq other owner) [
@@ -200,6 +202,8 @@ IsPool-reserved capacity reserved tiles places rows new owner is vacant updates 
       within = fits;
       place_room = is.place_room;
       row_room = omega (arith, is.row_room, space);
+      place_keys = is.place_keys;
+      row_keys = omega (arith, is.row_keys, space);
       tiles = omega (arith, is.tiles, counts, ap count_or vacant, ap count_or updates.changed);
       owners = λ other r at.
           elim (cases_eq other owner) [
@@ -236,6 +240,8 @@ IsPool-released capacity reserved places rows new owner row is found updates spa
       within = omega (arith, is.within);
       place_room = is.place_room;
       row_room = omega (arith, is.row_room, space);
+      place_keys = is.place_keys;
+      row_keys = omega (arith, is.row_keys, space);
       tiles = omega (arith, is.tiles, counts, ap count_or found, ap count_or updates.changed, (is.owners owner row found).count, empty);
       owners = λ other r at.
           elim (cases_eq other owner) [

@@ -61,12 +61,18 @@ rooms_sum rows = sum_by (λ row. option_map_or (λ r. r.room) row 0) rows
 abbrev pub counts_sum : List (Option Row) → ℕ
 counts_sum rows = sum_by (λ row. option_map_or (λ r. r.count) row 0) rows
 
--- the reserves fit, each row is as it has to be, and each place is an owner's
+-- how many keys there are of 32 bits
+abbrev pub key_limit : ℕ
+key_limit = 4294967296
+
+-- the reserves fit, keys take 32 bits, each row is as it has to be, and each place is an owner's
 pub record IsPool (capacity reserved : ℕ) (places : Slab Place) (rows : Slab Row) : Type 0 where
   pub sum : reserved ≡ rooms_sum rows.slots
   pub within : reserved ≤ capacity
   pub place_room : capacity ≤ places.capacity
   pub row_room : capacity ≤ rows.capacity
+  pub place_keys : places.capacity ≤ key_limit
+  pub row_keys : rows.capacity ≤ key_limit
   pub tiles : slab_len places ≡ counts_sum rows.slots
   pub owners : (owner : ℕ) (row : Row) → get rows owner ≡ Some row → IsRow places.slots owner row
   pub each : (key : ℕ) (place : Place) → get places key ≡ Some place → ContainsKey rows place.owner

@@ -9,10 +9,10 @@ use slab::Slab;
 /// A tile in its place, under its owner, between its neighbours in the list of the owner's tiles.
 #[derive(Clone, Copy)]
 pub(crate) struct Place {
-    pub(crate) owner: usize,
+    pub(crate) owner: u32,
     pub(crate) tile: Tile,
-    pub(crate) previous: Option<usize>,
-    pub(crate) next: Option<usize>,
+    pub(crate) previous: Option<u32>,
+    pub(crate) next: Option<u32>,
 }
 
 /// An owner's reserve, how many tiles it has, and the first of them.
@@ -20,26 +20,26 @@ pub(crate) struct Place {
 pub(crate) struct Row {
     pub(crate) room: u32,
     pub(crate) count: u32,
-    pub(crate) first: Option<usize>,
+    pub(crate) first: Option<u32>,
 }
 
 /// Writes the link back of the place under the key, if there is one.
-pub(crate) fn link_previous(places: &mut Slab<Place>, key: Option<usize>, previous: Option<usize>)
+pub(crate) fn link_previous(places: &mut Slab<Place>, key: Option<u32>, previous: Option<u32>)
     ensures links { Links (λ place. record place { previous = previous }) key places.old places.new }
 {
     if let Some(key) = key {
-        if let Some(place) = places.get_mut(key) {
+        if let Some(place) = places.get_mut(key as usize) {
             place.previous = previous;
         }
     }
 }
 
 /// Writes the link onward of the place under the key, if there is one.
-pub(crate) fn link_next(places: &mut Slab<Place>, key: Option<usize>, next: Option<usize>)
+pub(crate) fn link_next(places: &mut Slab<Place>, key: Option<u32>, next: Option<u32>)
     ensures links { Links (λ place. record place { next = next }) key places.old places.new }
 {
     if let Some(key) = key {
-        if let Some(place) = places.get_mut(key) {
+        if let Some(place) = places.get_mut(key as usize) {
             place.next = next;
         }
     }

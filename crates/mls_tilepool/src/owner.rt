@@ -5,7 +5,7 @@ use std::marker::Model;
 /// tiles of one plane.
 #[derive(Drop)]
 pub struct Owner {
-    pub(crate) number: usize,
+    pub(crate) number: u32,
 }
 
 impl Model for Owner {

@@ -1,6 +1,6 @@
 //! The pool.
 ghost use Rattle.std.specs.Prelude.{◌≡◌, ℕ, ◌+◌, ◌≤◌, ◌<◌, ◌↔◌, [], Some, None, IfOk, IfSome, OnOk, OnErr, IfNone, IsErr, IsSome};
-ghost use Rattle.mls_tilepool.specs.Chains.{OthersKeep};
+ghost use Rattle.mls_tilepool.specs.Chains.{OthersKeep, key_limit};
 ghost use Rattle.mls_tilepool.specs.Pools.{Changes, IsOwner, ListsTiles, Reserves, count_of, room_of, tile_at, tiles_of, unreserved};
 
 use crate::chain::{Place, Row, link_next, link_previous};
@@ -9,6 +9,9 @@ use slab::Slab;
 use std::alloc::{AllocError, Global};
 use std::marker::Model;
 use thiserror::Error;
+
+/// How many keys of 32 bits there are.
+const KEY_LIMIT: u64 = 1 << 32;
 
 /// The pool has fewer unreserved tiles than that.
 #[derive(Clone, Copy, Debug, PartialEq, Eq, Error)]
@@ -42,6 +45,19 @@ impl Model for Pool {
     ghost invariant = { λ p. IsPool p.capacity p.reserved p.places p.rows };
 }
 
+/// Creates a slab with room for `capacity` values, whose keys take 32 bits: memory counts as out where there is room for more.
+fn with_keys<T: Drop>(alloc: Global, capacity: u32) -> Result<Slab<T>, AllocError>
+    ensures empty { IfOk result (λ slab. slab.slots ≡ []) }
+    ensures capacity { IfOk result (λ slab. capacity ≤ slab.capacity) }
+    ensures keys { IfOk result (λ slab. slab.capacity ≤ key_limit) }
+{
+    let slab = Slab::with_capacity(alloc, capacity as usize)?;
+    if slab.capacity() as u64 > KEY_LIMIT {
+        return Err(AllocError);
+    }
+    Ok(slab)
+}
+
 impl Pool {
     /// Creates a pool of `capacity` tiles, none of which is reserved.
     pub fn new(alloc: Global, capacity: u32) -> Result<Pool, AllocError>
@@ -54,8 +70,8 @@ impl Pool {
         Ok(Pool {
             capacity,
             reserved: 0,
-            places: Slab::with_capacity(alloc, capacity as usize)?,
-            rows: Slab::with_capacity(alloc, capacity as usize)?,
+            places: with_keys(alloc, capacity)?,
+            rows: with_keys(alloc, capacity)?,
         })
     }
 
@@ -78,7 +94,7 @@ impl Pool {
         requires { IsOwner self.now owner.now }
         ensures { room_of self.now owner.now ≡ Some result }
     {
-        self.rows[owner.number].room
+        self.rows[owner.number as usize].room
     }
 
     /// Returns how many tiles the owner has.
@@ -87,7 +103,7 @@ impl Pool {
         ensures value { result ≡ count_of self.now owner.now }
         ensures within { IfSome (room_of self.now owner.now) (λ room. result ≤ room) }
     {
-        self.rows[owner.number].count
+        self.rows[owner.number as usize].count
     }
 
     /// Returns the name of one of the owner's tiles, if it has any.
@@ -96,7 +112,7 @@ impl Pool {
         ensures some { IfSome result (λ id. IsSome (tile_at self.now owner.now id)) }
         ensures none { IfNone result (tiles_of self.now owner.now ≡ []) }
     {
-        let key = self.rows[owner.number].first?;
+        let key = self.rows[owner.number as usize].first?;
         Some(TileId { key })
     }
 
@@ -119,7 +135,7 @@ impl Pool {
             room: tiles,
             count: 0,
             first: None,
-        });
+        }) as u32;
         self.reserved += tiles;
         Ok(Owner { number })
     }
@@ -132,7 +148,7 @@ impl Pool {
             (λ room. unreserved self.new ≡ unreserved self.old + room) }
     {
         self.clear(&owner);
-        let row = self.rows.remove(owner.number);
+        let row = self.rows.remove(owner.number as usize);
         self.reserved -= row.room;
     }
 
@@ -158,7 +174,7 @@ impl Pool {
         ensures count { OnOk result (count_of self.new owner.now ≡ count_of self.old owner.now + 1) }
         ensures refused { OnErr result (self.new ≡ self.old) }
     {
-        let row = self.rows[owner.number];
+        let row = self.rows[owner.number as usize];
         if row.count == row.room {
             return Err(NoRoom);
         }
@@ -167,9 +183,9 @@ impl Pool {
             tile,
             previous: None,
             next: row.first,
-        });
+        }) as u32;
         link_previous(&mut self.places, row.first, Some(key));
-        self.rows[owner.number] = Row {
+        self.rows[owner.number as usize] = Row {
             room: row.room,
             count: row.count + 1,
             first: Some(key),
@@ -181,7 +197,7 @@ impl Pool {
     pub fn get(&self, owner: &Owner, id: TileId) -> Option<Tile>
         ensures { result ≡ tile_at self.now owner.now id }
     {
-        let place = self.places.get(id.key)?;
+        let place = self.places.get(id.key as usize)?;
         if place.owner == owner.number {
             Some(place.tile)
         } else {
@@ -195,7 +211,7 @@ impl Pool {
         ensures changes { Changes self.old self.new owner.now id (Some tile) }
         ensures count { count_of self.new owner.now ≡ count_of self.old owner.now }
     {
-        self.places[id.key].tile = tile;
+        self.places[id.key as usize].tile = tile;
     }
 
     /// Removes a tile of the owner's, and returns it.
@@ -205,15 +221,15 @@ impl Pool {
         ensures changes { Changes self.old self.new owner.now id None }
         ensures count { count_of self.new owner.now + 1 ≡ count_of self.old owner.now }
     {
-        let place = self.places.remove(id.key);
+        let place = self.places.remove(id.key as usize);
         link_next(&mut self.places, place.previous, place.next);
         link_previous(&mut self.places, place.next, place.previous);
-        let row = self.rows[owner.number];
+        let row = self.rows[owner.number as usize];
         let first = match place.previous {
             Some(_) => row.first,
             None => place.next,
         };
-        self.rows[owner.number] = Row {
+        self.rows[owner.number as usize] = Row {
             room: row.room,
             count: row.count - 1,
             first,
@@ -226,7 +242,7 @@ impl Pool {
         requires { IsOwner self.now owner.now }
         ensures { ListsTiles self.now owner.now result }
     {
-        let row = self.rows[owner.number];
+        let row = self.rows[owner.number as usize];
         Tiles::new(&self.places, row.count, row.first)
     }
 }

@@ -5,7 +5,7 @@ use std::marker::Model;
 /// The name of a tile in its pool, as long as the tile lies there.
 #[derive(Clone, Copy, Debug, PartialEq, Eq)]
 pub struct TileId {
-    pub(crate) key: usize,
+    pub(crate) key: u32,
 }
 
 impl Model for TileId {
@@ -25,7 +25,7 @@ impl TileId {
     pub fn key(self) -> usize
         ensures { result ≡ self }
     {
-        self.key
+        self.key as usize
     }
 }
 

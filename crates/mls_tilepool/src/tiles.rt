@@ -9,7 +9,7 @@ use std::marker::Model;
 pub struct Tiles<'a> {
     places: &'a Slab<Place>,
     left: u32,
-    next: Option<usize>,
+    next: Option<u32>,
 }
 
 impl<'a> Model for Tiles<'a> {
@@ -26,7 +26,7 @@ impl<'a> Tiles<'a> {
     ghost use Rattle.std.specs.Prelude.{◌≡◌};
     ghost use Rattle.mls_tilepool.specs.Chains.{tiles_from};
 
-    pub(crate) fn new(places: &'a Slab<Place>, left: u32, next: Option<usize>) -> Tiles<'a>
+    pub(crate) fn new(places: &'a Slab<Place>, left: u32, next: Option<u32>) -> Tiles<'a>
         ensures { result ≡ tiles_from places.now.slots left next }
     {
         Tiles { places, left, next }
@@ -47,7 +47,7 @@ impl Iterator for Tiles<'_> {
             return None;
         }
         let key = self.next?;
-        let place = self.places.get(key)?;
+        let place = self.places.get(key as usize)?;
         self.left -= 1;
         self.next = place.next;
         Some((TileId { key }, place.tile))

@@ -80,3 +80,6 @@ returns-clause-count c =
     (count_of-added s.capacity s.reserved s.places s.rows owner row c.self.invariant c.index-row.ensures done.new.self
     c.link_previous.new.places done.result c.args.tile done.ensures.was_vacant done.ensures.updates c.link_previous.ensures.links
     (omega (arith, c.if-row.false, (c.self.invariant.owners owner row c.index-row.ensures).within)) done.ensures.len done.ensures.capacity)
+
+pub overflow_cast-key : goal.overflow_cast-key
+overflow_cast-key c = omega (arith, c.self.invariant.place_keys, c.insert_reserved-key.ensures.key_in_range, c.insert_reserved-key.ensures.capacity)

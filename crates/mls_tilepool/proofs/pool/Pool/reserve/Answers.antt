@@ -43,3 +43,6 @@ returns-clause-taken c =
     rw (← c.self.view_is)
     (unreserved-reserved s.capacity s.reserved s.places s.rows done.new.self done.result c.self.invariant c.args.tiles done.ensures.was_vacant done.ensures.updates
     done.ensures.capacity c.requires (omega (arith, c.if-left-tiles.false, c.self.invariant.within)))
+
+pub overflow_cast-number : goal.overflow_cast-number
+overflow_cast-number c = omega (arith, c.self.invariant.row_keys, c.insert_reserved-number.ensures.key_in_range, c.insert_reserved-number.ensures.capacity)
