@@ -99,14 +99,18 @@ not_common : (extent r : Rect) (x y : ℕ) → has_squares (common r extent) ≡
 not_common e r x y none inside =
     false_from_ne_true (holds r x y) (λ here. both_ways (has_squares (common r e)) none (has_squares-holds (common r e) x y (sym (in_common e r x y inside) ∙ here)))
 
--- a rectangle has no more squares in an extent than the lines of their common squares say
+-- a rectangle has as many squares in an extent as the lines of their common squares say, if there are any
+pub count_in-meeting : (extent r : Rect) → has_squares (common r extent) ≡ true → count_in extent (holds r) ≡ size_of (common r extent)
+count_in-meeting e r some =
+    let lines = has_squares_lines (common r e) some in
+    let same : count_in e (holds r) ≡ count_in e (holds (common r e)) = count_in-agree e (holds r) (holds (common r e)) (λ x y inside. in_common e r x y inside) in
+    let legal : IsRectangleIn e (common r e) = record { left_in = omega arith; wide = lines.0; right_in = omega arith; bottom_in = omega arith; tall = lines.1; top_in = omega arith } in
+    same ∙ count_in-rect e (common r e) legal
+
+-- and no more where there are none
 pub count_in-common : (extent r : Rect) → count_in extent (holds r) ≤ size_of (common r extent)
 count_in-common e r = elim (cases_Bool (has_squares (common r e))) [
-  | inl some ↦ (let lines = has_squares_lines (common r e) some in
-      let same : count_in e (holds r) ≡ count_in e (holds (common r e)) = count_in-agree e (holds r) (holds (common r e)) (λ x y inside. in_common e r x y inside) in
-      let legal : IsRectangleIn e (common r e) = record { left_in = omega arith; wide = lines.0; right_in = omega arith; bottom_in = omega arith; tall = lines.1; top_in = omega arith } in
-      let size : count_in e (holds (common r e)) ≡ size_of (common r e) = count_in-rect e (common r e) legal in
-      le-same (count_in e (holds r)) (size_of (common r e)) (same ∙ size))
+  | inl some ↦ le-same (count_in e (holds r)) (size_of (common r e)) (count_in-meeting e r some)
   | inr none ↦ le-none (count_in e (holds r)) (size_of (common r e)) (count_in-agree e (holds r) (λ x y. false) (λ x y inside. not_common e r x y none inside) ∙ count_in-none e)
 ]
 

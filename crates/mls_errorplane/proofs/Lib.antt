@@ -5,12 +5,15 @@ pub mod CoveredOnce
 pub mod DirtySquares
 pub mod EmptyLayouts
 pub mod FinishedFindings
+pub mod FoundCounts
 pub mod KeptLists
 pub mod KeptRooms
 pub mod MarkCounts
 pub mod PaintedAreas
 pub mod PaintedPieces
 pub mod RangeSums
+pub mod RectCounts
+pub mod Recounts
 pub mod ShownMarks
 pub mod SquareCounts
 pub mod StepsDone

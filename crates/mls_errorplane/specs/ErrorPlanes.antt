@@ -10,13 +10,14 @@ use Rattle.mls_tilepool.specs.Pools.{Pool}
 use Rattle.mls_paint.specs.Planes.{HasStrips, picture_in}
 use Rattle.mls_checker.specs.Marking.{SquareSet}
 use Rattle.mls_errorplane.specs.Checkings.{Checking, check_step}
-use Rattle.mls_errorplane.specs.MarkPlanes.{is_marked}
+use Rattle.mls_errorplane.specs.MarkPlanes.{is_marked, marked_count}
 use Rattle.mls_errorplane.specs.declared.error_plane.Stepped.{Stepped}
 use Rattle.mls_errorplane.specs.declared.error_plane.Stepped.TheVariants.{Idle, Done, Full, Memory}
 
--- the owner of the plane's tiles, and the areas
+-- the owner of the plane's tiles, how many squares are marked, and the areas
 pub record ErrorPlane : Type 0 where
   pub owner : ℕ
+  pub marked : ℕ
   pub dirty : List Rect
 
 -- kind 1 where the set has the square, and kind 0 elsewhere
@@ -27,10 +28,11 @@ marks_picture set x y = if set x y then 1 else 0
 abbrev pub checking_of : Pool → ErrorPlane → Checking
 checking_of pool errors = record { marks = is_marked (picture_in pool errors.owner); dirty = errors.dirty }
 
--- the plane is in maximal strips, and shows marks and nothing else
-pub record ShowsMarks (pool : Pool) (owner : ℕ) : Type 0 where
-  pub strips : HasStrips pool owner
-  pub marks : picture_in pool owner ≡ marks_picture (is_marked (picture_in pool owner))
+-- the plane is in maximal strips, and shows marks and nothing else, as many as were counted
+pub record ShowsMarks (pool : Pool) (errors : ErrorPlane) : Type 0 where
+  pub strips : HasStrips pool errors.owner
+  pub marks : picture_in pool errors.owner ≡ marks_picture (is_marked (picture_in pool errors.owner))
+  pub counted : errors.marked ≡ marked_count world (picture_in pool errors.owner)
 
 -- an error plane with these marks would have more tiles than the limit
 abbrev pub exceeds : ℕ → SquareSet → Bool

@@ -3,8 +3,7 @@
 use Rattle.std.specs.Prelude.{ℕ, ◌+◌, Bool, not, ◌==◌, if◌then◌else◌}
 use Rattle.std.specs.List.{count_by, sum_by}
 use Rattle.mls_geom.specs.Pictures.{Picture, columns, rows}
-use Rattle.mls_geom.specs.Rects.{Rect, holds, size_of}
-use Rattle.mls_geom.specs.declared.piece.Piece.{Piece}
+use Rattle.mls_geom.specs.Rects.{Rect, holds}
 use Rattle.mls_checker.specs.Marking.{SquareSet, runs_of_rows}
 
 -- the square is marked
@@ -22,7 +21,3 @@ most_pieces rect = 1 + runs_of_rows rect
 -- the number of marked squares, counted square by square
 unfoldable pub marked_count : Rect → Picture → ℕ
 marked_count extent picture = sum_by (λ y. count_by (λ x. is_marked picture x y) (columns extent)) (rows extent)
-
--- how many marked squares a piece has
-abbrev pub marked_size : Piece → ℕ
-marked_size piece = if piece.kind == 0 then 0 else size_of piece.rect

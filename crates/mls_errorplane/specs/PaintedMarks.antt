@@ -21,6 +21,10 @@ abbrev pub IsSettled : Rect → SquareSet → LaidTile → Type 0
 IsSettled rect set tile =
     (x y : ℕ) → holds rect x y ≡ true → holds tile.piece.rect x y ≡ true → tile.piece.kind ≢ 0 → (tile.piece.kind ≡ 1) × (set x y ≡ true)
 
+-- how many marked squares of the rectangle a tile has
+abbrev pub marked_part : Rect → LaidTile → ℕ
+marked_part rect tile = if tile.piece.kind == 0 then 0 else size_of (common tile.piece.rect rect)
+
 -- how many squares of the rectangle a tile of space has, and none any other
 abbrev pub space_size : Rect → LaidTile → ℕ
 space_size rect tile = if tile.piece.kind == 0 then size_of (common tile.piece.rect rect) else 0

@@ -43,13 +43,13 @@ impl ErrorPlane {
         requires cells { HasCells workspace.old.pool (length planes.old) basis.now.uses.library.now }
         requires cells_apart { All (λ cell. All (λ owner. ¬ (Contains (self.old.owner ∷ []) owner)) cell.planes)
             basis.now.uses.library.now }
-        requires marks { ShowsMarks workspace.old.pool self.old.owner }
+        requires marks { ShowsMarks workspace.old.pool self.old }
         requires marks_fit { FitsWorkspace workspace.old.pool self.old.owner }
         requires limit { IfSome (room_of workspace.old.pool self.old.owner) (λ room. limit ≤ room) }
         ensures caught_up { HasCaughtUp basis.now.rules.now
             (flat_layout workspace.old.pool basis.now.uses planes.old) limit
             (checking_of workspace.old.pool self.old) result (checking_of workspace.new.pool self.new) }
-        ensures marks { ShowsMarks workspace.new.pool self.new.owner }
+        ensures marks { ShowsMarks workspace.new.pool self.new }
         ensures only { ChangesOnly workspace.old.pool workspace.new.pool self.old.owner }
         ensures owner { self.new.owner ≡ self.old.owner }
         ensures owners { planes.new ≡ planes.old }

@@ -81,6 +81,17 @@ impl Dirty {
         drop_piece(&mut self.areas);
     }
 
+    /// Copies the areas, in their order.
+    pub fn to_vec(&self, alloc: Global) -> Result<Vec<Rect>, AllocError>
+        ensures { IfOk result (λ areas. areas.items ≡ self.now) }
+    {
+        let (first, last) = self.areas.as_slices();
+        let mut areas = Vec::with_capacity(alloc, self.areas.len())?;
+        areas.extend_from_slice(first)?;
+        areas.extend_from_slice(last)?;
+        Ok(areas)
+    }
+
     /// Returns how many areas there are.
     pub fn len(&self) -> usize
         ensures value { result ≡ length self.now }

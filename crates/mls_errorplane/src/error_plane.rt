@@ -1,9 +1,10 @@
 //! Checking a layout piece by piece, after it was edited.
-ghost use Rattle.std.specs.Prelude.{◌≡◌, ◌≤◌, ◌↔◌, ℕ, true, IfOk, IfSome, IsTrue, OnErr, OnOk, ◌+◌, [], ◌∷◌, length};
+ghost use Rattle.std.specs.Prelude.{◌≡◌, ◌≤◌, ◌↔◌, ℕ, true, IfOk, IfSome, IsTrue, OnErr, OnOk, ◌+◌, ◌-◌, [], ◌∷◌, length};
 ghost use Rattle.std.specs.List.{All};
 ghost use Rattle.mls_checker.specs.Forbids.{forbidden};
 ghost use Rattle.mls_checker.specs.Marking.{marks, no_squares};
-ghost use Rattle.mls_geom.specs.Rects.{holds};
+ghost use Rattle.mls_geom.specs.Rects.{holds, size_of};
+ghost use Rattle.mls_geom.specs.StripLists.{strips_of};
 ghost use Rattle.mls_geom.specs.TileCounts.{tile_count};
 ghost use Rattle.mls_geom.specs.World.{world};
 ghost use Rattle.mls_layout.specs.Uses.{HasCells, flat_layout};
@@ -17,7 +18,7 @@ ghost use Rattle.mls_errorplane.specs.Checkings.{soiled};
 ghost use Rattle.mls_errorplane.specs.DirtyLists.{IsDirtyList};
 ghost use Rattle.mls_errorplane.specs.MarkPlanes.{marked_count, most_pieces};
 
-use crate::{Basis, Dirty, count, mark};
+use crate::{Basis, Dirty, Recount, mark};
 use mls_checker::{Finding, Snapshot, check};
 use mls_edgerule::Rules;
 use mls_geom::Rect;
@@ -56,6 +57,8 @@ pub enum Outcome {
 #[derive(Drop)]
 pub struct ErrorPlane {
     pub(crate) plane: Plane,
+    // How many squares are marked.
+    marked: u64,
     pub(crate) dirty: Dirty,
 }
 
@@ -64,7 +67,7 @@ impl Model for ErrorPlane {
 
     ghost Value = { ErrorPlane };
 
-    ghost view = { λ e. record { owner = e.plane; dirty = e.dirty } };
+    ghost view = { λ e. record { owner = e.plane; marked = e.marked; dirty = e.dirty } };
 }
 
 impl ErrorPlane {
@@ -77,14 +80,18 @@ impl ErrorPlane {
     pub fn new(dirty: Dirty, reserve: u32, workspace: &mut Workspace) -> ErrorPlane
         requires some { 1 ≤ reserve }
         requires room { reserve ≤ unreserved workspace.old.pool }
-        ensures marks { ShowsMarks workspace.new.pool result.owner }
+        ensures marks { ShowsMarks workspace.new.pool result }
         ensures begins { checking_of workspace.new.pool result ≡ record { marks = no_squares; dirty = dirty } }
         ensures added { AddsOwner workspace.old.pool workspace.new.pool result.owner reserve }
         ensures taken { unreserved workspace.new.pool + reserve ≡ unreserved workspace.old.pool }
     {
         let Workspace { pool, scratch, .. } = workspace;
         let plane = space_plane(pool, reserve, scratch).unwrap();
-        ErrorPlane { plane, dirty }
+        ErrorPlane {
+            plane,
+            marked: 0,
+            dirty,
+        }
     }
 
     /// Adds a rectangle that was edited, and the squares round it that the rules can tell from it, to the areas that
@@ -93,6 +100,7 @@ impl ErrorPlane {
         ensures added { (pool : Pool) → checking_of pool self.new
             ≡ soiled rules.now rect (checking_of pool self.old) }
         ensures owner { self.new.owner ≡ self.old.owner }
+        ensures marked { self.new.marked ≡ self.old.marked }
     {
         self.dirty.add(rect, rules.halo());
     }
@@ -111,13 +119,13 @@ impl ErrorPlane {
         requires planes { All (HasPlane workspace.old.pool) planes.old }
         requires planes_fit { All (FitsWorkspace workspace.old.pool) planes.old }
         requires cells { HasCells workspace.old.pool (length planes.old) basis.now.uses.library.now }
-        requires marks { ShowsMarks workspace.old.pool self.old.owner }
+        requires marks { ShowsMarks workspace.old.pool self.old }
         requires marks_fit { FitsWorkspace workspace.old.pool self.old.owner }
         requires limit { IfSome (room_of workspace.old.pool self.old.owner) (λ room. limit ≤ room) }
         ensures stepped { HasStepped basis.now.rules.now
             (flat_layout workspace.old.pool basis.now.uses planes.old) limit
             (checking_of workspace.old.pool self.old) result (checking_of workspace.new.pool self.new) }
-        ensures marks { ShowsMarks workspace.new.pool self.new.owner }
+        ensures marks { ShowsMarks workspace.new.pool self.new }
         ensures same { UnlessDone result ((self.new ≡ self.old) × (workspace.new.pool ≡ workspace.old.pool)) }
         ensures only { ChangesOnly workspace.old.pool workspace.new.pool self.old.owner }
         ensures owner { self.new.owner ≡ self.old.owner }
@@ -135,9 +143,10 @@ impl ErrorPlane {
             pieces,
             ..
         } = workspace;
-        let Ok(_) = mark(pool, &mut self.plane, &finding, limit, pieces, scratch) else {
+        let Ok(recount) = mark(pool, &mut self.plane, &finding, limit, pieces, scratch) else {
             return Stepped::Full;
         };
+        self.marked = recounted(self.marked, recount);
         self.dirty.drop_piece();
         Stepped::Done
     }
@@ -160,13 +169,13 @@ impl ErrorPlane {
         requires planes { All (HasPlane workspace.old.pool) planes.old }
         requires planes_fit { All (FitsWorkspace workspace.old.pool) planes.old }
         requires cells { HasCells workspace.old.pool (length planes.old) basis.now.uses.library.now }
-        requires marks { ShowsMarks workspace.old.pool self.old.owner }
+        requires marks { ShowsMarks workspace.old.pool self.old }
         requires marks_fit { FitsWorkspace workspace.old.pool self.old.owner }
         requires limit { IfSome (room_of workspace.old.pool self.old.owner) (λ room. limit ≤ room) }
         ensures finished { HasFinished basis.now.rules.now (length planes.old)
             (flat_layout workspace.old.pool basis.now.uses planes.old) limit
             (checking_of workspace.old.pool self.old) finding.now result (checking_of workspace.new.pool self.new) }
-        ensures marks { ShowsMarks workspace.new.pool self.new.owner }
+        ensures marks { ShowsMarks workspace.new.pool self.new }
         ensures same { UnlessFinished result ((self.new ≡ self.old) × (workspace.new.pool ≡ workspace.old.pool)) }
         ensures only { ChangesOnly workspace.old.pool workspace.new.pool self.old.owner }
         ensures owner { self.new.owner ≡ self.old.owner }
@@ -181,9 +190,10 @@ impl ErrorPlane {
             pieces,
             ..
         } = workspace;
-        let Ok(_) = mark(pool, &mut self.plane, finding, limit, pieces, scratch) else {
+        let Ok(recount) = mark(pool, &mut self.plane, finding, limit, pieces, scratch) else {
             return Outcome::Full;
         };
+        self.marked = recounted(self.marked, recount);
         self.dirty.drop_piece();
         Outcome::Finished
     }
@@ -217,18 +227,15 @@ impl ErrorPlane {
     }
 
     /// Returns how many squares are marked.
-    pub fn marked(&self, pool: &Pool, scratch: &mut Scratch) -> u64
-        requires strips { HasStrips pool.now self.now.owner }
-        requires room { HasRoomFor pool.now self.now.owner scratch.old }
-        ensures value { result ≡ marked_count world (picture_in pool.now self.now.owner) }
-        ensures rooms { KeepsRoom scratch.old scratch.new }
+    pub fn marked(&self) -> u64
+        ensures { result ≡ self.now.marked }
     {
-        count(pool, &self.plane, scratch)
+        self.marked
     }
 
     /// Returns how many tiles the plane has.
     pub fn tiles(&self, pool: &Pool) -> u32
-        requires { ShowsMarks pool.now self.now.owner }
+        requires { ShowsMarks pool.now self.now }
         ensures { result ≡ tile_count world (marks_picture (checking_of pool.now self.now).marks) }
     {
         tile_count(pool, &self.plane)
@@ -250,6 +257,34 @@ impl ErrorPlane {
     {
         self.dirty.len()
     }
+
+    /// Copies the areas that await checking, those to be checked first before others.
+    pub fn copy_areas(&self, alloc: Global) -> Result<Vec<Rect>, AllocError>
+        ensures { IfOk result (λ areas. areas.items ≡ self.now.dirty) }
+    {
+        self.dirty.to_vec(alloc)
+    }
+
+    /// Lists the maximal strips of the marks, and of the squares without marks, in the workspace's list of pieces, by
+    /// bottom and then left. Marks have kind 1, other squares kind 0. No memory is taken.
+    pub fn list_marks(&self, workspace: &mut Workspace)
+        requires marks { ShowsMarks workspace.old.pool self.now }
+        requires marks_fit { FitsWorkspace workspace.old.pool self.now.owner }
+        ensures strips { workspace.new.pieces.items
+            ≡ strips_of world (marks_picture (checking_of workspace.old.pool self.now).marks) }
+        ensures pool { workspace.new.pool ≡ workspace.old.pool }
+    {
+        workspace.list_strips(&self.plane);
+    }
+}
+
+/// Returns how many squares are marked, once those of a piece were marked anew.
+fn recounted(marked: u64, recount: Recount) -> u64
+    requires before { recount.before ≤ marked }
+    requires few { (marked - recount.before) + recount.after ≤ size_of world }
+    ensures { result + recount.before ≡ marked + recount.after }
+{
+    marked - recount.before + recount.after
 }
 
 /// Finds the squares of a piece that the rules forbid in the layout on these planes with the uses.

@@ -9,7 +9,7 @@ ghost use Rattle.mls_errorplane.specs.Jobs.{HasGrabbed};
 
 use crate::{Basis, ErrorPlane};
 use mls_checker::Snapshot;
-use mls_edgerule::Rules;
+use mls_edgerule::BoxedRules;
 use mls_geom::Rect;
 use mls_layout::Workspace;
 use mls_stitch::Plane;
@@ -23,7 +23,7 @@ pub struct Job {
     /// The layout in the piece's zone: the piece grown by the rules' halo, inside the world.
     pub snapshot: Snapshot,
     /// The rules to check it by.
-    pub rules: Rules,
+    pub rules: BoxedRules,
 }
 
 impl ErrorPlane {
@@ -55,7 +55,7 @@ impl ErrorPlane {
         Ok(Some(Job {
             piece,
             snapshot,
-            rules: *basis.rules,
+            rules: BoxedRules::copy_of(alloc, basis.rules)?,
         }))
     }
 }

@@ -18,6 +18,6 @@ pub use catching_up::CaughtUp;
 pub use dirty::Dirty;
 pub use error_plane::{ErrorPlane, Outcome, Stepped};
 pub use job::Job;
-pub use marks::{count, mark};
+pub use marks::{Recount, mark};
 pub use opening::opening_areas;
 pub use violated::why;

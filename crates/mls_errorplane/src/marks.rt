@@ -1,22 +1,35 @@
 //! Marks on error planes.
-ghost use Rattle.std.specs.Prelude.{◌≡◌, ◌<◌, ◌≤◌, ◌↔◌, IfSome, IsErr, OnErr, OnOk, vec_capacity};
+ghost use Rattle.std.specs.Prelude.{◌≡◌, ◌+◌, ◌<◌, ◌≤◌, ◌↔◌, IfOk, IfSome, IsErr, OnErr, OnOk, vec_capacity};
 ghost use Rattle.mls_checker.specs.Findings.{IsExact};
 ghost use Rattle.mls_checker.specs.Marking.{marks};
+ghost use Rattle.mls_geom.specs.Rects.{IsRectangleIn};
 ghost use Rattle.mls_geom.specs.TileCounts.{tile_count};
 ghost use Rattle.mls_geom.specs.World.{world};
 ghost use Rattle.mls_paint.specs.Planes.{HasStrips, picture_in};
 ghost use Rattle.mls_paint.specs.Scratches.{HasRoomFor, KeepsRoom};
-ghost use Rattle.mls_stitch.specs.Tilings.{ChangesOnly};
+ghost use Rattle.mls_stitch.specs.Tilings.{ChangesOnly, HasPlane};
 ghost use Rattle.mls_tilepool.specs.Pools.{room_of};
-ghost use Rattle.mls_errorplane.specs.MarkPlanes.{marked_count, marked_size, most_pieces, remarked};
+ghost use Rattle.mls_errorplane.specs.MarkPlanes.{marked_count, most_pieces, remarked};
+ghost use Rattle.mls_errorplane.specs.PaintedMarks.{marked_part};
 
+use crate::dirty::lies_in_world;
 use crate::mark_pieces::list_pieces;
 use crate::shown_marks::show;
 use mls_checker::Finding;
-use mls_geom::Piece;
-use mls_paint::{Scratch, TooManyTiles, find_meeting, overlay, strips_of, tile_count};
-use mls_stitch::Plane;
+use mls_geom::{Piece, Rect};
+use mls_paint::{Scratch, TooManyTiles, find_area, find_meeting, overlay, tile_count};
+use mls_stitch::{LaidTile, Plane};
 use mls_tilepool::Pool;
+
+/// How many squares of a piece were marked before it was marked anew, and how many are now. Both are 0 where nothing
+/// was painted.
+#[derive(Clone, Copy, Debug, PartialEq, Eq)]
+pub struct Recount {
+    /// How many squares were marked.
+    pub before: u64,
+    /// How many squares are marked.
+    pub after: u64,
+}
 
 /// Marks the squares of a finding's piece as the finding says, and leaves all other squares as they are.
 ///
@@ -32,7 +45,7 @@ pub fn mark(
     limit: u32,
     pieces: &mut Vec<Piece>,
     scratch: &mut Scratch,
-) -> Result<(), TooManyTiles>
+) -> Result<Recount, TooManyTiles>
     requires strips { HasStrips pool.old plane.old }
     requires limit { IfSome (room_of pool.old plane.old) (λ room. limit ≤ room) }
     requires room { HasRoomFor pool.old plane.old scratch.old }
@@ -44,6 +57,9 @@ pub fn mark(
     ensures too_many { IsErr result
         ↔ (limit < tile_count world (remarked (picture_in pool.old plane.old) finding.now.piece
         (marks finding.now.marks))) }
+    ensures recount { IfOk result (λ recount. marked_count world (picture_in pool.new plane.old) + recount.before
+        ≡ marked_count world (picture_in pool.old plane.old) + recount.after) }
+    ensures few { IfOk result (λ recount. recount.before ≤ marked_count world (picture_in pool.old plane.old)) }
     ensures refused { OnErr result (pool.new ≡ pool.old) }
     ensures strips { HasStrips pool.new plane.old }
     ensures only { ChangesOnly pool.old pool.new plane.old }
@@ -52,47 +68,58 @@ pub fn mark(
     ensures rooms { KeepsRoom scratch.old scratch.new }
 {
     let found = finding.marks();
-    find_meeting(pool, plane, found.rect(), scratch);
+    let rect = found.rect();
+    find_meeting(pool, plane, rect, scratch);
     if show(scratch.tiles(), found) {
         return keep(pool, plane, limit);
     }
     list_pieces(found, pieces);
+    let before = marked_in(pool, plane, rect, scratch);
     overlay(pool, plane, pieces, limit, scratch)?;
-    Ok(())
+    let after = marked_in(pool, plane, rect, scratch);
+    Ok(Recount { before, after })
 }
 
-/// Fails if the plane has more than `limit` tiles.
-fn keep(pool: &Pool, plane: &Plane, limit: u32) -> Result<(), TooManyTiles>
+/// Counts nothing. Fails if the plane has more than `limit` tiles.
+fn keep(pool: &Pool, plane: &Plane, limit: u32) -> Result<Recount, TooManyTiles>
     requires { HasStrips pool.now plane.now }
-    ensures { IsErr result ↔ (limit < tile_count world (picture_in pool.now plane.now)) }
+    ensures too_many { IsErr result ↔ (limit < tile_count world (picture_in pool.now plane.now)) }
+    ensures same { IfOk result (λ recount. recount ≡ record { before = 0; after = 0 }) }
 {
     if tile_count(pool, plane) > limit {
         return Err(TooManyTiles);
     }
-    Ok(())
+    Ok(Recount {
+        before: 0,
+        after: 0,
+    })
 }
 
-/// Returns how many squares of an error plane are marked, which are those of another kind than 0.
-pub fn count(pool: &Pool, plane: &Plane, scratch: &mut Scratch) -> u64
-    requires strips { HasStrips pool.now plane.now }
-    requires room { HasRoomFor pool.now plane.now scratch.old }
-    ensures value { result ≡ marked_count world (picture_in pool.now plane.now) }
+/// Returns how many squares of a rectangle are marked.
+fn marked_in(pool: &Pool, plane: &mut Plane, rect: Rect, scratch: &mut Scratch) -> u64
+    requires plane { HasPlane pool.now plane.old }
+    requires room { HasRoomFor pool.now plane.old scratch.old }
+    ensures value { result ≡ marked_count rect (picture_in pool.now plane.old) }
+    ensures few { result ≤ marked_count world (picture_in pool.now plane.old) }
+    ensures legal { IsRectangleIn world rect }
+    ensures plane { plane.new ≡ plane.old }
     ensures rooms { KeepsRoom scratch.old scratch.new }
 {
-    strips_of(pool, plane, scratch);
+    lies_in_world(rect);
+    find_area(pool, plane, rect, scratch);
     let mut count = 0;
     for tile in scratch.tiles() {
-        count += marked_size(tile.piece);
+        count += marked_part(tile, rect);
     }
     count
 }
 
-/// Returns how many marked squares a piece has.
-fn marked_size(piece: Piece) -> u64
-    ensures { result ≡ marked_size piece }
+/// Returns how many marked squares of a rectangle a tile has.
+fn marked_part(tile: &LaidTile, rect: Rect) -> u64
+    ensures { result ≡ marked_part rect tile.now }
 {
-    if piece.kind == 0 {
+    if tile.piece.kind == 0 {
         return 0;
     }
-    piece.rect.area().size()
+    tile.piece.rect.area().common(rect.area()).size()
 }

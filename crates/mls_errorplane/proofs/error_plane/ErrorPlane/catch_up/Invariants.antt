@@ -11,7 +11,7 @@ abbrev pub invariant-steps : goal.invariant-steps
 invariant-steps l = record {
   after : Steps l.fn.basis.rules.now (flat_layout l.fn.workspace.pool l.fn.basis.uses l.fn.planes) l.limit l.done (checking_of l.fn.workspace.pool l.fn.self) (checking_of l.workspace.pool l.self);
   few : IsDirtyList l.self.dirty → l.done + area_of l.self.dirty ≤ 65 * 2 ^ 32;
-  marks : ShowsMarks l.workspace.pool l.self.owner;
+  marks : ShowsMarks l.workspace.pool l.self;
   only : ChangesOnly l.fn.workspace.pool l.workspace.pool l.fn.self.owner;
   owner : l.self.owner ≡ l.fn.self.owner;
   owners : l.planes ≡ l.fn.planes;
