@@ -4,10 +4,12 @@ mod Covers
 pub mod FlatLayouts
 mod FoundTiles
 mod LaidPieces
+mod ListedTiles
 mod MovedParts
 mod PaintedTiles
 pub mod PlacedUses
 mod Places
+mod ShownPieces
 mod ShownUses
 mod SweptPieces
 mod UniformRows

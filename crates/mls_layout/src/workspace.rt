@@ -1,10 +1,15 @@
 //! What calls borrow to work in.
-ghost use Rattle.std.specs.Prelude.{◌≡◌, ◌≤◌, [], IfOk, vec_capacity};
-ghost use Rattle.mls_layout.specs.Workspaces.{HasRooms};
+ghost use Rattle.std.specs.Prelude.{◌≡◌, ◌≤◌, [], IfOk, IfSome, length, map, vec_capacity};
+ghost use Rattle.mls_geom.specs.StripLists.{strips_of};
+ghost use Rattle.mls_geom.specs.World.{world};
+ghost use Rattle.mls_layout.specs.Workspaces.{FitsWorkspace, HasRooms};
+ghost use Rattle.mls_paint.specs.Planes.{HasStrips, picture_in};
+ghost use Rattle.mls_tilepool.specs.Pools.{IsOwner, count_of, room_of};
 
 use crate::KindGrid;
 use mls_geom::Piece;
-use mls_paint::Scratch;
+use mls_paint::{Scratch, strips_of};
+use mls_stitch::{LaidTile, Plane};
 use mls_tilepool::Pool;
 use std::alloc::{AllocError, Global};
 
@@ -49,5 +54,42 @@ impl Workspace {
             pieces: Vec::with_capacity(alloc, MARK_ROOM)?,
             grid: KindGrid::new(alloc)?,
         })
+    }
+    /// Lists the maximal strips of a plane in the list of pieces, by bottom and then left. No memory is taken.
+    pub fn list_strips(&mut self, plane: &Plane)
+        requires strips { HasStrips self.old.pool plane.now }
+        requires plane_fits { FitsWorkspace self.old.pool plane.now }
+        ensures strips { self.new.pieces.items ≡ strips_of world (picture_in self.old.pool plane.now) }
+        ensures pool { self.new.pool ≡ self.old.pool }
+    {
+        let Workspace {
+            pool,
+            scratch,
+            pieces,
+            ..
+        } = self;
+        keeps_within_reserve(pool, plane);
+        strips_of(pool, plane, scratch);
+        list_pieces_of(scratch.tiles(), pieces);
+    }
+}
+
+/// A plane has no more tiles than it reserves. Does nothing: the contract is the law.
+fn keeps_within_reserve(pool: &Pool, plane: &Plane)
+    requires { IsOwner pool.now plane.now }
+    ensures { IfSome (room_of pool.now plane.now) (λ room. count_of pool.now plane.now ≤ room) }
+{
+    pool.count(plane.owner());
+}
+
+/// Lists the rectangles and kinds of tiles, in their order.
+fn list_pieces_of(tiles: &[LaidTile], pieces: &mut Vec<Piece>)
+    requires room { length tiles.now ≤ vec_capacity pieces.old }
+    ensures pieces { pieces.new.items ≡ map (λ tile. tile.piece) tiles.now }
+    ensures room { vec_capacity pieces.new ≡ vec_capacity pieces.old }
+{
+    pieces.clear();
+    for tile in tiles {
+        pieces.push_reserved(tile.piece);
     }
 }

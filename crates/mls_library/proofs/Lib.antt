@@ -19,3 +19,5 @@ pub mod SavedRooms
 pub mod SavedLayouts
 pub mod SavedCells
 pub mod SavedTexts
+pub mod MarkedTexts
+pub mod MarkedCells

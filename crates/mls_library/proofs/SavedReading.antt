@@ -5,14 +5,14 @@ use Rattle.std.specs.Option.{option_map_or, unwrap_or}
 use Rattle.std.proofs.lemmas.Bool.{eqb-true}
 use Rattle.std.proofs.lemmas.List.Elements.{All-append, All-cons, All-filter, All-from_recursion, All-head, All-map, All-nil, All-tail, filter_passes}
 use mathlib.Core.List.{append_assoc, append-nil}
-use Rattle.mls_geom.specs.Rects.{IsRectangleIn}
+use Rattle.mls_geom.specs.Rects.{Rect, IsRectangleIn}
 use Rattle.mls_geom.specs.World.{rect_of, world}
 use Rattle.mls_geom.specs.declared.piece.Piece.{Piece}
 use Rattle.mls_tech.specs.Readings.{Tech, plane_of_type}
 use Rattle.mls_text.specs.Lines.{IsUnbroken, raw_lines, without_return}
 use Rattle.mls_text.specs.Words.{words_of}
 use Rattle.mls_library.specs.CellFiles.{◌>>=◌, first_line, header_line, is_start, layer_line, line_meaning, painted_by, plain_line, read_lines, reading_of, rect_between, rect_line, section_line, section_named}
-use Rattle.mls_library.specs.SavedCells.{coordinate_text, end_lines, file_lines, first_name, layer_lines, layers_lines, of_kind, rect_words, section_lines, section_words, spaced, strip_lines, text_of, types_of}
+use Rattle.mls_library.specs.SavedCells.{coordinate_text, end_lines, file_lines, first_name, header_lines, layer_lines, layers_lines, of_kind, rect_words, section_lines, section_words, spaced, strip_lines, text_of, types_of}
 use Rattle.mls_library.specs.declared.cell_rect.CellRect.{CellRect}
 use Rattle.mls_library.specs.declared.fault.CellFaultKind.{CellFaultKind}
 use Rattle.mls_library.specs.declared.fault.CellFaultKind.TheVariants.{Form}
@@ -40,70 +40,70 @@ world_lines : (first last : ℕ) → 4161536 ≤ first → first < last → last
 world_lines first last low before high = record { first_from = low; first_to = omega (arith, before, high); last_from = omega (arith, low, before); last_to = high }
 
 -- ---- what each line means
--- the line of a strip
-module _ (strip : Piece) (legal : IsRectangleIn world strip.rect) where
-  across : AreWorldLines strip.rect.left strip.rect.right
-  across = world_lines strip.rect.left strip.rect.right legal.left_in legal.wide legal.right_in
+-- the line of a rectangle
+module _ (rect : Rect) (legal : IsRectangleIn world rect) where
+  across : AreWorldLines rect.left rect.right
+  across = world_lines rect.left rect.right legal.left_in legal.wide legal.right_in
 
-  upward : AreWorldLines strip.rect.bottom strip.rect.top
-  upward = world_lines strip.rect.bottom strip.rect.top legal.bottom_in legal.tall legal.top_in
+  upward : AreWorldLines rect.bottom rect.top
+  upward = world_lines rect.bottom rect.top legal.bottom_in legal.tall legal.top_in
 
-  plain_rect_words : All IsPlain (rect_words strip.rect)
-  plain_rect_words = All-from_recursion IsPlain (rect_words strip.rect) (
+  plain_rect_words : All IsPlain (rect_words rect)
+  plain_rect_words = All-from_recursion IsPlain (rect_words rect) (
     IsPlain-test (codes "rect") refl,
     (
-      IsPlain-coordinate_text strip.rect.left across.first_from across.first_to,
+      IsPlain-coordinate_text rect.left across.first_from across.first_to,
       (
-        IsPlain-coordinate_text strip.rect.bottom upward.first_from upward.first_to,
-        (IsPlain-coordinate_text strip.rect.right across.last_from across.last_to, (IsPlain-coordinate_text strip.rect.top upward.last_from upward.last_to, tt)),
+        IsPlain-coordinate_text rect.bottom upward.first_from upward.first_to,
+        (IsPlain-coordinate_text rect.right across.last_from across.last_to, (IsPlain-coordinate_text rect.top upward.last_from upward.last_to, tt)),
       ),
     ),
   )
 
-  some_rect_words : All (λ word. 0 < length word) (rect_words strip.rect)
-  some_rect_words = All-from_recursion (λ word. 0 < length word) (rect_words strip.rect) (
+  some_rect_words : All (λ word. 0 < length word) (rect_words rect)
+  some_rect_words = All-from_recursion (λ word. 0 < length word) (rect_words rect) (
     omega arith,
     (
-      some-coordinate_text strip.rect.left across.first_from across.first_to,
+      some-coordinate_text rect.left across.first_from across.first_to,
       (
-        some-coordinate_text strip.rect.bottom upward.first_from upward.first_to,
-        (some-coordinate_text strip.rect.right across.last_from across.last_to, (some-coordinate_text strip.rect.top upward.last_from upward.last_to, tt)),
+        some-coordinate_text rect.bottom upward.first_from upward.first_to,
+        (some-coordinate_text rect.right across.last_from across.last_to, (some-coordinate_text rect.top upward.last_from upward.last_to, tt)),
       ),
     ),
   )
 
-  words_of-rect_words : words_of (spaced (rect_words strip.rect)) ≡ rect_words strip.rect
+  pub words_of-rect_words : words_of (spaced (rect_words rect)) ≡ rect_words rect
   words_of-rect_words =
-      words_of-spaced (rect_words strip.rect) (λ k d within. IsWord-plain (get_or (rect_words strip.rect) k d) (some_rect_words k d within) (plain_rect_words k d within))
+      words_of-spaced (rect_words rect) (λ k d within. IsWord-plain (get_or (rect_words rect) k d) (some_rect_words k d within) (plain_rect_words k d within))
 
-  IsKept-rect_words : IsKept (spaced (rect_words strip.rect))
-  IsKept-rect_words = IsKept-plain (rect_words strip.rect) plain_rect_words
+  pub IsKept-rect_words : IsKept (spaced (rect_words rect))
+  IsKept-rect_words = IsKept-plain (rect_words rect) plain_rect_words
 
   module _ (tech : Tech) (kind plane : ℕ) where
     rect_between-rect_words :
-        rect_between kind plane (coordinate_text strip.rect.left) (coordinate_text strip.rect.bottom) (coordinate_text strip.rect.right) (coordinate_text strip.rect.top)
-        ≡ Ok (Paints (on_plane plane (record { rect = strip.rect; kind = kind })))
+        rect_between kind plane (coordinate_text rect.left) (coordinate_text rect.bottom) (coordinate_text rect.right) (coordinate_text rect.top)
+        ≡ Ok (Paints (on_plane plane (record { rect = rect; kind = kind })))
     unfolding rect_between
     rect_between-rect_words =
-        let l = world_line-coordinate_text strip.rect.left across.first_from across.first_to in
-        let b = world_line-coordinate_text strip.rect.bottom upward.first_from upward.first_to in
-        let r = world_line-coordinate_text strip.rect.right across.last_from across.last_to in
-        let t = world_line-coordinate_text strip.rect.top upward.last_from upward.last_to in
+        let l = world_line-coordinate_text rect.left across.first_from across.first_to in
+        let b = world_line-coordinate_text rect.bottom upward.first_from upward.first_to in
+        let r = world_line-coordinate_text rect.right across.last_from across.last_to in
+        let t = world_line-coordinate_text rect.top upward.last_from upward.last_to in
         let made = λ (l b r t : Result ℤ CellFaultKind). l >>= λ x. b >>= λ y. r >>= λ z. t >>= λ w. painted_by kind plane (rect_of x y z w) in
-        (λ i. made (l i) (b i) (r i) (t i)) ∙ ap (painted_by kind plane) (rect_of-user_lines strip.rect legal)
+        (λ i. made (l i) (b i) (r i) (t i)) ∙ ap (painted_by kind plane) (rect_of-user_lines rect legal)
 
-    line_meaning-rect : line_meaning tech (Layer kind plane) (rect_words strip.rect) ≡ Ok (Paints (on_plane plane (record { rect = strip.rect; kind = kind })))
+    line_meaning-rect : line_meaning tech (Layer kind plane) (rect_words rect) ≡ Ok (Paints (on_plane plane (record { rect = rect; kind = kind })))
     unfolding line_meaning plain_line layer_line rect_line
     line_meaning-rect =
-        let l = is_integer-coordinate_text strip.rect.left across.first_from across.first_to in
-        let b = is_integer-coordinate_text strip.rect.bottom upward.first_from upward.first_to in
-        let r = is_integer-coordinate_text strip.rect.right across.last_from across.last_to in
-        let t = is_integer-coordinate_text strip.rect.top upward.last_from upward.last_to in
+        let l = is_integer-coordinate_text rect.left across.first_from across.first_to in
+        let b = is_integer-coordinate_text rect.bottom upward.first_from upward.first_to in
+        let r = is_integer-coordinate_text rect.right across.last_from across.last_to in
+        let t = is_integer-coordinate_text rect.top upward.last_from upward.last_to in
         let made = λ (l b r t : Bool) (read : Result Meaning CellFaultKind). if l && b && r && t then read else Err Form in
         λ i. made (l i) (b i) (r i) (t i) (rect_between-rect_words i)
 
 -- the line of a section
-line_meaning-section : (tech : Tech) (place : Place) (name : List ℕ) → is_start place ≡ false → line_meaning tech place (section_words name) ≡ section_named tech name
+pub line_meaning-section : (tech : Tech) (place : Place) (name : List ℕ) → is_start place ≡ false → line_meaning tech place (section_words name) ≡ section_named tech name
 unfolding line_meaning section_line
 line_meaning-section tech place name later = ap (λ start. if not start then section_named tech name else plain_line place (codes "<<") (name ∷ codes ">>" ∷ [])) later
 
@@ -117,13 +117,13 @@ IsWord-opens = IsWord-plain (codes "<<") (omega arith) (IsPlain-test (codes "<<"
 IsWord-closes : IsWord (codes ">>")
 IsWord-closes = IsWord-plain (codes ">>") (omega arith) (IsPlain-test (codes ">>") refl)
 
-words_of-section : (name : List ℕ) → IsWord name → words_of (spaced (section_words name)) ≡ section_words name
+pub words_of-section : (name : List ℕ) → IsWord name → words_of (spaced (section_words name)) ≡ section_words name
 words_of-section name word = words_of-spaced (section_words name) (All-from_recursion IsWord (section_words name) (IsWord-opens, (word, (IsWord-closes, tt))))
 
-IsUnbroken-plain : (word : List ℕ) → IsPlain word → IsUnbroken word
+pub IsUnbroken-plain : (word : List ℕ) → IsPlain word → IsUnbroken word
 IsUnbroken-plain word plain = (IsKept-plain (word ∷ []) (All-cons IsPlain word [] plain (All-nil IsPlain))).unbroken
 
-IsKept-section : (name : List ℕ) → IsUnbroken name → IsKept (spaced (section_words name))
+pub IsKept-section : (name : List ℕ) → IsUnbroken name → IsKept (spaced (section_words name))
 IsKept-section name unbroken = record {
   unbroken =
       All-spaced (λ b. b ≢ 10) (λ same. omega (arith, same)) (section_words name)
@@ -151,10 +151,10 @@ abbrev pub Reads : Tech → Place → List (List ℕ) → List CellRect → Type
 Reads tech place lines added = (rects : List CellRect) (n : ℕ) → read_lines tech place rects n lines ≡ Ok (rects ++ added)
 
 module _ (tech : Tech) (place : Place) (line : List ℕ) (lines : List (List ℕ)) (added : List CellRect) where
-  Reads-nothing : line_meaning tech place (words_of line) ≡ Ok Nothing → Reads tech place lines added → Reads tech place (line ∷ lines) added
+  pub Reads-nothing : line_meaning tech place (words_of line) ≡ Ok Nothing → Reads tech place lines added → Reads tech place (line ∷ lines) added
   Reads-nothing meant rest rects n = sym (read_lines-line tech place rects n line lines _ (sym meant)) ∙ rest rects (n + 1)
 
-  Reads-enters : (next : Place) → line_meaning tech place (words_of line) ≡ Ok (Enters next) → Reads tech next lines added → Reads tech place (line ∷ lines) added
+  pub Reads-enters : (next : Place) → line_meaning tech place (words_of line) ≡ Ok (Enters next) → Reads tech next lines added → Reads tech place (line ∷ lines) added
   Reads-enters next meant rest rects n = sym (read_lines-line tech place rects n line lines _ (sym meant)) ∙ rest rects (n + 1)
 
   Reads-paints : (painted : CellRect) → line_meaning tech place (words_of line) ≡ Ok (Paints painted) → Reads tech place lines added → Reads tech place (line ∷ lines) (painted ∷ added)
@@ -181,7 +181,7 @@ module _ (tech : Tech) (kind plane : ℕ) where
       let first = All-head IsOwnStrip strip strips own in
       let same : ◌≡◌ {A = Piece} (record { rect = strip.rect; kind = kind }) strip = λ i. record { rect = strip.rect; kind = sym first.1 i } in
       Reads-paints tech (Layer kind plane) (spaced (rect_words strip.rect)) (strip_lines strips ++ more) (map (on_plane plane) strips ++ tail) (on_plane plane strip)
-      (ap (line_meaning tech (Layer kind plane)) (words_of-rect_words strip first.0) ∙ line_meaning-rect strip first.0 tech kind plane ∙ ap (λ s. Ok (Paints (on_plane plane s))) same)
+      (ap (line_meaning tech (Layer kind plane)) (words_of-rect_words strip.rect first.0) ∙ line_meaning-rect strip.rect first.0 tech kind plane ∙ ap (λ s. Ok (Paints (on_plane plane s))) same)
       (Reads-strips strips (All-tail IsOwnStrip strip strips own) more tail rest)
 
   module _ (name : List ℕ) (is : IsNameOf tech kind plane name) where
@@ -197,7 +197,7 @@ module _ (tech : Tech) (kind plane : ℕ) where
     IsKept-section_lines [] own = All-nil IsKept
     IsKept-section_lines (strip ∷ strips) own =
         All-cons IsKept (spaced (section_words name)) (strip_lines (strip ∷ strips)) (IsKept-section name is.unbroken)
-        (All-map IsKept (λ each. spaced (rect_words each.rect)) (strip ∷ strips) (λ k d within. IsKept-rect_words (get_or (strip ∷ strips) k d) (own k d within).0))
+        (All-map IsKept (λ each. spaced (rect_words each.rect)) (strip ∷ strips) (λ k d within. IsKept-rect_words (get_or (strip ∷ strips) k d).rect (own k d within).0))
 
 -- ---- the sections of types
 -- the first name of the type names it
@@ -230,7 +230,7 @@ module _ (tech : Tech) (strips : ℕ → List Piece) (legal : (plane : ℕ) → 
       let P = λ (found : Option ℕ). ReadsLater tech (type_lines kind found ++ more) (layer_rects strips kind found ++ tail) in
       subst P (sym is.place) (Reads-section tech kind plane (first_name tech kind) is (of_kind kind (strips plane)) (own_strips kind plane) more tail rest)
 
-  Reads-layers : (kinds : List ℕ) → All (IsNamed tech) kinds → (more : List (List ℕ)) (tail : List CellRect) → ReadsLater tech more tail
+  pub Reads-layers : (kinds : List ℕ) → All (IsNamed tech) kinds → (more : List (List ℕ)) (tail : List CellRect) → ReadsLater tech more tail
       → ReadsLater tech (layers_lines tech strips kinds ++ more) (layers_rects tech strips kinds ++ tail)
   unfolding layers_lines
   Reads-layers [] named more tail rest = rest
@@ -245,58 +245,68 @@ module _ (tech : Tech) (strips : ℕ → List Piece) (legal : (plane : ℕ) → 
       let P = λ (found : Option ℕ). All IsKept (type_lines kind found) in
       subst P (sym is.place) (IsKept-section_lines tech kind plane (first_name tech kind) is (of_kind kind (strips plane)) (own_strips kind plane))
 
-  IsKept-layers : (kinds : List ℕ) → All (IsNamed tech) kinds → All IsKept (layers_lines tech strips kinds)
+  pub IsKept-layers : (kinds : List ℕ) → All (IsNamed tech) kinds → All IsKept (layers_lines tech strips kinds)
   unfolding layers_lines
   IsKept-layers [] named = All-nil IsKept
   IsKept-layers (kind ∷ kinds) named =
       All-append IsKept (type_lines kind (plane_of_type tech.type_planes kind)) (layers_lines tech strips kinds) (IsKept-layer kind (All-head (IsNamed tech) kind kinds named))
       (IsKept-layers kinds (All-tail (IsNamed tech) kind kinds named))
 
-  -- ---- the file
-  IsUnbroken-written : (name : Option (List ℕ)) → IfSome name IsUnbroken → IsUnbroken (unwrap_or name (codes "none"))
-  IsUnbroken-written None unbroken = IsUnbroken-plain (codes "none") (IsPlain-test (codes "none") refl)
-  IsUnbroken-written (Some name) unbroken = unbroken
+-- ---- the file
+IsUnbroken-written : (name : Option (List ℕ)) → IfSome name IsUnbroken → IsUnbroken (unwrap_or name (codes "none"))
+IsUnbroken-written None unbroken = IsUnbroken-plain (codes "none") (IsPlain-test (codes "none") refl)
+IsUnbroken-written (Some name) unbroken = unbroken
 
-  module _ (named : All (IsNamed tech) (types_of tech)) (unbroken : IfSome tech.name IsUnbroken) where
-    abbrev layers : List (List ℕ)
-    layers = layers_lines tech strips (types_of tech)
+pub IsKept-end_lines : All IsKept end_lines
+IsKept-end_lines = All-cons IsKept (spaced (section_words (codes "end"))) [] (IsKept-section (codes "end") (IsUnbroken-plain (codes "end") (IsPlain-test (codes "end") refl))) (All-nil IsKept)
 
-    abbrev tech_line : List ℕ
-    tech_line = spaced (codes "tech" ∷ unwrap_or tech.name (codes "none") ∷ [])
+pub Reads-end : (tech : Tech) → ReadsLater tech end_lines []
+Reads-end tech place later = Reads-ends tech place (spaced (section_words (codes "end"))) [] (line_meaning-section tech place (codes "end") later ∙ section_named-end tech)
 
-    kept_after_header : All IsKept (layers ++ end_lines)
-    kept_after_header =
-        All-append IsKept layers end_lines (IsKept-layers (types_of tech) named)
-        (All-cons IsKept (spaced (section_words (codes "end"))) [] (IsKept-section (codes "end") (IsUnbroken-plain (codes "end") (IsPlain-test (codes "end") refl))) (All-nil IsKept))
+-- lines after the header
+module _ (tech : Tech) (unbroken : IfSome tech.name IsUnbroken) (lines : List (List ℕ)) (kept : All IsKept lines) where
+  abbrev tech_line : List ℕ
+  tech_line = spaced (codes "tech" ∷ unwrap_or tech.name (codes "none") ∷ [])
 
-    unbroken_tech_line : IsUnbroken tech_line
-    unbroken_tech_line =
-        All-spaced (λ b. b ≢ 10) (λ same. omega (arith, same)) (codes "tech" ∷ unwrap_or tech.name (codes "none") ∷ [])
-        (All-from_recursion IsUnbroken (codes "tech" ∷ unwrap_or tech.name (codes "none") ∷ [])
-        (IsUnbroken-plain (codes "tech") (IsPlain-test (codes "tech") refl), (IsUnbroken-written tech.name unbroken, tt)))
+  unbroken_tech_line : IsUnbroken tech_line
+  unbroken_tech_line =
+      All-spaced (λ b. b ≢ 10) (λ same. omega (arith, same)) (codes "tech" ∷ unwrap_or tech.name (codes "none") ∷ [])
+      (All-from_recursion IsUnbroken (codes "tech" ∷ unwrap_or tech.name (codes "none") ∷ [])
+      (IsUnbroken-plain (codes "tech") (IsPlain-test (codes "tech") refl), (IsUnbroken-written tech.name unbroken, tt)))
 
-    unbroken_lines : All IsUnbroken (file_lines tech strips)
-    unbroken_lines =
-        All-cons IsUnbroken (codes "magic") (tech_line ∷ (layers ++ end_lines)) (IsUnbroken-plain (codes "magic") (IsPlain-test (codes "magic") refl))
-        (All-cons IsUnbroken tech_line (layers ++ end_lines) unbroken_tech_line (λ k d within. (kept_after_header k d within).unbroken))
+  unbroken_lines : All IsUnbroken (header_lines tech ++ lines)
+  unbroken_lines =
+      All-cons IsUnbroken (codes "magic") (tech_line ∷ lines) (IsUnbroken-plain (codes "magic") (IsPlain-test (codes "magic") refl))
+      (All-cons IsUnbroken tech_line lines unbroken_tech_line (λ k d within. (kept k d within).unbroken))
 
-    raw_lines-file : raw_lines (text_of (file_lines tech strips)) ≡ codes "magic" ∷ without_return tech_line ∷ (layers ++ end_lines)
-    raw_lines-file =
-        raw_lines-text_of (file_lines tech strips) unbroken_lines
-        ∙ ap (λ lines. codes "magic" ∷ without_return tech_line ∷ lines) (map-without_return (layers ++ end_lines) kept_after_header)
+  raw_lines-file : raw_lines (text_of (header_lines tech ++ lines)) ≡ codes "magic" ∷ without_return tech_line ∷ lines
+  raw_lines-file =
+      raw_lines-text_of (header_lines tech ++ lines) unbroken_lines ∙ ap (λ all. codes "magic" ∷ without_return tech_line ∷ all) (map-without_return lines kept)
 
-    Reads-end : ReadsLater tech end_lines []
-    Reads-end place later = Reads-ends tech place (spaced (section_words (codes "end"))) [] (line_meaning-section tech place (codes "end") later ∙ section_named-end tech)
+  -- the file is read as what they add
+  pub reading_of-after_header : (added : List CellRect) → ReadsLater tech lines added → reading_of tech (text_of (header_lines tech ++ lines)) ≡ Ok added
+  unfolding reading_of
+  reading_of-after_header added reads =
+      ap (read_lines tech Start [] 0) raw_lines-file
+      ∙ Reads-enters tech Start (codes "magic") (without_return tech_line ∷ lines) added Header (line_meaning-magic tech)
+      (Reads-nothing tech Header (without_return tech_line) lines added
+      (ap (line_meaning tech Header) (words_of-tech (unwrap_or tech.name (codes "none"))) ∙ line_meaning-tech tech _) (reads Header refl))
+      [] 0
 
-    Reads-file : Reads tech Start (codes "magic" ∷ without_return tech_line ∷ (layers ++ end_lines)) (layers_rects tech strips (types_of tech) ++ [])
-    Reads-file =
-        let added = layers_rects tech strips (types_of tech) ++ [] in
-        Reads-enters tech Start (codes "magic") (without_return tech_line ∷ (layers ++ end_lines)) added Header (line_meaning-magic tech)
-        (Reads-nothing tech Header (without_return tech_line) (layers ++ end_lines) added
-        (ap (line_meaning tech Header) (words_of-tech (unwrap_or tech.name (codes "none"))) ∙ line_meaning-tech tech _)
-        (Reads-layers (types_of tech) named end_lines [] Reads-end Header refl))
+-- the sections of all types, and the file's last line
+module _ (tech : Tech) (strips : ℕ → List Piece) (legal : (plane : ℕ) → All (λ strip. IsRectangleIn world strip.rect) (strips plane)) (named : All (IsNamed tech) (types_of tech)) where
+  abbrev pub layers_to_end : List (List ℕ)
+  layers_to_end = layers_lines tech strips (types_of tech) ++ end_lines
 
-    -- the text is read as the rectangles of its types, in order
-    pub reading_of-file_lines : reading_of tech (text_of (file_lines tech strips)) ≡ Ok (layers_rects tech strips (types_of tech))
-    unfolding reading_of
-    reading_of-file_lines = ap (read_lines tech Start [] 0) raw_lines-file ∙ Reads-file [] 0 ∙ ap Ok (append-nil (layers_rects tech strips (types_of tech)))
+  pub IsKept-layers_to_end : All IsKept layers_to_end
+  IsKept-layers_to_end = All-append IsKept (layers_lines tech strips (types_of tech)) end_lines (IsKept-layers tech strips legal (types_of tech) named) IsKept-end_lines
+
+  pub Reads-layers_to_end : ReadsLater tech layers_to_end (layers_rects tech strips (types_of tech))
+  Reads-layers_to_end =
+      subst (ReadsLater tech layers_to_end) (append-nil (layers_rects tech strips (types_of tech)))
+      (Reads-layers tech strips legal (types_of tech) named end_lines [] (Reads-end tech))
+
+  -- the text is read as the rectangles of its types, in order
+  pub reading_of-file_lines : IfSome tech.name IsUnbroken → reading_of tech (text_of (file_lines tech strips)) ≡ Ok (layers_rects tech strips (types_of tech))
+  reading_of-file_lines unbroken =
+      reading_of-after_header tech unbroken layers_to_end IsKept-layers_to_end (layers_rects tech strips (types_of tech)) Reads-layers_to_end

@@ -6,10 +6,9 @@ use Rattle.std.specs.Fmt.{signed_decimal}
 use Rattle.mls_geom.specs.Rects.{Rect, IsRectangleIn}
 use Rattle.mls_geom.specs.World.{origin, world}
 use Rattle.mls_geom.specs.declared.piece.Piece.{Piece}
-use Rattle.mls_stitch.specs.declared.laid_tile.LaidTile.{LaidTile}
 use Rattle.mls_tech.specs.Readings.{Tech, plane_of_type}
-use Rattle.mls_library.specs.SavedCells.{coordinate_text, end_lines, file_lines, first_name, header_lines, layer_lines, of_kind, rect_words, section_words, spaced, text_of}
-use Rattle.mls_library.proofs.SavedTexts.{coordinate_text-of, line_of_words, lines_up_to, lines_up_to-all, lines_up_to-more, lines_up_to-next, lines_up_to-none, passed, pieces_of, section_lines-some, text_of-append, tiles_text, tiles_text-append, tiles_text-pushed, type_lines}
+use Rattle.mls_library.specs.SavedCells.{coordinate_text, end_lines, layer_lines, of_kind, rect_words, section_lines, section_words, spaced, text_of}
+use Rattle.mls_library.proofs.SavedTexts.{coordinate_text-of, line_of_words, lines_up_to, lines_up_to-all, lines_up_to-more, lines_up_to-next, lines_up_to-none, lines_with_layers, passed, section_lines-some, strip_line, strips_text, strips_text-append, strips_text-pushed, text_of-append, type_lines}
 
 -- lengths, after a text was appended
 pub grown : {m n : ℕ} (old new more : List ℕ) → m ≡ length old → n ≡ length new → new ≡ old ++ more → n ≡ m + length more
@@ -65,40 +64,38 @@ module _ (rect : Rect) (z : ℤ) (end : ℕ) (legal : IsRectangleIn world rect) 
       let bottom_from : 4161536 ≤ rect.bottom = legal.bottom_in in
       coordinate_length rect.top z end (omega (arith, legal.tall, bottom_from)) legal.top_in tied
 
--- ---- the lines of tiles
-pub tiles_length : (kind : ℕ) (tiles : List LaidTile) (i : ℕ) → length (tiles_text kind (take i tiles)) ≤ length (tiles_text kind tiles)
-tiles_length kind tiles i =
+-- ---- the lines of strips
+strips_length : (kind : ℕ) (strips : List Piece) (i : ℕ) → length (strips_text kind (take i strips)) ≤ length (strips_text kind strips)
+strips_length kind strips i =
     omega (
       arith,
-      ap (λ all. length (tiles_text kind all)) (take-append-drop i tiles),
-      ap length (tiles_text-append kind (take i tiles) (drop i tiles)),
-      length-append (tiles_text kind (take i tiles)) (tiles_text kind (drop i tiles)),
+      ap (λ all. length (strips_text kind all)) (take-append-drop i strips),
+      ap length (strips_text-append kind (take i strips) (drop i strips)),
+      length-append (strips_text kind (take i strips)) (strips_text kind (drop i strips)),
     )
 
--- a tile of the type whose line has no room
-pub tile_lacks : (kind : ℕ) (tiles : List LaidTile) (i : ℕ) (tile : LaidTile) → i < length tiles → tile ≡ get_or tiles i tile → (tile.piece.kind == kind) ≡ true
-    → length (tiles_text kind (take i tiles)) + length (spaced (rect_words tile.piece.rect) ++ 10 ∷ []) ≤ length (tiles_text kind tiles)
-tile_lacks kind tiles i tile within here own =
-    let line = spaced (rect_words tile.piece.rect) ++ 10 ∷ [] in
-    let before = tiles_text kind (take i tiles) in
-    let pushed : before ++ line ≡ tiles_text kind (take (i + 1) tiles) = tiles_text-pushed kind tiles i tile within here [] before (before ++ line) refl own refl in
-    omega (arith, length-append before line, ap length pushed, tiles_length kind tiles (i + 1))
+-- a strip of the kind whose line has no room
+pub strip_lacks : (kind : ℕ) (strips : List Piece) (i : ℕ) (strip : Piece) → i < length strips → strip ≡ get_or strips i strip → (strip.kind == kind) ≡ true
+    → length (strips_text kind (take i strips)) + length (strip_line strip ++ 10 ∷ []) ≤ length (strips_text kind strips)
+strip_lacks kind strips i strip within here own =
+    let line = strip_line strip ++ 10 ∷ [] in
+    let before = strips_text kind (take i strips) in
+    let pushed : before ++ line ≡ strips_text kind (take (i + 1) strips) = strips_text-pushed kind strips i strip within here [] before (before ++ line) refl own refl in
+    omega (arith, length-append before line, ap length pushed, strips_length kind strips (i + 1))
 
 -- ---- a section
-pub layer_length : (tech : Tech) (kind : ℕ) (tiles : List LaidTile) (name : List ℕ) → name ≡ first_name tech kind → 1 ≤ length (layer_lines tech kind (pieces_of tiles))
-    → length (text_of (layer_lines tech kind (pieces_of tiles))) ≡ length (text_of (spaced (section_words name) ∷ [])) + length (tiles_text kind tiles)
-layer_length tech kind tiles name first some =
-    let heading = λ (n : List ℕ). text_of (spaced (section_words n) ∷ []) in
-    ap length (section_lines-some (first_name tech kind) (of_kind kind (pieces_of tiles)) some)
-    ∙ length-append (heading (first_name tech kind)) (tiles_text kind tiles) ∙ ap (λ n. length (heading n) + length (tiles_text kind tiles)) (sym first)
+pub section_length : (name : List ℕ) (kind : ℕ) (strips : List Piece) → 1 ≤ length (section_lines name (of_kind kind strips))
+    → length (text_of (section_lines name (of_kind kind strips))) ≡ length (text_of (spaced (section_words name) ∷ [])) + length (strips_text kind strips)
+section_length name kind strips some =
+    ap length (section_lines-some name (of_kind kind strips) some) ∙ length-append (text_of (spaced (section_words name) ∷ [])) (strips_text kind strips)
 
 -- ---- the whole file
-module _ (tech : Tech) (strips : ℕ → List Piece) where
+module _ (front : List (List ℕ)) (tech : Tech) (strips : ℕ → List Piece) where
   abbrev up_to : ℕ → ℕ
-  up_to types = length (text_of (lines_up_to tech strips types))
+  up_to types = length (text_of (lines_up_to front tech strips types))
 
   abbrev whole : ℕ
-  whole = length (text_of (file_lines tech strips))
+  whole = length (text_of (lines_with_layers front tech strips))
 
   up_to_grows : (types more : ℕ) → up_to types ≤ up_to (more + types)
   up_to_grows types zero =
@@ -111,34 +108,35 @@ module _ (tech : Tech) (strips : ℕ → List Piece) where
         arith,
         up_to_grows types more,
         ap up_to next,
-        ap (λ all. length (text_of all)) (lines_up_to-next tech strips (more + types)),
-        ap length (text_of-append (lines_up_to tech strips (more + types)) lines),
-        length-append (text_of (lines_up_to tech strips (more + types))) (text_of lines),
+        ap (λ all. length (text_of all)) (lines_up_to-next front tech strips (more + types)),
+        ap length (text_of-append (lines_up_to front tech strips (more + types)) lines),
+        length-append (text_of (lines_up_to front tech strips (more + types))) (text_of lines),
       )
 
   pub end_fits : up_to (length tech.type_planes) + length (text_of end_lines) ≤ whole
   end_fits =
-      let all = lines_up_to tech strips (length tech.type_planes) in
-      omega (arith, ap (λ lines. length (text_of lines)) (lines_up_to-all tech strips), ap length (text_of-append all end_lines), length-append (text_of all) (text_of end_lines))
+      let all = lines_up_to front tech strips (length tech.type_planes) in
+      omega (arith, ap (λ lines. length (text_of lines)) (lines_up_to-all front tech strips), ap length (text_of-append all end_lines), length-append (text_of all) (text_of end_lines))
 
   up_to_fits : (types : ℕ) → types ≤ length tech.type_planes → up_to types ≤ whole
   up_to_fits types few =
       let all : length tech.type_planes - types + types ≡ length tech.type_planes = omega (arith, few) in
       omega (arith, up_to_grows types (length tech.type_planes - types), ap up_to all, end_fits)
 
-  pub header_fits : length (text_of (header_lines tech)) ≤ whole
-  header_fits = omega (arith, up_to_fits 0 (omega arith), ap (λ lines. length (text_of lines)) (lines_up_to-none tech strips))
+  -- what stands before the types' sections
+  pub front_fits : length (text_of front) ≤ whole
+  front_fits = omega (arith, up_to_fits 0 (omega arith), ap (λ lines. length (text_of lines)) (lines_up_to-none front tech strips))
 
   -- the section of one type more, on whose plane these strips are
   pub layer_fits : (types plane : ℕ) (list : List Piece) → types < length tech.type_planes → plane_of_type tech.type_planes (types + 1) ≡ Some plane → list ≡ strips plane
       → up_to types + length (text_of (layer_lines tech (types + 1) list)) ≤ whole
   layer_fits types plane list few place listed =
-      let before = lines_up_to tech strips types in
+      let before = lines_up_to front tech strips types in
       let lines = layer_lines tech (types + 1) list in
       omega (
         arith,
         up_to_fits (types + 1) (omega (arith, few)),
-        ap (λ all. length (text_of all)) (lines_up_to-more tech strips types plane list place listed),
+        ap (λ all. length (text_of all)) (lines_up_to-more front tech strips types plane list place listed),
         ap length (text_of-append before lines),
         length-append (text_of before) (text_of lines),
       )

@@ -1,5 +1,5 @@
 -- The text of a saved layout, appended part by part.
-use Rattle.std.proofs.Common.{◌≡◌, ℕ, ℤ, pos, ◌+ℤ◌, zero, suc, ◌+◌, ◌<◌, ◌≤◌, ◌==◌, Bool, true, false, if◌then◌else◌, List, [], ◌∷◌, ◌++◌, length, map, filter, flat_map, take, get_or, Some, refl, sym, ap, subst, to_z, of_z, w32, ◌∙◌, le_of_suc-le-suc, length-append, arith}
+use Rattle.std.proofs.Common.{◌≡◌, ℕ, ℤ, pos, ◌+ℤ◌, zero, suc, ◌+◌, ◌<◌, ◌≤◌, ◌==◌, Bool, true, false, if◌then◌else◌, List, [], ◌∷◌, ◌++◌, length, map, flat_map, take, get_or, Some, refl, sym, ap, subst, to_z, of_z, w32, ◌∙◌, le_of_suc-le-suc, length-append, arith}
 use mir.Val.{SFits}
 use Rattle.std.specs.Prelude.{OnErr, Result, Ok, Err, codes, count_by}
 use Rattle.std.specs.Fmt.{signed_decimal}
@@ -14,9 +14,8 @@ use mathlib.Core.List.{append_assoc, append-nil}
 use Rattle.mls_geom.specs.Rects.{Rect, IsRectangleIn}
 use Rattle.mls_geom.specs.World.{origin, world}
 use Rattle.mls_geom.specs.declared.piece.Piece.{Piece}
-use Rattle.mls_stitch.specs.declared.laid_tile.LaidTile.{LaidTile}
 use Rattle.mls_tech.specs.Readings.{Tech, plane_of_type}
-use Rattle.mls_library.specs.SavedCells.{Extends, coordinate_text, end_lines, file_lines, first_name, header_lines, layer_lines, layers_lines, of_kind, rect_words, section_lines, section_words, spaced, strip_lines, text_of, types_of}
+use Rattle.mls_library.specs.SavedCells.{Extends, coordinate_text, end_lines, layer_lines, layers_lines, of_kind, rect_words, section_lines, section_words, spaced, strip_lines, text_of, types_of}
 use Rattle.mls_library.proofs.Ranges.{range-push}
 use Rattle.mls_library.proofs.SavedNumbers.{short_line, user_line}
 
@@ -97,77 +96,56 @@ text_of-line : (line : List ℕ) → text_of (line ∷ []) ≡ line ++ 10 ∷ []
 unfolding text_of
 text_of-line line = append-nil (line ++ 10 ∷ [])
 
--- ---- the strips of a type among tiles
-abbrev pub pieces_of : List LaidTile → List Piece
-pieces_of tiles = map (λ tile. tile.piece) tiles
+-- ---- a line for each of a list
+module _ {X : Type 0} (line : X → List ℕ) where
+  abbrev pub text_by : List X → List ℕ
+  text_by xs = text_of (map line xs)
+
+  pub text_by-append : (xs ys : List X) → text_by (xs ++ ys) ≡ text_by xs ++ text_by ys
+  text_by-append xs ys = ap text_of (map-append line xs ys) ∙ text_of-append (map line xs) (map line ys)
+
+  pub text_by-push : (xs : List X) (x : X) → text_by (xs ++ x ∷ []) ≡ text_by xs ++ (line x ++ 10 ∷ [])
+  text_by-push xs x = text_by-append xs (x ∷ []) ∙ ap (λ text. text_by xs ++ text) (text_of-line (line x))
+
+-- ---- the strips of a kind
+abbrev pub strip_line : Piece → List ℕ
+strip_line strip = spaced (rect_words strip.rect)
 
 module _ (kind : ℕ) where
-  of_kind-pieces : (tiles : List LaidTile) → of_kind kind (pieces_of tiles) ≡ pieces_of (filter (λ tile. tile.piece.kind == kind) tiles)
-  of_kind-pieces [] = refl
-  of_kind-pieces (tile ∷ tiles) = by (tile.piece.kind == kind) (of_kind-pieces tiles)
-    where
-      by : (b : Bool) → of_kind kind (pieces_of tiles) ≡ pieces_of (filter (λ t. t.piece.kind == kind) tiles)
-          → (if b then tile.piece ∷ of_kind kind (pieces_of tiles) else of_kind kind (pieces_of tiles))
-          ≡ pieces_of (if b then tile ∷ filter (λ t. t.piece.kind == kind) tiles else filter (λ t. t.piece.kind == kind) tiles)
-      by true rest = ap (λ l. tile.piece ∷ l) rest
-      by false rest = rest
+  pub length-of_kind : (strips : List Piece) → length (of_kind kind strips) ≡ count_by (λ strip. strip.kind == kind) strips
+  length-of_kind strips = length-filter (λ strip. strip.kind == kind) strips
 
-  pub length-of_kind : (tiles : List LaidTile) → length (of_kind kind (pieces_of tiles)) ≡ count_by (λ tile. tile.piece.kind == kind) tiles
-  length-of_kind tiles =
-      ap length (of_kind-pieces tiles) ∙ length-map (filter (λ tile. tile.piece.kind == kind) tiles) (λ tile. tile.piece) ∙ length-filter (λ tile. tile.piece.kind == kind) tiles
+  abbrev pub strips_text : List Piece → List ℕ
+  strips_text strips = text_of (strip_lines (of_kind kind strips))
 
-  abbrev pub tiles_text : List LaidTile → List ℕ
-  tiles_text tiles = text_of (strip_lines (of_kind kind (pieces_of tiles)))
+  pub strips_text-append : (xs ys : List Piece) → strips_text (xs ++ ys) ≡ strips_text xs ++ strips_text ys
+  strips_text-append xs ys =
+      ap (text_by strip_line) (filter-append (λ strip. strip.kind == kind) xs ys) ∙ text_by-append strip_line (of_kind kind xs) (of_kind kind ys)
 
-  tiles_text-filter : (tiles : List LaidTile) → tiles_text tiles ≡ text_of (strip_lines (pieces_of (filter (λ tile. tile.piece.kind == kind) tiles)))
-  tiles_text-filter tiles = ap (λ pieces. text_of (strip_lines pieces)) (of_kind-pieces tiles)
-
-  pub tiles_text-append : (xs ys : List LaidTile) → tiles_text (xs ++ ys) ≡ tiles_text xs ++ tiles_text ys
-  tiles_text-append xs ys =
-      let kept = λ (tiles : List LaidTile). filter (λ tile. tile.piece.kind == kind) tiles in
-      tiles_text-filter (xs ++ ys) ∙ ap (λ tiles. text_of (strip_lines (pieces_of tiles))) (filter-append (λ tile. tile.piece.kind == kind) xs ys)
-      ∙ ap (λ pieces. text_of (strip_lines pieces)) (map-append (λ tile. tile.piece) (kept xs) (kept ys))
-      ∙ ap text_of (map-append (λ strip. spaced (rect_words strip.rect)) (pieces_of (kept xs)) (pieces_of (kept ys)))
-      ∙ text_of-append (strip_lines (pieces_of (kept xs))) (strip_lines (pieces_of (kept ys)))
-      ∙ ap (λ text. text ++ text_of (strip_lines (pieces_of (kept ys)))) (sym (tiles_text-filter xs)) ∙ ap (λ text. tiles_text xs ++ text) (sym (tiles_text-filter ys))
-
-  module _ (tiles : List LaidTile) (i : ℕ) (d : LaidTile) (within : i < length tiles) where
-    more : (b : Bool) → ((get_or tiles i d).piece.kind == kind) ≡ b
-        → filter (λ tile. tile.piece.kind == kind) (take (i + 1) tiles) ≡ filter (λ tile. tile.piece.kind == kind) (take i tiles) ++ (if b then get_or tiles i d ∷ [] else [])
+  module _ (strips : List Piece) (i : ℕ) (d : Piece) (within : i < length strips) where
+    more : (b : Bool) → ((get_or strips i d).kind == kind) ≡ b → of_kind kind (take (i + 1) strips) ≡ of_kind kind (take i strips) ++ (if b then get_or strips i d ∷ [] else [])
     more b is =
-        filter_more (λ tile. tile.piece.kind == kind) tiles i d within
-        ∙ ap (λ t. filter (λ tile. tile.piece.kind == kind) (take i tiles) ++ (if t then get_or tiles i d ∷ [] else [])) is
+        filter_more (λ strip. strip.kind == kind) strips i d within ∙ ap (λ t. of_kind kind (take i strips) ++ (if t then get_or strips i d ∷ [] else [])) is
 
-    -- one more tile of the type
-    pub tiles_text-more : ((get_or tiles i d).piece.kind == kind) ≡ true → tiles_text (take (i + 1) tiles) ≡ tiles_text (take i tiles) ++ (spaced (rect_words (get_or tiles i d).piece.rect) ++ 10 ∷ [])
-    tiles_text-more is =
-        let before = filter (λ tile. tile.piece.kind == kind) (take i tiles) in
-        let tile = get_or tiles i d in
-        tiles_text-filter (take (i + 1) tiles) ∙ ap (λ kept. text_of (strip_lines (pieces_of kept))) (more true is)
-        ∙ ap (λ pieces. text_of (strip_lines pieces)) (map-append (λ t. t.piece) before (tile ∷ []))
-        ∙ ap text_of (map-append (λ strip. spaced (rect_words strip.rect)) (pieces_of before) (tile.piece ∷ []))
-        ∙ text_of-append (strip_lines (pieces_of before)) (spaced (rect_words tile.piece.rect) ∷ [])
-        ∙ ap (λ text. text_of (strip_lines (pieces_of before)) ++ text) (text_of-line (spaced (rect_words tile.piece.rect)))
-        ∙ ap (λ text. text ++ (spaced (rect_words tile.piece.rect) ++ 10 ∷ [])) (sym (tiles_text-filter (take i tiles)))
+    -- one more strip of the kind
+    pub strips_text-more : ((get_or strips i d).kind == kind) ≡ true → strips_text (take (i + 1) strips) ≡ strips_text (take i strips) ++ (strip_line (get_or strips i d) ++ 10 ∷ [])
+    strips_text-more is = ap (text_by strip_line) (more true is) ∙ text_by-push strip_line (of_kind kind (take i strips)) (get_or strips i d)
 
     -- one more of another
-    pub tiles_text-other : ((get_or tiles i d).piece.kind == kind) ≡ false → tiles_text (take (i + 1) tiles) ≡ tiles_text (take i tiles)
-    tiles_text-other is =
-        let before = filter (λ tile. tile.piece.kind == kind) (take i tiles) in
-        tiles_text-filter (take (i + 1) tiles) ∙ ap (λ kept. text_of (strip_lines (pieces_of kept))) (more false is ∙ append-nil before)
-        ∙ sym (tiles_text-filter (take i tiles))
+    pub strips_text-other : ((get_or strips i d).kind == kind) ≡ false → strips_text (take (i + 1) strips) ≡ strips_text (take i strips)
+    strips_text-other is = ap (text_by strip_line) (more false is ∙ append-nil (of_kind kind (take i strips)))
 
--- a loop over tiles, at a tile of the type and at another
-module _ (kind : ℕ) (tiles : List LaidTile) (i : ℕ) (tile : LaidTile) (within : i < length tiles) (here : tile ≡ get_or tiles i tile) (base old new : List ℕ) (before : old ≡ base ++ tiles_text kind (take i tiles)) where
-  pub tiles_text-pushed : (tile.piece.kind == kind) ≡ true → new ≡ old ++ (spaced (rect_words tile.piece.rect) ++ 10 ∷ []) → new ≡ base ++ tiles_text kind (take (i + 1) tiles)
-  tiles_text-pushed own appended =
-      let line = λ (t : LaidTile). spaced (rect_words t.piece.rect) ++ 10 ∷ [] in
-      appended ∙ ap (λ text. text ++ line tile) before ∙ append_assoc base (tiles_text kind (take i tiles)) (line tile)
-      ∙ ap (λ t. base ++ (tiles_text kind (take i tiles) ++ line t)) here
-      ∙ ap (λ text. base ++ text) (sym (tiles_text-more kind tiles i tile within (sym (ap (λ t. t.piece.kind == kind) here) ∙ own)))
+-- a loop over strips, at a strip of the kind and at another
+module _ (kind : ℕ) (strips : List Piece) (i : ℕ) (strip : Piece) (within : i < length strips) (here : strip ≡ get_or strips i strip) (base old new : List ℕ)
+    (before : old ≡ base ++ strips_text kind (take i strips)) where
+  pub strips_text-pushed : (strip.kind == kind) ≡ true → new ≡ old ++ (strip_line strip ++ 10 ∷ []) → new ≡ base ++ strips_text kind (take (i + 1) strips)
+  strips_text-pushed own appended =
+      appended ∙ ap (λ text. text ++ (strip_line strip ++ 10 ∷ [])) before ∙ append_assoc base (strips_text kind (take i strips)) (strip_line strip ++ 10 ∷ [])
+      ∙ ap (λ s. base ++ (strips_text kind (take i strips) ++ (strip_line s ++ 10 ∷ []))) here
+      ∙ ap (λ text. base ++ text) (sym (strips_text-more kind strips i strip within (sym (ap (λ s. s.kind == kind) here) ∙ own)))
 
-  pub tiles_text-passed : (tile.piece.kind == kind) ≡ false → new ≡ old → new ≡ base ++ tiles_text kind (take (i + 1) tiles)
-  tiles_text-passed other same = same ∙ before ∙ ap (λ text. base ++ text) (sym (tiles_text-other kind tiles i tile within (sym (ap (λ t. t.piece.kind == kind) here) ∙ other)))
+  pub strips_text-passed : (strip.kind == kind) ≡ false → new ≡ old → new ≡ base ++ strips_text kind (take (i + 1) strips)
+  strips_text-passed other same = same ∙ before ∙ ap (λ text. base ++ text) (sym (strips_text-other kind strips i strip within (sym (ap (λ s. s.kind == kind) here) ∙ other)))
 
 -- ---- a section
 pub length-section_lines-none : (name : List ℕ) (strips : List Piece) → length strips ≡ 0 → 0 ≡ length (section_lines name strips)
@@ -188,17 +166,20 @@ section_lines-some name [] some = absurd (omega (arith, some))
 section_lines-some name (strip ∷ strips) some = text_of-append (spaced (section_words name) ∷ []) (strip_lines (strip ∷ strips))
 
 -- a section whose heading was appended, and then its strips
-pub layer_appended : (tech : Tech) (kind : ℕ) (tiles : List LaidTile) (name old middle new : List ℕ) → name ≡ first_name tech kind → 1 ≤ length (layer_lines tech kind (pieces_of tiles))
-    → middle ≡ old ++ text_of (spaced (section_words name) ∷ []) → new ≡ middle ++ tiles_text kind tiles → new ≡ old ++ text_of (layer_lines tech kind (pieces_of tiles))
-layer_appended tech kind tiles name old middle new first some headed listed =
-    listed ∙ ap (λ text. text ++ tiles_text kind tiles) headed ∙ append_assoc old (text_of (spaced (section_words name) ∷ [])) (tiles_text kind tiles)
-    ∙ ap (λ n. old ++ (text_of (spaced (section_words n) ∷ []) ++ tiles_text kind tiles)) first
-    ∙ ap (λ text. old ++ text) (sym (section_lines-some (first_name tech kind) (of_kind kind (pieces_of tiles)) some))
+pub section_appended : (name : List ℕ) (kind : ℕ) (strips : List Piece) (old middle new : List ℕ) → 1 ≤ length (section_lines name (of_kind kind strips))
+    → middle ≡ old ++ text_of (spaced (section_words name) ∷ []) → new ≡ middle ++ strips_text kind strips → new ≡ old ++ text_of (section_lines name (of_kind kind strips))
+section_appended name kind strips old middle new some headed listed =
+    listed ∙ ap (λ text. text ++ strips_text kind strips) headed ∙ append_assoc old (text_of (spaced (section_words name) ∷ [])) (strips_text kind strips)
+    ∙ ap (λ text. old ++ text) (sym (section_lines-some name (of_kind kind strips) some))
 
 -- ---- the whole file
--- the header and the sections of the first types
-abbrev pub lines_up_to : Tech → (ℕ → List Piece) → ℕ → List (List ℕ)
-lines_up_to tech strips types = header_lines tech ++ layers_lines tech strips (range_with_len 1 types)
+-- lines, and after them the sections of the first types
+abbrev pub lines_up_to : List (List ℕ) → Tech → (ℕ → List Piece) → ℕ → List (List ℕ)
+lines_up_to front tech strips types = front ++ layers_lines tech strips (range_with_len 1 types)
+
+-- lines, and after them the sections of all types and the file's last line
+abbrev pub lines_with_layers : List (List ℕ) → Tech → (ℕ → List Piece) → List (List ℕ)
+lines_with_layers front tech strips = front ++ (layers_lines tech strips (types_of tech) ++ end_lines)
 
 module _ (tech : Tech) (strips : ℕ → List Piece) where
   abbrev pub type_lines : ℕ → List (List ℕ)
@@ -212,54 +193,54 @@ module _ (tech : Tech) (strips : ℕ → List Piece) where
   unfolding layers_lines
   layers_lines-none = refl
 
-  pub lines_up_to-next : (types : ℕ) → lines_up_to tech strips (suc types) ≡ lines_up_to tech strips types ++ type_lines (1 + types)
+module _ (front : List (List ℕ)) (tech : Tech) (strips : ℕ → List Piece) where
+  abbrev up_to : ℕ → List (List ℕ)
+  up_to types = lines_up_to front tech strips types
+
+  pub lines_up_to-next : (types : ℕ) → up_to (suc types) ≡ up_to types ++ type_lines tech strips (1 + types)
   lines_up_to-next types =
-      ap (λ kinds. header_lines tech ++ layers_lines tech strips kinds) (range-push 1 types)
-      ∙ ap (λ l. header_lines tech ++ l) (layers_lines-push (range_with_len 1 types) (1 + types))
-      ∙ sym (append_assoc (header_lines tech) (layers_lines tech strips (range_with_len 1 types)) (type_lines (1 + types)))
+      ap (λ kinds. front ++ layers_lines tech strips kinds) (range-push 1 types) ∙ ap (λ l. front ++ l) (layers_lines-push tech strips (range_with_len 1 types) (1 + types))
+      ∙ sym (append_assoc front (layers_lines tech strips (range_with_len 1 types)) (type_lines tech strips (1 + types)))
 
   -- before the first type
-  pub lines_up_to-none : lines_up_to tech strips 0 ≡ header_lines tech
-  lines_up_to-none = ap (λ l. header_lines tech ++ l) layers_lines-none
+  pub lines_up_to-none : up_to 0 ≡ front
+  lines_up_to-none = ap (λ l. front ++ l) (layers_lines-none tech strips) ∙ append-nil front
 
   -- one type more, on whose plane these strips are
   pub lines_up_to-more : (types plane : ℕ) (list : List Piece) → plane_of_type tech.type_planes (types + 1) ≡ Some plane → list ≡ strips plane
-      → lines_up_to tech strips (types + 1) ≡ lines_up_to tech strips types ++ layer_lines tech (types + 1) list
+      → up_to (types + 1) ≡ up_to types ++ layer_lines tech (types + 1) list
   lines_up_to-more types plane list place listed =
       let next : 1 + types ≡ types + 1 = omega arith in
       let later : types + 1 ≡ suc types = omega arith in
-      ap (λ kinds. header_lines tech ++ layers_lines tech strips kinds)
-      (ap (range_with_len 1) later ∙ range-push 1 types ∙ ap (λ kind. range_with_len 1 types ++ kind ∷ []) next)
-      ∙ ap (λ l. header_lines tech ++ l) (layers_lines-push (range_with_len 1 types) (types + 1))
-      ∙ sym (append_assoc (header_lines tech) (layers_lines tech strips (range_with_len 1 types)) (type_lines (types + 1)))
-      ∙ ap (λ found. lines_up_to tech strips types ++ layer_lines tech (types + 1) (option_map_or strips found [])) place
-      ∙ ap (λ l. lines_up_to tech strips types ++ layer_lines tech (types + 1) l) (sym listed)
+      ap (λ kinds. front ++ layers_lines tech strips kinds) (ap (range_with_len 1) later ∙ range-push 1 types ∙ ap (λ kind. range_with_len 1 types ++ kind ∷ []) next)
+      ∙ ap (λ l. front ++ l) (layers_lines-push tech strips (range_with_len 1 types) (types + 1))
+      ∙ sym (append_assoc front (layers_lines tech strips (range_with_len 1 types)) (type_lines tech strips (types + 1)))
+      ∙ ap (λ found. up_to types ++ layer_lines tech (types + 1) (option_map_or strips found [])) place ∙ ap (λ l. up_to types ++ layer_lines tech (types + 1) l) (sym listed)
 
   -- all types
-  pub lines_up_to-all : lines_up_to tech strips (length tech.type_planes) ++ end_lines ≡ file_lines tech strips
-  lines_up_to-all = append_assoc (header_lines tech) (layers_lines tech strips (types_of tech)) end_lines
+  pub lines_up_to-all : up_to (length tech.type_planes) ++ end_lines ≡ lines_with_layers front tech strips
+  lines_up_to-all = append_assoc front (layers_lines tech strips (types_of tech)) end_lines
 
   -- ---- for a loop over the types that appends to a text and counts its lines
   pub text_up_to-more : (base old new : List ℕ) (types plane : ℕ) (list : List Piece) → plane_of_type tech.type_planes (types + 1) ≡ Some plane → list ≡ strips plane
-      → old ≡ base ++ text_of (lines_up_to tech strips types) → new ≡ old ++ text_of (layer_lines tech (types + 1) list) → new ≡ base ++ text_of (lines_up_to tech strips (types + 1))
+      → old ≡ base ++ text_of (up_to types) → new ≡ old ++ text_of (layer_lines tech (types + 1) list) → new ≡ base ++ text_of (up_to (types + 1))
   text_up_to-more base old new types plane list place listed before appended =
-      appended ∙ ap (λ text. text ++ text_of (layer_lines tech (types + 1) list)) before
-      ∙ append_assoc base (text_of (lines_up_to tech strips types)) (text_of (layer_lines tech (types + 1) list))
-      ∙ ap (λ text. base ++ text) (sym (text_of-append (lines_up_to tech strips types) (layer_lines tech (types + 1) list)) ∙ ap text_of (sym (lines_up_to-more types plane list place listed)))
+      appended ∙ ap (λ text. text ++ text_of (layer_lines tech (types + 1) list)) before ∙ append_assoc base (text_of (up_to types)) (text_of (layer_lines tech (types + 1) list))
+      ∙ ap (λ text. base ++ text) (sym (text_of-append (up_to types) (layer_lines tech (types + 1) list)) ∙ ap text_of (sym (lines_up_to-more types plane list place listed)))
 
-  pub text_up_to-all : (base old new : List ℕ) → old ≡ base ++ text_of (lines_up_to tech strips (length tech.type_planes)) → new ≡ old ++ text_of end_lines → new ≡ base ++ text_of (file_lines tech strips)
+  pub text_up_to-all : (base old new : List ℕ) → old ≡ base ++ text_of (up_to (length tech.type_planes)) → new ≡ old ++ text_of end_lines
+      → new ≡ base ++ text_of (lines_with_layers front tech strips)
   text_up_to-all base old new before appended =
-      let all = lines_up_to tech strips (length tech.type_planes) in
+      let all = up_to (length tech.type_planes) in
       appended ∙ ap (λ text. text ++ text_of end_lines) before ∙ append_assoc base (text_of all) (text_of end_lines)
       ∙ ap (λ text. base ++ text) (sym (text_of-append all end_lines) ∙ ap text_of lines_up_to-all)
 
-  pub count_up_to-none : length (lines_up_to tech strips 0) ≡ 2
+  pub count_up_to-none : length (up_to 0) ≡ length front
   count_up_to-none = ap length lines_up_to-none
 
   pub count_up_to-more : (types plane : ℕ) (list : List Piece) → plane_of_type tech.type_planes (types + 1) ≡ Some plane → list ≡ strips plane
-      → length (lines_up_to tech strips (types + 1)) ≡ length (lines_up_to tech strips types) + length (layer_lines tech (types + 1) list)
-  count_up_to-more types plane list place listed =
-      ap length (lines_up_to-more types plane list place listed) ∙ length-append (lines_up_to tech strips types) (layer_lines tech (types + 1) list)
+      → length (up_to (types + 1)) ≡ length (up_to types) + length (layer_lines tech (types + 1) list)
+  count_up_to-more types plane list place listed = ap length (lines_up_to-more types plane list place listed) ∙ length-append (up_to types) (layer_lines tech (types + 1) list)
 
-  pub count_up_to-all : length (file_lines tech strips) ≡ length (lines_up_to tech strips (length tech.type_planes)) + 1
-  count_up_to-all = ap length (sym lines_up_to-all) ∙ length-append (lines_up_to tech strips (length tech.type_planes)) end_lines
+  pub count_up_to-all : length (lines_with_layers front tech strips) ≡ length (up_to (length tech.type_planes)) + 1
+  count_up_to-all = ap length (sym lines_up_to-all) ∙ length-append (up_to (length tech.type_planes)) end_lines

@@ -38,6 +38,15 @@ impl Model for CellId {
     ghost inverse = { λ index. record { index = index } };
 }
 
+impl CellId {
+    /// Returns the number.
+    pub fn number(self) -> usize
+        ensures { result ≡ self }
+    {
+        self.index
+    }
+}
+
 /// Cells by name, in the order in which they were loaded, whose planes lie in a pool and never change.
 #[derive(Drop)]
 pub struct Library {
@@ -96,6 +105,13 @@ impl Library {
     {
         let (name, _) = self.cells.get_index(id.index)?;
         Some(name.as_slice())
+    }
+
+    /// Returns the name of the cell at this place in the order of loading.
+    pub fn name_at(&self, place: usize) -> Option<&[u8]>
+        ensures { option_map (λ name. name.now) result ≡ slice_get (spec.names_of self.now) place }
+    {
+        self.name(CellId { index: place })
     }
 
     /// Loads a cell from a file, with a plane for each plane of the technology. Each reserves just as many tiles of the

@@ -1,32 +1,38 @@
 //! The writing of cell files.
-ghost use Rattle.std.specs.Prelude.{◌≡◌, ◌+◌, ◌++◌, ◌∷◌, ◌==◌, ◌≤◌, ◌<◌, [], IfSome, OnErr, OnOk, count_by, length, map, vec_capacity, vec_len};
+ghost use Rattle.std.specs.Prelude.{◌≡◌, ℕ, List, ◌+◌, ◌++◌, ◌∷◌, ◌==◌, ◌≤◌, ◌<◌, [], IfSome, OnErr, OnOk, count_by, length, vec_capacity, vec_len};
 ghost use Rattle.std.specs.Fmt.{signed_decimal};
 ghost use Rattle.mls_library.specs.SavedCells as spec;
 ghost use Rattle.mls_tech.specs.Readings.{Tech};
 ghost use Rattle.mls_text.specs.Lines.{IsUnbroken};
 
 use itoa::Buffer;
-use mls_geom::Rect;
-use mls_stitch::LaidTile;
+use mls_geom::{Piece, Rect};
 use mls_tech::Tech;
 use std::alloc::AllocError;
 
-/// Returns how many lines the section of a type has in a cell file, where the type's plane has these tiles.
-pub fn layer_line_count(tiles: &[LaidTile], kind: u8) -> usize
-    ensures { (tech : Tech) → result ≡ length (spec.layer_lines tech kind (map (λ tile. tile.piece) tiles.now)) }
+/// Returns how many lines the section of a type has in a cell file, where the type's plane has these strips.
+pub fn layer_line_count(strips: &[Piece], kind: u8) -> usize
+    ensures { (tech : Tech) → result ≡ length (spec.layer_lines tech kind strips.now) }
 {
-    match count_strips(tiles, kind) {
+    section_line_count(strips, kind)
+}
+
+/// Returns how many lines a section has with the strips of a kind among these.
+pub(crate) fn section_line_count(strips: &[Piece], kind: u8) -> usize
+    ensures { (name : List ℕ) → result ≡ length (spec.section_lines name (spec.of_kind kind strips.now)) }
+{
+    match count_strips(strips, kind) {
         0 => 0,
         strips => strips + 1,
     }
 }
 
-/// Returns how many tiles are of the type.
-fn count_strips(tiles: &[LaidTile], kind: u8) -> usize
-    ensures value { result ≡ count_by (λ tile. tile.piece.kind == kind) tiles.now }
-    ensures bound { result ≤ length tiles.now }
+/// Returns how many strips are of the kind.
+fn count_strips(strips: &[Piece], kind: u8) -> usize
+    ensures value { result ≡ count_by (λ strip. strip.kind == kind) strips.now }
+    ensures bound { result ≤ length strips.now }
 {
-    tiles.iter().filter(|tile| tile.piece.kind == kind).count()
+    strips.iter().filter(|strip| strip.kind == kind).count()
 }
 
 /// Appends the first lines of a cell file.
@@ -51,8 +57,8 @@ pub fn push_header(tech: &Tech, out: &mut Vec<u8>) -> Result<(), AllocError>
     Ok(())
 }
 
-/// Appends the section of a type, whose plane has these tiles, by bottom and then left. It has none without a tile of
-/// the type.
+/// Appends the section of a type, whose plane has these strips, by bottom and then left. There is none without a strip
+/// of the type.
 ///
 /// # Errors
 ///
@@ -60,21 +66,38 @@ pub fn push_header(tech: &Tech, out: &mut Vec<u8>) -> Result<(), AllocError>
 pub fn push_layer(
     tech: &Tech,
     kind: u8,
-    tiles: &[LaidTile],
+    strips: &[Piece],
     out: &mut Vec<u8>,
 ) -> Result<(), AllocError>
     ensures text { OnOk result (out.new.items
-        ≡ out.old.items ++ spec.text_of (spec.layer_lines tech.now kind (map (λ tile. tile.piece) tiles.now))) }
+        ≡ out.old.items ++ spec.text_of (spec.layer_lines tech.now kind strips.now)) }
     ensures kept { OnErr result (spec.Extends out.old.items out.new.items) }
-    ensures room { OnErr result (vec_capacity out.old < vec_len out.old
-        + length (spec.text_of (spec.layer_lines tech.now kind (map (λ tile. tile.piece) tiles.now)))) }
+    ensures room { OnErr result (vec_capacity out.old
+        < vec_len out.old + length (spec.text_of (spec.layer_lines tech.now kind strips.now))) }
     ensures capacity { vec_capacity out.old ≤ vec_capacity out.new }
 {
-    if layer_line_count(tiles, kind) == 0 {
+    push_strip_section(first_name(tech, kind), kind, strips, out)
+}
+
+/// Appends the section of this name with the strips of a kind among these. There is none without a strip of the kind.
+pub(crate) fn push_strip_section(
+    name: &[u8],
+    kind: u8,
+    strips: &[Piece],
+    out: &mut Vec<u8>,
+) -> Result<(), AllocError>
+    ensures text { OnOk result (out.new.items
+        ≡ out.old.items ++ spec.text_of (spec.section_lines name.now (spec.of_kind kind strips.now))) }
+    ensures kept { OnErr result (spec.Extends out.old.items out.new.items) }
+    ensures room { OnErr result (vec_capacity out.old
+        < vec_len out.old + length (spec.text_of (spec.section_lines name.now (spec.of_kind kind strips.now)))) }
+    ensures capacity { vec_capacity out.old ≤ vec_capacity out.new }
+{
+    if section_line_count(strips, kind) == 0 {
         return Ok(());
     }
-    push_section(first_name(tech, kind), out)?;
-    push_strips(kind, tiles, out)
+    push_section(name, out)?;
+    push_strips(kind, strips, out)
 }
 
 /// Returns the name that is written for a type.
@@ -100,7 +123,7 @@ pub fn push_end(out: &mut Vec<u8>) -> Result<(), AllocError>
 
 /// Appends the line that begins a section.
 #[tactic(auto, unfolding(crate::specs::SavedCells::text_of))]
-fn push_section(name: &[u8], out: &mut Vec<u8>) -> Result<(), AllocError>
+pub(crate) fn push_section(name: &[u8], out: &mut Vec<u8>) -> Result<(), AllocError>
     ensures text { OnOk result (out.new.items
         ≡ out.old.items ++ spec.text_of (spec.spaced (spec.section_words name.now) ∷ [])) }
     ensures kept { OnErr result (spec.Extends out.old.items out.new.items) }
@@ -113,25 +136,25 @@ fn push_section(name: &[u8], out: &mut Vec<u8>) -> Result<(), AllocError>
     out.extend_from_slice(b" >>\n")
 }
 
-/// Appends a line for each tile of the type.
-fn push_strips(kind: u8, tiles: &[LaidTile], out: &mut Vec<u8>) -> Result<(), AllocError>
+/// Appends a line for each strip of the kind.
+fn push_strips(kind: u8, strips: &[Piece], out: &mut Vec<u8>) -> Result<(), AllocError>
     ensures text { OnOk result (out.new.items
-        ≡ out.old.items ++ spec.text_of (spec.strip_lines (spec.of_kind kind (map (λ tile. tile.piece) tiles.now)))) }
+        ≡ out.old.items ++ spec.text_of (spec.strip_lines (spec.of_kind kind strips.now))) }
     ensures kept { OnErr result (spec.Extends out.old.items out.new.items) }
     ensures room { OnErr result (vec_capacity out.old < vec_len out.old
-        + length (spec.text_of (spec.strip_lines (spec.of_kind kind (map (λ tile. tile.piece) tiles.now))))) }
+        + length (spec.text_of (spec.strip_lines (spec.of_kind kind strips.now)))) }
     ensures capacity { vec_capacity out.old ≤ vec_capacity out.new }
 {
-    for tile in tiles {
-        if tile.piece.kind == kind {
-            push_rect(tile.piece.rect, out)?;
+    for strip in strips {
+        if strip.kind == kind {
+            push_rect(strip.rect, out)?;
         }
     }
     Ok(())
 }
 
 /// Appends the line of a rectangle.
-fn push_rect(rect: Rect, out: &mut Vec<u8>) -> Result<(), AllocError>
+pub(crate) fn push_rect(rect: Rect, out: &mut Vec<u8>) -> Result<(), AllocError>
     ensures text { OnOk result (out.new.items ≡ out.old.items ++ (spec.spaced (spec.rect_words rect) ++ 10 ∷ [])) }
     ensures kept { OnErr result (spec.Extends out.old.items out.new.items) }
     ensures room { OnErr result (vec_capacity out.old

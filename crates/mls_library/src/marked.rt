@@ -1,0 +1,86 @@
+//! The writing of what is known of the squares that rules forbid, beside a layout's own sections.
+ghost use Rattle.std.specs.Prelude.{◌≡◌, ◌+◌, ◌++◌, ◌≤◌, ◌<◌, OnErr, OnOk, length, vec_capacity, vec_len};
+ghost use Rattle.mls_library.specs.MarkedCells as spec;
+ghost use Rattle.mls_library.specs.SavedCells.{Extends, text_of};
+
+use crate::plane_strips::MOST_TILES;
+use crate::saved::{push_rect, push_section, push_strip_section, section_line_count};
+use mls_geom::{Piece, Rect};
+use std::alloc::AllocError;
+
+/// The kind of a square that is marked.
+const MARKED: u8 = 1;
+
+/// Returns the most tiles that a plane may have together with the cells that are placed on it, where it may have a
+/// quota of its own.
+pub fn most_flat_tiles(quota: u32) -> usize
+    ensures { result ≡ spec.most_flat_tiles quota }
+{
+    quota.max(MOST_TILES) as usize
+}
+
+/// Returns how many lines the section of areas that await checking has in a cell file.
+pub fn dirty_line_count(areas: &[Rect]) -> usize
+    ensures { result ≡ length (spec.dirty_lines areas.now) }
+{
+    match areas.len() {
+        0 => 0,
+        areas => areas + 1,
+    }
+}
+
+/// Returns how many lines the section of the marks has in a cell file, where their plane has these strips.
+pub fn mark_line_count(strips: &[Piece]) -> usize
+    ensures { result ≡ length (spec.mark_lines strips.now) }
+{
+    section_line_count(strips, MARKED)
+}
+
+/// Appends the section of areas that await checking, in their order. There is none without an area.
+///
+/// # Errors
+///
+/// Out of memory, where the text had no room for all that is appended. What it had before is still in front of it.
+pub fn push_dirty(areas: &[Rect], out: &mut Vec<u8>) -> Result<(), AllocError>
+    ensures text { OnOk result (out.new.items ≡ out.old.items ++ text_of (spec.dirty_lines areas.now)) }
+    ensures kept { OnErr result (Extends out.old.items out.new.items) }
+    ensures room { OnErr result (vec_capacity out.old
+        < vec_len out.old + length (text_of (spec.dirty_lines areas.now))) }
+    ensures capacity { vec_capacity out.old ≤ vec_capacity out.new }
+{
+    if areas.is_empty() {
+        return Ok(());
+    }
+    push_section(b"checkpaint", out)?;
+    push_rects(areas, out)
+}
+
+/// Appends a line for each rectangle.
+fn push_rects(rects: &[Rect], out: &mut Vec<u8>) -> Result<(), AllocError>
+    ensures text { OnOk result (out.new.items ≡ out.old.items ++ text_of (spec.rect_lines rects.now)) }
+    ensures kept { OnErr result (Extends out.old.items out.new.items) }
+    ensures room { OnErr result (vec_capacity out.old
+        < vec_len out.old + length (text_of (spec.rect_lines rects.now))) }
+    ensures capacity { vec_capacity out.old ≤ vec_capacity out.new }
+{
+    for rect in rects {
+        push_rect(*rect, out)?;
+    }
+    Ok(())
+}
+
+/// Appends the section of the marks, where their plane has these strips, by bottom and then left. There is none
+/// without a mark.
+///
+/// # Errors
+///
+/// Out of memory, where the text had no room for all that is appended. What it had before is still in front of it.
+pub fn push_marks(strips: &[Piece], out: &mut Vec<u8>) -> Result<(), AllocError>
+    ensures text { OnOk result (out.new.items ≡ out.old.items ++ text_of (spec.mark_lines strips.now)) }
+    ensures kept { OnErr result (Extends out.old.items out.new.items) }
+    ensures room { OnErr result (vec_capacity out.old
+        < vec_len out.old + length (text_of (spec.mark_lines strips.now))) }
+    ensures capacity { vec_capacity out.old ≤ vec_capacity out.new }
+{
+    push_strip_section(b"error_p", MARKED, strips, out)
+}
