@@ -11,6 +11,7 @@
 #   edit              a square of 8 by 8 is painted with poly in a scatter that was checked, or poly is erased in it; it lies
 #                     at 20 places by turns, so that the plane keeps about its tiles
 #   catch up          the same, and checked after each edit; less the time of the edits
+#   count             the number of marks in a scatter that was checked
 #   why               the rules that are violated in a box of 20 by 20 somewhere in a scatter
 #   why, world        the rules that are violated anywhere in the world, where the layout is three bars
 #   empty world       the whole world is checked, which is empty: 65,536 pieces
@@ -27,6 +28,7 @@ trap 'rm -rf "$work"' EXIT
 #   nothing   nothing; the areas are left to be checked
 #   checked   checks the scatter, and then nothing
 #   box       checks the scatter, and then the box round it
+#   count     checks the scatter, and then counts its marks
 #   edit      checks the scatter, and then edits
 #   catchup   checks the scatter, and then edits and checks after each edit
 #   look      checks the scatter, and then sets the box of a look
@@ -49,6 +51,8 @@ scatter() {
                 if (step == "box") {
                     box(0, 0, side + 16, side + 16)
                     print "a drc check\na drc catchup"
+                } else if (step == "count") {
+                    print "a drc count"
                 } else if (step == "edit" || step == "catchup") {
                     if (r < 20) { left[r] = roll(side); bottom[r] = roll(side) }
                     box(left[r % 20], bottom[r % 20], 8, 8)
@@ -115,6 +119,8 @@ for size in '8900 1160' '16000 800' '4000 500'; do
     cp "$work/more" "$work/less"
     scatter "$n" "$side" box 10 > "$work/more"
     row 'check the box' "$n over $side" 10
+    scatter "$n" "$side" count 10000 > "$work/more"
+    row count "$n over $side" 10000
 done
 for size in 540:1014 2200:3937 8900:14373; do
     n=${size%:*}

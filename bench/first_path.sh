@@ -6,7 +6,8 @@
 # two of the ladder's edges crosses all tall bars. A scatter is the first n of 16,000 rectangles of 4 to 16 squares a
 # side, strewn over 1,160 by 1,160 squares by a fixed generator (Park and Miller 1988), poly and ndiff by turns. The
 # lines repaint the squares, the short bars or the rectangles, one after another, now with ndiff and now with poly, and
-# look at each. The last row paints all 16,000 rectangles, once the quota is full those that still fit.
+# look at each. The last rows paint all 16,000 rectangles, once the quota is full those that still fit, and have 60,000 lines
+# that only set a box, and 200,000 blank ones.
 set -eu
 here=$(cd "$(dirname "${BASH_SOURCE[0]}")/.." && pwd)
 scripts=$(mktemp -d)
@@ -67,6 +68,26 @@ scatter() {
         }'
 }
 
+# boxes N: N lines that only set a box
+boxes() {
+    echo "%open a"
+    awk -v n="$1" 'BEGIN { for (i = 0; i < n; i++) printf "a box %d 0 %d 10\n", i % 100, i % 100 + 5 }'
+}
+
+# blanks N: N blank lines
+blanks() {
+    echo "%open a"
+    awk -v n="$1" 'BEGIN { for (i = 0; i < n; i++) print "" }'
+}
+
+# line SHAPE N: the row of a line of this shape, of which there are N
+line() {
+    "$1" 0 > "$scripts/before"
+    "$1" "$2" > "$scripts/after"
+    awk -v shape="$1" -v n="$2" -v b="$(seconds "$scripts/before")" -v a="$(seconds "$scripts/after")" \
+        'BEGIN { printf "%s\t%.2f us each\n", shape, (a - b) / n * 1e6 }'
+}
+
 # seconds FILE: how long magicd takes for a script, the best of three runs
 seconds() {
     local best= start end took
@@ -114,3 +135,5 @@ done
 awk -v last="$scatter_us" -v first="$first_us" 'BEGIN { printf "scatter of 14932 tiles/of 1020\t%.2f\n", last / first }'
 scatter 16000 0 > "$scripts/all"
 awk -v s="$(seconds "$scripts/all")" 'BEGIN { printf "16000 boxes and paints\t%.1f us each\n", s / 16000 * 1e6 }'
+line boxes 60000
+line blanks 200000

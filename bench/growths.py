@@ -51,6 +51,8 @@ PLAIN = {
     "look_save": ["a refused 9 memory", "kept"],
     "look_why": ["a refused 9 memory", "kept"],
     "look_stat": ["a refused 9 memory", "kept"],
+    "look_uses": ["a refused 9 memory", "kept"],
+    "look_marks": ["a refused 9 memory", "kept"],
     "why": ["a refused 9 memory"],
     "what": ["a refused 9 memory"],
     "grab": ["a grab memory"],
@@ -192,6 +194,8 @@ a erase poly,m1
 a what
 %stat a
 %save b
+%uses b
+%marks b
 %why b 0 0 300 1
 %audit a
 b box 0 0 400 20
@@ -231,6 +235,7 @@ three box 0 0 4 4
 three drc why
 three drc catchup
 three save
+%marks three
 three what
 """
 # Each count follows a catchup, so that it depends on no check step of the workers.
@@ -254,6 +259,7 @@ b drc catchup
 b drc count
 c what
 %save b
+%uses b
 %why b 0 0 2 10
 %audit a
 %open c
@@ -320,13 +326,13 @@ def scripts(folder):
 
 
 def replies_in(out):
-    """Returns the replies of an output: each is a line, a saved text's with the lines that follow it."""
+    """Returns the replies of an output: each is a line, that of a text or a list with the lines that follow it."""
     text = out.decode()
     if text and not text.endswith("\n"):
         raise Failed("its last line has no end")
     lines, replies = text.split("\n")[:-1], []
     while lines:
-        count = int(found[1]) if (found := re.fullmatch(r"\w+ saved (\d+)", lines[0])) else 0
+        count = int(found[1]) if (found := re.fullmatch(r"\w+ (?:saved|marked|uses) (\d+)", lines[0])) else 0
         if len(lines) < count + 1:
             raise Failed("a saved text is cut")
         replies.append("\n".join(lines[: count + 1]))
@@ -342,7 +348,7 @@ SAYS = {
     "what": (r"(\w+) what", r"{} refused 9 memory"),
     "catchup": (r"(\w+) drc catchup", r"{} refused 9 memory (\d+) pending"),
     "step": (r"%step (\w+)", r"{} step memory"),
-    "look": (r"%(?:save|why|stat) (\w+).*", r"{} refused 9 memory"),
+    "look": (r"%(?:save|why|stat|uses|marks) (\w+).*", r"{} refused 9 memory"),
 }
 MOST_STEPS = 12
 

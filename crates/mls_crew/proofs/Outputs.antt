@@ -3,7 +3,6 @@ use Rattle.std.proofs.Common.{◌≡◌, ℕ, Bool, Option, Some, None, Result, 
 use Rattle.std.specs.Io.KnownBytes.{Appends}
 use Rattle.mls_server.specs.Settings.{terms_for}
 use Rattle.mls_server.specs.Worlds.{World}
-use Rattle.mls_tech.specs.Readings.{Tech}
 use Rattle.mls_wire.specs.Ahead.{SaysScript, StopsReading}
 use Rattle.mls_wire.specs.NameBooks.{book_of}
 use Rattle.mls_wire.specs.Serving.{AppendsFront}
@@ -12,22 +11,22 @@ use Rattle.mls_wire.specs.declared.line.Line.{Line}
 use Rattle.mls_wire.specs.declared.line.LineFault.{LineFault}
 use Rattle.mls_wire.specs.declared.serving.ServeFault.{ServeFault}
 use Rattle.mls_wire.specs.declared.serving.ServeFault.TheVariants.{Read, Write, Memory}
-use Rattle.mls_crew.specs.Books.{labels_of}
+use Rattle.mls_crew.specs.Books.{Labels, labels_in, labels_of}
 use Rattle.mls_crew.specs.Scripts.{FailsCrew, TellsLines, WritesCrew, WritesFront}
 
-module _ (on : World) (tech : Tech) (said : List (Result Line LineFault)) (audited : Bool) (out : List ℕ) (same : tech ≡ on.setting.tech)
-    (tells : TellsLines (terms_for on.setting) (labels_of tech) said audited out) where
+module _ (on : World) (labels : Labels) (said : List (Result Line LineFault)) (audited : Bool) (out : List ℕ) (same : labels ≡ labels_in on.setting)
+    (tells : TellsLines (terms_for on.setting) (labels_of labels) said audited out) where
   pub crew_writes : (script written now : Option (List ℕ)) → SaysScript (book_of on) script said → Appends written now out → WritesCrew on script written now audited
   crew_writes None written now says gained = tt
   crew_writes (Some script) written now says gained =
-      let there = subst (λ (t : Tech). TellsLines (terms_for on.setting) (labels_of t) said audited out) same tells in
-      (out, subst (λ (s : List (Result Line LineFault)). TellsLines (terms_for on.setting) (labels_of on.setting.tech) s audited out) says there, gained)
+      let there = subst (λ (l : Labels). TellsLines (terms_for on.setting) (labels_of l) said audited out) same tells in
+      (out, subst (λ (s : List (Result Line LineFault)). TellsLines (terms_for on.setting) (labels_of (labels_in on.setting)) s audited out) says there, gained)
 
   pub crew_begins : (script written now : Option (List ℕ)) → SaysScript (book_of on) script said → AppendsFront written now out → WritesFront on script written now
   crew_begins None written now says gained = tt
   crew_begins (Some script) written now says gained =
-      let there = subst (λ (t : Tech). TellsLines (terms_for on.setting) (labels_of t) said audited out) same tells in
-      (audited, out, subst (λ (s : List (Result Line LineFault)). TellsLines (terms_for on.setting) (labels_of on.setting.tech) s audited out) says there, gained)
+      let there = subst (λ (l : Labels). TellsLines (terms_for on.setting) (labels_of l) said audited out) same tells in
+      (audited, out, subst (λ (s : List (Result Line LineFault)). TellsLines (terms_for on.setting) (labels_of (labels_in on.setting)) s audited out) says there, gained)
 
 -- reading the script fails, and nothing was written
 pub reading_fails :

@@ -13,7 +13,7 @@ use Rattle.mls_wire.specs.declared.line.Line.{Line}
 use Rattle.mls_wire.specs.declared.line.LineFault.{LineFault}
 use Rattle.mls_wire.specs.declared.serving.ServeFault.{ServeFault}
 use Rattle.mls_wire.specs.declared.serving.ServeFault.TheVariants.{Read, Write, Memory}
-use Rattle.mls_crew.specs.Books.{labels_of}
+use Rattle.mls_crew.specs.Books.{labels_in, labels_of}
 use Rattle.mls_crew.specs.Groups.{TellsGroup, Told, lines_of}
 use Rattle.mls_crew.specs.Sorting.{Sorted, Sorts}
 
@@ -42,7 +42,7 @@ pub record TellsLines (terms : Terms) (book : Names) (said : List (Result Line L
   pub all : audited ≡ list_all (λ group. group.audited) told
 
 abbrev pub TellsScript : World → List (Option (List ℕ)) → Bool → List ℕ → Type 0
-TellsScript on lines audited out = TellsLines (terms_for on.setting) (labels_of on.setting.tech) (map (ahead_says (book_of on)) lines) audited out
+TellsScript on lines audited out = TellsLines (terms_for on.setting) (labels_of (labels_in on.setting)) (map (ahead_says (book_of on)) lines) audited out
 
 -- the output gained what is written to the script
 abbrev pub WritesCrew : World → Option (List ℕ) → Option (List ℕ) → Option (List ℕ) → Bool → Type 0

@@ -4,6 +4,7 @@ ghost use Rattle.std.specs.List.{flat_map, list_all};
 ghost use Rattle.mls_server.specs.Servers.{world_of};
 ghost use Rattle.mls_server.specs.Settings.{terms_for};
 ghost use Rattle.mls_crew.specs.Books.{labels_of};
+ghost use Rattle.mls_server.specs.Settings.{cell_names};
 ghost use Rattle.mls_crew.specs.Scripts.{FailsCrew, TellsLines, WritesCrew};
 
 use crate::Labels;
@@ -96,7 +97,8 @@ fn say<N: Naming + Send + Sync, T: Threads + Wait + Sync>(
     requires blank { (blank.name ≡ N.name) × (blank.parts ≡ N.parts) }
     requires parts { N.parts ≡ 65 }
     ensures { IfOk result (λ output. TellsLines N.terms
-        (labels_of crew.tech) script.now output.audited output.text.items) }
+        (labels_of (record { tech = crew.tech; cells = cell_names (world_of crew.server).setting }))
+        script.now output.audited output.text.items) }
 {
     let Crew {
         server,
@@ -104,8 +106,8 @@ fn say<N: Naming + Send + Sync, T: Threads + Wait + Sync>(
         workers,
     } = crew;
     let limit = server.journal_limit();
+    let labels = Labels::new(tech, server.cell_names(alloc)?);
     let live = Live::<N>::new(server, limit, blank);
-    let labels = Labels::new(tech);
     let (notices, ids) = unbounded(alloc)?;
     let receivers = clones(alloc, &ids, workers)?;
     let desk = Desk {

@@ -1,5 +1,6 @@
-//! What types and rules are called in replies.
-ghost use Rattle.std.specs.Prelude.{◌≡◌};
+//! What types, rules and cells are called in replies.
+ghost use Rattle.std.specs.Prelude.{◌≡◌, map, slice_get};
+ghost use Rattle.std.specs.Option.{option_map};
 
 use mls_library::CellId;
 use mls_server::{Name, SessionId};
@@ -7,26 +8,32 @@ use mls_tech::Tech;
 use mls_wire::Names;
 use std::marker::Model;
 
-/// What the types and rules of a technology are called in replies. No other name means anything to it.
+/// What the types and rules of a technology, and cells, are called in replies. No other name means anything to it.
 #[derive(Drop)]
 pub struct Labels {
     tech: Tech,
+    /// The names of the cells, by their numbers.
+    cells: Vec<Vec<u8>>,
 }
 
 impl Model for Labels {
-    ghost use Rattle.mls_tech.specs.Readings.{Tech};
+    ghost use Rattle.std.specs.Prelude.{map};
+    ghost use Rattle.mls_crew.specs.Books.{Labels};
 
-    ghost Value = { Tech };
+    ghost Value = { Labels };
 
-    ghost view = { λ labels. labels.tech };
+    ghost view = { λ labels. record {
+      tech = labels.tech;
+      cells = map (λ name. name.items) labels.cells.items;
+    } };
 }
 
 impl Labels {
-    /// Returns the labels of a technology.
-    pub fn new(tech: Tech) -> Labels
-        ensures { result ≡ tech }
+    /// Returns the labels of a technology, and of cells of these names.
+    pub fn new(tech: Tech, cells: Vec<Vec<u8>>) -> Labels
+        ensures { result ≡ record { tech = tech; cells = map (λ name. name.items) cells.items } }
     {
-        Labels { tech }
+        Labels { tech, cells }
     }
 }
 
@@ -41,6 +48,11 @@ impl Names for Labels {
 
     fn cell_of(&self, _word: &[u8]) -> Option<CellId> {
         None
+    }
+
+    fn cell_name(&self, cell: CellId) -> Option<&[u8]> {
+        let name = self.cells.get(cell.number())?;
+        Some(name.as_slice())
     }
 
     fn type_name(&self, kind: u8) -> Option<&[u8]> {

@@ -1,5 +1,5 @@
 //! What is said at a seat.
-ghost use Rattle.std.specs.Prelude.{◌≡◌, ◌++◌, ℕ, List, [], IfOk, OnOk, length};
+ghost use Rattle.std.specs.Prelude.{◌≡◌, ◌+◌, ◌++◌, ◌<◌, ℕ, List, [], IfOk, OnErr, OnOk, length, vec_capacity, vec_len};
 ghost use Rattle.mls_live.specs.Lists.{list_of};
 ghost use Rattle.mls_crew.specs.Books.{labels_of};
 ghost use Rattle.mls_crew.specs.Groups.{SaysCommand, SaysLine, SaysLines, SaysLook, SaysAudit, TellsGroup, lines_of};
@@ -128,6 +128,10 @@ fn say_lines<N: Naming, R: Wait>(
 }
 
 /// Says a line at a seat, and appends its reply text.
+///
+/// # Errors
+///
+/// Out of memory, where the list had no room for the whole text. The line was said all the same.
 fn say_line<N: Naming, R: Wait>(
     rt: &R,
     part: &Part<'_>,
@@ -136,9 +140,10 @@ fn say_line<N: Naming, R: Wait>(
     line: &SeatLine,
     out: &mut Vec<u8>,
 ) -> Result<(), AllocError>
-    ensures { OnOk result ((text : List ℕ) × SaysLine N.terms (labels_of part.now.labels.now) name.now
+    ensures { (text : List ℕ) × SaysLine N.terms (labels_of part.now.labels.now) name.now
         (list_of seat.old) line.now text (list_of seat.new)
-        × (out.new.items ≡ out.old.items ++ text)) }
+        × OnOk result (out.new.items ≡ out.old.items ++ text)
+        × OnErr result (vec_capacity out.old < vec_len out.old + length text) }
 {
     match *line {
         SeatLine::Run(command) => run(rt, part, name, seat, command, out),
@@ -156,9 +161,10 @@ fn run<N: Naming, R: Wait>(
     command: Command,
     out: &mut Vec<u8>,
 ) -> Result<(), AllocError>
-    ensures { OnOk result ((text : List ℕ) × SaysCommand N.terms (labels_of part.now.labels.now) name.now
+    ensures { (text : List ℕ) × SaysCommand N.terms (labels_of part.now.labels.now) name.now
         (list_of seat.old) command text (list_of seat.new)
-        × (out.new.items ≡ out.old.items ++ text)) }
+        × OnOk result (out.new.items ≡ out.old.items ++ text)
+        × OnErr result (vec_capacity out.old < vec_len out.old + length text) }
 {
     if is_save(&command) {
         return save(rt, part, name, seat, out);
@@ -183,9 +189,10 @@ fn save<N: Naming, R: Wait>(
     seat: &mut Seat<'_, N>,
     out: &mut Vec<u8>,
 ) -> Result<(), AllocError>
-    ensures { OnOk result ((text : List ℕ) × SaysCommand N.terms (labels_of part.now.labels.now) name.now
+    ensures { (text : List ℕ) × SaysCommand N.terms (labels_of part.now.labels.now) name.now
         (list_of seat.old) Command.Save text (list_of seat.new)
-        × (out.new.items ≡ out.old.items ++ text)) }
+        × OnOk result (out.new.items ≡ out.old.items ++ text)
+        × OnErr result (vec_capacity out.old < vec_len out.old + length text) }
 {
     let mut saved = Vec::new(part.alloc);
     let result = seat.save(rt, &mut saved);
@@ -201,8 +208,9 @@ fn look<N: Naming, R: Wait>(
     look: Look,
     out: &mut Vec<u8>,
 ) -> Result<(), AllocError>
-    ensures { OnOk result ((text : List ℕ) × SaysLook N.terms (labels_of part.now.labels.now) name.now look text
-        × (out.new.items ≡ out.old.items ++ text)) }
+    ensures { (text : List ℕ) × SaysLook N.terms (labels_of part.now.labels.now) name.now look text
+        × OnOk result (out.new.items ≡ out.old.items ++ text)
+        × OnErr result (vec_capacity out.old < vec_len out.old + length text) }
 {
     let mut shown = Vec::new(part.alloc);
     let result = seat.look(rt, part.alloc, look, &mut shown);
@@ -217,9 +225,10 @@ fn audit<N: Naming, R: Wait>(
     seat: &Seat<'_, N>,
     out: &mut Vec<u8>,
 ) -> Result<(), AllocError>
-    ensures { OnOk result ((text : List ℕ) × SaysAudit N.terms (labels_of part.now.labels.now) name.now
+    ensures { (text : List ℕ) × SaysAudit N.terms (labels_of part.now.labels.now) name.now
         (list_of seat.now) text
-        × (out.new.items ≡ out.old.items ++ text)) }
+        × OnOk result (out.new.items ≡ out.old.items ++ text)
+        × OnErr result (vec_capacity out.old < vec_len out.old + length text) }
 {
     match seat.audit(rt) {
         Ok(audited) => {

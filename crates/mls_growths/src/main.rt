@@ -11,7 +11,6 @@ mod checks;
 mod frugal;
 mod libraries;
 mod making;
-mod marks;
 mod ready;
 mod rows;
 mod scene;

@@ -4,7 +4,7 @@ ghost use Rattle.mls_checker.specs.Halos.{zone_of};
 
 use crate::servers::id_a;
 use mls_checker::{Finding, Snapshot, check};
-use mls_edgerule::Rules;
+use mls_edgerule::BoxedRules;
 use mls_geom::Rect;
 use mls_server::Server;
 use mls_session::Job;
@@ -15,7 +15,7 @@ use std::alloc::{AllocError, Global};
 pub struct Ready {
     piece: Rect,
     snapshot: Snapshot,
-    rules: Rules,
+    rules: BoxedRules,
     ghost zone: { snapshot.zone ≡ zone_of rules piece },
 }
 
@@ -44,6 +44,6 @@ impl Ready {
             snapshot,
             rules,
         } = self;
-        check(alloc, &rules, snapshot, piece)
+        check(alloc, rules.as_rules(), snapshot, piece)
     }
 }

@@ -193,6 +193,8 @@ fn row_named(name: &str, number: Option<u8>) -> Option<Row> {
         "look_save" => asks(TWO_BARS, Call::Look(Look::Save)),
         "look_why" => asks(TWO_BARS, Call::Look(BAR_WHY)),
         "look_stat" => asks(TWO_BARS, Call::Look(Look::Status)),
+        "look_uses" => asks(PLACED, Call::Look(Look::Uses)),
+        "look_marks" => asks(PLACED, Call::Look(Look::Marks)),
         "why" => asks(TWO_BARS, Call::Why),
         "what" => asks(PLACED, Call::What),
         "grab" => asks(TWO_BARS, Call::Grab),

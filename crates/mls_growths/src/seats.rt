@@ -3,14 +3,13 @@ ghost use Rattle.std.specs.Prelude.{◌≡◌, []};
 ghost use Rattle.mls_server.specs.Servers.{world_of};
 ghost use Rattle.mls_server.specs.Settings.{terms_for};
 
-use crate::marks::{Asked, Window, print_marks};
 use crate::scene::{Scene, play};
 use crate::shown::print_joined;
 use anyhow::Result;
 use crossbeam_channel::Receiver;
 use mls_live::{Live, Naming, Plain, Retired, Seat, Worked, work};
 use mls_server::{Name, NotOpen, OpenFault, Server, SessionId};
-use mls_session::{Command, Reply};
+use mls_session::{Command, Look, Looked, Reply};
 use std::alloc::Global;
 use std::sync::Wait;
 use std::sync::ledger::Blank;
@@ -35,8 +34,8 @@ pub enum SeatAnswer<'l, N: Naming> {
     NoNotices,
 }
 
-/// The bar that is painted at each seat.
-const BAR: Window = Window {
+/// The box of the bar that is painted at each seat.
+const BAR: Command = Command::Box {
     left: 0,
     bottom: 0,
     right: 1,
@@ -151,7 +150,7 @@ fn painted<'l, N: Naming, R: Wait>(
         Some(opened) => opened?,
         None => anyhow::bail!("no name"),
     };
-    for command in [BAR.set(), Command::Paint(Some(1))] {
+    for command in [BAR, Command::Paint(Some(1))] {
         let _ = called(rt, alloc, &mut seat, command);
     }
     Ok(seat)
@@ -305,7 +304,7 @@ fn print_worked<R: Print>(rt: &R, worked: Worked) -> Result<()> {
     Ok(())
 }
 
-/// Prints the list of a seat, its layout, the number of its marks, and which squares are marked once all is checked.
+/// Prints the list of a seat, its layout, and its areas and marks, before and after all is checked.
 fn show_seat<N: Naming, R: Print + Wait>(
     rt: &R,
     alloc: Global,
@@ -326,22 +325,21 @@ fn show_seat<N: Naming, R: Print + Wait>(
     if saved(rt, seat, &mut text).is_ok() {
         print_joined(rt, &text)?;
     }
-    let mut at_seat = AtSeat { rt, alloc, seat };
-    at_seat.ask(Command::CatchUp)?;
-    print!(rt; "marks:")?;
-    print_marks(rt, &mut at_seat, BAR)
+    print_marks(rt, alloc, seat)?;
+    let _ = called(rt, alloc, seat, Command::CatchUp);
+    print_marks(rt, alloc, seat)
 }
 
-/// A session at its seat.
-#[derive(Drop)]
-struct AtSeat<'s, 'l, N: Naming, R: Wait> {
-    rt: &'s R,
+/// Prints the layout of a seat with its areas and marks.
+fn print_marks<N: Naming, R: Print + Wait>(
+    rt: &R,
     alloc: Global,
-    seat: &'s mut Seat<'l, N>,
-}
-
-impl<N: Naming, R: Wait> Asked for AtSeat<'_, '_, N, R> {
-    fn ask(&mut self, asked: Command) -> Result<Reply> {
-        Ok(called(self.rt, self.alloc, self.seat, asked)?)
+    seat: &Seat<'_, N>,
+) -> Result<()> {
+    let mut text = Vec::new(alloc);
+    match seat.look(rt, alloc, Look::Marks, &mut text) {
+        Ok(Looked::Marked(lines)) => print!(rt; "marked {lines}; ")?,
+        _ => print!(rt; "no marks")?,
     }
+    print_joined(rt, &text)
 }

@@ -1,10 +1,8 @@
 //! What stands on a server.
-use crate::marks::{Asked, Window, print_marks};
-use crate::servers::{command, grab, replies};
+use crate::servers::{grab, replies};
 use anyhow::{Context, Result};
 use mls_geom::Rect;
 use mls_server::{GrabFault, Name, Server, SessionId};
-use mls_session::{Command, Reply};
 use std::alloc::Global;
 
 /// The sessions that rows open.
@@ -61,14 +59,15 @@ fn print_ids<R: Print>(rt: &R, server: &Server) -> Result<()> {
     Ok(())
 }
 
-/// Prints what a session of this name shows, checks its pieces one after another, and prints its marks.
+/// Prints what a session of this name shows, its areas and marks among it; then what each check of its pieces leaves, and
+/// the marks once all are checked.
 fn show_session<R: Print>(rt: &R, alloc: Global, server: &mut Server, letter: u8) -> Result<()> {
     let Some(id) = id_of(server, letter)? else {
         return Ok(());
     };
     print_journal(rt, server, letter, id)?;
     let name = char::from(letter);
-    let looks = format!(in alloc; "%stat {name}\n{name} drc count\n{name} save\n")?;
+    let looks = format!(in alloc; "%stat {name}\n{name} drc count\n{name} save\n%marks {name}\n")?;
     print_joined(rt, &replies(alloc, server, looks.as_bytes())?)?;
     let step = format!(in alloc; "%step {name}\n{name} drc count\n")?;
     for _ in 0..MOST_PIECES {
@@ -80,48 +79,8 @@ fn show_session<R: Print>(rt: &R, alloc: Global, server: &mut Server, letter: u8
         print!(rt; "{name} piece {left} {bottom} {right} {top}: ")?;
         print_joined(rt, &replies(alloc, server, step.as_bytes())?)?;
     }
-    let Some(window) = window_of(server, id)? else {
-        return Ok(());
-    };
-    print!(rt; "{name} marks:")?;
-    print_marks(rt, &mut OnServer { alloc, server, id }, window)
-}
-
-/// A session on a server.
-#[derive(Drop)]
-struct OnServer<'s> {
-    alloc: Global,
-    server: &'s mut Server,
-    id: SessionId,
-}
-
-impl Asked for OnServer<'_> {
-    fn ask(&mut self, asked: Command) -> Result<Reply> {
-        Ok(command(self.alloc, self.server, self.id, asked)?)
-    }
-}
-
-/// Returns the smallest window round all boxes that a session has set, if it has set one.
-fn window_of(server: &Server, id: SessionId) -> Result<Option<Window>> {
-    let mut window: Option<Window> = None;
-    for entry in server.journal(id).context("no journal")? {
-        if let Command::Box {
-            left,
-            bottom,
-            right,
-            top,
-        } = entry.said.command
-        {
-            let set = Window {
-                left,
-                bottom,
-                right,
-                top,
-            };
-            window = Some(window.map_or(set, |so_far| so_far.with(set)));
-        }
-    }
-    Ok(window)
+    let marks = format!(in alloc; "%marks {name}\n")?;
+    print_joined(rt, &replies(alloc, server, marks.as_bytes())?)
 }
 
 /// Returns the id of the session of this name, if it is open.

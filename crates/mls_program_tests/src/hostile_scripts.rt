@@ -85,7 +85,7 @@ fn line_of_a_million_bytes(rt: HostRuntime) -> Result<(), Fail> {
 const RANDOM_LINES: u32 = 100_000;
 
 /// Lines that can be read.
-const READABLE: [&[u8]; 36] = [
+const READABLE: [&[u8]; 38] = [
     b"%open a",
     b"%open b",
     b"%open c",
@@ -97,6 +97,8 @@ const READABLE: [&[u8]; 36] = [
     b"%audit c",
     b"%save a",
     b"%stat b",
+    b"%uses a",
+    b"%marks b",
     b"%why c 0 0 9 9",
     b"a box 0 0 4 4",
     b"a box 3 0 9 9",
@@ -125,13 +127,15 @@ const READABLE: [&[u8]; 36] = [
 ];
 
 /// Words of the language, and some that have no place in it.
-const WORDS: [&[u8]; 36] = [
+const WORDS: [&[u8]; 38] = [
     b"%open",
     b"%close",
     b"%step",
     b"%audit",
     b"%save",
     b"%stat",
+    b"%uses",
+    b"%marks",
     b"%why",
     b"%foo",
     b"a",
@@ -165,8 +169,8 @@ const WORDS: [&[u8]; 36] = [
 ];
 
 /// Appends a random one of the texts.
-fn push_one(script: &mut Vec<u8>, texts: &[&[u8]; 36], rng: &mut Pcg32) -> Result<(), AllocError> {
-    let index: usize = rng.random_range(0..36);
+fn push_one(script: &mut Vec<u8>, texts: &[&[u8]; 38], rng: &mut Pcg32) -> Result<(), AllocError> {
+    let index: usize = rng.random_range(0..38);
     if let Some(text) = texts.get(index) {
         script.extend_from_slice(text)?;
     }
@@ -231,15 +235,16 @@ fn is_reply(alloc: Global, line: &[u8], number: usize, reply: &[u8]) -> Result<b
     Ok(!name.is_empty() && reply.starts_with(&start))
 }
 
-/// Returns whether a reply is that to a save.
-fn is_saved(reply: &[u8]) -> bool {
+/// Returns whether a reply has a text after it: that to a save, or to a look at marks.
+fn has_text(reply: &[u8]) -> bool {
     let mut words = reply.split(|byte| *byte == b' ');
-    words.nth(1) == Some(b"saved".as_slice())
+    let word = words.nth(1).unwrap_or(b"");
+    word == b"saved".as_slice() || word == b"marked".as_slice()
 }
 
-/// Returns how many lines the first reply has: a saved text comes with its own.
+/// Returns how many lines the first reply has: a text comes with its own.
 fn reply_len(replies: &[&[u8]]) -> usize {
-    if !replies.first().is_some_and(|reply| is_saved(reply)) {
+    if !replies.first().is_some_and(|reply| has_text(reply)) {
         return 1;
     }
     let end = b"<< end >>".as_slice();

@@ -99,7 +99,7 @@ pub fn found(alloc: Global, server: &mut Server, id: SessionId) -> Option<Findin
         snapshot,
         rules,
     } = job;
-    check(alloc, &rules, snapshot, piece).ok()
+    check(alloc, rules.as_rules(), snapshot, piece).ok()
 }
 
 /// Finishes a check with what it found.

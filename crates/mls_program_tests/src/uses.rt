@@ -47,8 +47,8 @@ const CAUGHT_UP: [(&str, &str); 6] = [
     ),
     // A later cell lies over an earlier one, but for its space; and what one session places, no other has.
     (
-        "%open a\na getcell c 0 0\na getcell n 0 0\na box 0 0 1 1\na what\na box 1 1 2 2\na what\na box 0 2 1 3\na what\n%open b\nb getcell n 0 0\nb getcell c 0 0\nb box 0 0 1 1\nb what\nb box 1 1 2 2\nb what\n%open x\nx box -32768 -32768 32768 32768\nx what\nx drc catchup\nx drc count\n",
-        "a opened\na ok\na ok\na ok\na what 1 ndiff\na ok\na what 2 ndiff m1\na ok\na what 1 poly\nb opened\nb ok\nb ok\nb ok\nb what 1 poly\nb ok\nb what 2 poly m1\nx opened\nx ok\nx what 0\nx ok\nx count 0 errors 0 pending\n",
+        "%open a\na getcell c 0 0\na getcell n 0 0\na box 0 0 1 1\na what\na box 1 1 2 2\na what\na box 0 2 1 3\na what\n%open b\nb getcell n 0 0\nb getcell c 0 0\nb box 0 0 1 1\nb what\nb box 1 1 2 2\nb what\n%uses b\n%open x\nx box -32768 -32768 32768 32768\nx what\nx drc catchup\nx drc count\n",
+        "a opened\na ok\na ok\na ok\na what 1 ndiff\na ok\na what 2 ndiff m1\na ok\na what 1 poly\nb opened\nb ok\nb ok\nb ok\nb what 1 poly\nb ok\nb what 2 poly m1\nb uses 2\ngetcell n 0 0\ngetcell c 0 0\nx opened\nx ok\nx what 0\nx ok\nx count 0 errors 0 pending\n",
     ),
     // Own paint lies over a cell that is placed later, and what is erased or dumped is own paint.
     (
@@ -102,8 +102,8 @@ const STEPPED: [(&[&str], &str, &str); 6] = [
     // A full journal refuses cells before all else.
     (
         &["magicd", "--journal", "2", "c=c.mag"],
-        "%open a\na getcell c 0 0\na getcell d 0 0\na getcell d 0 0\n%audit a\n%why a 0 0 4 4\n%save a\n",
-        "a opened\na ok\na refused 7 unknown cell\na refused 6 journal full\na audited 2\na why 0\na saved 3\nmagic\ntech M\n<< end >>\n",
+        "%open a\na getcell c 0 0\na getcell d 0 0\na getcell d 0 0\n%audit a\n%why a 0 0 4 4\n%save a\n%uses a\n",
+        "a opened\na ok\na refused 7 unknown cell\na refused 6 journal full\na audited 2\na why 0\na saved 3\nmagic\ntech M\n<< end >>\na uses 1\ngetcell c 0 0\n",
     ),
     // Faults of the lines.
     (

@@ -1,6 +1,7 @@
 pub mod AddedSessions
 pub mod AloneRuns
 pub mod AskedSessions
+pub mod CellNames
 pub mod ClosedSessions
 pub mod EventFrames
 pub mod IdleServers

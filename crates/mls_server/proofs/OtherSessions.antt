@@ -2,8 +2,9 @@
 use Rattle.std.proofs.Common.{◌≡◌, ◌≢◌, ℕ, List, [], ◌∷◌, length, map, get_or, None, All, Contains, sym, ap, subst, subst₂, ◌∙◌, arith}
 use Rattle.std.proofs.lemmas.List.Elements.{All-contains, All-push, Contains-append_left, Contains-get_or, Contains-push}
 use Rattle.mls_errorplane.specs.ErrorPlanes.{ShowsMarks, marks_picture}
-use Rattle.mls_errorplane.specs.MarkPlanes.{is_marked}
+use Rattle.mls_errorplane.specs.MarkPlanes.{is_marked, marked_count}
 use Rattle.mls_geom.specs.Layouts.{Layout}
+use Rattle.mls_geom.specs.World.{world}
 use Rattle.mls_geom.specs.Pictures.{Picture}
 use Rattle.mls_layout.specs.Uses.{cell_layouts}
 use Rattle.mls_library.specs.Libraries.{Library, cell_layout}
@@ -129,10 +130,11 @@ module _ {old new : Pool} {owners : List ℕ} (others : KeepsOthers old new owne
     strips-apart : (owner : ℕ) → IsKept old new owner → HasStrips old owner → HasStrips new owner
     strips-apart owner is = HasStrips-kept old new owner is.tiles is.room
 
-    ShowsMarks-apart : ShowsMarks old errors_of → ShowsMarks new errors_of
+    ShowsMarks-apart : ShowsMarks old session.design.errors → ShowsMarks new session.design.errors
     ShowsMarks-apart shows = record {
       strips = strips-apart errors_of errors_kept shows.strips;
       marks = subst (λ (picture : Picture). picture ≡ marks_picture (is_marked picture)) (sym errors_shown) shows.marks;
+      counted = shows.counted ∙ ap (marked_count world) (sym errors_shown);
     }
 
     IsHome-apart : IsHome old session → IsHome new session

@@ -1,8 +1,11 @@
 //! A server: sessions by name over one pool.
-ghost use Rattle.std.specs.Prelude.{◌≡◌, ◌↔◌, ◌<◌, ◌^◌, [], IfOk, IsTrue};
+ghost use Rattle.std.specs.Prelude.{◌≡◌, ◌↔◌, ◌<◌, ◌^◌, [], IfOk, IsTrue, map, slice_get};
 ghost use Rattle.std.specs.List.{position};
+ghost use Rattle.std.specs.Option.{option_map};
+ghost use Rattle.mls_library.specs.Libraries.{names_of};
 ghost use Rattle.mls_server.specs.Events.{LoadsCell};
 ghost use Rattle.mls_server.specs.Servers.{world_of};
+ghost use Rattle.mls_server.specs.Settings.{cell_names};
 ghost use Rattle.mls_server.specs.Worlds.{IsNumbered, JournalsAreLegal, JournalsHaveRoom, MarksAreExact, MarksAreRight, session_named};
 ghost use Rattle.mls_text.specs.Words.{same_word};
 
@@ -141,6 +144,22 @@ impl Server {
         self.setup.library.cell_named(name)
     }
 
+    /// Returns the name of a cell.
+    pub fn cell_name(&self, cell: CellId) -> Option<&[u8]>
+        ensures value { option_map (λ name. name.now) result
+            ≡ slice_get (cell_names (world_of self.now).setting) cell }
+    {
+        self.setup.library.name(cell)
+    }
+
+    /// Copies the names of all cells, in the order in which they were loaded.
+    pub fn cell_names(&self, alloc: Global) -> Result<Vec<Vec<u8>>, AllocError>
+        ensures names { IfOk result (λ names. map (λ name. name.items) names.items
+            ≡ cell_names (world_of self.now).setting) }
+    {
+        copy_names(alloc, &self.setup.library)
+    }
+
     /// Returns the technology.
     pub fn tech(&self) -> &Tech
         ensures value { result.now ≡ (world_of self.now).setting.tech }
@@ -178,4 +197,18 @@ impl Server {
         self.ids_given();
         let _sessions = &self.sessions;
     }
+}
+
+/// Copies the names of all cells of a library.
+fn copy_names(alloc: Global, library: &Library) -> Result<Vec<Vec<u8>>, AllocError>
+    ensures { IfOk result (λ names. map (λ name. name.items) names.items ≡ names_of library.now) }
+{
+    let mut names = Vec::new(alloc);
+    for place in 0..library.len() {
+        let Some(name) = library.name_at(place) else {
+            unreachable!()
+        };
+        names.push(Vec::from_slice(alloc, name)?)?;
+    }
+    Ok(names)
 }

@@ -3,13 +3,14 @@ use Rattle.std.proofs.Common.{◌≡◌, ◌≢◌, ℕ, ◌≤◌, List, [], �
 use Rattle.std.proofs.lemmas.List.{get_or_default}
 use Rattle.std.proofs.lemmas.List.Elements.{Contains-append_left, Contains-push}
 use Rattle.mls_geom.specs.Rects.{Rect}
+use Rattle.mls_geom.specs.World.{world}
 use Rattle.mls_tilepool.specs.Pools.{Pool, room_of}
 use Rattle.mls_stitch.specs.Tilings.{ChangesOnly, HasPlane, shown}
 use Rattle.mls_paint.specs.Owners.{ChangesAmong}
-use Rattle.mls_paint.specs.Planes.{AddsOwner, layout_in, picture_in}
+use Rattle.mls_paint.specs.Planes.{AddsOwner, HasStrips, layout_in, picture_in}
 use Rattle.mls_paint.proofs.OwnerFrames.{ChangesAmong-ChangesOnly, ChangesAmong-more, ChangesAmong-refl, HasStrips-AddsOwner, HasStrips-ChangesAmong, layout_in-kept, picture_in-ChangesAmong, room_of-ChangesAmong}
-use Rattle.mls_errorplane.specs.ErrorPlanes.{ShowsMarks, checking_of, marks_picture}
-use Rattle.mls_errorplane.specs.MarkPlanes.{is_marked}
+use Rattle.mls_errorplane.specs.ErrorPlanes.{ErrorPlane, ShowsMarks, checking_of, marks_picture}
+use Rattle.mls_errorplane.specs.MarkPlanes.{is_marked, marked_count}
 use Rattle.mls_layout.specs.Workspaces.{FitsWorkspace}
 use Rattle.mls_layout.specs.declared.uses.CellUse.{CellUse}
 use Rattle.mls_session.specs.Designs.{AreAtHome, Design, HasErrorPlane, IsHome, KeepsPlanes, drawn_of, owners_of}
@@ -40,24 +41,39 @@ limit-errors pool design limit errors same =
     rw errors.reserve fits
 
 -- ---- what depends on the planes and the quota alone
-pub IsHome-same :
+IsHome-with :
     (pool : Pool) (before after : Design) → after.planes ≡ before.planes → after.quota ≡ before.quota → after.errors.owner ≡ before.errors.owner
-    → IsHome pool before → IsHome pool after
-IsHome-same pool before after planes quota owner home = record {
-  layout = AreAtHome-same pool before after planes quota home.layout;
+    → AreAtHome pool before.quota before.planes → ShowsMarks pool after.errors → room_of pool before.errors.owner ≡ Some (plane_reserve before.quota)
+    → All (λ plane. plane ≢ before.errors.owner) before.planes → IsHome pool after
+IsHome-with pool before after planes quota owner layout shows reserve apart = record {
+  layout = AreAtHome-same pool before after planes quota layout;
   errors = record {
-    marks = subst (ShowsMarks pool) (sym owner) home.errors.marks;
-    reserve = ap (room_of pool) owner ∙ home.errors.reserve ∙ ap (λ q. Some (plane_reserve q)) (sym quota);
-    apart = subst (λ o. All (λ plane. plane ≢ o) after.planes) (sym owner) (subst (λ owners. All (λ plane. plane ≢ before.errors.owner) owners) (sym planes) home.errors.apart);
+    marks = shows;
+    reserve = ap (room_of pool) owner ∙ reserve ∙ ap (λ q. Some (plane_reserve q)) (sym quota);
+    apart = subst (λ o. All (λ plane. plane ≢ o) after.planes) (sym owner) (subst (λ owners. All (λ plane. plane ≢ before.errors.owner) owners) (sym planes) apart);
   };
 }
+
+-- as many squares are marked on the same plane
+ShowsMarks-same : (pool : Pool) (before after : ErrorPlane) → after.owner ≡ before.owner → after.marked ≡ before.marked → ShowsMarks pool before → ShowsMarks pool after
+ShowsMarks-same pool before after owner marked shows = record {
+  strips = subst (HasStrips pool) (sym owner) shows.strips;
+  marks = subst (λ (o : ℕ). picture_in pool o ≡ marks_picture (is_marked (picture_in pool o))) (sym owner) shows.marks;
+  counted = marked ∙ shows.counted ∙ ap (λ (o : ℕ). marked_count world (picture_in pool o)) (sym owner);
+}
+
+pub IsHome-same :
+    (pool : Pool) (before after : Design) → after.planes ≡ before.planes → after.quota ≡ before.quota → after.errors.owner ≡ before.errors.owner
+    → after.errors.marked ≡ before.errors.marked → IsHome pool before → IsHome pool after
+IsHome-same pool before after planes quota owner marked home =
+    IsHome-with pool before after planes quota owner home.layout (ShowsMarks-same pool before.errors after.errors owner marked home.errors.marks) home.errors.reserve home.errors.apart
 
 -- ---- as nothing changes
 pub KeepsPlanes-same :
     (pool : Pool) (before after : Design) → IsHome pool before → after.planes ≡ before.planes → after.quota ≡ before.quota → after.errors.owner ≡ before.errors.owner
-    → KeepsPlanes pool pool before after
-KeepsPlanes-same pool before after home planes quota owner = record {
-  home = IsHome-same pool before after planes quota owner home;
+    → after.errors.marked ≡ before.errors.marked → KeepsPlanes pool pool before after
+KeepsPlanes-same pool before after home planes quota owner marked = record {
+  home = IsHome-same pool before after planes quota owner marked home;
   only = ChangesAmong-refl pool (owners_of before);
   planes = planes;
   errors = owner;
@@ -79,6 +95,7 @@ module _ (old new : Pool) (design : Design) (errors : HasErrorPlane old design) 
     marks = record {
       strips = HasStrips-ChangesAmong old new design.planes design.errors.owner only outside errors.marks.strips;
       marks = picture-kept ∙ errors.marks.marks ∙ ap (λ p. marks_picture (is_marked p)) (sym picture-kept);
+      counted = errors.marks.counted ∙ ap (marked_count world) (sym picture-kept);
     };
     reserve = room_of-ChangesAmong old new design.planes design.errors.owner only ∙ errors.reserve;
     apart = errors.apart;
@@ -97,9 +114,10 @@ among_owners design k d within = Contains-append_left design.planes (design.erro
 -- so the design keeps its planes
 pub KeepsPlanes-layout :
     (old new : Pool) (before after : Design) → IsHome old before → AreAtHome new before.quota before.planes → ChangesAmong old new before.planes
-    → after.planes ≡ before.planes → after.quota ≡ before.quota → after.errors.owner ≡ before.errors.owner → KeepsPlanes old new before after
-KeepsPlanes-layout old new before after home layout only planes quota owner = record {
-  home = IsHome-same new before after planes quota owner (record { layout = layout; errors = HasErrorPlane-kept old new before home.errors only });
+    → after.planes ≡ before.planes → after.quota ≡ before.quota → after.errors.owner ≡ before.errors.owner → after.errors.marked ≡ before.errors.marked
+    → KeepsPlanes old new before after
+KeepsPlanes-layout old new before after home layout only planes quota owner marked = record {
+  home = IsHome-same new before after planes quota owner marked (record { layout = layout; errors = HasErrorPlane-kept old new before home.errors only });
   only = ChangesAmong-more old new before.planes (owners_of before) (among_owners before) only;
   planes = planes;
   errors = owner;
@@ -125,17 +143,12 @@ drawn-errors old new before after home changed box planes uses =
     ∙ drawn-kept old new before home.errors changed
 
 pub KeepsPlanes-errors :
-    (old new : Pool) (before after : Design) → IsHome old before → ChangesOnly old new before.errors.owner → ShowsMarks new before.errors.owner
+    (old new : Pool) (before after : Design) → IsHome old before → ChangesOnly old new before.errors.owner → ShowsMarks new after.errors
     → after.planes ≡ before.planes → after.quota ≡ before.quota → after.errors.owner ≡ before.errors.owner → KeepsPlanes old new before after
 KeepsPlanes-errors old new before after home changed shows planes quota owner = record {
-  home = IsHome-same new before after planes quota owner (record {
-    layout = AreAtHome-ChangesOnly old new before.quota before.planes before.errors.owner changed shows.strips home.layout;
-    errors = record {
-      marks = shows;
-      reserve = ap (λ rooms. room_of (record old { rooms = rooms }) before.errors.owner) changed.rooms ∙ home.errors.reserve;
-      apart = home.errors.apart;
-    };
-  });
+  home = IsHome-with new before after planes quota owner
+      (AreAtHome-ChangesOnly old new before.quota before.planes before.errors.owner changed (subst (HasStrips new) owner shows.strips) home.layout) shows
+      (ap (λ rooms. room_of (record old { rooms = rooms }) before.errors.owner) changed.rooms ∙ home.errors.reserve) home.errors.apart;
   only = ChangesAmong-ChangesOnly old new (owners_of before) before.errors.owner (Contains-push before.planes before.errors.owner) changed;
   planes = planes;
   errors = owner;
@@ -151,14 +164,11 @@ module _ (old new : Pool) (quota : ℕ) (planes : List ℕ) (owner : ℕ) (home 
   pub layout-added : layout_in new planes ≡ layout_in old planes
   layout-added = layout_in-kept old new planes (λ k d within. ap shown (added.others (get_or planes k d) (differs k d within)))
 
-  pub IsHome-added : (design : Design) → design.planes ≡ planes → design.quota ≡ quota → design.errors.owner ≡ owner → ShowsMarks new owner → IsHome new design
+  pub IsHome-added : (design : Design) → design.planes ≡ planes → design.quota ≡ quota → design.errors.owner ≡ owner → ShowsMarks new design.errors → IsHome new design
   IsHome-added design same_planes same_quota same_owner shows =
-      let added_to : Design = record { box = design.box; planes = planes; uses = design.uses; quota = quota; errors = record { owner = owner; dirty = design.errors.dirty } } in
-      IsHome-same new added_to design same_planes same_quota same_owner (record {
-        layout = record {
-          strips = λ k d within. HasStrips-AddsOwner old new owner (get_or planes k d) (plane_reserve quota) added (home.strips k d within);
-          reserves = λ k d within. added.rooms (get_or planes k d) (differs k d within) ∙ home.reserves k d within;
-          apart = home.apart;
-        };
-        errors = record { marks = shows; reserve = added.room; apart = differs };
-      })
+      let added_to : Design = record { box = design.box; planes = planes; uses = design.uses; quota = quota; errors = record { owner = owner; marked = design.errors.marked; dirty = design.errors.dirty } } in
+      IsHome-with new added_to design same_planes same_quota same_owner (record {
+        strips = λ k d within. HasStrips-AddsOwner old new owner (get_or planes k d) (plane_reserve quota) added (home.strips k d within);
+        reserves = λ k d within. added.rooms (get_or planes k d) (differs k d within) ∙ home.reserves k d within;
+        apart = home.apart;
+      }) shows added.room differs

@@ -30,6 +30,8 @@ pub mod JournalledSteps
 pub mod KeptRooms
 pub mod LegalJournals
 pub mod LineEnds
+pub mod ListedLayers
+pub mod MarkedTexts
 pub mod MovedRects
 pub mod MovedTiles
 pub mod Openings

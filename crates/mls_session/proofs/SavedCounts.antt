@@ -29,13 +29,16 @@ section_lines-few : (name : List ℕ) (strips : List Piece) → length (section_
 section_lines-few name [] = omega arith
 section_lines-few name (strip ∷ strips) = omega (arith, length-map (strip ∷ strips) (λ each. spaced (rect_words each.rect)))
 
--- a section has a line for each strip of its type, and one more
-pub layer_lines-few : (tech : Tech) (kind : ℕ) (strips : List Piece) → length (layer_lines tech kind strips) ≤ length strips + 1
-layer_lines-few tech kind strips =
-    let own = section_lines-few (first_name tech kind) (of_kind kind strips) in
+-- a section has a line for each strip of its kind, and one more
+pub kind_lines-few : (name : List ℕ) (kind : ℕ) (strips : List Piece) → length (section_lines name (of_kind kind strips)) ≤ length strips + 1
+kind_lines-few name kind strips =
+    let own = section_lines-few name (of_kind kind strips) in
     let some = length-filter (λ strip. strip.kind == kind) strips in
     let all = count_by-le-length (λ (strip : Piece). strip.kind == kind) strips in
     omega (arith, own, some, all)
+
+pub layer_lines-few : (tech : Tech) (kind : ℕ) (strips : List Piece) → length (layer_lines tech kind strips) ≤ length strips + 1
+layer_lines-few tech kind strips = kind_lines-few (first_name tech kind) kind strips
 
 -- a plane of the world has at most 2^32
 pub strips_few : (picture : Picture) → length (strips_of world picture) ≤ 4294967296

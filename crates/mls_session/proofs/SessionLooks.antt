@@ -1,17 +1,24 @@
 -- What looks at a session return.
-use Rattle.std.proofs.Common.{◌≡◌, ◌⊎◌, inl, inr, ◌++◌, [], ℕ, ℤ, List, refl, sym, ap}
+use Rattle.std.proofs.Common.{◌≡◌, ◌⊎◌, inl, inr, ◌++◌, [], ℕ, ℤ, true, false, List, refl, sym, ap, ◌∙◌}
+use Rattle.std.proofs.lemmas.Bool.{cond-false, cond-true}
+use Rattle.std.proofs.lemmas.List.{append-nil}
+use Rattle.mls_errorplane.specs.ErrorPlanes.{marks_picture}
+use Rattle.mls_geom.specs.Layouts.{Layout}
+use Rattle.mls_geom.specs.Pictures.{Picture}
 use Rattle.mls_geom.specs.World.{rect_of}
+use Rattle.mls_layout.specs.declared.uses.CellUse.{CellUse}
+use Rattle.mls_library.specs.MarkedCells.{marked_line_count, marked_text}
 use Rattle.mls_library.specs.SavedCells.{saved_line_count, saved_text}
 use Rattle.mls_session.specs.Journals.{Kept}
 use Rattle.mls_session.specs.Looks.{IsRect, Looks, look_of, status_of, why_in}
-use Rattle.mls_session.specs.Own.{layout_of}
+use Rattle.mls_session.specs.Own.{exceeds_listed, layout_of}
 use Rattle.mls_session.specs.OwnSteps.{Terms}
 use Rattle.mls_session.specs.declared.look.Look.{Look}
-use Rattle.mls_session.specs.declared.look.Look.TheVariants.{Save, Why, Status as AskStatus}
+use Rattle.mls_session.specs.declared.look.Look.TheVariants.{Save, Why, Status as AskStatus, Uses as AskUses, Marks}
 use Rattle.mls_session.specs.declared.look.Looked.{Looked}
-use Rattle.mls_session.specs.declared.look.Looked.TheVariants.{Saved, Status as HasStatus, Refused}
+use Rattle.mls_session.specs.declared.look.Looked.TheVariants.{Saved, Status as HasStatus, Uses as HasUses, Marked, Refused}
 use Rattle.mls_session.specs.declared.look.Status.{Status}
-use Rattle.mls_session.specs.declared.refusal.Refusal.TheVariants.{Memory}
+use Rattle.mls_session.specs.declared.refusal.Refusal.TheVariants.{Memory, Quota}
 
 -- with the text that was appended
 abbrev pub LooksMore : Terms → Kept → Look → Looked → List ℕ → List ℕ → Type 0
@@ -43,3 +50,43 @@ Looks-why terms kept left bottom right top looked (inr (made, memory)) = inr (ma
 pub Looks-status : (terms : Terms) (kept : Kept) (status : Status) → status ≡ status_of terms kept → Looks terms kept AskStatus (HasStatus status) []
 unfolding look_of
 Looks-status terms kept status is = inl (ap (λ (s : Status). without_text (HasStatus s)) (sym is))
+
+-- at the cells that are placed
+pub Looks-uses : (terms : Terms) (kept : Kept) (uses : List CellUse) → uses ≡ kept.own.design.drawn.uses → Looks terms kept AskUses (HasUses uses) []
+unfolding look_of
+Looks-uses terms kept uses is = inl (ap (λ (list : List CellUse). without_text (HasUses list)) (sym is))
+
+-- ---- at the layout with its marks, as text
+module _ (terms : Terms) (kept : Kept) where
+  abbrev shown : Layout
+  shown = layout_of terms.config kept.own.design.drawn
+
+  abbrev marked_shown : Picture
+  marked_shown = marks_picture kept.own.design.checking.marks
+
+  abbrev with_marks : ℕ → List ℕ → Looked × List ℕ
+  with_marks lines text = (Marked lines, text)
+
+  pub Looks-marks :
+      (lines : ℕ) (out longer : List ℕ) → exceeds_listed terms.config shown ≡ false
+      → lines ≡ marked_line_count terms.config.tech shown kept.own.design.checking.dirty marked_shown
+      → longer ≡ out ++ marked_text terms.config.tech shown kept.own.design.checking.dirty marked_shown → LooksMore terms kept Marks (Marked lines) out longer
+  unfolding look_of
+  Looks-marks lines out longer few count appended =
+      let text = marked_text terms.config.tech shown kept.own.design.checking.dirty marked_shown in
+      let number = marked_line_count terms.config.tech shown kept.own.design.checking.dirty marked_shown in (
+        text,
+        inl (cond-false (exceeds_listed terms.config shown) (without_text (Refused Quota)) (with_marks number text) few ∙ ap (λ (n : ℕ). with_marks n text) (sym count)),
+        appended,
+      )
+
+  -- which is refused where a plane has too many tiles
+  pub Looks-marks-Quota : (out longer : List ℕ) → exceeds_listed terms.config shown ≡ true → longer ≡ out → LooksMore terms kept Marks (Refused Quota) out longer
+  unfolding look_of
+  Looks-marks-Quota out longer many same =
+      let text = marked_text terms.config.tech shown kept.own.design.checking.dirty marked_shown in
+      let number = marked_line_count terms.config.tech shown kept.own.design.checking.dirty marked_shown in
+      ([], inl (cond-true (exceeds_listed terms.config shown) (without_text (Refused Quota)) (with_marks number text) many), same ∙ sym (append-nil out))
+
+  pub Looks-marks-Memory : (out longer : List ℕ) → longer ≡ out → LooksMore terms kept Marks (Refused Memory) out longer
+  Looks-marks-Memory out longer same = ([], inr (tt, refl, refl), same ∙ sym (append-nil out))

@@ -47,7 +47,7 @@ pub record AreAtHome (pool : Pool) (quota : ℕ) (planes : List ℕ) : Type 0 wh
 
 -- the error plane shows marks and nothing else, with its reserve, under an owner that none of the layout's planes has
 pub record HasErrorPlane (pool : Pool) (design : Design) : Type 0 where
-  pub marks : ShowsMarks pool design.errors.owner
+  pub marks : ShowsMarks pool design.errors
   pub reserve : room_of pool design.errors.owner ≡ Some (plane_reserve design.quota)
   pub apart : All (λ plane. plane ≢ design.errors.owner) design.planes
 

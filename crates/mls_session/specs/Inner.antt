@@ -1,15 +1,15 @@
 -- The words of private contracts. A caller needs none of them.
 use Rattle.std.specs.Prelude.{◌≡◌, ℕ, ◌+◌, ◌*◌, ◌^◌, ◌++◌, ◌<◌, ◌≤◌, false, true, if◌then◌else◌, Option, Some, None, List, [], ◌∷◌, IfSome, length, map}
-use Rattle.std.specs.List.{All, Contains}
+use Rattle.std.specs.List.{All, Contains, range_with_len}
 use Rattle.mls_geom.specs.Layouts.{Layout}
 use Rattle.mls_geom.specs.Pictures.{Picture}
 use Rattle.mls_geom.specs.Rects.{Rect, joined}
-use Rattle.mls_geom.specs.StripLists.{strips_of}
 use Rattle.mls_geom.specs.TileCounts.{tile_count}
 use Rattle.mls_geom.specs.World.{world}
+use Rattle.mls_geom.specs.declared.piece.Piece.{Piece}
 use Rattle.mls_library.specs.Libraries.{IsFrozen}
+use Rattle.mls_library.specs.SavedCells.{strips_on}
 use Rattle.mls_paint.specs.Planes.{layout_in, picture_in}
-use Rattle.mls_stitch.specs.declared.laid_tile.LaidTile.{LaidTile}
 use Rattle.mls_tilepool.specs.Pools.{Pool, room_of}
 use Rattle.mls_session.specs.Changes.{dumped, erased, leaves_world}
 use Rattle.mls_errorplane.specs.DirtyLists.{IsDirtyList, area_of}
@@ -66,9 +66,13 @@ IsApartFrom (DumpChange planes dx dy) owners = All (λ owner. ¬ (Contains owner
 abbrev pub FitsQuota : ℕ → ℕ → Layout → Type 0
 FitsQuota planes quota layout = (plane : ℕ) → plane < planes → tile_count world (layout plane) ≤ quota
 
--- these tiles are the strips of a plane of the layout, by bottom and then left
-abbrev pub ListsPlane : Layout → List LaidTile → ℕ → Type 0
-ListsPlane layout tiles plane = map (λ tile. tile.piece) tiles ≡ strips_of world (layout plane)
+-- these are the strips of a plane of the layout, by bottom and then left
+abbrev pub ListsPlane : Layout → List Piece → ℕ → Type 0
+ListsPlane layout strips plane = strips ≡ strips_on layout plane
+
+-- these are the strips of the layout's first planes, a list for each
+abbrev pub ListsPlanes : Layout → List (List Piece) → Type 0
+ListsPlanes layout lists = lists ≡ map (strips_on layout) (range_with_len 0 (length lists))
 
 -- ---- journals
 -- the entries, how many there may be, and how many check steps were done since the last one

@@ -16,6 +16,7 @@ use Rattle.mls_geom.specs.declared.rect.RectFault.TheVariants.{Empty, Outside}
 use Rattle.mls_kinds.specs.KindSets.{members, set_of}
 use Rattle.mls_layout.specs.Uses.{flattened, most_uses}
 use Rattle.mls_layout.specs.declared.uses.CellUse.{CellUse}
+use Rattle.mls_library.specs.MarkedCells.{most_flat_tiles}
 use Rattle.mls_library.specs.SavedCells.{saved_line_count}
 use Rattle.mls_tech.specs.Readings.{Tech, plane_of_type}
 use Rattle.mls_session.specs.Bounds.{dumped_rect}
@@ -66,6 +67,14 @@ erased_layout layout e kinds plane = erased (layout plane) e kinds
 -- on each plane the squares of the cell that aren't space are painted, moved
 abbrev pub dumped_layout : Layout → Layout → ℤ → ℤ → Layout
 dumped_layout layout cell dx dy plane = dumped (layout plane) (cell plane) dx dy
+
+-- some of the first planes of the layout has more tiles than these
+abbrev pub exceeds_tiles : ℕ → ℕ → Layout → Bool
+exceeds_tiles most planes layout = list_any (λ plane. nat_lt most (tile_count world (layout plane))) (range_with_len 0 planes)
+
+-- some plane of the technology has more tiles than are listed of one with the cells that are placed
+abbrev pub exceeds_listed : Config → Layout → Bool
+exceeds_listed config layout = exceeds_tiles (most_flat_tiles config.quota) config.tech.plane_count layout
 
 -- some plane of the technology would have more tiles than the quota
 abbrev pub exceeds_quota : Config → Layout → Bool

@@ -13,6 +13,7 @@ ghost use Rattle.mls_tilepool.specs.Pools.{unreserved};
 
 mod changing;
 mod checking;
+mod marking;
 mod painting;
 mod saving;
 
@@ -35,7 +36,7 @@ pub(crate) struct Design {
     box_rect: Option<Rect>,
     pub(crate) planes: Vec<Plane>,
     /// The cells that are placed, in the order in which they were. There is room for as many as there may be.
-    uses: Vec<CellUse>,
+    pub(crate) uses: Vec<CellUse>,
     pub(crate) errors: ErrorPlane,
 }
 
@@ -157,7 +158,7 @@ impl Design {
             Command::Check => Executed::with(self.check(setup)),
             Command::CatchUp => self.catch_up(alloc, setup, workspace),
             Command::Why => Executed::with(self.why(alloc, setup, workspace)),
-            Command::Count => Executed::with(self.count(workspace)),
+            Command::Count => Executed::with(self.count()),
         }
     }
 }

@@ -6,6 +6,7 @@ ghost use Rattle.mls_session.specs.Looks.{tile_counts};
 
 use crate::Refusal;
 use mls_edgerule::RuleSet;
+use mls_layout::CellUse;
 use mls_paint::tile_count;
 use mls_stitch::Plane;
 use mls_tilepool::Pool;
@@ -26,6 +27,10 @@ pub enum Look {
     },
     /// How far the session has come, and how many tiles its planes have.
     Status,
+    /// The cells that are placed.
+    Uses,
+    /// The text of the layout with the areas that await checking and the marks, as a cell file.
+    Marks,
 }
 
 /// The answer to a look.
@@ -37,7 +42,11 @@ pub enum Looked {
     Why(RuleSet),
     /// How far the session has come.
     Status(Status),
-    /// There is no such rectangle, or memory ran out.
+    /// The cells that are placed.
+    Uses(UseList),
+    /// The number of lines of the text of the layout with the areas that await checking and the marks.
+    Marked(usize),
+    /// There is no such rectangle, a plane of the layout has more tiles than are listed of one, or memory ran out.
     Refused(Refusal),
 }
 
@@ -97,5 +106,38 @@ impl TileCounts {
         ensures { result.now ≡ self.now }
     {
         self.counts.as_slice()
+    }
+}
+
+/// The cells that are placed in a layout, in the order in which they were placed.
+#[derive(Drop)]
+pub struct UseList {
+    uses: Vec<CellUse>,
+}
+
+impl Model for UseList {
+    ghost use Rattle.std.specs.Prelude.{List};
+    ghost use Rattle.mls_layout.specs.declared.uses.CellUse.{CellUse};
+
+    ghost Value = { List CellUse };
+
+    ghost view = { λ list. list.uses.items };
+}
+
+impl UseList {
+    /// Copies the uses of a layout.
+    pub(crate) fn copy_of(alloc: Global, uses: &[CellUse]) -> Result<UseList, AllocError>
+        ensures { IfOk result (λ list. list ≡ uses.now) }
+    {
+        Ok(UseList {
+            uses: Vec::from_slice(alloc, uses)?,
+        })
+    }
+
+    /// Returns the uses.
+    pub fn as_slice(&self) -> &[CellUse]
+        ensures { result.now ≡ self.now }
+    {
+        self.uses.as_slice()
     }
 }

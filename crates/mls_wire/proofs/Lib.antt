@@ -2,6 +2,7 @@ pub mod AheadLemmas
 pub mod Chunks
 pub mod NextLineLemmas
 pub mod OpenLines
+pub mod PieceRooms
 pub mod Results
 pub mod RunLemmas
 pub mod ScriptTexts

@@ -1,5 +1,6 @@
 -- What names mean to a reader of lines, and what numbers are called in replies.
-use Rattle.std.specs.Prelude.{ℕ, Option, List, position}
+use Rattle.std.specs.Prelude.{ℕ, Option, List, position, slice_get}
+use Rattle.mls_server.specs.Settings.{cell_names}
 use Rattle.mls_server.specs.Worlds.{World, session_named}
 use Rattle.mls_tech.specs.Readings.{number_named, name_of, why_of}
 use Rattle.mls_text.specs.Words.{same_word}
@@ -9,6 +10,8 @@ pub record Names : Type 0 where
   pub type_of : List ℕ → Option ℕ
   -- the number of the cell of a name
   pub cell_of : List ℕ → Option ℕ
+  -- the name of a cell
+  pub cell_name : ℕ → Option (List ℕ)
   -- the first name of a type
   pub type_name : ℕ → Option (List ℕ)
   -- why a rule is there, by its number from 1
@@ -22,6 +25,7 @@ book_of on =
     record {
       type_of = number_named on.setting.tech.types;
       cell_of = λ name. position (λ cell. same_word name cell.name) on.setting.cells;
+      cell_name = slice_get (cell_names on.setting);
       type_name = name_of on.setting.tech.types;
       why_text = why_of on.setting.tech.rules;
       session = session_named on;

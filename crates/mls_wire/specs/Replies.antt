@@ -5,16 +5,17 @@ use Rattle.std.specs.Option.{unwrap_or}
 use Rattle.mls_edgerule.specs.RuleSets.{rules_in}
 use Rattle.mls_errorplane.specs.declared.error_plane.Stepped.{Stepped as StepEnd}
 use Rattle.mls_errorplane.specs.declared.error_plane.Stepped.TheVariants.{Idle, Done as StepDone, Full, Memory as StepMemory}
+use Rattle.mls_layout.specs.declared.uses.CellUse.{CellUse}
 use Rattle.mls_kinds.specs.KindSets.{difference, members, set_of}
 use Rattle.mls_session.specs.Refusals.{refusal_number, refusal_text}
 use Rattle.mls_session.specs.declared.look.Looked.{Looked}
-use Rattle.mls_session.specs.declared.look.Looked.TheVariants.{Saved as SavedLook, Why as WhyLook, Status as StatusLook, Refused as RefusedLook}
+use Rattle.mls_session.specs.declared.look.Looked.TheVariants.{Saved as SavedLook, Why as WhyLook, Status as StatusLook, Uses as UsesLook, Marked as MarkedLook, Refused as RefusedLook}
 use Rattle.mls_session.specs.declared.look.Status.{Status}
 use Rattle.mls_session.specs.declared.reply.Reply.{Reply}
 use Rattle.mls_session.specs.declared.reply.Reply.TheVariants.{Done, Kinds, Saved, Count, Why, Refused, Stopped}
 use Rattle.mls_wire.specs.NameBooks.{Names}
 use Rattle.mls_wire.specs.Says.{line_fault_number, line_fault_text}
-use Rattle.std.specs.Fmt.{decimal}
+use Rattle.std.specs.Fmt.{decimal, signed_decimal}
 use Rattle.mls_wire.specs.declared.response.Response.{Response}
 use Rattle.mls_wire.specs.declared.response.Response.TheVariants.{Silent, Fault, Answered, Audited}
 use Rattle.mls_server.specs.Faults.{open_fault_number, open_fault_text}
@@ -82,11 +83,18 @@ room_text status =
 abbrev pub status_text : Status → List ℕ
 status_text status = codes "stat " ++ progress_text status ++ codes "," ++ room_text status
 
+-- a line feed, and the line that places a cell so, without its own line feed
+abbrev pub use_text : Names → CellUse → List ℕ
+use_text book cell_use =
+    10 ∷ codes "getcell " ++ unwrap_or (book.cell_name cell_use.cell) [] ++ 32 ∷ signed_decimal cell_use.dx ++ 32 ∷ signed_decimal cell_use.dy
+
 -- what a look returned, without its line's first word and its line feed: a text and rules as a command's reply has them
 unfoldable pub looked_text : Names → Looked → List ℕ
 looked_text book (SavedLook lines) = reply_text book (Saved lines)
 looked_text book (WhyLook rules) = reply_text book (Why rules)
 looked_text book (StatusLook status) = status_text status
+looked_text book (UsesLook uses) = codes "uses " ++ decimal (length uses) ++ flat_map (use_text book) uses
+looked_text book (MarkedLook lines) = codes "marked " ++ decimal lines
 looked_text book (RefusedLook refusal) = reply_text book (Refused refusal)
 
 -- the reply text of an answer by the session's name; answers that no line has are of no text

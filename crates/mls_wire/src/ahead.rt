@@ -31,6 +31,10 @@ impl<N: Names> Names for Ahead<'_, N> {
         self.names.cell_of(word)
     }
 
+    fn cell_name(&self, cell: CellId) -> Option<&[u8]> {
+        self.names.cell_name(cell)
+    }
+
     fn type_name(&self, kind: u8) -> Option<&[u8]> {
         self.names.type_name(kind)
     }

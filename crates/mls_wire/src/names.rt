@@ -5,7 +5,7 @@ ghost use Rattle.std.specs.Option.{option_map};
 use mls_library::CellId;
 use mls_server::{Name, Server, SessionId};
 
-/// What names mean to a reader of lines, and what types are called in replies.
+/// What names mean to a reader of lines, and what types, rules and cells are called in replies.
 pub trait Names {
     ghost use Rattle.mls_wire.specs.NameBooks.{Names};
 
@@ -20,6 +20,10 @@ pub trait Names {
     /// Returns the cell of this name.
     fn cell_of(&self, word: &[u8]) -> Option<CellId>
         ensures { result ≡ (book self.now).cell_of word.now };
+
+    /// Returns the name of a cell.
+    fn cell_name(&self, cell: CellId) -> Option<&[u8]>
+        ensures { option_map (λ name. name.now) result ≡ (book self.now).cell_name cell };
 
     /// Returns the first name of a type.
     fn type_name(&self, kind: u8) -> Option<&[u8]>
@@ -46,6 +50,10 @@ impl Names for Server {
 
     fn cell_of(&self, word: &[u8]) -> Option<CellId> {
         self.cell(word)
+    }
+
+    fn cell_name(&self, cell: CellId) -> Option<&[u8]> {
+        Server::cell_name(self, cell)
     }
 
     fn type_name(&self, kind: u8) -> Option<&[u8]> {

@@ -75,6 +75,8 @@ fn parse_words<N: Names>(names: &N, mut words: Words) -> Result<Line, LineFault>
         Some(b"%audit") => parse_asked(names, words, Asked::Audit),
         Some(b"%save") => parse_asked(names, words, Asked::Look(Look::Save)),
         Some(b"%stat") => parse_asked(names, words, Asked::Look(Look::Status)),
+        Some(b"%uses") => parse_asked(names, words, Asked::Look(Look::Uses)),
+        Some(b"%marks") => parse_asked(names, words, Asked::Look(Look::Marks)),
         Some(b"%why") => parse_why(names, words),
         Some([b'%', ..]) => Err(LineFault::UnknownCommand),
         Some(name) => parse_session(names, name, words),
@@ -93,7 +95,7 @@ fn parse_open(mut words: Words) -> Result<Line, LineFault>
     }
 }
 
-/// Returns what the words after `%close`, `%step`, `%audit`, `%save` or `%stat` say.
+/// Returns what the words after `%close`, `%step`, `%audit`, `%save`, `%stat`, `%uses` or `%marks` say.
 #[tactic(auto, unfolding(crate::specs::Says::asks_says))]
 fn parse_asked<N: Names>(names: &N, mut words: Words, asked: Asked) -> Result<Line, LineFault>
     ensures { result ≡ asks_says (N.book names.now) (asked_line asked) words.entry }

@@ -1,5 +1,6 @@
 //! The text of replies.
-ghost use Rattle.std.specs.Prelude.{◌≡◌, ◌+◌, ◌++◌, ◌∷◌, ◌<◌, OnOk, [], decimal, codes};
+ghost use Rattle.std.specs.Prelude.{◌≡◌, ◌+◌, ◌++◌, ◌∷◌, ◌<◌, ◌≤◌, OnErr, OnOk, [], decimal, codes, length, vec_capacity, vec_len};
+ghost use Rattle.std.specs.Fmt.{signed_decimal};
 ghost use Rattle.std.specs.List.{flat_map};
 ghost use Rattle.mls_edgerule.specs.RuleSets.{rules_in};
 ghost use Rattle.mls_kinds.specs.KindSets.{members};
@@ -13,11 +14,16 @@ use itoa::{Buffer, Integer};
 use mls_edgerule::RuleSet;
 use mls_errorplane::Stepped;
 use mls_kinds::KindSet;
+use mls_layout::CellUse;
 use mls_server::{Answer, Name, NotOpen, OpenFault};
 use mls_session::{Looked, Refusal, Reply, Status};
 use std::alloc::AllocError;
 
 /// Appends the reply text of the response to line `n`.
+///
+/// # Errors
+///
+/// Out of memory, where the list had no room for the whole text.
 #[tactic(auto, unfolding(crate::specs::Replies::response_text))]
 pub fn push_response<N: Names>(
     names: &N,
@@ -25,7 +31,10 @@ pub fn push_response<N: Names>(
     response: &Response,
     out: &mut Vec<u8>,
 ) -> Result<(), AllocError>
-    ensures { OnOk result (out.new.items ≡ out.old.items ++ spec.response_text (N.book names.now) n response.now) }
+    ensures text { OnOk result (out.new.items ≡ out.old.items ++ spec.response_text (N.book names.now) n response.now) }
+    ensures room { OnErr result (vec_capacity out.old
+        < vec_len out.old + length (spec.response_text (N.book names.now) n response.now)) }
+    ensures capacity { vec_capacity out.old ≤ vec_capacity out.new }
 {
     match response {
         Response::Silent => Ok(()),
@@ -47,6 +56,10 @@ pub fn push_response<N: Names>(
 }
 
 /// Appends the reply text to a save, and the text that was saved.
+///
+/// # Errors
+///
+/// Out of memory, where the list had no room for the whole text.
 #[tactic(auto, unfolding(crate::specs::Replies::answer_text))]
 pub fn push_saved<N: Names>(
     names: &N,
@@ -55,8 +68,11 @@ pub fn push_saved<N: Names>(
     text: &[u8],
     out: &mut Vec<u8>,
 ) -> Result<(), AllocError>
-    ensures { OnOk result (out.new.items ≡ out.old.items
+    ensures text { OnOk result (out.new.items ≡ out.old.items
         ++ spec.answer_text (N.book names.now) name.now (Answer.Saved saved text.now)) }
+    ensures room { OnErr result (vec_capacity out.old
+        < vec_len out.old + length (spec.answer_text (N.book names.now) name.now (Answer.Saved saved text.now))) }
+    ensures capacity { vec_capacity out.old ≤ vec_capacity out.new }
 {
     match saved {
         Ok(reply) => push_replied(names, name, reply, text, out),
@@ -65,6 +81,10 @@ pub fn push_saved<N: Names>(
 }
 
 /// Appends the reply text to a look, and the text that comes with it.
+///
+/// # Errors
+///
+/// Out of memory, where the list had no room for the whole text.
 #[tactic(auto, unfolding(crate::specs::Replies::answer_text))]
 pub fn push_looked<N: Names>(
     names: &N,
@@ -73,8 +93,11 @@ pub fn push_looked<N: Names>(
     text: &[u8],
     out: &mut Vec<u8>,
 ) -> Result<(), AllocError>
-    ensures { OnOk result (out.new.items ≡ out.old.items
+    ensures text { OnOk result (out.new.items ≡ out.old.items
         ++ spec.answer_text (N.book names.now) name.now (Answer.Looked looked.now text.now)) }
+    ensures room { OnErr result (vec_capacity out.old
+        < vec_len out.old + length (spec.answer_text (N.book names.now) name.now (Answer.Looked looked.now text.now))) }
+    ensures capacity { vec_capacity out.old ≤ vec_capacity out.new }
 {
     let Ok(looked) = looked else { return Ok(()) };
     push_words(name, b" ", out)?;
@@ -84,8 +107,14 @@ pub fn push_looked<N: Names>(
 }
 
 /// Appends that the list of the session's seat isn't that of its journal.
+///
+/// # Errors
+///
+/// Out of memory, where the list had no room for the whole text.
 pub fn push_differs(name: &Name, out: &mut Vec<u8>) -> Result<(), AllocError>
-    ensures { OnOk result (out.new.items ≡ out.old.items ++ differs_text name.now) }
+    ensures text { OnOk result (out.new.items ≡ out.old.items ++ differs_text name.now) }
+    ensures room { OnErr result (vec_capacity out.old < vec_len out.old + length (differs_text name.now)) }
+    ensures capacity { vec_capacity out.old ≤ vec_capacity out.new }
 {
     push_words(name, b" differs\n", out)
 }
@@ -98,7 +127,11 @@ fn push_answer<N: Names>(
     answer: &Answer,
     out: &mut Vec<u8>,
 ) -> Result<(), AllocError>
-    ensures { OnOk result (out.new.items ≡ out.old.items ++ spec.answer_text (N.book names.now) name.now answer.now) }
+    ensures text { OnOk result (out.new.items ≡ out.old.items
+        ++ spec.answer_text (N.book names.now) name.now answer.now) }
+    ensures room { OnErr result (vec_capacity out.old
+        < vec_len out.old + length (spec.answer_text (N.book names.now) name.now answer.now)) }
+    ensures capacity { vec_capacity out.old ≤ vec_capacity out.new }
 {
     match answer {
         Answer::Opened(Ok(_)) => push_words(name, b" opened\n", out),
@@ -123,7 +156,9 @@ fn push_answer<N: Names>(
 
 /// Appends a session's name and the bytes after it.
 fn push_words(name: &Name, bytes: &[u8], out: &mut Vec<u8>) -> Result<(), AllocError>
-    ensures { OnOk result (out.new.items ≡ out.old.items ++ name.now ++ bytes.now) }
+    ensures text { OnOk result (out.new.items ≡ out.old.items ++ name.now ++ bytes.now) }
+    ensures room { OnErr result (vec_capacity out.old < vec_len out.old + length (name.now ++ bytes.now)) }
+    ensures capacity { vec_capacity out.old ≤ vec_capacity out.new }
 {
     out.extend_from_slice(name.as_bytes())?;
     out.extend_from_slice(bytes)
@@ -131,8 +166,11 @@ fn push_words(name: &Name, bytes: &[u8], out: &mut Vec<u8>) -> Result<(), AllocE
 
 /// Appends why a session of this name can't be opened.
 fn push_not_opened(name: &Name, fault: OpenFault, out: &mut Vec<u8>) -> Result<(), AllocError>
-    ensures { OnOk result (out.new.items ≡ out.old.items ++ name.now ++ codes " refused open "
+    ensures text { OnOk result (out.new.items ≡ out.old.items ++ name.now ++ codes " refused open "
         ++ spec.numbered (open_fault_number fault) (open_fault_text fault) ++ 10 ∷ []) }
+    ensures room { OnErr result (vec_capacity out.old < vec_len out.old + length (name.now ++ codes " refused open "
+        ++ spec.numbered (open_fault_number fault) (open_fault_text fault) ++ 10 ∷ [])) }
+    ensures capacity { vec_capacity out.old ≤ vec_capacity out.new }
 {
     push_words(name, b" refused open ", out)?;
     push_numbered(fault.number(), fault.text().as_bytes(), out)?;
@@ -147,8 +185,11 @@ fn push_replied<N: Names>(
     text: &[u8],
     out: &mut Vec<u8>,
 ) -> Result<(), AllocError>
-    ensures { OnOk result (out.new.items ≡ out.old.items ++ name.now ++ 32 ∷ spec.reply_text (N.book names.now) reply
-        ++ 10 ∷ text.now) }
+    ensures text { OnOk result (out.new.items ≡ out.old.items
+        ++ name.now ++ 32 ∷ spec.reply_text (N.book names.now) reply ++ 10 ∷ text.now) }
+    ensures room { OnErr result (vec_capacity out.old
+        < vec_len out.old + length (name.now ++ 32 ∷ spec.reply_text (N.book names.now) reply ++ 10 ∷ text.now)) }
+    ensures capacity { vec_capacity out.old ≤ vec_capacity out.new }
 {
     push_words(name, b" ", out)?;
     push_reply(names, reply, out)?;
@@ -158,7 +199,9 @@ fn push_replied<N: Names>(
 
 /// Appends a number.
 fn push_decimal<I: Integer>(n: I, out: &mut Vec<u8>) -> Result<(), AllocError>
-    ensures { OnOk result (out.new.items ≡ out.old.items ++ I.text n) }
+    ensures text { OnOk result (out.new.items ≡ out.old.items ++ I.text n) }
+    ensures room { OnErr result (vec_capacity out.old < vec_len out.old + length (I.text n)) }
+    ensures capacity { vec_capacity out.old ≤ vec_capacity out.new }
 {
     let mut buffer = Buffer::new();
     out.extend_from_slice(buffer.format(n).as_bytes())
@@ -166,7 +209,9 @@ fn push_decimal<I: Integer>(n: I, out: &mut Vec<u8>) -> Result<(), AllocError>
 
 /// Appends a number and its text.
 fn push_numbered(n: u8, text: &[u8], out: &mut Vec<u8>) -> Result<(), AllocError>
-    ensures { OnOk result (out.new.items ≡ out.old.items ++ spec.numbered n text.now) }
+    ensures text { OnOk result (out.new.items ≡ out.old.items ++ spec.numbered n text.now) }
+    ensures room { OnErr result (vec_capacity out.old < vec_len out.old + length (spec.numbered n text.now)) }
+    ensures capacity { vec_capacity out.old ≤ vec_capacity out.new }
 {
     push_decimal(n, out)?;
     out.push(b' ')?;
@@ -176,7 +221,10 @@ fn push_numbered(n: u8, text: &[u8], out: &mut Vec<u8>) -> Result<(), AllocError
 /// Appends a reply, without its line's first word and its line feed.
 #[tactic(auto, unfolding(crate::specs::Replies::reply_text))]
 fn push_reply<N: Names>(names: &N, reply: Reply, out: &mut Vec<u8>) -> Result<(), AllocError>
-    ensures { OnOk result (out.new.items ≡ out.old.items ++ spec.reply_text (N.book names.now) reply) }
+    ensures text { OnOk result (out.new.items ≡ out.old.items ++ spec.reply_text (N.book names.now) reply) }
+    ensures room { OnErr result (vec_capacity out.old
+        < vec_len out.old + length (spec.reply_text (N.book names.now) reply)) }
+    ensures capacity { vec_capacity out.old ≤ vec_capacity out.new }
 {
     match reply {
         Reply::Done => out.extend_from_slice(b"ok"),
@@ -212,19 +260,29 @@ fn push_reply<N: Names>(names: &N, reply: Reply, out: &mut Vec<u8>) -> Result<()
 /// Appends what a look returned, without its line's first word and its line feed.
 #[tactic(auto, unfolding(crate::specs::Replies::looked_text))]
 fn push_look<N: Names>(names: &N, looked: &Looked, out: &mut Vec<u8>) -> Result<(), AllocError>
-    ensures { OnOk result (out.new.items ≡ out.old.items ++ spec.looked_text (N.book names.now) looked.now) }
+    ensures text { OnOk result (out.new.items ≡ out.old.items ++ spec.looked_text (N.book names.now) looked.now) }
+    ensures room { OnErr result (vec_capacity out.old
+        < vec_len out.old + length (spec.looked_text (N.book names.now) looked.now)) }
+    ensures capacity { vec_capacity out.old ≤ vec_capacity out.new }
 {
     match looked {
         Looked::Saved(lines) => push_reply(names, Reply::Saved(*lines), out),
         Looked::Why(rules) => push_reply(names, Reply::Why(*rules), out),
         Looked::Status(status) => push_status(status, out),
+        Looked::Uses(uses) => push_uses(names, uses.as_slice(), out),
+        Looked::Marked(lines) => {
+            out.extend_from_slice(b"marked ")?;
+            push_decimal(*lines as u64, out)
+        }
         Looked::Refused(refusal) => push_reply(names, Reply::Refused(*refusal), out),
     }
 }
 
 /// Appends how far a session has come, and how many tiles its planes have.
 fn push_status(status: &Status, out: &mut Vec<u8>) -> Result<(), AllocError>
-    ensures { OnOk result (out.new.items ≡ out.old.items ++ spec.status_text status.now) }
+    ensures text { OnOk result (out.new.items ≡ out.old.items ++ spec.status_text status.now) }
+    ensures room { OnErr result (vec_capacity out.old < vec_len out.old + length (spec.status_text status.now)) }
+    ensures capacity { vec_capacity out.old ≤ vec_capacity out.new }
 {
     out.extend_from_slice(b"stat ")?;
     push_progress(status, out)?;
@@ -234,7 +292,9 @@ fn push_status(status: &Status, out: &mut Vec<u8>) -> Result<(), AllocError>
 
 /// Appends how far a session has come.
 fn push_progress(status: &Status, out: &mut Vec<u8>) -> Result<(), AllocError>
-    ensures { OnOk result (out.new.items ≡ out.old.items ++ spec.progress_text status.now) }
+    ensures text { OnOk result (out.new.items ≡ out.old.items ++ spec.progress_text status.now) }
+    ensures room { OnErr result (vec_capacity out.old < vec_len out.old + length (spec.progress_text status.now)) }
+    ensures capacity { vec_capacity out.old ≤ vec_capacity out.new }
 {
     push_share(status.entries as u64, status.limit as u64, out)?;
     out.extend_from_slice(b" entries, ")?;
@@ -244,7 +304,9 @@ fn push_progress(status: &Status, out: &mut Vec<u8>) -> Result<(), AllocError>
 /// Appends how many check steps a session did since its last entry, and how many areas await checking.
 #[tactic(auto, unfolding(crate::specs::Replies::checks_text))]
 fn push_checks(status: &Status, out: &mut Vec<u8>) -> Result<(), AllocError>
-    ensures { OnOk result (out.new.items ≡ out.old.items ++ spec.checks_text status.now) }
+    ensures text { OnOk result (out.new.items ≡ out.old.items ++ spec.checks_text status.now) }
+    ensures room { OnErr result (vec_capacity out.old < vec_len out.old + length (spec.checks_text status.now)) }
+    ensures capacity { vec_capacity out.old ≤ vec_capacity out.new }
 {
     push_decimal(status.steps, out)?;
     out.extend_from_slice(b" steps since, ")?;
@@ -255,7 +317,9 @@ fn push_checks(status: &Status, out: &mut Vec<u8>) -> Result<(), AllocError>
 /// Appends how many tiles the planes of a session have.
 #[tactic(auto, unfolding(crate::specs::Replies::room_text))]
 fn push_room(status: &Status, out: &mut Vec<u8>) -> Result<(), AllocError>
-    ensures { OnOk result (out.new.items ≡ out.old.items ++ spec.room_text status.now) }
+    ensures text { OnOk result (out.new.items ≡ out.old.items ++ spec.room_text status.now) }
+    ensures room { OnErr result (vec_capacity out.old < vec_len out.old + length (spec.room_text status.now)) }
+    ensures capacity { vec_capacity out.old ≤ vec_capacity out.new }
 {
     push_tiles(status.tiles.as_slice(), out)?;
     out.extend_from_slice(b" of ")?;
@@ -267,7 +331,9 @@ fn push_room(status: &Status, out: &mut Vec<u8>) -> Result<(), AllocError>
 
 /// Appends a number and the most that it may be.
 fn push_share(count: u64, limit: u64, out: &mut Vec<u8>) -> Result<(), AllocError>
-    ensures { OnOk result (out.new.items ≡ out.old.items ++ spec.share_text count limit) }
+    ensures text { OnOk result (out.new.items ≡ out.old.items ++ spec.share_text count limit) }
+    ensures room { OnErr result (vec_capacity out.old < vec_len out.old + length (spec.share_text count limit)) }
+    ensures capacity { vec_capacity out.old ≤ vec_capacity out.new }
 {
     push_decimal(count, out)?;
     out.extend_from_slice(b" of ")?;
@@ -276,7 +342,10 @@ fn push_share(count: u64, limit: u64, out: &mut Vec<u8>) -> Result<(), AllocErro
 
 /// Appends the number of tiles of each plane after a space.
 fn push_tiles(counts: &[u32], out: &mut Vec<u8>) -> Result<(), AllocError>
-    ensures { OnOk result (out.new.items ≡ out.old.items ++ flat_map spec.tiles_text counts.now) }
+    ensures text { OnOk result (out.new.items ≡ out.old.items ++ flat_map spec.tiles_text counts.now) }
+    ensures room { OnErr result (vec_capacity out.old
+        < vec_len out.old + length (flat_map spec.tiles_text counts.now)) }
+    ensures capacity { vec_capacity out.old ≤ vec_capacity out.new }
 {
     for count in counts {
         out.push(b' ')?;
@@ -285,10 +354,68 @@ fn push_tiles(counts: &[u32], out: &mut Vec<u8>) -> Result<(), AllocError>
     Ok(())
 }
 
+/// Appends how many cells are placed, and the line that places each.
+fn push_uses<N: Names>(names: &N, uses: &[CellUse], out: &mut Vec<u8>) -> Result<(), AllocError>
+    ensures text { OnOk result (out.new.items ≡ out.old.items
+        ++ codes "uses " ++ decimal (length uses.now) ++ flat_map (spec.use_text (N.book names.now)) uses.now) }
+    ensures room { OnErr result (vec_capacity out.old < vec_len out.old + length (codes "uses "
+        ++ decimal (length uses.now) ++ flat_map (spec.use_text (N.book names.now)) uses.now)) }
+    ensures capacity { vec_capacity out.old ≤ vec_capacity out.new }
+{
+    out.extend_from_slice(b"uses ")?;
+    push_decimal(uses.len() as u64, out)?;
+    push_use_lines(names, uses, out)
+}
+
+/// Appends the line that places each cell, after a line feed.
+fn push_use_lines<N: Names>(
+    names: &N,
+    uses: &[CellUse],
+    out: &mut Vec<u8>,
+) -> Result<(), AllocError>
+    ensures text { OnOk result (out.new.items ≡ out.old.items ++ flat_map (spec.use_text (N.book names.now)) uses.now) }
+    ensures room { OnErr result (vec_capacity out.old
+        < vec_len out.old + length (flat_map (spec.use_text (N.book names.now)) uses.now)) }
+    ensures capacity { vec_capacity out.old ≤ vec_capacity out.new }
+{
+    for cell_use in uses {
+        push_use(names, cell_use, out)?;
+    }
+    Ok(())
+}
+
+/// Appends a line feed and the line that places a cell, without its own line feed.
+fn push_use<N: Names>(names: &N, cell_use: &CellUse, out: &mut Vec<u8>) -> Result<(), AllocError>
+    ensures text { OnOk result (out.new.items ≡ out.old.items ++ spec.use_text (N.book names.now) cell_use.now) }
+    ensures room { OnErr result (vec_capacity out.old
+        < vec_len out.old + length (spec.use_text (N.book names.now) cell_use.now)) }
+    ensures capacity { vec_capacity out.old ≤ vec_capacity out.new }
+{
+    out.extend_from_slice(b"\ngetcell ")?;
+    if let Some(name) = names.cell_name(cell_use.cell) {
+        out.extend_from_slice(name)?;
+    }
+    push_offset(cell_use.dx, out)?;
+    push_offset(cell_use.dy, out)
+}
+
+/// Appends a space and a number.
+fn push_offset(offset: i32, out: &mut Vec<u8>) -> Result<(), AllocError>
+    ensures text { OnOk result (out.new.items ≡ out.old.items ++ 32 ∷ signed_decimal offset) }
+    ensures room { OnErr result (vec_capacity out.old < vec_len out.old + length (32 ∷ signed_decimal offset)) }
+    ensures capacity { vec_capacity out.old ≤ vec_capacity out.new }
+{
+    out.push(b' ')?;
+    push_decimal(offset, out)
+}
+
 /// Appends the number and the text of a refusal.
 fn push_refusal(refusal: Refusal, out: &mut Vec<u8>) -> Result<(), AllocError>
-    ensures { OnOk result (out.new.items ≡ out.old.items ++ codes "refused "
-        ++ spec.numbered (refusal_number refusal) (refusal_text refusal)) }
+    ensures text { OnOk result (out.new.items ≡ out.old.items
+        ++ codes "refused " ++ spec.numbered (refusal_number refusal) (refusal_text refusal)) }
+    ensures room { OnErr result (vec_capacity out.old < vec_len out.old + length (codes "refused "
+        ++ spec.numbered (refusal_number refusal) (refusal_text refusal))) }
+    ensures capacity { vec_capacity out.old ≤ vec_capacity out.new }
 {
     out.extend_from_slice(b"refused ")?;
     push_numbered(refusal.number(), refusal.text().as_bytes(), out)
@@ -296,7 +423,9 @@ fn push_refusal(refusal: Refusal, out: &mut Vec<u8>) -> Result<(), AllocError>
 
 /// Appends how many areas await checking.
 fn push_pending(pending: usize, out: &mut Vec<u8>) -> Result<(), AllocError>
-    ensures { OnOk result (out.new.items ≡ out.old.items ++ spec.pending_text pending) }
+    ensures text { OnOk result (out.new.items ≡ out.old.items ++ spec.pending_text pending) }
+    ensures room { OnErr result (vec_capacity out.old < vec_len out.old + length (spec.pending_text pending)) }
+    ensures capacity { vec_capacity out.old ≤ vec_capacity out.new }
 {
     out.push(b' ')?;
     push_decimal(pending as u64, out)?;
@@ -325,8 +454,11 @@ fn without_space(kinds: KindSet) -> KindSet
 
 /// Appends the name of each type after a space, in the order of their numbers.
 fn push_types<N: Names>(names: &N, types: KindSet, out: &mut Vec<u8>) -> Result<(), AllocError>
-    ensures { OnOk result (out.new.items ≡ out.old.items
+    ensures text { OnOk result (out.new.items ≡ out.old.items
         ++ flat_map (spec.type_text (N.book names.now)) (members types)) }
+    ensures room { OnErr result (vec_capacity out.old
+        < vec_len out.old + length (flat_map (spec.type_text (N.book names.now)) (members types))) }
+    ensures capacity { vec_capacity out.old ≤ vec_capacity out.new }
 {
     for kind in types.iter() {
         push_type(names, kind, out)?;
@@ -336,7 +468,10 @@ fn push_types<N: Names>(names: &N, types: KindSet, out: &mut Vec<u8>) -> Result<
 
 /// Appends a space and the type's first name.
 fn push_type<N: Names>(names: &N, kind: u8, out: &mut Vec<u8>) -> Result<(), AllocError>
-    ensures { OnOk result (out.new.items ≡ out.old.items ++ spec.type_text (N.book names.now) kind) }
+    ensures text { OnOk result (out.new.items ≡ out.old.items ++ spec.type_text (N.book names.now) kind) }
+    ensures room { OnErr result (vec_capacity out.old
+        < vec_len out.old + length (spec.type_text (N.book names.now) kind)) }
+    ensures capacity { vec_capacity out.old ≤ vec_capacity out.new }
 {
     out.push(b' ')?;
     if let Some(name) = names.type_name(kind) {
@@ -347,8 +482,11 @@ fn push_type<N: Names>(names: &N, kind: u8, out: &mut Vec<u8>) -> Result<(), All
 
 /// Appends the text of each rule of the set, in rising order.
 fn push_rules<N: Names>(names: &N, rules: RuleSet, out: &mut Vec<u8>) -> Result<(), AllocError>
-    ensures { OnOk result (out.new.items ≡ out.old.items
+    ensures text { OnOk result (out.new.items ≡ out.old.items
         ++ flat_map (spec.rule_text (N.book names.now)) (rules_in rules)) }
+    ensures room { OnErr result (vec_capacity out.old
+        < vec_len out.old + length (flat_map (spec.rule_text (N.book names.now)) (rules_in rules))) }
+    ensures capacity { vec_capacity out.old ≤ vec_capacity out.new }
 {
     for n in rules.iter() {
         push_rule(names, n, out)?;
@@ -358,7 +496,10 @@ fn push_rules<N: Names>(names: &N, rules: RuleSet, out: &mut Vec<u8>) -> Result<
 
 /// Appends the number of a rule in brackets, and its why text.
 fn push_rule<N: Names>(names: &N, n: usize, out: &mut Vec<u8>) -> Result<(), AllocError>
-    ensures { OnOk result (out.new.items ≡ out.old.items ++ spec.rule_text (N.book names.now) n) }
+    ensures text { OnOk result (out.new.items ≡ out.old.items ++ spec.rule_text (N.book names.now) n) }
+    ensures room { OnErr result (vec_capacity out.old
+        < vec_len out.old + length (spec.rule_text (N.book names.now) n)) }
+    ensures capacity { vec_capacity out.old ≤ vec_capacity out.new }
 {
     out.extend_from_slice(b" [")?;
     push_decimal(n as u64, out)?;

@@ -63,7 +63,8 @@ impl Server {
     }
 
     /// Looks at a session as it is: appends the text that a look asks for, and returns what goes before it. Nothing
-    /// changes, and nothing is appended where the look is refused.
+    /// changes, and nothing is appended where the look is refused. Where there is room for the text, [`Look::Save`]
+    /// takes no memory.
     pub fn look(
         &mut self,
         alloc: Global,
@@ -73,6 +74,8 @@ impl Server {
     ) -> Result<Looked, NotOpen>
         ensures looks { (text : List ℕ) × LooksAt (world_of self.old) id look result text
             × (out.new.items ≡ out.old.items ++ text) }
+        ensures room { look ≡ Look.Save → IfOk result (λ looked. looked ≡ Looked.Refused Memory
+            → vec_capacity out.old < vec_len out.old + length (own_text (world_of self.old) id)) }
         ensures same { world_of self.new ≡ world_of self.old }
         ensures frame { self.new.pool ≡ self.old.pool }
     {

@@ -39,6 +39,7 @@ impl Design {
         ensures planes { self.new.planes ≡ self.old.planes }
         ensures quota { self.new.quota ≡ self.old.quota }
         ensures owner { self.new.errors.owner ≡ self.old.errors.owner }
+        ensures marked { self.new.errors.marked ≡ self.old.errors.marked }
         ensures refused { OnRefused result (self.new ≡ self.old) }
     {
         let Some(rect) = self.box_rect else {
@@ -54,6 +55,7 @@ impl Design {
             ≡ soiled_after rules.now rect Reply.Done (checking_of pool self.old.errors) }
         ensures same { self.new ≡ record self.old { errors = self.new.errors } }
         ensures owner { self.new.errors.owner ≡ self.old.errors.owner }
+        ensures marked { self.new.errors.marked ≡ self.old.errors.marked }
     {
         if let Some(rect) = rect {
             self.errors.add(rules, rect);
@@ -196,14 +198,11 @@ impl Design {
 
     /// Returns how many squares are marked, and how many areas await checking.
     #[tactic(auto, unfolding(crate::specs::Own::marked_squares, mls_errorplane::specs::MarkPlanes::marked_count))]
-    pub fn count(&self, workspace: &mut Workspace) -> Reply
-        requires home { IsHome workspace.old.pool self.now }
-        ensures step { count_step (designed_of workspace.old.pool self.now)
-            ≡ (designed_of workspace.old.pool self.now, result) }
-        ensures pool { workspace.new.pool ≡ workspace.old.pool }
+    pub fn count(&self) -> Reply
+        ensures { (pool : Pool) → IsHome pool self.now
+            → count_step (designed_of pool self.now) ≡ (designed_of pool self.now, result) }
     {
-        let Workspace { pool, scratch, .. } = workspace;
-        let errors = self.errors.marked(pool, scratch);
+        let errors = self.errors.marked();
         let pending = self.errors.areas();
         Reply::Count { errors, pending }
     }

@@ -9,7 +9,6 @@ use super::Design;
 use crate::{Refusal, Reply};
 use mls_layout::Workspace;
 use mls_library::{layer_line_count, push_end, push_header, push_layer};
-use mls_paint::strips_of;
 use mls_tech::Tech;
 use std::alloc::AllocError;
 
@@ -65,7 +64,7 @@ impl Design {
     {
         let len = out.len();
         match self.push_text(tech, out, workspace) {
-            Ok(()) => Ok(self.count_lines(tech, workspace)),
+            Ok(lines) => Ok(lines),
             Err(error) => {
                 out.truncate(len);
                 Err(error)
@@ -85,20 +84,22 @@ impl Design {
         let mut listed = None;
         for kind in 1..types + 1 {
             self.list_plane(tech, kind, &mut listed, workspace);
-            lines += layer_line_count(workspace.scratch.tiles(), kind);
+            lines += layer_line_count(&workspace.pieces, kind);
         }
         lines
     }
 
-    /// Appends the text of the own paint. Out of memory, leaves the beginning of it.
+    /// Appends the text of the own paint, and returns the number of its lines. Out of memory, leaves the beginning of it.
     fn push_text(
         &self,
         tech: &Tech,
         out: &mut Vec<u8>,
         workspace: &mut Workspace,
-    ) -> Result<(), AllocError>
+    ) -> Result<usize, AllocError>
         requires home { IsHome workspace.old.pool self.now }
         requires made_for { length self.now.planes ≡ tech.now.plane_count }
+        ensures count { IfOk result (λ lines. lines
+            ≡ saved_line_count tech.now (drawn_of workspace.old.pool self.now).paint) }
         ensures text { OnOk result (out.new.items ≡ out.old.items ++ saved_text tech.now
             (drawn_of workspace.old.pool self.now).paint) }
         ensures room { OnErr result (vec_capacity out.old < vec_len out.old
@@ -111,23 +112,26 @@ impl Design {
     {
         let types = tech.types() as u8;
         push_header(tech, out)?;
+        let mut lines = OTHER_LINES;
         let mut listed = None;
         for kind in 1..types + 1 {
             self.list_plane(tech, kind, &mut listed, workspace);
-            push_layer(tech, kind, workspace.scratch.tiles(), out)?;
+            lines += layer_line_count(&workspace.pieces, kind);
+            push_layer(tech, kind, &workspace.pieces, out)?;
         }
-        push_end(out)
+        push_end(out)?;
+        Ok(lines)
     }
 
-    /// Lists the strips of a type's plane in the scratch, unless they are those that it lists already.
+    /// Lists the strips of a type's plane in the list of pieces, unless they are those that it lists already.
     fn list_plane(&self, tech: &Tech, kind: u8, listed: &mut Option<u8>, workspace: &mut Workspace)
         requires home { IsHome workspace.old.pool self.now }
         requires made_for { length self.now.planes ≡ tech.now.plane_count }
         requires is_type { (1 ≤ kind) × (kind ≤ length tech.now.type_planes) }
         requires listed { IfSome listed.old (ListsPlane
-            (drawn_of workspace.old.pool self.now).paint workspace.old.scratch.tiles) }
+            (drawn_of workspace.old.pool self.now).paint workspace.old.pieces.items) }
         ensures lists { IfSome listed.new (ListsPlane
-            (drawn_of workspace.old.pool self.now).paint workspace.new.scratch.tiles) }
+            (drawn_of workspace.old.pool self.now).paint workspace.new.pieces.items) }
         ensures plane { listed.new ≡ plane_of_type tech.now.type_planes kind }
         ensures pool { workspace.new.pool ≡ workspace.old.pool }
     {
@@ -136,8 +140,7 @@ impl Design {
             return;
         }
         if let Some(number) = plane {
-            let Workspace { pool, scratch, .. } = workspace;
-            strips_of(pool, &self.planes[usize::from(number)], scratch);
+            workspace.list_strips(&self.planes[usize::from(number)]);
         }
         *listed = plane;
     }

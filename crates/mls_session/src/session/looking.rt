@@ -1,14 +1,16 @@
 //! Looks at a session.
-ghost use Rattle.std.specs.Prelude.{◌≡◌, ◌++◌, ◌⊎◌, [], IfOk, List, ℕ};
+ghost use Rattle.std.specs.Prelude.{◌≡◌, ◌+◌, ◌++◌, ◌<◌, ◌⊎◌, [], IfOk, List, length, vec_capacity, vec_len, ℕ};
+ghost use Rattle.mls_library.specs.SavedCells.{saved_text};
 ghost use Rattle.mls_session.specs.Designs.{CanDump};
-ghost use Rattle.mls_session.specs.Looks.{IsRect, Looks, status_of, why_in};
+ghost use Rattle.mls_session.specs.Looks.{IsRect, Looks, MarksReadBack, OnMarks, status_of, why_in};
 ghost use Rattle.mls_session.specs.Own.{layout_of};
+ghost use Rattle.mls_session.specs.OwnSteps.{Terms};
 ghost use Rattle.mls_session.specs.Setups.{config_of, terms_of};
 
 use super::Session;
-use crate::{Look, Looked, Refusal, Setup, Status, TileCounts};
+use crate::{Look, Looked, Refusal, Setup, Status, TileCounts, UseList};
 use mls_geom::{Rect, RectFault};
-use mls_layout::Workspace;
+use mls_layout::{Unlisted, Workspace};
 use mls_tilepool::Pool;
 use std::alloc::{AllocError, Global};
 
@@ -17,7 +19,9 @@ impl Session {
 
     /// Returns what a look asks for, and appends the text that comes with it. Nothing of the session changes.
     ///
-    /// Where the look is refused, as it is out of memory, nothing is appended.
+    /// Where the look is refused, as it is out of memory, nothing is appended. Where there is room for the text,
+    /// [`Look::Save`] takes no memory. The text of [`Look::Marks`] reads as the layout, where each square of that is
+    /// space or of a type whose plane it is.
     pub fn look(
         &mut self,
         alloc: Global,
@@ -31,6 +35,11 @@ impl Session {
         requires can_dump { CanDump setup.now workspace.old.pool (owners_of self.old) }
         ensures looks { (text : List ℕ) × Looks (terms_of setup.now workspace.old.pool)
             (kept_of workspace.old.pool self.old) look result text × (out.new.items ≡ out.old.items ++ text) }
+        ensures reads_back { OnMarks look (MarksReadBack (terms_of setup.now workspace.old.pool)
+            (kept_of workspace.old.pool self.old)) }
+        ensures room { look ≡ Look.Save → result ≡ Looked.Refused Refusal.Memory → vec_capacity out.old
+            < vec_len out.old + length (saved_text setup.now.tech
+            (state_of workspace.old.pool self.old).design.drawn.paint) }
         ensures same { self.new ≡ self.old }
         ensures pool { workspace.new.pool ≡ workspace.old.pool }
     {
@@ -46,6 +55,8 @@ impl Session {
                 self.look_at_rules(alloc, setup, made, workspace)
             }
             Look::Status => self.look_at_status(alloc, setup, &workspace.pool),
+            Look::Uses => self.look_at_uses(alloc, &workspace.pool),
+            Look::Marks => self.look_at_marks(alloc, setup, out, workspace),
         }
     }
 
@@ -55,6 +66,8 @@ impl Session {
         requires made_for { IsMadeFor setup.now self.now }
         ensures looks { (text : List ℕ) × Looks (terms_of setup.now workspace.old.pool)
             (kept_of workspace.old.pool self.now) Look.Save result text × (out.new.items ≡ out.old.items ++ text) }
+        ensures room { result ≡ Looked.Refused Refusal.Memory → vec_capacity out.old < vec_len out.old
+            + length (saved_text setup.now.tech (state_of workspace.old.pool self.now).design.drawn.paint) }
         ensures pool { workspace.new.pool ≡ workspace.old.pool }
     {
         match self.design.save_text(&setup.tech, out, workspace) {
@@ -121,5 +134,41 @@ impl Session {
             quota: setup.quota.tiles(),
             mark_tiles: errors.tiles(pool),
         })
+    }
+
+    /// Returns the cells that are placed.
+    fn look_at_uses(&self, alloc: Global, pool: &Pool) -> Looked
+        ensures { (terms : Terms) → Looks terms (kept_of pool.now self.now) Look.Uses result [] }
+    {
+        match UseList::copy_of(alloc, &self.design.uses) {
+            Ok(uses) => Looked::Uses(uses),
+            Err(_) => Looked::Refused(Refusal::Memory),
+        }
+    }
+    /// Appends the text of the layout with the areas that await checking and the marks, and returns the number of its
+    /// lines.
+    fn look_at_marks(
+        &mut self,
+        alloc: Global,
+        setup: &Setup,
+        out: &mut Vec<u8>,
+        workspace: &mut Workspace,
+    ) -> Looked
+        requires home { IsHome workspace.old.pool self.old }
+        requires made_for { IsMadeFor setup.now self.old }
+        requires can_dump { CanDump setup.now workspace.old.pool (owners_of self.old) }
+        ensures looks { (text : List ℕ) × Looks (terms_of setup.now workspace.old.pool)
+            (kept_of workspace.old.pool self.old) Look.Marks result text × (out.new.items ≡ out.old.items ++ text) }
+        ensures reads_back { MarksReadBack (terms_of setup.now workspace.old.pool)
+            (kept_of workspace.old.pool self.old) }
+        ensures same { self.new ≡ self.old }
+        ensures pool { workspace.new.pool ≡ workspace.old.pool }
+    {
+        self.design.reads_back(&setup.tech);
+        match self.design.mark_text(alloc, setup, out, workspace) {
+            Ok(lines) => Looked::Marked(lines),
+            Err(Unlisted::TooMany) => Looked::Refused(Refusal::Quota),
+            Err(Unlisted::Memory) => Looked::Refused(Refusal::Memory),
+        }
     }
 }

@@ -1,7 +1,6 @@
 use Rattle.std.proofs.Common.{◌≡◌, ◌++◌, ℕ, List, refl, sym, ap, subst, ◌∙◌}
 use Rattle.mls_live.specs.Audits.{CanLookAt}
 use Rattle.mls_server.specs.declared.answer.Answer.TheVariants.{Looked}
-use Rattle.mls_wire.proofs.Results.{on_ok-map}
 use Rattle.mls_wire.specs.Replies.{answer_text}
 use Rattle.mls_crew.specs.Books.{labels_of}
 use Rattle.mls_crew.proofs.speaking.look.Goals as goal
@@ -13,4 +12,4 @@ returns g c =
     let shown = c.deref.result.now in
     let same : text ≡ shown = sym (c.deref.ensures.value ∙ is ∙ ap (λ (before : List ℕ). before ++ text) c.new-shown.ensures.items) in
     let said = answer_text (labels_of c.args.part.now.labels.now) c.args.name.now (Looked result shown) in
-    on_ok-map c.push_looked.result _ _ (λ added. (said, (result, shown, refl, subst (CanLookAt g.N.Naming.terms c.args.look result) same can), added)) c.push_looked.ensures
+    (said, (result, shown, refl, subst (CanLookAt g.N.Naming.terms c.args.look result) same can), c.push_looked.ensures.text, c.push_looked.ensures.room)

@@ -1,7 +1,6 @@
 use Rattle.std.proofs.Common.{refl, sym, ◌∙◌}
 use Rattle.mls_live.specs.Lists.{list_of}
 use Rattle.mls_server.specs.declared.answer.Answer.TheVariants.{Commanded}
-use Rattle.mls_wire.proofs.Results.{on_ok-map}
 use Rattle.mls_wire.specs.Replies.{answer_text, response_text}
 use Rattle.mls_crew.specs.Books.{labels_of}
 use Rattle.mls_crew.proofs.Commands.{says_command}
@@ -14,4 +13,4 @@ returns g c =
     let text = answer_text book c.args.name.now (Commanded c.call-result.result) in
     let says = says_command g.N.Naming.terms book c.args.name.now (list_of c.args.seat.now) (list_of c.call-result.new.self) c.args.command c.call-result.result text
     (sym c.is_save.ensures ∙ c.if-is_save.false) c.call-result.ensures.list refl c.call-result.ensures.replied in
-    on_ok-map c.push_response.result _ _ (λ added. (text, says, added)) c.push_response.ensures
+    (text, says, c.push_response.ensures.text, c.push_response.ensures.room)

@@ -22,7 +22,7 @@ loop-handed-preserved g c =
     let mid = list_of c.loop-handed.seat in
     elim c.if-handed-part.branch [
       | then-handed-part+in_ok-say_line w ↦
-          let (text, says, more) = w.in_ok-say_line.ensures in
+          let (text, says, more, room) = w.in_ok-say_line.ensures in
           rw (w.seat-is, w.out-is) (
             out ++ text,
             says_mine terms book name session lines index handed c.loop-handed-test.true c.handed-item.is first mid (list_of w.say_line.new.seat) out text w.if-handed-part.true ran says,

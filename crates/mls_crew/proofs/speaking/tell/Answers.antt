@@ -18,7 +18,7 @@ returns g c =
     let lines = lines_of c.args.part.now.session c.args.part.now.sorting.now.handed in
     let last = list_of c.say_lines.new.seat in
     let said = subst (λ (said : List Said). SaysLines terms book c.args.name.now said lines more last) (none_said (list_of c.args.seat.now) c.requires) ran in
-    let opened = rw c.new-text.ensures.items at c.in_ok-push_response.ensures in (
+    let opened = rw c.new-text.ensures.items at c.in_ok-push_response.ensures.text in (
       c.id.result,
       last,
       more,

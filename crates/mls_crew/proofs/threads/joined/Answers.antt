@@ -61,3 +61,13 @@ loop-speaker-preserved g c =
       wanted = λ all. counts_rest (vec_len c.push_reserved.new.self) c.pop.new.self.items c.in-Some.speaker c.push_reserved.ensures.len c.in-Some.ensures.items (was.wanted all);
       told = λ all failed. absurd (cc);
     }
+
+pub returns : goal.returns
+returns g c = λ all ok.
+    let before = c.loop-speaker.invariant.told all ok in
+    let whole : vec_len c.loop-speaker.spoken.told ≡ length c.args.spoken.part.sorting.now.opened =
+    omega (arith, before.0, c.loop-speaker.invariant.count, all, c.in_default.ensures.len, c.in_default.ensures.cases) in
+    record {
+      count = sym c.loop-speaker.spoken.told.ok.0 ∙ whole;
+      each = λ session below. before.1 session (omega (arith, below, whole));
+    }

@@ -12,9 +12,9 @@ pub returns-in_err-send-clause-cut : goal.returns-in_err-send-clause-cut
 returns-in_err-send-clause-cut g c =
     cut_within _ (world_of c.respond-response.new.server) _ _ _ _ _ (c.respond-response.result, c.respond-response.ensures.executes, refl, refl, refl)
     c.from_residual-in_err-send.result _ _ _ c.from_residual-in_err-send.ensures
-    (c.deref.ensures.value ∙ rw c.clear.ensures.items at c.in_ok-push_response.ensures) c.in_err-send.ensures.err
+    (c.deref.ensures.value ∙ rw c.clear.ensures.items at c.in_ok-push_response.ensures.text) c.in_err-send.ensures.err
 
 pub returns-clause-done : goal.returns-clause-done
 returns-clause-done g c =
     done_line _ (world_of c.respond-response.new.server) _ _ _ _ _ (c.respond-response.result, c.respond-response.ensures.executes, refl, refl, refl) _ _ _
-    (c.deref.ensures.value ∙ rw c.clear.ensures.items at c.in_ok-push_response.ensures) c.in_ok-send.ensures.ok
+    (c.deref.ensures.value ∙ rw c.clear.ensures.items at c.in_ok-push_response.ensures.text) c.in_ok-send.ensures.ok

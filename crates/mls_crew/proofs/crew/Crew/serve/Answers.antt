@@ -1,6 +1,8 @@
-use Rattle.std.proofs.Common.{ℕ, List, Result, subst, sym}
+use Rattle.std.proofs.Common.{◌≡◌, ℕ, List, Result, ap, subst, sym}
 use Rattle.std.specs.Io.KnownBytes.{Appends}
 use Rattle.mls_server.specs.Servers.{world_of}
+use Rattle.mls_server.specs.Settings.{cell_names}
+use Rattle.mls_tech.specs.Readings.{Tech}
 use Rattle.mls_wire.proofs.Results.{if_err}
 use Rattle.mls_wire.specs.Ahead.{SaysScript}
 use Rattle.mls_wire.specs.NameBooks.{book_of}
@@ -8,6 +10,7 @@ use Rattle.mls_wire.specs.Serving.{AppendsFront}
 use Rattle.mls_wire.specs.declared.line.Line.{Line}
 use Rattle.mls_wire.specs.declared.line.LineFault.{LineFault}
 use Rattle.mls_wire.specs.declared.serving.ServeFault.TheVariants.{Write}
+use Rattle.mls_crew.specs.Books.{Labels, labels_in}
 use Rattle.mls_crew.specs.Scripts.{FailsCrew}
 use Rattle.mls_crew.proofs.Outputs.{crew_begins, crew_writes, reading_fails}
 use Rattle.mls_crew.proofs.crew.Crew.serve.Goals as goal
@@ -27,13 +30,14 @@ returns-in_err-send-clause-failed g c =
     let written = g.W.Write.contents c.args.output.now.device in
     let now = g.W.Write.contents c.send.new.output.device in
     let replies = c.in_ok-replies.replies in
+    let labels : Labels = record { tech = c.args.self.tech; cells = cell_names on.setting } in
+    let same : labels ≡ labels_in on.setting = ap (λ (tech : Tech). record { tech = tech; cells = cell_names on.setting }) c.requires.tech in
     let says = subst (λ (said : List (Result Line LineFault)). SaysScript (book_of on) script said) (sym c.deref.ensures.value) c.in_ok-script.ensures.said in
     let front = subst (λ (bytes : List ℕ). AppendsFront written now bytes) c.deref-2.ensures.value c.in_err-send.ensures.err in
     if_err c.from_residual-in_err-send.result Write (λ given. FailsCrew on given script c.read_script.new.input g.W.Write.contents c.args.output.now c.send.new.output)
     c.from_residual-in_err-send.ensures (
       c.in_err-send.ensures.cause,
-      crew_begins on c.args.self.tech c.deref.result.now replies.audited replies.text.items c.requires.tech c.in_ok-replies.ensures script written now
-          says front,
+      crew_begins on labels c.deref.result.now replies.audited replies.text.items same c.in_ok-replies.ensures script written now says front,
     )
 
 pub returns-clause-served : goal.returns-clause-served
@@ -43,7 +47,8 @@ returns-clause-served g c =
     let written = g.W.Write.contents c.args.output.now.device in
     let now = g.W.Write.contents c.send.new.output.device in
     let replies = c.in_ok-replies.replies in
+    let labels : Labels = record { tech = c.args.self.tech; cells = cell_names on.setting } in
+    let same : labels ≡ labels_in on.setting = ap (λ (tech : Tech). record { tech = tech; cells = cell_names on.setting }) c.requires.tech in
     let says = subst (λ (said : List (Result Line LineFault)). SaysScript (book_of on) script said) (sym c.deref.ensures.value) c.in_ok-script.ensures.said in
     let gained = subst (λ (bytes : List ℕ). Appends written now bytes) c.deref-2.ensures.value c.in_ok-send.ensures.ok in
-    crew_writes on c.args.self.tech c.deref.result.now replies.audited replies.text.items c.requires.tech c.in_ok-replies.ensures script written now
-    says gained
+    crew_writes on labels c.deref.result.now replies.audited replies.text.items same c.in_ok-replies.ensures script written now says gained

@@ -1,11 +1,13 @@
-use Rattle.std.proofs.Common.{ℕ, List, [], append-nil, Some, refl, sym, ap, subst, subst₂, ◌∙◌}
-use Rattle.std.specs.Option.{option_copied_mut}
+use Rattle.std.proofs.Common.{◌≡◌, ℕ, List, [], append-nil, length, Some, refl, sym, ap, subst, subst₂, ◌∙◌, arith}
+use Rattle.std.specs.Option.{option_copied_mut, option_map_or}
 use Rattle.indexmap.specs.Layout.{set_value_at}
+use Rattle.mls_library.specs.SavedCells.{saved_text}
 use Rattle.mls_session.specs.Looks.{Looks}
 use Rattle.mls_session.specs.OwnSteps.{Terms}
 use Rattle.mls_session.specs.Sessions.{kept_of}
 use Rattle.mls_tilepool.specs.Pools.{Pool}
-use Rattle.mls_server.specs.Servers.{AreOpen, OpenSession, world_of}
+use Rattle.mls_server.specs.Events.{own_text}
+use Rattle.mls_server.specs.Servers.{AreOpen, OpenSession, setting_of, world_of}
 use Rattle.mls_server.specs.contracts.server.OpenSession.{the_view as session_view}
 use Rattle.mls_server.specs.contracts.server.Server.{the_view}
 use Rattle.mls_server.proofs.AskedSessions.{IsAsked, is_asked, not_open, sessions-same}
@@ -51,3 +53,12 @@ returns-clause-same c =
     let new = record server { pool = c.look.new.workspace.pool; sessions = set_value_at server.sessions c.place_of-place.result (record before { session = c.look.new.self }) } in
     ap (λ (pool : Pool). world_of (record new { pool = pool })) c.look.ensures.pool
     ∙ ap (λ sessions. world_of (record server { sessions = sessions })) (sessions-same is c.look.new.self c.look.ensures.same) ∙ ap world_of c.self.view_is
+
+pub returns-clause-room : goal.returns-clause-room
+returns-clause-room c =
+    let is = asked (goal.at.returns-clause-room c).After-asked in
+    let kept = kept_of c.self.inside.workspace.pool (session_view c.asked.inside).session in
+    let text : own_text (world_of c.args.self.now) c.args.id ≡ saved_text c.self.inside.setup.tech kept.own.design.drawn.paint =
+    ap (λ found. option_map_or (λ keeps. saved_text (setting_of c.args.self.now).tech keeps.own.design.drawn.paint) found []) is.kept
+    ∙ ap (λ (terms : Terms). saved_text terms.config.tech kept.own.design.drawn.paint) (sym is.terms) in
+    λ asked_text memory. omega (arith, c.look.ensures.room asked_text memory, ap length text)

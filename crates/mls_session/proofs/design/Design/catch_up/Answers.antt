@@ -85,4 +85,4 @@ returns-clause-keeps c =
     let done = c.catch_up-ended.ensures in
     let errors = ap (λ (d : Design). d.errors.owner) c.self.view_is in
     let owner = done.owner ∙ errors in
-    KeepsPlanes-errors pool new c.args.self.now (after c) c.requires.home (only c) (subst (ShowsMarks new) owner done.marks) (planes c) (ap (λ (d : Design). d.quota) c.self.view_is) owner
+    KeepsPlanes-errors pool new c.args.self.now (after c) c.requires.home (only c) done.marks (planes c) (ap (λ (d : Design). d.quota) c.self.view_is) owner

@@ -31,7 +31,7 @@ returns-then-not-change_fits-clause-step c =
 pub returns-then-not-change_fits-clause-keeps : goal.returns-then-not-change_fits-clause-keeps
 returns-then-not-change_fits-clause-keeps c =
     let design = c.args.self.now in
-    rw (c.change_fits.ensures.same, c.change_fits.ensures.pool) (KeepsPlanes-same c.args.workspace.now.pool design design c.requires.home refl refl refl)
+    rw (c.change_fits.ensures.same, c.change_fits.ensures.pool) (KeepsPlanes-same c.args.workspace.now.pool design design c.requires.home refl refl refl refl)
 
 pub make_change-requires : goal.make_change-requires
 make_change-requires c =
@@ -74,4 +74,4 @@ returns-clause-keeps c =
     let same = c.soil.ensures.same in
     KeepsPlanes-layout pool c.make_change.new.workspace.pool design c.soil.new.self c.requires.home made.home made.only
     (ap (λ (d : Design). d.planes) same ∙ ap (λ (d : Design). d.planes) made.same) (ap (λ (d : Design). d.quota) same ∙ ap (λ (d : Design). d.quota) made.same)
-    (c.soil.ensures.owner ∙ ap (λ (d : Design). d.errors.owner) made.same)
+    (c.soil.ensures.owner ∙ ap (λ (d : Design). d.errors.owner) made.same) (c.soil.ensures.marked ∙ ap (λ (d : Design). d.errors.marked) made.same)

@@ -24,4 +24,4 @@ returns-in-Save-clause-step c = rw (c.in-Save.is, c.with-in-Save.ensures.reply, 
 
 pub returns-in-Count-clause-step : goal.returns-in-Count-clause-step
 unfolding design_step
-returns-in-Count-clause-step c = rw (c.in-Count.is, c.with-in-Count.ensures.reply, c.count.ensures.pool) (inl c.count.ensures.step)
+returns-in-Count-clause-step c = rw (c.in-Count.is, c.with-in-Count.ensures.reply) (inl (c.count.ensures c.args.workspace.now.pool c.requires.home))

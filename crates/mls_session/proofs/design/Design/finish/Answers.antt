@@ -61,5 +61,5 @@ pub returns-clause-keeps : goal.returns-clause-keeps
 returns-clause-keeps c =
     let new = c.finish.new.workspace.pool in
     let owner = c.finish.ensures.owner ∙ ap (λ (d : Design). d.errors.owner) c.self.view_is in
-    KeepsPlanes-errors c.args.workspace.now.pool new c.args.self.now (after c) c.requires.home (only c) (subst (ShowsMarks new) owner c.finish.ensures.marks) (planes c)
+    KeepsPlanes-errors c.args.workspace.now.pool new c.args.self.now (after c) c.requires.home (only c) c.finish.ensures.marks (planes c)
     (ap (λ (d : Design). d.quota) c.self.view_is) owner

@@ -107,4 +107,4 @@ returns-clause-keeps c =
     let view = c.self.view_is in
     let kept = c.soil.ensures.same in
     KeepsPlanes-same c.args.workspace.now.pool c.args.self.now c.soil.new.self c.requires.home (ap (λ (d : Design). d.planes) kept ∙ ap (λ (d : Design). d.planes) view)
-    (ap (λ (d : Design). d.quota) kept ∙ ap (λ (d : Design). d.quota) view) (c.soil.ensures.owner ∙ ap (λ (d : Design). d.errors.owner) view)
+    (ap (λ (d : Design). d.quota) kept ∙ ap (λ (d : Design). d.quota) view) (c.soil.ensures.owner ∙ ap (λ (d : Design). d.errors.owner) view) (c.soil.ensures.marked ∙ ap (λ (d : Design). d.errors.marked) view)

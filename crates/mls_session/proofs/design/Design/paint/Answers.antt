@@ -95,4 +95,4 @@ returns-clause-keeps c =
     record { box = c.self.inside.box_rect; planes = set c.self.inside.planes.items plane c.overlay.new.plane; uses = c.self.inside.uses.items; quota = c.self.inside.quota; errors = c.add.new.self } in
     KeepsPlanes-layout pool new design after c.requires.home (AreAtHome-ChangesOnly pool new design.quota design.planes owner done.only done.strips c.requires.home.layout)
     (ChangesAmong-ChangesOnly pool new design.planes owner (plane, within, sym is) done.only) planes (ap (λ (d : Design). d.quota) view)
-    (c.add.ensures.owner ∙ ap (λ (d : Design). d.errors.owner) view)
+    (c.add.ensures.owner ∙ ap (λ (d : Design). d.errors.owner) view) (c.add.ensures.marked ∙ ap (λ (d : Design). d.errors.marked) view)

@@ -59,5 +59,5 @@ pub returns-clause-keeps : goal.returns-clause-keeps
 returns-clause-keeps c =
     let new = c.step.new.workspace.pool in
     let owner = c.step.ensures.owner ∙ ap (λ (d : Design). d.errors.owner) c.self.view_is in
-    KeepsPlanes-errors c.args.workspace.now.pool new c.args.self.now (after c) c.requires.home (only c) (subst (ShowsMarks new) owner c.step.ensures.marks) (planes c)
+    KeepsPlanes-errors c.args.workspace.now.pool new c.args.self.now (after c) c.requires.home (only c) c.step.ensures.marks (planes c)
     (ap (λ (d : Design). d.quota) c.self.view_is) owner

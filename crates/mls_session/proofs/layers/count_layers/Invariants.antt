@@ -1,0 +1,13 @@
+use Rattle.std.proofs.Common.{◌≡◌, ◌≤◌, ◌*◌, length}
+use Rattle.mls_geom.specs.Layouts.{Layout}
+use Rattle.mls_session.specs.Inner.{ListsPlanes}
+use Rattle.mls_session.proofs.ListedLayers.{lines_before}
+use Rattle.mls_session.proofs.layers.count_layers.Given as goal
+
+-- the lines so far are those of the sections of the types so far
+abbrev pub invariant-loop-kind : goal.invariant-loop-kind
+invariant-loop-kind l = record {
+  from : 1 ≤ l.kind;
+  count : (layout : Layout) → ListsPlanes layout l.layers → l.lines ≡ length (lines_before l.tech layout l.kind);
+  few : l.lines ≤ l.kind * 4294967297;
+}

@@ -1,0 +1,14 @@
+use Rattle.std.proofs.Common.{◌≡◌, ◌≤◌, ◌++◌}
+use Rattle.mls_geom.specs.Layouts.{Layout}
+use Rattle.mls_library.specs.SavedCells.{Extends, text_of}
+use Rattle.mls_session.specs.Inner.{ListsPlanes}
+use Rattle.mls_session.proofs.ListedLayers.{lines_before}
+use Rattle.mls_session.proofs.layers.push_layers.Given as goal
+
+-- the text so far has the sections of the types so far
+abbrev pub invariant-loop-kind : goal.invariant-loop-kind
+invariant-loop-kind l = record {
+  from : 1 ≤ l.kind;
+  kept : Extends l.fn.out.items l.out.items;
+  text : (layout : Layout) → ListsPlanes layout l.layers → l.out.items ≡ l.fn.out.items ++ text_of (lines_before l.tech layout l.kind);
+}

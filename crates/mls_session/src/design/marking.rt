@@ -1,0 +1,79 @@
+//! The text of a design's layout with what is known of the squares that rules forbid there, as a cell file.
+ghost use Rattle.std.specs.Prelude.{◌≡◌, ◌++◌, IfErr, IfOk, OnErr, OnOk, false, true};
+ghost use Rattle.mls_errorplane.specs.ErrorPlanes.{checking_of, marks_picture};
+ghost use Rattle.mls_geom.specs.Layouts.{Layout};
+ghost use Rattle.mls_geom.specs.Pictures.{Picture};
+ghost use Rattle.mls_layout.specs.Strips.{IfTooMany};
+ghost use Rattle.mls_library.specs.MarkedCells.{marked_line_count, marked_text};
+ghost use Rattle.mls_library.specs.SavedCells.{HoldsOwnTypes, ReadsAs};
+ghost use Rattle.mls_session.specs.Own.{exceeds_listed, layout_of};
+ghost use Rattle.mls_session.specs.Setups.{config_of};
+
+use super::Design;
+use crate::Setup;
+use crate::layers::{count_marked, list_layers, push_marked};
+use mls_layout::{Unlisted, Workspace};
+use mls_library::most_flat_tiles;
+use mls_tech::Tech;
+use std::alloc::Global;
+
+impl Design {
+    ghost use Rattle.mls_session.specs.Designs.{CanDump, IsHome, IsMadeFor, drawn_of, owners_of};
+
+    /// Appends the text of the layout, with the areas that await checking and the marks, as a cell file, and returns
+    /// the number of its lines.
+    ///
+    /// Fails where a plane of the layout has more tiles than are listed of one, or memory runs out, and then appends
+    /// nothing.
+    pub fn mark_text(
+        &mut self,
+        alloc: Global,
+        setup: &Setup,
+        out: &mut Vec<u8>,
+        workspace: &mut Workspace,
+    ) -> Result<usize, Unlisted>
+        requires home { IsHome workspace.old.pool self.old }
+        requires made_for { IsMadeFor setup.now self.old }
+        requires can_dump { CanDump setup.now workspace.old.pool (owners_of self.old) }
+        ensures count { IfOk result (λ lines. lines ≡ marked_line_count setup.now.tech
+            (layout_of (config_of setup.now workspace.old.pool) (drawn_of workspace.old.pool self.old))
+            self.old.errors.dirty (marks_picture (checking_of workspace.old.pool self.old.errors).marks)) }
+        ensures text { OnOk result (out.new.items ≡ out.old.items ++ marked_text setup.now.tech
+            (layout_of (config_of setup.now workspace.old.pool) (drawn_of workspace.old.pool self.old))
+            self.old.errors.dirty (marks_picture (checking_of workspace.old.pool self.old.errors).marks)) }
+        ensures few { OnOk result (exceeds_listed (config_of setup.now workspace.old.pool)
+            (layout_of (config_of setup.now workspace.old.pool) (drawn_of workspace.old.pool self.old)) ≡ false) }
+        ensures too_many { IfErr result (λ fault. IfTooMany fault
+            (exceeds_listed (config_of setup.now workspace.old.pool)
+            (layout_of (config_of setup.now workspace.old.pool) (drawn_of workspace.old.pool self.old)) ≡ true)) }
+        ensures refused { OnErr result (out.new.items ≡ out.old.items) }
+        ensures same { self.new ≡ self.old }
+        ensures pool { workspace.new.pool ≡ workspace.old.pool }
+    {
+        // For its contract alone: the areas are few.
+        self.has_legal_areas();
+        let most = most_flat_tiles(self.quota.tiles());
+        let basis = setup.basis(&self.uses);
+        let layers = list_layers(alloc, &mut self.planes, &basis.uses, most, workspace)?;
+        let areas = self.errors.copy_areas(alloc)?;
+        self.errors.list_marks(workspace);
+        let len = out.len();
+        let marks = &workspace.pieces;
+        if let Err(error) = push_marked(&setup.tech, &layers, &areas, marks, out) {
+            out.truncate(len);
+            return Err(error.into());
+        }
+        Ok(count_marked(&setup.tech, &layers, &areas, marks))
+    }
+
+    /// The text of any layout with the areas of this design and any marks reads as that layout, where each of its
+    /// squares is space or of a type whose plane that is. Does nothing: the contract is the law.
+    pub fn reads_back(&self, tech: &Tech)
+        ensures { (layout : Layout) (marks : Picture) → HoldsOwnTypes tech.now layout
+            → ReadsAs tech.now (marked_text tech.now layout self.now.errors.dirty marks) layout }
+    {
+        tech.types();
+        tech.name();
+        self.has_legal_areas();
+    }
+}

@@ -1,0 +1,144 @@
+//! The strips of a layout's planes, listed one plane after another, and the text of a layout with its marks.
+ghost use Rattle.std.specs.Prelude.{◌≡◌, ◌^◌, ◌≤◌, ◌++◌, IfErr, IfOk, OnErr, OnOk, [], false, true, length};
+ghost use Rattle.std.specs.List.{All};
+ghost use Rattle.std.specs.Option.{option_map_or};
+ghost use Rattle.mls_geom.specs.Layouts.{Layout};
+ghost use Rattle.mls_geom.specs.Pictures.{Picture};
+ghost use Rattle.mls_geom.specs.StripLists.{strips_of};
+ghost use Rattle.mls_geom.specs.World.{world};
+ghost use Rattle.mls_layout.specs.Strips.{IfTooMany};
+ghost use Rattle.mls_layout.specs.Uses.{flat_layout};
+ghost use Rattle.mls_layout.specs.Workspaces.{FitsWorkspace};
+ghost use Rattle.mls_library.specs.Libraries.{IsHome};
+ghost use Rattle.mls_library.specs.MarkedCells.{marked_line_count, marked_text};
+ghost use Rattle.mls_library.specs.SavedCells.{Extends, layers_lines, strips_on, text_of, types_of};
+ghost use Rattle.mls_session.specs.Inner.{ListsPlanes};
+ghost use Rattle.mls_session.specs.Own.{exceeds_tiles};
+ghost use Rattle.mls_stitch.specs.Tilings.{HasPlane};
+ghost use Rattle.mls_tech.specs.Readings.{plane_of_type};
+
+use mls_geom::{Piece, Rect};
+use mls_layout::{FlatStrips, Unlisted, Uses, Workspace, flat_strips};
+use mls_library::{
+    dirty_line_count, layer_line_count, mark_line_count, push_dirty, push_end, push_header,
+    push_layer, push_marks,
+};
+use mls_stitch::Plane;
+use mls_tech::Tech;
+use std::alloc::{AllocError, Global};
+
+/// The lines of each text that are in no section with rectangles: the first two, and the last.
+const OTHER_LINES: usize = 3;
+
+/// Lists the strips of each plane of the layout on these planes with the uses.
+///
+/// Fails where a plane has more than `limit` strips, or memory runs out.
+pub(crate) fn list_layers(
+    alloc: Global,
+    planes: &mut [Plane],
+    uses: &Uses<'_>,
+    limit: usize,
+    workspace: &mut Workspace,
+) -> Result<Vec<FlatStrips>, Unlisted>
+    requires planes { All (HasPlane workspace.old.pool) planes.old }
+    requires planes_fit { All (FitsWorkspace workspace.old.pool) planes.old }
+    requires cells { IsHome workspace.old.pool uses.now.library.now }
+    ensures listed { IfOk result (λ layers.
+        ListsPlanes (flat_layout workspace.old.pool uses.now planes.old) layers.items) }
+    ensures count { IfOk result (λ layers. length layers.items ≡ length planes.old) }
+    ensures few { OnOk result (exceeds_tiles limit (length planes.old)
+        (flat_layout workspace.old.pool uses.now planes.old) ≡ false) }
+    ensures too_many { IfErr result (λ fault. IfTooMany fault (exceeds_tiles limit (length planes.old)
+        (flat_layout workspace.old.pool uses.now planes.old) ≡ true)) }
+    ensures owners { planes.new ≡ planes.old }
+    ensures pool { workspace.new.pool ≡ workspace.old.pool }
+{
+    let mut layers = Vec::with_capacity(alloc, planes.len())?;
+    for number in 0..planes.len() {
+        let strips = flat_strips(alloc, number, &mut planes[number], uses, limit, workspace)?;
+        layers.push_reserved(strips);
+    }
+    Ok(layers)
+}
+
+/// Returns the strips of a type's plane, where these are those of each plane.
+fn strips_for<'a>(tech: &Tech, layers: &'a [FlatStrips], kind: u8) -> &'a [Piece]
+    requires count { length layers.now ≡ tech.now.plane_count }
+    ensures { (layout : Layout) → ListsPlanes layout layers.now
+        → result.now ≡ option_map_or (strips_on layout) (plane_of_type tech.now.type_planes kind) [] }
+{
+    match tech.plane_of(kind) {
+        Some(plane) => layers[usize::from(plane)].as_slice(),
+        None => &[],
+    }
+}
+
+/// Appends the sections of all types. Out of memory, leaves the beginning of them.
+fn push_layers(tech: &Tech, layers: &[FlatStrips], out: &mut Vec<u8>) -> Result<(), AllocError>
+    requires count { length layers.now ≡ tech.now.plane_count }
+    ensures text { OnOk result ((layout : Layout) → ListsPlanes layout layers.now → out.new.items
+        ≡ out.old.items ++ text_of (layers_lines tech.now (strips_on layout) (types_of tech.now))) }
+    ensures kept { Extends out.old.items out.new.items }
+{
+    let types = tech.types() as u8;
+    for kind in 1..types + 1 {
+        push_layer(tech, kind, strips_for(tech, layers, kind), out)?;
+    }
+    Ok(())
+}
+
+/// Returns the number of lines of the sections of all types.
+fn count_layers(tech: &Tech, layers: &[FlatStrips]) -> usize
+    requires count { length layers.now ≡ tech.now.plane_count }
+    requires listed { (layout : Layout) × ListsPlanes layout layers.now }
+    ensures count { (layout : Layout) → ListsPlanes layout layers.now
+        → result ≡ length (layers_lines tech.now (strips_on layout) (types_of tech.now)) }
+    ensures few { result ≤ 2 ^ 39 }
+{
+    let types = tech.types() as u8;
+    let mut lines = 0;
+    for kind in 1..types + 1 {
+        lines += layer_line_count(strips_for(tech, layers, kind), kind);
+    }
+    lines
+}
+
+/// Appends the text of a layout whose planes have these strips, with the areas that await checking, and the marks by
+/// their strips. Out of memory, leaves the beginning of it.
+pub(crate) fn push_marked(
+    tech: &Tech,
+    layers: &[FlatStrips],
+    areas: &[Rect],
+    marks: &[Piece],
+    out: &mut Vec<u8>,
+) -> Result<(), AllocError>
+    requires count { length layers.now ≡ tech.now.plane_count }
+    ensures text { OnOk result ((layout : Layout) (picture : Picture) → ListsPlanes layout layers.now
+        → marks.now ≡ strips_of world picture
+        → out.new.items ≡ out.old.items ++ marked_text tech.now layout areas.now picture) }
+    ensures kept { OnErr result (Extends out.old.items out.new.items) }
+{
+    push_header(tech, out)?;
+    push_dirty(areas, out)?;
+    push_marks(marks, out)?;
+    push_layers(tech, layers, out)?;
+    push_end(out)
+}
+
+/// Returns the number of lines of such a text.
+pub(crate) fn count_marked(
+    tech: &Tech,
+    layers: &[FlatStrips],
+    areas: &[Rect],
+    marks: &[Piece],
+) -> usize
+    requires count { length layers.now ≡ tech.now.plane_count }
+    requires listed { (layout : Layout) × ListsPlanes layout layers.now }
+    requires marks { (picture : Picture) × (marks.now ≡ strips_of world picture) }
+    requires areas { length areas.now ≤ 65 }
+    ensures { (layout : Layout) (picture : Picture) → ListsPlanes layout layers.now
+        → marks.now ≡ strips_of world picture
+        → result ≡ marked_line_count tech.now layout areas.now picture }
+{
+    OTHER_LINES + dirty_line_count(areas) + mark_line_count(marks) + count_layers(tech, layers)
+}
