@@ -8,6 +8,10 @@ use Rattle.mls_bench.proofs.scene.Scene.new.Goals as goal
 both : (P : ℕ → Type 0) (first second : ℕ) → P first → P second → All P (first ∷ second ∷ [])
 both P first second one two = All-cons P first (second ∷ []) one (All-cons P second [] two (All-nil P))
 
+-- The first plane stays while the second one is painted.
+pub count_strips-strips-requires-clause-plane : goal.count_strips-strips-requires-clause-plane
+count_strips-strips-requires-clause-plane c = c.in_ok-second.ensures.others c.in_ok-first.first c.in_ok-first.ensures.plane
+
 pub invariant_of-result : goal.invariant_of-result
 invariant_of-result c =
     let first = c.in_ok-first.first in
