@@ -1,0 +1,1 @@
+"""What the clients of magicd share."""

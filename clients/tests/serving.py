@@ -1,0 +1,143 @@
+"""A relay to test, its clients, and what magicd alone replies."""
+
+import os
+import pathlib
+import random
+import signal
+import socket
+import subprocess
+import sys
+import tempfile
+import time
+import unittest
+
+HERE = pathlib.Path(__file__).resolve().parent
+ROOT = HERE.parent.parent
+SERVER = os.environ.get("KOLASIEVE_SERVER", str(ROOT / "crates/magicd/out/magicd"))
+
+sys.path.insert(0, str(HERE.parent))
+
+from kolasieve.lines import lines_after
+
+
+class Client:
+    """A designer's program, as short as it can be."""
+
+    def __init__(self, address):
+        self.socket = socket.socket(socket.AF_UNIX if isinstance(address, str) else socket.AF_INET)
+        self.socket.settimeout(60)
+        try:
+            self.socket.connect(address)
+        except OSError:
+            self.socket.close()
+            raise
+        self.replies = self.socket.makefile("rb")
+
+    def send(self, *lines):
+        self.socket.sendall(b"".join(line if isinstance(line, bytes) else line.encode() + b"\n" for line in lines))
+
+    def reply(self):
+        """Returns the next reply whole, without its last line feed; nothing at the end."""
+        head = self.replies.readline()
+        text = head + b"".join(self.replies.readline() for _ in range(lines_after(head)))
+        return text.decode().removesuffix("\n")
+
+    def ask(self, *lines):
+        """Sends lines, each of which has a reply, and returns the replies."""
+        self.send(*lines)
+        return [self.reply() for _ in lines]
+
+    def close(self):
+        self.replies.close()
+        self.socket.close()
+
+
+class RelayCase(unittest.TestCase):
+    """A relay at a socket of its own, in a folder that goes with the test."""
+
+    log = False
+    words = ()
+
+    def setUp(self):
+        folder = tempfile.TemporaryDirectory()
+        self.addCleanup(folder.cleanup)
+        self.folder = pathlib.Path(folder.name)
+        self.path = str(self.folder / "socket")
+        self.messages = open(self.folder / "messages", "w+")
+        self.addCleanup(self.messages.close)
+        self.relay = None
+        self.addCleanup(self.end)
+        self.start()
+
+    def command(self, *words):
+        command = [str(HERE.parent / "relay"), "--socket", self.path, "--server", SERVER, *self.words, *words]
+        if self.log:
+            command += ["--log", str(self.folder / "log")]
+        return command
+
+    def start(self, *words):
+        self.relay = subprocess.Popen(self.command(*words), stderr=self.messages, start_new_session=True)
+        self.wait_for(self.path)
+
+    def wait_for(self, address):
+        for _ in range(400):
+            try:
+                Client(address).close()
+                return
+            except OSError:
+                if self.relay.poll() is not None:
+                    break
+                time.sleep(0.05)
+        self.messages.seek(0)
+        self.fail("the relay doesn't listen: " + self.messages.read())
+
+    def client(self):
+        client = Client(self.path)
+        self.addCleanup(client.close)
+        return client
+
+    def kill(self):
+        """Kills the relay at once. Its magicd ends with its input."""
+        self.relay.send_signal(signal.SIGKILL)
+        self.relay.wait()
+
+    def end(self):
+        if self.relay is not None and self.relay.poll() is None:
+            self.relay.send_signal(signal.SIGINT)
+            self.assertEqual(self.relay.wait(30), 0)
+
+
+def alone(lines, *words):
+    """Returns the replies that magicd without workers gives to these lines."""
+    text = "".join(line + "\n" for line in lines).encode()
+    out = subprocess.run([SERVER, *words], input=text, stdout=subprocess.PIPE, check=True).stdout
+    replies, rest = [], out.splitlines(keepends=True)
+    while rest:
+        count = 1 + lines_after(rest[0])
+        replies.append(b"".join(rest[:count]).decode().removesuffix("\n"))
+        rest = rest[count:]
+    return replies
+
+
+# Commands whose replies don't depend on check steps; each `drc count` stands behind a `drc catchup`.
+def random_lines(name, count, seed):
+    """Returns this many lines of a session, some of them with faults."""
+    dice = random.Random(seed)
+    lines = []
+    while len(lines) < count:
+        left, bottom = dice.randrange(-60, 60), dice.randrange(-60, 60)
+        right, top = left + dice.randrange(0, 30), bottom + dice.randrange(1, 30)
+        kind = dice.choice(["poly", "p", "ndiff", "m1", "m1", "space", "none"])
+        lines += dice.choice([
+            [f"{name} box {left} {bottom} {right} {top}", f"{name} paint {kind}"],
+            [f"{name} box {left} {bottom} {right} {top}", f"{name} paint {kind}"],
+            [f"{name} erase {kind},{dice.choice(['m1', 'poly'])}"],
+            [f"{name} what"],
+            [f"{name} drc check"],
+            [f"{name} drc catchup", f"{name} drc count"],
+            [f"{name} drc why"],
+            [f"{name} save"],
+            [f"{name} getcell none 1 2"],
+            [f"{name} box 1 2 x 4", f"{name} nonsense"],
+        ])
+    return lines[:count]
