@@ -76,7 +76,7 @@ class Log:
         self.waiting = []
         self.more = threading.Condition()
         self.ended = False
-        self.thread = threading.Thread(target=self.write_all, name="log")
+        self.thread = threading.Thread(target=self.write_all, name="log", daemon=True)
         self.thread.start()
 
     def connect(self):
