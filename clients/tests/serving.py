@@ -82,12 +82,17 @@ class RelayCase(unittest.TestCase):
     def wait_for(self, address):
         for _ in range(400):
             try:
-                Client(address).close()
-                return
+                client = Client(address)
+                # A fault, or a refused token: somebody is there.
+                replied = client.ask("?")[0] != ""
+                client.close()
+                if replied:
+                    return
             except OSError:
-                if self.relay.poll() is not None:
-                    break
-                time.sleep(0.05)
+                pass
+            if self.relay.poll() is not None:
+                break
+            time.sleep(0.05)
         self.messages.seek(0)
         self.fail("the relay doesn't listen: " + self.messages.read())
 

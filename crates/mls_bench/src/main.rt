@@ -79,6 +79,11 @@ fn read_mode(rt: &HostRuntime) -> Result<Mode> {
 /// Prints a row for each step on a grid of k by k squares: how many tiles it finds or adds.
 fn print_counts(rt: &HostRuntime, k: u8) -> Result<()> {
     let mut sheet = Sheet::of_grid(rt.alloc(), rt, k)?;
+    print_steps(rt, &mut sheet)
+}
+
+/// Prints a row for the build of a sheet and for each step: how many tiles it finds or adds.
+fn print_steps(rt: &HostRuntime, sheet: &mut Sheet) -> Result<()> {
     let tiles = sheet.count();
     println!(rt; "build\t{tiles}\t{tiles}")?;
     for step in STEPS {
@@ -101,10 +106,15 @@ fn print_sides(rt: &HostRuntime) -> Result<()> {
 /// Prints a row for each step on a grid of k by k squares: how many nanoseconds it takes.
 fn print_times(rt: &HostRuntime, k: u8) -> Result<()> {
     let (mut sheet, nanos) = time_build(rt, k)?;
+    print_step_times(rt, &mut sheet, nanos)
+}
+
+/// Prints a row for the build of a sheet, which took these nanoseconds, and for each step: how many it takes.
+fn print_step_times(rt: &HostRuntime, sheet: &mut Sheet, built: u128) -> Result<()> {
     let tiles = sheet.count();
-    println!(rt; "build\t{tiles}\t{nanos}")?;
+    println!(rt; "build\t{tiles}\t{built}")?;
     for step in STEPS {
-        let nanos = time(rt, &mut sheet, step)?;
+        let nanos = time(rt, sheet, step)?;
         println!(rt; "{step}\t{tiles}\t{nanos}")?;
     }
     Ok(())
