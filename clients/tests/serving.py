@@ -106,6 +106,17 @@ class RelayCase(unittest.TestCase):
         self.relay.send_signal(signal.SIGKILL)
         self.relay.wait()
 
+    def kill_programs(self):
+        """Kills each magicd of the relay."""
+        for folder in pathlib.Path("/proc").iterdir():
+            try:
+                # The fields behind the command's name, which may have blanks itself: state, parent, ..
+                fields = (folder / "stat").read_text().rpartition(")")[2].split()
+                if folder.name.isdigit() and int(fields[1]) == self.relay.pid:
+                    os.kill(int(folder.name), signal.SIGKILL)
+            except (OSError, IndexError):
+                pass
+
     def end(self):
         if self.relay is not None and self.relay.poll() is None:
             self.relay.send_signal(signal.SIGINT)

@@ -104,7 +104,7 @@ class LoggedCase(RelayCase):
                 self.kill()
                 self.start()
             else:
-                subprocess.run(["pkill", "-KILL", "-P", str(self.relay.pid)], check=False)
+                self.kill_programs()
         for thread in threads:
             thread.join(120)
             self.assertFalse(thread.is_alive())
