@@ -69,6 +69,10 @@ HALFWAY = {
         0: ("left out", "a refused 9 memory 1 pending"),
         1: ("left out", "a refused 9 memory 1 pending"),
     },
+    "steps_in_two_pieces": {
+        0: ("left out", "a steps 0 memory"),
+        1: ("left out", "a steps 1 memory"),
+    },
     "run": {
         0: ("left out", "c refused open 4 memory"),
         1: ("left out", "a refused 9 memory"),

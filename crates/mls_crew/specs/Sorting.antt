@@ -8,7 +8,7 @@ use Rattle.mls_text.specs.Words.{same_word}
 use Rattle.mls_wire.specs.NameBooks.{Names}
 use Rattle.mls_wire.specs.Replies.{response_text}
 use Rattle.mls_wire.specs.declared.line.Line.{Line}
-use Rattle.mls_wire.specs.declared.line.Line.TheVariants.{Silent, Open, Close, Step, Audit, Look, Run}
+use Rattle.mls_wire.specs.declared.line.Line.TheVariants.{Silent, Open, Close, Step, Steps, Audit, Look, Run}
 use Rattle.mls_wire.specs.declared.line.LineFault.{LineFault}
 use Rattle.mls_wire.specs.declared.line.LineFault.TheVariants.{NotOpen, UnknownCommand}
 use Rattle.mls_wire.specs.declared.response.Response.TheVariants.{Answered, Fault}
@@ -58,6 +58,7 @@ SortsLine book n opened (Ok Silent) sorted = sorted ≡ at_once opened []
 SortsLine book n opened (Ok (Open name)) sorted = Opens book n opened name sorted
 SortsLine book n opened (Ok (Close name id)) sorted = sorted ≡ faulty book n UnknownCommand opened
 SortsLine book n opened (Ok (Step name id)) sorted = sorted ≡ faulty book n UnknownCommand opened
+SortsLine book n opened (Ok (Steps name id most)) sorted = sorted ≡ faulty book n UnknownCommand opened
 SortsLine book n opened (Ok (Audit name id)) sorted = sorted ≡ handed_to book n opened (session_of opened name) AuditLine
 SortsLine book n opened (Ok (Look name id look)) sorted = sorted ≡ handed_to book n opened (session_of opened name) (LookLine look)
 SortsLine book n opened (Ok (Run name id command)) sorted = sorted ≡ handed_to book n opened (session_of opened name) (RunLine command)

@@ -134,6 +134,7 @@ impl Sorting {
             Line::Open(name) => self.open(rt, desk, n, name, seats),
             Line::Close(_, _) => self.refuse(desk, n, LineFault::UnknownCommand),
             Line::Step(_, _) => self.refuse(desk, n, LineFault::UnknownCommand),
+            Line::Steps(_, _, _) => self.refuse(desk, n, LineFault::UnknownCommand),
             Line::Audit(name, _) => self.hand(desk, n, name, SeatLine::Audit),
             Line::Look(name, _, look) => self.hand(desk, n, name, SeatLine::Look(*look)),
             Line::Run(name, _, command) => self.hand(desk, n, name, SeatLine::Run(*command)),

@@ -1,8 +1,8 @@
 //! Calls of a server.
 use crate::scene::Scene;
 use crate::servers::{
-    CELL_TILES, command, grab, id_a, id_b, load, look, open, print_look, print_reply, run, save,
-    server_after, step, stocked_server,
+    CELL_TILES, command, grab, id_a, id_b, load, look, open, print_look, print_reply, run,
+    run_steps, save, server_after, step, stocked_server,
 };
 use crate::shown::{print_joined, show_server};
 use anyhow::{Context, Result};
@@ -25,6 +25,8 @@ pub enum Call {
     CatchUp,
     Grab,
     Step,
+    /// Does at most so many check steps, in one call.
+    RunSteps(u64),
     /// Does so many check steps, and nothing else.
     Steps(u8),
     /// Answers all events, or those but one.
@@ -146,6 +148,10 @@ impl<R: Print> Scene<R> for ServerScene {
             Call::CatchUp => commanded(alloc, server, Command::CatchUp),
             Call::Grab => Returned::Answered(b'a', Answer::Grabbed(grab(alloc, server, id_a()))),
             Call::Step => Returned::Answered(b'a', Answer::Stepped(step(alloc, server, id_a()))),
+            Call::RunSteps(most) => {
+                let stepped = run_steps(alloc, server, id_a(), most);
+                Returned::Answered(b'a', Answer::SteppedTimes(stepped))
+            }
             Call::Steps(count) => {
                 for _ in 0..count {
                     let _ = step(alloc, server, id_a());

@@ -202,6 +202,7 @@ fn row_named(name: &str, number: Option<u8>) -> Option<Row> {
         "check" => Row::Check,
         "catchup" => catches_up(TWO_BARS, number),
         "catchup_in_two_pieces" => catches_up(LONG_BAR, number),
+        "steps_in_two_pieces" => steps_on(number),
         "run" => runs(number),
         "seat" => Row::Seat(SeatCall::Seat),
         "work" => Row::Seat(SeatCall::Work { left_out: number }),
@@ -242,6 +243,16 @@ fn catches_up(script: &'static [u8], number: Option<u8>) -> Row {
         script,
         first: number.map_or(Call::CatchUp, Call::Steps),
         again: Call::CatchUp,
+    }
+}
+
+/// The row of at most three check steps in one call; where there is a number, so many single ones are done first in its
+/// place.
+fn steps_on(number: Option<u8>) -> Row {
+    Row::Ask {
+        script: LONG_BAR,
+        first: number.map_or(Call::RunSteps(3), Call::Steps),
+        again: Call::RunSteps(3),
     }
 }
 

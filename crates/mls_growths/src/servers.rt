@@ -11,7 +11,7 @@ use mls_edgerule::compile;
 use mls_errorplane::{Outcome, Stepped};
 use mls_library::{CellFault, CellId};
 use mls_server::{Answer, Capacity, Event, GrabFault, Name, NotOpen, OpenFault, Server, SessionId};
-use mls_session::{Command, Job, JournalLimit, Look, Looked, Quota, Reply};
+use mls_session::{Command, Job, JournalLimit, Look, Looked, Quota, Reply, StepRun};
 use mls_tech::{TECHNOLOGY_M, Tech};
 use mls_wire::{Response, ServeFault, Watched, push_looked, push_response, serve};
 use std::alloc::{AllocError, Global};
@@ -147,6 +147,16 @@ pub fn grab(alloc: Global, server: &mut Server, id: SessionId) -> Result<Option<
 /// Does a check step.
 pub fn step(alloc: Global, server: &mut Server, id: SessionId) -> Result<Stepped, NotOpen> {
     server.step(alloc, id)
+}
+
+/// Does at most so many check steps.
+pub fn run_steps(
+    alloc: Global,
+    server: &mut Server,
+    id: SessionId,
+    most: u64,
+) -> Result<StepRun, NotOpen> {
+    server.run_steps(alloc, id, most)
 }
 
 /// Finishes a check.

@@ -366,6 +366,7 @@ fn answers(alloc: Global, server: &mut Server) -> Result<Vec<Answer>, Fail> {
         Event::Open(name),
         Event::Command(SessionId::of(2), Command::Count),
         Event::Step(SessionId::of(2)),
+        Event::Steps(SessionId::of(2), 3),
         Event::Save(SessionId::of(2)),
         Event::Close(SessionId::of(1)),
         Event::Close(SessionId::of(1)),
@@ -375,13 +376,14 @@ fn answers(alloc: Global, server: &mut Server) -> Result<Vec<Answer>, Fail> {
 
 /// Asserts that the opening and the first closing alone were answered.
 fn expect_answers(rt: &impl Abort, answers: &[Answer]) -> Result<(), Fail> {
-    let [first, opened, command, step, saved, closed, again] = answers else {
+    let [first, opened, command, step, steps, saved, closed, again] = answers else {
         return Err("other answers".into());
     };
     assert!(rt; matches!(first, Answer::Commanded(Err(NotOpen))));
     assert!(rt; matches!(opened, Answer::Opened(Ok(_))));
     assert!(rt; matches!(command, Answer::Commanded(Err(NotOpen))));
     assert!(rt; matches!(step, Answer::Stepped(Err(NotOpen))));
+    assert!(rt; matches!(steps, Answer::SteppedTimes(Err(NotOpen))));
     assert!(rt; matches!(saved, Answer::Saved(Err(NotOpen), _)));
     assert!(rt; matches!(closed, Answer::Closed(Ok(()))));
     assert!(rt; matches!(again, Answer::Closed(Err(NotOpen))));

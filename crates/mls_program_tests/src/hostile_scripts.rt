@@ -85,7 +85,7 @@ fn line_of_a_million_bytes(rt: HostRuntime) -> Result<(), Fail> {
 const RANDOM_LINES: u32 = 100_000;
 
 /// Lines that can be read.
-const READABLE: [&[u8]; 38] = [
+const READABLE: [&[u8]; 39] = [
     b"%open a",
     b"%open b",
     b"%open c",
@@ -93,6 +93,7 @@ const READABLE: [&[u8]; 38] = [
     b"%close b",
     b"%step a",
     b"%step b",
+    b"%steps a 3",
     b"%audit a",
     b"%audit c",
     b"%save a",
@@ -127,10 +128,11 @@ const READABLE: [&[u8]; 38] = [
 ];
 
 /// Words of the language, and some that have no place in it.
-const WORDS: [&[u8]; 38] = [
+const WORDS: [&[u8]; 39] = [
     b"%open",
     b"%close",
     b"%step",
+    b"%steps",
     b"%audit",
     b"%save",
     b"%stat",
@@ -169,8 +171,8 @@ const WORDS: [&[u8]; 38] = [
 ];
 
 /// Appends a random one of the texts.
-fn push_one(script: &mut Vec<u8>, texts: &[&[u8]; 38], rng: &mut Pcg32) -> Result<(), AllocError> {
-    let index: usize = rng.random_range(0..38);
+fn push_one(script: &mut Vec<u8>, texts: &[&[u8]; 39], rng: &mut Pcg32) -> Result<(), AllocError> {
+    let index: usize = rng.random_range(0..39);
     if let Some(text) = texts.get(index) {
         script.extend_from_slice(text)?;
     }

@@ -30,6 +30,8 @@ mod servers;
 #[cfg(test)]
 mod sessions;
 #[cfg(test)]
+mod step_runs;
+#[cfg(test)]
 mod streams;
 #[cfg(test)]
 mod three_sessions;

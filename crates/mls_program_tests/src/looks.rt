@@ -275,7 +275,7 @@ const LOOKS: [(&[&str], &[(&str, &str)]); 12] = [
 ];
 
 /// The lines of a script, and all replies to them.
-fn joined(alloc: Global, rows: &[(&str, &str)]) -> Result<(String, String), Fail> {
+pub fn joined(alloc: Global, rows: &[(&str, &str)]) -> Result<(String, String), Fail> {
     let (mut script, mut replies) = (String::new(alloc), String::new(alloc));
     for (line, reply) in rows {
         script.push_str(line)?;

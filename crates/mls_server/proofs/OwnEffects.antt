@@ -2,7 +2,7 @@
 use Rattle.std.proofs.Common.{◌≡◌, ◌≢◌, ℕ, Bool, true, false, Some, List, [], ◌∷◌, length, replicate, inl, inr, refl, sym, ap, ◌∙◌, subst, arith}
 use Rattle.std.specs.Option.{option_and_then, option_map}
 use Rattle.mls_session.proofs.OwnReplies.{own_step-not_memory}
-use Rattle.mls_session.specs.Journals.{ChecksOnce, Commands, Does, Kept, RunsOut, Saves, is_memory, is_refusal, text_with}
+use Rattle.mls_session.specs.Journals.{ChecksOnce, ChecksTimes, Commands, Does, Kept, RunsOut, Saves, is_memory, is_refusal, text_with}
 use Rattle.mls_session.specs.OwnSteps.{OwnState, Terms, checks}
 use Rattle.mls_session.specs.declared.command.Command.{Command as OwnCommand}
 use Rattle.mls_session.specs.declared.command.Command.TheVariants.{Box, Paint, Erase, Dump, GetCell, What, Save as SaveCommand, Check, CatchUp, Why as AskWhy, Count as AskCount}
@@ -119,6 +119,16 @@ module _ (terms : Terms) where
     items = checked ∷ [];
     adds = refl;
     leads = ap (option_and_then (λ (next : OwnState). Some (with_check (at before) next))) is ∙ ap (λ (last : Kept). Some (at last)) (sym kept);
+  }
+
+  -- several
+  pub ChecksTimes-leads : (count : ℕ) (before after : Kept) → ChecksTimes terms count before after → Leads terms (λ items last. items ≡ replicate count checked) [] before after
+  ChecksTimes-leads count before after (own, is, kept) = record {
+    items = replicate count checked;
+    adds = refl;
+    leads =
+        alone-checks terms count before ∙ ap (option_map (λ (last : OwnState). at (counted before count last))) is
+        ∙ ap (λ (last : Kept). Some (at last)) (sym kept);
   }
 
   -- or none

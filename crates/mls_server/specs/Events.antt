@@ -13,19 +13,20 @@ use Rattle.mls_library.specs.Faults.{UnlessMemory}
 use Rattle.mls_library.specs.Libraries.{loading_of, tile_counts, total}
 use Rattle.mls_library.specs.SavedCells.{saved_text}
 use Rattle.mls_library.specs.declared.fault.CellFault.{CellFault}
-use Rattle.mls_session.specs.Journals.{Commands, Finishes, Kept, Saves, StepsOnce}
+use Rattle.mls_session.specs.Journals.{Commands, Finishes, Kept, Saves, StepsOnce, StepsUpTo}
 use Rattle.mls_session.specs.Looks.{Looks}
 use Rattle.mls_session.specs.Own.{layout_of}
 use Rattle.mls_session.specs.declared.command.Command.{Command as OwnCommand}
 use Rattle.mls_session.specs.declared.look.Look.{Look as OwnLook}
 use Rattle.mls_session.specs.declared.look.Looked.{Looked as OwnLooked}
 use Rattle.mls_session.specs.declared.reply.Reply.{Reply}
+use Rattle.mls_session.specs.declared.step_run.StepRun.{StepRun}
 use Rattle.mls_server.specs.Settings.{NamedLayout, cell_names, config_for, session_reserve, terms_for}
 use Rattle.mls_server.specs.Worlds.{World, kept_in, session_named, with_kept, with_session, without_session}
 use Rattle.mls_server.specs.declared.event.Event.{Event}
-use Rattle.mls_server.specs.declared.event.Event.TheVariants.{Open, Close, Command, Save, Look, Grab, Finish, Step}
+use Rattle.mls_server.specs.declared.event.Event.TheVariants.{Open, Close, Command, Save, Look, Grab, Finish, Step, Steps}
 use Rattle.mls_server.specs.declared.answer.Answer.{Answer}
-use Rattle.mls_server.specs.declared.answer.Answer.TheVariants.{Opened, Closed, Commanded, Saved, Looked, Grabbed, Finished, Stepped}
+use Rattle.mls_server.specs.declared.answer.Answer.TheVariants.{Opened, Closed, Commanded, Saved, Looked, Grabbed, Finished, Stepped, SteppedTimes}
 use Rattle.mls_server.specs.declared.fault.OpenFault.{OpenFault}
 use Rattle.mls_server.specs.declared.fault.OpenFault.TheVariants.{OpenAlready, SessionsFull, PoolFull, Memory}
 use Rattle.mls_server.specs.declared.fault.GrabFault.{GrabFault}
@@ -101,6 +102,10 @@ LooksAt on id look (Err fault) text = (kept_in on id ≡ None) × (text ≡ [])
 abbrev pub DoesStep : World → ℕ → Result StepEnd NotOpen → World → Type 0
 DoesStep old id result new = OnSeat old id (λ before end after. StepsOnce (terms_for old.setting) before end after) result new
 
+-- at most so many check steps one after another
+abbrev pub DoesSteps : World → ℕ → ℕ → Result StepRun NotOpen → World → Type 0
+DoesSteps old id most result new = OnSeat old id (λ before run after. StepsUpTo (terms_for old.setting) most before run after) result new
+
 abbrev pub DoesFinish : World → ℕ → Finding → Result Outcome NotOpen → World → Type 0
 DoesFinish old id finding result new = OnSeat old id (λ before outcome after. Finishes (terms_for old.setting) before finding outcome after) result new
 
@@ -124,6 +129,7 @@ Happens old (Look id look) answer new =
 Happens old (Grab id) answer new = (result : Result (Option Job) GrabFault) × (answer ≡ Grabbed result) × DoesGrab old id result new
 Happens old (Finish id finding) answer new = (result : Result Outcome NotOpen) × (answer ≡ Finished result) × DoesFinish old id finding result new
 Happens old (Step id) answer new = (result : Result StepEnd NotOpen) × (answer ≡ Stepped result) × DoesStep old id result new
+Happens old (Steps id most) answer new = (result : Result StepRun NotOpen) × (answer ≡ SteppedTimes result) × DoesSteps old id most result new
 
 -- the events have these answers, one after another, and lead to the new world
 abbrev pub Runs : World → List Event → List Answer → World → Type 0

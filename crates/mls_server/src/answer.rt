@@ -1,7 +1,7 @@
 //! What a server answers.
 use crate::{GrabFault, NotOpen, OpenFault, ReplyText, SessionId};
 use mls_errorplane::{Outcome, Stepped};
-use mls_session::{Job, Looked, Reply};
+use mls_session::{Job, Looked, Reply, StepRun};
 
 /// The answer to an event.
 #[derive(Drop)]
@@ -22,4 +22,6 @@ pub enum Answer {
     Finished(Result<Outcome, NotOpen>),
     /// How the check step ended.
     Stepped(Result<Stepped, NotOpen>),
+    /// How many check steps were done, and how they ended.
+    SteppedTimes(Result<StepRun, NotOpen>),
 }

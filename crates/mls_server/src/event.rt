@@ -22,4 +22,6 @@ pub enum Event {
     Finish(SessionId, Finding),
     /// Does a check step in a session.
     Step(SessionId),
+    /// Does at most so many check steps in a session.
+    Steps(SessionId, u64),
 }

@@ -27,6 +27,7 @@ pub mod JournalRuns
 pub mod JournalledCommands
 pub mod JournalledSaves
 pub mod JournalledSteps
+pub mod KeptPlanes
 pub mod KeptRooms
 pub mod LegalJournals
 pub mod LineEnds
@@ -46,4 +47,5 @@ pub mod SavedCounts
 pub mod SavedPlanes
 pub mod SessionLooks
 pub mod SmallestRects
+pub mod StepRuns
 pub mod TilePieces

@@ -1,6 +1,6 @@
 -- A session's journal: what was said, and how many check steps were done in between. A journal is legal where a session of its own, by the same commands
 -- and check steps, gives the same replies. This project's own.
-use Rattle.std.specs.Prelude.{◌≡◌, ◌≢◌, ℕ, ◌+◌, ◌++◌, ◌&&◌, Bool, true, false, not, if◌then◌else◌, ◌⊎◌, Option, Some, None, List, [], ◌∷◌, length, map}
+use Rattle.std.specs.Prelude.{◌≡◌, ◌≢◌, ℕ, ◌+◌, ◌<◌, ◌++◌, ◌&&◌, Bool, true, false, not, if◌then◌else◌, ◌⊎◌, Option, Some, None, List, [], ◌∷◌, length, map}
 use Rattle.std.specs.List.{All}
 use Rattle.std.specs.Option.{option_and_then, option_map}
 use Rattle.mls_checker.specs.Findings.{Finding}
@@ -22,6 +22,7 @@ use Rattle.mls_session.specs.declared.journal.Said.{Said}
 use Rattle.mls_session.specs.declared.refusal.Refusal.{Refusal}
 use Rattle.mls_session.specs.declared.refusal.Refusal.TheVariants.{EmptyBox, OutsideWorld, NoBox, UnknownType, Quota, JournalFull, UnknownCell, CellOutside, Memory, TooManyUses}
 use Rattle.mls_session.specs.declared.reply.Reply.{Reply}
+use Rattle.mls_session.specs.declared.step_run.StepRun.{StepRun}
 use Rattle.mls_session.specs.declared.reply.Reply.TheVariants.{Done, Kinds, Saved, Count as Counted, Why as WhyRules, Refused, Stopped}
 
 -- what a session keeps: its own state, its journal, and how many check steps were done since the journal's last entry
@@ -137,6 +138,21 @@ StepsOnce terms old Idle new = (old.own.design.checking.dirty ≡ []) × (new �
 StepsOnce terms old StepDone new = ChecksOnce terms old new
 StepsOnce terms old Full new = (old.own.design.checking.dirty ≢ []) × (own_check terms old.own ≡ None) × (new ≡ old)
 StepsOnce terms old StepMemory new = (old.own.design.checking.dirty ≢ []) × (new ≡ old)
+
+-- this many accepted check steps one after another, which are counted
+abbrev pub ChecksTimes : Terms → ℕ → Kept → Kept → Type 0
+ChecksTimes terms count old new = (own : OwnState) × (checks terms count old.own ≡ Some own) × (new ≡ record old { own = own; checks = old.checks + count })
+
+-- what stands in the way of the next check step, if fewer were done than were asked for
+abbrev pub EndsSteps : Terms → ℕ → ℕ → Stepped → OwnState → Type 0
+EndsSteps terms most done StepDone own = done ≡ most
+EndsSteps terms most done Idle own = (done < most) × (own.design.checking.dirty ≡ [])
+EndsSteps terms most done Full own = (done < most) × (own.design.checking.dirty ≢ []) × (own_check terms own ≡ None)
+EndsSteps terms most done StepMemory own = (done < most) × (own.design.checking.dirty ≢ [])
+
+-- at most so many check steps one after another: how many were accepted, and how they ended
+abbrev pub StepsUpTo : Terms → ℕ → Kept → StepRun → Kept → Type 0
+StepsUpTo terms most old run new = ChecksTimes terms run.done old new × EndsSteps terms most run.done run.ended new.own
 
 -- the finding is by the rules, of the first piece, and of the layout as it is now in the finding's zone
 abbrev pub IsFreshFor : Terms → Kept → Finding → Type 0

@@ -17,6 +17,7 @@ mod refusal;
 mod reply;
 mod session;
 mod setup;
+mod step_run;
 
 pub use command::Command;
 pub use journal::{Entry, Said};
@@ -28,3 +29,4 @@ pub use refusal::Refusal;
 pub use reply::Reply;
 pub use session::Session;
 pub use setup::Setup;
+pub use step_run::StepRun;

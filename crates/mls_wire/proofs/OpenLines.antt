@@ -12,9 +12,9 @@ use Rattle.mls_server.specs.declared.event.Event.TheVariants.{Command as Command
 use Rattle.mls_text.specs.Words.{begins_with, words_of, same_word}
 use Rattle.mls_wire.specs.NameBooks.{book_of}
 use Rattle.mls_wire.specs.Runs.{CanExecute, Executes, command_event}
-use Rattle.mls_wire.specs.Says.{asked_of, asks_says, command_of, line_says, line_with, look_line, open_says, run_by, session_says, sides_say, why_of, why_says, words_say}
+use Rattle.mls_wire.specs.Says.{asked_of, asks_says, command_of, count_says, line_says, line_with, look_line, open_says, run_by, session_says, sides_say, steps_of, steps_says, why_of, why_says, words_say}
 use Rattle.mls_wire.specs.declared.line.Line.{Line}
-use Rattle.mls_wire.specs.declared.line.Line.TheVariants.{Silent, Open, Close, Step, Audit}
+use Rattle.mls_wire.specs.declared.line.Line.TheVariants.{Silent, Open, Close, Step, Steps, Audit}
 use Rattle.mls_wire.specs.declared.line.LineFault.{LineFault}
 use Rattle.mls_wire.specs.declared.parse.Sides.{Sides}
 use Rattle.mls_wire.specs.declared.line.LineFault.TheVariants.{UnknownCommand, BadName}
@@ -94,6 +94,15 @@ unfolding why_says
 why_executable on [] = tt
 why_executable on (name ∷ words) = choice on (is_session_name name) _ (Err BadName) (why_of_executable on name (sides_say words)) tt
 
+steps_of_executable : (on : World) (name : List ℕ) (r : Result ℕ LineFault) → CanExecuteSaid on (steps_of (book_of on) name r)
+steps_of_executable on name (Ok most) = asked_executable on (λ by id. Steps by id most) (λ by id h. h) name (session_named on name) refl
+steps_of_executable on name (Err fault) = tt
+
+steps_executable : (on : World) (words : List (List ℕ)) → CanExecuteSaid on (steps_says (book_of on) words)
+unfolding steps_says
+steps_executable on [] = tt
+steps_executable on (name ∷ words) = choice on (is_session_name name) _ (Err BadName) (steps_of_executable on name (count_says words)) tt
+
 words_executable : (on : World) (words : List (List ℕ)) → CanExecuteSaid on (words_say (book_of on) words)
 unfolding words_say
 words_executable on [] = tt
@@ -107,7 +116,8 @@ words_executable on (word ∷ words) =
     (choice on (same_word word (codes "%uses")) _ _ (asks_executable on (look_line UsesLook) (λ name id h. h) words)
     (choice on (same_word word (codes "%marks")) _ _ (asks_executable on (look_line MarksLook) (λ name id h. h) words)
     (choice on (same_word word (codes "%why")) _ _ (why_executable on words)
-    (choice on (begins_with 37 word) (Err UnknownCommand) _ tt (session_executable on word words))))))))))
+    (choice on (same_word word (codes "%steps")) _ _ (steps_executable on words)
+    (choice on (begins_with 37 word) (Err UnknownCommand) _ tt (session_executable on word words)))))))))))
 
 line_executable : (on : World) (line : Option (List ℕ)) → CanExecuteSaid on (line_says (book_of on) line)
 unfolding line_says

@@ -5,12 +5,12 @@ use Rattle.mls_server.specs.Events.{Runs}
 use Rattle.mls_server.specs.Worlds.{IsNumbered, World}
 use Rattle.mls_server.specs.declared.answer.Answer.{Answer}
 use Rattle.mls_server.specs.declared.event.Event.{Event}
-use Rattle.mls_server.specs.declared.event.Event.TheVariants.{Open as OpenEvent, Close as CloseEvent, Look as LookEvent, Step as StepEvent}
+use Rattle.mls_server.specs.declared.event.Event.TheVariants.{Open as OpenEvent, Close as CloseEvent, Look as LookEvent, Step as StepEvent, Steps as StepsEvent}
 use Rattle.mls_wire.specs.NameBooks.{book_of}
 use Rattle.mls_wire.specs.Runs.{AreToldAlone, Asks, Executes, RunsLine, RunsLines, answers_of, command_event, events_of}
 use Rattle.mls_wire.specs.Says.{line_says}
 use Rattle.mls_wire.specs.declared.line.Line.{Line}
-use Rattle.mls_wire.specs.declared.line.Line.TheVariants.{Silent, Open, Close, Step, Audit, Look, Run}
+use Rattle.mls_wire.specs.declared.line.Line.TheVariants.{Silent, Open, Close, Step, Steps, Audit, Look, Run}
 use Rattle.mls_wire.specs.declared.line.LineFault.{LineFault}
 use Rattle.mls_wire.specs.declared.response.Response.{Response}
 
@@ -62,6 +62,7 @@ executed_run old new (Ok Silent) response did = subst (λ given. Runs old [] (an
 executed_run old new (Ok (Open name)) response did = asks_run old new name (OpenEvent name) response did
 executed_run old new (Ok (Close name id)) response did = asks_run old new name (CloseEvent id) response did
 executed_run old new (Ok (Step name id)) response did = asks_run old new name (StepEvent id) response did
+executed_run old new (Ok (Steps name id most)) response did = asks_run old new name (StepsEvent id most) response did
 executed_run old new (Ok (Audit name id)) response did = subst (λ given. Runs old [] (answers_of given) new) (sym did.2) did.3
 executed_run old new (Ok (Look name id look)) response did = asks_run old new name (LookEvent id look) response did
 executed_run old new (Ok (Run name id command)) response did = asks_run old new name (command_event id command) response did

@@ -18,7 +18,7 @@ ahead_of book = record book { session = λ name. Some 0 }
 -- the line begins with a word that no such script has
 abbrev pub is_stepwise : List (List ℕ) → Bool
 is_stepwise [] = false
-is_stepwise (word ∷ words) = same_word word (codes "%close") || same_word word (codes "%step")
+is_stepwise (word ∷ words) = same_word word (codes "%close") || same_word word (codes "%step") || same_word word (codes "%steps")
 
 -- what a line says then, or its first fault: none is that its session isn't open
 unfoldable pub ahead_says : Names → Option (List ℕ) → Result Line LineFault

@@ -13,6 +13,7 @@ use Rattle.mls_session.specs.declared.look.Looked.TheVariants.{Saved as SavedLoo
 use Rattle.mls_session.specs.declared.look.Status.{Status}
 use Rattle.mls_session.specs.declared.reply.Reply.{Reply}
 use Rattle.mls_session.specs.declared.reply.Reply.TheVariants.{Done, Kinds, Saved, Count, Why, Refused, Stopped}
+use Rattle.mls_session.specs.declared.step_run.StepRun.{StepRun}
 use Rattle.mls_wire.specs.NameBooks.{Names}
 use Rattle.mls_wire.specs.Says.{line_fault_number, line_fault_text}
 use Rattle.std.specs.Fmt.{decimal, signed_decimal}
@@ -20,7 +21,7 @@ use Rattle.mls_wire.specs.declared.response.Response.{Response}
 use Rattle.mls_wire.specs.declared.response.Response.TheVariants.{Silent, Fault, Answered, Audited}
 use Rattle.mls_server.specs.Faults.{open_fault_number, open_fault_text}
 use Rattle.mls_server.specs.declared.answer.Answer.{Answer}
-use Rattle.mls_server.specs.declared.answer.Answer.TheVariants.{Opened, Closed, Commanded, Saved as SavedAs, Looked as LookedAt, Grabbed, Finished, Stepped}
+use Rattle.mls_server.specs.declared.answer.Answer.TheVariants.{Opened, Closed, Commanded, Saved as SavedAs, Looked as LookedAt, Grabbed, Finished, Stepped, SteppedTimes}
 
 -- a number and its text, with a space between
 abbrev pub numbered : ℕ → List ℕ → List ℕ
@@ -48,6 +49,10 @@ stepped_text Idle = codes "idle"
 stepped_text StepDone = codes "done"
 stepped_text Full = codes "full"
 stepped_text StepMemory = codes "memory"
+
+-- how many check steps were done, and how they ended
+abbrev pub steps_text : StepRun → List ℕ
+steps_text run = decimal run.done ++ 32 ∷ stepped_text run.ended
 
 -- a reply without its line's first word and its line feed
 unfoldable pub reply_text : Names → Reply → List ℕ
@@ -113,6 +118,8 @@ answer_text book name (Grabbed result) = []
 answer_text book name (Finished result) = []
 answer_text book name (Stepped (Ok end)) = name ++ codes " step " ++ stepped_text end ++ 10 ∷ []
 answer_text book name (Stepped (Err fault)) = []
+answer_text book name (SteppedTimes (Ok run)) = name ++ codes " steps " ++ steps_text run ++ 10 ∷ []
+answer_text book name (SteppedTimes (Err fault)) = []
 
 -- the reply text of the response to line n
 unfoldable pub response_text : Names → ℕ → Response → List ℕ

@@ -8,12 +8,12 @@ use Rattle.mls_server.specs.OwnLists.{IsToldAlone}
 use Rattle.mls_server.specs.Worlds.{World, kept_in}
 use Rattle.mls_server.specs.declared.answer.Answer.{Answer}
 use Rattle.mls_server.specs.declared.event.Event.{Event}
-use Rattle.mls_server.specs.declared.event.Event.TheVariants.{Open as OpenEvent, Close as CloseEvent, Command as CommandEvent, Save as SaveEvent, Look as LookEvent, Step as StepEvent}
+use Rattle.mls_server.specs.declared.event.Event.TheVariants.{Open as OpenEvent, Close as CloseEvent, Command as CommandEvent, Save as SaveEvent, Look as LookEvent, Step as StepEvent, Steps as StepsEvent}
 use Rattle.mls_wire.specs.NameBooks.{book_of}
 use Rattle.mls_wire.specs.Replies.{response_text}
 use Rattle.mls_wire.specs.Says.{line_says}
 use Rattle.mls_wire.specs.declared.line.Line.{Line}
-use Rattle.mls_wire.specs.declared.line.Line.TheVariants.{Silent, Open, Close, Step, Audit, Look, Run}
+use Rattle.mls_wire.specs.declared.line.Line.TheVariants.{Silent, Open, Close, Step, Steps, Audit, Look, Run}
 use Rattle.mls_wire.specs.declared.line.LineFault.{LineFault}
 use Rattle.mls_wire.specs.declared.response.Response.{Response}
 use Rattle.mls_wire.specs.declared.response.Response.TheVariants.{Silent as NoResponse, Fault, Answered, Audited}
@@ -39,6 +39,7 @@ event_of Silent = None
 event_of (Open name) = Some (OpenEvent name)
 event_of (Close name id) = Some (CloseEvent id)
 event_of (Step name id) = Some (StepEvent id)
+event_of (Steps name id most) = Some (StepsEvent id most)
 event_of (Audit name id) = None
 event_of (Look name id look) = Some (LookEvent id look)
 event_of (Run name id command) = Some (command_event id command)
@@ -54,6 +55,7 @@ Executes old (Ok Silent) response new = (response ≡ NoResponse) × (new ≡ ol
 Executes old (Ok (Open name)) response new = Asks old name (OpenEvent name) response new
 Executes old (Ok (Close name id)) response new = Asks old name (CloseEvent id) response new
 Executes old (Ok (Step name id)) response new = Asks old name (StepEvent id) response new
+Executes old (Ok (Steps name id most)) response new = Asks old name (StepsEvent id most) response new
 Executes old (Ok (Audit name id)) response new =
     (kept : Kept) × (kept_in old id ≡ Some kept) × (response ≡ Audited name kept.own.entries) × (new ≡ old)
 Executes old (Ok (Look name id look)) response new = Asks old name (LookEvent id look) response new
@@ -65,6 +67,7 @@ CanExecute on Silent = Unit {0}
 CanExecute on (Open name) = Unit {0}
 CanExecute on (Close name id) = kept_in on id ≢ None
 CanExecute on (Step name id) = kept_in on id ≢ None
+CanExecute on (Steps name id most) = kept_in on id ≢ None
 CanExecute on (Audit name id) = kept_in on id ≢ None
 CanExecute on (Look name id look) = kept_in on id ≢ None
 CanExecute on (Run name id command) = kept_in on id ≢ None

@@ -1,19 +1,19 @@
 -- What a line of a script says, or its first fault. This project's own.
 use Rattle.std.specs.Prelude.{ℕ, ℤ, ◌==◌, Bool, false, if◌then◌else◌, is_some, Option, Some, None, Result, Ok, Err, List, [], ◌∷◌, codes}
 use Rattle.std.specs.List.{list_all, list_any}
-use Rattle.std.specs.Option.{option_map_or}
+use Rattle.std.specs.Option.{ok_or, option_map_or}
 use Rattle.mls_kinds.specs.KindSets.{set_of}
 use Rattle.mls_session.specs.declared.command.Command.{Command}
 use Rattle.mls_session.specs.declared.command.Command.TheVariants.{Box, Paint, Erase, Dump, GetCell, What, Save, Check, CatchUp, Why, Count}
 use Rattle.mls_session.specs.declared.look.Look.{Look}
 use Rattle.mls_session.specs.declared.look.Look.TheVariants.{Save as SaveLook, Why as WhyLook, Status as StatusLook, Uses as UsesLook, Marks as MarksLook}
 use Rattle.mls_wire.specs.NameBooks.{Names}
-use Rattle.mls_wire.specs.Numbers.{number_of}
+use Rattle.mls_wire.specs.Numbers.{count_of, number_of}
 use Rattle.mls_text.specs.Fields.{fields_of}
 use Rattle.mls_text.specs.Words.{begins_with, words_of, same_word}
 use Rattle.mls_server.specs.SessionNames.{is_session_name}
 use Rattle.mls_wire.specs.declared.line.Line.{Line}
-use Rattle.mls_wire.specs.declared.line.Line.TheVariants.{Silent, Open, Close, Step, Audit, Look as LookAt, Run}
+use Rattle.mls_wire.specs.declared.line.Line.TheVariants.{Silent, Open, Close, Step, Steps, Audit, Look as LookAt, Run}
 use Rattle.mls_wire.specs.declared.line.LineFault.{LineFault}
 use Rattle.mls_wire.specs.declared.parse.Asked.{Asked}
 use Rattle.mls_wire.specs.declared.parse.Asked.TheVariants.{Close as AsksClose, Step as AsksStep, Audit as AsksAudit, Look as AsksLook}
@@ -175,6 +175,21 @@ unfoldable pub why_says : Names → List (List ℕ) → Result Line LineFault
 why_says book [] = Err BadName
 why_says book (name ∷ words) = if is_session_name name then why_of book name (sides_say words) else Err BadName
 
+-- how many times something is done
+abbrev pub count_says : List (List ℕ) → Result ℕ LineFault
+count_says (word ∷ []) = ok_or (count_of word) BadNumber
+count_says _ = Err UnknownCommand
+
+-- at most so many check steps, in the open session of a name
+abbrev pub steps_of : Names → List ℕ → Result ℕ LineFault → Result Line LineFault
+steps_of book name (Ok most) = asked_of (λ by id. Steps by id most) name (book.session name)
+steps_of book name (Err fault) = Err fault
+
+-- the words after `%steps`: the faults come in the order of `%why`
+unfoldable pub steps_says : Names → List (List ℕ) → Result Line LineFault
+steps_says book [] = Err BadName
+steps_says book (name ∷ words) = if is_session_name name then steps_of book name (count_says words) else Err BadName
+
 unfoldable pub words_say : Names → List (List ℕ) → Result Line LineFault
 words_say book [] = Ok Silent
 words_say book (word ∷ words) =
@@ -187,7 +202,8 @@ words_say book (word ∷ words) =
     else (if same_word word (codes "%uses") then asks_says book (look_line UsesLook) words
     else (if same_word word (codes "%marks") then asks_says book (look_line MarksLook) words
     else (if same_word word (codes "%why") then why_says book words
-    else (if begins_with 37 word then Err UnknownCommand else session_says book word words)))))))))
+    else (if same_word word (codes "%steps") then steps_says book words
+    else (if begins_with 37 word then Err UnknownCommand else session_says book word words))))))))))
 
 -- a line as it was read: one that is too long is a fault whatever it holds, and a comment begins with `#` in its very first byte
 unfoldable pub line_says : Names → Option (List ℕ) → Result Line LineFault

@@ -50,7 +50,7 @@ impl<N: Names> Names for Ahead<'_, N> {
 
 /// Reads a script to its end, and returns what each of its lines says before any session is open.
 ///
-/// `%close` and `%step` are no commands of such a script. A line's session has the id 0, whether it is opened later
+/// `%close`, `%step` and `%steps` are no commands of such a script. A line's session has the id 0, whether it is opened later
 /// or not.
 ///
 /// # Errors
@@ -112,9 +112,9 @@ fn parse_text<N: Names>(names: &N, bytes: &[u8]) -> Result<Line, LineFault>
     parse_line(&Ahead { names }, ScriptLine::Text(bytes))
 }
 
-/// Returns whether the first word is `%close` or `%step`.
+/// Returns whether the first word is `%close`, `%step` or `%steps`.
 fn begins_stepwise(mut words: Words) -> bool
     ensures { result ≡ is_stepwise words.entry }
 {
-    matches!(words.next(), Some(b"%close" | b"%step"))
+    matches!(words.next(), Some(b"%close" | b"%step" | b"%steps"))
 }

@@ -37,6 +37,7 @@ fn execute(alloc: Global, server: &mut Server, said: Line) -> Response
         Line::Open(name) => ask(alloc, server, name, Event::Open(name)),
         Line::Close(name, id) => ask(alloc, server, name, Event::Close(id)),
         Line::Step(name, id) => ask(alloc, server, name, Event::Step(id)),
+        Line::Steps(name, id, most) => ask(alloc, server, name, Event::Steps(id, most)),
         Line::Audit(name, id) => Response::Audited(name, entries_of(server, id)),
         Line::Look(name, id, look) => ask(alloc, server, name, Event::Look(id, look)),
         Line::Run(name, id, command) => ask(alloc, server, name, command_event(id, command)),

@@ -14,6 +14,8 @@ pub enum Line {
     Close(Name, SessionId),
     /// Does a check step in a session.
     Step(Name, SessionId),
+    /// Does at most so many check steps in a session.
+    Steps(Name, SessionId, u64),
     /// Asks for the number of entries of a session's journal.
     Audit(Name, SessionId),
     /// Looks at a session as it is, outside its journal.

@@ -7,6 +7,9 @@ use mls_text::{is_number, value_at_most};
 /// The most digits that a number may have.
 const DIGITS_LIMIT: usize = 10;
 
+/// The most digits that a count may have.
+const COUNT_DIGITS_LIMIT: usize = 20;
+
 /// Returns the number that a word spells: an optional `-` and one to ten digits, within an `i32`.
 #[tactic(auto, unfolding(crate::specs::Numbers::number_of))]
 pub fn number_of(word: &[u8]) -> Option<i32>
@@ -16,6 +19,20 @@ pub fn number_of(word: &[u8]) -> Option<i32>
         [] => None,
         [b'-', digits @ ..] => magnitude_of(1 << 31, digits).map(|n| -(n as i64) as i32),
         [_, ..] => magnitude_of((1 << 31) - 1, word).map(|n| n as i32),
+    }
+}
+
+/// Returns the count that a word spells: one to twenty digits, at least 1 and within a `u64`.
+#[tactic(auto, unfolding(crate::specs::Numbers::count_of))]
+pub fn count_of(word: &[u8]) -> Option<u64>
+    ensures { result ≡ spec.count_of word.now }
+{
+    if word.len() > COUNT_DIGITS_LIMIT || !is_number(word) {
+        return None;
+    }
+    match value_at_most(word, u64::MAX) {
+        Some(0) | None => None,
+        Some(count) => Some(count),
     }
 }
 

@@ -1,10 +1,10 @@
 //! From a line to what it says.
 ghost use Rattle.std.specs.Prelude.{◌≡◌};
 ghost use Rattle.mls_text.specs.Fields.{fields_of};
-ghost use Rattle.mls_wire.specs.Says.{asked_line, asks_says, box_says, cell_edit_of, command_of, drc_says, dump_says, edit_of, erase_says, getcell_says, line_says, moved_cell_says, open_says, paint_says, save_says, session_says, sides_say, types_named, what_says, why_says, words_say};
+ghost use Rattle.mls_wire.specs.Says.{asked_line, asks_says, box_says, cell_edit_of, command_of, count_says, drc_says, dump_says, edit_of, erase_says, getcell_says, line_says, moved_cell_says, open_says, paint_says, save_says, session_says, sides_say, steps_says, types_named, what_says, why_says, words_say};
 ghost use Rattle.mls_wire.specs.ScriptLines.{text_of};
 
-use crate::number::number_of;
+use crate::number::{count_of, number_of};
 use crate::{Line, LineFault, Names, ScriptLine};
 use mls_kinds::KindSet;
 use mls_library::CellId;
@@ -78,6 +78,7 @@ fn parse_words<N: Names>(names: &N, mut words: Words) -> Result<Line, LineFault>
         Some(b"%uses") => parse_asked(names, words, Asked::Look(Look::Uses)),
         Some(b"%marks") => parse_asked(names, words, Asked::Look(Look::Marks)),
         Some(b"%why") => parse_why(names, words),
+        Some(b"%steps") => parse_steps(names, words),
         Some([b'%', ..]) => Err(LineFault::UnknownCommand),
         Some(name) => parse_session(names, name, words),
     }
@@ -128,6 +129,27 @@ fn parse_why<N: Names>(names: &N, mut words: Words) -> Result<Line, LineFault>
         top,
     };
     Ok(Line::Look(name, id, look))
+}
+
+/// Returns what the words after `%steps` say.
+#[tactic(auto, unfolding(crate::specs::Says::steps_says))]
+fn parse_steps<N: Names>(names: &N, mut words: Words) -> Result<Line, LineFault>
+    ensures { result ≡ steps_says (N.book names.now) words.entry }
+{
+    let name = words.next().and_then(Name::new).ok_or(LineFault::BadName)?;
+    let most = parse_count(words)?;
+    let id = names.session(&name).ok_or(LineFault::NotOpen)?;
+    Ok(Line::Steps(name, id, most))
+}
+
+/// Returns the count that the words spell.
+fn parse_count(mut words: Words) -> Result<u64, LineFault>
+    ensures { result ≡ count_says words.entry }
+{
+    let (Some(word), None) = (words.next(), words.next()) else {
+        return Err(LineFault::UnknownCommand);
+    };
+    count_of(word).ok_or(LineFault::BadNumber)
 }
 
 /// Returns what a session's name and the words after it say.

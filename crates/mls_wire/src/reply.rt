@@ -16,7 +16,7 @@ use mls_errorplane::Stepped;
 use mls_kinds::KindSet;
 use mls_layout::CellUse;
 use mls_server::{Answer, Name, NotOpen, OpenFault};
-use mls_session::{Looked, Refusal, Reply, Status};
+use mls_session::{Looked, Refusal, Reply, Status, StepRun};
 use std::alloc::AllocError;
 
 /// Appends the reply text of the response to line `n`.
@@ -145,10 +145,16 @@ fn push_answer<N: Names>(
             out.extend_from_slice(stepped_text(*end).as_bytes())?;
             out.extend_from_slice(b"\n")
         }
+        Answer::SteppedTimes(Ok(run)) => {
+            push_words(name, b" steps ", out)?;
+            push_step_run(run, out)?;
+            out.extend_from_slice(b"\n")
+        }
         Answer::Closed(Err(_))
         | Answer::Commanded(Err(_))
         | Answer::Saved(Err(_), _)
         | Answer::Stepped(Err(_))
+        | Answer::SteppedTimes(Err(_))
         | Answer::Grabbed(_)
         | Answer::Finished(_) => Ok(()),
     }
@@ -430,6 +436,17 @@ fn push_pending(pending: usize, out: &mut Vec<u8>) -> Result<(), AllocError>
     out.push(b' ')?;
     push_decimal(pending as u64, out)?;
     out.extend_from_slice(b" pending")
+}
+
+/// Appends how many check steps were done, and how they ended.
+fn push_step_run(run: &StepRun, out: &mut Vec<u8>) -> Result<(), AllocError>
+    ensures text { OnOk result (out.new.items ≡ out.old.items ++ spec.steps_text run.now) }
+    ensures room { OnErr result (vec_capacity out.old < vec_len out.old + length (spec.steps_text run.now)) }
+    ensures capacity { vec_capacity out.old ≤ vec_capacity out.new }
+{
+    push_decimal(run.done, out)?;
+    out.push(b' ')?;
+    out.extend_from_slice(stepped_text(run.ended).as_bytes())
 }
 
 /// Returns how a check step ended, in words.

@@ -31,6 +31,7 @@ impl Server {
             Event::Grab(id) => Answer::Grabbed(self.grab(alloc, *id)),
             Event::Finish(id, finding) => Answer::Finished(self.finish_ref(*id, finding)),
             Event::Step(id) => Answer::Stepped(self.step(alloc, *id)),
+            Event::Steps(id, most) => Answer::SteppedTimes(self.run_steps(alloc, *id, *most)),
         }
     }
 

@@ -3,7 +3,7 @@ ghost use Rattle.std.specs.Prelude.{◌≡◌, ◌+◌, ◌++◌, ◌==◌, ◌<
 ghost use Rattle.std.specs.List.{position};
 ghost use Rattle.std.specs.Option.{option_map};
 ghost use Rattle.mls_paint.specs.Owners.{ChangesAmong};
-ghost use Rattle.mls_server.specs.Events.{DoesCommand, DoesFinish, DoesGrab, DoesStep, LooksAt, SavesText, own_text};
+ghost use Rattle.mls_server.specs.Events.{DoesCommand, DoesFinish, DoesGrab, DoesStep, DoesSteps, LooksAt, SavesText, own_text};
 ghost use Rattle.mls_server.specs.Servers.{owners_under, place_in, world_of};
 ghost use Rattle.mls_server.specs.Worlds.{kept_in};
 ghost use Rattle.mls_session.specs.declared.refusal.Refusal.TheVariants.{Memory};
@@ -13,7 +13,7 @@ use super::Server;
 use crate::{GrabFault, NotOpen, SessionId};
 use mls_checker::Finding;
 use mls_errorplane::{Outcome, Stepped};
-use mls_session::{Command, Entry, Job, Look, Looked, Reply};
+use mls_session::{Command, Entry, Job, Look, Looked, Reply, StepRun};
 use std::alloc::Global;
 
 impl Server {
@@ -129,6 +129,24 @@ impl Server {
             return Err(NotOpen);
         };
         Ok(asked.session.step(alloc, setup, workspace))
+    }
+
+    /// Does check steps in a session one after another, until so many are done or one isn't.
+    pub fn run_steps(&mut self, alloc: Global, id: SessionId, most: u64) -> Result<StepRun, NotOpen>
+        ensures steps { DoesSteps (world_of self.old) id most result (world_of self.new) }
+        ensures frame { ChangesAmong self.old.pool self.new.pool (owners_under self.old id) }
+    {
+        let place = self.place_of(id);
+        let Server {
+            setup,
+            workspace,
+            sessions,
+            ..
+        } = self;
+        let Some(asked) = sessions.get_index_mut(place) else {
+            return Err(NotOpen);
+        };
+        Ok(asked.session.run_steps(alloc, setup, most, workspace))
     }
 
     /// Marks what a check found in a session. No memory is taken.

@@ -5,12 +5,12 @@ ghost use Rattle.mls_errorplane.specs.Jobs.{HasGrabbed};
 ghost use Rattle.mls_errorplane.specs.Outcomes.{UnlessFinished};
 ghost use Rattle.mls_session.specs.Designs.{CanDump, HasRightMarks};
 ghost use Rattle.mls_session.specs.Inner.{done_steps, finished_steps};
-ghost use Rattle.mls_session.specs.Journals.{Finishes, IsLegal, StepsOnce};
+ghost use Rattle.mls_session.specs.Journals.{Finishes, IsLegal, StepsOnce, StepsUpTo};
 ghost use Rattle.mls_session.specs.Own.{layout_of};
 ghost use Rattle.mls_session.specs.Setups.{config_of, terms_of};
 
 use super::Session;
-use crate::Setup;
+use crate::{Setup, StepRun};
 use mls_checker::Finding;
 use mls_errorplane::{Job, Outcome, Stepped};
 use mls_layout::Workspace;
@@ -60,6 +60,40 @@ impl Session {
         let stepped = self.design.step(alloc, setup, workspace);
         self.journal.count(done_steps(stepped));
         stepped
+    }
+
+    /// Does check steps one after another, until so many are done or one isn't.
+    ///
+    /// The steps that were done stay so, and each is counted. One that isn't done changes nothing.
+    pub fn run_steps(
+        &mut self,
+        alloc: Global,
+        setup: &Setup,
+        most: u64,
+        workspace: &mut Workspace,
+    ) -> StepRun
+        requires home { IsHome workspace.old.pool self.old }
+        requires made_for { IsMadeFor setup.now self.old }
+        requires can_dump { CanDump setup.now workspace.old.pool (owners_of self.old) }
+        ensures stepped { StepsUpTo (terms_of setup.now workspace.old.pool) most
+            (kept_of workspace.old.pool self.old) result (kept_of workspace.new.pool self.new) }
+        ensures legal { IsLegal (terms_of setup.now workspace.old.pool) (kept_of workspace.old.pool self.old)
+            → IsLegal (terms_of setup.now workspace.old.pool) (kept_of workspace.new.pool self.new) }
+        ensures marks_right { HasRightMarks (config_of setup.now workspace.old.pool)
+            (state_of workspace.old.pool self.old).design
+            → HasRightMarks (config_of setup.now workspace.old.pool) (state_of workspace.new.pool self.new).design }
+        ensures keeps { KeepsPlanes workspace.old.pool workspace.new.pool self.old self.new }
+    {
+        for done in 0..most {
+            match self.step(alloc, setup, workspace) {
+                Stepped::Done => {}
+                ended => return StepRun { done, ended },
+            }
+        }
+        StepRun {
+            done: most,
+            ended: Stepped::Done,
+        }
     }
 
     /// Marks what a finding says of its piece, and takes the piece out of the areas that await checking, if the

@@ -16,3 +16,7 @@ returns-in-Close-clause-sorts g c =
 pub returns-in-Step-clause-sorts : goal.returns-in-Step-clause-sorts
 returns-in-Step-clause-sorts g c =
     rw c.in-Step.is (on_ok-map c.refuse-in-Step.result _ _ (λ is. (faulty (labels_of c.args.desk.now.labels.now) c.args.n UnknownCommand c.args.self.now.opened, refl, is)) c.refuse-in-Step.ensures)
+
+pub returns-in-Steps-clause-sorts : goal.returns-in-Steps-clause-sorts
+returns-in-Steps-clause-sorts g c =
+    rw c.in-Steps.is (on_ok-map c.refuse-in-Steps.result _ _ (λ is. (faulty (labels_of c.args.desk.now.labels.now) c.args.n UnknownCommand c.args.self.now.opened, refl, is)) c.refuse-in-Steps.ensures)

@@ -1,0 +1,81 @@
+use Rattle.std.proofs.Common.{◌<◌, arith, subst}
+use Rattle.mls_session.specs.Designs.{HasRightMarks}
+use Rattle.mls_session.specs.Journals.{ChecksOnce, StepsOnce}
+use Rattle.mls_session.specs.OwnSteps.{Terms}
+use Rattle.mls_session.specs.Sessions.{kept_of, state_of}
+use Rattle.mls_session.specs.Setups.{terms_of}
+use Rattle.mls_session.proofs.KeptPlanes.{CanDump-kept, KeepsPlanes-refl, KeepsPlanes-trans, terms_of-kept}
+use Rattle.mls_session.proofs.StepRuns.{ChecksTimes-last, ChecksTimes-legal, ChecksTimes-none, StepsUpTo-ended}
+use Rattle.mls_session.proofs.session.Session.run_steps.Goals as goal
+
+pub loop-done-init : goal.loop-done-init
+loop-done-init c = record {
+  times = ChecksTimes-none (terms_of c.args.setup.now c.args.workspace.now.pool) (kept_of c.args.workspace.now.pool c.args.self.now);
+  right = λ right. right;
+  keeps = KeepsPlanes-refl c.args.workspace.now.pool c.args.self.now c.requires.home;
+}
+
+pub step-requires-clause-can_dump : goal.step-requires-clause-can_dump
+step-requires-clause-can_dump c =
+    CanDump-kept c.args.setup.now c.args.workspace.now.pool c.loop-done.workspace.pool c.args.self.now c.loop-done.self c.loop-done.invariant.keeps c.requires.can_dump
+
+pub loop-done-preserved : goal.loop-done-preserved
+loop-done-preserved c =
+    let setup = c.args.setup.now in
+    let old = c.args.workspace.now.pool in
+    let mid = c.loop-done.workspace.pool in
+    let new = c.step.new.workspace.pool in
+    let before = c.args.self.now in
+    let during = c.loop-done.self in
+    let after = c.step.new.self in
+    let so_far = c.loop-done.invariant in
+    let same = terms_of-kept setup old mid before during so_far.keeps c.requires.can_dump in
+    let once = subst (λ (terms : Terms). ChecksOnce terms (kept_of mid during) (kept_of new after)) same c.in-Done.ensures.stepped in
+    record {
+      times = ChecksTimes-last (terms_of setup old) c.loop-done.done (kept_of old before) (kept_of mid during) (kept_of new after) so_far.times once;
+      right = λ right.
+          subst (λ (terms : Terms). HasRightMarks terms.config (state_of mid during).design → HasRightMarks terms.config (state_of new after).design) same
+          c.step.ensures.marks_right (so_far.right right);
+      keeps = KeepsPlanes-trans setup old mid new before during after so_far.keeps c.step.ensures.keeps;
+    }
+
+pub returns-in_default-clause-stepped : goal.returns-in_default-clause-stepped
+returns-in_default-clause-stepped c =
+    let setup = c.args.setup.now in
+    let old = c.args.workspace.now.pool in
+    let mid = c.loop-done.workspace.pool in
+    let new = c.step.new.workspace.pool in
+    let before = c.args.self.now in
+    let during = c.loop-done.self in
+    let after = c.step.new.self in
+    let so_far = c.loop-done.invariant in
+    let same = terms_of-kept setup old mid before during so_far.keeps c.requires.can_dump in
+    let once = subst (λ (terms : Terms). StepsOnce terms (kept_of mid during) c.step.result (kept_of new after)) same c.step.ensures.stepped in
+    let less : c.loop-done.done < c.args.most = omega arith in
+    StepsUpTo-ended (terms_of setup old) c.args.most c.loop-done.done (kept_of old before) (kept_of mid during) (kept_of new after) c.step.result less so_far.times c.in_default.not-Done once
+
+pub returns-in_default-clause-legal : goal.returns-in_default-clause-legal
+returns-in_default-clause-legal c =
+    let run = returns-in_default-clause-stepped c in
+    ChecksTimes-legal (terms_of c.args.setup.now c.args.workspace.now.pool) c.loop-done.done (kept_of c.args.workspace.now.pool c.args.self.now) (kept_of c.step.new.workspace.pool c.step.new.self)
+    run.0
+
+pub returns-in_default-clause-marks_right : goal.returns-in_default-clause-marks_right
+returns-in_default-clause-marks_right c =
+    let mid = c.loop-done.workspace.pool in
+    let during = c.loop-done.self in
+    let so_far = c.loop-done.invariant in
+    let same = terms_of-kept c.args.setup.now c.args.workspace.now.pool mid c.args.self.now during so_far.keeps c.requires.can_dump in
+    λ right.
+    subst (λ (terms : Terms). HasRightMarks terms.config (state_of mid during).design → HasRightMarks terms.config (state_of c.step.new.workspace.pool c.step.new.self).design) same
+    c.step.ensures.marks_right (so_far.right right)
+
+pub returns-in_default-clause-keeps : goal.returns-in_default-clause-keeps
+returns-in_default-clause-keeps c =
+    KeepsPlanes-trans c.args.setup.now c.args.workspace.now.pool c.loop-done.workspace.pool c.step.new.workspace.pool c.args.self.now c.loop-done.self c.step.new.self
+    c.loop-done.invariant.keeps c.step.ensures.keeps
+
+pub returns-clause-legal : goal.returns-clause-legal
+returns-clause-legal c =
+    ChecksTimes-legal (terms_of c.args.setup.now c.args.workspace.now.pool) c.loop-done.done (kept_of c.args.workspace.now.pool c.args.self.now) (kept_of c.loop-done.workspace.pool c.loop-done.self)
+    c.loop-done.invariant.times
