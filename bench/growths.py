@@ -53,6 +53,7 @@ PLAIN = {
     "look_stat": ["a refused 9 memory", "kept"],
     "look_uses": ["a refused 9 memory", "kept"],
     "look_marks": ["a refused 9 memory", "kept"],
+    "look_journal": ["a refused 9 memory", "kept"],
     "why": ["a refused 9 memory"],
     "what": ["a refused 9 memory"],
     "grab": ["a grab memory"],
@@ -200,6 +201,7 @@ a what
 %save b
 %uses b
 %marks b
+%journal b
 %why b 0 0 300 1
 %audit a
 b box 0 0 400 20
@@ -336,7 +338,7 @@ def replies_in(out):
         raise Failed("its last line has no end")
     lines, replies = text.split("\n")[:-1], []
     while lines:
-        count = int(found[1]) if (found := re.fullmatch(r"\w+ (?:saved|marked|uses) (\d+)", lines[0])) else 0
+        count = int(found[1]) if (found := re.fullmatch(r"\w+ (?:saved|marked|uses|journal) (\d+)", lines[0])) else 0
         if len(lines) < count + 1:
             raise Failed("a saved text is cut")
         replies.append("\n".join(lines[: count + 1]))
@@ -352,7 +354,7 @@ SAYS = {
     "what": (r"(\w+) what", r"{} refused 9 memory"),
     "catchup": (r"(\w+) drc catchup", r"{} refused 9 memory (\d+) pending"),
     "step": (r"%step (\w+)", r"{} step memory"),
-    "look": (r"%(?:save|why|stat|uses|marks) (\w+).*", r"{} refused 9 memory"),
+    "look": (r"%(?:save|why|stat|uses|marks|journal) (\w+).*", r"{} refused 9 memory"),
 }
 MOST_STEPS = 12
 

@@ -5,6 +5,7 @@ use Rattle.clap.specs.Words.{App, Kinds, Rule, Text, all_of, fault_of, first_of,
 use Rattle.clap.specs.declared.builder.action.ArgAction.TheVariants.{Append}
 use Rattle.clap.specs.declared.builder.value_parser.ValueParser.TheVariants.{Signed}
 use Rattle.clap.specs.declared.parser.matches.Found.{Found}
+use Rattle.mls_library.specs.Libraries.{default_cell_tiles, most_tiles as most_cell_tiles}
 use Rattle.mls_session.specs.JournalLimits.{most_entries, default_journal_limit}
 use Rattle.mls_session.specs.Quotas.{least_quota, most_quota, default_quota}
 use Rattle.mls_server.specs.Capacities.{most_tiles, default_capacity}
@@ -34,6 +35,9 @@ pool_option = record { name = codes "pool"; least = 1; most = most_tiles; defaul
 abbrev pub journal_option : NumberOption
 journal_option = record { name = codes "journal"; least = 1; most = most_entries; default = default_journal_limit }
 
+abbrev pub cell_tiles_option : NumberOption
+cell_tiles_option = record { name = codes "cell-tiles"; least = default_cell_tiles; most = most_cell_tiles; default = default_cell_tiles }
+
 abbrev pub workers_option : NumberOption
 workers_option = record { name = codes "workers"; least = 0; most = most_workers; default = default_workers }
 
@@ -47,8 +51,8 @@ cells_rule = record (new_rule (codes "cells")) { value_names = 1; action = Some 
 -- the options, the cells, and the parser's own `--help`
 unfoldable pub magicd : App
 magicd =
-    with_rule (with_rule (with_rule (with_rule (with_rule (with_rule (new_app (codes "magicd")) tech_rule) (number_rule quota_option)) (number_rule pool_option))
-    (number_rule journal_option)) (number_rule workers_option)) cells_rule
+    with_rule (with_rule (with_rule (with_rule (with_rule (with_rule (with_rule (new_app (codes "magicd")) tech_rule) (number_rule quota_option)) (number_rule pool_option))
+    (number_rule journal_option)) (number_rule cell_tiles_option)) (number_rule workers_option)) cells_rule
 
 -- the faults that the parser finds in the words, of which asking for help is one; there are none where it takes them
 unfoldable pub faults_in : List Text → Kinds
@@ -129,6 +133,7 @@ pub record ParsesAs (words : List Text) (options : Options) : Type 0 where
   pub quota : IsNumberFor quota_option words options.quota
   pub pool : IsNumberFor pool_option words options.pool
   pub journal : IsNumberFor journal_option words options.journal
+  pub cell_tiles : IsNumberFor cell_tiles_option words options.cell_tiles
   pub workers : IsNumberFor workers_option words options.workers
   pub cells : NamesFiles (cell_words words) (map file_of options.cells.items)
 

@@ -8,7 +8,7 @@ use Rattle.mls_wire.specs.Serving.{HasReason, WritesRun, WritesCutRun}
 use Rattle.mls_wire.specs.Watches.{Watched}
 use Rattle.mls_wire.specs.declared.serving.ServeFault.{ServeFault}
 use Rattle.mls_magicd.specs.Cells.{LoadsCells, StopsAtCell}
-use Rattle.mls_magicd.specs.CommandLines.{AreTaken, NamedFile, NamesFiles, bad_word, cell_words, faults_in, file_named, quota_option, pool_option, journal_option, IsNumberFor, IsRefusedBy}
+use Rattle.mls_magicd.specs.CommandLines.{AreTaken, NamedFile, NamesFiles, bad_word, cell_words, faults_in, file_named, quota_option, pool_option, journal_option, cell_tiles_option, IsNumberFor, IsRefusedBy}
 use Rattle.mls_magicd.specs.Messages.{Reports, ReportsAll, bad_cell_line, fault_text, serve_fault_line, skipped_line}
 use Rattle.mls_magicd.specs.Technologies.{HasReading, LacksTechnology}
 use Rattle.mls_magicd.specs.declared.cells.LoadFault.{LoadFault}
@@ -43,14 +43,15 @@ status_after Differs = failed
 
 -- ---- the start
 
--- the words have no fault, and the world has the technology that they name and its compiled rules, the quota, the journals' limit and the pool's capacity that
--- they name, no cells, and no session, nor was any opened; `reads_as` relates paths to the bytes that their files may be read as
+-- the words have no fault, and the world has the technology that they name and its compiled rules, the quota, the limits of journals and cells and the pool's capacity
+-- that they name, no cells, and no session, nor was any opened; `reads_as` relates paths to the bytes that their files may be read as
 pub record IsBareFor (reads_as : List ℕ → List ℕ → Type 0) (words : List (List ℕ)) (on : World) : Type 0 where
   pub taken : AreTaken words
   pub tech : HasReading reads_as (file_named words) on.setting.tech
   pub rules : compiled on.setting.tech ≡ Ok on.setting.rules
   pub quota : IsNumberFor quota_option words on.setting.quota
   pub journal : IsNumberFor journal_option words on.setting.journal
+  pub cell_tiles : IsNumberFor cell_tiles_option words on.setting.cell_tiles
   pub cells : on.setting.cells ≡ []
   pub given : on.given ≡ 0
   pub seats : on.seats ≡ []

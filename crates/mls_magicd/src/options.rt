@@ -10,6 +10,7 @@ use crate::cell_argument::CellArgument;
 use crate::workers::Workers;
 use clap::error::ErrorKind;
 use clap::{Arg, ArgAction, ArgMatches, Command, Error as ParseError, value_parser};
+use mls_library::CellTiles;
 use mls_server::Capacity;
 use mls_session::{JournalLimit, Quota};
 use std::alloc::{AllocError, AllocFailed, Global};
@@ -28,6 +29,8 @@ pub struct Options<'a> {
     pub pool: Capacity,
     /// The most entries that a journal may have.
     pub journal: JournalLimit,
+    /// The most tiles that a plane of a cell may have.
+    pub cell_tiles: CellTiles,
     /// How many workers check behind the sessions.
     pub workers: Workers,
     /// The cells, in order.
@@ -89,6 +92,10 @@ impl<'a> Options<'a> {
                         .get_one::<u32>("journal")
                         .and_then(JournalLimit::new)
                         .unwrap_or_default(),
+                    cell_tiles: matches
+                        .get_one::<u32>("cell-tiles")
+                        .and_then(CellTiles::new)
+                        .unwrap_or_default(),
                     workers: matches
                         .get_one::<u32>("workers")
                         .and_then(Workers::new)
@@ -127,6 +134,12 @@ fn command<'a>(alloc: Global) -> Result<Command<'a>, AllocError>
             "journal",
             JournalLimit::LEAST..=JournalLimit::MOST,
             "Gives each journal N entries, from 1 to 65536 [default: 4096]",
+        ))?
+        .arg(number_option(
+            alloc,
+            "cell-tiles",
+            CellTiles::LEAST..=CellTiles::MOST,
+            "Gives each plane of a cell N tiles, from 4096 to 16384 [default: 4096]",
         ))?
         .arg(number_option(
             alloc,

@@ -17,7 +17,7 @@ use crate::technology::TechnologyText;
 use crate::{Fault, Files, Streams};
 use mls_crew::Crew;
 use mls_edgerule::compile;
-use mls_server::Server;
+use mls_server::{Limits, Server};
 use mls_wire::{Watched, serve};
 use std::alloc::Global;
 use std::convert::AsStr;
@@ -310,8 +310,11 @@ fn bare_server<'a, F: Files, E: Write>(
         tech,
         rules,
         options.pool,
-        options.quota,
-        options.journal,
+        Limits {
+            quota: options.quota,
+            journal: options.journal,
+            cell_tiles: options.cell_tiles,
+        },
     )?;
     Ok((server, text))
 }

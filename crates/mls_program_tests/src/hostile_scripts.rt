@@ -85,7 +85,7 @@ fn line_of_a_million_bytes(rt: HostRuntime) -> Result<(), Fail> {
 const RANDOM_LINES: u32 = 100_000;
 
 /// Lines that can be read.
-const READABLE: [&[u8]; 39] = [
+const READABLE: [&[u8]; 40] = [
     b"%open a",
     b"%open b",
     b"%open c",
@@ -100,6 +100,7 @@ const READABLE: [&[u8]; 39] = [
     b"%stat b",
     b"%uses a",
     b"%marks b",
+    b"%journal b",
     b"%why c 0 0 9 9",
     b"a box 0 0 4 4",
     b"a box 3 0 9 9",
@@ -128,7 +129,7 @@ const READABLE: [&[u8]; 39] = [
 ];
 
 /// Words of the language, and some that have no place in it.
-const WORDS: [&[u8]; 39] = [
+const WORDS: [&[u8]; 40] = [
     b"%open",
     b"%close",
     b"%step",
@@ -138,6 +139,7 @@ const WORDS: [&[u8]; 39] = [
     b"%stat",
     b"%uses",
     b"%marks",
+    b"%journal",
     b"%why",
     b"%foo",
     b"a",
@@ -171,8 +173,8 @@ const WORDS: [&[u8]; 39] = [
 ];
 
 /// Appends a random one of the texts.
-fn push_one(script: &mut Vec<u8>, texts: &[&[u8]; 39], rng: &mut Pcg32) -> Result<(), AllocError> {
-    let index: usize = rng.random_range(0..39);
+fn push_one(script: &mut Vec<u8>, texts: &[&[u8]; 40], rng: &mut Pcg32) -> Result<(), AllocError> {
+    let index: usize = rng.random_range(0..40);
     if let Some(text) = texts.get(index) {
         script.extend_from_slice(text)?;
     }
@@ -244,9 +246,27 @@ fn has_text(reply: &[u8]) -> bool {
     word == b"saved".as_slice() || word == b"marked".as_slice()
 }
 
+/// Returns how many lines a journal has, if the reply is one to a look at it.
+fn journal_len(reply: &[u8]) -> Option<usize> {
+    let mut words = reply.split(|byte| *byte == b' ');
+    let word = words.nth(1)?;
+    let count = words.next()?;
+    let is_journal = word == b"journal".as_slice();
+    is_journal.then(|| {
+        count.iter().fold(0, |n: usize, digit| {
+            n.saturating_mul(10)
+                .saturating_add(usize::from(digit.wrapping_sub(b'0')))
+        })
+    })
+}
+
 /// Returns how many lines the first reply has: a text comes with its own.
 fn reply_len(replies: &[&[u8]]) -> usize {
-    if !replies.first().is_some_and(|reply| has_text(reply)) {
+    let first = replies.first().copied().unwrap_or(b"");
+    if let Some(lines) = journal_len(first) {
+        return lines.saturating_add(1);
+    }
+    if !has_text(first) {
         return 1;
     }
     let end = b"<< end >>".as_slice();

@@ -12,6 +12,8 @@ mod findings;
 #[cfg(test)]
 mod hostile_scripts;
 #[cfg(test)]
+mod journals;
+#[cfg(test)]
 mod large_runs;
 #[cfg(test)]
 mod looks;

@@ -1,5 +1,7 @@
 pub mod AheadLemmas
 pub mod Chunks
+pub mod JournalLaws
+pub mod JournalTexts
 pub mod NextLineLemmas
 pub mod OpenLines
 pub mod PieceRooms
@@ -8,3 +10,6 @@ pub mod RunLemmas
 pub mod ScriptTexts
 pub mod ServingLemmas
 pub mod TypeLists
+pub mod WorldNames
+pub mod WrittenNumbers
+pub mod WrittenWords

@@ -5,7 +5,7 @@ use Rattle.std.proofs.lemmas.Bool.Decides.{nat_tests}
 use Rattle.mls_session.specs.Journals.{Kept}
 use Rattle.mls_session.specs.declared.command.Command.{Command}
 use Rattle.mls_session.specs.declared.command.Command.TheVariants.{Box, Paint, Erase, Dump, GetCell, What, Save, Check, CatchUp, Why, Count}
-use Rattle.mls_session.specs.declared.look.Look.TheVariants.{Save as SaveLook, Why as WhyLook, Status as StatusLook, Uses as UsesLook, Marks as MarksLook}
+use Rattle.mls_session.specs.declared.look.Look.TheVariants.{Save as SaveLook, Why as WhyLook, Status as StatusLook, Uses as UsesLook, Marks as MarksLook, Journal as JournalLook}
 use Rattle.mls_server.specs.Worlds.{Seat, World, kept_in, named_in, seat_in, session_named}
 use Rattle.mls_server.specs.SessionNames.{is_session_name}
 use Rattle.mls_server.specs.declared.event.Event.TheVariants.{Command as CommandEvent}
@@ -115,9 +115,10 @@ words_executable on (word ∷ words) =
     (choice on (same_word word (codes "%stat")) _ _ (asks_executable on (look_line StatusLook) (λ name id h. h) words)
     (choice on (same_word word (codes "%uses")) _ _ (asks_executable on (look_line UsesLook) (λ name id h. h) words)
     (choice on (same_word word (codes "%marks")) _ _ (asks_executable on (look_line MarksLook) (λ name id h. h) words)
+    (choice on (same_word word (codes "%journal")) _ _ (asks_executable on (look_line JournalLook) (λ name id h. h) words)
     (choice on (same_word word (codes "%why")) _ _ (why_executable on words)
     (choice on (same_word word (codes "%steps")) _ _ (steps_executable on words)
-    (choice on (begins_with 37 word) (Err UnknownCommand) _ tt (session_executable on word words)))))))))))
+    (choice on (begins_with 37 word) (Err UnknownCommand) _ tt (session_executable on word words))))))))))))
 
 line_executable : (on : World) (line : Option (List ℕ)) → CanExecuteSaid on (line_says (book_of on) line)
 unfolding line_says

@@ -1,4 +1,5 @@
 pub mod Ahead
+pub mod JournalLines
 pub mod LineReaders
 pub mod Lines
 pub mod NameBooks

@@ -2,7 +2,7 @@
 use Rattle.std.specs.Prelude.{ℕ, Option, List, position, slice_get}
 use Rattle.mls_server.specs.Settings.{cell_names}
 use Rattle.mls_server.specs.Worlds.{World, session_named}
-use Rattle.mls_tech.specs.Readings.{number_named, name_of, why_of}
+use Rattle.mls_tech.specs.Readings.{number_named, name_of, short_name_of, why_of}
 use Rattle.mls_text.specs.Words.{same_word}
 
 pub record Names : Type 0 where
@@ -14,6 +14,8 @@ pub record Names : Type 0 where
   pub cell_name : ℕ → Option (List ℕ)
   -- the first name of a type
   pub type_name : ℕ → Option (List ℕ)
+  -- the shortest name of a type, the first of that length
+  pub short_type_name : ℕ → Option (List ℕ)
   -- why a rule is there, by its number from 1
   pub why_text : ℕ → Option (List ℕ)
   -- the id of the open session of a name
@@ -27,6 +29,7 @@ book_of on =
       cell_of = λ name. position (λ cell. same_word name cell.name) on.setting.cells;
       cell_name = slice_get (cell_names on.setting);
       type_name = name_of on.setting.tech.types;
+      short_type_name = short_name_of on.setting.tech.types;
       why_text = why_of on.setting.tech.rules;
       session = session_named on;
     }

@@ -6,7 +6,7 @@ use Rattle.mls_kinds.specs.KindSets.{set_of}
 use Rattle.mls_session.specs.declared.command.Command.{Command}
 use Rattle.mls_session.specs.declared.command.Command.TheVariants.{Box, Paint, Erase, Dump, GetCell, What, Save, Check, CatchUp, Why, Count}
 use Rattle.mls_session.specs.declared.look.Look.{Look}
-use Rattle.mls_session.specs.declared.look.Look.TheVariants.{Save as SaveLook, Why as WhyLook, Status as StatusLook, Uses as UsesLook, Marks as MarksLook}
+use Rattle.mls_session.specs.declared.look.Look.TheVariants.{Save as SaveLook, Why as WhyLook, Status as StatusLook, Uses as UsesLook, Marks as MarksLook, Journal as JournalLook}
 use Rattle.mls_wire.specs.NameBooks.{Names}
 use Rattle.mls_wire.specs.Numbers.{count_of, number_of}
 use Rattle.mls_text.specs.Fields.{fields_of}
@@ -146,7 +146,7 @@ abbrev pub asked_of : (List ℕ → ℕ → Line) → List ℕ → Option ℕ �
 asked_of make name (Some id) = Ok (make name id)
 asked_of make name None = Err NotOpen
 
--- the words after `%close`, `%step`, `%audit`, `%save`, `%stat`, `%uses` or `%marks`: here too a fault of the name's form comes first, then one of the
+-- the words after `%close`, `%step`, `%audit`, `%save`, `%stat`, `%uses`, `%marks` or `%journal`: here too a fault of the name's form comes first, then one of the
 -- number of words, and last that no session of the name is open
 unfoldable pub asks_says : Names → (List ℕ → ℕ → Line) → List (List ℕ) → Result Line LineFault
 asks_says book make [] = Err BadName
@@ -201,9 +201,10 @@ words_say book (word ∷ words) =
     else (if same_word word (codes "%stat") then asks_says book (look_line StatusLook) words
     else (if same_word word (codes "%uses") then asks_says book (look_line UsesLook) words
     else (if same_word word (codes "%marks") then asks_says book (look_line MarksLook) words
+    else (if same_word word (codes "%journal") then asks_says book (look_line JournalLook) words
     else (if same_word word (codes "%why") then why_says book words
     else (if same_word word (codes "%steps") then steps_says book words
-    else (if begins_with 37 word then Err UnknownCommand else session_says book word words))))))))))
+    else (if begins_with 37 word then Err UnknownCommand else session_says book word words)))))))))))
 
 -- a line as it was read: one that is too long is a fault whatever it holds, and a comment begins with `#` in its very first byte
 unfoldable pub line_says : Names → Option (List ℕ) → Result Line LineFault

@@ -77,6 +77,7 @@ fn parse_words<N: Names>(names: &N, mut words: Words) -> Result<Line, LineFault>
         Some(b"%stat") => parse_asked(names, words, Asked::Look(Look::Status)),
         Some(b"%uses") => parse_asked(names, words, Asked::Look(Look::Uses)),
         Some(b"%marks") => parse_asked(names, words, Asked::Look(Look::Marks)),
+        Some(b"%journal") => parse_asked(names, words, Asked::Look(Look::Journal)),
         Some(b"%why") => parse_why(names, words),
         Some(b"%steps") => parse_steps(names, words),
         Some([b'%', ..]) => Err(LineFault::UnknownCommand),
