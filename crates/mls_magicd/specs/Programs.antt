@@ -2,6 +2,7 @@
 use Rattle.std.specs.Prelude.{◌≡◌, ◌≢◌, ◌⊎◌, ℕ, false, Option, Some, Ok, Err, List, [], ◌∷◌, ◌++◌, map}
 use Rattle.mls_crew.specs.Scripts.{FailsCrew, WritesCrew}
 use Rattle.mls_edgerule.specs.Compiling.{compiled}
+use Rattle.mls_lines.specs.Scripts.{FailsLines, WritesLines}
 use Rattle.mls_tech.specs.Readings.{Tech}
 use Rattle.mls_server.specs.Worlds.{MarksAreExact, MarksAreRight, World}
 use Rattle.mls_wire.specs.Serving.{HasReason, WritesRun, WritesCutRun}
@@ -143,4 +144,19 @@ abbrev pub EndsInCrew : {R W E : Type 0} → World → Option (List ℕ) → Wat
     → (E → Option (List ℕ)) → Watched E → Watched E → Type 0
 EndsInCrew on script input contents old new messages before after =
     (fault : Fault) × FailsInCrew on script input contents old new fault
+    × ReportsAll messages before after (skipped_lines on.setting.tech ++ fault_text fault ∷ [])
+
+-- ---- the script, answered as it comes
+
+-- the script fails with this fault, or all was answered, and some session's list wasn't that of its journal at its end
+abbrev pub FailsLive : {R W : Type 0} → World → Option (List ℕ) → Watched R → (W → Option (List ℕ)) → Watched W → Watched W → Fault → Type 0
+FailsLive on script input contents old new (Serve fault) = FailsLines on fault script input contents old new
+FailsLive on script input contents old new Differs = WritesLines on script (contents old.device) (contents new.device)
+FailsLive on script input contents old new _ = ⊥
+
+-- so it did, and the fault was reported after the skipped lines
+abbrev pub EndsLive : {R W E : Type 0} → World → Option (List ℕ) → Watched R → (W → Option (List ℕ)) → Watched W → Watched W
+    → (E → Option (List ℕ)) → Watched E → Watched E → Type 0
+EndsLive on script input contents old new messages before after =
+    (fault : Fault) × FailsLive on script input contents old new fault
     × ReportsAll messages before after (skipped_lines on.setting.tech ++ fault_text fault ∷ [])

@@ -4,7 +4,7 @@ ghost use Rattle.std.specs.Range.{range_inclusive_start, range_inclusive_end};
 ghost use Rattle.clap.specs.declared.builder.command.Command.TheViews.{out-Command as fields_of};
 ghost use Rattle.clap.specs.Words.{app_of, found_of, kind_of, rule_of, IsPlain, IsPlainArg};
 ghost use Rattle.clap.specs.declared.error.kind.ErrorKind.TheVariants.{OutOfMemory};
-ghost use Rattle.mls_magicd.specs.CommandLines.{NumberOption, magicd, tech_rule, number_rule, cells_rule, file_of, words_found, IsBadWord, IsParserFault, NamesFiles, ParsesWords};
+ghost use Rattle.mls_magicd.specs.CommandLines.{NumberOption, magicd, tech_rule, number_rule, live_rule, cells_rule, file_of, words_found, IsBadWord, IsParserFault, NamesFiles, ParsesWords};
 
 use crate::cell_argument::CellArgument;
 use crate::workers::Workers;
@@ -30,6 +30,8 @@ pub struct Options<'a> {
     pub journal: JournalLimit,
     /// How many workers check behind the sessions.
     pub workers: Workers,
+    /// Whether lines are answered as they come, beside the workers.
+    pub live: bool,
     /// The cells, in order.
     pub cells: Vec<CellArgument<'a>>,
 }
@@ -93,6 +95,7 @@ impl<'a> Options<'a> {
                         .get_one::<u32>("workers")
                         .and_then(Workers::new)
                         .unwrap_or_default(),
+                    live: matches.get_flag("live"),
                     cells,
                 })
             }
@@ -134,6 +137,7 @@ fn command<'a>(alloc: Global) -> Result<Command<'a>, AllocError>
             0..=16,
             "Checks behind the sessions with N workers, from 0 to 16 [default: 0]",
         ))?
+        .arg(live_option(alloc))?
         .arg(cells_argument(alloc))
 }
 
@@ -167,6 +171,17 @@ fn number_option<'a>(
         .value_name("N")
         .value_parser(value_parser!(u32).range(numbers))
         .help(help)
+}
+
+fn live_option<'a>(alloc: Global) -> Arg<'a>
+    ensures rule { rule_of result ≡ live_rule }
+    ensures plain { IsPlainArg result }
+    ensures local { result.global ≡ false }
+{
+    Arg::new(alloc, "live")
+        .long("live")
+        .action(ArgAction::SetTrue)
+        .help("Answers each session's lines as they come, beside the workers")
 }
 
 fn cells_argument<'a>(alloc: Global) -> Arg<'a>

@@ -14,6 +14,8 @@ mod hostile_scripts;
 #[cfg(test)]
 mod large_runs;
 #[cfg(test)]
+mod live_lines;
+#[cfg(test)]
 mod looks;
 #[cfg(test)]
 mod programs;

@@ -28,7 +28,7 @@ pub fn ended<T: Threads + Wait + Sync + Alloc<A = Global>, S: AsStr, F: Files>(
 }
 
 /// Runs the program on any input.
-pub fn ended_on<T: Threads + Wait + Sync + Alloc<A = Global>, S: AsStr, F: Files, R: Read + Drop>(
+pub fn ended_on<T: Threads + Wait + Sync + Alloc<A = Global>, S: AsStr, F: Files, R: Read + Send + Drop>(
     rt: &T,
     words: &[S],
     files: &F,
@@ -48,7 +48,7 @@ pub fn ended_with<
     T: Threads + Wait + Sync + Alloc<A = Global>,
     S: AsStr,
     F: Files,
-    R: Read + Drop,
+    R: Read + Send + Drop,
     W: Write + Drop,
     E: Write + Drop,
 >(rt: &T, words: &[S], files: &F, input: R, output: W, messages: E) -> (u8, W, E) {

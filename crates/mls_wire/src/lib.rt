@@ -20,6 +20,7 @@ pub use line::{Line, LineFault};
 pub use mls_server::Name;
 pub use names::Names;
 pub use parse::parse_line;
+pub use reader::{LineReader, NextLine};
 pub use reply::{push_differs, push_looked, push_response, push_saved};
 pub use response::Response;
 pub use script_line::ScriptLine;

@@ -1,8 +1,8 @@
-use Rattle.std.proofs.Common.{◌∙◌, ℕ, List, map, subst, arith}
+use Rattle.std.proofs.Common.{◌∙◌, inl, inr, ℕ, List, map, subst, arith}
 use Rattle.std.proofs.lemmas.Result.{err_from_is_err_and}
 use Rattle.clap.specs.Words.{Text, found_of}
 use Rattle.mls_magicd.proofs.CellWords.{named-not_bad}
-use Rattle.mls_magicd.proofs.OptionLemmas.{cells-named, file-named, number-parsed, refused-for_fault, refused-for_word, taken-no_fault}
+use Rattle.mls_magicd.proofs.OptionLemmas.{cells-named, file-named, live-named, number-parsed, refused-for_fault, refused-for_word, taken-no_fault}
 use Rattle.mls_magicd.proofs.NumberLemmas.{IsFoundNumber, found-number}
 use Rattle.mls_magicd.proofs.NumberTexts.{StandsAt, journal_stands, pool_stands, quota_stands, workers_stands}
 use Rattle.mls_session.specs.JournalLimits.{IsJournalLimit}
@@ -38,6 +38,11 @@ returns-in_ok-cells-in-Ok g c =
       workers = number workers_option 4 c.unwrap_or_default-in-Ok-3.result workers_stands
           (found-number workers_option IsWorkerCount c.get_one-in-Ok-3.result c.and_then-in-Ok-3.result _ c.and_then-in-Ok-3.ensures c.unwrap_or_default-in-Ok-3.ensures (found_of m)
           c.get_one-in-Ok-3.ensures.none c.get_one-in-Ok-3.ensures.value (omega arith) (λ n enough bounded. bounded));
+      live = λ asks. c.get_flag.ensures.value (live-named _ command m built taken.matches ∙ asks);
+      batch = λ asks. elim asks [
+        | inl none ↦ c.get_flag.ensures.none (live-named _ command m built taken.matches ∙ none)
+        | inr no ↦ c.get_flag.ensures.other (live-named _ command m built taken.matches ∙ no)
+      ];
       cells = named;
     }
 

@@ -7,7 +7,7 @@ use Rattle.mls_crew.specs.Books.{labels_of}
 use Rattle.mls_crew.specs.Groups.{SaysLines, lines_of}
 use Rattle.mls_crew.proofs.LineLists.{none_said}
 use Rattle.mls_crew.proofs.Results.{ok_holds}
-use Rattle.mls_crew.proofs.speaking.tell.Goals as goal
+use Rattle.mls_crew.proofs.speaking.say_group.Goals as goal
 
 pub returns : goal.returns
 unfolding response_text
