@@ -1,4 +1,4 @@
-"""A page on the loopback address: the sessions, and the layout and marks of one as a picture that follows its changes."""
+"""A page on the loopback address: the sessions, and the layout and marks of one as a picture that follows it."""
 
 import asyncio
 import hmac

@@ -4,7 +4,6 @@ import hashlib
 import os
 import random
 import resource
-import signal
 import sqlite3
 import subprocess
 import sys
@@ -12,7 +11,7 @@ import threading
 import time
 import unittest
 
-from tests.serving import HERE, SERVER, Client, RelayCase, alone, random_lines
+from tests.serving import Client, RelayCase, alone, random_lines
 
 
 class Designer:
