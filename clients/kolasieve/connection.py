@@ -5,6 +5,7 @@ import hmac
 import re
 
 from kolasieve.lines import LONGEST_LINE, Line, fault_of
+from kolasieve.log import LogFault
 from kolasieve.program import Ended
 from kolasieve.session import Unplayed
 
@@ -81,6 +82,8 @@ class Connection:
         session = self.sessions.get(name)
         if line.words[0] == b"@resume":
             self.answer(await self.resume(line))
+        elif line.words == (b"@sessions",):
+            self.answer(await self.list_sessions())
         elif line.words[0] == b"%open" and name is not None and len(line.words) == 2:
             self.answer(await self.relay.open(name, self))
         elif line.words[0] == b"%close" and session is not None and len(line.words) == 2:
@@ -114,7 +117,22 @@ class Connection:
         except Unplayed as fault:
             return b"%s refused resume %s\n" % (name, str(fault).encode())
 
+    async def list_sessions(self):
+        """Returns how many sessions this owner has, and a line for each."""
+        try:
+            states = await self.relay.states(self.owner)
+        except LogFault as fault:
+            return b"@ refused: %s\n" % str(fault).encode()
+        lines = [b"@ sessions %d\n" % len(states)]
+        lines.extend(b"@ %s %s\n" % (name, state.encode()) for name, state in states.items())
+        return b"".join(lines)
+
     # ---- replies
+
+    def tell(self, text):
+        """Writes a line that is no reply, between two replies."""
+        if not self.writer.is_closing():
+            self.writer.write(text)
 
     def answer(self, reply):
         """Queues a reply: bytes, or what they are awaited from."""

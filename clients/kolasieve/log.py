@@ -1,39 +1,20 @@
-"""A durable log of sessions: what was asked and answered, in one SQLite file."""
+"""The log: what outlives a relay, its sessions, and what was asked of them and answered."""
 
+import abc
 import asyncio
-import fcntl
 import hashlib
-import sqlite3
-import threading
-import time
 from dataclasses import dataclass
 
 # A longer reply is kept as its length and SHA-256.
 LONGEST_REPLY = 4096
 
-TABLES = """
-create table if not exists settings (options text not null);
-create table if not exists sessions (
-    id integer primary key,
-    name blob not null,
-    owner text not null,
-    opened real not null,
-    closed real
-);
-create unique index if not exists names on sessions (name) where closed is null;
-create table if not exists lines (
-    session integer not null references sessions (id),
-    number integer not null,
-    at real not null,
-    line blob not null,
-    reply blob not null,
-    primary key (session, number)
-) without rowid;
-"""
-
 
 class LogFault(Exception):
     """The log can't be used, or its rows can't be made durable."""
+
+
+class Unavailable(Exception):
+    """The log has no such session for this relay; the text says why."""
 
 
 @dataclass(frozen=True)
@@ -41,8 +22,21 @@ class Row:
     """A command that the session's journal has: its number among the session's lines, and its reply as it is kept."""
 
     number: int
+    at: float
     line: bytes
     reply: bytes
+
+
+@dataclass(frozen=True)
+class Record:
+    """What a log has of a session beside its rows. Where it is in use, `place` says at which relay."""
+
+    id: object
+    name: bytes
+    owner: str
+    opened: float
+    closed: float = None
+    place: str = None
 
 
 def kept(reply):
@@ -52,129 +46,89 @@ def kept(reply):
     return b"%d bytes sha256 %s\n" % (len(reply), hashlib.sha256(reply).hexdigest().encode())
 
 
-class Log:
-    """The log of one relay. A write is durable once its future has a result.
+class Log(abc.ABC):
+    """The log of a relay. There are two forms: a file of one relay, and an etcd that several share.
 
-    Writes are carried out by one thread; all that come while a commit is under way go into the next one.
+    A log is of one technology, cells, quota and journal limit: those of the relay that made it.
     """
 
-    def __init__(self, path, options):
-        self.path = path
-        try:
-            self.lock = open(path, "ab")
-            fcntl.flock(self.lock, fcntl.LOCK_EX | fcntl.LOCK_NB)
-        except BlockingIOError:
-            raise LogFault(f"{path}: another relay has it") from None
-        except OSError as fault:
-            raise LogFault(f"{path}: {fault.strerror}") from None
-        try:
-            self.rows = self.connect()
-            self.rows.executescript(TABLES)
-            self.keep_options(options)
-        except sqlite3.Error as fault:
-            raise LogFault(f"{path}: {fault}") from None
-        self.waiting = []
-        self.more = threading.Condition()
-        self.ended = False
-        self.thread = threading.Thread(target=self.write_all, name="log", daemon=True)
-        self.thread.start()
+    # Where other relays are told that a session of this one is in use, if there can be any.
+    place = None
 
-    def connect(self):
-        rows = sqlite3.connect(self.path, isolation_level=None, check_same_thread=False)
-        rows.execute("pragma journal_mode = wal")
-        rows.execute("pragma synchronous = full")
-        return rows
+    def on_silence(self):
+        """Is called when the log hasn't replied for a while, and lines wait. The relay has its own."""
 
-    def keep_options(self, options):
-        """A log is of one technology, cells, quota and journal limit: those of the relay that made it."""
-        found = self.rows.execute("select options from settings").fetchone()
-        if found is None:
-            self.rows.execute("insert into settings values (?)", (options,))
-        elif found[0] != options:
-            raise LogFault(f"{self.path}: it is of a server with other options: {found[0]}")
+    @abc.abstractmethod
+    async def open(self, name, owner):
+        """Keeps that a session was opened, and returns it held. Fails where the log has the name open or left."""
 
-    # ---- writes
+    @abc.abstractmethod
+    async def take(self, name, owner):
+        """Returns a left session held. Fails where there is none of this owner, or where it is in use."""
 
-    def write(self, *statements):
-        """Queues statements that are carried out together, and returns a future of the last one's new row."""
-        loop = asyncio.get_running_loop()
-        done = loop.create_future()
-        with self.more:
-            self.waiting.append((statements, loop, done))
-            self.more.notify()
-        return done
+    @abc.abstractmethod
+    async def sessions(self, closed=False):
+        """Returns the records of all sessions that aren't closed, or of those that are."""
 
-    def write_all(self):
-        rows = self.connect()
-        while True:
-            with self.more:
-                while not self.waiting and not self.ended:
-                    self.more.wait()
-                taken, self.waiting = self.waiting, []
-            if not taken:
-                rows.close()
-                return
-            self.commit(rows, taken)
-
-    def commit(self, rows, taken):
-        results = []
-        try:
-            rows.execute("begin immediate")
-            for statements, _, _ in taken:
-                for statement in statements:
-                    new = rows.execute(*statement).lastrowid
-                results.append(new)
-            rows.execute("commit")
-            fault = None
-        except sqlite3.Error as failed:
-            fault = LogFault(f"{self.path}: {failed}")
-            try:
-                rows.execute("rollback")
-            except sqlite3.Error:
-                pass
-        for index, (_, loop, done) in enumerate(taken):
-            if fault is None:
-                loop.call_soon_threadsafe(settle, done, results[index], None)
-            else:
-                loop.call_soon_threadsafe(settle, done, None, fault)
-
-    def open(self, name, owner):
-        """Keeps that a session was opened; the result is its number in the log."""
-        return self.write(("insert into sessions (name, owner, opened) values (?, ?, ?)", (name, owner, time.time())))
-
-    def add(self, session, number, line, reply):
-        """Keeps a command with its reply."""
-        return self.write(("insert into lines values (?, ?, ?, ?, ?)", (session, number, time.time(), line, kept(reply))))
-
-    def close(self, session):
-        """Keeps that a session was closed: its rows stay, and its name is free."""
-        return self.write(("update sessions set closed = ? where id = ?", (time.time(), session)))
-
-    # ---- reads
-
-    def sessions(self):
-        """Returns the sessions that aren't closed: number, name and owner of each."""
-        return self.rows.execute("select id, name, owner from sessions where closed is null").fetchall()
-
-    def lines(self, session):
+    @abc.abstractmethod
+    async def lines(self, id):
         """Returns the rows of a session, by their numbers."""
-        found = self.rows.execute("select number, line, reply from lines where session = ? order by number", (session,))
-        return [Row(*row) for row in found]
 
-    def end(self):
-        """Waits for what was queued, and gives the file back."""
-        with self.more:
-            self.ended = True
-            self.more.notify()
-        self.thread.join()
-        self.rows.close()
-        self.lock.close()
+    @abc.abstractmethod
+    async def bring(self, record, rows):
+        """Keeps a session of another log, whole. Fails where this one has its name or its number."""
+
+    @abc.abstractmethod
+    async def remove(self, record):
+        """Removes a closed session and its rows."""
+
+    @abc.abstractmethod
+    async def end(self):
+        """Waits for what was queued, and gives the log back."""
 
 
-def settle(done, result, fault):
+class Held(abc.ABC):
+    """A session that this relay holds: no other one adds rows to it meanwhile.
+
+    `lost` has a result, which says why, once that has ended against the relay's will.
+    """
+
+    def __init__(self):
+        self.lost = asyncio.get_running_loop().create_future()
+
+    @abc.abstractmethod
+    def add(self, number, line, reply):
+        """Keeps a command with its reply: they are durable once the returned future has a result."""
+
+    @abc.abstractmethod
+    def confirm(self):
+        """Returns a future that has a result once it is certain that the relay held the session after this call began."""
+
+    @abc.abstractmethod
+    async def lines(self):
+        """Returns all rows, those that were queued among them."""
+
+    @abc.abstractmethod
+    async def close(self):
+        """Keeps that the session was closed: its rows stay, and its name is free."""
+
+    @abc.abstractmethod
+    async def leave(self):
+        """Gives the session back: it may be taken again."""
+
+
+def settle(done, result=None, fault=None):
+    """Gives a future its result or its fault, where nobody has."""
     if done.done():
         return
     if fault is None:
         done.set_result(result)
     else:
         done.set_exception(fault)
+
+
+def settled(result=None):
+    """Returns a future that has its result."""
+    done = asyncio.get_running_loop().create_future()
+    done.set_result(result)
+    return done

@@ -4,7 +4,7 @@ import asyncio
 import logging
 
 from kolasieve.lines import Line
-from kolasieve.log import LogFault
+from kolasieve.log import LogFault, Unavailable
 from kolasieve.program import Ended, Program
 from kolasieve.session import Session, Unplayed
 
@@ -15,7 +15,7 @@ NO_ROOM = (b" refused open 2 ", b" refused open 3 ")
 
 
 class Relay:
-    """All sessions by name, and the programs that have them."""
+    """The sessions that are in use here by name, and the programs that have them."""
 
     def __init__(self, command, most_programs, log=None):
         self.command = command
@@ -26,8 +26,7 @@ class Relay:
         self.sessions = {}
         self.failed = asyncio.get_running_loop().create_future()
         if log is not None:
-            for id, name, owner in log.sessions():
-                self.sessions[name] = Session(name, owner, self, id=id)
+            log.on_silence = self.tell_that_lines_wait
 
     # ---- programs
 
@@ -91,68 +90,86 @@ class Relay:
         program.sessions.add(session)
         if self.log is not None:
             try:
-                session.id = await self.log.open(name, session.owner)
-            except LogFault as fault:
-                await session.leave()
-                del self.sessions[name]
+                session.hold(await self.log.open(name, session.owner))
+            except (Unavailable, LogFault) as fault:
+                await self.leave(session)
+                if isinstance(fault, Unavailable):
+                    return b"%s refused open 1 %s\n" % (name, str(fault).encode())
                 return b"%s lost: %s\n" % (name, str(fault).encode())
         user.sessions[name] = session
         return reply
 
     async def close(self, session):
         """Closes a session for good, and returns the reply."""
-        answered = session.ask(Line.of(b"%%close %s" % session.name))
-        reply = await answered
-        if reply == b"%s closed\n" % session.name:
-            if session.program is not None:
-                session.program.sessions.discard(session)
-                session.program = None
-            if session.id is not None:
-                await self.log.close(session.id)
-            session.user.sessions.pop(session.name, None)
-            self.sessions.pop(session.name, None)
+        reply = await session.ask(Line.of(b"%%close %s" % session.name))
+        if reply != b"%s closed\n" % session.name:
+            return reply
+        if session.program is not None:
+            session.program.sessions.discard(session)
+            session.program = None
+        if session.held is not None:
+            try:
+                await session.held.close()
+            except LogFault as fault:
+                session.lose(str(fault))
+                return session.lost_reply()
+        del session.user.sessions[session.name]
+        del self.sessions[session.name]
         return reply
 
     async def resume(self, name, user, seen):
         """Makes a left session again for a connection. Returns the reply, and the rows after those that were seen."""
-        session = self.sessions.get(name)
-        if session is None or session.id is None:
+        if self.log is None:
             raise Unplayed("no such session")
-        if session.owner != user.owner:
-            raise Unplayed("another's session")
-        if not session.is_left:
-            raise Unplayed("in use")
-        session.user = user
-        session.lost = None
+        if name in self.sessions:
+            raise Unplayed(self.in_use() if self.sessions[name].owner == user.owner else "another's session")
+        session = self.sessions[name] = Session(name, user.owner, self, user=user)
         try:
-            await session.restore()
-        except (Unplayed, LogFault, Ended) as fault:
-            session.user = None
+            session.hold(await self.log.take(name, user.owner))
+            rows = await session.restore()
+            await session.held.confirm()
+        except (Unavailable, Unplayed, LogFault, Ended) as fault:
+            await self.leave(session)
             raise Unplayed(str(fault) or "magicd has ended") from None
         user.sessions[name] = session
-        rows = self.log.lines(session.id)
         session.number = rows[-1].number if rows else 0
         reply = [b"%s resumed %d\n" % (name, session.number)]
         reply.extend(b"@ %d %s" % (row.number, row.reply) for row in rows if seen is not None and row.number > seen)
         return b"".join(reply)
 
+    def in_use(self):
+        """Returns what is said of a session that is in use here."""
+        place = self.log and self.log.place
+        return f"in use at {place}" if place else "in use"
+
+    async def states(self, owner=None):
+        """Returns the names of this owner's sessions, or of all, and of each whether it is left or in use, and where."""
+        states = {}
+        if self.log is not None:
+            for record in await self.log.sessions():
+                if owner in (None, record.owner):
+                    states[record.name] = f"in use at {record.place}" if record.place else "left"
+        states |= {each.name: self.in_use() for each in self.sessions.values() if owner in (None, each.owner)}
+        return dict(sorted(states.items()))
+
     async def leave(self, session):
-        """A connection has ended: its session is closed, or left where the log has it."""
+        """A connection has ended, or can't have its session any more: it is closed, or left where there is a log."""
         await session.leave()
-        session.user = None
-        if session.id is None and self.sessions.get(session.name) is session:
+        if self.sessions.get(session.name) is session:
             del self.sessions[session.name]
 
     def loses(self, session):
         """A session goes no further for its designer."""
         log.warning("session %s: %s", session.name.decode(), session.lost)
-        if session.user is not None:
-            session.user.sessions.pop(session.name, None)
         asyncio.create_task(self.leave(session))
+
+    def tell_that_lines_wait(self):
+        for user in {session.user for session in self.sessions.values()}:
+            user.tell(b"@ waiting: the log doesn't reply\n")
 
     async def stop(self):
         """Leaves all sessions, and ends all programs."""
-        await asyncio.gather(*(self.leave(each) for each in list(self.sessions.values()) if each.program))
+        await asyncio.gather(*(self.leave(each) for each in list(self.sessions.values())))
         await asyncio.gather(*(program.stop() for program in list(self.programs)))
         if self.log is not None:
-            self.log.end()
+            await self.log.end()

@@ -1,6 +1,7 @@
 """Sessions behind a relay: a session is its list of lines, and can be made again from them."""
 
 import asyncio
+import functools
 from collections import deque
 from dataclasses import dataclass, field
 
@@ -25,9 +26,10 @@ class Asked:
 
 @dataclass(eq=False)
 class Session:
-    """A session that the relay knows, whether it is open in a magicd or left.
+    """A session that is in use at this relay.
 
-    Its lines are answered in their order. A command that its journal has is durable before its reply is passed on.
+    Its lines are answered in their order. A command that its journal has is durable before its reply is passed on; any other
+    reply is passed on once it is certain that the relay still held the session when it came.
     """
 
     name: bytes
@@ -35,21 +37,20 @@ class Session:
     relay: object
     # The connection that uses the session, if one does.
     user: object = None
-    # Its number in the log, if there is one.
-    id: int = None
+    # The session as the log has it, if there is one.
+    held: object = None
     program: object = None
     # The number of the last line that began with its name.
     number: int = 0
     waiting: deque = field(default_factory=deque)
     task: asyncio.Task = None
-    # The last row that was queued for the log.
-    last_row: asyncio.Future = None
     # Set once nothing can be asked any more: the text is for the designer.
     lost: str = None
 
-    @property
-    def is_left(self):
-        return self.user is None and self.task is None
+    def hold(self, held):
+        """Has the session kept in the log from now on."""
+        self.held = held
+        held.lost.add_done_callback(lambda lost: self.lose(lost.result()))
 
     def ask(self, line):
         """Hands a line on, and returns a future of its reply, which the designer may then have."""
@@ -77,7 +78,8 @@ class Session:
         while self.lost is None:
             try:
                 if asked.reply is None:
-                    await self.restore()
+                    if self.program is None:
+                        await self.restore()
                     self.send_waiting()
                 reply = await asked.reply
             except Ended:
@@ -88,23 +90,24 @@ class Session:
                 break
             self.keep(asked, reply)
             return
-        asked.answered.set_result(b"%s lost: %s\n" % (self.name, self.lost.encode()))
+        asked.answered.set_result(self.lost_reply())
 
     def keep(self, asked, reply):
-        """Passes a reply on, once the log has it where it is to."""
-        if self.id is None or not is_journalled(asked.line, reply):
+        """Passes a reply on, once the log has it, or is certain that the session is held."""
+        if self.held is None:
             asked.answered.set_result(reply)
             return
-        self.last_row = self.relay.log.add(self.id, asked.number, asked.line.text, reply)
+        if is_journalled(asked.line, reply):
+            certain = self.held.add(asked.number, asked.line.text, reply)
+        else:
+            certain = self.held.confirm()
+        certain.add_done_callback(functools.partial(self.pass_on, asked, reply))
 
-        def pass_on(row):
-            if row.exception() is None:
-                asked.answered.set_result(reply)
-            else:
-                self.lose(str(row.exception()))
-                asked.answered.set_result(b"%s lost: %s\n" % (self.name, self.lost.encode()))
-
-        self.last_row.add_done_callback(pass_on)
+    def pass_on(self, asked, reply, certain):
+        if certain.exception() is not None:
+            self.lose(str(certain.exception()))
+            reply = self.lost_reply()
+        asked.answered.set_result(reply)
 
     def send_waiting(self):
         for asked in self.waiting:
@@ -122,27 +125,27 @@ class Session:
             self.lost = why
             self.relay.loses(self)
 
+    def lost_reply(self):
+        return b"%s lost: %s\n" % (self.name, self.lost.encode())
+
     # ---- making a session again
 
     async def restore(self):
-        """Opens the session in a magicd, and plays its rows. Fails where a reply differs from the log's."""
-        if self.program is not None:
-            return
-        if self.id is None:
+        """Opens the session in a magicd, plays its rows and returns them. Fails where a reply differs from the log's."""
+        if self.held is None:
             raise Unplayed("magicd has ended, and there is no log")
-        if self.last_row is not None:
-            await self.last_row
+        rows = await self.held.lines()
         program, reply = await self.relay.open_anywhere(self.name)
         if program is None:
             raise Unplayed("memory, try again" if b" open 4 " in reply else reply.decode().strip())
         try:
-            await self.play(program, self.relay.log.lines(self.id))
+            await self.play(program, rows)
         except Unplayed:
-            program.sessions.discard(self)
             await program.ask(Line.of(b"%%close %s" % self.name))
             raise
         self.program = program
         program.sessions.add(self)
+        return rows
 
     async def play(self, program, rows):
         asked = [(row, Line.of(row.line)) for row in rows]
@@ -158,7 +161,6 @@ class Session:
         """Closes the session in its magicd, once its lines are answered. The log has it still, if there is one."""
         while self.task is not None:
             await asyncio.wait([self.task])
-        self.last_row = None
         if self.program is not None:
             program, self.program = self.program, None
             program.sessions.discard(self)
@@ -166,6 +168,8 @@ class Session:
                 await program.ask(Line.of(b"%%close %s" % self.name))
             except Ended:
                 pass
+        if self.held is not None:
+            await self.held.leave()
 
 
 def check_played(row, line, reply):

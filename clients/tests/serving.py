@@ -38,7 +38,8 @@ class Client:
 
     def reply(self):
         """Returns the next reply whole, without its last line feed; nothing at the end."""
-        head = self.replies.readline()
+        while (head := self.replies.readline()).startswith(b"@ waiting: "):
+            pass
         text = head + b"".join(self.replies.readline() for _ in range(lines_after(head)))
         return text.decode().removesuffix("\n")
 

@@ -152,4 +152,5 @@ class Ports(RelayCase):
     def test_another_address(self):
         words = [str(HERE.parent / "relay"), "--listen", "0.0.0.0:7777"]
         refused = subprocess.run(words, stderr=subprocess.PIPE, text=True, timeout=20)
-        self.assertEqual((refused.returncode, refused.stderr), (1, "relay: 0.0.0.0:7777: only the loopback address is listened at\n"))
+        self.assertEqual(refused.returncode, 1)
+        self.assertIn("only the loopback address is listened at without --tls", refused.stderr)
