@@ -15,6 +15,9 @@ log = logging.getLogger("relay")
 LONGEST_CALL = 2
 PAUSE = 0.1
 
+# After how long without any reply it is said that none comes, in seconds.
+PATIENCE = 1
+
 # What no other address would mend: the request itself is refused.
 REFUSALS = (
     grpc.StatusCode.INVALID_ARGUMENT,
@@ -114,7 +117,7 @@ class Etcd:
         if self.silent_since is None:
             self.silent_since = asyncio.get_running_loop().time()
             log.warning("etcd at %s: %s", self.addresses[asked].address, fault.details())
-            asyncio.get_running_loop().call_later(LONGEST_CALL, self.is_silent, self.silent_since)
+            asyncio.get_running_loop().call_later(PATIENCE, self.is_silent, self.silent_since)
 
     def is_silent(self, since):
         if self.silent_since == since:

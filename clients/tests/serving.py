@@ -23,11 +23,13 @@ from kolasieve.lines import lines_after
 class Client:
     """A designer's program, as short as it can be."""
 
-    def __init__(self, address):
+    def __init__(self, address, tls=None, patience=60):
         self.socket = socket.socket(socket.AF_UNIX if isinstance(address, str) else socket.AF_INET)
-        self.socket.settimeout(60)
+        self.socket.settimeout(patience)
         try:
             self.socket.connect(address)
+            if tls is not None:
+                self.socket = tls.wrap_socket(self.socket, server_hostname="localhost")
         except OSError:
             self.socket.close()
             raise
@@ -108,20 +110,24 @@ class RelayCase(unittest.TestCase):
         self.relay.wait()
 
     def kill_programs(self):
-        """Kills each magicd of the relay."""
-        for folder in pathlib.Path("/proc").iterdir():
-            try:
-                # The fields behind the command's name, which may have blanks itself: state, parent, ..
-                fields = (folder / "stat").read_text().rpartition(")")[2].split()
-                if folder.name.isdigit() and int(fields[1]) == self.relay.pid:
-                    os.kill(int(folder.name), signal.SIGKILL)
-            except (OSError, IndexError):
-                pass
+        kill_programs(self.relay)
 
     def end(self):
         if self.relay is not None and self.relay.poll() is None:
             self.relay.send_signal(signal.SIGINT)
             self.assertEqual(self.relay.wait(30), 0)
+
+
+def kill_programs(relay):
+    """Kills each magicd of a relay."""
+    for folder in pathlib.Path("/proc").iterdir():
+        try:
+            # The fields behind the command's name, which may have blanks itself: state, parent, ..
+            fields = (folder / "stat").read_text().rpartition(")")[2].split()
+            if folder.name.isdigit() and int(fields[1]) == relay.pid:
+                os.kill(int(folder.name), signal.SIGKILL)
+        except (OSError, IndexError):
+            pass
 
 
 def alone(lines, *words):

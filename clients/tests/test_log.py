@@ -1,6 +1,7 @@
 """The log: what was answered outlives the relay and its magicd, and nothing is done twice."""
 
 import hashlib
+import itertools
 import os
 import random
 import resource
@@ -17,8 +18,10 @@ from tests.serving import Client, RelayCase, alone, random_lines
 class Designer:
     """A client that comes back: it sends its lines one after another, and resumes its session where the relay is gone."""
 
-    def __init__(self, path, name, lines):
-        self.path, self.name, self.lines = path, name, lines
+    def __init__(self, addresses, name, lines, tls=None, patience=60):
+        self.addresses = itertools.cycle(addresses)
+        self.name, self.lines = name, lines
+        self.tls, self.patience = tls, patience
         self.replies = {}
         self.client = None
 
@@ -30,8 +33,8 @@ class Designer:
                     number = self.come_back(number)
                     continue
                 reply = self.client.ask(f"{self.name} {self.lines[number]}")[0]
-                if not reply:
-                    raise ConnectionError
+                if not reply or reply.startswith(f"{self.name} lost: "):
+                    raise ConnectionError(reply)
                 self.replies[number + 1] = reply
                 number += 1
             except OSError:
@@ -46,13 +49,10 @@ class Designer:
 
     def come_back(self, number):
         """Opens or resumes the session, and returns how many lines are done."""
-        self.client = Client(self.path)
+        self.client = Client(next(self.addresses), self.tls, self.patience)
         if number == 0 and self.client.ask(f"%open {self.name}") == [f"{self.name} opened"]:
             return 0
-        while True:
-            reply = self.client.ask(f"@resume {self.name} {number}")[0]
-            if "in use" not in reply:
-                break
+        while " in use" in (reply := self.client.ask(f"@resume {self.name} {number}")[0]):
             time.sleep(0.05)
         if " resumed " not in reply:
             raise ConnectionError(reply)
@@ -70,7 +70,18 @@ def commands(count, seed):
     return [line for line in lines if line != "nonsense" and " x " not in line and line != "save"][:count]
 
 
-class LoggedCase(RelayCase):
+class TeamCase(unittest.TestCase):
+    """What designers were told, and what a log has, are those of their lines alone."""
+
+    def check_done(self, team, rows):
+        for each in team:
+            texts = [f"{each.name} {line}" for line in each.lines]
+            expected = alone([f"%open {each.name}", *texts])[1:]
+            self.assertEqual([each.replies[n + 1] for n in range(len(texts))], expected)
+            self.assertEqual(rows(each.name), [(n + 1, text, reply + "\n") for n, (text, reply) in enumerate(zip(texts, expected))])
+
+
+class LoggedCase(RelayCase, TeamCase):
     """A relay with a log."""
 
     log = True
@@ -78,7 +89,8 @@ class LoggedCase(RelayCase):
     def rows(self, name):
         with sqlite3.connect(self.folder / "log") as log:
             return log.execute(
-                "select number, line, reply from lines join sessions on session = id where name = ? order by number",
+                "select number, cast(line as text), cast(reply as text) from lines join sessions on session = id"
+                " where name = ? order by number",
                 (name.encode(),),
             ).fetchall()
 
@@ -93,7 +105,7 @@ class LoggedCase(RelayCase):
     def check_killed(self, designers, lines, kills):
         """In the end every answered line is in the log once, in order, and all replies are those of the lines alone."""
         dice = random.Random(lines)
-        team = [Designer(self.path, f"d{i}", commands(lines, i)) for i in range(designers)]
+        team = [Designer([self.path], f"d{i}", commands(lines, i)) for i in range(designers)]
         threads = [threading.Thread(target=each.run, daemon=True) for each in team]
         for thread in threads:
             thread.start()
@@ -107,14 +119,7 @@ class LoggedCase(RelayCase):
         for thread in threads:
             thread.join(120)
             self.assertFalse(thread.is_alive())
-        for each in team:
-            texts = [f"{each.name} {line}" for line in each.lines]
-            expected = alone([f"%open {each.name}", *texts])[1:]
-            self.assertEqual([each.replies[n + 1] for n in range(len(texts))], expected)
-            self.assertEqual(
-                [(number, line.decode(), reply.decode()) for number, line, reply in self.rows(each.name)],
-                [(n + 1, text, reply + "\n") for n, (text, reply) in enumerate(zip(texts, expected))],
-            )
+        self.check_done(team, self.rows)
 
 
 class Log(LoggedCase):
@@ -124,7 +129,7 @@ class Log(LoggedCase):
         replies = client.ask("%open a", *lines)[1:]
         kept = [(1, 0), (3, 2), (4, 4), (5, 5), (6, 6)]
         self.assertEqual(
-            self.rows("a"), [(number, lines[i].encode(), replies[i].encode() + b"\n") for number, i in kept]
+            self.rows("a"), [(number, lines[i], replies[i] + "\n") for number, i in kept]
         )
 
     def test_a_long_reply_is_kept_as_its_hash(self):
@@ -132,9 +137,7 @@ class Log(LoggedCase):
         client.ask("%open a", *(line for i in range(300) for line in (f"a box {2 * i} 0 {2 * i + 1} 90", "a paint m1")))
         text = client.ask("a save")[0].encode() + b"\n"
         self.assertGreater(len(text), 4096)
-        self.assertEqual(
-            self.rows("a")[-1][2], b"%d bytes sha256 %s\n" % (len(text), hashlib.sha256(text).hexdigest().encode())
-        )
+        self.assertEqual(self.rows("a")[-1][2], f"{len(text)} bytes sha256 {hashlib.sha256(text).hexdigest()}\n")
         client.close()
         again = self.client()
         self.assertEqual(self.resumed(again, "@resume a"), "a resumed 601")

@@ -1,0 +1,161 @@
+"""Three etcds to test on, and a network before one of them that can be slow."""
+
+import pathlib
+import shutil
+import signal
+import socket
+import subprocess
+import threading
+import time
+
+try:
+    import etcd3
+except ImportError:
+    etcd3 = None
+
+HAVE_ETCD = etcd3 is not None and shutil.which("etcd") is not None
+
+
+def free_port():
+    with socket.socket() as probe:
+        probe.bind(("127.0.0.1", 0))
+        return probe.getsockname()[1]
+
+
+class Etcds:
+    """Etcds that are one cluster, each with a folder of its own."""
+
+    def __init__(self, folder, count=3):
+        self.folder = pathlib.Path(folder)
+        self.ports = [free_port() for _ in range(count)]
+        self.peers = [free_port() for _ in range(count)]
+        self.processes = [None] * count
+        for index in range(count):
+            self.start(index)
+        self.wait()
+
+    def start(self, index):
+        here, peer = (f"http://127.0.0.1:{ports[index]}" for ports in (self.ports, self.peers))
+        self.processes[index] = subprocess.Popen([
+            "etcd", "--name", f"e{index}", "--data-dir", self.folder / f"e{index}",
+            "--listen-client-urls", here, "--advertise-client-urls", here,
+            "--listen-peer-urls", peer, "--initial-advertise-peer-urls", peer,
+            "--initial-cluster", ",".join(f"e{i}=http://127.0.0.1:{port}" for i, port in enumerate(self.peers)),
+            "--logger", "zap", "--log-level", "fatal",
+        ], stderr=subprocess.DEVNULL)
+
+    def wait(self):
+        """Waits until all reply."""
+        for port in self.ports:
+            for _ in range(300):
+                try:
+                    self.client(port).get("x")
+                    break
+                except etcd3.exceptions.Etcd3Exception:
+                    time.sleep(0.1)
+            else:
+                raise TimeoutError("etcd doesn't start")
+
+    def client(self, port):
+        return etcd3.client(port=port, timeout=5, grpc_options=[("grpc.enable_http_proxy", 0)])
+
+    def any(self):
+        """Returns a client of one that replies."""
+        while True:
+            for port, process in zip(self.ports, self.processes):
+                if process is not None:
+                    client = self.client(port)
+                    try:
+                        client.get("x")
+                        return client
+                    except etcd3.exceptions.Etcd3Exception:
+                        client.close()
+            time.sleep(0.2)
+
+    def leader(self):
+        return int(self.any().status().leader.name[1:])
+
+    def kill(self, index):
+        self.signal(index, signal.SIGKILL)
+        self.processes[index].wait()
+
+    def signal(self, index, number):
+        self.processes[index].send_signal(number)
+
+    def end(self):
+        for process in self.processes:
+            process.send_signal(signal.SIGCONT)
+            process.kill()
+            process.wait()
+
+    def log(self, ports=None, name="test"):
+        """Returns how a relay is told of these."""
+        return "etcd://" + ",".join(f"127.0.0.1:{port}" for port in ports or self.ports) + f"/{name}"
+
+    def rows(self, session, name="test"):
+        """Returns the rows of a session that isn't closed: number, line and reply."""
+        client = self.any()
+        record, _ = client.get(f"{name}/open/{session}")
+        if record is None:
+            return None
+        id = record.decode().split('"id": "')[1].split('"')[0]
+        found = []
+        for value, about in client.get_prefix(f"{name}/lines/{id}/", sort_order="ascend"):
+            head, _, reply = value.partition(b"\n")
+            found.append((int(about.key.rpartition(b"/")[2]), head.partition(b" ")[2].decode(), reply.decode()))
+        return found
+
+
+class SlowNetwork:
+    """A port that hands on to another. What it is given while it holds back comes late, and nothing after it."""
+
+    def __init__(self, port):
+        self.target = port
+        self.listening = socket.create_server(("127.0.0.1", 0))
+        self.port = self.listening.getsockname()[1]
+        self.holding = False
+        self.kept = []
+        threading.Thread(target=self.accept, daemon=True).start()
+
+    def accept(self):
+        try:
+            while True:
+                near, _ = self.listening.accept()
+                far = socket.create_connection(("127.0.0.1", self.target))
+                threading.Thread(target=self.forth, args=(near, far), daemon=True).start()
+                threading.Thread(target=self.back, args=(far, near), daemon=True).start()
+        except OSError:
+            pass
+
+    def forth(self, near, far):
+        try:
+            while part := near.recv(1 << 16):
+                if self.holding:
+                    self.kept.append((far, part))
+                else:
+                    far.sendall(part)
+        except OSError:
+            pass
+
+    def back(self, far, near):
+        try:
+            while part := far.recv(1 << 16):
+                near.sendall(part)
+        except OSError:
+            pass
+
+    def hold_back(self):
+        self.holding = True
+
+    def freeze(self):
+        """Returns what has come so far, to be handed on later."""
+        kept, self.kept = self.kept, []
+        return kept
+
+    @staticmethod
+    def hand_on(kept):
+        for far, part in kept:
+            far.sendall(part)
+
+    def end(self):
+        self.listening.close()

@@ -1,0 +1,192 @@
+"""Several relays at one etcd: nothing is lost or done twice, whatever is killed, stopped or cut off."""
+
+import pathlib
+import re
+import signal
+import subprocess
+import tempfile
+import threading
+import time
+import unittest
+
+from tests.etcds import HAVE_ETCD, Etcds, SlowNetwork
+from tests.serving import HERE, SERVER, Client, alone, kill_programs, random_lines
+from tests.test_log import Designer, TeamCase, commands
+
+
+class Machine:
+    """A relay at a socket of its own, and its magicd."""
+
+    def __init__(self, folder, name, *words):
+        self.path = str(folder / name)
+        self.messages = open(folder / f"{name}.messages", "a+")
+        self.command = [HERE.parent / "relay", "--socket", self.path, "--server", SERVER, *words]
+        self.relay = None
+        self.start()
+
+    def start(self):
+        self.relay = subprocess.Popen(self.command, stderr=self.messages, start_new_session=True)
+
+    def wait(self):
+        for _ in range(400):
+            try:
+                client = Client(self.path)
+                replied = client.ask("?")
+                client.close()
+                if replied != [""]:
+                    return
+            except OSError:
+                time.sleep(0.05)
+        raise TimeoutError(self.said())
+
+    def said(self):
+        self.messages.seek(0)
+        return self.messages.read()
+
+    def kill(self):
+        kill_programs(self.relay)
+        self.relay.kill()
+        self.relay.wait()
+
+    def end(self):
+        """Ends the relay in order, and returns its status."""
+        self.relay.send_signal(signal.SIGCONT)
+        self.relay.send_signal(signal.SIGINT)
+        try:
+            return self.relay.wait(30)
+        finally:
+            self.relay.kill()
+            self.relay.wait()
+            self.messages.close()
+
+
+@unittest.skipUnless(HAVE_ETCD, "etcd-server or python3-etcd3 isn't installed")
+class EtcdCase(TeamCase):
+    """Three etcds, and as many relays as a test wants."""
+
+    @classmethod
+    def setUpClass(cls):
+        folder = tempfile.TemporaryDirectory()
+        cls.addClassCleanup(folder.cleanup)
+        cls.etcds = Etcds(folder.name)
+        cls.addClassCleanup(cls.etcds.end)
+
+    def setUp(self):
+        folder = tempfile.TemporaryDirectory()
+        self.addCleanup(folder.cleanup)
+        self.folder = pathlib.Path(folder.name)
+        # Each test has a log of its own.
+        self.name = re.sub(r"\W", "_", self.id().rpartition(".")[2])
+
+    def machine(self, name, log=None, *words):
+        machine = Machine(self.folder, name, "--log", log or self.etcds.log(name=self.name), *words)
+        self.addCleanup(machine.end)
+        machine.wait()
+        return machine
+
+    def client(self, machine):
+        client = Client(machine.path)
+        self.addCleanup(client.close)
+        return client
+
+    def rows(self, session):
+        return self.etcds.rows(session, self.name)
+
+    def resumed(self, client, line, seconds=30):
+        """Resumes once the session isn't in use any more, and returns the reply."""
+        for _ in range(seconds * 10):
+            reply = client.ask(line)[0]
+            if " in use" not in reply:
+                return reply
+            time.sleep(0.1)
+        self.fail(f"the session stays in use: {reply}")
+
+
+class SeveralRelays(EtcdCase):
+    def test_a_session_is_resumed_anywhere(self):
+        one, other = self.machine("one"), self.machine("other")
+        client, second = self.client(one), self.client(other)
+        lines = ["%open a", "a box 0 0 1 10", "a nonsense", "a paint poly", "%stat a", "a drc catchup", "a drc count"]
+        self.assertEqual(client.ask(*lines), alone(lines))
+        self.assertEqual(second.ask("%open a"), ["a refused open 1 open already"])
+        refused = second.ask("@resume a")[0]
+        self.assertRegex(refused, rf"a refused resume in use at .*:{one.path}$")
+        self.assertRegex(second.ask("@sessions")[0], r"@ sessions 1$")
+        self.assertRegex(second.replies.readline().decode(), rf"@ a in use at .*:{one.path}\n$")
+        client.close()
+        self.assertEqual(self.resumed(second, "@resume a 4"), "a resumed 5")
+        self.assertEqual(second.reply(), "@ 5 a count 10 errors 0 pending")
+        self.assertEqual(second.ask("a paint m1", "a what", "%close a", "@resume a"), [
+            "a ok", "a what 2 poly m1", "a closed", "a refused resume no such session",
+        ])
+        self.assertEqual(self.client(one).ask("%open a", "a what"), ["a opened", "a refused 3 no box"])
+        self.assertEqual(self.rows("a"), [(1, "a what", "a refused 3 no box\n")])
+
+    def test_many_lines_at_once(self):
+        """Batches stay below what etcd takes: hundreds of rows, and replies of four kilobytes."""
+        one = self.machine("one")
+        bars = [line for i in range(150) for line in (f"a box {2 * i} 0 {2 * i + 1} 90", "a paint m1")]
+        lines = ["%open a", *bars, *["a save"] * 600, *random_lines("a", 300, 5)]
+        self.assertEqual(self.client(one).ask(*lines), alone(lines))
+
+    def test_other_options(self):
+        self.machine("one")
+        command = [HERE.parent / "relay", "--socket", str(self.folder / "x"), "--log", self.etcds.log(name=self.name)]
+        refused = subprocess.run([*command, "--quota", "99"], stderr=subprocess.PIPE, text=True, timeout=30, check=False)
+        self.assertEqual(refused.returncode, 1)
+        self.assertIn("the log is of a server with other options", refused.stderr)
+
+    def test_a_relay_that_was_stopped(self):
+        """It can add nothing to a session that another has taken, nor has it a look at it.
+
+        An append that it had under way comes late, when the session is its own again. A relay that compared no more than
+        whether the session is its own would have it done twice.
+        """
+        slow = SlowNetwork(self.etcds.ports[0])
+        self.addCleanup(slow.end)
+        one = self.machine("one", self.etcds.log([slow.port, *self.etcds.ports[1:]], self.name))
+        other = self.machine("other", self.etcds.log(self.etcds.ports[1:], self.name))
+        client = self.client(one)
+        self.assertEqual(client.ask("%open a", "a box 0 0 4 4", "a paint poly"), ["a opened", "a ok", "a ok"])
+        slow.hold_back()
+        client.send("a erase poly")
+        time.sleep(0.5)
+        one.relay.send_signal(signal.SIGSTOP)
+        late = slow.freeze()
+        self.assertTrue(late)
+        client.send("%stat a", "a paint ndiff")
+        second = self.client(other)
+        self.assertEqual(self.resumed(second, "@resume a"), "a resumed 2")
+        self.assertEqual(second.ask("a paint m1"), ["a ok"])
+        second.close()
+        one.relay.send_signal(signal.SIGCONT)
+        for _ in range(3):
+            self.assertRegex(client.reply(), r"^a lost: ")
+        third = self.client(one)
+        self.assertEqual(self.resumed(third, "@resume a"), "a resumed 3")
+        slow.hand_on(late)
+        time.sleep(1)
+        self.assertEqual(third.ask("a what"), ["a what 2 poly m1"])
+        texts = ["a box 0 0 4 4", "a paint poly", "a paint m1", "a what"]
+        replies = alone(["%open a", *texts])[1:]
+        self.assertEqual(self.rows("a"), [(n + 1, text, f"{reply}\n") for n, (text, reply) in enumerate(zip(texts, replies))])
+
+    def test_an_etcd_that_is_cut_off(self):
+        """One etcd of three replies to nothing, and so the relay doesn't either: not even to a look."""
+        one = self.machine("one", self.etcds.log(self.etcds.ports[:1], self.name))
+        client = self.client(one)
+        client.ask("%open a", "a box 0 0 4 4")
+        for index in (1, 2):
+            self.etcds.signal(index, signal.SIGSTOP)
+        try:
+            time.sleep(1)
+            client.send("%stat a")
+            self.assertEqual(client.replies.readline(), b"@ waiting: the log doesn't reply\n")
+        finally:
+            for index in (1, 2):
+                self.etcds.signal(index, signal.SIGCONT)
+        self.assertRegex(client.reply(), r"^a stat 1 of|^a lost: ")
+
+
+if __name__ == "__main__":
+    unittest.main()
