@@ -2,12 +2,15 @@
 #
 #   magic% source clients/magic.tcl
 #   magic% kolasieve connect localhost:7777 NAME [TOKENFILE]
+#   magic% kolasieve connect one:7777,two:7777 NAME CERT KEY CA
 #
 # From then on each `paint` and `erase` in this window is sent to the server, with Magic's box. `kolasieve marks` shows the
 # marks of the session as feedback, with the rules behind them. Undo, moves, copies, labels and other cells aren't sent.
 
 namespace eval ::kolasieve {
-    variable socket {} host {} port {} name {} token {}
+    variable socket {} name {}
+    # Where relays are, the one that is connected to first; the token, and the options of a secured connection.
+    variable addresses {} token {} secured {}
     # The number of the last line that was answered, and the lines after it, which are sent again after a lost connection.
     variable answered 0 unanswered {}
     variable hooked 0
@@ -19,15 +22,29 @@ proc ::kolasieve::say {text} {
 
 # ---- the connection
 
-proc ::kolasieve::connect {address session {tokenfile {}}} {
-    variable host; variable port; variable name; variable token; variable answered; variable unanswered
-    if {![regexp {^(.*):(\d+)$} $address -> host port]} { error "an address is HOST:PORT" }
+proc ::kolasieve::connect {where session args} {
+    variable addresses; variable name; variable token; variable secured; variable answered; variable unanswered
+    set addresses {}
+    foreach address [split $where ,] {
+        if {![regexp {^(.*):(\d+)$} $address -> host port]} { error "an address is HOST:PORT" }
+        lappend addresses [list $host $port]
+    }
     set name $session
     set token {}
-    if {$tokenfile ne {}} {
-        set file [open $tokenfile]
-        set token [string trim [read $file]]
-        close $file
+    set secured {}
+    switch [llength $args] {
+        0 {}
+        1 {
+            set file [open [lindex $args 0]]
+            set token [string trim [read $file]]
+            close $file
+        }
+        3 {
+            package require tls
+            lassign $args certificate key authority
+            set secured [list -certfile $certificate -keyfile $key -cafile $authority -require 1]
+        }
+        default { error "a token's file, or a certificate, its key and the authority" }
     }
     set answered 0
     set unanswered {}
@@ -42,11 +59,23 @@ proc ::kolasieve::connect {address session {tokenfile {}}} {
     say $reply
 }
 
+# Connects to the first relay that is there. It is the last one to be tried next time.
 proc ::kolasieve::call {} {
-    variable socket; variable host; variable port; variable token
-    set socket [socket $host $port]
-    fconfigure $socket -translation lf -buffering line -encoding utf-8
-    if {$token ne {}} { puts $socket $token }
+    variable socket; variable addresses; variable token; variable secured
+    set fault "no address"
+    foreach address $addresses {
+        set addresses [list {*}[lrange $addresses 1 end] $address]
+        if {![catch {
+            set socket [expr {$secured eq {} ? [socket {*}$address] : [tls::socket {*}$secured {*}$address]}]
+            if {$secured ne {}} { tls::handshake $socket }
+        } fault]} {
+            fconfigure $socket -translation lf -buffering line -encoding utf-8
+            if {$token ne {}} { puts $socket $token }
+            return
+        }
+        hang_up
+    }
+    error $fault
 }
 
 proc ::kolasieve::hang_up {} {
@@ -63,7 +92,11 @@ proc ::kolasieve::ask {line {text {}}} {
     if {$socket eq {}} { error "the connection is lost" }
     puts $socket $line
     flush $socket
-    if {[gets $socket head] < 0} { error "the connection is lost" }
+    set head "@ waiting: "
+    while {[string match "@ waiting: *" $head]} {
+        if {[gets $socket head] < 0} { error "the connection is lost" }
+        if {[string match "@ waiting: *" $head]} { say $head }
+    }
     if {[regexp {^\w+ (saved|marked|uses|journal|resumed) (\d+)$} $head -> kind count] && $kind ne "resumed"} {
         for {set i 0} {$i < $count} {incr i} {
             if {[gets $socket one] < 0} { error "the connection is lost" }
@@ -83,7 +116,7 @@ proc ::kolasieve::resume {} {
 # Connects once more, and sends again what the log of the server lacks.
 proc ::kolasieve::again {} {
     variable name; variable answered; variable unanswered
-    for {set try 0} {$try < 20} {incr try} {
+    for {set try 0} {$try < 60} {incr try} {
         hang_up
         if {[catch {
             set seen $answered
@@ -107,7 +140,7 @@ proc ::kolasieve::do {args} {
     foreach command $args { lappend unanswered $command }
     set reply "$name ok"
     while {[llength $unanswered] > 0} {
-        if {[catch { set reply [ask "$name [lindex $unanswered 0]"] }]} {
+        if {[catch { set reply [ask "$name [lindex $unanswered 0]"] }] || [string match "$name lost: *" $reply]} {
             again
         } else {
             set unanswered [lrange $unanswered 1 end]
@@ -187,12 +220,12 @@ proc ::kolasieve::shut {} {
     hang_up
 }
 
-# kolasieve connect HOST:PORT NAME [TOKENFILE] | marks | close
+# kolasieve connect HOST:PORT,.. NAME [TOKENFILE | CERT KEY CA] | marks | close
 proc kolasieve {what args} {
     switch -- $what {
         connect { ::kolasieve::connect {*}$args }
         marks { ::kolasieve::marks }
         close { ::kolasieve::shut }
-        default { error "kolasieve connect HOST:PORT NAME ?TOKENFILE?, kolasieve marks, kolasieve close" }
+        default { error "kolasieve connect HOST:PORT,.. NAME ?TOKENFILE | CERT KEY CA?, kolasieve marks, kolasieve close" }
     }
 }

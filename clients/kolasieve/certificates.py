@@ -11,7 +11,9 @@ class CertificateFault(Exception):
 
 
 class Handshake(ssl.SSLObject):
-    """A connection's handshake, which is logged where it is refused."""
+    """A handshake that is logged where it is refused, and whose other end gets the alert that says why."""
+
+    refused = False
 
     def do_handshake(self):
         try:
@@ -19,8 +21,17 @@ class Handshake(ssl.SSLObject):
         except (ssl.SSLWantReadError, ssl.SSLWantWriteError):
             raise
         except ssl.SSLError as fault:
-            log.warning("a connection is refused: %s", getattr(fault, "verify_message", None) or fault.reason)
-            raise
+            if self.refused:
+                raise
+            self.refused = True
+            log.warning("a connection is refused: %s", reason(fault))
+            # asyncio sends what is there to be sent, the alert, only where a handshake waits for more. None comes.
+            raise ssl.SSLWantReadError from None
+
+
+def reason(fault):
+    """Returns why a handshake was refused, as OpenSSL has it."""
+    return getattr(fault, "verify_message", None) or fault.reason.lower().replace("_", " ")
 
 
 def of_server(certificate, key, clients):

@@ -12,6 +12,9 @@ from kolasieve.session import Unplayed
 # How many lines may wait for their replies.
 MOST_UNANSWERED = 1000
 
+# The line that ends a connection, once all lines before it are replied to.
+END = b"@quit"
+
 # How many bytes of replies may be unread while lines are handed on.
 MOST_UNREAD = 1 << 20
 
@@ -36,7 +39,7 @@ class Connection:
         writing = asyncio.create_task(self.write_replies())
         try:
             if await self.may_come_in():
-                while (text := await self.next_line()) is not None:
+                while (text := await self.next_line()) not in (None, END):
                     await self.take(Line.of(text))
         except (ConnectionError, BrokenPipeError):
             pass
