@@ -5,22 +5,21 @@ import re
 import signal
 import subprocess
 import tempfile
-import threading
 import time
 import unittest
 
 from tests.etcds import HAVE_ETCD, Etcds, SlowNetwork
 from tests.serving import HERE, SERVER, Client, alone, kill_programs, random_lines
-from tests.test_log import Designer, TeamCase, commands
+from tests.test_log import TeamCase
 
 
 class Machine:
-    """A relay at a socket of its own, and its magicd."""
+    """A relay, at a socket of its own unless told, and its magicd."""
 
-    def __init__(self, folder, name, *words):
+    def __init__(self, folder, name, *words, where=None):
         self.path = str(folder / name)
-        self.messages = open(folder / f"{name}.messages", "a+")
-        self.command = [HERE.parent / "relay", "--socket", self.path, "--server", SERVER, *words]
+        self.messages = open(folder / f"{name}.messages", "a+", encoding="utf-8")
+        self.command = [HERE.parent / "relay", *(where or ["--socket", self.path]), "--server", SERVER, *words]
         self.relay = None
         self.start()
 

@@ -18,10 +18,12 @@ from tests.serving import Client, RelayCase, alone, random_lines
 class Designer:
     """A client that comes back: it sends its lines one after another, and resumes its session where the relay is gone."""
 
-    def __init__(self, addresses, name, lines, tls=None, patience=60):
+    def __init__(self, addresses, name, lines, tls=None, patience=60, pause=0):
         self.addresses = itertools.cycle(addresses)
         self.name, self.lines = name, lines
         self.tls, self.patience = tls, patience
+        # How long it thinks before a line, at most, in seconds.
+        self.pause = pause
         self.replies = {}
         self.client = None
 
@@ -32,6 +34,7 @@ class Designer:
                 if self.client is None:
                     number = self.come_back(number)
                     continue
+                time.sleep(random.uniform(0, self.pause))
                 reply = self.client.ask(f"{self.name} {self.lines[number]}")[0]
                 if not reply or reply.startswith(f"{self.name} lost: "):
                     raise ConnectionError(reply)
