@@ -28,6 +28,9 @@ REFUSALS = (
     grpc.StatusCode.UNIMPLEMENTED,
 )
 
+# One of these means that it is to be made again.
+BUSY = "too many requests"
+
 # A channel looks for its etcd again at least once a second, and takes a page of rows.
 CHANNEL = (
     ("grpc.initial_reconnect_backoff_ms", 100),
@@ -100,7 +103,7 @@ class Etcd:
             try:
                 reply = await getattr(self.addresses[asked], name)(request)
             except grpc.aio.AioRpcError as fault:
-                if fault.code() in REFUSALS:
+                if fault.code() in REFUSALS and BUSY not in (fault.details() or ""):
                     raise LogFault(f"etcd: {fault.details()}") from None
                 self.goes_on(asked, fault)
                 await asyncio.sleep(PAUSE)

@@ -18,17 +18,13 @@ import secrets
 import time
 
 from kolasieve.etcd import Etcd, after, created_at, delete, has_value, look, put
-from kolasieve.log import Held, Log, LogFault, Record, Row, Unavailable, kept, settle
+from kolasieve.etcd_held import LEASE, HeldInEtcd, fitting, row
+from kolasieve.log import Log, LogFault, Record, Row, Unavailable
 
 log = logging.getLogger("relay")
 
-# How long a relay keeps its sessions where it doesn't reach etcd, in seconds, and how often it says that it is there.
-LEASE = 5
+# How often a relay says that it is there, in seconds.
 RENEWAL = 1
-
-# etcd takes 128 operations and 1.5 megabytes in a transaction.
-MOST_ROWS = 100
-MOST_BYTES = 1 << 20
 
 PREFIX = "kolasieve"
 
@@ -44,15 +40,18 @@ class EtcdLog(Log):
         self.lease = 0
         self.leased = asyncio.Event()
         self.held = set()
+        # Keys of sessions that were left, while they are deleted.
+        self.leaving = set()
         self.keeping = None
 
     @classmethod
     async def start(cls, addresses, secured, options, place, prefix=PREFIX):
-        """Begins to use a log of these options, or, without any, one that is there."""
+        """Begins to use a log of these options, or, without any, one that is there. Only who has a place can hold sessions."""
         started = cls(Etcd(addresses, secured), prefix, options, place)
         started.etcd.on_silence = lambda: started.on_silence()
         await started.keep_options()
-        started.keeping = asyncio.create_task(started.keep_lease())
+        if place is not None:
+            started.keeping = asyncio.create_task(started.keep_lease())
         return started
 
     def key(self, *parts):
@@ -77,7 +76,12 @@ class EtcdLog(Log):
     async def keep_lease(self):
         """Has a lease at all times that etcd is there; what was held under one that has ended is lost."""
         while True:
-            self.lease = await self.etcd.grant(LEASE)
+            try:
+                self.lease = await self.etcd.grant(LEASE)
+            except LogFault as fault:
+                log.warning("no lease: %s", fault)
+                await asyncio.sleep(RENEWAL)
+                continue
             self.leased.set()
             await self.renew_lease()
             log.warning("the lease has ended: %d sessions are let go", len(self.held))
@@ -161,16 +165,18 @@ class EtcdLog(Log):
     async def lines(self, id):
         return [as_row(each) for each in await self.etcd.get_all(self.key("lines", id, ""))]
 
-    def row(self, id, number, at, line, reply):
-        return put(self.key("lines", id, f"{number:010d}"), b"%.3f %s\n%s" % (at, line, reply))
+    def row_key(self, id, number):
+        return self.key("lines", id, f"{number:010d}")
 
-    async def bring(self, record, rows):
+    async def bring(self, record, owner, rows):
         """Keeps the rows first: without a record nobody sees them."""
         id = new_id(record.name)
-        puts = [self.row(id, row.number, row.at, row.line, row.reply) for row in rows]
-        for start in range(0, len(puts), MOST_ROWS):
-            await self.etcd.transact([self.same_options()], puts[start : start + MOST_ROWS])
-        value = {"id": id, "owner": record.owner, "opened": record.opened}
+        puts = [row(self.row_key(id, each.number), each.at, each.line, each.reply) for each in rows]
+        while puts:
+            count = fitting(puts)
+            await self.etcd.transact([self.same_options()], puts[:count])
+            del puts[:count]
+        value = {"id": id, "owner": owner, "opened": record.opened}
         key = self.key("open", record.name)
         if record.closed is not None:
             key = self.key("closed", id)
@@ -183,111 +189,6 @@ class EtcdLog(Log):
     async def remove(self, record):
         prefix = self.key("lines", record.id, "")
         await self.etcd.transact([], [delete(prefix, after(prefix)), delete(self.key("closed", record.id))])
-
-
-class HeldInEtcd(Held):
-    """A session for which this relay has made the key `held`.
-
-    All that waits goes into one transaction while the one before is under way. One whose outcome is unknown is made again,
-    unchanged, before any later one: a row's key is its number, so it is there once.
-    """
-
-    def __init__(self, log, name, record, revision):
-        super().__init__()
-        self.log = log
-        self.name = name
-        self.record = record
-        self.key = log.key("held", record["id"])
-        self.mine = created_at(self.key, revision)
-        # Rows, or None where it is only to be certain that the session is held, and the future of each.
-        self.waiting = []
-        self.under_way = []
-        self.writing = None
-        log.held.add(self)
-
-    def add(self, number, line, reply):
-        return self.queue(self.log.row(self.record["id"], number, time.time(), line, kept(reply)))
-
-    def confirm(self):
-        return self.queue(None)
-
-    def queue(self, row):
-        done = asyncio.get_running_loop().create_future()
-        if self.lost.done():
-            done.set_exception(LogFault(self.lost.result()))
-            return done
-        self.waiting.append((row, done))
-        if self.writing is None:
-            self.writing = asyncio.create_task(self.write_all())
-        return done
-
-    async def write_all(self):
-        while self.waiting:
-            self.under_way = self.next_batch()
-            del self.waiting[: len(self.under_way)]
-            rows = [row for row, _ in self.under_way if row is not None]
-            try:
-                reply = await self.log.etcd.transact([self.mine], rows or [look(self.key)])
-            except LogFault as fault:
-                self.lose(str(fault))
-                return
-            if not reply.succeeded:
-                self.lose("another relay has it")
-                return
-            for _, done in self.under_way:
-                settle(done)
-        self.writing = None
-
-    def next_batch(self):
-        size = 0
-        for count, (row, _) in enumerate(self.waiting):
-            size += 0 if row is None else row.ByteSize()
-            if count == MOST_ROWS or (count > 0 and size > MOST_BYTES):
-                return self.waiting[:count]
-        return self.waiting[:]
-
-    def lose(self, why):
-        """The relay doesn't hold the session any more, or not for certain: nothing that waits is passed on."""
-        if self.lost.done():
-            return
-        self.lost.set_result(why)
-        self.log.held.discard(self)
-        if self.writing is not None:
-            self.writing.cancel()
-        for _, done in self.under_way + self.waiting:
-            settle(done, fault=LogFault(why))
-
-    async def lines(self):
-        # What was queued before is durable then, and what another relay had under way can't become durable any more.
-        await self.confirm()
-        return await self.unless_lost(self.log.lines(self.record["id"]))
-
-    async def close(self):
-        closed = self.log.key("closed", self.record["id"])
-        value = json.dumps(self.record | {"name": self.name.decode(), "closed": time.time()}).encode()
-        reply = await self.unless_lost(self.log.etcd.transact(
-            [self.mine], [delete(self.log.key("open", self.name)), delete(self.key), put(closed, value)], [look(closed)]
-        ))
-        if not reply.succeeded and [each.value for each in reply.responses[0].response_range.kvs] != [value]:
-            raise LogFault("another relay has it")
-        self.log.held.discard(self)
-
-    async def leave(self):
-        try:
-            await self.unless_lost(self.log.etcd.transact([self.mine], [delete(self.key)]))
-        except LogFault:
-            # The key is another relay's, or goes with its lease.
-            pass
-        self.log.held.discard(self)
-
-    async def unless_lost(self, call):
-        """Waits for a call, but no longer than the relay holds the session."""
-        calling = asyncio.ensure_future(call)
-        await asyncio.wait([calling, self.lost], return_when=asyncio.FIRST_COMPLETED)
-        if not calling.done():
-            calling.cancel()
-            raise LogFault(self.lost.result())
-        return calling.result()
 
 
 def new_id(name):

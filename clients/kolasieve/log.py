@@ -75,8 +75,8 @@ class Log(abc.ABC):
         """Returns the rows of a session, by their numbers."""
 
     @abc.abstractmethod
-    async def bring(self, record, rows):
-        """Keeps a session of another log, whole. Fails where this one has its name or its number."""
+    async def bring(self, record, owner, rows):
+        """Keeps a session of another log, whole, as this owner's. Fails where this log has its name open or left."""
 
     @abc.abstractmethod
     async def remove(self, record):

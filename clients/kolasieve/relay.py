@@ -121,8 +121,8 @@ class Relay:
         """Makes a left session again for a connection. Returns the reply, and the rows after those that were seen."""
         if self.log is None:
             raise Unplayed("no such session")
-        if name in self.sessions:
-            raise Unplayed(self.in_use() if self.sessions[name].owner == user.owner else "another's session")
+        if (other := self.sessions.get(name)) is not None:
+            raise Unplayed("another's session" if other.held and other.owner != user.owner else self.in_use())
         session = self.sessions[name] = Session(name, user.owner, self, user=user)
         try:
             session.hold(await self.log.take(name, user.owner))
@@ -149,7 +149,8 @@ class Relay:
             for record in await self.log.sessions():
                 if owner in (None, record.owner):
                     states[record.name] = f"in use at {record.place}" if record.place else "left"
-        states |= {each.name: self.in_use() for each in self.sessions.values() if owner in (None, each.owner)}
+        here = [each for each in self.sessions.values() if self.log is None or each.held is not None]
+        states |= {each.name: self.in_use() for each in here if owner in (None, each.owner)}
         return dict(sorted(states.items()))
 
     async def leave(self, session):

@@ -40,7 +40,7 @@ class SqliteLog(Log):
     """
 
     def __init__(self, path, options=None):
-        """Opens a log of these options, or, without any, one that is there."""
+        """Opens a log of these options, made where there is none, or, without any, one that is there."""
         self.path = path
         try:
             self.lock = open(path, "ab" if options is not None else "rb")
@@ -135,11 +135,11 @@ class SqliteLog(Log):
             raise Unavailable("another's session")
         return HeldInFile(self, found.id)
 
-    async def bring(self, record, rows):
+    async def bring(self, record, owner, rows):
         if record.closed is None and self.find(record.name) is not None:
             raise Unavailable("open already")
         await self.write(
-            (OPEN, (record.name, record.owner, record.opened, record.closed)),
+            (OPEN, (record.name, owner, record.opened, record.closed)),
             *((ADD_TO_LAST, (row.number, row.at, row.line, row.reply)) for row in rows),
         )
 

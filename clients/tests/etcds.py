@@ -25,8 +25,10 @@ def free_port():
 class Etcds:
     """Etcds that are one cluster, each with a folder of its own."""
 
-    def __init__(self, folder, count=3):
+    def __init__(self, folder, count=3, tls=None):
         self.folder = pathlib.Path(folder)
+        # The certificate of all of them, its key and the authority.
+        self.tls = tls
         self.ports = [free_port() for _ in range(count)]
         self.peers = [free_port() for _ in range(count)]
         self.processes = [None] * count
@@ -35,14 +37,21 @@ class Etcds:
         self.wait()
 
     def start(self, index):
-        here, peer = (f"http://127.0.0.1:{ports[index]}" for ports in (self.ports, self.peers))
+        here, peer = (f"http{'s' * bool(self.tls)}://127.0.0.1:{ports[index]}" for ports in (self.ports, self.peers))
         self.processes[index] = subprocess.Popen([
             "etcd", "--name", f"e{index}", "--data-dir", self.folder / f"e{index}",
             "--listen-client-urls", here, "--advertise-client-urls", here,
             "--listen-peer-urls", peer, "--initial-advertise-peer-urls", peer,
-            "--initial-cluster", ",".join(f"e{i}=http://127.0.0.1:{port}" for i, port in enumerate(self.peers)),
-            "--logger", "zap", "--log-level", "fatal",
+            "--initial-cluster", ",".join(f"e{i}={peer.rpartition(':')[0]}:{port}" for i, port in enumerate(self.peers)),
+            "--logger", "zap", "--log-level", "fatal", *self.secured(),
         ], stderr=subprocess.DEVNULL)
+
+    def secured(self):
+        if self.tls is None:
+            return []
+        certificate, key, authority = self.tls
+        own = ["--cert-file", certificate, "--key-file", key, "--trusted-ca-file", authority, "--client-cert-auth"]
+        return own + [word.replace("--", "--peer-", 1) if word.startswith("--") else word for word in own]
 
     def wait(self):
         """Waits until all reply."""
@@ -57,7 +66,8 @@ class Etcds:
                 raise TimeoutError("etcd doesn't start")
 
     def client(self, port):
-        return etcd3.client(port=port, timeout=5, grpc_options=[("grpc.enable_http_proxy", 0)])
+        tls = dict(zip(("cert_cert", "cert_key", "ca_cert"), self.tls or ()))
+        return etcd3.client("127.0.0.1", port, timeout=5, grpc_options=[("grpc.enable_http_proxy", 0)], **tls)
 
     def any(self):
         """Returns a client of one that replies."""

@@ -8,6 +8,7 @@ import tempfile
 import time
 import unittest
 
+from tests.certificates import HAVE_OPENSSL, Team
 from tests.etcds import HAVE_ETCD, Etcds, SlowNetwork
 from tests.serving import HERE, SERVER, Client, alone, kill_programs, random_lines
 from tests.test_log import TeamCase
@@ -185,6 +186,31 @@ class SeveralRelays(EtcdCase):
             for index in (1, 2):
                 self.etcds.signal(index, signal.SIGCONT)
         self.assertRegex(client.reply(), r"^a stat 1 of|^a lost: ")
+
+
+@unittest.skipUnless(HAVE_ETCD and HAVE_OPENSSL, "etcd-server, python3-etcd3 or openssl isn't installed")
+class SecuredEtcd(unittest.TestCase):
+    def test_certificates_for_etcd(self):
+        team, strangers = Team(type(self)), Team(type(self))
+        folder = pathlib.Path(team.folder)
+        etcds = Etcds(folder, 1, team.machine())
+        self.addCleanup(etcds.end)
+        words = ("--log", etcds.log(), "--etcd-tls")
+        machine = Machine(folder, "one", *words, *team.make("one", "127.0.0.1"))
+        self.addCleanup(machine.end)
+        machine.wait()
+        client = Client(machine.path)
+        self.addCleanup(client.close)
+        self.assertEqual(client.ask("%open a", "a box 0 0 4 4", "a what"), ["a opened", "a ok", "a what 0"])
+        self.assertEqual(len(etcds.rows("a")), 2)
+        stranger = Machine(folder, "two", *words, *strangers.make("one", "127.0.0.1")[:2], team.machine()[2])
+        self.addCleanup(stranger.end)
+        for _ in range(100):
+            if "no etcd replies" in stranger.said():
+                break
+            time.sleep(0.1)
+        self.assertIn("no etcd replies", stranger.said())
+        self.assertNotIn("listening", stranger.said())
 
 
 if __name__ == "__main__":
