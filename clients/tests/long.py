@@ -4,13 +4,17 @@ Prints a table for docs/CLIENTS.md. They take some minutes.
 """
 
 import asyncio
+import os
+import random
 import statistics
 import sys
 import time
 import unittest
 
-from tests.serving import RelayCase, alone, random_lines
+from tests.serving import RelayCase, alone, programs, random_lines
+from tests.test_etcd import EtcdCase
 from tests.test_log import LoggedCase, commands
+from tests.test_machines import MachinesCase
 
 CLIENTS = 64
 LINES = 1000
@@ -34,46 +38,93 @@ async def ask_each(path, name, lines, times):
     return replies
 
 
-def report(what, times):
-    times.sort()
-    print(f"| {what} | {statistics.median(times) * 1e3:.2f} | {times[len(times) * 99 // 100] * 1e3:.2f} |", flush=True)
+def fields_of(pids):
+    """Returns the fields of /proc/PID/stat behind the command's name."""
+    for pid in pids:
+        with open(f"/proc/{pid}/stat", encoding="utf-8") as file:
+            yield file.read().rpartition(")")[2].split()
+
+
+def processor_time(processes):
+    """Returns how many seconds of a processor these have used."""
+    return sum(sum(map(int, fields[11:13])) for fields in processes) / os.sysconf("SC_CLK_TCK")
 
 
 class Many:
     """64 clients with 1,000 random lines each at once."""
 
-    def check_many(self, what):
-        scripts = {f"s{i}": [f"%open s{i}", *random_lines(f"s{i}", LINES, i)] for i in range(CLIENTS)}
+    def relays(self):
+        """Returns the relays, as processes and the sockets that they listen at."""
+        return [(self.relay, self.path)]
+
+    def others(self):
+        """Returns processes whose time is reported beside that of the relays."""
+        return []
+
+    def measure(self, what, clients):
+        scripts = [[f"%open s{i}", *random_lines(f"s{i}", LINES, i)] for i in range(clients)]
+        relays = self.relays()
         times = []
+        parts = [[relay.pid for relay, _ in relays], [pid for relay, _ in relays for pid in programs(relay)], self.others()]
+        before = [processor_time(fields_of(pids)) for pids in parts]
 
         async def run():
-            return await asyncio.gather(*(ask_each(self.path, name, lines, times) for name, lines in scripts.items()))
+            return await asyncio.gather(*(
+                ask_each(relays[i % len(relays)][1], f"s{i}", lines, times) for i, lines in enumerate(scripts)
+            ))
 
-        for lines, replies in zip(scripts.values(), asyncio.run(run())):
+        start = time.perf_counter()
+        found = asyncio.run(run())
+        seconds = time.perf_counter() - start
+        used = [processor_time(fields_of(pids)) - earlier for pids, earlier in zip(parts, before)]
+        for lines, replies in zip(scripts, found):
             self.assertEqual(replies, alone(lines))
-        report(what, times)
+        times.sort()
+        count = len(times)
+        figures = [
+            f"{statistics.median(times) * 1e3:.2f}", f"{times[count * 99 // 100] * 1e3:.2f}", f"{count / seconds:.0f}",
+            *(f"{each / count * 1e3:.2f}" for each in used),
+        ]
+        print(f"| {what} | {' | '.join(figures)} |", flush=True)
+
+    def test_many(self):
+        self.measure(f"64 clients at once, {self.what}", CLIENTS)
+
+    def test_one(self):
+        self.measure(f"one client, {self.what}", 1)
 
 
 class WithoutLog(Many, RelayCase):
-    def test_many(self):
-        self.check_many("64 clients at once, without a log")
+    what = "without a log"
 
-    def test_one(self):
-        times = []
-        lines = ["%open a", *random_lines("a", LINES, 1)]
-        self.assertEqual(asyncio.run(ask_each(self.path, "a", lines, times)), alone(lines))
-        report("one client, without a log", times)
+
+class WithEtcd(Many, EtcdCase):
+    what = "three etcds"
+
+    def setUp(self):
+        super().setUp()
+        self.machines = [self.machine("one")]
+
+    def relays(self):
+        return [(machine.relay, machine.path) for machine in self.machines]
+
+    def others(self):
+        return [process.pid for process in self.etcds.processes]
+
+    def test_two_relays(self):
+        self.machines.append(self.machine("two"))
+        self.measure("64 clients at two relays, three etcds", CLIENTS)
+
+
+class Machines(MachinesCase):
+    def test_failures(self):
+        """30 failures, at random."""
+        done = self.check_failures(random.choices(self.FAILURES, k=30), lines=1500, pause=0.3)
+        print(*done, sep="\n", flush=True)
 
 
 class WithLog(Many, LoggedCase):
-    def test_many(self):
-        self.check_many("64 clients at once, with a log")
-
-    def test_one(self):
-        times = []
-        lines = ["%open a", *random_lines("a", LINES, 1)]
-        self.assertEqual(asyncio.run(ask_each(self.path, "a", lines, times)), alone(lines))
-        report("one client, with a log", times)
+    what = "SQLite"
 
     def test_killed(self):
         self.check_killed(designers=16, lines=1000, kills=30)
@@ -93,5 +144,6 @@ class WithLog(Many, LoggedCase):
 
 
 if __name__ == "__main__":
-    print("| a reply | median, ms | 99th of a hundred, ms |\n|---|---|---|", flush=True)
+    print("| a reply | median, ms | 99th of a hundred, ms | lines a second | ms of a processor a line: relay | magicd | etcd |")
+    print("|---|---|---|---|---|---|---|", flush=True)
     sys.exit(not unittest.main(exit=False).result.wasSuccessful())

@@ -118,15 +118,25 @@ class RelayCase(unittest.TestCase):
             self.assertEqual(self.relay.wait(30), 0)
 
 
-def kill_programs(relay):
-    """Kills each magicd of a relay."""
+def programs(relay):
+    """Returns the number of each magicd of a relay."""
+    found = []
     for folder in pathlib.Path("/proc").iterdir():
         try:
             # The fields behind the command's name, which may have blanks itself: state, parent, ..
             fields = (folder / "stat").read_text().rpartition(")")[2].split()
             if folder.name.isdigit() and int(fields[1]) == relay.pid:
-                os.kill(int(folder.name), signal.SIGKILL)
+                found.append(int(folder.name))
         except (OSError, IndexError):
+            pass
+    return found
+
+
+def kill_programs(relay):
+    for number in programs(relay):
+        try:
+            os.kill(number, signal.SIGKILL)
+        except ProcessLookupError:
             pass
 
 
