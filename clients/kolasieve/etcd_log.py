@@ -18,7 +18,8 @@ import secrets
 import time
 
 from kolasieve.etcd import Etcd, after, created_at, delete, has_value, look, put
-from kolasieve.etcd_held import LEASE, HeldInEtcd, fitting, row
+from kolasieve.etcd_held import LEASE, HeldInEtcd
+from kolasieve.etcd_writes import Writes, fitting, row
 from kolasieve.log import Log, LogFault, Record, Row, Unavailable
 
 log = logging.getLogger("relay")
@@ -40,6 +41,7 @@ class EtcdLog(Log):
         self.lease = 0
         self.leased = asyncio.Event()
         self.held = set()
+        self.writes = Writes(etcd)
         # Keys of sessions that were left, while they are deleted.
         self.leaving = set()
         self.keeping = None
