@@ -44,7 +44,8 @@ class MachinesCase(EtcdCase):
         files = self.team.make("haproxy")[:2]
         (self.team.folder / "haproxy.pem").write_text("".join(pathlib.Path(file).read_text() for file in files))
         text = (HERE.parent / "haproxy.cfg").read_text()
-        text = text.replace("bind :7700", f"bind 127.0.0.1:{self.port}").replace("/etc/kolasieve", str(self.team.folder))
+        text = text.replace("bind :7700", f"bind 127.0.0.1:{self.port}")
+        text = text.replace("machines/ca.crt", f"{self.team.folder}/ca.crt").replace("team/", f"{self.team.folder}/")
         ports = iter(self.ports)
         text = re.sub(r"10\.0\.0\.\d:7777", lambda _: f"127.0.0.1:{next(ports)}", text)
         (self.folder / "haproxy.cfg").write_text(text)
