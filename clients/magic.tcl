@@ -226,6 +226,6 @@ proc kolasieve {what args} {
         connect { ::kolasieve::connect {*}$args }
         marks { ::kolasieve::marks }
         close { ::kolasieve::shut }
-        default { error "kolasieve connect HOST:PORT,.. NAME ?TOKENFILE | CERT KEY CA?, kolasieve marks, kolasieve close" }
+        default { error "kolasieve connect HOST:PORT,.. NAME ?TOKENFILE | CERT KEY CA? | marks | close" }
     }
 }

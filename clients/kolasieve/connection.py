@@ -2,12 +2,15 @@
 
 import asyncio
 import hmac
+import logging
 import re
 
 from kolasieve.lines import LONGEST_LINE, Line, fault_of
 from kolasieve.log import LogFault
 from kolasieve.program import Ended
 from kolasieve.session import Unplayed
+
+log = logging.getLogger("relay")
 
 # How many lines may wait for their replies.
 MOST_UNANSWERED = 1000
@@ -67,7 +70,7 @@ class Connection:
                 return (kept + (await self.reader.readuntil(b"\n"))[:-1])[:LONGEST_LINE]
             except asyncio.LimitOverrunError as overrun:
                 kept = (kept + await self.reader.readexactly(overrun.consumed))[:LONGEST_LINE]
-            except asyncio.IncompleteReadError as end:
+            except asyncio.IncompleteReadError:
                 # A line that the connection's end has cut isn't done: nobody knows the rest.
                 return None
 
@@ -118,6 +121,7 @@ class Connection:
         try:
             return await self.relay.resume(name, self, None if seen is None else int(seen))
         except Unplayed as fault:
+            log.info("session %s is refused to %s: %s", name.decode(), self.owner, fault)
             return b"%s refused resume %s\n" % (name, str(fault).encode())
 
     async def list_sessions(self):

@@ -28,7 +28,8 @@ class HeldInEtcd(Held):
         in_log.held.add(self)
 
     def add(self, number, line, reply):
-        return self.log.writes.queue(self, row(self.log.row_key(self.record["id"], number), time.time(), line, kept(reply)))
+        key = self.log.row_key(self.record["id"], number)
+        return self.log.writes.queue(self, row(key, time.time(), line, kept(reply)))
 
     def confirm(self):
         return self.log.writes.queue(self, None)

@@ -6,9 +6,9 @@
     PREFIX/held/ID          which relay has the session in use: a key under the relay's lease
     PREFIX/lines/ID/NUMBER  a row: when, the line, and the reply below it
 
-A relay that takes a session first makes the key `held`, and reads the rows then. Each transaction for the session compares
-the revision at which that key was made. So once another relay has made the key, the one before it can add nothing, and what
-the new one reads is all that there will be. No clock matters.
+A relay that takes a session first makes the key `held`, and reads the rows then. Each transaction for the session
+compares the revision at which that key was made. So once another relay has made the key, the one before it can add
+nothing, and what the new one reads is all that there will be. No clock matters.
 """
 
 import asyncio
@@ -48,7 +48,10 @@ class EtcdLog(Log):
 
     @classmethod
     async def start(cls, addresses, secured, options, place, prefix=PREFIX):
-        """Begins to use a log of these options, or, without any, one that is there. Only who has a place can hold sessions."""
+        """Begins to use a log of these options, or, without any, one that is there.
+
+        Only who has a place can hold sessions.
+        """
         started = cls(Etcd(addresses, secured), prefix, options, place)
         started.etcd.on_silence = lambda: started.on_silence()
         await started.keep_options()
@@ -157,9 +160,8 @@ class EtcdLog(Log):
             prefix = self.key("closed", "")
             return [Record(**as_record(each, prefix)) for each in await self.etcd.get_all(prefix)]
         prefix = self.key("held", "")
-        places = {
-            each.key[len(prefix) :].decode(): json.loads(each.value)["place"] for each in await self.etcd.get_all(prefix)
-        }
+        held = await self.etcd.get_all(prefix)
+        places = {each.key[len(prefix) :].decode(): json.loads(each.value)["place"] for each in held}
         prefix = self.key("open", "")
         records = [as_record(each, prefix) for each in await self.etcd.get_all(prefix)]
         return [Record(**each, place=places.get(each["id"])) for each in records]

@@ -38,8 +38,8 @@ class Waiting:
 class Writes:
     """All that waits goes into one transaction while the one before is under way.
 
-    A transaction compares for each session in it that the relay still holds it. One whose outcome is unknown is made again,
-    unchanged, before any later one: a row's key is its number, so it is there once.
+    A transaction compares for each session in it that the relay still holds it. One whose outcome is unknown is made
+    again, unchanged, before any later one: a row's key is its number, so it is there once.
     """
 
     def __init__(self, etcd):

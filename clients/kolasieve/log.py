@@ -102,7 +102,7 @@ class Held(abc.ABC):
 
     @abc.abstractmethod
     def confirm(self):
-        """Returns a future that has a result once it is certain that the relay held the session after this call began."""
+        """Returns a future that has a result once it is certain that the relay held the session after this call."""
 
     @abc.abstractmethod
     async def lines(self):

@@ -9,7 +9,7 @@ ETCD = re.compile(r"etcd://([^/,]+:[0-9]+(?:,[^/,]+:[0-9]+)*)(?:/([A-Za-z0-9_]+)
 
 
 async def open_log(where, options=None, tls=None, place=None):
-    """Opens the log at FILE or etcd://HOST:PORT,..[/NAME] for a relay with these options, or, without any, one that is there."""
+    """Opens the log at FILE or etcd://HOST:PORT,..[/NAME] with these options, or, without any, one that is there."""
     if not where.startswith("etcd://"):
         return SqliteLog(where, options)
     found = ETCD.match(where)

@@ -25,7 +25,7 @@ HTML = pathlib.Path(__file__).with_name("page.html")
 class Page:
     """Looks at sessions, and changes none: its lines are `%stat`, `%marks` and `%why`.
 
-    On the loopback address it shows all sessions to who has the token; with certificates, each designer's to that designer.
+    On the loopback address it shows all sessions to who has the token; with certificates, to each designer his own.
     """
 
     def __init__(self, relay, token, tls=None):
@@ -53,7 +53,7 @@ class Page:
 
     @web.middleware
     async def guard(self, request, handler):
-        """Lets in only who has the token, by a name of this machine, or a certificate; and scripts of this page alone."""
+        """Lets in who has a certificate, or the token by a name of this machine; and scripts of this page alone."""
         here = {request.host}
         if self.tls is None:
             here = {f"127.0.0.1:{self.port}", f"localhost:{self.port}"}

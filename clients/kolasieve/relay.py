@@ -143,7 +143,7 @@ class Relay:
         return f"in use at {place}" if place else "in use"
 
     async def states(self, owner=None):
-        """Returns the names of this owner's sessions, or of all, and of each whether it is left or in use, and where."""
+        """Returns whether each of this owner's sessions, or of all, is left or in use, and where; by name."""
         states = {}
         if self.log is not None:
             for record in await self.log.sessions():

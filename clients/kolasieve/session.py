@@ -28,8 +28,8 @@ class Asked:
 class Session:
     """A session that is in use at this relay.
 
-    Its lines are answered in their order. A command that its journal has is durable before its reply is passed on; any other
-    reply is passed on once it is certain that the relay still held the session when it came.
+    Its lines are answered in their order. A command that its journal has is durable before its reply is passed on; any
+    other reply is passed on once it is certain that the relay still held the session when it came.
     """
 
     name: bytes
@@ -131,7 +131,7 @@ class Session:
     # ---- making a session again
 
     async def restore(self):
-        """Opens the session in a magicd, plays its rows and returns them. Fails where a reply differs from the log's."""
+        """Opens the session in a magicd, plays its rows and returns them. Fails where a reply isn't the log's."""
         if self.held is None:
             raise Unplayed("magicd has ended, and there is no log")
         rows = await self.held.lines()

@@ -158,10 +158,8 @@ class SqliteLog(Log):
 
     async def sessions(self, closed=False):
         wanted = "not null" if closed else "null"
-        return [
-            Record(*found)
-            for found in self.rows.execute(f"select id, name, owner, opened, closed from sessions where closed is {wanted}")
-        ]
+        found = self.rows.execute(f"select id, name, owner, opened, closed from sessions where closed is {wanted}")
+        return [Record(*each) for each in found]
 
     async def lines(self, id):
         found = self.rows.execute("select number, at, line, reply from lines where session = ? order by number", (id,))

@@ -35,12 +35,10 @@ class Team:
     def ended(self, name):
         """Makes a certificate that has ended, and returns the files."""
         certificate, key, authority = self.make(name)
-        request = self.folder / "request"
-        subprocess.run(
-            ["openssl", "req", "-new", "-key", key, "-subj", f"/CN={name}", "-out", request], check=True, stderr=subprocess.DEVNULL
-        )
-        subprocess.run([
-            "openssl", "x509", "-req", "-in", request, "-CA", authority, "-CAkey", self.folder / "ca.key", "-days", "-1",
-            "-out", certificate,
-        ], check=True, stderr=subprocess.DEVNULL)
+        request, signing = self.folder / "request", ["-CA", authority, "-CAkey", self.folder / "ca.key"]
+        for words in (
+            ["req", "-new", "-key", key, "-subj", f"/CN={name}", "-out", request],
+            ["x509", "-req", "-in", request, *signing, "-days", "-1", "-out", certificate],
+        ):
+            subprocess.run(["openssl", *words], check=True, stderr=subprocess.DEVNULL)
         return [certificate, key, authority]

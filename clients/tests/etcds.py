@@ -37,12 +37,13 @@ class Etcds:
         self.wait()
 
     def start(self, index):
-        here, peer = (f"http{'s' * bool(self.tls)}://127.0.0.1:{ports[index]}" for ports in (self.ports, self.peers))
+        where = "https://127.0.0.1:" if self.tls else "http://127.0.0.1:"
+        here, peer = f"{where}{self.ports[index]}", f"{where}{self.peers[index]}"
         self.processes[index] = subprocess.Popen([
             "etcd", "--name", f"e{index}", "--data-dir", self.folder / f"e{index}",
             "--listen-client-urls", here, "--advertise-client-urls", here,
             "--listen-peer-urls", peer, "--initial-advertise-peer-urls", peer,
-            "--initial-cluster", ",".join(f"e{i}={peer.rpartition(':')[0]}:{port}" for i, port in enumerate(self.peers)),
+            "--initial-cluster", ",".join(f"e{i}={where}{port}" for i, port in enumerate(self.peers)),
             "--logger", "zap", "--log-level", "fatal", *self.secured(),
         ], stderr=subprocess.DEVNULL)
 

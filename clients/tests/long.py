@@ -65,7 +65,8 @@ class Many:
         scripts = [[f"%open s{i}", *random_lines(f"s{i}", LINES, i)] for i in range(clients)]
         relays = self.relays()
         times = []
-        parts = [[relay.pid for relay, _ in relays], [pid for relay, _ in relays for pid in programs(relay)], self.others()]
+        served = [pid for relay, _ in relays for pid in programs(relay)]
+        parts = [[relay.pid for relay, _ in relays], served, self.others()]
         before = [processor_time(fields_of(pids)) for pids in parts]
 
         async def run():
@@ -144,6 +145,6 @@ class WithLog(Many, LoggedCase):
 
 
 if __name__ == "__main__":
-    print("| a reply | median, ms | 99th of a hundred, ms | lines a second | ms of a processor a line: relay | magicd | etcd |")
+    print("| a reply | median, ms | 99th of a hundred, ms | lines a second | relay, ms | magicd, ms | etcd, ms |")
     print("|---|---|---|---|---|---|---|", flush=True)
     sys.exit(not unittest.main(exit=False).result.wasSuccessful())

@@ -30,8 +30,9 @@ class Certificates(RelayCase):
     def command(self, *words):
         certificate, key, authority = self.team.machine()
         return [
-            HERE.parent / "relay", "--listen", f"127.0.0.1:{self.port}", "--tls", certificate, key, "--clients", authority,
-            "--page", str(self.page), "--server", SERVER, "--log", str(self.folder / "log"), *words,
+            HERE.parent / "relay", "--listen", f"127.0.0.1:{self.port}", "--page", str(self.page),
+            "--tls", certificate, key, "--clients", authority, "--server", SERVER,
+            "--log", str(self.folder / "log"), *words,
         ]
 
     def start(self, *words):
@@ -75,8 +76,10 @@ class Certificates(RelayCase):
         self.addCleanup(without.close)
         with self.assertRaisesRegex(ssl.SSLError, "certificate required"):
             without.ask("%open a")
-        for logged in ("unable to get local issuer certificate", "certificate has expired", "peer did not return a certificate"):
-            self.assertIn(f"a connection is refused: {logged}", self.said())
+        for reason in (
+            "unable to get local issuer certificate", "certificate has expired", "peer did not return a certificate",
+        ):
+            self.assertIn(f"a connection is refused: {reason}", self.said())
         # Nor does a designer talk to a server of other people.
         stranger = self.talk(*self.team.make("ben")[:2], self.strangers.make("ben")[2])
         self.assertRegex(stranger.stderr, "refused: .*certificate")
@@ -89,6 +92,7 @@ class Certificates(RelayCase):
         self.assertEqual(mia.ask("@resume a", "a what", "@sessions"), [
             "a refused resume another's session", "line 2 fault 4 not open", "@ sessions 0",
         ])
+        self.assertIn("session a is refused to cert:mia: another's session", self.said())
         again = self.designer("ben")
         while (reply := again.ask("@resume a")[0]).endswith("in use"):
             time.sleep(0.05)
@@ -96,13 +100,17 @@ class Certificates(RelayCase):
 
     def test_addresses_that_are_refused(self):
         certificate, key, authority = self.team.machine()
-        for words in (["--listen", "0.0.0.0:1"], ["--listen", "0.0.0.0:1", "--tls", certificate, key], ["--listen", "[::]:1"]):
-            refused = subprocess.run([HERE.parent / "relay", *words], stderr=subprocess.PIPE, text=True, timeout=20, check=False)
+        other_key = self.strangers.machine()[1]
+        for words, why in {
+            ("--listen", "0.0.0.0:1"): "only the loopback address is listened at",
+            ("--listen", "[::]:1"): "only the loopback address is listened at",
+            ("--listen", "0.0.0.0:1", "--tls", certificate, key): "--clients CA go together",
+            ("--listen", "0.0.0.0:1", "--tls", certificate, other_key, "--clients", authority): "KEY_VALUES_MISMATCH",
+        }.items():
+            command = [HERE.parent / "relay", *words]
+            refused = subprocess.run(command, stderr=subprocess.PIPE, text=True, timeout=20, check=False)
             self.assertEqual(refused.returncode, 1)
-            self.assertIn("--clients CA", refused.stderr)
-        words = ["--listen", "0.0.0.0:1", "--tls", certificate, self.strangers.machine()[1], "--clients", authority]
-        refused = subprocess.run([HERE.parent / "relay", *words], stderr=subprocess.PIPE, text=True, timeout=20, check=False)
-        self.assertIn("KEY_VALUES_MISMATCH", refused.stderr)
+            self.assertIn(why, refused.stderr)
 
     @unittest.skipIf(aiohttp is None, "python3-aiohttp isn't installed")
     def test_the_page_shows_one_s_own(self):
@@ -139,12 +147,13 @@ class Certificates(RelayCase):
     def test_magic_connects(self):
         files = " ".join(self.team.make("ben"))
         script = "\n".join([
-            f"source {HERE.parent / 'magic.tcl'}", f"kolasieve connect localhost:{free_port()},localhost:{self.port} a {files}",
+            f"source {HERE.parent / 'magic.tcl'}",
+            f"kolasieve connect localhost:{free_port()},localhost:{self.port} a {files}",
             "box 0i 0i 1i 10i", "paint poly", "kolasieve marks", "kolasieve close", "quit -noprompt", "",
         ])
         said = subprocess.run(
-            ["magic", "-dnull", "-noconsole", "-T", "scmos"], input=script, stdout=subprocess.PIPE, stderr=subprocess.STDOUT,
-            text=True, cwd=self.folder, timeout=60, check=False,
+            ["magic", "-dnull", "-noconsole", "-T", "scmos"], input=script, text=True, cwd=self.folder, timeout=60,
+            stdout=subprocess.PIPE, stderr=subprocess.STDOUT, check=False,
         ).stdout
         if "can't find package tls" in said:
             self.skipTest("tcl-tls isn't installed")

@@ -28,7 +28,8 @@ class Copies(EtcdCase):
         owner = self.log("list", file).split("\t")[1]
         self.assertEqual(self.log("copy", file, there, f"{owner}=cert:ben"), "2 sessions\n")
         self.assertEqual(self.log("copy", file, there, status=1), f"log: {there}: it has sessions already\n")
-        self.assertRegex(self.log("list", there), r"a\tcert:ben\topened .*\tleft\nb\tcert:ben\topened .*\tclosed .*\tb\.\w+\n")
+        listed = self.log("list", there)
+        self.assertRegex(listed, r"a\tcert:ben\topened .*\tleft\nb\tcert:ben\topened .*\tclosed .*\tb\.\w+\n")
         self.assertEqual(self.log("show", file, "a"), self.log("show", there, "a"))
         self.assertEqual(self.log("copy", there, back, f"cert:ben={owner}"), "2 sessions\n")
         self.assertEqual(self.log("show", file, "a"), self.log("show", back, "a"))

@@ -11,7 +11,7 @@ import unittest
 from tests.certificates import HAVE_OPENSSL, Team
 from tests.etcds import HAVE_ETCD, Etcds, SlowNetwork
 from tests.serving import HERE, SERVER, Client, alone, kill_programs, random_lines
-from tests.test_log import TeamCase
+from tests.test_log import TeamCase, expected_rows
 
 
 class Machine:
@@ -131,16 +131,17 @@ class SeveralRelays(EtcdCase):
 
     def test_other_options(self):
         self.machine("one")
-        command = [HERE.parent / "relay", "--socket", str(self.folder / "x"), "--log", self.etcds.log(name=self.name)]
-        refused = subprocess.run([*command, "--quota", "99"], stderr=subprocess.PIPE, text=True, timeout=30, check=False)
+        where = ["--socket", str(self.folder / "x"), "--log", self.etcds.log(name=self.name)]
+        command = [HERE.parent / "relay", *where, "--quota", "99"]
+        refused = subprocess.run(command, stderr=subprocess.PIPE, text=True, timeout=30, check=False)
         self.assertEqual(refused.returncode, 1)
         self.assertIn("the log is of a server with other options", refused.stderr)
 
     def test_a_relay_that_was_stopped(self):
         """It can add nothing to a session that another has taken, nor has it a look at it.
 
-        An append that it had under way comes late, when the session is its own again. A relay that compared no more than
-        whether the session is its own would have it done twice.
+        An append that it had under way comes late, when the session is its own again. With a comparison that said no
+        more than whose the session is, it would be done.
         """
         slow = SlowNetwork(self.etcds.ports[0])
         self.addCleanup(slow.end)
@@ -167,9 +168,8 @@ class SeveralRelays(EtcdCase):
         slow.hand_on(late)
         time.sleep(1)
         self.assertEqual(third.ask("a what"), ["a what 2 poly m1"])
-        texts = ["a box 0 0 4 4", "a paint poly", "a paint m1", "a what"]
-        replies = alone(["%open a", *texts])[1:]
-        self.assertEqual(self.rows("a"), [(n + 1, text, f"{reply}\n") for n, (text, reply) in enumerate(zip(texts, replies))])
+        texts = ["box 0 0 4 4", "paint poly", "paint m1", "what"]
+        self.assertEqual(self.rows("a"), expected_rows("a", texts))
 
     def test_an_etcd_that_is_cut_off(self):
         """One etcd of three replies to nothing, and so the relay doesn't either: not even to a look."""

@@ -16,7 +16,7 @@ from tests.serving import Client, RelayCase, alone, random_lines
 
 
 class Designer:
-    """A client that comes back: it sends its lines one after another, and resumes its session where the relay is gone."""
+    """A client that comes back: it sends its lines one by one, and resumes its session where the relay is gone."""
 
     def __init__(self, addresses, name, lines, tls=None, patience=60, pause=0):
         self.addresses = itertools.cycle(addresses)
@@ -73,15 +73,22 @@ def commands(count, seed):
     return [line for line in lines if line != "nonsense" and " x " not in line and line != "save"][:count]
 
 
+def expected_rows(name, lines):
+    """Returns the rows of a session that has had these commands, each of which has an entry in the journal."""
+    texts = [f"{name} {line}" for line in lines]
+    replies = alone([f"%open {name}", *texts])[1:]
+    return [(number, text, reply + "\n") for number, (text, reply) in enumerate(zip(texts, replies), 1)]
+
+
 class TeamCase(unittest.TestCase):
     """What designers were told, and what a log has, are those of their lines alone."""
 
     def check_done(self, team, rows):
         for each in team:
-            texts = [f"{each.name} {line}" for line in each.lines]
-            expected = alone([f"%open {each.name}", *texts])[1:]
-            self.assertEqual([each.replies[n + 1] for n in range(len(texts))], expected)
-            self.assertEqual(rows(each.name), [(n + 1, text, reply + "\n") for n, (text, reply) in enumerate(zip(texts, expected))])
+            expected = expected_rows(each.name, each.lines)
+            replies = {number: reply.removesuffix("\n") for number, _, reply in expected}
+            self.assertEqual(each.replies, replies)
+            self.assertEqual(rows(each.name), expected)
 
 
 class LoggedCase(RelayCase, TeamCase):
@@ -128,7 +135,8 @@ class LoggedCase(RelayCase, TeamCase):
 class Log(LoggedCase):
     def test_rows_are_the_journal_s(self):
         client = self.client()
-        lines = ["a box 0 0 1 10", "a nonsense", "a paint poly", "%stat a", "a drc catchup", "a paint none", "a drc count"]
+        lines = ["a box 0 0 1 10", "a nonsense", "a paint poly", "%stat a", "a drc catchup"]
+        lines += ["a paint none", "a drc count"]
         replies = client.ask("%open a", *lines)[1:]
         kept = [(1, 0), (3, 2), (4, 4), (5, 5), (6, 6)]
         self.assertEqual(
@@ -153,7 +161,8 @@ class Log(LoggedCase):
         self.assertEqual(self.resumed(other, "@resume a 3"), "a resumed 4")
         self.assertEqual(other.reply(), "@ 4 a count 10 errors 0 pending")
         self.assertEqual(other.ask("%open a", "a drc count", "%close a", "@resume a", "%open a"), [
-            "a refused open 1 open already", "a count 10 errors 0 pending", "a closed", "a refused resume no such session", "a opened",
+            "a refused open 1 open already", "a count 10 errors 0 pending", "a closed",
+            "a refused resume no such session", "a opened",
         ])
 
     def test_a_changed_reply_is_refused_with_its_line(self):

@@ -50,7 +50,8 @@ class MachinesCase(EtcdCase):
         text = re.sub(r"10\.0\.0\.\d:7777", lambda _: f"127.0.0.1:{next(ports)}", text)
         (self.folder / "haproxy.cfg").write_text(text)
         messages = open(self.folder / "haproxy.messages", "w", encoding="utf-8")
-        haproxy = subprocess.Popen(["haproxy", "-db", "-f", self.folder / "haproxy.cfg"], stderr=messages, stdout=messages)
+        command = ["haproxy", "-db", "-f", self.folder / "haproxy.cfg"]
+        haproxy = subprocess.Popen(command, stderr=messages, stdout=messages)
         self.addCleanup(messages.close)
         self.addCleanup(haproxy.wait)
         self.addCleanup(haproxy.kill)
@@ -104,7 +105,7 @@ class MachinesCase(EtcdCase):
     FAILURES = (an_etcd_is_killed, the_leader_is_killed, a_machine_is_killed, a_relay_is_stopped, two_etcds_are_gone)
 
     def check_failures(self, failures, lines, pause):
-        """In the end every line that was replied to is in the log once, in order, and all replies are those of the lines alone."""
+        """In the end each line that was replied to is in the log once, in order, with the reply that it has alone."""
         team = [
             Designer([("127.0.0.1", self.port)], f"d{i}", commands(lines, i), self.team.context(f"b{i % 4}"), 20, pause)
             for i in range(16)
