@@ -120,7 +120,7 @@ class WithEtcd(Many, EtcdCase):
 class Machines(MachinesCase):
     def test_failures(self):
         """30 failures, at random."""
-        done = self.check_failures(random.choices(self.FAILURES, k=30), lines=1500, pause=0.3)
+        done = self.check_failures(random.choices(self.FAILURES, k=30), lines=600, pause=0.3)
         print(*done, sep="\n", flush=True)
 
 

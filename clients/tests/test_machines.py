@@ -119,9 +119,12 @@ class MachinesCase(EtcdCase):
             before = sum(len(each.replies) for each in team)
             fail(self)
             done.append(f"{fail.__name__}: {before} lines before it")
-        for thread in threads:
-            thread.join(200)
-            self.assertFalse(thread.is_alive(), done)
+        while any(thread.is_alive() for thread in threads):
+            before = sum(len(each.replies) for each in team)
+            for thread in threads:
+                thread.join(60 / len(threads))
+            after = sum(len(each.replies) for each in team)
+            self.assertTrue(after > before or not any(thread.is_alive() for thread in threads), done)
         self.check_done(team, self.rows)
         return done
 
