@@ -6,7 +6,7 @@ import logging
 import re
 
 from kolasieve.lines import LONGEST_LINE, Line, fault_of
-from kolasieve.log import LogFault
+from kolasieve.log import OF_ANOTHER, LogFault
 from kolasieve.program import Ended
 from kolasieve.session import Unplayed
 
@@ -121,7 +121,8 @@ class Connection:
         try:
             return await self.relay.resume(name, self, None if seen is None else int(seen))
         except Unplayed as fault:
-            log.info("session %s is refused to %s: %s", name.decode(), self.owner, fault)
+            if str(fault) == OF_ANOTHER:
+                log.warning("session %s is refused to %s: %s", name.decode(), self.owner, fault)
             return b"%s refused resume %s\n" % (name, str(fault).encode())
 
     async def list_sessions(self):

@@ -20,7 +20,7 @@ import time
 from kolasieve.etcd import Etcd, after, created_at, delete, has_value, look, put
 from kolasieve.etcd_held import LEASE, HeldInEtcd
 from kolasieve.etcd_writes import Writes, fitting, row
-from kolasieve.log import Log, LogFault, Record, Row, Unavailable
+from kolasieve.log import OF_ANOTHER, Log, LogFault, Record, Row, Unavailable
 
 log = logging.getLogger("relay")
 
@@ -131,7 +131,7 @@ class EtcdLog(Log):
             raise Unavailable("no such session")
         record = json.loads(found.value)
         if record["owner"] != owner:
-            raise Unavailable("another's session")
+            raise Unavailable(OF_ANOTHER)
         return await self.hold(name, record, found.value, is_new=False)
 
     async def hold(self, name, record, value, is_new):

@@ -8,6 +8,9 @@ from dataclasses import dataclass
 # A longer reply is kept as its length and SHA-256.
 LONGEST_REPLY = 4096
 
+# Why a session can't be taken by who isn't its owner.
+OF_ANOTHER = "another's session"
+
 
 class LogFault(Exception):
     """The log can't be used, or its rows can't be made durable."""

@@ -4,7 +4,7 @@ import asyncio
 import logging
 
 from kolasieve.lines import Line
-from kolasieve.log import LogFault, Unavailable
+from kolasieve.log import OF_ANOTHER, LogFault, Unavailable
 from kolasieve.program import Ended, Program
 from kolasieve.session import Session, Unplayed
 
@@ -122,7 +122,7 @@ class Relay:
         if self.log is None:
             raise Unplayed("no such session")
         if (other := self.sessions.get(name)) is not None:
-            raise Unplayed("another's session" if other.held and other.owner != user.owner else self.in_use())
+            raise Unplayed(OF_ANOTHER if other.held and other.owner != user.owner else self.in_use())
         session = self.sessions[name] = Session(name, user.owner, self, user=user)
         try:
             session.hold(await self.log.take(name, user.owner))

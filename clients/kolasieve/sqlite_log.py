@@ -6,7 +6,7 @@ import sqlite3
 import threading
 import time
 
-from kolasieve.log import Held, Log, LogFault, Record, Row, Unavailable, kept, settle, settled
+from kolasieve.log import OF_ANOTHER, Held, Log, LogFault, Record, Row, Unavailable, kept, settle, settled
 
 TABLES = """
 create table if not exists settings (options text not null);
@@ -132,7 +132,7 @@ class SqliteLog(Log):
         if found is None:
             raise Unavailable("no such session")
         if found.owner != owner:
-            raise Unavailable("another's session")
+            raise Unavailable(OF_ANOTHER)
         return HeldInFile(self, found.id)
 
     async def bring(self, record, owner, rows):
