@@ -53,6 +53,7 @@ PLAIN = {
     "look_stat": ["a refused 9 memory", "kept"],
     "look_uses": ["a refused 9 memory", "kept"],
     "look_marks": ["a refused 9 memory", "kept"],
+    "look_journal": ["a refused 9 memory", "kept"],
     "why": ["a refused 9 memory"],
     "what": ["a refused 9 memory"],
     "grab": ["a grab memory"],
@@ -200,6 +201,7 @@ a what
 %save b
 %uses b
 %marks b
+%journal b
 %why b 0 0 300 1
 %audit a
 b box 0 0 400 20
@@ -280,6 +282,46 @@ a drc count
 %audit a
 %audit c
 """
+# Each name is opened once: where that is refused, none of its lines is carried out.
+LIVE = """%open a
+%open b
+c what
+a box 0 0 300 1
+b box 0 0 2 10
+a paint poly
+b paint m1
+a drc why
+%step a
+a drc catchup
+a drc count
+a save
+b getcell c 0 0
+b box 0 0 4 4
+b what
+b drc why
+b drc catchup
+b drc count
+%save b
+%uses b
+%why b 0 0 2 10
+%audit a
+%open c
+c dump c 5 5
+c box 5 5 400 50
+a box 300 0 301 9
+c drc catchup
+c drc count
+c save
+a paint m1
+a drc catchup
+a drc count
+%audit b
+%close b
+b what
+%audit a
+%close a
+%audit c
+"""
 
 CELL = """magic
 tech M
@@ -301,6 +343,12 @@ class Script:
     def __init__(self, name, words, text, trial=None):
         self.name, self.words, self.lines, self.trial = name, words, text.splitlines(), trial or Trial
         self.replying = replying_in(self.lines)
+
+
+def name_in(line):
+    """Returns the name of the session that a line is for."""
+    words = line.split()
+    return words[1] if words[0].startswith("%") else words[0]
 
 
 def replying_in(lines):
@@ -326,6 +374,7 @@ def scripts(folder):
         example("wells", "--tech", f"{examples}/wells.tech", "--quota", "9"),
         example("library", f"inv={examples}/inv.mag"),
         Script("workers", ["--workers", "2", f"c={folder}/c.mag"], WORKERS, WorkersTrial),
+        Script("live", ["--live", "--workers", "2", f"c={folder}/c.mag"], LIVE, LiveTrial),
     ]
 
 
@@ -336,7 +385,7 @@ def replies_in(out):
         raise Failed("its last line has no end")
     lines, replies = text.split("\n")[:-1], []
     while lines:
-        count = int(found[1]) if (found := re.fullmatch(r"\w+ (?:saved|marked|uses) (\d+)", lines[0])) else 0
+        count = int(found[1]) if (found := re.fullmatch(r"\w+ (?:saved|marked|uses|journal) (\d+)", lines[0])) else 0
         if len(lines) < count + 1:
             raise Failed("a saved text is cut")
         replies.append("\n".join(lines[: count + 1]))
@@ -352,7 +401,7 @@ SAYS = {
     "what": (r"(\w+) what", r"{} refused 9 memory"),
     "catchup": (r"(\w+) drc catchup", r"{} refused 9 memory (\d+) pending"),
     "step": (r"%step (\w+)", r"{} step memory"),
-    "look": (r"%(?:save|why|stat|uses|marks) (\w+).*", r"{} refused 9 memory"),
+    "look": (r"%(?:save|why|stat|uses|marks|journal) (\w+).*", r"{} refused 9 memory"),
 }
 MOST_STEPS = 12
 
@@ -470,13 +519,16 @@ class Trial:
             raise Failed(f"{len(replies)} replies, status {ran.status}, and the messages {ran.messages!r}")
         return says + ([] if whole else ["reply"]) or ["usual"]
 
+    def is_usual(self, out):
+        return out == self.usual.out
+
     def refuse(self, most, on):
         """Refuses each growth, or it and all later ones, and returns how many runs there were."""
         for n in itertools.count(1):
             try:
                 ran = self.run_lines(self.script.lines, n, on)
                 if not ran.refused:
-                    if ran.out != self.usual.out or ran.status or ran.messages != self.usual.messages:
+                    if not self.is_usual(ran.out) or ran.status or ran.messages != self.usual.messages:
                         raise Failed("nothing was refused, and the output is another")
                     return n - 1
                 if n > most:
@@ -500,8 +552,7 @@ class WorkersTrial(Trial):
         rest, said, groups = iter([*replies, None]), {}, {}
         reply = next(rest)
         for at in self.script.replying:
-            words = self.script.lines[at].split()
-            name = words[1] if words[0].startswith("%") else words[0]
+            words, name = self.script.lines[at].split(), name_in(self.script.lines[at])
             if words[0] in ("%step", "%close"):
                 wanted = f"line {at + 1} fault 1 unknown command"
             elif words[0] != "%open":
@@ -531,18 +582,28 @@ class WorkersTrial(Trial):
             return self.judge_start(ran)
         if ran.status or self.new_messages(ran) != "":
             raise Failed(f"replies, status {ran.status}, and the messages {ran.messages!r}")
-        met, lost, stopped = [], {}, {}
-        for at, reply in self.by_line(replies_in(ran.out)).items():
-            line, name = self.script.lines[at], reply.split()[0]
+        return self.judge_lines(self.by_line(replies_in(ran.out))) or ["usual"]
+
+    def judge_lines(self, said):
+        """Returns what lines met whose replies these are, or fails."""
+        met, lost, stopped, unopened = [], {}, {}, set()
+        for at, reply in sorted(said.items()):
+            line, name = self.script.lines[at], name_in(self.script.lines[at])
             usual = self.usual_said.get(at, f"{name} opened")
+            if reply == f"{name} opened":
+                unopened.discard(name)
+            elif name in unopened and not usual.startswith("line "):
+                usual = f"line {at + 1} fault 4 not open"
             sort, pending = self.said_of(line, reply)
             if sort:
                 met.append(sort)
                 if sort == "catchup" and not pending:
                     raise Failed("catching up was stopped with no area pending")
+                if sort == "open":
+                    unopened.add(name)
                 # Such a line is in no journal, and a look never is.
                 lost[name] = lost.get(name, 0) + (sort not in ("open", "look"))
-            elif line.startswith("%audit"):
+            elif line.startswith("%audit") and name not in unopened:
                 count = int(usual.split()[2]) - lost.get(name, 0)
                 usual = f"{name} audited {count}"
             elif line.endswith("drc count") and stopped.get(name):
@@ -551,7 +612,50 @@ class WorkersTrial(Trial):
                 raise Failed(f"{reply!r} in the place of {usual!r}")
             if line.endswith("drc catchup"):
                 stopped[name] = bool(sort)
-        return met or ["usual"]
+        return met
+
+
+class LiveTrial(WorkersTrial):
+    """A script whose lines are answered as they come, and whose growths are refused."""
+
+    def by_line(self, replies):
+        """Returns the reply to each line that has one, by the line's place. Those of each name must be to the first of
+        its lines."""
+        said, others, lines = {}, {}, {}
+        for reply in replies:
+            if found := re.match(r"line (\d+) fault ", reply):
+                if said.setdefault(int(found[1]) - 1, reply) is not reply:
+                    raise Failed(f"{reply!r} twice")
+            else:
+                others.setdefault(reply.split()[0], []).append(reply)
+        for at in self.script.replying:
+            lines.setdefault(name_in(self.script.lines[at]), []).append(at)
+        for name, places in lines.items():
+            rest = iter(others.pop(name, []))
+            for at in places:
+                if at not in said and (reply := next(rest, None)) is not None:
+                    said[at] = reply
+            has_reply = [at in said for at in places]
+            if next(rest, None) is not None or has_reply != sorted(has_reply, reverse=True):
+                raise Failed(f"{name} has more replies than lines, or some of its lines have none")
+        if others or not {*said} <= {*self.script.replying}:
+            raise Failed("a reply to no line")
+        return said
+
+    def is_usual(self, out):
+        return self.by_line(replies_in(out)) == self.usual_said
+
+    def judge(self, ran):
+        """Returns what the run met, or fails."""
+        if not ran.out:
+            return self.judge_start(ran)
+        said = self.by_line(replies_in(ran.out))
+        ends = [(1, "magicd: memory\n")]
+        if len(said) == len(self.script.replying):
+            ends.append((0, ""))
+        if (ran.status, self.new_messages(ran)) not in ends:
+            raise Failed(f"{len(said)} replies, status {ran.status}, and the messages {ran.messages!r}")
+        return self.judge_lines(said) + ["reply"] * ran.status or ["usual"]
 
 
 # ---- all of it

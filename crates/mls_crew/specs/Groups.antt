@@ -63,13 +63,13 @@ SaysLines terms book name said (line ∷ lines) out last =
     (text : List ℕ) × (now : List Said) × (rest : List ℕ) × SaysLine terms book name said line text now × SaysLines terms book name now lines rest last × (out ≡ text ++ rest)
 
 -- the text of a session, and whether its seat's list was audited at the end
-pub record Told : Type 0 where
+pub record GroupText : Type 0 where
   pub text : List ℕ
   pub audited : Bool
 
 -- the text of a session begins with the line that it was opened, and then has what its lines give. Where it is audited, its commands and replies, with some number
 -- of check steps before each command, are a legal journal
-abbrev pub TellsGroup : Terms → Names → List ℕ → List SeatLine → Told → Type 0
-TellsGroup terms book name lines told =
+abbrev pub GivesGroup : Terms → Names → List ℕ → List SeatLine → GroupText → Type 0
+GivesGroup terms book name lines group =
     (id : ℕ) × (said : List Said) × (more : List ℕ) × SaysLines terms book name [] lines more said
-    × (told.text ≡ answer_text book name (Opened (Ok id)) ++ more) × (told.audited ≡ true → IsLegalList terms said)
+    × (group.text ≡ answer_text book name (Opened (Ok id)) ++ more) × (group.audited ≡ true → IsLegalList terms said)

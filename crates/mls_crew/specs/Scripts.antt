@@ -14,46 +14,46 @@ use Rattle.mls_wire.specs.declared.line.LineFault.{LineFault}
 use Rattle.mls_wire.specs.declared.serving.ServeFault.{ServeFault}
 use Rattle.mls_wire.specs.declared.serving.ServeFault.TheVariants.{Read, Write, Memory}
 use Rattle.mls_crew.specs.Books.{labels_in, labels_of}
-use Rattle.mls_crew.specs.Groups.{TellsGroup, Told, lines_of}
+use Rattle.mls_crew.specs.Groups.{GivesGroup, GroupText, lines_of}
 use Rattle.mls_crew.specs.Sorting.{Sorted, Sorts}
 
--- nothing was told
-abbrev pub untold : Told
-untold = record { text = []; audited = false }
+-- no text at all
+abbrev pub no_text : GroupText
+no_text = record { text = []; audited = false }
 
 -- the session of this number has its text
-abbrev pub TellsPart : Terms → Names → Sorted → ℕ → Told → Type 0
-TellsPart terms book sorted session told = TellsGroup terms book (slice_index_or sorted.opened session []) (lines_of session sorted.handed) told
+abbrev pub GivesPart : Terms → Names → Sorted → ℕ → GroupText → Type 0
+GivesPart terms book sorted session group = GivesGroup terms book (slice_index_or sorted.opened session []) (lines_of session sorted.handed) group
 
 -- each session that was opened has its text
-pub record TellsGroups (terms : Terms) (book : Names) (sorted : Sorted) (told : List Told) : Type 0 where
-  pub count : length told ≡ length sorted.opened
+pub record GivesGroups (terms : Terms) (book : Names) (sorted : Sorted) (groups : List GroupText) : Type 0 where
+  pub count : length groups ≡ length sorted.opened
   pub each : (session : ℕ) → session < length sorted.opened
-      → TellsPart terms book sorted session (slice_index_or told session untold)
+      → GivesPart terms book sorted session (slice_index_or groups session no_text)
 
--- what lines say is sorted, and the output has the text of those that are answered at once, and then that of each session, in the order of opening. It is audited
+-- what lines say is sorted, and the output has the text of those that have replies at once, and then that of each session, in the order of opening. It is audited
 -- where each session is
-pub record TellsLines (terms : Terms) (book : Names) (said : List (Result Line LineFault)) (audited : Bool) (out : List ℕ) : Type 0 where
+pub record GivesLines (terms : Terms) (book : Names) (said : List (Result Line LineFault)) (audited : Bool) (out : List ℕ) : Type 0 where
   pub sorted : Sorted
   pub sorts : Sorts book 1 [] said sorted
-  pub told : List Told
-  pub tells : TellsGroups terms book sorted told
-  pub order : out ≡ sorted.head ++ flat_map (λ group. group.text) told
-  pub all : audited ≡ list_all (λ group. group.audited) told
+  pub groups : List GroupText
+  pub gives : GivesGroups terms book sorted groups
+  pub order : out ≡ sorted.head ++ flat_map (λ group. group.text) groups
+  pub all : audited ≡ list_all (λ group. group.audited) groups
 
-abbrev pub TellsScript : World → List (Option (List ℕ)) → Bool → List ℕ → Type 0
-TellsScript on lines audited out = TellsLines (terms_for on.setting) (labels_of (labels_in on.setting)) (map (ahead_says (book_of on)) lines) audited out
+abbrev pub GivesScript : World → List (Option (List ℕ)) → Bool → List ℕ → Type 0
+GivesScript on lines audited out = GivesLines (terms_for on.setting) (labels_of (labels_in on.setting)) (map (ahead_says (book_of on)) lines) audited out
 
 -- the output gained what is written to the script
 abbrev pub WritesCrew : World → Option (List ℕ) → Option (List ℕ) → Option (List ℕ) → Bool → Type 0
 WritesCrew on None written now audited = ⊤
-WritesCrew on (Some script) written now audited = Gains written now (TellsScript on (script_of script) audited)
+WritesCrew on (Some script) written now audited = Gains written now (GivesScript on (script_of script) audited)
 
 -- it gained a beginning of that
 abbrev pub WritesFront : World → Option (List ℕ) → Option (List ℕ) → Option (List ℕ) → Type 0
 WritesFront on None written now = ⊤
 WritesFront on (Some script) written now =
-    (audited : Bool) × (out : List ℕ) × TellsScript on (script_of script) audited out × AppendsFront written now out
+    (audited : Bool) × (out : List ℕ) × GivesScript on (script_of script) audited out × AppendsFront written now out
 
 -- the script fails with this fault. Unless the output fails, nothing is written
 abbrev pub FailsCrew : {R W : Type 0} → World → ServeFault → Option (List ℕ) → Watched R → (W → Option (List ℕ)) → Watched W → Watched W → Type 0

@@ -1,4 +1,4 @@
--- Which lines of a script are answered at once, and which are handed to a session. This project's own.
+-- Which lines of a script have replies at once, and which are handed to a session. This project's own.
 use Rattle.std.specs.Prelude.{◌≡◌, ◌⊎◌, ℕ, ◌+◌, Option, Some, None, Result, Ok, Err, List, [], ◌∷◌, ◌++◌}
 use Rattle.std.specs.List.{position}
 use Rattle.mls_server.specs.declared.answer.Answer.TheVariants.{Opened}
@@ -31,7 +31,7 @@ pub record Sorted : Type 0 where
 abbrev pub added : Sorted → Sorted → Sorted
 added before next = record { head = before.head ++ next.head; handed = before.handed ++ next.handed; opened = next.opened }
 
--- the line is answered at once, with this text
+-- the line has its reply at once, with this text
 abbrev pub at_once : List (List ℕ) → List ℕ → Sorted
 at_once opened text = record { head = text; handed = []; opened = opened }
 

@@ -5,12 +5,12 @@ ghost use Rattle.mls_server.specs.Servers.{world_of};
 ghost use Rattle.mls_server.specs.Settings.{terms_for};
 ghost use Rattle.mls_crew.specs.Books.{labels_of};
 ghost use Rattle.mls_server.specs.Settings.{cell_names};
-ghost use Rattle.mls_crew.specs.Scripts.{FailsCrew, TellsLines, WritesCrew};
+ghost use Rattle.mls_crew.specs.Scripts.{FailsCrew, GivesLines, WritesCrew};
 
 use crate::Labels;
 use crate::sorting::{Desk, sort};
-use crate::speaking::{Part, Told};
-use crate::threads::tell;
+use crate::speaking::{GroupText, Part};
+use crate::threads::say_groups;
 use crossbeam_channel::{Receiver, unbounded};
 use mls_live::{Live, Naming};
 use mls_server::{Server, SessionId};
@@ -96,7 +96,7 @@ fn say<N: Naming + Send + Sync, T: Threads + Wait + Sync>(
     requires idle { (world_of crew.server).seats ≡ [] }
     requires blank { (blank.name ≡ N.name) × (blank.parts ≡ N.parts) }
     requires parts { N.parts ≡ 65 }
-    ensures { IfOk result (λ output. TellsLines N.terms
+    ensures { IfOk result (λ output. GivesLines N.terms
         (labels_of (record { tech = crew.tech; cells = cell_names (world_of crew.server).setting }))
         script.now output.audited output.text.items) }
 {
@@ -108,12 +108,29 @@ fn say<N: Naming + Send + Sync, T: Threads + Wait + Sync>(
     let limit = server.journal_limit();
     let labels = Labels::new(tech, server.cell_names(alloc)?);
     let live = Live::<N>::new(server, limit, blank);
+    say_at(rt, alloc, &live, &labels, workers, script)
+}
+
+/// Says the lines of a script at a server in which no session is open, beside this many workers, and returns what is
+/// written to it.
+fn say_at<N: Naming + Send + Sync, T: Threads + Wait + Sync>(
+    rt: &T,
+    alloc: Global,
+    live: &Live<N>,
+    labels: &Labels,
+    workers: usize,
+    script: &[Result<Line, LineFault>],
+) -> Result<Output, AllocError>
+    requires parts { N.parts ≡ 65 }
+    ensures { IfOk result (λ output. GivesLines N.terms (labels_of labels.now)
+        script.now output.audited output.text.items) }
+{
     let (notices, ids) = unbounded(alloc)?;
     let receivers = clones(alloc, &ids, workers)?;
     let desk = Desk {
         alloc,
-        live: &live,
-        labels: &labels,
+        live,
+        labels,
         notices,
     };
     let mut fresh = Vec::new(alloc);
@@ -122,12 +139,12 @@ fn say<N: Naming + Send + Sync, T: Threads + Wait + Sync>(
     drop(desk);
     let part = Part {
         alloc,
-        labels: &labels,
+        labels,
         sorting: &sorting,
         session: 0,
     };
-    let told = tell(rt, &live, part, receivers, fresh)?;
-    gather(alloc, sorting.head(), &told)
+    let groups = say_groups(rt, live, part, receivers, fresh)?;
+    gather(alloc, sorting.head(), &groups)
 }
 
 /// Returns as many clones of a receiver.
@@ -143,14 +160,14 @@ fn clones(
     Ok(receivers)
 }
 
-/// Appends the texts of all sessions to that of the lines that are answered at once.
-fn gather(alloc: Global, head: &[u8], told: &[Told]) -> Result<Output, AllocError>
-    ensures text { IfOk result (λ output. output.text.items ≡ head.now ++ flat_map (λ group. group.text) told.now) }
-    ensures audited { IfOk result (λ output. output.audited ≡ list_all (λ group. group.audited) told.now) }
+/// Appends the texts of all sessions to that of the lines that have their replies at once.
+fn gather(alloc: Global, head: &[u8], groups: &[GroupText]) -> Result<Output, AllocError>
+    ensures text { IfOk result (λ output. output.text.items ≡ head.now ++ flat_map (λ group. group.text) groups.now) }
+    ensures audited { IfOk result (λ output. output.audited ≡ list_all (λ group. group.audited) groups.now) }
 {
     let mut text = head.to_vec(alloc)?;
     let mut audited = true;
-    for group in told {
+    for group in groups {
         text.extend_from_slice(group.text())?;
         audited = audited && group.audited();
     }

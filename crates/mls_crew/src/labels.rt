@@ -59,6 +59,10 @@ impl Names for Labels {
         self.tech.type_name(kind)
     }
 
+    fn short_type_name(&self, kind: u8) -> Option<&[u8]> {
+        self.tech.short_type_name(kind)
+    }
+
     fn why_text(&self, n: usize) -> Option<&[u8]> {
         self.tech.why(n)
     }

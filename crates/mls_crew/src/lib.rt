@@ -11,3 +11,4 @@ mod threads;
 pub use crew::{Crew, Served};
 pub use labels::Labels;
 pub use seat_line::{Handed, SeatLine};
+pub use speaking::{Voice, say_line};

@@ -1,4 +1,4 @@
-//! Which lines of a script are answered at once, and which are handed to a session.
+//! Which lines of a script have their replies at once, and which are handed to a session.
 ghost use Rattle.std.specs.Prelude.{◌≡◌, ◌+◌, ◌<◌, [], IfOk, Ok, OnOk, length, slice_index_or, vec_len};
 ghost use Rattle.mls_live.specs.Lists.{list_of};
 ghost use Rattle.mls_crew.specs.Books.{labels_of};
@@ -30,7 +30,7 @@ pub struct Desk<'l, N: Naming> {
     pub notices: Sender<SessionId, Global>,
 }
 
-/// The lines of a script, sorted: the text of those that are answered at once, those that are handed to a session,
+/// The lines of a script, sorted: the text of those that have replies at once, those that are handed to a session,
 /// and the names of the sessions that were opened.
 #[derive(Drop)]
 pub struct Sorting {
@@ -59,7 +59,7 @@ impl Sorting {
         }
     }
 
-    /// Returns the text of the lines that are answered at once.
+    /// Returns the text of the lines that have their replies at once.
     pub fn head(&self) -> &[u8]
         ensures { result.now ≡ self.now.head }
     {
@@ -141,7 +141,7 @@ impl Sorting {
         }
     }
 
-    /// Answers line `n` at once.
+    /// Replies to line `n` at once.
     fn answer<N: Naming>(
         &mut self,
         desk: &Desk<'_, N>,
@@ -154,7 +154,7 @@ impl Sorting {
         push_response(desk.labels, n, response, &mut self.head)
     }
 
-    /// Answers line `n` with its fault.
+    /// Replies to line `n` with its fault.
     fn refuse<N: Naming>(
         &mut self,
         desk: &Desk<'_, N>,
@@ -185,7 +185,7 @@ impl Sorting {
         Ok(())
     }
 
-    /// Opens a session, or answers line `n` with why it can't be opened.
+    /// Opens a session, or replies to line `n` why it can't be opened.
     fn open<'l, N: Naming, R: Wait>(
         &mut self,
         rt: &R,
@@ -212,7 +212,7 @@ impl Sorting {
         }
     }
 
-    /// Answers line `n` with why the session can't be opened.
+    /// Replies to line `n` why the session can't be opened.
     fn answer_opening<N: Naming>(
         &mut self,
         desk: &Desk<'_, N>,

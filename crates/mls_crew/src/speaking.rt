@@ -2,7 +2,7 @@
 ghost use Rattle.std.specs.Prelude.{◌≡◌, ◌+◌, ◌++◌, ◌<◌, ℕ, List, [], IfOk, OnErr, OnOk, length, vec_capacity, vec_len};
 ghost use Rattle.mls_live.specs.Lists.{list_of};
 ghost use Rattle.mls_crew.specs.Books.{labels_of};
-ghost use Rattle.mls_crew.specs.Groups.{SaysCommand, SaysLine, SaysLines, SaysLook, SaysAudit, TellsGroup, lines_of};
+ghost use Rattle.mls_crew.specs.Groups.{SaysCommand, SaysLine, SaysLines, SaysLook, SaysAudit, GivesGroup, lines_of};
 ghost use Rattle.mls_crew.specs.Groups as spec;
 
 use crate::sorting::{Fresh, Sorting};
@@ -10,27 +10,27 @@ use crate::{Labels, SeatLine};
 use mls_live::{Naming, Seat};
 use mls_server::{Answer, Name};
 use mls_session::{Command, Look};
-use mls_wire::{Response, push_differs, push_looked, push_response, push_saved};
+use mls_wire::{Names, Response, push_differs, push_looked, push_response, push_saved};
 use std::alloc::{AllocError, Global};
 use std::marker::Model;
 use std::sync::Wait;
 
 /// The text of a session, and whether its seat's list was audited at the end.
 #[derive(Drop)]
-pub struct Told {
+pub struct GroupText {
     text: Vec<u8>,
     audited: bool,
 }
 
-impl Model for Told {
-    ghost use Rattle.mls_crew.specs.Groups.{Told};
+impl Model for GroupText {
+    ghost use Rattle.mls_crew.specs.Groups.{GroupText};
 
-    ghost Value = { Told };
+    ghost Value = { GroupText };
 
-    ghost view = { λ told. record { text = told.text.items; audited = told.audited } };
+    ghost view = { λ group. record { text = group.text.items; audited = group.audited } };
 }
 
-impl Told {
+impl GroupText {
     /// Returns the text.
     pub fn text(&self) -> &[u8]
         ensures { result.now ≡ self.now.text }
@@ -50,7 +50,14 @@ impl Told {
 #[derive(Drop)]
 pub struct Spoken<'l, N: Naming> {
     pub seat: Seat<'l, N>,
-    pub told: Result<Told, AllocError>,
+    pub group: Result<GroupText, AllocError>,
+}
+
+/// What replies at seats are made with: memory, and what types and rules are called.
+#[derive(Drop)]
+pub struct Voice<'a, B> {
+    pub alloc: Global,
+    pub names: &'a B,
 }
 
 /// The lines of one session of a script.
@@ -78,23 +85,23 @@ pub fn speak<'l, N: Naming, R: Wait>(
     name: Name,
     fresh: Fresh<'l, N>,
 ) -> Spoken<'l, N>
-    ensures { IfOk result.told (TellsGroup N.terms (labels_of part.entry.labels.now) name
+    ensures { IfOk result.group (GivesGroup N.terms (labels_of part.entry.labels.now) name
         (lines_of part.entry.session part.entry.sorting.now.handed)) }
 {
     let Fresh { mut seat } = fresh;
-    let told = tell(rt, &part, &name, &mut seat);
-    Spoken { seat, told }
+    let group = say_group(rt, &part, &name, &mut seat);
+    Spoken { seat, group }
 }
 
 /// Says the lines of a session at its seat, and returns its text.
-fn tell<N: Naming, R: Wait>(
+fn say_group<N: Naming, R: Wait>(
     rt: &R,
     part: &Part<'_>,
     name: &Name,
     seat: &mut Seat<'_, N>,
-) -> Result<Told, AllocError>
+) -> Result<GroupText, AllocError>
     requires { length (list_of seat.old) ≡ 0 }
-    ensures { IfOk result (TellsGroup N.terms (labels_of part.now.labels.now) name.now
+    ensures { IfOk result (GivesGroup N.terms (labels_of part.now.labels.now) name.now
         (lines_of part.now.session part.now.sorting.now.handed)) }
 {
     let mut text = Vec::new(part.alloc);
@@ -102,7 +109,7 @@ fn tell<N: Naming, R: Wait>(
     push_response(part.labels, 0, &opened, &mut text)?;
     say_lines(rt, part, name, seat, &mut text)?;
     let audited = seat.audit(rt).is_ok();
-    Ok(Told { text, audited })
+    Ok(GroupText { text, audited })
 }
 
 /// Says the lines of a session at its seat, one after another, and appends their reply texts.
@@ -118,10 +125,14 @@ fn say_lines<N: Naming, R: Wait>(
         (lines_of part.now.session part.now.sorting.now.handed) text (list_of seat.new)
         × (out.new.items ≡ out.old.items ++ text)) }
 {
+    let voice = Voice {
+        alloc: part.alloc,
+        names: part.labels,
+    };
     let lines = part.sorting.handed();
     for handed in lines {
         if handed.session == part.session {
-            say_line(rt, part, name, seat, &handed.line, out)?;
+            say_line(rt, &voice, name, seat, &handed.line, out)?;
         }
     }
     Ok(())
@@ -132,46 +143,46 @@ fn say_lines<N: Naming, R: Wait>(
 /// # Errors
 ///
 /// Out of memory, where the list had no room for the whole text. The line was said all the same.
-fn say_line<N: Naming, R: Wait>(
+pub fn say_line<N: Naming, B: Names, R: Wait>(
     rt: &R,
-    part: &Part<'_>,
+    voice: &Voice<'_, B>,
     name: &Name,
     seat: &mut Seat<'_, N>,
     line: &SeatLine,
     out: &mut Vec<u8>,
 ) -> Result<(), AllocError>
-    ensures { (text : List ℕ) × SaysLine N.terms (labels_of part.now.labels.now) name.now
+    ensures { (text : List ℕ) × SaysLine N.terms (B.book voice.now.names.now) name.now
         (list_of seat.old) line.now text (list_of seat.new)
         × OnOk result (out.new.items ≡ out.old.items ++ text)
         × OnErr result (vec_capacity out.old < vec_len out.old + length text) }
 {
     match *line {
-        SeatLine::Run(command) => run(rt, part, name, seat, command, out),
-        SeatLine::Look(asked) => look(rt, part, name, seat, asked, out),
-        SeatLine::Audit => audit(rt, part, name, seat, out),
+        SeatLine::Run(command) => run(rt, voice, name, seat, command, out),
+        SeatLine::Look(asked) => look(rt, voice, name, seat, asked, out),
+        SeatLine::Audit => audit(rt, voice, name, seat, out),
     }
 }
 
 /// Carries out a command at a seat, and appends the reply text.
-fn run<N: Naming, R: Wait>(
+fn run<N: Naming, B: Names, R: Wait>(
     rt: &R,
-    part: &Part<'_>,
+    voice: &Voice<'_, B>,
     name: &Name,
     seat: &mut Seat<'_, N>,
     command: Command,
     out: &mut Vec<u8>,
 ) -> Result<(), AllocError>
-    ensures { (text : List ℕ) × SaysCommand N.terms (labels_of part.now.labels.now) name.now
+    ensures { (text : List ℕ) × SaysCommand N.terms (B.book voice.now.names.now) name.now
         (list_of seat.old) command text (list_of seat.new)
         × OnOk result (out.new.items ≡ out.old.items ++ text)
         × OnErr result (vec_capacity out.old < vec_len out.old + length text) }
 {
     if is_save(&command) {
-        return save(rt, part, name, seat, out);
+        return save(rt, voice, name, seat, out);
     }
-    let result = seat.call(rt, part.alloc, command);
+    let result = seat.call(rt, voice.alloc, command);
     let response = Response::Answered(*name, Answer::Commanded(result));
-    push_response(part.labels, 0, &response, out)
+    push_response(voice.names, 0, &response, out)
 }
 
 /// Returns whether a command is [`Command::Save`].
@@ -182,50 +193,50 @@ fn is_save(command: &Command) -> bool
 }
 
 /// Saves the own paint at a seat, and appends the reply text and what was saved.
-fn save<N: Naming, R: Wait>(
+fn save<N: Naming, B: Names, R: Wait>(
     rt: &R,
-    part: &Part<'_>,
+    voice: &Voice<'_, B>,
     name: &Name,
     seat: &mut Seat<'_, N>,
     out: &mut Vec<u8>,
 ) -> Result<(), AllocError>
-    ensures { (text : List ℕ) × SaysCommand N.terms (labels_of part.now.labels.now) name.now
+    ensures { (text : List ℕ) × SaysCommand N.terms (B.book voice.now.names.now) name.now
         (list_of seat.old) Command.Save text (list_of seat.new)
         × OnOk result (out.new.items ≡ out.old.items ++ text)
         × OnErr result (vec_capacity out.old < vec_len out.old + length text) }
 {
-    let mut saved = Vec::new(part.alloc);
+    let mut saved = Vec::new(voice.alloc);
     let result = seat.save(rt, &mut saved);
-    push_saved(part.labels, name, result, &saved, out)
+    push_saved(voice.names, name, result, &saved, out)
 }
 
 /// Looks at the session of a seat, and appends the reply text and what comes with it.
-fn look<N: Naming, R: Wait>(
+fn look<N: Naming, B: Names, R: Wait>(
     rt: &R,
-    part: &Part<'_>,
+    voice: &Voice<'_, B>,
     name: &Name,
     seat: &Seat<'_, N>,
     look: Look,
     out: &mut Vec<u8>,
 ) -> Result<(), AllocError>
-    ensures { (text : List ℕ) × SaysLook N.terms (labels_of part.now.labels.now) name.now look text
+    ensures { (text : List ℕ) × SaysLook N.terms (B.book voice.now.names.now) name.now look text
         × OnOk result (out.new.items ≡ out.old.items ++ text)
         × OnErr result (vec_capacity out.old < vec_len out.old + length text) }
 {
-    let mut shown = Vec::new(part.alloc);
-    let result = seat.look(rt, part.alloc, look, &mut shown);
-    push_looked(part.labels, name, &result, &shown, out)
+    let mut shown = Vec::new(voice.alloc);
+    let result = seat.look(rt, voice.alloc, look, &mut shown);
+    push_looked(voice.names, name, &result, &shown, out)
 }
 
 /// Audits a seat, and appends the reply text.
-fn audit<N: Naming, R: Wait>(
+fn audit<N: Naming, B: Names, R: Wait>(
     rt: &R,
-    part: &Part<'_>,
+    voice: &Voice<'_, B>,
     name: &Name,
     seat: &Seat<'_, N>,
     out: &mut Vec<u8>,
 ) -> Result<(), AllocError>
-    ensures { (text : List ℕ) × SaysAudit N.terms (labels_of part.now.labels.now) name.now
+    ensures { (text : List ℕ) × SaysAudit N.terms (B.book voice.now.names.now) name.now
         (list_of seat.now) text
         × OnOk result (out.new.items ≡ out.old.items ++ text)
         × OnErr result (vec_capacity out.old < vec_len out.old + length text) }
@@ -233,7 +244,7 @@ fn audit<N: Naming, R: Wait>(
     match seat.audit(rt) {
         Ok(audited) => {
             let response = Response::Audited(*name, audited.entries);
-            push_response(part.labels, 0, &response, out)
+            push_response(voice.names, 0, &response, out)
         }
         Err(_) => push_differs(name, out),
     }

@@ -7,7 +7,7 @@ use crate::hostile::BYTES;
 use crate::plain_cell::{PlainRect, kind_at, read_plain_cell};
 use crate::plain_tech::PlainFault;
 use crate::plain_text::last_line;
-use mls_library::{CellId, Library};
+use mls_library::{CellFile, CellId, CellTiles, Library};
 use mls_stitch::{Plane, Scratch};
 use mls_tech::{TECHNOLOGY_M, Tech};
 use mls_tilepool::Pool;
@@ -79,12 +79,13 @@ fn load(
     tech: &Tech,
     pool: &mut Pool,
     library: &mut Library,
-    file: &[u8],
+    bytes: &[u8],
 ) -> Result<CellId, PlainFault>
     requires home { IsHome pool.old library.old }
     ensures home { IsHome pool.new library.new }
 {
-    match library.load(alloc, pool, tech, b"c", file) {
+    let file = CellFile { name: b"c", bytes };
+    match library.load(alloc, pool, tech, &file, CellTiles::default()) {
         Ok(id) => Ok(id),
         Err(fault) => Err(PlainFault {
             line: fault.line,

@@ -6,7 +6,7 @@ use crate::scene::Scene;
 use crate::servers::{CELL, CELL_NAME};
 use anyhow::{Result, ensure};
 use mls_geom::{Piece, Rect};
-use mls_library::{CellFault, CellId, Library};
+use mls_library::{CellFault, CellFile, CellId, CellTiles, Library};
 use mls_paint::{Scratch, overlay, space_plane, strips_of};
 use mls_stitch::Plane;
 use mls_tech::{TECHNOLOGY_M, Tech};
@@ -56,7 +56,11 @@ fn stocked(alloc: Global, tech: &Tech, pool: &mut Pool) -> Result<Library>
     ensures { IfOk result (λ library. IsHome pool.new library) }
 {
     let mut library = Library::new(alloc);
-    library.load(alloc, pool, tech, CELL_NAME, CELL)?;
+    let file = CellFile {
+        name: CELL_NAME,
+        bytes: CELL,
+    };
+    library.load(alloc, pool, tech, &file, CellTiles::default())?;
     Ok(library)
 }
 
@@ -105,7 +109,11 @@ impl<R: Print> Scene<R> for LibraryScene {
             library,
             ..
         } = self;
-        library.load(alloc, pool, tech, b"d", CELL)
+        let file = CellFile {
+            name: b"d",
+            bytes: CELL,
+        };
+        library.load(alloc, pool, tech, &file, CellTiles::default())
     }
 
     fn print(&mut self, rt: &R, _alloc: Global, answer: Result<CellId, CellFault>) -> Result<()> {

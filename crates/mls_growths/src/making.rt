@@ -2,8 +2,7 @@
 use crate::scene::Scene;
 use anyhow::Result;
 use mls_edgerule::compile;
-use mls_server::{Capacity, Server};
-use mls_session::{JournalLimit, Quota};
+use mls_server::{Capacity, Limits, Server};
 use mls_tech::{TECHNOLOGY_M, Tech, TechFault};
 use mls_tilepool::Pool;
 use std::alloc::{AllocError, Global};
@@ -75,14 +74,7 @@ impl Making {
         let Ok(rules) = compile(&tech) else {
             return MadeAnswer::Nothing;
         };
-        MadeAnswer::Server(Server::new(
-            alloc,
-            tech,
-            rules,
-            Capacity::default(),
-            Quota::default(),
-            JournalLimit::default(),
-        ))
+        MadeAnswer::Server(Server::new(alloc, tech, rules, Capacity::default(), Limits::default()))
     }
 }
 

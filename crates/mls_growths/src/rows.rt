@@ -195,6 +195,7 @@ fn row_named(name: &str, number: Option<u8>) -> Option<Row> {
         "look_stat" => asks(TWO_BARS, Call::Look(Look::Status)),
         "look_uses" => asks(PLACED, Call::Look(Look::Uses)),
         "look_marks" => asks(PLACED, Call::Look(Look::Marks)),
+        "look_journal" => asks(PLACED, Call::Look(Look::Journal)),
         "why" => asks(TWO_BARS, Call::Why),
         "what" => asks(PLACED, Call::What),
         "grab" => asks(TWO_BARS, Call::Grab),

@@ -10,8 +10,10 @@ use mls_checker::Finding;
 use mls_edgerule::compile;
 use mls_errorplane::{Outcome, Stepped};
 use mls_library::{CellFault, CellId};
-use mls_server::{Answer, Capacity, Event, GrabFault, Name, NotOpen, OpenFault, Server, SessionId};
-use mls_session::{Command, Job, JournalLimit, Look, Looked, Quota, Reply, StepRun};
+use mls_server::{
+    Answer, Capacity, Event, GrabFault, Limits, Name, NotOpen, OpenFault, Server, SessionId,
+};
+use mls_session::{Command, Job, Look, Looked, Quota, Reply, StepRun};
 use mls_tech::{TECHNOLOGY_M, Tech};
 use mls_wire::{Response, ServeFault, Watched, push_looked, push_response, serve};
 use std::alloc::{AllocError, Global};
@@ -54,8 +56,11 @@ fn new_server(alloc: Global, more: u32) -> Result<Server>
     let quota = Quota::new(5).context("no quota")?;
     let tech = Tech::read(alloc, TECHNOLOGY_M)?;
     let rules = compile(&tech)?;
-    let limit = JournalLimit::default();
-    Ok(Server::new(alloc, tech, rules, capacity, quota, limit)?)
+    let limits = Limits {
+        quota,
+        ..Limits::default()
+    };
+    Ok(Server::new(alloc, tech, rules, capacity, limits)?)
 }
 
 /// Creates such a server with the cell.

@@ -11,13 +11,13 @@ use Rattle.mls_geom.specs.declared.piece.Piece.{Piece}
 use Rattle.mls_library.specs.CellFiles.{layout_of}
 use Rattle.mls_library.specs.Faults.{UnlessMemory}
 use Rattle.mls_library.specs.Inner.{AreLayoutStrips, ArePlaneStrips, IsFrozenList}
-use Rattle.mls_library.specs.Libraries.{most_tiles, tile_counts}
+use Rattle.mls_library.specs.Libraries.{tile_counts}
 use Rattle.mls_library.specs.declared.cell_rect.CellRect.{CellRect}
 use Rattle.mls_library.specs.declared.fault.CellFault.{CellFault}
 use Rattle.mls_library.specs.declared.fault.CellFaultKind.TheVariants.{TooManyTiles}
 use Rattle.mls_library.proofs.Ranges.{range-push}
 
-module _ (rects : List CellRect) where
+module _ (most : ℕ) (rects : List CellRect) where
   abbrev count_at : ℕ → ℕ
   count_at plane = tile_count world (layout_of rects plane)
 
@@ -32,11 +32,11 @@ module _ (rects : List CellRect) where
 
     -- one plane more
     pub AreLayoutStrips-push :
-        AreLayoutStrips rects lists → ArePlaneStrips (layout_of rects (length lists)) list → length list ≤ most_tiles → length list ≡ count_at (length lists)
-        → AreLayoutStrips rects (lists ++ list ∷ [])
+        AreLayoutStrips most rects lists → ArePlaneStrips (layout_of rects (length lists)) list → length list ≤ most → length list ≡ count_at (length lists)
+        → AreLayoutStrips most rects (lists ++ list ∷ [])
     AreLayoutStrips-push before strips few count = record {
       each = each;
-      few = All-push (λ l. length l ≤ most_tiles) lists list before.few few;
+      few = All-push (λ l. length l ≤ most) lists list before.few few;
       counts =
           map-append (λ l. length l) lists (list ∷ []) ∙ ap (λ counts. counts ++ length list ∷ []) before.counts ∙ ap (λ n. tile_counts (length lists) rects ++ n ∷ []) count
           ∙ sym (tile_counts-push (length lists)) ∙ ap (λ n. tile_counts n rects) (sym longer);
@@ -66,11 +66,11 @@ any-in_range f p a (suc n) (suc k) within e =
     or-true (p (f a)) (list_any p (map f (range_with_len (a + 1) n)))
     (any-in_range f p (a + 1) n k (omega (arith, within)) (subst (λ x. p (f x) ≡ true) (omega arith) e))
 
-pub tile_counts-any : (rects : List CellRect) (planes plane : ℕ) → plane < planes → most_tiles < tile_count world (layout_of rects plane)
-    → list_any (λ count. nat_lt most_tiles count) (tile_counts planes rects) ≡ true
-tile_counts-any rects planes plane within many =
-    any-in_range (λ p. tile_count world (layout_of rects p)) (λ count. nat_lt most_tiles count) 0 planes plane within
-    (lt-ltb most_tiles _ (subst (λ p. most_tiles < tile_count world (layout_of rects p)) (omega arith) many))
+pub tile_counts-any : (most : ℕ) (rects : List CellRect) (planes plane : ℕ) → plane < planes → most < tile_count world (layout_of rects plane)
+    → list_any (λ count. nat_lt most count) (tile_counts planes rects) ≡ true
+tile_counts-any most rects planes plane within many =
+    any-in_range (λ p. tile_count world (layout_of rects p)) (λ count. nat_lt most count) 0 planes plane within
+    (lt-ltb most _ (subst (λ p. most < tile_count world (layout_of rects p)) (omega arith) many))
 
 -- and is the fault of the cell
 pub too_many : {A P : Type 0} (result : Result A CellFault) → IsErrAnd result (λ fault. fault ≡ record { line = 0; kind = TooManyTiles }) → P

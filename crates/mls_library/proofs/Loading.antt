@@ -26,79 +26,85 @@ UnlessMemory-map Memory line e f = e
 UnlessMemory-map kind line p f = f p
 
 -- ---- room
-module _ (free : ℕ) (counts : List ℕ) where
+module _ (most free : ℕ) (counts : List ℕ) where
   abbrev room_if : Bool → Bool → Option CellFaultKind
   room_if many full = cond many (Some TooManyTiles) (cond full (Some PoolFull) None)
 
-  room_fault-tests : (many full : Bool) → list_any (λ count. nat_lt most_tiles count) counts ≡ many → nat_lt free (total counts) ≡ full → room_fault free counts ≡ room_if many full
+  room_fault-tests : (many full : Bool) → list_any (λ count. nat_lt most count) counts ≡ many → nat_lt free (total counts) ≡ full → room_fault most free counts ≡ room_if many full
   unfolding room_fault
   room_fault-tests many full e f = ap (λ b. room_if b (nat_lt free (total counts))) e ∙ ap (room_if many) f
 
-  pub room_fault-tiles : list_any (λ count. nat_lt most_tiles count) counts ≡ true → room_fault free counts ≡ Some TooManyTiles
+  pub room_fault-tiles : list_any (λ count. nat_lt most count) counts ≡ true → room_fault most free counts ≡ Some TooManyTiles
   room_fault-tiles e = room_fault-tests true (nat_lt free (total counts)) e refl
 
-  pub room_fault-full : list_any (λ count. nat_lt most_tiles count) counts ≡ false → free < total counts → room_fault free counts ≡ Some PoolFull
+  pub room_fault-full : list_any (λ count. nat_lt most count) counts ≡ false → free < total counts → room_fault most free counts ≡ Some PoolFull
   room_fault-full e full = room_fault-tests false true e (lt-ltb free (total counts) full)
 
-  pub room_fault-none : list_any (λ count. nat_lt most_tiles count) counts ≡ false → total counts ≤ free → room_fault free counts ≡ None
+  pub room_fault-none : list_any (λ count. nat_lt most count) counts ≡ false → total counts ≤ free → room_fault most free counts ≡ None
   room_fault-none e room =
       let fits : nat_lt free (total counts) ≡ false = grind (arith, nat_tests, room) in
       room_fault-tests false false e fits
 
 -- ---- loading
-module _ (tech : Tech) (names : List (List ℕ)) (free : ℕ) (name bytes : List ℕ) where
-  pub loading_of-name : (kind : CellFaultKind) → name_fault names name ≡ Some kind → loading_of tech names free name bytes ≡ Err (record { line = 0; kind = kind })
+module _ (tech : Tech) (names : List (List ℕ)) (most free : ℕ) (name bytes : List ℕ) where
+  pub loading_of-name : (kind : CellFaultKind) → name_fault names name ≡ Some kind → loading_of tech names most free name bytes ≡ Err (record { line = 0; kind = kind })
   unfolding loading_of
-  loading_of-name kind e = ap (λ fault. unless_fault fault (with_room tech.plane_count free (reading_of tech bytes))) e
+  loading_of-name kind e = ap (λ fault. unless_fault fault (with_room tech.plane_count most free (reading_of tech bytes))) e
 
   module _ (named : name_fault names name ≡ None) where
-    loading_of-read : (read : Result (List CellRect) CellFault) → reading_of tech bytes ≡ read → loading_of tech names free name bytes ≡ with_room tech.plane_count free read
+    loading_of-read : (read : Result (List CellRect) CellFault) → reading_of tech bytes ≡ read → loading_of tech names most free name bytes ≡ with_room tech.plane_count most free read
     unfolding loading_of
     loading_of-read read e =
-        ap (λ fault. unless_fault fault (with_room tech.plane_count free (reading_of tech bytes))) named ∙ ap (with_room tech.plane_count free) e
+        ap (λ fault. unless_fault fault (with_room tech.plane_count most free (reading_of tech bytes))) named ∙ ap (with_room tech.plane_count most free) e
 
-    pub loading_of-file : (fault : CellFault) → reading_of tech bytes ≡ Err fault → loading_of tech names free name bytes ≡ Err fault
+    pub loading_of-file : (fault : CellFault) → reading_of tech bytes ≡ Err fault → loading_of tech names most free name bytes ≡ Err fault
     loading_of-file fault e = loading_of-read (Err fault) e
 
     pub loading_of-room : (rects : List CellRect) (fault : Option CellFaultKind) → reading_of tech bytes ≡ Ok rects
-        → room_fault free (tile_counts tech.plane_count rects) ≡ fault → loading_of tech names free name bytes ≡ unless_fault fault (Ok rects)
+        → room_fault most free (tile_counts tech.plane_count rects) ≡ fault → loading_of tech names most free name bytes ≡ unless_fault fault (Ok rects)
     loading_of-room rects fault e f = loading_of-read (Ok rects) e ∙ ap (λ found. unless_fault found (Ok rects)) f
 
 -- a fault that is passed on is that of loading
 pub LoadsUnlessMemory-fault :
-    (tech : Tech) (before after : Pool) (cells more : Library) (name bytes : List ℕ) (fault : CellFault) (result : Result ℕ CellFault)
+    (tech : Tech) (most : ℕ) (before after : Pool) (cells more : Library) (name bytes : List ℕ) (fault : CellFault) (result : Result ℕ CellFault)
     → IsErrAnd result (λ passed. passed ≡ fault)
-    → UnlessMemory fault.kind fault.line (loading_of tech (names_of cells) (unreserved before) name bytes ≡ Err fault)
-    → LoadsUnlessMemory tech before after cells more name bytes result
-LoadsUnlessMemory-fault tech before after cells more name bytes fault (Ok id) passed known = absurd passed
-LoadsUnlessMemory-fault tech before after cells more name bytes fault (Err other) passed known = rw passed known
+    → UnlessMemory fault.kind fault.line (loading_of tech (names_of cells) most (unreserved before) name bytes ≡ Err fault)
+    → LoadsUnlessMemory tech most before after cells more name bytes result
+LoadsUnlessMemory-fault tech most before after cells more name bytes fault (Ok id) passed known = absurd passed
+LoadsUnlessMemory-fault tech most before after cells more name bytes fault (Err other) passed known = rw passed known
 
 -- what holds of each of the images holds by way of the function
 pub All-unmap : {X Y : Type 0} (f : X → Y) (P : Y → Type 0) (xs : List X) → All P (map f xs) → All (λ x. P (f x)) xs
 All-unmap f P xs all k d within = subst P (get_or-map f xs k d (f d) within) (all k (f d) (rw length-map within))
 
+-- lists within a limit are within a greater one
+pub few-within : {X : Type 0} (items : X → List Piece) (lists : List X) (most greater : ℕ) → All (λ list. length (items list) ≤ most) lists → most ≤ greater
+    → All (λ list. length (items list) ≤ greater) lists
+few-within items lists most greater few within_it k d within =
+    let fits : length (items (get_or lists k d)) ≤ most = few k d within in omega (arith, fits, within_it)
+
 -- lists within the limit are not too long
-pub few-any : (lists : List (List Piece)) → All (λ list. length list ≤ most_tiles) lists → list_any (λ count. nat_lt most_tiles count) (map (λ list. length list) lists) ≡ false
-few-any [] few = refl
-few-any (list ∷ lists) few =
-    let first : nat_lt most_tiles (length list) ≡ false = let h : length list ≤ most_tiles = few 0 list (omega arith) in grind (arith, nat_tests) in
-    rw first (few-any lists (λ k d within. few (suc k) d (omega (arith, within))))
+pub few-any : (most : ℕ) (lists : List (List Piece)) → All (λ list. length list ≤ most) lists → list_any (λ count. nat_lt most count) (map (λ list. length list) lists) ≡ false
+few-any most [] few = refl
+few-any most (list ∷ lists) few =
+    let first : nat_lt most (length list) ≡ false = let h : length list ≤ most = few 0 list (omega arith) in grind (arith, nat_tests) in
+    rw first (few-any most lists (λ k d within. few (suc k) d (omega (arith, within))))
 
 -- lists of strips, and how many there are on each plane
-module _ {X : Type 0} (items : X → List Piece) (lists : List X) (rects : List CellRect) (planes : ℕ) (strips : AreLayoutStrips rects (map items lists)) (all : length lists ≡ planes) where
+module _ {X : Type 0} (items : X → List Piece) (lists : List X) (rects : List CellRect) (planes most : ℕ) (strips : AreLayoutStrips most rects (map items lists)) (all : length lists ≡ planes) where
   pub counts_listed : map (λ list. length (items list)) lists ≡ tile_counts planes rects
   counts_listed = sym (map-map (λ list. length list) items lists) ∙ strips.counts ∙ ap (λ n. tile_counts n rects) (length-map lists items ∙ all)
 
-  pub counts_few : list_any (λ count. nat_lt most_tiles count) (tile_counts planes rects) ≡ false
+  pub counts_few : list_any (λ count. nat_lt most count) (tile_counts planes rects) ≡ false
   counts_few =
-      ap (list_any (λ count. nat_lt most_tiles count)) (ap (λ n. tile_counts n rects) (sym (length-map lists items ∙ all)) ∙ sym strips.counts)
-      ∙ few-any (map items lists) strips.few
+      ap (list_any (λ count. nat_lt most count)) (ap (λ n. tile_counts n rects) (sym (length-map lists items ∙ all)) ∙ sym strips.counts)
+      ∙ few-any most (map items lists) strips.few
 
-  pub lists_frozen : All (λ list. IsFrozenList (items list)) lists
-  lists_frozen = All-unmap items IsFrozenList lists frozen
+  pub lists_frozen : most ≤ most_tiles → All (λ list. IsFrozenList (items list)) lists
+  lists_frozen legal = All-unmap items IsFrozenList lists frozen
     where
       frozen : All IsFrozenList (map items lists)
       frozen k d within = record {
         strips = subst (λ picture. AreUnorderedStrips world picture (get_or (map items lists) k d)) (sym (strips.each k d within).shows) (strips.each k d within).strips;
-        few = strips.few k d within;
+        few = let few : length (get_or (map items lists) k d) ≤ most = strips.few k d within in omega (arith, few, legal);
       }

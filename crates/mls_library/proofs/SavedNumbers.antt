@@ -34,10 +34,10 @@ plain_integer (b ∷ ds) some digits =
 
 -- the digits of a number
 module _ (n : ℕ) (small : n < 2 ^ 64) where
-  decimal_digits : list_all is_digit (decimal n) ≡ true
+  pub decimal_digits : list_all is_digit (decimal n) ≡ true
   decimal_digits = digits_decimal digits_model n small
 
-  decimal_value : value_of (decimal n) ≡ n
+  pub decimal_value : value_of (decimal n) ≡ n
   decimal_value = digits_value-decimal digits_model n small
 
 -- what is written is read as the same number
@@ -57,7 +57,7 @@ signed_decimal-read (negsuc n) small =
     number (b ∷ ds) some digits = digits
 
 -- it has only digits and a `-`
-IsPlain-digits : (ds : List ℕ) → list_all is_digit ds ≡ true → IsPlain ds
+pub IsPlain-digits : (ds : List ℕ) → list_all is_digit ds ≡ true → IsPlain ds
 IsPlain-digits [] digits = All-nil (λ b. 45 ≤ b)
 IsPlain-digits (b ∷ ds) digits =
     let parts = and_parts (is_digit b) (list_all is_digit ds) digits in

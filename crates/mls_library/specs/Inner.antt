@@ -60,10 +60,10 @@ pub record ArePlaneStrips (picture : Picture) (list : List Piece) : Type 0 where
   pub strips : AreUnorderedStrips world picture list
   pub shows : picture_of list ≡ picture
 
--- for each of the first planes of a layout a list of its strips, which number no more than those of a cell's plane may
-pub record AreLayoutStrips (rects : List CellRect) (lists : List (List Piece)) : Type 0 where
+-- for each of the first planes of a layout a list of its strips, no more than `most`
+pub record AreLayoutStrips (most : ℕ) (rects : List CellRect) (lists : List (List Piece)) : Type 0 where
   pub each : (plane : ℕ) (d : List Piece) → plane < length lists → ArePlaneStrips (layout_of rects plane) (slice_index_or lists plane d)
-  pub few : All (λ list. length list ≤ most_tiles) lists
+  pub few : All (λ list. length list ≤ most) lists
   pub counts : map (λ list. length list) lists ≡ tile_counts (length lists) rects
 
 -- these owners are new, each with a plane that a list of strips shows, and they have reserved just as many tiles as there are strips
@@ -74,7 +74,7 @@ pub record AreBuilt (old new : Pool) (owners : List ℕ) (lists : List (List Pie
   pub shows : (plane d : ℕ) (e : List Piece) → plane < length lists → picture_in new (slice_index_or owners plane d) ≡ picture_of (slice_index_or lists plane e)
   pub added : AddsOwners old new owners (total (map (λ list. length list) lists))
 
--- the list has the strips of the picture that it shows, no more than a cell's plane may have
+-- the list has the strips of the picture that it shows, no more than a plane of any cell may have
 pub record IsFrozenList (list : List Piece) : Type 0 where
   pub strips : AreUnorderedStrips world (picture_of list) list
   pub few : length list ≤ most_tiles

@@ -45,11 +45,20 @@ cell_named cells name = position (λ cell. same_word name cell.name) cells
 abbrev pub cell_layout : Pool → NamedCell → Layout
 cell_layout pool cell = layout_in pool cell.planes
 
--- the most tiles that a cell's plane may have
+-- the most tiles that a plane of any cell may have
 abbrev pub most_tiles : ℕ
-most_tiles = 4096
+most_tiles = 16384
 
--- the owner's plane lies in the pool in maximal strips, no more than a cell's plane may have, and has reserved just as many tiles as it has
+-- how many it may have if the user says nothing, and no limit is less
+abbrev pub default_cell_tiles : ℕ
+default_cell_tiles = 4096
+
+-- a plane of a cell may have this number of tiles at most
+pub record IsCellTiles (tiles : ℕ) : Type 0 where
+  pub enough : default_cell_tiles ≤ tiles
+  pub bounded : tiles ≤ most_tiles
+
+-- the owner's plane lies in the pool in maximal strips, no more than a plane of any cell may have, and has reserved just as many tiles as it has
 pub record IsFrozen (pool : Pool) (owner : ℕ) : Type 0 where
   pub strips : HasStrips pool owner
   pub few : tile_count world (picture_in pool owner) ≤ most_tiles
@@ -111,10 +120,10 @@ tile_counts planes rects = map (λ plane. tile_count world (layout_of rects plan
 abbrev pub total : List ℕ → ℕ
 total counts = sum_by (λ count. count) counts
 
--- what is wrong with planes that have these numbers of tiles, where this many tiles of the pool are unreserved
-unfoldable pub room_fault : ℕ → List ℕ → Option CellFaultKind
-room_fault free counts =
-    if list_any (λ count. nat_lt most_tiles count) counts then Some TooManyTiles
+-- what is wrong with planes that have these numbers of tiles, where each may have `most` and this many tiles of the pool are unreserved
+unfoldable pub room_fault : ℕ → ℕ → List ℕ → Option CellFaultKind
+room_fault most free counts =
+    if list_any (λ count. nat_lt most count) counts then Some TooManyTiles
     else (if nat_lt free (total counts) then Some PoolFull
     else None)
 
@@ -124,14 +133,14 @@ unless_fault None read = read
 unless_fault (Some kind) read = Err (record { line = 0; kind = kind })
 
 -- what was read, if there is room for it
-abbrev pub with_room : ℕ → ℕ → Result (List CellRect) CellFault → Result (List CellRect) CellFault
-with_room planes free (Ok rects) = unless_fault (room_fault free (tile_counts planes rects)) (Ok rects)
-with_room planes free (Err fault) = Err fault
+abbrev pub with_room : ℕ → ℕ → ℕ → Result (List CellRect) CellFault → Result (List CellRect) CellFault
+with_room planes most free (Ok rects) = unless_fault (room_fault most free (tile_counts planes rects)) (Ok rects)
+with_room planes most free (Err fault) = Err fault
 
--- the rectangles of a cell that may be loaded beside cells of these names, or the first fault: of its name, of the library, of the file, and of the
--- room for it
-unfoldable pub loading_of : Tech → List (List ℕ) → ℕ → List ℕ → List ℕ → Result (List CellRect) CellFault
-loading_of tech names free name bytes = unless_fault (name_fault names name) (with_room tech.plane_count free (reading_of tech bytes))
+-- the rectangles of a cell that may be loaded beside cells of these names, in at most `most` tiles a plane, or the first fault: of its name, of the
+-- library, of the file, and of the room for it
+unfoldable pub loading_of : Tech → List (List ℕ) → ℕ → ℕ → List ℕ → List ℕ → Result (List CellRect) CellFault
+loading_of tech names most free name bytes = unless_fault (name_fault names name) (with_room tech.plane_count most free (reading_of tech bytes))
 
 -- each cell keeps its number, with its name, its planes and its bounds
 abbrev pub KeepsCells : Library → Library → Type 0
@@ -149,8 +158,8 @@ pub record AddsCell (tech : Tech) (before after : Pool) (cells more : Library) (
   pub reserves : AddsOwners before after cell.planes (total (tile_counts tech.plane_count rects))
 
 -- loading gives the cell that the definition reads, or its fault, unless memory ran out
-abbrev pub LoadsUnlessMemory : Tech → Pool → Pool → Library → Library → List ℕ → List ℕ → Result ℕ CellFault → Type 0
-LoadsUnlessMemory tech before after cells more name bytes (Ok id) =
-    (rects : List CellRect) × (loading_of tech (names_of cells) (unreserved before) name bytes ≡ Ok rects) × AddsCell tech before after cells more name id rects
-LoadsUnlessMemory tech before after cells more name bytes (Err fault) =
-    UnlessMemory fault.kind fault.line (loading_of tech (names_of cells) (unreserved before) name bytes ≡ Err fault)
+abbrev pub LoadsUnlessMemory : Tech → ℕ → Pool → Pool → Library → Library → List ℕ → List ℕ → Result ℕ CellFault → Type 0
+LoadsUnlessMemory tech most before after cells more name bytes (Ok id) =
+    (rects : List CellRect) × (loading_of tech (names_of cells) most (unreserved before) name bytes ≡ Ok rects) × AddsCell tech before after cells more name id rects
+LoadsUnlessMemory tech most before after cells more name bytes (Err fault) =
+    UnlessMemory fault.kind fault.line (loading_of tech (names_of cells) most (unreserved before) name bytes ≡ Err fault)

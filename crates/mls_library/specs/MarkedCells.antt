@@ -9,7 +9,6 @@ use Rattle.mls_geom.specs.StripLists.{strips_of}
 use Rattle.mls_geom.specs.World.{world}
 use Rattle.mls_geom.specs.declared.piece.Piece.{Piece}
 use Rattle.mls_tech.specs.Readings.{Tech}
-use Rattle.mls_library.specs.Libraries.{most_tiles}
 use Rattle.mls_library.specs.SavedCells.{end_lines, header_lines, layers_lines, of_kind, rect_words, section_lines, section_words, spaced, strips_on, text_of, types_of}
 
 -- ---- the two sections
@@ -52,6 +51,6 @@ abbrev pub marked_text : Tech → Layout → List Rect → Picture → List ℕ
 marked_text tech layout areas marks = text_of (marked_lines tech layout areas marks)
 
 -- ---- how much of a layout is listed
--- the most tiles that a plane may have together with the cells that are placed on it, where it may have a quota of its own
-abbrev pub most_flat_tiles : ℕ → ℕ
-most_flat_tiles quota = max quota most_tiles
+-- the most tiles that a plane may have together with the cells that are placed on it, where it may have a quota of its own, and one of a cell `most`
+abbrev pub most_flat_tiles : ℕ → ℕ → ℕ
+most_flat_tiles quota most = max quota most

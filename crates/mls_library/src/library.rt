@@ -9,8 +9,8 @@ use crate::bounds::bounds_of;
 use crate::cell::Cell;
 use crate::cell_name::is_cell_name;
 use crate::file::read_cell;
-use crate::plane_strips::{MOST_TILES, count_tiles, find_plane_strips};
-use crate::{CellFault, CellFaultKind};
+use crate::plane_strips::{count_tiles, find_plane_strips};
+use crate::{CellFault, CellFaultKind, CellTiles};
 use indexmap::IndexMap;
 use mls_geom::Piece;
 use mls_stitch::{Plane, Scratch};
@@ -45,6 +45,13 @@ impl CellId {
     {
         self.index
     }
+}
+
+/// A cell's name, and the bytes of its file.
+#[derive(Clone, Copy)]
+pub struct CellFile<'a> {
+    pub name: &'a [u8],
+    pub bytes: &'a [u8],
 }
 
 /// Cells by name, in the order in which they were loaded, whose planes lie in a pool and never change.
@@ -114,8 +121,8 @@ impl Library {
         self.name(CellId { index: place })
     }
 
-    /// Loads a cell from a file, with a plane for each plane of the technology. Each reserves just as many tiles of the
-    /// pool as it has.
+    /// Loads a cell from a file, with a plane for each plane of the technology, none of which may have more tiles than
+    /// the limit. Each reserves just as many tiles of the pool as it has.
     ///
     /// # Errors
     ///
@@ -127,28 +134,30 @@ impl Library {
         alloc: Global,
         pool: &mut Pool,
         tech: &Tech,
-        name: &[u8],
-        bytes: &[u8],
+        file: &CellFile<'_>,
+        limit: CellTiles,
     ) -> Result<CellId, CellFault>
         requires home { spec.IsHome pool.old self.old }
-        ensures loads { spec.LoadsUnlessMemory tech.now pool.old pool.new self.old self.new name.now bytes.now result }
+        ensures loads { spec.LoadsUnlessMemory tech.now limit pool.old pool.new self.old self.new
+            file.now.name.now file.now.bytes.now result }
         ensures home { spec.IsHome pool.new self.new }
         ensures planes { spec.HavePlanes tech.now.plane_count self.old → spec.HavePlanes tech.now.plane_count self.new }
         ensures cells_kept { spec.KeepsCells self.old self.new }
         ensures library_kept { OnErr result (self.new ≡ self.old) }
         ensures pool_kept { OnErr result (pool.new ≡ pool.old) }
     {
-        if let Some(kind) = self.name_fault(name) {
+        if let Some(kind) = self.name_fault(file.name) {
             return Err(CellFault::of_cell(kind));
         }
-        let rects = read_cell(alloc, tech, bytes)?;
-        let strips = find_plane_strips(alloc, tech.planes() as u8, &rects)?;
+        let rects = read_cell(alloc, tech, file.bytes)?;
+        let strips = find_plane_strips(alloc, tech.planes() as u8, &rects, limit)?;
+        let most = limit.tiles();
         if (pool.unreserved() as usize) < count_tiles(&strips) {
             return Err(CellFault::of_cell(CellFaultKind::PoolFull));
         }
-        let name = Vec::from_slice(alloc, name)?;
+        let name = Vec::from_slice(alloc, file.name)?;
         let mut planes = Vec::with_capacity(alloc, strips.len())?;
-        let mut scratch = Scratch::new(alloc, MOST_TILES)?;
+        let mut scratch = Scratch::new(alloc, most)?;
         self.cells.reserve(1)?;
         // Nothing below fails: the tiles and all memory are there.
         let bounds = bounds_of(&strips);
@@ -187,7 +196,7 @@ fn build_planes(
     requires tiles { spec.total (map (λ list. length list.items) strips.now) ≤ unreserved pool.old }
     requires none { planes.old.items ≡ [] }
     requires planes_fit { length strips.now ≤ vec_capacity planes.old }
-    requires tiles_fit { spec.most_tiles ≤ scratch.old.room }
+    requires tiles_fit { All (λ list. length list.items ≤ scratch.old.room) strips.now }
     ensures built { AreBuilt pool.old pool.new planes.new.items (map (λ list. list.items) strips.now) }
 {
     for strips in strips {

@@ -3,7 +3,7 @@ ghost use Rattle.std.specs.Prelude.{◌≡◌, ◌+◌, ◌++◌, ◌≤◌, ◌
 ghost use Rattle.mls_library.specs.MarkedCells as spec;
 ghost use Rattle.mls_library.specs.SavedCells.{Extends, text_of};
 
-use crate::plane_strips::MOST_TILES;
+use crate::CellTiles;
 use crate::saved::{push_rect, push_section, push_strip_section, section_line_count};
 use mls_geom::{Piece, Rect};
 use std::alloc::AllocError;
@@ -13,10 +13,10 @@ const MARKED: u8 = 1;
 
 /// Returns the most tiles that a plane may have together with the cells that are placed on it, where it may have a
 /// quota of its own.
-pub fn most_flat_tiles(quota: u32) -> usize
-    ensures { result ≡ spec.most_flat_tiles quota }
+pub fn most_flat_tiles(quota: u32, limit: CellTiles) -> usize
+    ensures { result ≡ spec.most_flat_tiles quota limit }
 {
-    quota.max(MOST_TILES) as usize
+    quota.max(limit.tiles()) as usize
 }
 
 /// Returns how many lines the section of areas that await checking has in a cell file.

@@ -7,13 +7,10 @@ ghost use Rattle.mls_library.specs.Inner.{AreLayoutStrips};
 ghost use Rattle.mls_library.specs.declared.fault.CellFaultKind.TheVariants.{TooManyTiles};
 ghost use Rattle.mls_library.specs.Libraries.{most_tiles, tile_counts, total};
 
-use crate::CellFault;
 use crate::cell_rect::CellRect;
+use crate::{CellFault, CellTiles};
 use mls_geom::{Piece, Scratch as Sweep, strips};
 use std::alloc::{AllocError, Global};
-
-/// The most tiles that a cell's plane may have.
-pub(crate) const MOST_TILES: u32 = 4096;
 
 /// Makes `pieces` those that are painted on a plane, in order.
 fn list_pieces(rects: &[CellRect], plane: u8, pieces: &mut Vec<Piece>) -> Result<(), AllocError>
@@ -42,35 +39,36 @@ pub(crate) fn count_tiles(planes: &[Vec<Piece>]) -> usize
     count
 }
 
-/// Creates a sweep for this many pieces, and for the strips of a plane.
-fn sweep_for(alloc: Global, pieces: usize) -> Result<Sweep, AllocError>
+/// Creates a sweep for this many pieces, and for the strips of a plane of this limit.
+fn sweep_for(alloc: Global, pieces: usize, limit: CellTiles) -> Result<Sweep, AllocError>
     ensures pieces { IfOk result (λ sweep. pieces ≤ sweep.room) }
-    ensures strips { IfOk result (λ sweep. most_tiles ≤ sweep.room) }
+    ensures strips { IfOk result (λ sweep. limit ≤ sweep.room) }
 {
-    Sweep::new(alloc, pieces.max(MOST_TILES as usize))
+    Sweep::new(alloc, pieces.max(limit.tiles() as usize))
 }
 
 /// Finds the strips of each plane of a layout.
 ///
-/// Fails if a plane has more than a cell's plane may have.
+/// Fails if a plane has more than the limit.
 pub(crate) fn find_plane_strips(
     alloc: Global,
     planes: u8,
     rects: &[CellRect],
+    limit: CellTiles,
 ) -> Result<Vec<Vec<Piece>>, CellFault>
     requires { planes ≤ 4 }
-    ensures strips { IfOk result (λ found. AreLayoutStrips rects.now (map (λ list. list.items) found.items)) }
+    ensures strips { IfOk result (λ found. AreLayoutStrips limit rects.now (map (λ list. list.items) found.items)) }
     ensures count { IfOk result (λ found. length found.items ≡ planes) }
     ensures fault { IfErr result (λ fault. UnlessMemory fault.kind fault.line
         ((fault ≡ record { line = 0; kind = TooManyTiles })
-        × (list_any (λ count. nat_lt most_tiles count) (tile_counts planes rects.now) ≡ true))) }
+        × (list_any (λ count. nat_lt limit count) (tile_counts planes rects.now) ≡ true))) }
 {
-    let mut sweep = sweep_for(alloc, rects.len())?;
+    let mut sweep = sweep_for(alloc, rects.len(), limit)?;
     let mut pieces = Vec::new(alloc);
     let mut found = Vec::with_capacity(alloc, usize::from(planes))?;
     for plane in 0..planes {
         list_pieces(rects, plane, &mut pieces)?;
-        strips(&[], &pieces, MOST_TILES as usize, &mut sweep)?;
+        strips(&[], &pieces, limit.tiles() as usize, &mut sweep)?;
         found.push_reserved(Vec::from_slice(alloc, sweep.strips())?);
     }
     Ok(found)

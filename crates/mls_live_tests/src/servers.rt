@@ -3,7 +3,7 @@ ghost use Rattle.std.specs.Prelude.{◌≡◌, [], IfOk};
 ghost use Rattle.mls_server.specs.Servers.{world_of};
 
 use mls_edgerule::compile;
-use mls_server::{Capacity, Server};
+use mls_server::{Capacity, Limits, Server};
 use mls_session::{Command, JournalLimit, Quota};
 use mls_tech::{TECHNOLOGY_M, Tech};
 use std::alloc::Global;
@@ -47,10 +47,15 @@ pub fn new_server(alloc: Global, room: Room) -> Result<Server, Fail>
 {
     let capacity = Capacity::new(room.pool).ok_or("no pool")?;
     let quota = Quota::new(room.quota).ok_or("no quota")?;
-    let limit = JournalLimit::new(room.entries).ok_or("no limit")?;
+    let journal = JournalLimit::new(room.entries).ok_or("no limit")?;
+    let limits = Limits {
+        quota,
+        journal,
+        ..Limits::default()
+    };
     let tech = Tech::read(alloc, TECHNOLOGY_M)?;
     let rules = compile(&tech)?;
-    Ok(Server::new(alloc, tech, rules, capacity, quota, limit)?)
+    Ok(Server::new(alloc, tech, rules, capacity, limits)?)
 }
 
 /// Creates a server with technology M and the cell.

@@ -22,7 +22,7 @@ IsOkAnd-gives (Err e) P Q f p = absurd p
 loaded-keeps : {A : Type 0} (part : World → A) (old new : World) (name bytes : List ℕ) (id : ℕ) → ((cell : NamedLayout) (tiles : ℕ) → part (with_cell old cell tiles) ≡ part old)
     → LoadsCell old name bytes (Ok id) new → part new ≡ part old
 loaded-keeps part old new name bytes id kept loads =
-    IsOkAnd-gives (loading_of old.setting.tech (cell_names old.setting) old.room name bytes)
+    IsOkAnd-gives (loading_of old.setting.tech (cell_names old.setting) old.setting.cell_tiles old.room name bytes)
     (λ rects. (id ≡ length old.setting.cells) × (new ≡ with_cell old (record { name = name; layout = layout_of rects }) (total (tile_counts old.setting.tech.plane_count rects))))
     (part new ≡ part old) (λ rects is. ap part is.1 ∙ kept _ _) loads
 

@@ -23,17 +23,17 @@ use Rattle.clap.specs.declared.builder.value_parser.ValueParser.TheVariants.{Sig
 use Rattle.clap.specs.declared.parser.matches.ArgMatches.{ArgMatches}
 use Rattle.clap.specs.declared.parser.matches.MatchedArg.{MatchedArg}
 use Rattle.mls_magicd.proofs.NumberLemmas.{IsNumberText}
-use Rattle.mls_magicd.specs.CommandLines.{NumberOption, magicd, tech_rule, number_rule, cells_rule, quota_option, pool_option, journal_option, workers_option}
+use Rattle.mls_magicd.specs.CommandLines.{NumberOption, magicd, tech_rule, number_rule, live_rule, cells_rule, quota_option, pool_option, journal_option, cell_tiles_option, workers_option}
 
 -- the rules of the command's arguments
 abbrev pub own_rules : List Rule
-own_rules = tech_rule ∷ number_rule quota_option ∷ number_rule pool_option ∷ number_rule journal_option ∷ number_rule workers_option ∷ cells_rule ∷ []
+own_rules = tech_rule ∷ number_rule quota_option ∷ number_rule pool_option ∷ number_rule journal_option ∷ number_rule cell_tiles_option ∷ number_rule workers_option ∷ live_rule ∷ cells_rule ∷ []
 
 -- at this place stands the rule of the option, at no other one that has its name, which is not empty, and the parser adds none of that name
 pub record StandsAt (option : NumberOption) (place : ℕ) : Type 0 where
-  pub within : place < 6
+  pub within : place < 8
   pub rule : get_or own_rules place tech_rule ≡ number_rule option
-  pub alone : (j : ℕ) → j < 6 → bytes_eq (get_or own_rules j tech_rule).id option.name ≡ true → j ≡ place
+  pub alone : (j : ℕ) → j < 8 → bytes_eq (get_or own_rules j tech_rule).id option.name ≡ true → j ≡ place
   pub named : option.name ≡ [] → ⊥
   pub own : (option.name ≡ codes "help") ⊎ (option.name ≡ codes "version") → ⊥
 
@@ -64,14 +64,14 @@ first_byte : (name other : Text) → (get_or name 0 0 == get_or other 0 0) ≡ f
 first_byte name other differs same = eqb-false (get_or name 0 0) (get_or other 0 0) differs (ap (λ (t : Text). get_or t 0 0) same)
 
 -- an option's rule stands at a place where that is seen from the list of rules
-stands_at : (option : NumberOption) (place : ℕ) → place < 6 → get_or own_rules place tech_rule ≡ number_rule option
-    → holds_only place (λ j. bytes_eq (get_or own_rules j tech_rule).id option.name) 6 ≡ true
+stands_at : (option : NumberOption) (place : ℕ) → place < 8 → get_or own_rules place tech_rule ≡ number_rule option
+    → holds_only place (λ j. bytes_eq (get_or own_rules j tech_rule).id option.name) 8 ≡ true
     → (get_or option.name 0 0 == 0) ≡ false → (get_or option.name 0 0 == 104) ≡ false → (get_or option.name 0 0 == 118) ≡ false
     → StandsAt option place
 stands_at option place within rule only some no_h no_v = record {
   within = within;
   rule = rule;
-  alone = holds_only-at place (λ j. bytes_eq (get_or own_rules j tech_rule).id option.name) 6 only;
+  alone = holds_only-at place (λ j. bytes_eq (get_or own_rules j tech_rule).id option.name) 8 only;
   named = first_byte option.name [] some;
   own = λ is. elim is [ inl help ↦ first_byte option.name (codes "help") no_h help | inr version ↦ first_byte option.name (codes "version") no_v version ];
 }
@@ -85,20 +85,23 @@ pool_stands = stands_at pool_option 2 (omega arith) refl refl refl refl refl
 pub journal_stands : StandsAt journal_option 3
 journal_stands = stands_at journal_option 3 (omega arith) refl refl refl refl refl
 
-pub workers_stands : StandsAt workers_option 4
-workers_stands = stands_at workers_option 4 (omega arith) refl refl refl refl refl
+pub cell_tiles_stands : StandsAt cell_tiles_option 4
+cell_tiles_stands = stands_at cell_tiles_option 4 (omega arith) refl refl refl refl refl
+
+pub workers_stands : StandsAt workers_option 5
+workers_stands = stands_at workers_option 5 (omega arith) refl refl refl refl refl
 
 built-rules : (command : Command) → app_of command ≡ magicd → map rule_of (args_of command) ≡ own_rules
 unfolding magicd
 built-rules command built = ap (λ (a : App). a.top.rules) built
 
-built-six : (command : Command) → app_of command ≡ magicd → length (args_of command) ≡ 6
-built-six command built = sym (length-map (args_of command) rule_of) ∙ ap length (built-rules command built)
+built-eight : (command : Command) → app_of command ≡ magicd → length (args_of command) ≡ 8
+built-eight command built = sym (length-map (args_of command) rule_of) ∙ ap length (built-rules command built)
 
-rule-at : (command : Command) → app_of command ≡ magicd → (j : ℕ) (d : Arg) → j < 6
+rule-at : (command : Command) → app_of command ≡ magicd → (j : ℕ) (d : Arg) → j < 8
     → rule_of (slice_index_or (args_of command) j d) ≡ get_or own_rules j tech_rule
 rule-at command built j d low =
-    let within : j < length (args_of command) = omega (arith, low, built-six command built) in
+    let within : j < length (args_of command) = omega (arith, low, built-eight command built) in
     sym (get_or-map rule_of (args_of command) j d tech_rule within) ∙ ap (λ (l : List Rule). get_or l j tech_rule) (built-rules command built)
 
 abbrev range : NumberOption → ValueParser
@@ -111,7 +114,7 @@ module _ (option : NumberOption) (place : ℕ) (stands : StandsAt option place) 
   unique : (d : Arg) (j : ℕ) (e : Arg) → j < length (args_of command)
       → bytes_eq (slice_index_or (args_of command) j e).id.now (slice_index_or (args_of command) place d).id.now ≡ true → j ≡ place
   unique d j e low same =
-      let under : j < 6 = omega (arith, low, built-six command built) in
+      let under : j < 8 = omega (arith, low, built-eight command built) in
       let other : (slice_index_or (args_of command) j e).id.now ≡ (get_or own_rules j tech_rule).id = ap (λ (r : Rule). r.id) (rule-at command built j e under) in
       stands.alone j under (subst (λ (t : Text). bytes_eq t option.name ≡ true) other (subst (λ (t : Text). bytes_eq (slice_index_or (args_of command) j e).id.now t ≡ true) (id-is d) same))
 
@@ -120,7 +123,7 @@ module _ (option : NumberOption) (place : ℕ) (stands : StandsAt option place) 
       → parser_of x ≡ range option
   parser-is j x high at same =
       let own : Arg = slice_index_or (args_of command) place x in
-      let within : place < length (args_of command) = omega (arith, stands.within, built-six command built) in
+      let within : place < length (args_of command) = omega (arith, stands.within, built-eight command built) in
       let rules : SameRules own x = same_rules_by_id command m p place x within (unique x)
       (λ auto. stands.own (elim auto [ inl h ↦ inl (sym (id-is x) ∙ h) | inr h ↦ inr (sym (id-is x) ∙ h) ]))
       j x high at (subst (λ (t : Text). bytes_eq x.id.now t ≡ true) (sym (id-is x)) same) in

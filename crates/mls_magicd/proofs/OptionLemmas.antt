@@ -13,7 +13,7 @@ use Rattle.clap.specs.declared.error.kind.ErrorKind.TheVariants.{OutOfMemory}
 use Rattle.clap.specs.declared.parser.matches.ArgMatches.{ArgMatches}
 use Rattle.mls_magicd.proofs.NumberLemmas.{IsFoundNumber, IsNumberText}
 use Rattle.mls_magicd.proofs.NumberTexts.{StandsAt, number-text}
-use Rattle.mls_magicd.specs.CommandLines.{NumberOption, magicd, tech_rule, number_rule, cells_rule, quota_option, pool_option, journal_option, workers_option, cell_words, bad_word, faults_in, words_found, IsBadWord, IsNumberFor, IsNumberOf, file_named, number_named, IsParserFault, IsRefusedBy}
+use Rattle.mls_magicd.specs.CommandLines.{NumberOption, magicd, tech_rule, number_rule, live_rule, cells_rule, quota_option, pool_option, journal_option, cell_tiles_option, workers_option, cell_words, bad_word, faults_in, words_found, IsBadWord, IsNumberFor, IsNumberOf, file_named, live_named, number_named, IsParserFault, IsRefusedBy}
 use Rattle.mls_magicd.specs.declared.options.OptionsFault.{OptionsFault}
 use Rattle.mls_magicd.specs.declared.options.OptionsFault.TheVariants.{Memory, Refused, BadCell}
 
@@ -23,24 +23,29 @@ adds-rule : (old new : Command) (a : Arg) (app : App) (rule : Rule) → app_of o
 adds-rule old new a app rule before added is local = added.shape local ∙ ap₂ with_rule before is
 
 -- the command that is built is the one that the definitions speak of
-pub magicd-built : (bare named with_tech with_quota with_pool with_journal with_workers whole : Command) (tech quota pool journal workers cells : Arg)
+pub magicd-built : (bare named with_tech with_quota with_pool with_journal with_cell_tiles with_workers with_live whole : Command) (tech quota pool journal cell_tiles workers live cells : Arg)
     → app_of bare ≡ new_app (codes "magicd") → app_of named ≡ app_of bare
     → AddsArg named tech with_tech → rule_of tech ≡ tech_rule → tech.global ≡ false
     → AddsArg with_tech quota with_quota → rule_of quota ≡ number_rule quota_option → quota.global ≡ false
     → AddsArg with_quota pool with_pool → rule_of pool ≡ number_rule pool_option → pool.global ≡ false
     → AddsArg with_pool journal with_journal → rule_of journal ≡ number_rule journal_option → journal.global ≡ false
-    → AddsArg with_journal workers with_workers → rule_of workers ≡ number_rule workers_option → workers.global ≡ false
-    → AddsArg with_workers cells whole → rule_of cells ≡ cells_rule → cells.global ≡ false
+    → AddsArg with_journal cell_tiles with_cell_tiles → rule_of cell_tiles ≡ number_rule cell_tiles_option → cell_tiles.global ≡ false
+    → AddsArg with_cell_tiles workers with_workers → rule_of workers ≡ number_rule workers_option → workers.global ≡ false
+    → AddsArg with_workers live with_live → rule_of live ≡ live_rule → live.global ≡ false
+    → AddsArg with_live cells whole → rule_of cells ≡ cells_rule → cells.global ≡ false
     → app_of whole ≡ magicd
 unfolding magicd
-magicd-built bare named with_tech with_quota with_pool with_journal with_workers whole tech quota pool journal workers cells new same tech_added tech_is tech_local
-    quota_added quota_is quota_local pool_added pool_is pool_local journal_added journal_is journal_local workers_added workers_is workers_local cells_added cells_is cells_local =
+magicd-built bare named with_tech with_quota with_pool with_journal with_cell_tiles with_workers with_live whole tech quota pool journal cell_tiles workers live cells new same tech_added tech_is tech_local
+    quota_added quota_is quota_local pool_added pool_is pool_local journal_added journal_is journal_local
+    cell_tiles_added cell_tiles_is cell_tiles_local workers_added workers_is workers_local live_added live_is live_local cells_added cells_is cells_local =
     let first = adds-rule named with_tech tech _ tech_rule (same ∙ new) tech_added tech_is tech_local in
     let second = adds-rule with_tech with_quota quota _ (number_rule quota_option) first quota_added quota_is quota_local in
     let third = adds-rule with_quota with_pool pool _ (number_rule pool_option) second pool_added pool_is pool_local in
     let fourth = adds-rule with_pool with_journal journal _ (number_rule journal_option) third journal_added journal_is journal_local in
-    let fifth = adds-rule with_journal with_workers workers _ (number_rule workers_option) fourth workers_added workers_is workers_local in
-    adds-rule with_workers whole cells _ cells_rule fifth cells_added cells_is cells_local
+    let fifth = adds-rule with_journal with_cell_tiles cell_tiles _ (number_rule cell_tiles_option) fourth cell_tiles_added cell_tiles_is cell_tiles_local in
+    let sixth = adds-rule with_cell_tiles with_workers workers _ (number_rule workers_option) fifth workers_added workers_is workers_local in
+    let seventh = adds-rule with_workers with_live live _ live_rule sixth live_added live_is live_local in
+    adds-rule with_live whole cells _ cells_rule seventh cells_added cells_is cells_local
 
 pub magicd-simple : is_simple magicd ≡ true
 unfolding magicd
@@ -87,6 +92,12 @@ number-named : (option : NumberOption) (words : List Text) (command : Command) (
 unfolding number_named
 number-named option words command m built matches =
     one_text-rows (found_of m) option.name ∙ ap (one_of option.name) (rows-of_words words command m built matches)
+
+pub live-named : (words : List Text) (command : Command) (m : ArgMatches) → app_of command ≡ magicd → HasMatchesOf (app_of command) words m
+    → one_text (found_of m) (codes "live") ≡ live_named words
+unfolding live_named
+live-named words command m built matches =
+    one_text-rows (found_of m) (codes "live") ∙ ap (one_of (codes "live")) (rows-of_words words command m built matches)
 
 pub cells-named : (words : List Text) (command : Command) (m : ArgMatches) → app_of command ≡ magicd → HasMatchesOf (app_of command) words m
     → words_found (found_of m) ≡ cell_words words

@@ -1,10 +1,11 @@
 -- The command line of `magicd`, and what its words mean. This project's own.
-use Rattle.std.specs.Prelude.{◌≡◌, ◌≢◌, ℕ, ◌==◌, not, Option, Some, None, is_some, List, [], ◌∷◌, Result, Ok, Err, pos, codes, find, if◌then◌else◌, map, option_map, unwrap_or, ⊤}
+use Rattle.std.specs.Prelude.{◌≡◌, ◌≢◌, ◌⊎◌, ℕ, ◌==◌, not, true, false, Option, Some, None, is_some, List, [], ◌∷◌, Result, Ok, Err, pos, codes, find, if◌then◌else◌, map, option_map, unwrap_or, ⊤}
 use Rattle.std.specs.Str.Parse.{digits_value, without_leading_plus}
 use Rattle.clap.specs.Words.{App, Kinds, Rule, Text, all_of, fault_of, first_of, matched_of, matches_of, new_app, new_rule, one_of, raw_values, with_rule}
-use Rattle.clap.specs.declared.builder.action.ArgAction.TheVariants.{Append}
+use Rattle.clap.specs.declared.builder.action.ArgAction.TheVariants.{Append, SetTrue}
 use Rattle.clap.specs.declared.builder.value_parser.ValueParser.TheVariants.{Signed}
 use Rattle.clap.specs.declared.parser.matches.Found.{Found}
+use Rattle.mls_library.specs.Libraries.{default_cell_tiles, most_tiles as most_cell_tiles}
 use Rattle.mls_session.specs.JournalLimits.{most_entries, default_journal_limit}
 use Rattle.mls_session.specs.Quotas.{least_quota, most_quota, default_quota}
 use Rattle.mls_server.specs.Capacities.{most_tiles, default_capacity}
@@ -34,11 +35,18 @@ pool_option = record { name = codes "pool"; least = 1; most = most_tiles; defaul
 abbrev pub journal_option : NumberOption
 journal_option = record { name = codes "journal"; least = 1; most = most_entries; default = default_journal_limit }
 
+abbrev pub cell_tiles_option : NumberOption
+cell_tiles_option = record { name = codes "cell-tiles"; least = default_cell_tiles; most = most_cell_tiles; default = default_cell_tiles }
+
 abbrev pub workers_option : NumberOption
 workers_option = record { name = codes "workers"; least = 0; most = most_workers; default = default_workers }
 
 abbrev pub number_rule : NumberOption → Rule
 number_rule option = record (new_rule option.name) { long = Some option.name; value_names = 1; parser = Some (Signed (pos option.least) (pos option.most)) }
+
+-- `--live`
+abbrev pub live_rule : Rule
+live_rule = record (new_rule (codes "live")) { long = Some (codes "live"); action = Some SetTrue }
 
 -- any number of `NAME=FILE`
 abbrev pub cells_rule : Rule
@@ -47,8 +55,8 @@ cells_rule = record (new_rule (codes "cells")) { value_names = 1; action = Some 
 -- the options, the cells, and the parser's own `--help`
 unfoldable pub magicd : App
 magicd =
-    with_rule (with_rule (with_rule (with_rule (with_rule (with_rule (new_app (codes "magicd")) tech_rule) (number_rule quota_option)) (number_rule pool_option))
-    (number_rule journal_option)) (number_rule workers_option)) cells_rule
+    with_rule (with_rule (with_rule (with_rule (with_rule (with_rule (with_rule (with_rule (new_app (codes "magicd")) tech_rule) (number_rule quota_option)) (number_rule pool_option))
+    (number_rule journal_option)) (number_rule cell_tiles_option)) (number_rule workers_option)) live_rule) cells_rule
 
 -- the faults that the parser finds in the words, of which asking for help is one; there are none where it takes them
 unfoldable pub faults_in : List Text → Kinds
@@ -61,6 +69,18 @@ file_named words = first_of (codes "tech") (matches_of magicd words)
 -- the number after the option, as text
 unfoldable pub number_named : NumberOption → List Text → Option Text
 number_named option words = one_of option.name (matches_of magicd words)
+
+-- what is noted of `--live`, as text
+unfoldable pub live_named : List Text → Option Text
+live_named words = one_of (codes "live") (matches_of magicd words)
+
+-- the words ask for lines that are answered as they come
+abbrev pub AskForLive : List Text → Type 0
+AskForLive words = live_named words ≡ Some (codes "true")
+
+-- they don't
+abbrev pub AskForBatch : List Text → Type 0
+AskForBatch words = (live_named words ≡ None) ⊎ (live_named words ≡ Some (codes "false"))
 
 -- the words that are no options, and so name cells, in order
 unfoldable pub cell_words : List Text → List Text
@@ -129,7 +149,10 @@ pub record ParsesAs (words : List Text) (options : Options) : Type 0 where
   pub quota : IsNumberFor quota_option words options.quota
   pub pool : IsNumberFor pool_option words options.pool
   pub journal : IsNumberFor journal_option words options.journal
+  pub cell_tiles : IsNumberFor cell_tiles_option words options.cell_tiles
   pub workers : IsNumberFor workers_option words options.workers
+  pub live : AskForLive words → options.live ≡ true
+  pub batch : AskForBatch words → options.live ≡ false
   pub cells : NamesFiles (cell_words words) (map file_of options.cells.items)
 
 -- the fault is one of the parser's

@@ -2,13 +2,14 @@
 use Rattle.std.specs.Prelude.{◌≡◌, ◌≢◌, ◌⊎◌, ℕ, false, Option, Some, Ok, Err, List, [], ◌∷◌, ◌++◌, map}
 use Rattle.mls_crew.specs.Scripts.{FailsCrew, WritesCrew}
 use Rattle.mls_edgerule.specs.Compiling.{compiled}
+use Rattle.mls_lines.specs.Scripts.{FailsLines, WritesLines}
 use Rattle.mls_tech.specs.Readings.{Tech}
 use Rattle.mls_server.specs.Worlds.{MarksAreExact, MarksAreRight, World}
 use Rattle.mls_wire.specs.Serving.{HasReason, WritesRun, WritesCutRun}
 use Rattle.mls_wire.specs.Watches.{Watched}
 use Rattle.mls_wire.specs.declared.serving.ServeFault.{ServeFault}
 use Rattle.mls_magicd.specs.Cells.{LoadsCells, StopsAtCell}
-use Rattle.mls_magicd.specs.CommandLines.{AreTaken, NamedFile, NamesFiles, bad_word, cell_words, faults_in, file_named, quota_option, pool_option, journal_option, IsNumberFor, IsRefusedBy}
+use Rattle.mls_magicd.specs.CommandLines.{AreTaken, NamedFile, NamesFiles, bad_word, cell_words, faults_in, file_named, quota_option, pool_option, journal_option, cell_tiles_option, IsNumberFor, IsRefusedBy}
 use Rattle.mls_magicd.specs.Messages.{Reports, ReportsAll, bad_cell_line, fault_text, serve_fault_line, skipped_line}
 use Rattle.mls_magicd.specs.Technologies.{HasReading, LacksTechnology}
 use Rattle.mls_magicd.specs.declared.cells.LoadFault.{LoadFault}
@@ -43,14 +44,15 @@ status_after Differs = failed
 
 -- ---- the start
 
--- the words have no fault, and the world has the technology that they name and its compiled rules, the quota, the journals' limit and the pool's capacity that
--- they name, no cells, and no session, nor was any opened; `reads_as` relates paths to the bytes that their files may be read as
+-- the words have no fault, and the world has the technology that they name and its compiled rules, the quota, the limits of journals and cells and the pool's capacity
+-- that they name, no cells, and no session, nor was any opened; `reads_as` relates paths to the bytes that their files may be read as
 pub record IsBareFor (reads_as : List ℕ → List ℕ → Type 0) (words : List (List ℕ)) (on : World) : Type 0 where
   pub taken : AreTaken words
   pub tech : HasReading reads_as (file_named words) on.setting.tech
   pub rules : compiled on.setting.tech ≡ Ok on.setting.rules
   pub quota : IsNumberFor quota_option words on.setting.quota
   pub journal : IsNumberFor journal_option words on.setting.journal
+  pub cell_tiles : IsNumberFor cell_tiles_option words on.setting.cell_tiles
   pub cells : on.setting.cells ≡ []
   pub given : on.given ≡ 0
   pub seats : on.seats ≡ []
@@ -143,4 +145,19 @@ abbrev pub EndsInCrew : {R W E : Type 0} → World → Option (List ℕ) → Wat
     → (E → Option (List ℕ)) → Watched E → Watched E → Type 0
 EndsInCrew on script input contents old new messages before after =
     (fault : Fault) × FailsInCrew on script input contents old new fault
+    × ReportsAll messages before after (skipped_lines on.setting.tech ++ fault_text fault ∷ [])
+
+-- ---- the script, answered as it comes
+
+-- the script fails with this fault, or all was answered, and some session's list wasn't that of its journal at its end
+abbrev pub FailsLive : {R W : Type 0} → World → Option (List ℕ) → Watched R → (W → Option (List ℕ)) → Watched W → Watched W → Fault → Type 0
+FailsLive on script input contents old new (Serve fault) = FailsLines on fault script input contents old new
+FailsLive on script input contents old new Differs = WritesLines on script (contents old.device) (contents new.device)
+FailsLive on script input contents old new _ = ⊥
+
+-- so it did, and the fault was reported after the skipped lines
+abbrev pub EndsLive : {R W E : Type 0} → World → Option (List ℕ) → Watched R → (W → Option (List ℕ)) → Watched W → Watched W
+    → (E → Option (List ℕ)) → Watched E → Watched E → Type 0
+EndsLive on script input contents old new messages before after =
+    (fault : Fault) × FailsLive on script input contents old new fault
     × ReportsAll messages before after (skipped_lines on.setting.tech ++ fault_text fault ∷ [])

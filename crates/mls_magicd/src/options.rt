@@ -4,12 +4,13 @@ ghost use Rattle.std.specs.Range.{range_inclusive_start, range_inclusive_end};
 ghost use Rattle.clap.specs.declared.builder.command.Command.TheViews.{out-Command as fields_of};
 ghost use Rattle.clap.specs.Words.{app_of, found_of, kind_of, rule_of, IsPlain, IsPlainArg};
 ghost use Rattle.clap.specs.declared.error.kind.ErrorKind.TheVariants.{OutOfMemory};
-ghost use Rattle.mls_magicd.specs.CommandLines.{NumberOption, magicd, tech_rule, number_rule, cells_rule, file_of, words_found, IsBadWord, IsParserFault, NamesFiles, ParsesWords};
+ghost use Rattle.mls_magicd.specs.CommandLines.{NumberOption, magicd, tech_rule, number_rule, live_rule, cells_rule, file_of, words_found, IsBadWord, IsParserFault, NamesFiles, ParsesWords};
 
 use crate::cell_argument::CellArgument;
 use crate::workers::Workers;
 use clap::error::ErrorKind;
 use clap::{Arg, ArgAction, ArgMatches, Command, Error as ParseError, value_parser};
+use mls_library::CellTiles;
 use mls_server::Capacity;
 use mls_session::{JournalLimit, Quota};
 use std::alloc::{AllocError, AllocFailed, Global};
@@ -28,8 +29,12 @@ pub struct Options<'a> {
     pub pool: Capacity,
     /// The most entries that a journal may have.
     pub journal: JournalLimit,
+    /// The most tiles that a plane of a cell may have.
+    pub cell_tiles: CellTiles,
     /// How many workers check behind the sessions.
     pub workers: Workers,
+    /// Whether lines are answered as they come, beside the workers.
+    pub live: bool,
     /// The cells, in order.
     pub cells: Vec<CellArgument<'a>>,
 }
@@ -89,10 +94,15 @@ impl<'a> Options<'a> {
                         .get_one::<u32>("journal")
                         .and_then(JournalLimit::new)
                         .unwrap_or_default(),
+                    cell_tiles: matches
+                        .get_one::<u32>("cell-tiles")
+                        .and_then(CellTiles::new)
+                        .unwrap_or_default(),
                     workers: matches
                         .get_one::<u32>("workers")
                         .and_then(Workers::new)
                         .unwrap_or_default(),
+                    live: matches.get_flag("live"),
                     cells,
                 })
             }
@@ -130,10 +140,17 @@ fn command<'a>(alloc: Global) -> Result<Command<'a>, AllocError>
         ))?
         .arg(number_option(
             alloc,
+            "cell-tiles",
+            CellTiles::LEAST..=CellTiles::MOST,
+            "Gives each plane of a cell N tiles, from 4096 to 16384 [default: 4096]",
+        ))?
+        .arg(number_option(
+            alloc,
             "workers",
             0..=16,
             "Checks behind the sessions with N workers, from 0 to 16 [default: 0]",
         ))?
+        .arg(live_option(alloc))?
         .arg(cells_argument(alloc))
 }
 
@@ -167,6 +184,17 @@ fn number_option<'a>(
         .value_name("N")
         .value_parser(value_parser!(u32).range(numbers))
         .help(help)
+}
+
+fn live_option<'a>(alloc: Global) -> Arg<'a>
+    ensures rule { rule_of result ≡ live_rule }
+    ensures plain { IsPlainArg result }
+    ensures local { result.global ≡ false }
+{
+    Arg::new(alloc, "live")
+        .long("live")
+        .action(ArgAction::SetTrue)
+        .help("Answers each session's lines as they come, beside the workers")
 }
 
 fn cells_argument<'a>(alloc: Global) -> Arg<'a>

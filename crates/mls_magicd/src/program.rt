@@ -1,14 +1,16 @@
 //! The whole program, over any words, files and streams.
 ghost use Rattle.std.specs.Prelude.{◌≡◌, ◌≢◌, ◌≤◌, ◌⊎◌, ℕ, List, [], Ok, OnOk, IfOk, IfErr, false, true, map};
 ghost use Rattle.mls_crew.specs.Scripts.{WritesCrew};
+ghost use Rattle.mls_lines.specs.Scripts.{WritesLines};
 ghost use Rattle.mls_server.specs.Servers.{world_of};
 ghost use Rattle.mls_server.specs.Worlds.{World};
 ghost use Rattle.mls_tech.specs.Readings.{reading_of};
 ghost use Rattle.mls_wire.specs.declared.serving.ServeFault.{ServeFault};
-ghost use Rattle.mls_magicd.specs.CommandLines.{ParsesAs, IsNumberFor, workers_option};
+ghost use Rattle.mls_magicd.specs.CommandLines.{AskForBatch, AskForLive, ParsesAs, IsNumberFor, workers_option};
 ghost use Rattle.mls_magicd.specs.Messages.{Reports, ReportsAll, fault_text};
 ghost use Rattle.mls_magicd.specs.Programs as spec;
 ghost use Rattle.mls_magicd.specs.Technologies.{text_in};
+ghost use Rattle.mls_lines.specs.Glossaries.{glossary_of};
 
 use crate::cells::load_cells;
 use crate::messages::{report_fault, report_skipped};
@@ -17,7 +19,8 @@ use crate::technology::TechnologyText;
 use crate::{Fault, Files, Streams};
 use mls_crew::Crew;
 use mls_edgerule::compile;
-use mls_server::Server;
+use mls_lines::{Glossary, Lines};
+use mls_server::{Limits, Server};
 use mls_wire::{Watched, serve};
 use std::alloc::Global;
 use std::convert::AsStr;
@@ -30,7 +33,7 @@ const DONE: u8 = 0;
 
 /// Runs the program and returns its exit status: it serves the script of the input. `words` are those of the command
 /// line, of which the first is the program's name.
-pub fn run<T: Threads + Wait + Sync, S: AsStr, F: Files, R: Read, W: Write, E: Write>(
+pub fn run<T: Threads + Wait + Sync, S: AsStr, F: Files, R: Read, W: Write + Send, E: Write>(
     rt: &T,
     alloc: Global,
     words: &[S],
@@ -49,7 +52,7 @@ pub fn run<T: Threads + Wait + Sync, S: AsStr, F: Files, R: Read, W: Write, E: W
 
     // Without workers, the output is the reply text of the script's run over the technology, the cells and the limits
     // that the words name, and the skipped lines of the technology were reported.
-    ensures served { IsNumberFor workers_option (map S.text words.now) 0 → result ≡ spec.done
+    ensures served { AskForBatch (map S.text words.now) → IsNumberFor workers_option (map S.text words.now) 0 → result ≡ spec.done
         → (on : World) × spec.IsConfiguredBy (F.reads_as files.now) (map S.text words.now) on
         × spec.ServesScript on (R.remaining streams.old.input.device) (W.contents streams.old.output.device)
         (W.contents streams.new.output.device)
@@ -57,7 +60,7 @@ pub fn run<T: Threads + Wait + Sync, S: AsStr, F: Files, R: Read, W: Write, E: W
 
     // Either the start failed, for a reason that was reported, and no line of the script was read; or the script
     // was left before its end, for a reason that was reported, and the output is that of a run that was cut.
-    ensures failed { IsNumberFor workers_option (map S.text words.now) 0 → result ≡ spec.failed →
+    ensures failed { AskForBatch (map S.text words.now) → IsNumberFor workers_option (map S.text words.now) 0 → result ≡ spec.failed →
         (spec.EndsAtStart (F.reads_as files.now) (F.may_fail files.now)
         (map S.text words.now) E.contents streams.old.faults streams.new.faults
         × (streams.new.input ≡ streams.old.input) × (streams.new.output ≡ streams.old.output))
@@ -68,7 +71,7 @@ pub fn run<T: Threads + Wait + Sync, S: AsStr, F: Files, R: Read, W: Write, E: W
 
     // With workers, the output is what the lines of each session give at its seat over that technology, those cells
     // and limits, and the whole of it was audited.
-    ensures served_by_crew { (workers : ℕ) → IsNumberFor workers_option (map S.text words.now) workers → workers ≢ 0
+    ensures served_by_crew { AskForBatch (map S.text words.now) → (workers : ℕ) → IsNumberFor workers_option (map S.text words.now) workers → workers ≢ 0
         → result ≡ spec.done
         → (on : World) × spec.IsConfiguredBy (F.reads_as files.now) (map S.text words.now) on
         × WritesCrew on (R.remaining streams.old.input.device) (W.contents streams.old.output.device)
@@ -76,7 +79,7 @@ pub fn run<T: Threads + Wait + Sync, S: AsStr, F: Files, R: Read, W: Write, E: W
         × ReportsAll E.contents streams.old.faults streams.new.faults (spec.skipped_lines on.setting.tech) }
 
     // Either the start failed, as above; or the script failed, for a reason that was reported.
-    ensures failed_by_crew { (workers : ℕ) → IsNumberFor workers_option (map S.text words.now) workers → workers ≢ 0
+    ensures failed_by_crew { AskForBatch (map S.text words.now) → (workers : ℕ) → IsNumberFor workers_option (map S.text words.now) workers → workers ≢ 0
         → result ≡ spec.failed →
         (spec.EndsAtStart (F.reads_as files.now) (F.may_fail files.now)
         (map S.text words.now) E.contents streams.old.faults streams.new.faults
@@ -85,11 +88,31 @@ pub fn run<T: Threads + Wait + Sync, S: AsStr, F: Files, R: Read, W: Write, E: W
         × spec.EndsInCrew on (R.remaining streams.old.input.device) streams.new.input W.contents streams.old.output
         streams.new.output
         E.contents streams.old.faults streams.new.faults) }
+
+    // With `--live`, the output is whole replies to lines of the script, each what its session's seat gave.
+    ensures served_live { AskForLive (map S.text words.now) → result ≡ spec.done
+        → (on : World) × spec.IsConfiguredBy (F.reads_as files.now) (map S.text words.now) on
+        × WritesLines on (R.remaining streams.old.input.device) (W.contents streams.old.output.device)
+        (W.contents streams.new.output.device)
+        × ReportsAll E.contents streams.old.faults streams.new.faults (spec.skipped_lines on.setting.tech) }
+
+    // Either the start failed, as above; or the script failed, for a reason that was reported.
+    ensures failed_live { AskForLive (map S.text words.now) → result ≡ spec.failed →
+        (spec.EndsAtStart (F.reads_as files.now) (F.may_fail files.now)
+        (map S.text words.now) E.contents streams.old.faults streams.new.faults
+        × (streams.new.input ≡ streams.old.input) × (streams.new.output ≡ streams.old.output))
+        ⊎ ((on : World) × spec.IsConfiguredBy (F.reads_as files.now) (map S.text words.now) on
+        × spec.EndsLive on (R.remaining streams.old.input.device) streams.new.input W.contents streams.old.output
+        streams.new.output
+        E.contents streams.old.faults streams.new.faults) }
 {
     let options = match Options::parse(alloc, words) {
         Ok(options) => options,
         Err(fault) => return fail(&mut streams.faults, &fault.into()),
     };
+    if options.live {
+        return run_live(rt, alloc, files, &options, streams);
+    }
     match options.workers.count() {
         0 => run_script(alloc, files, &options, streams),
         _ => run_crew(rt, alloc, files, &options, streams),
@@ -230,6 +253,99 @@ fn serve_crew<'a, T: Threads + Wait + Sync, F: Files, R: Read, W: Write, E: Writ
     Ok(())
 }
 
+/// Runs the program with lines that are answered as they come.
+fn run_live<T: Threads + Wait + Sync, F: Files, R: Read, W: Write + Send, E: Write>(
+    rt: &T,
+    alloc: Global,
+    files: &F,
+    options: &Options<'_>,
+    streams: &mut Streams<R, W, E>,
+) -> u8
+    ensures status { result ≤ spec.failed }
+    ensures served { (words : List (List ℕ)) → ParsesAs words options.now → result ≡ spec.done
+        → (on : World) × spec.IsConfiguredBy (F.reads_as files.now) words on
+        × WritesLines on (R.remaining streams.old.input.device) (W.contents streams.old.output.device)
+        (W.contents streams.new.output.device)
+        × ReportsAll E.contents streams.old.faults streams.new.faults (spec.skipped_lines on.setting.tech) }
+    ensures failed { (words : List (List ℕ)) → ParsesAs words options.now → result ≡ spec.failed →
+        (spec.EndsAtStart (F.reads_as files.now) (F.may_fail files.now) words E.contents streams.old.faults
+        streams.new.faults
+        × (streams.new.input ≡ streams.old.input) × (streams.new.output ≡ streams.old.output))
+        ⊎ ((on : World) × spec.IsConfiguredBy (F.reads_as files.now) words on
+        × spec.EndsLive on (R.remaining streams.old.input.device) streams.new.input W.contents streams.old.output
+        streams.new.output
+        E.contents streams.old.faults streams.new.faults) }
+{
+    match serve_live(rt, alloc, files, options, streams) {
+        Ok(()) => DONE,
+        Err(fault) => fail(&mut streams.faults, &fault),
+    }
+}
+
+/// Answers the lines of the input as they come, with what the options name.
+fn serve_live<'a, T: Threads + Wait + Sync, F: Files, R: Read, W: Write + Send, E: Write>(
+    rt: &T,
+    alloc: Global,
+    files: &F,
+    options: &Options<'a>,
+    streams: &mut Streams<R, W, E>,
+) -> Result<(), Fault<'a>>
+    ensures ok { OnOk result ((words : List (List ℕ)) → ParsesAs words options.now → (on : World)
+        × spec.IsConfiguredBy (F.reads_as files.now) words on
+        × WritesLines on (R.remaining streams.old.input.device) (W.contents streams.old.output.device)
+        (W.contents streams.new.output.device)
+        × ReportsAll E.contents streams.old.faults streams.new.faults (spec.skipped_lines on.setting.tech)) }
+    ensures err { IfErr result (λ fault. (words : List (List ℕ)) → ParsesAs words options.now →
+        (spec.FailsAtStart (F.reads_as files.now) (F.may_fail files.now) words E.contents streams.old.faults
+        streams.new.faults fault
+        × (streams.new.input ≡ streams.old.input) × (streams.new.output ≡ streams.old.output))
+        ⊎ ((on : World) × spec.IsConfiguredBy (F.reads_as files.now) words on
+        × spec.FailsLive on (R.remaining streams.old.input.device) streams.new.input W.contents streams.old.output
+        streams.new.output fault
+        × ReportsAll E.contents streams.old.faults streams.new.faults (spec.skipped_lines on.setting.tech))) }
+    ensures status { IfErr result (λ fault. spec.status_after fault ≡ spec.failed) }
+{
+    let lines = start_lines(alloc, files, options, &mut streams.faults)?;
+    let served = lines.serve(rt, alloc, &mut streams.input, &mut streams.output)?;
+    if !served.audited {
+        return Err(Fault::Differs);
+    }
+    Ok(())
+}
+
+/// Does what comes before lines that are answered as they come: makes the server, loads the cells, and notes what names
+/// mean.
+fn start_lines<'a, F: Files, E: Write>(
+    alloc: Global,
+    files: &F,
+    options: &Options<'a>,
+    faults: &mut Watched<E>,
+) -> Result<Lines, Fault<'a>>
+    ensures ok { IfOk result (λ lines. (words : List (List ℕ)) → ParsesAs words options.now
+        → spec.IsConfiguredBy (F.reads_as files.now) words (world_of lines.server)
+        × ReportsAll E.contents faults.old faults.new (spec.skipped_lines (world_of lines.server).setting.tech)) }
+    ensures idle { IfOk result (λ lines. (world_of lines.server).seats ≡ []) }
+    ensures glossary { IfOk result (λ lines. lines.glossary ≡ glossary_of (world_of lines.server).setting) }
+    ensures err { IfErr result (λ fault. (words : List (List ℕ)) → ParsesAs words options.now
+        → spec.FailsAtStart (F.reads_as files.now)
+        (F.may_fail files.now) words E.contents faults.old faults.new fault) }
+    ensures status { IfErr result (λ fault. spec.status_after fault ≡ spec.failed) }
+{
+    let Crew {
+        server,
+        tech,
+        workers,
+    } = start_crew(alloc, files, options, faults)?;
+    let Ok(glossary) = Glossary::new(alloc, &server, tech) else {
+        return Err(Fault::Memory);
+    };
+    Ok(Lines {
+        server,
+        glossary,
+        workers,
+    })
+}
+
 /// Does what comes before a script with workers: makes the server, loads the cells, and reads the technology for the
 /// crew.
 fn start_crew<'a, F: Files, E: Write>(
@@ -310,8 +426,11 @@ fn bare_server<'a, F: Files, E: Write>(
         tech,
         rules,
         options.pool,
-        options.quota,
-        options.journal,
+        Limits {
+            quota: options.quota,
+            journal: options.journal,
+            cell_tiles: options.cell_tiles,
+        },
     )?;
     Ok((server, text))
 }

@@ -426,6 +426,61 @@ fn planes_of_4096_and_4097_tiles(rt: HostRuntime) -> Result<(), Fail> {
     Ok(())
 }
 
+/// Paints four rows of squares and three squares more on each of two planes, which have 16,384 tiles then. For another
+/// square there is no tile. Then the layout is saved.
+const GREATEST_LAYOUT: &str =
+    "%open a\na dump c 0 0\na dump c 0 2\na dump c 0 4\na dump c 0 6\na box 0 10 1 11\na paint poly\na paint m1\na box 4 10 5 11\na paint poly\na paint m1\na box -32768 10 -32767 11\na paint poly\na paint m1\na box 8 10 9 11\na paint poly\na paint m1\na save\n";
+
+/// The replies up to its text: it has a line for each of 16,374 squares, and five others.
+const TO_GREATEST: &[u8] =
+    b"a opened\na ok\na ok\na ok\na ok\na ok\na ok\na ok\na ok\na ok\na ok\na ok\na ok\na ok\na ok\na refused 5 quota\na refused 5 quota\na saved 16379\n";
+
+/// Returns the text of that layout.
+fn greatest_layout<T: Threads + Wait + Sync + Alloc<A = Global>>(rt: &T) -> Result<Vec<u8>, Fail> {
+    let row = wide_cell(rt.alloc(), 0, 2046)?;
+    let files = NamedFiles {
+        files: &[("c.mag", row.as_bytes())],
+    };
+    let words = ["magicd", "--quota=16384", "c=c.mag"];
+    let ending = ended(rt, &words, &files, GREATEST_LAYOUT.as_bytes());
+    let text = ending
+        .output
+        .strip_prefix(TO_GREATEST)
+        .ok_or("other replies")?;
+    Ok(Vec::from_slice(rt.alloc(), text)?)
+}
+
+#[test]
+fn a_layout_of_the_greatest_quota_is_loaded(rt: HostRuntime) -> Result<(), Fail> {
+    let text = greatest_layout(&rt)?;
+    let files = NamedFiles {
+        files: &[("s.mag", &text)],
+    };
+    let words = ["magicd", "--quota=16384", "--cell-tiles=16384", "s=s.mag"];
+    let ending = ended(&rt, &words, &files, b"%open a\na dump s 0 0\na save\n");
+    let saved = ending
+        .output
+        .strip_prefix(b"a opened\na ok\na saved 16379\n".as_slice());
+    assert_eq!(rt; saved, Some(text.as_slice()));
+    assert!(rt; ending.messages.is_empty());
+    Ok(())
+}
+
+#[test]
+fn a_layout_of_more_tiles_than_a_cell_may_have(rt: HostRuntime) -> Result<(), Fail> {
+    let text = greatest_layout(&rt)?;
+    let files = NamedFiles {
+        files: &[("s.mag", &text)],
+    };
+    for option in ["--quota=16384", "--cell-tiles=16383"] {
+        let ending = ended(&rt, &["magicd", option, "s=s.mag"], &files, b"");
+        let message = b"magicd: cell s line 0 fault 6 too many tiles\n".as_slice();
+        assert_eq!(rt; ending.messages.as_slice(), message);
+        assert_eq!(rt; ending.status, 1);
+    }
+    Ok(())
+}
+
 /// A cell of 20,000 rectangles that lie over each other.
 fn tall_cell(alloc: Global) -> Result<String, AllocError> {
     let mut text = String::from_str(alloc, "magic\n")?;

@@ -1,11 +1,15 @@
 //! Scripts of strangers: lines that can't be read, bytes that are no text, and words in wrong places.
+use crate::cells::NamedFiles;
 use crate::devices::ByteReader;
+use crate::programs::ended;
 use crate::scripts::{expect_replies, served};
 use rand::RngExt;
 use rand_pcg::Pcg32;
 use std::alloc::{AllocError, Global};
 use std::process::Abort;
 use std::test::Fail;
+
+const NO_FILES: NamedFiles<'static> = NamedFiles { files: &[] };
 
 /// Lines of which most can't be read. A line of 1025 bytes follows them.
 const LINES: &[u8] = b"%foo
@@ -84,8 +88,11 @@ fn line_of_a_million_bytes(rt: HostRuntime) -> Result<(), Fail> {
 /// How many random lines there are.
 const RANDOM_LINES: u32 = 100_000;
 
+/// How many of them are answered as they come.
+const LIVE_LINES: u32 = 20_000;
+
 /// Lines that can be read.
-const READABLE: [&[u8]; 39] = [
+const READABLE: [&[u8]; 40] = [
     b"%open a",
     b"%open b",
     b"%open c",
@@ -100,6 +107,7 @@ const READABLE: [&[u8]; 39] = [
     b"%stat b",
     b"%uses a",
     b"%marks b",
+    b"%journal b",
     b"%why c 0 0 9 9",
     b"a box 0 0 4 4",
     b"a box 3 0 9 9",
@@ -128,7 +136,7 @@ const READABLE: [&[u8]; 39] = [
 ];
 
 /// Words of the language, and some that have no place in it.
-const WORDS: [&[u8]; 39] = [
+const WORDS: [&[u8]; 40] = [
     b"%open",
     b"%close",
     b"%step",
@@ -138,6 +146,7 @@ const WORDS: [&[u8]; 39] = [
     b"%stat",
     b"%uses",
     b"%marks",
+    b"%journal",
     b"%why",
     b"%foo",
     b"a",
@@ -171,8 +180,8 @@ const WORDS: [&[u8]; 39] = [
 ];
 
 /// Appends a random one of the texts.
-fn push_one(script: &mut Vec<u8>, texts: &[&[u8]; 39], rng: &mut Pcg32) -> Result<(), AllocError> {
-    let index: usize = rng.random_range(0..39);
+fn push_one(script: &mut Vec<u8>, texts: &[&[u8]; 40], rng: &mut Pcg32) -> Result<(), AllocError> {
+    let index: usize = rng.random_range(0..40);
     if let Some(text) = texts.get(index) {
         script.extend_from_slice(text)?;
     }
@@ -194,11 +203,11 @@ fn push_line(script: &mut Vec<u8>, rng: &mut Pcg32) -> Result<(), AllocError> {
     Ok(())
 }
 
-/// Returns random lines.
-fn random_script(alloc: Global) -> Result<Vec<u8>, AllocError> {
+/// Returns so many random lines.
+fn random_script(alloc: Global, lines: u32) -> Result<Vec<u8>, AllocError> {
     let mut rng = Pcg32::new(2026, 1);
     let mut script = Vec::new(alloc);
-    for _ in 0..RANDOM_LINES {
+    for _ in 0..lines {
         push_line(&mut script, &mut rng)?;
     }
     Ok(script)
@@ -244,9 +253,30 @@ fn has_text(reply: &[u8]) -> bool {
     word == b"saved".as_slice() || word == b"marked".as_slice()
 }
 
+/// Returns how many lines a journal has, if the reply is one to a look at it.
+fn journal_len(reply: &[u8]) -> Option<usize> {
+    let mut words = reply.split(|byte| *byte == b' ');
+    let word = words.nth(1)?;
+    let count = words.next()?;
+    let is_journal = word == b"journal".as_slice();
+    is_journal.then(|| number_in(count))
+}
+
+/// Returns the number that digits spell.
+fn number_in(digits: &[u8]) -> usize {
+    digits.iter().fold(0, |n: usize, digit| {
+        n.saturating_mul(10)
+            .saturating_add(usize::from(digit.wrapping_sub(b'0')))
+    })
+}
+
 /// Returns how many lines the first reply has: a text comes with its own.
 fn reply_len(replies: &[&[u8]]) -> usize {
-    if !replies.first().is_some_and(|reply| has_text(reply)) {
+    let first = replies.first().copied().unwrap_or(b"");
+    if let Some(lines) = journal_len(first) {
+        return lines.saturating_add(1);
+    }
+    if !has_text(first) {
         return 1;
     }
     let end = b"<< end >>".as_slice();
@@ -293,8 +323,76 @@ fn expect_each_reply(
 
 #[test]
 fn words_in_wrong_places(rt: HostRuntime) -> Result<(), Fail> {
-    let script = random_script(rt.alloc())?;
+    let script = random_script(rt.alloc(), RANDOM_LINES)?;
     let (outcome, output) = served(rt.alloc(), 64, script.as_slice(), Vec::new(rt.alloc()))?;
     assert_eq!(rt; outcome, Ok(()));
     expect_each_reply(&rt, rt.alloc(), &script, &output)
+}
+
+/// Returns the number of the line whose fault a reply is, if it is one.
+fn fault_number(reply: &[u8]) -> Option<usize> {
+    let mut words = reply.split(|byte| *byte == b' ');
+    let is_line = words.next() == Some(b"line".as_slice());
+    let digits = words.next()?;
+    let is_fault = words.next() == Some(b"fault".as_slice());
+    (is_line && is_fault).then(|| number_in(digits))
+}
+
+/// Asserts that this line has a reply, and had no fault before, and notes that it has one.
+fn expect_fault(
+    rt: &impl Abort,
+    lines: &[&[u8]],
+    faulty: &mut [bool],
+    number: usize,
+) -> Result<(), Fail> {
+    let index = number.checked_sub(1).ok_or("line 0")?;
+    let line = lines.get(index).copied().ok_or("no such line")?;
+    let is_faulty = faulty.get_mut(index).ok_or("no such line")?;
+    assert!(rt; has_reply(line), "line {number}");
+    assert!(rt; !*is_faulty, "line {number}");
+    *is_faulty = true;
+    Ok(())
+}
+
+/// Asserts that there are as many replies as lines that have one, that faults are those of different lines, and that
+/// nothing else was written.
+fn expect_as_many_replies(
+    rt: &impl Abort,
+    alloc: Global,
+    script: &[u8],
+    output: &[u8],
+) -> Result<(), Fail> {
+    let lines = pieces_of(alloc, script)?;
+    let replies = pieces_of(alloc, output)?;
+    let mut faulty = vec![in alloc; false; lines.len()]?;
+    let mut next: usize = 0;
+    let mut count: usize = 0;
+    for _ in 0..replies.len() {
+        let rest = replies.get(next..).ok_or("half a text")?;
+        let first = rest.first().copied().unwrap_or(b"");
+        if first.is_empty() {
+            break;
+        }
+        if let Some(number) = fault_number(first) {
+            expect_fault(rt, &lines, &mut faulty, number)?;
+        }
+        next = next.saturating_add(reply_len(rest));
+        count = count.saturating_add(1);
+    }
+    assert_eq!(rt; next.saturating_add(1), replies.len());
+    assert_eq!(rt; count, lines.iter().filter(|line| has_reply(line)).count());
+    Ok(())
+}
+
+#[test]
+fn words_in_wrong_places_as_they_come(rt: HostRuntime) -> Result<(), Fail> {
+    let script = random_script(rt.alloc(), LIVE_LINES)?;
+    for workers in ["0", "3"] {
+        let words = ["magicd", "--live", "--workers", workers];
+        let ending = ended(&rt, &words, &NO_FILES, script.as_slice());
+        assert_eq!(rt; ending.status, 0);
+        assert!(rt; ending.messages.is_empty());
+        expect_as_many_replies(&rt, rt.alloc(), &script, &ending.output)?;
+    }
+    Ok(())
 }

@@ -12,7 +12,11 @@ mod findings;
 #[cfg(test)]
 mod hostile_scripts;
 #[cfg(test)]
+mod journals;
+#[cfg(test)]
 mod large_runs;
+#[cfg(test)]
+mod live_lines;
 #[cfg(test)]
 mod looks;
 #[cfg(test)]

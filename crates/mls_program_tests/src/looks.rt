@@ -270,6 +270,9 @@ const LOOKS: [(&[&str], &[(&str, &str)]); 12] = [
             ("%marks b a", "line 22 fault 1 unknown command\n"),
             ("%marks b", "line 23 fault 4 not open\n"),
             ("%mark a", "line 24 fault 1 unknown command\n"),
+            ("%journal", "line 25 fault 3 name\n"),
+            ("%journal b a", "line 26 fault 1 unknown command\n"),
+            ("%journal b", "line 27 fault 4 not open\n"),
         ],
     ),
 ];
@@ -354,8 +357,21 @@ fn planes_of_4096_and_4097_tiles_with_their_cells(rt: HostRuntime) -> Result<(),
     let files = NamedFiles {
         files: &[("c.mag", cell.as_bytes())],
     };
-    for (quota, refused) in [("17", true), ("4096", true), ("4097", false)] {
-        let words = ["magicd", "--quota", quota, "c=c.mag"];
+    for (quota, cell_tiles, refused) in [
+        ("17", "4096", true),
+        ("4096", "4096", true),
+        ("4097", "4096", false),
+        ("17", "4097", false),
+        ("17", "16384", false),
+    ] {
+        let words = [
+            "magicd",
+            "--quota",
+            quota,
+            "--cell-tiles",
+            cell_tiles,
+            "c=c.mag",
+        ];
         let replies = beside_replies(rt.alloc(), refused)?;
         let ending = ended(&rt, &words, &files, BESIDE.as_bytes());
         expect_row(&rt, &ending, BESIDE, &replies);

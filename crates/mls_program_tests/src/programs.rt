@@ -49,7 +49,7 @@ pub fn ended_with<
     S: AsStr,
     F: Files,
     R: Read + Drop,
-    W: Write + Drop,
+    W: Write + Send + Drop,
     E: Write + Drop,
 >(rt: &T, words: &[S], files: &F, input: R, output: W, messages: E) -> (u8, W, E) {
     let mut streams = Streams::new(input, output, messages);
@@ -135,7 +135,7 @@ const NINE_TILES: &[u8] =
 const TOO_MANY: &[u8] = b"a opened\na ok\na ok\na ok\na ok\na ok\na refused 5 quota\na what 0\n";
 
 /// Words, a script and its replies, where the technology has one type.
-const SERVED: [(&[&str], &[u8], &[u8]); 8] = [
+const SERVED: [(&[&str], &[u8], &[u8]); 10] = [
     (BUILT_IN, FIRST_RUN, FIRST_REPLIES),
     (
         FROM_FILE,
@@ -150,6 +150,12 @@ const SERVED: [(&[&str], &[u8], &[u8]); 8] = [
         b"a opened\na ok\na ok\na ok\na ok\na ok\na ok\na what 1 poly\n",
     ),
     (&["magicd", "--quota", "16384"], FIRST_RUN, FIRST_REPLIES),
+    (
+        &["magicd", "--cell-tiles", "4096"],
+        FIRST_RUN,
+        FIRST_REPLIES,
+    ),
+    (&["magicd", "--cell-tiles=16384"], FIRST_RUN, FIRST_REPLIES),
     (
         &["magicd", "--quota", "5", "--tech=m.tech"],
         b"a what",
@@ -169,7 +175,7 @@ fn scripts_that_are_served(rt: HostRuntime) -> Result<(), Fail> {
 }
 
 /// Words that are refused, or ask for help.
-const BAD_WORDS: [&[&str]; 21] = [
+const BAD_WORDS: [&[&str]; 27] = [
     &["magicd", "--quota", "4"],
     &["magicd", "--quota", "16385"],
     &["magicd", "--quota", "x"],
@@ -183,10 +189,16 @@ const BAD_WORDS: [&[&str]; 21] = [
     &["magicd", "--pool"],
     &["magicd", "--journal", "0"],
     &["magicd", "--journal", "65537"],
+    &["magicd", "--cell-tiles", "4095"],
+    &["magicd", "--cell-tiles", "16385"],
+    &["magicd", "--cell-tiles"],
+    &["magicd", "--cell_tiles", "4096"],
     &["magicd", "--workers", "17"],
     &["magicd", "--workers", "-1"],
     &["magicd", "--workers", "two"],
     &["magicd", "--workers"],
+    &["magicd", "--live", "--live"],
+    &["magicd", "--live=yes"],
     &["magicd", "--threads", "3"],
     &["magicd", "--help"],
     &["magicd", "-h"],

@@ -10,8 +10,8 @@ use mls_checker::{Finding, check};
 use mls_edgerule::compile;
 use mls_errorplane::{Outcome, Stepped};
 use mls_library::CellId;
-use mls_server::{Answer, Capacity, Event, GrabFault, Name, NotOpen, Server, SessionId};
-use mls_session::{Command, Job, JournalLimit, Quota, Reply};
+use mls_server::{Answer, Capacity, Event, GrabFault, Limits, Name, NotOpen, Server, SessionId};
+use mls_session::{Command, Job, Quota, Reply};
 use mls_tech::{TECHNOLOGY_M, Tech};
 use mls_wire::{ServeFault, Watched, serve};
 use std::alloc::{AllocError, Global};
@@ -23,8 +23,11 @@ pub fn new_server(alloc: Global, file: &[u8], quota: Quota) -> Result<Server, Fa
     let tech = Tech::read(alloc, file)?;
     let rules = compile(&tech)?;
     let capacity = Capacity::default();
-    let limit = JournalLimit::default();
-    Ok(Server::new(alloc, tech, rules, capacity, quota, limit)?)
+    let limits = Limits {
+        quota,
+        ..Limits::default()
+    };
+    Ok(Server::new(alloc, tech, rules, capacity, limits)?)
 }
 
 /// A server with technology M, on which no session is open.
@@ -33,9 +36,8 @@ fn idle_server(alloc: Global) -> Result<Server, Fail>
 {
     let tech = Tech::read(alloc, TECHNOLOGY_M)?;
     let rules = compile(&tech)?;
-    let (capacity, quota) = (Capacity::default(), Quota::default());
-    let limit = JournalLimit::default();
-    Ok(Server::new(alloc, tech, rules, capacity, quota, limit)?)
+    let capacity = Capacity::default();
+    Ok(Server::new(alloc, tech, rules, capacity, Limits::default())?)
 }
 
 /// A server with technology M and a cell.

@@ -88,8 +88,8 @@ module _ (server : Server) (are : AreOpenIn server)
   names-layouts = map-map (λ cell. cell.name) (named_layout server.pool) server.setup.library
 
   loading-world : (name bytes : List ℕ)
-      → loading_of server.setup.tech (cell_names (world_of server).setting) (unreserved server.pool) name bytes ≡ loading_of server.setup.tech (names_of server.setup.library) (unreserved server.pool) name bytes
-  loading-world name bytes = ap (λ names. loading_of server.setup.tech names (unreserved server.pool) name bytes) names-layouts
+      → loading_of server.setup.tech (cell_names (world_of server).setting) server.setup.cell_tiles (unreserved server.pool) name bytes ≡ loading_of server.setup.tech (names_of server.setup.library) server.setup.cell_tiles (unreserved server.pool) name bytes
+  loading-world name bytes = ap (λ names. loading_of server.setup.tech names server.setup.cell_tiles (unreserved server.pool) name bytes) names-layouts
 
   -- one cell more
   module _ (pool : Pool) (library : Library) (tiles : ℕ) (cell : NamedCell) (added : AddsOwners server.pool pool cell.planes tiles) where
@@ -121,7 +121,7 @@ module _ (server : Server) (are : AreOpenIn server)
 
   pub LoadsCell-loaded :
       (pool : Pool) (library : Library) (name bytes : List ℕ) (result : Result ℕ CellFault)
-      → LoadsUnlessMemory server.setup.tech server.pool pool server.setup.library library name bytes result → OnErr result (library ≡ server.setup.library) → OnErr result (pool ≡ server.pool)
+      → LoadsUnlessMemory server.setup.tech server.setup.cell_tiles server.pool pool server.setup.library library name bytes result → OnErr result (library ≡ server.setup.library) → OnErr result (pool ≡ server.pool)
       → LoadsCell (world_of server) name bytes result (world_of (loaded pool library))
   LoadsCell-loaded pool library name bytes (Ok id) loads same_library same_pool =
       let added = loads.2 in

@@ -11,7 +11,7 @@ use Rattle.mls_server.specs.Settings.{named_layout, terms_for}
 -- they are the same by the cells' layouts
 module _ (setup : Setup) where
   abbrev pub terms_with : List Layout → Terms
-  terms_with cells = record { config = record { tech = setup.tech; rules = setup.rules; cells = cells; quota = setup.quota }; journal = setup.limit }
+  terms_with cells = record { config = record { tech = setup.tech; rules = setup.rules; cells = cells; quota = setup.quota; cell_tiles = setup.cell_tiles }; journal = setup.limit }
 
   pub terms-same : {cells others : List Layout} → cells ≡ others → terms_with cells ≡ terms_with others
   terms-same {cells} {others} layouts = ap terms_with layouts

@@ -41,10 +41,10 @@ with_cell on cell tiles = record on { setting = record on.setting { cells = on.s
 -- the cell is loaded as the definition reads it, under the next number, or there is its fault and nothing changes, unless memory ran out
 abbrev pub LoadsCell : World → List ℕ → List ℕ → Result ℕ CellFault → World → Type 0
 LoadsCell old name bytes (Ok id) new =
-    IsOkAnd (loading_of old.setting.tech (cell_names old.setting) old.room name bytes)
+    IsOkAnd (loading_of old.setting.tech (cell_names old.setting) old.setting.cell_tiles old.room name bytes)
     (λ rects. (id ≡ length old.setting.cells) × (new ≡ with_cell old (record { name = name; layout = layout_of_rects rects }) (total (tile_counts old.setting.tech.plane_count rects))))
 LoadsCell old name bytes (Err fault) new =
-    UnlessMemory fault.kind fault.line (loading_of old.setting.tech (cell_names old.setting) old.room name bytes ≡ Err fault) × (new ≡ old)
+    UnlessMemory fault.kind fault.line (loading_of old.setting.tech (cell_names old.setting) old.setting.cell_tiles old.room name bytes ≡ Err fault) × (new ≡ old)
 
 -- ---- opening and closing
 -- the most sessions that may be open, and the most ids that may be given

@@ -31,6 +31,7 @@ setting_of server = record {
   rules = server.setup.rules;
   quota = server.setup.quota;
   journal = server.setup.limit;
+  cell_tiles = server.setup.cell_tiles;
   cells = named_layouts server.pool server.setup.library;
 }
 

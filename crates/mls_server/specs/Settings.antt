@@ -1,4 +1,4 @@
--- What no event on a session changes: the technology, its rules, the quota, the journals' limit, and the library's cells. This project's own.
+-- What no event on a session changes: the technology, its rules, the limits of planes, journals and cells, and the library's cells. This project's own.
 use Rattle.std.specs.Prelude.{ℕ, ◌+◌, ◌*◌, List, map}
 use Rattle.mls_edgerule.specs.declared.edge_rule.EdgeRule.{EdgeRule}
 use Rattle.mls_geom.specs.Layouts.{Layout}
@@ -14,17 +14,25 @@ pub record NamedLayout : Type 0 where
   pub name : List ℕ
   pub layout : Layout
 
--- the technology, its compiled rules, how many tiles a plane may have, how many entries a journal, and the cells in the order in which they were loaded
+-- the technology, its compiled rules, how many tiles a plane may have, how many entries a journal, how many tiles a plane of a cell, and the cells in the
+-- order in which they were loaded
 pub record Setting : Type 0 where
   pub tech : Tech
   pub rules : List EdgeRule
   pub quota : ℕ
   pub journal : ℕ
+  pub cell_tiles : ℕ
   pub cells : List NamedLayout
 
 -- what no command of a session changes
 abbrev pub config_for : Setting → Config
-config_for setting = record { tech = setting.tech; rules = setting.rules; cells = map (λ cell. cell.layout) setting.cells; quota = setting.quota }
+config_for setting = record {
+  tech = setting.tech;
+  rules = setting.rules;
+  cells = map (λ cell. cell.layout) setting.cells;
+  quota = setting.quota;
+  cell_tiles = setting.cell_tiles;
+}
 
 -- the terms of each session
 abbrev pub terms_for : Setting → Terms

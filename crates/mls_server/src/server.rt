@@ -13,12 +13,12 @@ mod events;
 mod opening;
 mod sessions;
 
-use crate::{Capacity, Name, SessionId};
+use crate::{Capacity, Limits, Name, SessionId};
 use indexmap::IndexMap;
 use mls_edgerule::Rules;
 use mls_layout::Workspace;
-use mls_library::{CellFault, CellId, Library};
-use mls_session::{JournalLimit, Quota, Session, Setup};
+use mls_library::{CellFault, CellFile, CellId, Library};
+use mls_session::{JournalLimit, Session, Setup};
 use mls_tech::Tech;
 use std::alloc::{AllocError, Global};
 use std::marker::Model;
@@ -66,8 +66,8 @@ impl Model for Server {
 
 impl Server {
     /// Creates a server with no cells and no open session, over a pool of this many tiles, whose sessions have the
-    /// planes and types of this technology, are checked by these rules, and have this quota and journals of this
-    /// limit.
+    /// planes and types of this technology, are checked by these rules, and have the quota and the journals of these
+    /// limits.
     ///
     /// Reserves the memory of the pool, and of the lists in which commands work.
     #[tactic(auto, unfolding(mls_tilepool::specs::Pools::reserved))]
@@ -76,11 +76,17 @@ impl Server {
         tech: Tech,
         rules: Rules,
         capacity: Capacity,
-        quota: Quota,
-        limit: JournalLimit,
+        limits: Limits,
     ) -> Result<Server, AllocError>
         ensures world { IfOk result (λ server. world_of server ≡ record {
-          setting = record { tech = tech; rules = rules; quota = quota; journal = limit; cells = [] };
+          setting = record {
+            tech = tech;
+            rules = rules;
+            quota = limits.quota;
+            journal = limits.journal;
+            cell_tiles = limits.cell_tiles;
+            cells = [];
+          };
           given = 0;
           seats = [];
           room = capacity;
@@ -92,8 +98,9 @@ impl Server {
             tech,
             rules,
             library,
-            quota,
-            limit,
+            quota: limits.quota,
+            cell_tiles: limits.cell_tiles,
+            limit: limits.journal,
         };
         Ok(Server {
             setup,
@@ -117,9 +124,14 @@ impl Server {
             workspace,
             ..
         } = self;
-        let Setup { tech, library, .. } = setup;
+        let Setup {
+            tech,
+            library,
+            cell_tiles,
+            ..
+        } = setup;
         let Workspace { pool, .. } = workspace;
-        library.load(alloc, pool, tech, name, bytes)
+        library.load(alloc, pool, tech, &CellFile { name, bytes }, *cell_tiles)
     }
 
     /// Returns whether no session is open.

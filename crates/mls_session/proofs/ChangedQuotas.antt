@@ -77,7 +77,7 @@ pub FitsQuota-tested :
     (fits : Bool) (layout : Layout) (planes quota : ℕ) → ((config : Config) → config.tech.plane_count ≡ planes → config.quota ≡ quota → fits ≡ not (exceeds_quota config layout))
     → fits ≡ true → FitsQuota planes quota layout
 FitsQuota-tested fits layout planes quota tested passed plane within =
-    let config : Config = record { tech = record nothing_read { plane_count = planes }; rules = []; cells = []; quota = quota } in
+    let config : Config = record { tech = record nothing_read { plane_count = planes }; rules = []; cells = []; quota = quota; cell_tiles = quota } in
     elim (cases_lt quota (tile_count world (layout plane))) [
       | inl more ↦
           let test : exceeds quota layout plane ≡ true = grind (arith, nat_tests, more) in

@@ -37,7 +37,7 @@ module _ (setup : Setup) (old new : Pool) (before after : Session) (keeps : Keep
 
   pub terms_of-kept : CanDump setup old (owners_of before) → terms_of setup new ≡ terms_of setup old
   terms_of-kept can =
-      let of_cells : List Layout → Terms = λ cells. record { config = record { tech = setup.tech; rules = setup.rules; cells = cells; quota = setup.quota }; journal = setup.limit } in
+      let of_cells : List Layout → Terms = λ cells. record { config = record { tech = setup.tech; rules = setup.rules; cells = cells; quota = setup.quota; cell_tiles = setup.cell_tiles }; journal = setup.limit } in
       ap of_cells (layouts-ChangesAmong old new (owners_of before) keeps.planes.only setup can)
 
 -- nor do two

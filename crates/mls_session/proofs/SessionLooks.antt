@@ -9,14 +9,15 @@ use Rattle.mls_geom.specs.World.{rect_of}
 use Rattle.mls_layout.specs.declared.uses.CellUse.{CellUse}
 use Rattle.mls_library.specs.MarkedCells.{marked_line_count, marked_text}
 use Rattle.mls_library.specs.SavedCells.{saved_line_count, saved_text}
+use Rattle.mls_session.specs.JournalCopies.{JournalCopy}
 use Rattle.mls_session.specs.Journals.{Kept}
 use Rattle.mls_session.specs.Looks.{IsRect, Looks, look_of, status_of, why_in}
 use Rattle.mls_session.specs.Own.{exceeds_listed, layout_of}
 use Rattle.mls_session.specs.OwnSteps.{Terms}
 use Rattle.mls_session.specs.declared.look.Look.{Look}
-use Rattle.mls_session.specs.declared.look.Look.TheVariants.{Save, Why, Status as AskStatus, Uses as AskUses, Marks}
+use Rattle.mls_session.specs.declared.look.Look.TheVariants.{Save, Why, Status as AskStatus, Uses as AskUses, Marks, Journal as AskJournal}
 use Rattle.mls_session.specs.declared.look.Looked.{Looked}
-use Rattle.mls_session.specs.declared.look.Looked.TheVariants.{Saved, Status as HasStatus, Uses as HasUses, Marked, Refused}
+use Rattle.mls_session.specs.declared.look.Looked.TheVariants.{Saved, Status as HasStatus, Uses as HasUses, Marked, Journal as HasJournal, Refused}
 use Rattle.mls_session.specs.declared.look.Status.{Status}
 use Rattle.mls_session.specs.declared.refusal.Refusal.TheVariants.{Memory, Quota}
 
@@ -55,6 +56,11 @@ Looks-status terms kept status is = inl (ap (λ (s : Status). without_text (HasS
 pub Looks-uses : (terms : Terms) (kept : Kept) (uses : List CellUse) → uses ≡ kept.own.design.drawn.uses → Looks terms kept AskUses (HasUses uses) []
 unfolding look_of
 Looks-uses terms kept uses is = inl (ap (λ (list : List CellUse). without_text (HasUses list)) (sym is))
+
+-- at the journal
+pub Looks-journal : (terms : Terms) (kept : Kept) (copy : JournalCopy) → copy ≡ record { entries = kept.journal; steps = kept.checks } → Looks terms kept AskJournal (HasJournal copy) []
+unfolding look_of
+Looks-journal terms kept copy is = inl (ap (λ (c : JournalCopy). without_text (HasJournal c)) (sym is))
 
 -- ---- at the layout with its marks, as text
 module _ (terms : Terms) (kept : Kept) where

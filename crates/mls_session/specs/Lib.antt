@@ -2,6 +2,7 @@ pub mod Bounds
 pub mod Changes
 pub mod Designs
 pub mod Inner
+pub mod JournalCopies
 pub mod JournalLimits
 pub mod Journals
 pub mod Looks

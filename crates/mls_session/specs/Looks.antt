@@ -16,9 +16,9 @@ use Rattle.mls_session.specs.Journals.{Kept}
 use Rattle.mls_session.specs.Own.{exceeds_listed, layout_of}
 use Rattle.mls_session.specs.OwnSteps.{Terms}
 use Rattle.mls_session.specs.declared.look.Look.{Look}
-use Rattle.mls_session.specs.declared.look.Look.TheVariants.{Save, Why, Status as AskStatus, Uses as AskUses, Marks}
+use Rattle.mls_session.specs.declared.look.Look.TheVariants.{Save, Why, Status as AskStatus, Uses as AskUses, Marks, Journal as AskJournal}
 use Rattle.mls_session.specs.declared.look.Looked.{Looked}
-use Rattle.mls_session.specs.declared.look.Looked.TheVariants.{Saved, Why as WhyRules, Status as HasStatus, Uses as HasUses, Marked, Refused}
+use Rattle.mls_session.specs.declared.look.Looked.TheVariants.{Saved, Why as WhyRules, Status as HasStatus, Uses as HasUses, Marked, Journal as HasJournal, Refused}
 use Rattle.mls_session.specs.declared.look.Status.{Status}
 use Rattle.mls_session.specs.declared.refusal.Refusal.TheVariants.{EmptyBox, OutsideWorld, Memory, Quota}
 
@@ -63,6 +63,7 @@ look_of terms kept (Why left bottom right top) = (why_in terms.config.rules (lay
 look_of terms kept AskStatus = (HasStatus (status_of terms kept), [])
 look_of terms kept AskUses = (HasUses kept.own.design.drawn.uses, [])
 look_of terms kept Marks = marked_of terms kept
+look_of terms kept AskJournal = (HasJournal (record { entries = kept.journal; steps = kept.checks }), [])
 
 -- memory may run out in any look but at a rectangle that there isn't
 abbrev pub IsRect : Result Rect RectFault → Type 0
@@ -75,6 +76,7 @@ MayRunOut (Why left bottom right top) = IsRect (rect_of left bottom right top)
 MayRunOut AskStatus = ⊤
 MayRunOut AskUses = ⊤
 MayRunOut Marks = ⊤
+MayRunOut AskJournal = ⊤
 
 -- the look returns this with this text, as it is defined; or memory ran out, and there is no text
 abbrev pub Looks : Terms → Kept → Look → Looked → List ℕ → Type 0
@@ -95,3 +97,4 @@ OnMarks (Why left bottom right top) P = ⊤
 OnMarks AskStatus P = ⊤
 OnMarks AskUses P = ⊤
 OnMarks Marks P = P
+OnMarks AskJournal P = ⊤

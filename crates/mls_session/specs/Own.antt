@@ -25,12 +25,14 @@ use Rattle.mls_session.specs.declared.reply.Reply.{Reply}
 use Rattle.mls_session.specs.declared.reply.Reply.TheVariants.{Done, Kinds, Saved, Count as Counted, Why as WhyRules, Refused}
 use Rattle.mls_session.specs.declared.refusal.Refusal.TheVariants.{EmptyBox, OutsideWorld, NoBox, UnknownType, Quota, UnknownCell, CellOutside, TooManyUses}
 
--- what no command changes: the technology, its compiled rules, the layouts of the library's cells, and the most tiles that a plane may have
+-- what no command changes: the technology, its compiled rules, the layouts of the library's cells, and the most tiles that a plane may have, and one of
+-- a cell
 pub record Config : Type 0 where
   pub tech : Tech
   pub rules : List EdgeRule
   pub cells : List Layout
   pub quota : ℕ
+  pub cell_tiles : ℕ
 
 -- the box, if one is set, the own paint, and the cells that are placed, in the order in which they were
 pub record Drawn : Type 0 where
@@ -74,7 +76,7 @@ exceeds_tiles most planes layout = list_any (λ plane. nat_lt most (tile_count w
 
 -- some plane of the technology has more tiles than are listed of one with the cells that are placed
 abbrev pub exceeds_listed : Config → Layout → Bool
-exceeds_listed config layout = exceeds_tiles (most_flat_tiles config.quota) config.tech.plane_count layout
+exceeds_listed config layout = exceeds_tiles (most_flat_tiles config.quota config.cell_tiles) config.tech.plane_count layout
 
 -- some plane of the technology would have more tiles than the quota
 abbrev pub exceeds_quota : Config → Layout → Bool

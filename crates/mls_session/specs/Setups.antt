@@ -7,7 +7,7 @@ use Rattle.mls_session.specs.declared.setup.Setup.{Setup}
 
 -- what no command of a design changes, with the cells that lie in this pool
 abbrev pub config_of : Setup → Pool → Config
-config_of setup pool = record { tech = setup.tech; rules = setup.rules; cells = cell_layouts pool setup.library; quota = setup.quota }
+config_of setup pool = record { tech = setup.tech; rules = setup.rules; cells = cell_layouts pool setup.library; quota = setup.quota; cell_tiles = setup.cell_tiles }
 
 -- and of a session
 abbrev pub terms_of : Setup → Pool → Terms

@@ -22,7 +22,7 @@ mod step_run;
 pub use command::Command;
 pub use journal::{Entry, Said};
 pub use journal_limit::JournalLimit;
-pub use look::{Look, Looked, Status, TileCounts, UseList};
+pub use look::{JournalCopy, Look, Looked, Status, TileCounts, UseList};
 pub use mls_errorplane::Job;
 pub use quota::Quota;
 pub use refusal::Refusal;

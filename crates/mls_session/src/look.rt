@@ -1,10 +1,10 @@
 //! What can be looked up of a session outside its journal.
-ghost use Rattle.std.specs.Prelude.{◌≡◌, IfOk, length};
+ghost use Rattle.std.specs.Prelude.{◌≡◌, ◌<◌, ◌^◌, IfOk, length};
 ghost use Rattle.std.specs.List.{All};
 ghost use Rattle.mls_paint.specs.Planes.{HasStrips, layout_in};
 ghost use Rattle.mls_session.specs.Looks.{tile_counts};
 
-use crate::Refusal;
+use crate::{Entry, Refusal};
 use mls_edgerule::RuleSet;
 use mls_layout::CellUse;
 use mls_paint::tile_count;
@@ -31,6 +31,8 @@ pub enum Look {
     Uses,
     /// The text of the layout with the areas that await checking and the marks, as a cell file.
     Marks,
+    /// The journal, and how many check steps were done since its last entry.
+    Journal,
 }
 
 /// The answer to a look.
@@ -46,6 +48,8 @@ pub enum Looked {
     Uses(UseList),
     /// The number of lines of the text of the layout with the areas that await checking and the marks.
     Marked(usize),
+    /// The journal, and how many check steps were done since its last entry.
+    Journal(JournalCopy),
     /// There is no such rectangle, a plane of the layout has more tiles than are listed of one, or memory ran out.
     Refused(Refusal),
 }
@@ -139,5 +143,51 @@ impl UseList {
         ensures { result.now ≡ self.now }
     {
         self.uses.as_slice()
+    }
+}
+
+/// A journal, and how many check steps were done since its last entry.
+#[derive(Drop)]
+pub struct JournalCopy {
+    entries: Vec<Entry>,
+    steps: u64,
+}
+
+impl Model for JournalCopy {
+    ghost use Rattle.mls_session.specs.JournalCopies.{JournalCopy};
+
+    ghost Value = { JournalCopy };
+
+    ghost view = { λ copy. record { entries = copy.entries.items; steps = copy.steps } };
+}
+
+impl JournalCopy {
+    /// Copies the entries of a journal, beside how many check steps were done since the last one.
+    pub(crate) fn copy_of(
+        alloc: Global,
+        entries: &[Entry],
+        steps: u64,
+    ) -> Result<JournalCopy, AllocError>
+        ensures { IfOk result (λ copy. copy ≡ record { entries = entries.now; steps = steps }) }
+    {
+        Ok(JournalCopy {
+            entries: Vec::from_slice(alloc, entries)?,
+            steps,
+        })
+    }
+
+    /// Returns the entries.
+    pub fn entries(&self) -> &[Entry]
+        ensures { result.now ≡ self.now.entries }
+    {
+        self.entries.as_slice()
+    }
+
+    /// Returns how many check steps were done since the last entry.
+    pub fn steps(&self) -> u64
+        ensures value { result ≡ self.now.steps }
+        ensures fits { result < 2 ^ 64 }
+    {
+        self.steps
     }
 }

@@ -6,7 +6,7 @@ use crate::{JournalLimit, Quota};
 use mls_edgerule::Rules;
 use mls_errorplane::Basis;
 use mls_layout::{CellUse, Uses};
-use mls_library::Library;
+use mls_library::{CellTiles, Library};
 use mls_tech::Tech;
 
 /// What a session is opened with, and no command of it changes.
@@ -20,6 +20,8 @@ pub struct Setup {
     pub library: Library,
     /// The most tiles that each plane may have.
     pub quota: Quota,
+    /// The most tiles that each plane of a cell may have.
+    pub cell_tiles: CellTiles,
     /// The most entries that the journal may have.
     pub limit: JournalLimit,
 }

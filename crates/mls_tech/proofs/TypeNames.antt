@@ -1,6 +1,6 @@
 -- Types have their names as types are added.
 use Rattle.std.proofs.Common.{◌≡◌, ◌≢◌, ℕ, ◌+◌, ◌≤◌, ◌==◌, Bool, true, false, cond, List, [], ◌∷◌, ◌++◌, Option, Some, None, Ok, length, refl, sym, ap, subst, ◌∙◌, ⊎_elim, arith, length-append, eq-eqb}
-use Rattle.std.specs.Prelude.{All, IsSome, IsTrue, find}
+use Rattle.std.specs.Prelude.{All, IsSome, IsTrue, codes, find}
 use Rattle.std.specs.Option.{option_map, option_or}
 use Rattle.std.proofs.lemmas.Bool.{cond_both, cases_lt}
 use Rattle.std.proofs.lemmas.List.Elements.{All-push, All-weaker}
@@ -82,6 +82,9 @@ module _ (number : ℕ) (types : Numbered) (text : List ℕ) (added : Numbered) 
       (types ++ (word, number) ∷ []) others added rest (name_of-new types word number)
 
 -- ---- one type more, with its names
+abbrev IsSpace : List ℕ × ℕ → Type 0
+IsSpace entry = entry.1 ≡ 0 → entry.0 ≡ codes "space"
+
 abbrev IsSpelled : List ℕ × ℕ → Type 0
 IsSpelled entry = entry.1 ≢ 0 → IsTrue (is_type_name entry.0)
 
@@ -98,6 +101,7 @@ module _ (types : Numbered) (type_planes : List ℕ) (has : HasNames types type_
   HasNames-type =
       let more : length (type_planes ++ plane ∷ []) ≡ length type_planes + 1 = length-append type_planes (plane ∷ []) in
       record {
+        space = kept (length type_planes + 1) types text added e (All IsSpace) (λ names word _ _ all. All-push IsSpace names (word, length type_planes + 1) all (λ none. absurd (omega (arith, none)))) has.space;
         spelled = kept (length type_planes + 1) types text added e (All IsSpelled) (λ names word spelled _ all. All-push IsSpelled names (word, length type_planes + 1) all (λ _. spelled)) has.spelled;
         once = kept (length type_planes + 1) types text added e IsOnce (λ names word _ new once. once-push names word (length type_planes + 1) new once) has.once;
         each = λ kind above within. each-added kind above (omega arith);

@@ -1,6 +1,6 @@
 -- The meaning of a technology file: the value that its lines add up to, or its first fault with its line. It depends on the bytes alone.
 use Rattle.std.specs.Prelude.{◌≡◌, ◌≢◌, ◌<◌, ◌≤◌, ℕ, All, ◌+◌, ◌-◌, ◌==◌, Bool, false, not, ◌||◌, ◌&&◌, nat_lt, nat_le, if◌then◌else◌, Option, Some, None, Result, Ok, Err, List, [], ◌∷◌, ◌++◌, length, codes, slice_get, take, count_by, find, is_none, is_some, IfSome, IsSome, IsTrue}
-use Rattle.std.specs.List.{list_any}
+use Rattle.std.specs.List.{list_all, list_any}
 use Rattle.std.specs.Map.{lookup}
 use Rattle.std.specs.Option.{option_map, option_map_or}
 use Rattle.std.specs.Str.Lossy.{utf8_valid_len}
@@ -54,8 +54,18 @@ number_named names word = lookup (same_word word) names
 abbrev pub name_of : Numbered → ℕ → Option (List ℕ)
 name_of names number = option_map (λ entry. entry.0) (find (λ entry. entry.1 == number) names)
 
--- each type's names are spelled so that cell files can have them, each name has one meaning, and each type has a name
+-- no name of the number is shorter
+abbrev pub none_is_shorter : Numbered → ℕ → List ℕ → Bool
+none_is_shorter names number name = list_all (λ entry. not (entry.1 == number) || nat_le (length name) (length entry.0)) names
+
+-- the shortest name of a number, the first of that length
+abbrev pub short_name_of : Numbered → ℕ → Option (List ℕ)
+short_name_of names number = option_map (λ entry. entry.0) (find (λ entry. entry.1 == number && none_is_shorter names number entry.0) names)
+
+-- type 0 has the name `space` alone, the names of the others are spelled so that cell files can have them, each name has one meaning, and each type has a
+-- name
 pub record HasNames (types : Numbered) (type_planes : List ℕ) : Type 0 where
+  pub space : All (λ entry. entry.1 ≡ 0 → entry.0 ≡ codes "space") types
   pub spelled : All (λ entry. entry.1 ≢ 0 → IsTrue (is_type_name entry.0)) types
   pub once : All (λ entry. number_named types entry.0 ≡ Some entry.1) types
   pub each : (kind : ℕ) → 1 ≤ kind → kind ≤ length type_planes → IsSome (name_of types kind)

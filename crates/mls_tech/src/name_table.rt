@@ -88,4 +88,28 @@ impl NameTable {
         }
         None
     }
+
+    /// Returns the shortest name of a number, the first of that length.
+    pub fn short_name_of(&self, number: u8) -> Option<&[u8]>
+        ensures { option_copied result ≡ spec.short_name_of self.now number }
+    {
+        for (name, named) in &self.numbers {
+            if *named == number && self.none_is_shorter(number, name) {
+                return Some(name);
+            }
+        }
+        None
+    }
+
+    /// Returns whether no name of the number is shorter than this one.
+    fn none_is_shorter(&self, number: u8, name: &[u8]) -> bool
+        ensures { result ≡ spec.none_is_shorter self.now number name.now }
+    {
+        for (other, named) in &self.numbers {
+            if *named == number && other.len() < name.len() {
+                return false;
+            }
+        }
+        true
+    }
 }

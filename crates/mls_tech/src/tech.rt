@@ -1,5 +1,5 @@
 //! Technologies.
-ghost use Rattle.std.specs.Prelude.{◌≡◌, ◌<◌, ◌≤◌, length, IfOk, IfSome, option_copied};
+ghost use Rattle.std.specs.Prelude.{◌≡◌, ◌<◌, ◌≤◌, All, length, IfOk, IfSome, option_copied};
 ghost use Rattle.mls_tech.specs.Readings.{HasNames};
 ghost use Rattle.mls_tech.specs.Readings as spec;
 ghost use Rattle.mls_text.specs.Lines.{IsUnbroken};
@@ -95,6 +95,13 @@ impl Tech {
         self.types.name_of(kind)
     }
 
+    /// Returns the shortest name of a type, the first of that length.
+    pub fn short_type_name(&self, kind: u8) -> Option<&[u8]>
+        ensures { option_copied result ≡ spec.short_name_of self.now.types kind }
+    {
+        self.types.short_name_of(kind)
+    }
+
     /// Returns the plane of a type; `space` has none of its own.
     pub fn plane_of(&self, kind: u8) -> Option<u8>
         ensures value { result ≡ spec.plane_of_type self.now.type_planes kind }
@@ -117,6 +124,7 @@ impl Tech {
         ensures value { result ≡ length self.now.type_planes }
         ensures limit { result ≤ 63 }
         ensures named { HasNames self.now.types self.now.type_planes }
+        ensures within { All (λ entry. entry.1 ≤ length self.now.type_planes) self.now.types }
     {
         self.type_planes.len()
     }

@@ -5,17 +5,19 @@ use Rattle.std.proofs.lemmas.Bool.Decides.{nat_tests}
 use Rattle.mls_session.specs.Journals.{Kept}
 use Rattle.mls_session.specs.declared.command.Command.{Command}
 use Rattle.mls_session.specs.declared.command.Command.TheVariants.{Box, Paint, Erase, Dump, GetCell, What, Save, Check, CatchUp, Why, Count}
-use Rattle.mls_session.specs.declared.look.Look.TheVariants.{Save as SaveLook, Why as WhyLook, Status as StatusLook, Uses as UsesLook, Marks as MarksLook}
+use Rattle.mls_session.specs.declared.look.Look.TheVariants.{Why as WhyLook}
 use Rattle.mls_server.specs.Worlds.{Seat, World, kept_in, named_in, seat_in, session_named}
 use Rattle.mls_server.specs.SessionNames.{is_session_name}
 use Rattle.mls_server.specs.declared.event.Event.TheVariants.{Command as CommandEvent}
 use Rattle.mls_text.specs.Words.{begins_with, words_of, same_word}
 use Rattle.mls_wire.specs.NameBooks.{book_of}
 use Rattle.mls_wire.specs.Runs.{CanExecute, Executes, command_event}
-use Rattle.mls_wire.specs.Says.{asked_of, asks_says, command_of, count_says, line_says, line_with, look_line, open_says, run_by, session_says, sides_say, steps_of, steps_says, why_of, why_says, words_say}
+use Rattle.mls_wire.specs.Says.{asked_by, asked_of, asking_says, asks_says, command_of, count_says, line_says, line_with, look_line, open_says, run_by, session_says, sides_say, steps_of, steps_says, why_of, why_says, words_say}
 use Rattle.mls_wire.specs.declared.line.Line.{Line}
 use Rattle.mls_wire.specs.declared.line.Line.TheVariants.{Silent, Open, Close, Step, Steps, Audit}
 use Rattle.mls_wire.specs.declared.line.LineFault.{LineFault}
+use Rattle.mls_wire.specs.declared.parse.Asked.{Asked}
+use Rattle.mls_wire.specs.declared.parse.Asked.TheVariants.{Close as AsksClose, Step as AsksStep, Audit as AsksAudit, Look as AsksLook}
 use Rattle.mls_wire.specs.declared.parse.Sides.{Sides}
 use Rattle.mls_wire.specs.declared.line.LineFault.TheVariants.{UnknownCommand, BadName}
 use Rattle.mls_wire.specs.declared.response.Response.TheVariants.{Audited}
@@ -103,21 +105,21 @@ unfolding steps_says
 steps_executable on [] = tt
 steps_executable on (name ∷ words) = choice on (is_session_name name) _ (Err BadName) (steps_of_executable on name (count_says words)) tt
 
+asking_executable : (on : World) (asked : Option Asked) (words : List (List ℕ)) → CanExecuteSaid on (asking_says (book_of on) asked words)
+asking_executable on None words = tt
+asking_executable on (Some AsksClose) words = asks_executable on Close (λ name id h. h) words
+asking_executable on (Some AsksStep) words = asks_executable on Step (λ name id h. h) words
+asking_executable on (Some AsksAudit) words = asks_executable on Audit (λ name id h. h) words
+asking_executable on (Some (AsksLook look)) words = asks_executable on (look_line look) (λ name id h. h) words
+
 words_executable : (on : World) (words : List (List ℕ)) → CanExecuteSaid on (words_say (book_of on) words)
 unfolding words_say
 words_executable on [] = tt
 words_executable on (word ∷ words) =
     choice on (same_word word (codes "%open")) _ _ (open_executable on words)
-    (choice on (same_word word (codes "%close")) _ _ (asks_executable on Close (λ name id h. h) words)
-    (choice on (same_word word (codes "%step")) _ _ (asks_executable on Step (λ name id h. h) words)
-    (choice on (same_word word (codes "%audit")) _ _ (asks_executable on Audit (λ name id h. h) words)
-    (choice on (same_word word (codes "%save")) _ _ (asks_executable on (look_line SaveLook) (λ name id h. h) words)
-    (choice on (same_word word (codes "%stat")) _ _ (asks_executable on (look_line StatusLook) (λ name id h. h) words)
-    (choice on (same_word word (codes "%uses")) _ _ (asks_executable on (look_line UsesLook) (λ name id h. h) words)
-    (choice on (same_word word (codes "%marks")) _ _ (asks_executable on (look_line MarksLook) (λ name id h. h) words)
     (choice on (same_word word (codes "%why")) _ _ (why_executable on words)
     (choice on (same_word word (codes "%steps")) _ _ (steps_executable on words)
-    (choice on (begins_with 37 word) (Err UnknownCommand) _ tt (session_executable on word words)))))))))))
+    (choice on (begins_with 37 word) _ _ (asking_executable on (asked_by word) words) (session_executable on word words))))
 
 line_executable : (on : World) (line : Option (List ℕ)) → CanExecuteSaid on (line_says (book_of on) line)
 unfolding line_says

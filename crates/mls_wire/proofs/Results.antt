@@ -1,5 +1,5 @@
 -- Facts on results.
-use Rattle.std.proofs.Common.{◌≡◌, ℕ, cond, List, ◌++◌, Result, Ok, Err, OnErr, OnOk, IfErr, sym, subst, ap, ◌∙◌, append_assoc}
+use Rattle.std.proofs.Common.{◌≡◌, ℕ, ◌+◌, ◌<◌, ◌≤◌, cond, List, ◌++◌, length, length-append, arith, Result, Ok, Err, OnErr, OnOk, IfErr, sym, subst, ap, ◌∙◌, append_assoc}
 use Rattle.std.specs.Result.{IsErr, IsErrAnd, is_ok}
 
 -- what holds anyway holds at an error
@@ -26,3 +26,15 @@ on_ok-map (Err e) P Q f p = tt
 pub on_ok-appended : {T E : Type 0} (r : Result T E) (old mid new xs ys : List ℕ) → mid ≡ old ++ xs → new ≡ cond (is_ok r) (mid ++ ys) mid → OnOk r (new ≡ old ++ (xs ++ ys))
 on_ok-appended (Ok x) old mid new xs ys so more = more ∙ ap (λ l. l ++ ys) so ∙ append_assoc old xs ys
 on_ok-appended (Err e) old mid new xs ys so more = tt
+
+-- one text more, at a value
+pub on_ok-next : {T E : Type 0} (r : Result T E) (old mid new xs ys : List ℕ) → mid ≡ old ++ xs → OnOk r (new ≡ mid ++ ys) → OnOk r (new ≡ old ++ (xs ++ ys))
+on_ok-next (Ok x) old mid new xs ys so more = more ∙ ap (λ l. l ++ ys) so ∙ append_assoc old xs ys
+on_ok-next (Err e) old mid new xs ys so more = tt
+
+-- where the second text has no room, both have none
+pub on_err-next : {T E : Type 0} (r : Result T E) (old mid xs ys : List ℕ) (capacity grown len length_now : ℕ) → mid ≡ old ++ xs → len ≡ length old → length_now ≡ length mid
+    → capacity ≤ grown → OnErr r (grown < length_now + length ys) → OnErr r (capacity < len + length (xs ++ ys))
+on_err-next (Ok x) old mid xs ys capacity grown len length_now so before after grows lacks = tt
+on_err-next (Err e) old mid xs ys capacity grown len length_now so before after grows lacks =
+    omega (arith, ap length so, length-append old xs, length-append xs ys, before, after, grows, lacks)

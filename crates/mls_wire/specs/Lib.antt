@@ -1,9 +1,12 @@
 pub mod Ahead
+pub mod JournalLines
 pub mod LineReaders
 pub mod Lines
 pub mod NameBooks
 pub mod NextLines
 pub mod Numbers
+pub mod PlayedJournals
+pub mod ReadBack
 pub mod Replies
 pub mod Runs
 pub mod Says

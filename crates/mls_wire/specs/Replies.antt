@@ -9,10 +9,11 @@ use Rattle.mls_layout.specs.declared.uses.CellUse.{CellUse}
 use Rattle.mls_kinds.specs.KindSets.{difference, members, set_of}
 use Rattle.mls_session.specs.Refusals.{refusal_number, refusal_text}
 use Rattle.mls_session.specs.declared.look.Looked.{Looked}
-use Rattle.mls_session.specs.declared.look.Looked.TheVariants.{Saved as SavedLook, Why as WhyLook, Status as StatusLook, Uses as UsesLook, Marked as MarkedLook, Refused as RefusedLook}
+use Rattle.mls_session.specs.declared.look.Looked.TheVariants.{Saved as SavedLook, Why as WhyLook, Status as StatusLook, Uses as UsesLook, Marked as MarkedLook, Journal as JournalLook, Refused as RefusedLook}
 use Rattle.mls_session.specs.declared.look.Status.{Status}
 use Rattle.mls_session.specs.declared.reply.Reply.{Reply}
 use Rattle.mls_session.specs.declared.reply.Reply.TheVariants.{Done, Kinds, Saved, Count, Why, Refused, Stopped}
+use Rattle.mls_wire.specs.JournalLines.{journal_text}
 use Rattle.mls_session.specs.declared.step_run.StepRun.{StepRun}
 use Rattle.mls_wire.specs.NameBooks.{Names}
 use Rattle.mls_wire.specs.Says.{line_fault_number, line_fault_text}
@@ -93,14 +94,15 @@ abbrev pub use_text : Names → CellUse → List ℕ
 use_text book cell_use =
     10 ∷ codes "getcell " ++ unwrap_or (book.cell_name cell_use.cell) [] ++ 32 ∷ signed_decimal cell_use.dx ++ 32 ∷ signed_decimal cell_use.dy
 
--- what a look returned, without its line's first word and its line feed: a text and rules as a command's reply has them
-unfoldable pub looked_text : Names → Looked → List ℕ
-looked_text book (SavedLook lines) = reply_text book (Saved lines)
-looked_text book (WhyLook rules) = reply_text book (Why rules)
-looked_text book (StatusLook status) = status_text status
-looked_text book (UsesLook uses) = codes "uses " ++ decimal (length uses) ++ flat_map (use_text book) uses
-looked_text book (MarkedLook lines) = codes "marked " ++ decimal lines
-looked_text book (RefusedLook refusal) = reply_text book (Refused refusal)
+-- what a look at the session of a name returned, without its line's first word and its line feed: a text and rules as a command's reply has them
+unfoldable pub looked_text : Names → List ℕ → Looked → List ℕ
+looked_text book name (SavedLook lines) = reply_text book (Saved lines)
+looked_text book name (WhyLook rules) = reply_text book (Why rules)
+looked_text book name (StatusLook status) = status_text status
+looked_text book name (UsesLook uses) = codes "uses " ++ decimal (length uses) ++ flat_map (use_text book) uses
+looked_text book name (MarkedLook lines) = codes "marked " ++ decimal lines
+looked_text book name (JournalLook journal) = journal_text book name journal
+looked_text book name (RefusedLook refusal) = reply_text book (Refused refusal)
 
 -- the reply text of an answer by the session's name; answers that no line has are of no text
 unfoldable pub answer_text : Names → List ℕ → Answer → List ℕ
@@ -112,7 +114,7 @@ answer_text book name (Commanded (Ok reply)) = name ++ 32 ∷ reply_text book re
 answer_text book name (Commanded (Err fault)) = []
 answer_text book name (SavedAs (Ok reply) text) = name ++ 32 ∷ reply_text book reply ++ 10 ∷ text
 answer_text book name (SavedAs (Err fault) text) = []
-answer_text book name (LookedAt (Ok looked) text) = name ++ 32 ∷ looked_text book looked ++ 10 ∷ text
+answer_text book name (LookedAt (Ok looked) text) = name ++ 32 ∷ looked_text book name looked ++ 10 ∷ text
 answer_text book name (LookedAt (Err fault) text) = []
 answer_text book name (Grabbed result) = []
 answer_text book name (Finished result) = []

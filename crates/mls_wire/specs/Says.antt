@@ -6,7 +6,7 @@ use Rattle.mls_kinds.specs.KindSets.{set_of}
 use Rattle.mls_session.specs.declared.command.Command.{Command}
 use Rattle.mls_session.specs.declared.command.Command.TheVariants.{Box, Paint, Erase, Dump, GetCell, What, Save, Check, CatchUp, Why, Count}
 use Rattle.mls_session.specs.declared.look.Look.{Look}
-use Rattle.mls_session.specs.declared.look.Look.TheVariants.{Save as SaveLook, Why as WhyLook, Status as StatusLook, Uses as UsesLook, Marks as MarksLook}
+use Rattle.mls_session.specs.declared.look.Look.TheVariants.{Save as SaveLook, Why as WhyLook, Status as StatusLook, Uses as UsesLook, Marks as MarksLook, Journal as JournalLook}
 use Rattle.mls_wire.specs.NameBooks.{Names}
 use Rattle.mls_wire.specs.Numbers.{count_of, number_of}
 use Rattle.mls_text.specs.Fields.{fields_of}
@@ -146,7 +146,7 @@ abbrev pub asked_of : (List ℕ → ℕ → Line) → List ℕ → Option ℕ �
 asked_of make name (Some id) = Ok (make name id)
 asked_of make name None = Err NotOpen
 
--- the words after `%close`, `%step`, `%audit`, `%save`, `%stat`, `%uses` or `%marks`: here too a fault of the name's form comes first, then one of the
+-- the words after `%close`, `%step`, `%audit`, `%save`, `%stat`, `%uses`, `%marks` or `%journal`: here too a fault of the name's form comes first, then one of the
 -- number of words, and last that no session of the name is open
 unfoldable pub asks_says : Names → (List ℕ → ℕ → Line) → List (List ℕ) → Result Line LineFault
 asks_says book make [] = Err BadName
@@ -190,20 +190,29 @@ unfoldable pub steps_says : Names → List (List ℕ) → Result Line LineFault
 steps_says book [] = Err BadName
 steps_says book (name ∷ words) = if is_session_name name then steps_of book name (count_says words) else Err BadName
 
+-- what a word asks of the open session whose name comes next, by that name alone
+unfoldable pub asked_by : List ℕ → Option Asked
+asked_by word =
+    if same_word word (codes "%close") then Some AsksClose
+    else (if same_word word (codes "%step") then Some AsksStep
+    else (if same_word word (codes "%audit") then Some AsksAudit
+    else (if same_word word (codes "%save") then Some (AsksLook SaveLook)
+    else (if same_word word (codes "%stat") then Some (AsksLook StatusLook)
+    else (if same_word word (codes "%uses") then Some (AsksLook UsesLook)
+    else (if same_word word (codes "%marks") then Some (AsksLook MarksLook)
+    else (if same_word word (codes "%journal") then Some (AsksLook JournalLook) else None)))))))
+
+abbrev pub asking_says : Names → Option Asked → List (List ℕ) → Result Line LineFault
+asking_says book (Some asked) words = asks_says book (asked_line asked) words
+asking_says book None words = Err UnknownCommand
+
 unfoldable pub words_say : Names → List (List ℕ) → Result Line LineFault
 words_say book [] = Ok Silent
 words_say book (word ∷ words) =
     if same_word word (codes "%open") then open_says words
-    else (if same_word word (codes "%close") then asks_says book Close words
-    else (if same_word word (codes "%step") then asks_says book Step words
-    else (if same_word word (codes "%audit") then asks_says book Audit words
-    else (if same_word word (codes "%save") then asks_says book (look_line SaveLook) words
-    else (if same_word word (codes "%stat") then asks_says book (look_line StatusLook) words
-    else (if same_word word (codes "%uses") then asks_says book (look_line UsesLook) words
-    else (if same_word word (codes "%marks") then asks_says book (look_line MarksLook) words
     else (if same_word word (codes "%why") then why_says book words
     else (if same_word word (codes "%steps") then steps_says book words
-    else (if begins_with 37 word then Err UnknownCommand else session_says book word words))))))))))
+    else (if begins_with 37 word then asking_says book (asked_by word) words else session_says book word words)))
 
 -- a line as it was read: one that is too long is a fault whatever it holds, and a comment begins with `#` in its very first byte
 unfoldable pub line_says : Names → Option (List ℕ) → Result Line LineFault

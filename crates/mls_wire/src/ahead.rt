@@ -39,6 +39,10 @@ impl<N: Names> Names for Ahead<'_, N> {
         self.names.type_name(kind)
     }
 
+    fn short_type_name(&self, kind: u8) -> Option<&[u8]> {
+        self.names.short_type_name(kind)
+    }
+
     fn why_text(&self, n: usize) -> Option<&[u8]> {
         self.names.why_text(n)
     }

@@ -3,6 +3,7 @@
 
 mod ahead;
 mod executing;
+mod journal_lines;
 mod line;
 mod names;
 mod number;
@@ -18,8 +19,9 @@ pub use ahead::read_script;
 pub use executing::respond;
 pub use line::{Line, LineFault};
 pub use mls_server::Name;
-pub use names::Names;
+pub use names::{Names, server_reads_back};
 pub use parse::parse_line;
+pub use reader::{LineReader, NextLine};
 pub use reply::{push_differs, push_looked, push_response, push_saved};
 pub use response::Response;
 pub use script_line::ScriptLine;

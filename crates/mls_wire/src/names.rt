@@ -1,6 +1,9 @@
 //! What names mean.
 ghost use Rattle.std.specs.Prelude.{◌≡◌, ◌<◌, IfSome};
 ghost use Rattle.std.specs.Option.{option_map};
+ghost use Rattle.mls_server.specs.Servers.{world_of};
+ghost use Rattle.mls_wire.specs.ReadBack.{JournalsReadBack};
+ghost use Rattle.mls_wire.specs.NameBooks.{book_of};
 
 use mls_library::CellId;
 use mls_server::{Name, Server, SessionId};
@@ -29,6 +32,10 @@ pub trait Names {
     fn type_name(&self, kind: u8) -> Option<&[u8]>
         ensures { option_map (λ name. name.now) result ≡ (book self.now).type_name kind };
 
+    /// Returns the shortest name of a type, the first of that length.
+    fn short_type_name(&self, kind: u8) -> Option<&[u8]>
+        ensures { option_map (λ name. name.now) result ≡ (book self.now).short_type_name kind };
+
     /// Returns why rule `n` is there, from 1.
     fn why_text(&self, n: usize) -> Option<&[u8]>
         ensures { option_map (λ text. text.now) result ≡ (book self.now).why_text n };
@@ -39,9 +46,6 @@ pub trait Names {
 }
 
 impl Names for Server {
-    ghost use Rattle.mls_server.specs.Servers.{world_of};
-    ghost use Rattle.mls_wire.specs.NameBooks.{book_of};
-
     ghost book = { λ server. book_of (world_of server) };
 
     fn type_of(&self, word: &[u8]) -> Option<u8> {
@@ -49,7 +53,11 @@ impl Names for Server {
     }
 
     fn cell_of(&self, word: &[u8]) -> Option<CellId> {
-        self.cell(word)
+        match word {
+            // What is written for a cell without a name.
+            b"," => None,
+            _ => self.cell(word),
+        }
     }
 
     fn cell_name(&self, cell: CellId) -> Option<&[u8]> {
@@ -60,6 +68,10 @@ impl Names for Server {
         self.tech().type_name(kind)
     }
 
+    fn short_type_name(&self, kind: u8) -> Option<&[u8]> {
+        self.tech().short_type_name(kind)
+    }
+
     fn why_text(&self, n: usize) -> Option<&[u8]> {
         self.tech().why(n)
     }
@@ -67,4 +79,13 @@ impl Names for Server {
     fn session(&self, name: &Name) -> Option<SessionId> {
         Server::session(self, name)
     }
+}
+
+/// For every command that some line of at most 1,023 bytes says, the line that is written for it in a journal says the
+/// same, and a line of check steps does as many, whatever sessions are open. Does nothing: the contract is the law.
+pub fn server_reads_back(server: &Server)
+    ensures { JournalsReadBack (world_of server.now).setting }
+{
+    // For its contract alone.
+    server.tech().types();
 }

@@ -1,7 +1,8 @@
 //! From a line to what it says.
-ghost use Rattle.std.specs.Prelude.{◌≡◌};
+ghost use Rattle.std.specs.Prelude.{◌≡◌, if◌then◌else◌};
 ghost use Rattle.mls_text.specs.Fields.{fields_of};
-ghost use Rattle.mls_wire.specs.Says.{asked_line, asks_says, box_says, cell_edit_of, command_of, count_says, drc_says, dump_says, edit_of, erase_says, getcell_says, line_says, moved_cell_says, open_says, paint_says, save_says, session_says, sides_say, steps_says, types_named, what_says, why_says, words_say};
+ghost use Rattle.mls_text.specs.Words.{begins_with};
+ghost use Rattle.mls_wire.specs.Says.{asked_by, asked_line, asking_says, asks_says, box_says, cell_edit_of, command_of, count_says, drc_says, dump_says, edit_of, erase_says, getcell_says, line_says, moved_cell_says, open_says, paint_says, save_says, session_says, sides_say, steps_says, types_named, what_says, why_says, words_say};
 ghost use Rattle.mls_wire.specs.ScriptLines.{text_of};
 
 use crate::number::{count_of, number_of};
@@ -70,17 +71,57 @@ fn parse_words<N: Names>(names: &N, mut words: Words) -> Result<Line, LineFault>
     match words.next() {
         None => Ok(Line::Silent),
         Some(b"%open") => parse_open(words),
-        Some(b"%close") => parse_asked(names, words, Asked::Close),
-        Some(b"%step") => parse_asked(names, words, Asked::Step),
-        Some(b"%audit") => parse_asked(names, words, Asked::Audit),
-        Some(b"%save") => parse_asked(names, words, Asked::Look(Look::Save)),
-        Some(b"%stat") => parse_asked(names, words, Asked::Look(Look::Status)),
-        Some(b"%uses") => parse_asked(names, words, Asked::Look(Look::Uses)),
-        Some(b"%marks") => parse_asked(names, words, Asked::Look(Look::Marks)),
         Some(b"%why") => parse_why(names, words),
         Some(b"%steps") => parse_steps(names, words),
-        Some([b'%', ..]) => Err(LineFault::UnknownCommand),
-        Some(name) => parse_session(names, name, words),
+        Some(word) => parse_named(names, word, words),
+    }
+}
+
+/// Returns what the words after the first say, where that asks something of an open session, or is its name.
+fn parse_named<N: Names>(names: &N, first: &[u8], words: Words) -> Result<Line, LineFault>
+    ensures { result ≡ (if begins_with 37 first.now
+        then asking_says (N.book names.now) (asked_by first.now) words.entry
+        else session_says (N.book names.now) first.now words.entry) }
+{
+    match first {
+        [b'%', ..] => parse_asking(names, asked_of_word(first), words),
+        _ => parse_session(names, first, words),
+    }
+}
+
+/// Returns what a word asks of the open session whose name comes next, by that name alone.
+#[tactic(auto, unfolding(crate::specs::Says::asked_by))]
+fn asked_of_word(word: &[u8]) -> Option<Asked>
+    ensures { result ≡ asked_by word.now }
+{
+    if word == b"%close".as_slice() {
+        Some(Asked::Close)
+    } else if word == b"%step".as_slice() {
+        Some(Asked::Step)
+    } else if word == b"%audit".as_slice() {
+        Some(Asked::Audit)
+    } else if word == b"%save".as_slice() {
+        Some(Asked::Look(Look::Save))
+    } else if word == b"%stat".as_slice() {
+        Some(Asked::Look(Look::Status))
+    } else if word == b"%uses".as_slice() {
+        Some(Asked::Look(Look::Uses))
+    } else if word == b"%marks".as_slice() {
+        Some(Asked::Look(Look::Marks))
+    } else if word == b"%journal".as_slice() {
+        Some(Asked::Look(Look::Journal))
+    } else {
+        None
+    }
+}
+
+/// Returns what the words after one that asks something of an open session say.
+fn parse_asking<N: Names>(names: &N, asked: Option<Asked>, words: Words) -> Result<Line, LineFault>
+    ensures { result ≡ asking_says (N.book names.now) asked words.entry }
+{
+    match asked {
+        Some(asked) => parse_asked(names, words, asked),
+        None => Err(LineFault::UnknownCommand),
     }
 }
 
@@ -96,7 +137,7 @@ fn parse_open(mut words: Words) -> Result<Line, LineFault>
     }
 }
 
-/// Returns what the words after `%close`, `%step`, `%audit`, `%save`, `%stat`, `%uses` or `%marks` say.
+/// Returns what the words after one that asks this of an open session say.
 #[tactic(auto, unfolding(crate::specs::Says::asks_says))]
 fn parse_asked<N: Names>(names: &N, mut words: Words, asked: Asked) -> Result<Line, LineFault>
     ensures { result ≡ asks_says (N.book names.now) (asked_line asked) words.entry }

@@ -6,9 +6,11 @@ ghost use Rattle.mls_edgerule.specs.RuleSets.{rules_in};
 ghost use Rattle.mls_kinds.specs.KindSets.{members};
 ghost use Rattle.mls_server.specs.Faults.{open_fault_number, open_fault_text};
 ghost use Rattle.mls_session.specs.Refusals.{refusal_number, refusal_text};
+ghost use Rattle.mls_wire.specs.ReadBack.{CommandsAreLines, CommandsReadBack, NamesReadBack, StepsReadBack};
 ghost use Rattle.mls_wire.specs.Replies as spec;
 ghost use Rattle.mls_wire.specs.SeatTexts.{differs_text};
 
+use crate::journal_lines::{commands_read_back, push_journal};
 use crate::{Names, Response};
 use itoa::{Buffer, Integer};
 use mls_edgerule::RuleSet;
@@ -82,6 +84,8 @@ pub fn push_saved<N: Names>(
 
 /// Appends the reply text to a look, and the text that comes with it.
 ///
+/// The line that is written for a command of a journal says that command, if some line of at most 1,023 bytes does.
+///
 /// # Errors
 ///
 /// Out of memory, where the list had no room for the whole text.
@@ -98,10 +102,15 @@ pub fn push_looked<N: Names>(
     ensures room { OnErr result (vec_capacity out.old
         < vec_len out.old + length (spec.answer_text (N.book names.now) name.now (Answer.Looked looked.now text.now))) }
     ensures capacity { vec_capacity out.old ≤ vec_capacity out.new }
+    ensures reads_back { NamesReadBack (N.book names.now) → CommandsReadBack (N.book names.now) }
+    ensures are_lines { NamesReadBack (N.book names.now) → CommandsAreLines (N.book names.now) }
+    ensures steps_back { StepsReadBack (N.book names.now) }
 {
+    // For its contract alone.
+    commands_read_back(names);
     let Ok(looked) = looked else { return Ok(()) };
     push_words(name, b" ", out)?;
-    push_look(names, looked, out)?;
+    push_look(names, name, looked, out)?;
     out.push(b'\n')?;
     out.extend_from_slice(text)
 }
@@ -204,7 +213,7 @@ fn push_replied<N: Names>(
 }
 
 /// Appends a number.
-fn push_decimal<I: Integer>(n: I, out: &mut Vec<u8>) -> Result<(), AllocError>
+pub(crate) fn push_decimal<I: Integer>(n: I, out: &mut Vec<u8>) -> Result<(), AllocError>
     ensures text { OnOk result (out.new.items ≡ out.old.items ++ I.text n) }
     ensures room { OnErr result (vec_capacity out.old < vec_len out.old + length (I.text n)) }
     ensures capacity { vec_capacity out.old ≤ vec_capacity out.new }
@@ -265,10 +274,16 @@ fn push_reply<N: Names>(names: &N, reply: Reply, out: &mut Vec<u8>) -> Result<()
 
 /// Appends what a look returned, without its line's first word and its line feed.
 #[tactic(auto, unfolding(crate::specs::Replies::looked_text))]
-fn push_look<N: Names>(names: &N, looked: &Looked, out: &mut Vec<u8>) -> Result<(), AllocError>
-    ensures text { OnOk result (out.new.items ≡ out.old.items ++ spec.looked_text (N.book names.now) looked.now) }
+fn push_look<N: Names>(
+    names: &N,
+    name: &Name,
+    looked: &Looked,
+    out: &mut Vec<u8>,
+) -> Result<(), AllocError>
+    ensures text { OnOk result (out.new.items ≡ out.old.items
+        ++ spec.looked_text (N.book names.now) name.now looked.now) }
     ensures room { OnErr result (vec_capacity out.old
-        < vec_len out.old + length (spec.looked_text (N.book names.now) looked.now)) }
+        < vec_len out.old + length (spec.looked_text (N.book names.now) name.now looked.now)) }
     ensures capacity { vec_capacity out.old ≤ vec_capacity out.new }
 {
     match looked {
@@ -280,6 +295,7 @@ fn push_look<N: Names>(names: &N, looked: &Looked, out: &mut Vec<u8>) -> Result<
             out.extend_from_slice(b"marked ")?;
             push_decimal(*lines as u64, out)
         }
+        Looked::Journal(journal) => push_journal(names, name, journal, out),
         Looked::Refused(refusal) => push_reply(names, Reply::Refused(*refusal), out),
     }
 }
@@ -406,7 +422,7 @@ fn push_use<N: Names>(names: &N, cell_use: &CellUse, out: &mut Vec<u8>) -> Resul
 }
 
 /// Appends a space and a number.
-fn push_offset(offset: i32, out: &mut Vec<u8>) -> Result<(), AllocError>
+pub(crate) fn push_offset(offset: i32, out: &mut Vec<u8>) -> Result<(), AllocError>
     ensures text { OnOk result (out.new.items ≡ out.old.items ++ 32 ∷ signed_decimal offset) }
     ensures room { OnErr result (vec_capacity out.old < vec_len out.old + length (32 ∷ signed_decimal offset)) }
     ensures capacity { vec_capacity out.old ≤ vec_capacity out.new }

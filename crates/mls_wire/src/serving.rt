@@ -3,12 +3,15 @@ ghost use Rattle.std.specs.Prelude.{◌≡◌, ◌≢◌, false, OnOk, OnErr, If
 ghost use Rattle.std.specs.Io.KnownBytes.{Appends};
 ghost use Rattle.mls_server.specs.Servers.{world_of};
 ghost use Rattle.mls_server.specs.Worlds.{MarksAreExact, MarksAreRight};
+ghost use Rattle.mls_wire.specs.ReadBack.{JournalsReadBack};
 ghost use Rattle.mls_wire.specs.ScriptLines.{text_of};
 ghost use Rattle.mls_wire.specs.Serving.{AppendsFront, WritesRun, WritesCutRun, WritesLine, WritesCutLine, HasReason};
 ghost use Rattle.mls_wire.specs.Watches.{HasCause};
 
 use crate::reader::{LineReader, NextLine};
-use crate::{ReadFault, ScriptLine, Watched, WriteFault, push_response, respond};
+use crate::{
+    ReadFault, ScriptLine, Watched, WriteFault, push_response, respond, server_reads_back,
+};
 use mls_server::Server;
 use std::alloc::{AllocError, Global};
 use std::io::{Read, Write};
@@ -73,6 +76,8 @@ impl From<AllocError> for ServeFault {
 
 /// Serves a script: runs its lines one after another, and writes and flushes the reply to each before more is read.
 ///
+/// The lines that `%journal` writes for a command say that command, and those for check steps do as many.
+///
 /// At a [`ServeFault::Read`] the whole lines that were read have their replies, and a line of which only a beginning
 /// was read is lost. At the other faults the last line was run too, and a beginning of its reply was written, or
 /// nothing where memory ran out.
@@ -94,10 +99,13 @@ pub fn serve<R: Read, W: Write>(
     ensures marks_right { MarksAreRight (world_of server.new) }
     ensures marks_exact { MarksAreExact (world_of server.new) }
     ensures setting { (world_of server.new).setting ≡ (world_of server.old).setting }
+    ensures reads_back { JournalsReadBack (world_of server.old).setting }
 {
     prove!(!input.failed() && !output.failed());
     // For its contract alone: the marks are exact at first, where nothing is read.
     server.stays_sound();
+    // For its contract alone: a journal's lines play it again.
+    server_reads_back(server);
     let mut reader = LineReader::new();
     let mut text = Vec::new(alloc);
     let mut n: u128 = 1;

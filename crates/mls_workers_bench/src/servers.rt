@@ -4,7 +4,7 @@ ghost use Rattle.mls_server.specs.Servers.{world_of};
 
 use anyhow::{Context, Result};
 use mls_edgerule::compile;
-use mls_server::{Capacity, Server};
+use mls_server::{Capacity, Limits, Server};
 use mls_session::{Command, JournalLimit, Quota};
 use mls_tech::{TECHNOLOGY_M, Tech};
 use std::alloc::Global;
@@ -51,10 +51,15 @@ pub fn new_server(alloc: Global, room: Room) -> Result<Server>
 {
     let capacity = Capacity::new(room.pool).context("no pool")?;
     let quota = Quota::new(room.quota).context("no quota")?;
-    let limit = JournalLimit::new(room.entries).context("no limit")?;
+    let journal = JournalLimit::new(room.entries).context("no limit")?;
+    let limits = Limits {
+        quota,
+        journal,
+        ..Limits::default()
+    };
     let tech = Tech::read(alloc, TECHNOLOGY_M)?;
     let rules = compile(&tech)?;
-    Ok(Server::new(alloc, tech, rules, capacity, quota, limit)?)
+    Ok(Server::new(alloc, tech, rules, capacity, limits)?)
 }
 
 /// Creates a small server with technology M and the cell.

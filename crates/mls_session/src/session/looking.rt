@@ -8,7 +8,7 @@ ghost use Rattle.mls_session.specs.OwnSteps.{Terms};
 ghost use Rattle.mls_session.specs.Setups.{config_of, terms_of};
 
 use super::Session;
-use crate::{Look, Looked, Refusal, Setup, Status, TileCounts, UseList};
+use crate::{JournalCopy, Look, Looked, Refusal, Setup, Status, TileCounts, UseList};
 use mls_geom::{Rect, RectFault};
 use mls_layout::{Unlisted, Workspace};
 use mls_tilepool::Pool;
@@ -57,6 +57,7 @@ impl Session {
             Look::Status => self.look_at_status(alloc, setup, &workspace.pool),
             Look::Uses => self.look_at_uses(alloc, &workspace.pool),
             Look::Marks => self.look_at_marks(alloc, setup, out, workspace),
+            Look::Journal => self.look_at_journal(alloc, &workspace.pool),
         }
     }
 
@@ -145,6 +146,17 @@ impl Session {
             Err(_) => Looked::Refused(Refusal::Memory),
         }
     }
+
+    /// Returns the journal, and how many check steps were done since its last entry.
+    fn look_at_journal(&self, alloc: Global, pool: &Pool) -> Looked
+        ensures { (terms : Terms) → Looks terms (kept_of pool.now self.now) Look.Journal result [] }
+    {
+        match JournalCopy::copy_of(alloc, self.journal.entries(), self.journal.checks()) {
+            Ok(copy) => Looked::Journal(copy),
+            Err(_) => Looked::Refused(Refusal::Memory),
+        }
+    }
+
     /// Appends the text of the layout with the areas that await checking and the marks, and returns the number of its
     /// lines.
     fn look_at_marks(

@@ -2,7 +2,6 @@ use Rattle.std.proofs.Common.{◌≡◌, ◌++◌, ℕ, List, refl, sym, ap, sub
 use Rattle.mls_live.specs.Audits.{CanLookAt}
 use Rattle.mls_server.specs.declared.answer.Answer.TheVariants.{Looked}
 use Rattle.mls_wire.specs.Replies.{answer_text}
-use Rattle.mls_crew.specs.Books.{labels_of}
 use Rattle.mls_crew.proofs.speaking.look.Goals as goal
 
 pub returns : goal.returns
@@ -11,5 +10,5 @@ returns g c =
     let result = c.look-result.result in
     let shown = c.deref.result.now in
     let same : text ≡ shown = sym (c.deref.ensures.value ∙ is ∙ ap (λ (before : List ℕ). before ++ text) c.new-shown.ensures.items) in
-    let said = answer_text (labels_of c.args.part.now.labels.now) c.args.name.now (Looked result shown) in
+    let said = answer_text (g.B.Names.book c.args.voice.now.names.now) c.args.name.now (Looked result shown) in
     (said, (result, shown, refl, subst (CanLookAt g.N.Naming.terms c.args.look result) same can), c.push_looked.ensures.text, c.push_looked.ensures.room)

@@ -2,14 +2,13 @@ use Rattle.std.proofs.Common.{refl, sym, ◌∙◌}
 use Rattle.mls_live.specs.Lists.{list_of}
 use Rattle.mls_server.specs.declared.answer.Answer.TheVariants.{Commanded}
 use Rattle.mls_wire.specs.Replies.{answer_text, response_text}
-use Rattle.mls_crew.specs.Books.{labels_of}
 use Rattle.mls_crew.proofs.Commands.{says_command}
 use Rattle.mls_crew.proofs.speaking.run.Goals as goal
 
 pub returns : goal.returns
 unfolding response_text
 returns g c =
-    let book = labels_of c.args.part.now.labels.now in
+    let book = g.B.Names.book c.args.voice.now.names.now in
     let text = answer_text book c.args.name.now (Commanded c.call-result.result) in
     let says = says_command g.N.Naming.terms book c.args.name.now (list_of c.args.seat.now) (list_of c.call-result.new.self) c.args.command c.call-result.result text
     (sym c.is_save.ensures ∙ c.if-is_save.false) c.call-result.ensures.list refl c.call-result.ensures.replied in

@@ -1,8 +1,8 @@
 use Rattle.std.proofs.Common.{rules, ◌≡◌, ◌+◌, ℕ, length, vec_len, refl, sym, subst, ◌∙◌, arith}
 use Rattle.std.specs.Result.{IfOk}
 use Rattle.mls_crew.specs.Books.{labels_of}
-use Rattle.mls_crew.specs.Groups.{Told}
-use Rattle.mls_crew.specs.Scripts.{TellsPart, untold}
+use Rattle.mls_crew.specs.Groups.{GroupText}
+use Rattle.mls_crew.specs.Scripts.{GivesPart, no_text}
 use Rattle.mls_crew.specs.declared.speaking.Part.{Part}
 use Rattle.mls_crew.proofs.CountdownLemmas.{counts_last, counts_rest, each_push}
 use Rattle.mls_crew.proofs.threads.joined.Goals as goal
@@ -12,10 +12,10 @@ loop-speaker-init g c = record {
   part = refl;
   count = omega (arith, c.requires.seats.0);
   seats = c.requires.seats.1;
-  room = c.requires.told.1;
-  fewer = omega (arith, c.requires.told.0);
+  room = c.requires.groups.1;
+  fewer = omega (arith, c.requires.groups.0);
   wanted = λ all. rw (c.requires.seats.0) (c.requires.wanted all);
-  told = λ all ok. (c.requires.told.0 ∙ sym c.requires.seats.0, λ session below. absurd (omega (arith, below, c.requires.told.0)));
+  groups = λ all ok. (c.requires.groups.0 ∙ sym c.requires.seats.0, λ session below. absurd (omega (arith, below, c.requires.groups.0)));
 }
 
 pub loop-speaker-preserved-in-Ok : goal.loop-speaker-preserved-in-Ok
@@ -24,7 +24,7 @@ loop-speaker-preserved-in-Ok g c =
     let part = c.args.spoken.part in
     let done = vec_len c.loop-speaker.spoken.seats in
     let one : vec_len c.push_reserved.new.self ≡ done + 1 = c.push_reserved.ensures.len in
-    let tells = λ (session : ℕ) (told : Told). TellsPart g.N.Naming.terms (labels_of part.labels.now) part.sorting.now session told in
+    let gives = λ (session : ℕ) (group : GroupText). GivesPart g.N.Naming.terms (labels_of part.labels.now) part.sorting.now session group in
     record {
       part = was.part;
       count = search rules;
@@ -32,19 +32,19 @@ loop-speaker-preserved-in-Ok g c =
       room = search rules;
       fewer = search rules;
       wanted = λ all. counts_rest (vec_len c.push_reserved.new.self) c.pop.new.self.items c.in-Some.speaker one c.in-Some.ensures.items (was.wanted all);
-      told = λ all ok.
+      groups = λ all ok.
           let mine : c.in-Some.speaker.promise ≡ record part { session = done } =
           counts_last c.pop.new.self.items c.in-Some.speaker c.in-Some.ensures.items (was.wanted all) in
-          let kept : IfOk c.join-seat.result.told (tells done) =
-          subst (λ (p : Part). IfOk c.join-seat.result.told (TellsPart g.N.Naming.terms (labels_of p.labels.now) p.sorting.now p.session)) mine c.join-seat.ensures in
-          let here : tells done c.in-Ok.told = rw c.in-Ok.is at kept in
-          let before = was.told all ok in
-          let same : length c.loop-speaker.spoken.told.items ≡ done = sym c.loop-speaker.spoken.told.ok.0 ∙ before.0 in
+          let kept : IfOk c.join-seat.result.group (gives done) =
+          subst (λ (p : Part). IfOk c.join-seat.result.group (GivesPart g.N.Naming.terms (labels_of p.labels.now) p.sorting.now p.session)) mine c.join-seat.ensures in
+          let here : gives done c.in-Ok.group = rw c.in-Ok.is at kept in
+          let before = was.groups all ok in
+          let same : length c.loop-speaker.spoken.groups.items ≡ done = sym c.loop-speaker.spoken.groups.ok.0 ∙ before.0 in
           let more : vec_len c.push_reserved-in-Ok.new.self ≡ done + 1 = omega (arith, c.push_reserved-in-Ok.ensures.len, before.0) in (
             more ∙ sym one,
             λ session below.
                 rw c.push_reserved-in-Ok.ensures.items
-                (each_push tells c.loop-speaker.spoken.told.items untold c.in-Ok.told done (done + 1) same refl (λ k low. before.1 k (omega (arith, before.0, low))) here session
+                (each_push gives c.loop-speaker.spoken.groups.items no_text c.in-Ok.group done (done + 1) same refl (λ k low. before.1 k (omega (arith, before.0, low))) here session
                 (omega (arith, more, below))),
           );
     }
@@ -59,15 +59,15 @@ loop-speaker-preserved g c =
       room = was.room;
       fewer = search rules;
       wanted = λ all. counts_rest (vec_len c.push_reserved.new.self) c.pop.new.self.items c.in-Some.speaker c.push_reserved.ensures.len c.in-Some.ensures.items (was.wanted all);
-      told = λ all failed. absurd (cc);
+      groups = λ all failed. absurd (cc);
     }
 
 pub returns : goal.returns
 returns g c = λ all ok.
-    let before = c.loop-speaker.invariant.told all ok in
-    let whole : vec_len c.loop-speaker.spoken.told ≡ length c.args.spoken.part.sorting.now.opened =
+    let before = c.loop-speaker.invariant.groups all ok in
+    let whole : vec_len c.loop-speaker.spoken.groups ≡ length c.args.spoken.part.sorting.now.opened =
     omega (arith, before.0, c.loop-speaker.invariant.count, all, c.in_default.ensures.len, c.in_default.ensures.cases) in
     record {
-      count = sym c.loop-speaker.spoken.told.ok.0 ∙ whole;
+      count = sym c.loop-speaker.spoken.groups.ok.0 ∙ whole;
       each = λ session below. before.1 session (omega (arith, below, whole));
     }

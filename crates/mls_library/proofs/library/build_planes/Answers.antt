@@ -32,6 +32,14 @@ unwrap-owner-requires c =
     in
     IsOk-unless_full c.reserve.result (λ full. let short = c.reserve.ensures.full.0 full in omega (arith, short, fits, c.len.ensures))
 
+pub build-requires-clause-scratch : goal.build-requires-clause-scratch
+build-requires-clause-scratch c =
+    let list = c.strips-item.result in
+    let fits : length list.items ≤ c.args.scratch.now.room =
+    subst (λ l. length l.items ≤ c.args.scratch.now.room) (sym c.strips-item.is) (c.requires.tiles_fit c.loop-strips.strips-index list c.loop-strips-test.true)
+    in
+    omega (arith, fits, c.loop-strips.invariant.room)
+
 pub loop-strips-preserved : goal.loop-strips-preserved
 loop-strips-preserved c =
     let i = c.loop-strips.strips-index in
@@ -68,5 +76,5 @@ loop-strips-preserved c =
           (subst (AreBuilt c.args.pool.now new (planes ++ owner ∷ [])) (sym next)
           (AreBuilt-push c.args.pool.now old new planes owner lists list so_far.built added taken strips shows frozen));
       reserved = c.push_reserved.ensures.capacity ∙ so_far.reserved;
-      room = omega (arith, so_far.room, c.build.ensures.scratch_room);
+      room = c.build.ensures.scratch_room ∙ so_far.room;
     }

@@ -1,6 +1,5 @@
-use Rattle.std.proofs.Common.{◌≡◌, ◌≤◌, map, take, vec_capacity}
+use Rattle.std.proofs.Common.{◌≡◌, map, take, vec_capacity}
 use Rattle.mls_library.specs.Inner.{AreBuilt}
-use Rattle.mls_library.specs.Libraries.{most_tiles}
 use Rattle.mls_library.proofs.library.build_planes.Given as goal
 
 -- the planes so far are as the contract has all
@@ -8,5 +7,5 @@ abbrev pub invariant-loop-strips : goal.invariant-loop-strips
 invariant-loop-strips l = record {
   built : AreBuilt l.fn.pool l.pool l.planes.items (map (λ list. list.items) (take l.strips-index l.strips));
   reserved : vec_capacity l.planes ≡ vec_capacity l.fn.planes;
-  room : most_tiles ≤ l.scratch.room;
+  room : l.scratch.room ≡ l.fn.scratch.room;
 }

@@ -7,7 +7,6 @@ use Rattle.mls_geom.specs.declared.piece.Piece.{Piece}
 use Rattle.mls_geom.proofs.StripPictures.{AreUnorderedStrips-ordered}
 use Rattle.mls_library.specs.CellFiles.{layout_of, pieces_on}
 use Rattle.mls_library.specs.Inner.{AreLayoutStrips, ArePlaneStrips}
-use Rattle.mls_library.specs.Libraries.{most_tiles}
 use Rattle.mls_library.proofs.LayoutStrips.{AreLayoutStrips-push, tile_counts-any, too_many}
 use Rattle.mls_library.proofs.plane_strips.find_plane_strips.Goals as goal
 
@@ -22,15 +21,15 @@ loop-plane-preserved c =
     let over : c.deref.result.now ≡ pieces_on plane rects = c.deref.ensures.value ∙ c.in_ok-list_pieces.ensures.items in
     let same : list ≡ c.strips.new.scratch.strips = c.in_ok-from_slice.ensures.items ∙ c.strips-in-loop-plane.ensures in
     let count : length list ≡ tile_count world (layout_of rects plane) = rw (same, ← over) (sym c.in_ok-strips.ensures.count.0 ∙ c.in_ok-strips.ensures.count.1) in
-    let few : length list ≤ most_tiles = elim (cases_lt most_tiles (length list)) [
-      | inl many ↦ absurd (cc (c.in_ok-strips.ensures.too_many.1 (rw (over, ← count) many)))
+    let few : length list ≤ c.args.limit = elim (cases_lt c.args.limit (length list)) [
+      | inl many ↦ absurd (cc (c.in_ok-strips.ensures.too_many.1 (rw (c.tiles.ensures.value, over, ← count) many)))
       | inr within ↦ within
     ] in
     let strips : ArePlaneStrips (layout_of rects plane) list =
     rw (same, ← over) (record { strips = AreUnorderedStrips-ordered world _ _ c.in_ok-strips.ensures.strips; shows = c.in_ok-strips.ensures.picture })
     in
-    let pushed : AreLayoutStrips rects (lists ++ list ∷ []) =
-    AreLayoutStrips-push rects lists list c.loop-plane.invariant.strips (rw number strips) few (rw number count)
+    let pushed : AreLayoutStrips c.args.limit rects (lists ++ list ∷ []) =
+    AreLayoutStrips-push c.args.limit rects lists list c.loop-plane.invariant.strips (rw number strips) few (rw number count)
     in
     record {
       strips = rw (c.push_reserved.ensures.items, map-append (λ list. list.items) found (c.in_ok-from_slice.field-0 ∷ [])) pushed;
@@ -43,6 +42,6 @@ loop-plane-preserved c =
 pub returns-in_err-strips-clause-fault : goal.returns-in_err-strips-clause-fault
 returns-in_err-strips-clause-fault c =
     let over : c.deref.result.now ≡ pieces_on c.loop-plane.plane c.args.rects.now = c.deref.ensures.value ∙ c.in_ok-list_pieces.ensures.items in
-    let many = rw over at (c.in_err-strips.ensures.too_many.0 refl) in
-    let found = tile_counts-any c.args.rects.now c.args.planes c.loop-plane.plane (omega (arith, c.loop-plane-test.true)) many in
+    let many = rw (c.tiles.ensures.value, over) at (c.in_err-strips.ensures.too_many.0 refl) in
+    let found = tile_counts-any c.args.limit c.args.rects.now c.args.planes c.loop-plane.plane (omega (arith, c.loop-plane-test.true)) many in
     too_many c.from_residual-in_err-strips.result c.from_residual-in_err-strips.ensures.1 found

@@ -1,14 +1,13 @@
 use Rattle.std.proofs.Common.{◌≡◌, ◌≤◌, length, map, vec_capacity}
 use Rattle.mls_library.specs.Inner.{AreLayoutStrips}
-use Rattle.mls_library.specs.Libraries.{most_tiles}
 use Rattle.mls_library.proofs.plane_strips.find_plane_strips.Given as goal
 
 -- the planes so far have their strips
 abbrev pub invariant-loop-plane : goal.invariant-loop-plane
 invariant-loop-plane l = record {
-  strips : AreLayoutStrips l.rects (map (λ list. list.items) l.found.items);
+  strips : AreLayoutStrips l.limit l.rects (map (λ list. list.items) l.found.items);
   count : length l.found.items ≡ l.plane;
   reserved : l.planes ≤ vec_capacity l.found;
   pieces_fit : length l.rects ≤ l.sweep.room;
-  strips_fit : most_tiles ≤ l.sweep.room;
+  strips_fit : l.limit ≤ l.sweep.room;
 }

@@ -32,7 +32,7 @@ pub returns-in_err-server-clause-err : goal.returns-in_err-server-clause-err
 returns-in_err-server-clause-err g c =
     let reads_as = g.F.Files.reads_as c.args.files.now in
     let on : World = record {
-      setting = record { tech = c.in_ok-tech.tech; rules = c.in_ok-rules.rules; quota = c.args.options.now.quota; journal = c.args.options.now.journal; cells = [] };
+      setting = record { tech = c.in_ok-tech.tech; rules = c.in_ok-rules.rules; quota = c.args.options.now.quota; journal = c.args.options.now.journal; cell_tiles = c.args.options.now.cell_tiles; cells = [] };
       given = 0;
       seats = [];
       room = c.args.options.now.pool;

@@ -17,14 +17,21 @@ returns-in-Err-clause-refused g c is =
     )
 
 pub returns-in-Err-clause-failed : goal.returns-in-Err-clause-failed
-returns-in-Err-clause-failed g c zero is =
+returns-in-Err-clause-failed g c batch zero is =
     let faults = c.args.streams.now.faults in
     let start = subst (λ (f : Fault). FailsAtStart (g.F.Files.reads_as c.args.files.now) (g.F.Files.may_fail c.args.files.now) (map g.S.AsStr.text c.args.words.now)
     g.E.Write.contents faults faults f) (sym c.into.ensures) (c.in-Err.ensures, refl) in
     inl ((c.into.result, faults, sym c.fail.ensures.status ∙ is, start, c.fail.ensures.reported), refl, refl)
 
 pub returns-in-Err-clause-failed_by_crew : goal.returns-in-Err-clause-failed_by_crew
-returns-in-Err-clause-failed_by_crew g c workers named some is =
+returns-in-Err-clause-failed_by_crew g c batch workers named some is =
+    let faults = c.args.streams.now.faults in
+    let start = subst (λ (f : Fault). FailsAtStart (g.F.Files.reads_as c.args.files.now) (g.F.Files.may_fail c.args.files.now) (map g.S.AsStr.text c.args.words.now)
+    g.E.Write.contents faults faults f) (sym c.into.ensures) (c.in-Err.ensures, refl) in
+    inl ((c.into.result, faults, sym c.fail.ensures.status ∙ is, start, c.fail.ensures.reported), refl, refl)
+
+pub returns-in-Err-clause-failed_live : goal.returns-in-Err-clause-failed_live
+returns-in-Err-clause-failed_live g c asks is =
     let faults = c.args.streams.now.faults in
     let start = subst (λ (f : Fault). FailsAtStart (g.F.Files.reads_as c.args.files.now) (g.F.Files.may_fail c.args.files.now) (map g.S.AsStr.text c.args.words.now)
     g.E.Write.contents faults faults f) (sym c.into.ensures) (c.in-Err.ensures, refl) in

@@ -1,4 +1,4 @@
-use Rattle.std.proofs.Common.{◌≡◌, ◌∙◌, List, ℕ, inl, inr, ap, subst, sym}
+use Rattle.std.proofs.Common.{◌∙◌, List, ℕ, inl, inr, ap, subst, sym}
 use Rattle.mls_magicd.specs.Messages.{Reports, fault_text, serve_fault_line}
 use Rattle.mls_magicd.specs.Programs.{skipped_lines}
 use Rattle.mls_magicd.proofs.MessageLemmas.{ReportsAll-more}

@@ -15,66 +15,66 @@ use Rattle.mls_library.proofs.CellBounds.{AreBuilt-within}
 use Rattle.mls_library.proofs.CellLayouts.{layout_in-rects}
 use Rattle.mls_library.proofs.CellNames.{KeepsCells-append, cells_in-new, place_of_new}
 use Rattle.mls_library.proofs.HomeCells.{IsHome-push}
-use Rattle.mls_library.proofs.Loading.{All-unmap, LoadsUnlessMemory-fault, UnlessMemory-map, counts_few, counts_listed, lists_frozen, loading_of-file, loading_of-name, loading_of-room, room_fault-full, room_fault-none, room_fault-tiles}
+use Rattle.mls_library.proofs.Loading.{All-unmap, LoadsUnlessMemory-fault, UnlessMemory-map, counts_few, counts_listed, few-within, lists_frozen, loading_of-file, loading_of-name, loading_of-room, room_fault-full, room_fault-none, room_fault-tiles}
 use Rattle.mls_library.proofs.ReadingLemmas.{unless_memory}
 use Rattle.mls_library.proofs.library.Library.load.Goals as goal
 
 pub returns-in-Some-clause-loads : goal.returns-in-Some-clause-loads
 returns-in-Some-clause-loads c =
-    rw c.of_cell.ensures (unless_memory c.in-Some.kind (loading_of-name c.args.tech.now (spec.names_of c.args.self.now) (unreserved c.args.pool.now) c.args.name.now c.args.bytes.now c.in-Some.kind (sym c.in-Some.ensures)))
+    rw c.of_cell.ensures (unless_memory c.in-Some.kind (loading_of-name c.args.tech.now (spec.names_of c.args.self.now) c.args.limit (unreserved c.args.pool.now) c.args.file.now.name.now c.args.file.now.bytes.now c.in-Some.kind (sym c.in-Some.ensures)))
 
 pub returns-in_err-rects-clause-loads : goal.returns-in_err-rects-clause-loads
 returns-in_err-rects-clause-loads c =
-    let named : spec.name_fault (spec.names_of c.args.self.now) c.args.name.now ≡ None = sym c.in_default.ensures in
-    LoadsUnlessMemory-fault c.args.tech.now c.args.pool.now c.args.pool.now c.args.self.now c.args.self.now c.args.name.now c.args.bytes.now c.in_err-rects.field-0.0
+    let named : spec.name_fault (spec.names_of c.args.self.now) c.args.file.now.name.now ≡ None = sym c.in_default.ensures in
+    LoadsUnlessMemory-fault c.args.tech.now c.args.limit c.args.pool.now c.args.pool.now c.args.self.now c.args.self.now c.args.file.now.name.now c.args.file.now.bytes.now c.in_err-rects.field-0.0
     c.from_residual.result c.from_residual.ensures.1
-    (UnlessMemory-map {P = reading_of c.args.tech.now c.args.bytes.now ≡ Err c.in_err-rects.field-0.0} {Q = spec.loading_of c.args.tech.now (spec.names_of c.args.self.now) (unreserved c.args.pool.now) c.args.name.now c.args.bytes.now ≡ Err c.in_err-rects.field-0.0}
+    (UnlessMemory-map {P = reading_of c.args.tech.now c.args.file.now.bytes.now ≡ Err c.in_err-rects.field-0.0} {Q = spec.loading_of c.args.tech.now (spec.names_of c.args.self.now) c.args.limit (unreserved c.args.pool.now) c.args.file.now.name.now c.args.file.now.bytes.now ≡ Err c.in_err-rects.field-0.0}
     c.in_err-rects.field-0.0.kind c.in_err-rects.field-0.0.line c.in_err-rects.ensures.value
-    (λ read. loading_of-file c.args.tech.now (spec.names_of c.args.self.now) (unreserved c.args.pool.now) c.args.name.now c.args.bytes.now named c.in_err-rects.field-0.0 read))
+    (λ read. loading_of-file c.args.tech.now (spec.names_of c.args.self.now) c.args.limit (unreserved c.args.pool.now) c.args.file.now.name.now c.args.file.now.bytes.now named c.in_err-rects.field-0.0 read))
 
 pub returns-in_err-strips-clause-loads : goal.returns-in_err-strips-clause-loads
 returns-in_err-strips-clause-loads c =
-    let named : spec.name_fault (spec.names_of c.args.self.now) c.args.name.now ≡ None = sym c.in_default.ensures in
+    let named : spec.name_fault (spec.names_of c.args.self.now) c.args.file.now.name.now ≡ None = sym c.in_default.ensures in
     let rects = c.in_ok-rects.rects.items in
     let fault : CellFault = c.in_err-strips.field-0.0 in
     let free = unreserved c.args.pool.now in
     let counts = spec.tile_counts c.args.tech.now.plane_count rects in
-    let many : list_any (λ count. nat_lt spec.most_tiles count) (spec.tile_counts c.planes.result c.deref.result.now) ≡ true → list_any (λ count. nat_lt spec.most_tiles count) counts ≡ true =
+    let many : list_any (λ count. nat_lt c.args.limit count) (spec.tile_counts c.planes.result c.deref.result.now) ≡ true → list_any (λ count. nat_lt c.args.limit count) counts ≡ true =
     λ found. rw (c.planes.ensures.value, c.deref.ensures.value) at found
     in
-    LoadsUnlessMemory-fault c.args.tech.now c.args.pool.now c.args.pool.now c.args.self.now c.args.self.now c.args.name.now c.args.bytes.now fault
+    LoadsUnlessMemory-fault c.args.tech.now c.args.limit c.args.pool.now c.args.pool.now c.args.self.now c.args.self.now c.args.file.now.name.now c.args.file.now.bytes.now fault
     c.from_residual-in_err-strips.result c.from_residual-in_err-strips.ensures.1
     (UnlessMemory-map
-    {P = (fault ≡ record { line = 0; kind = TooManyTiles }) × (list_any (λ count. nat_lt spec.most_tiles count) (spec.tile_counts c.planes.result c.deref.result.now) ≡ true)}
-    {Q = spec.loading_of c.args.tech.now (spec.names_of c.args.self.now) free c.args.name.now c.args.bytes.now ≡ Err fault}
+    {P = (fault ≡ record { line = 0; kind = TooManyTiles }) × (list_any (λ count. nat_lt c.args.limit count) (spec.tile_counts c.planes.result c.deref.result.now) ≡ true)}
+    {Q = spec.loading_of c.args.tech.now (spec.names_of c.args.self.now) c.args.limit free c.args.file.now.name.now c.args.file.now.bytes.now ≡ Err fault}
     fault.kind fault.line c.in_err-strips.ensures.fault
     (λ found.
-    loading_of-room c.args.tech.now (spec.names_of c.args.self.now) free c.args.name.now c.args.bytes.now named rects (Some TooManyTiles) c.in_ok-rects.ensures.value (room_fault-tiles free counts (many found.1))
+    loading_of-room c.args.tech.now (spec.names_of c.args.self.now) c.args.limit free c.args.file.now.name.now c.args.file.now.bytes.now named rects (Some TooManyTiles) c.in_ok-rects.ensures.value (room_fault-tiles c.args.limit free counts (many found.1))
     ∙ ap Err (sym found.0)))
 
 pub count_tiles-requires-clause-limit : goal.count_tiles-requires-clause-limit
 count_tiles-requires-clause-limit c =
-    let few = All-unmap (λ list. list.items) (λ list. length list ≤ spec.most_tiles) c.in_ok-strips.strips.items c.in_ok-strips.ensures.strips.few in
-    rw c.deref-2.ensures.value few
+    let few = All-unmap (λ list. list.items) (λ list. length list ≤ c.args.limit) c.in_ok-strips.strips.items c.in_ok-strips.ensures.strips.few in
+    rw c.deref-2.ensures.value (few-within (λ list. list.items) c.in_ok-strips.strips.items c.args.limit spec.most_tiles few c.tiles-most.ensures.legal.bounded)
 
 pub returns-then-unreserved-count_tiles-clause-loads : goal.returns-then-unreserved-count_tiles-clause-loads
 returns-then-unreserved-count_tiles-clause-loads c =
-    let named : spec.name_fault (spec.names_of c.args.self.now) c.args.name.now ≡ None = sym c.in_default.ensures in
+    let named : spec.name_fault (spec.names_of c.args.self.now) c.args.file.now.name.now ≡ None = sym c.in_default.ensures in
     let rects = c.in_ok-rects.rects.items in
     let strips = c.in_ok-strips.strips.items in
     let free = unreserved c.args.pool.now in
     let planes = c.args.tech.now.plane_count in
     let listed = rw c.deref.ensures.value at c.in_ok-strips.ensures.strips in
     let number : length strips ≡ planes = c.in_ok-strips.ensures.count ∙ c.planes.ensures.value in
-    let counts = counts_listed (λ list. list.items) strips rects planes listed number in
-    let few = counts_few (λ list. list.items) strips rects planes listed number in
+    let counts = counts_listed (λ list. list.items) strips rects planes c.args.limit listed number in
+    let few = counts_few (λ list. list.items) strips rects planes c.args.limit listed number in
     let tiles : c.count_tiles.result ≡ spec.total (spec.tile_counts planes rects) =
     c.count_tiles.ensures ∙ ap (λ lists. spec.total (map (λ list. length list.items) lists)) c.deref-2.ensures.value ∙ ap spec.total counts
     in
     let full : free < spec.total (spec.tile_counts planes rects) = omega (arith, tiles, c.unreserved.ensures, c.if-unreserved-count_tiles.true) in
     rw c.of_cell-then-unreserved-count_tiles.ensures
-    (loading_of-room c.args.tech.now (spec.names_of c.args.self.now) free c.args.name.now c.args.bytes.now named rects (Some PoolFull) c.in_ok-rects.ensures.value
-    (room_fault-full free (spec.tile_counts planes rects) few full))
+    (loading_of-room c.args.tech.now (spec.names_of c.args.self.now) c.args.limit free c.args.file.now.name.now c.args.file.now.bytes.now named rects (Some PoolFull) c.in_ok-rects.ensures.value
+    (room_fault-full c.args.limit free (spec.tile_counts planes rects) few full))
 
 pub build_planes-requires-clause-strips : goal.build_planes-requires-clause-strips
 build_planes-requires-clause-strips c =
@@ -82,11 +82,18 @@ build_planes-requires-clause-strips c =
     let strips = c.in_ok-strips.strips.items in
     let listed = rw c.deref.ensures.value at c.in_ok-strips.ensures.strips in
     let number : length strips ≡ c.args.tech.now.plane_count = c.in_ok-strips.ensures.count ∙ c.planes.ensures.value in
-    rw c.deref-4.ensures.value (lists_frozen (λ list. list.items) strips rects c.args.tech.now.plane_count listed number)
+    rw c.deref-4.ensures.value (lists_frozen (λ list. list.items) strips rects c.args.tech.now.plane_count c.args.limit listed number c.tiles-most.ensures.legal.bounded)
+
+pub build_planes-requires-clause-tiles_fit : goal.build_planes-requires-clause-tiles_fit
+build_planes-requires-clause-tiles_fit c =
+    let strips = c.in_ok-strips.strips.items in
+    let few = All-unmap (λ list. list.items) (λ list. length list ≤ c.args.limit) strips c.in_ok-strips.ensures.strips.few in
+    let room : c.args.limit ≤ c.in_ok-scratch.scratch.room = omega (arith, c.in_ok-scratch.ensures.0, c.tiles-most.ensures.value) in
+    rw c.deref-4.ensures.value (few-within (λ list. list.items) strips c.args.limit c.in_ok-scratch.scratch.room few room)
 
 pub returns : goal.returns
 returns c =
-    let named : spec.name_fault (spec.names_of c.args.self.now) c.args.name.now ≡ None = sym c.in_default.ensures in
+    let named : spec.name_fault (spec.names_of c.args.self.now) c.args.file.now.name.now ≡ None = sym c.in_default.ensures in
     let key = c.in_ok-name.name in
     let cells = c.args.self.now in
     let new = c.build_planes.new.pool in
@@ -102,10 +109,10 @@ returns c =
     let listed = rw c.deref.ensures.value at c.in_ok-strips.ensures.strips in
     let number : length strips ≡ planes = c.in_ok-strips.ensures.count ∙ c.planes.ensures.value in
     let all : length lists ≡ planes = length-map strips (λ list. list.items) ∙ number in
-    let few = counts_few (λ list. list.items) strips rects planes listed number in
+    let few = counts_few (λ list. list.items) strips rects planes c.args.limit listed number in
     let tiles : c.count_tiles.result ≡ spec.total (spec.tile_counts planes rects) =
     c.count_tiles.ensures ∙ ap (λ lists. spec.total (map (λ list. length list.items) lists)) c.deref-2.ensures.value
-    ∙ ap spec.total (counts_listed (λ list. list.items) strips rects planes listed number)
+    ∙ ap spec.total (counts_listed (λ list. list.items) strips rects planes c.args.limit listed number)
     in
     let room : spec.total (spec.tile_counts planes rects) ≤ free = omega (arith, tiles, c.unreserved.ensures, c.if-unreserved-count_tiles.false) in
     let unnamed : spec.name_fault (spec.names_of cells) key.items ≡ None = ap (spec.name_fault (spec.names_of cells)) c.in_ok-name.ensures.items ∙ named in
@@ -137,7 +144,7 @@ returns c =
     record {
       loads = (
         rects,
-        loading_of-room c.args.tech.now (spec.names_of cells) free c.args.name.now c.args.bytes.now named rects None c.in_ok-rects.ensures.value (room_fault-none free (spec.tile_counts planes rects) few room),
+        loading_of-room c.args.tech.now (spec.names_of cells) c.args.limit free c.args.file.now.name.now c.args.file.now.bytes.now named rects None c.in_ok-rects.ensures.value (room_fault-none c.args.limit free (spec.tile_counts planes rects) few room),
         record {
           cell = cell;
           named = c.in_ok-name.ensures.items;

@@ -1,15 +1,16 @@
-use Rattle.std.proofs.Common.{◌∙◌, ℕ, List, map, subst, arith}
+use Rattle.std.proofs.Common.{◌∙◌, inl, inr, ℕ, List, map, subst, arith}
 use Rattle.std.proofs.lemmas.Result.{err_from_is_err_and}
 use Rattle.clap.specs.Words.{Text, found_of}
 use Rattle.mls_magicd.proofs.CellWords.{named-not_bad}
-use Rattle.mls_magicd.proofs.OptionLemmas.{cells-named, file-named, number-parsed, refused-for_fault, refused-for_word, taken-no_fault}
+use Rattle.mls_magicd.proofs.OptionLemmas.{cells-named, file-named, live-named, number-parsed, refused-for_fault, refused-for_word, taken-no_fault}
 use Rattle.mls_magicd.proofs.NumberLemmas.{IsFoundNumber, found-number}
-use Rattle.mls_magicd.proofs.NumberTexts.{StandsAt, journal_stands, pool_stands, quota_stands, workers_stands}
+use Rattle.mls_magicd.proofs.NumberTexts.{StandsAt, cell_tiles_stands, journal_stands, pool_stands, quota_stands, workers_stands}
+use Rattle.mls_library.specs.Libraries.{IsCellTiles}
 use Rattle.mls_session.specs.JournalLimits.{IsJournalLimit}
 use Rattle.mls_session.specs.Quotas.{IsQuota}
 use Rattle.mls_server.specs.Capacities.{IsCapacity}
 use Rattle.mls_magicd.specs.WorkerCounts.{IsWorkerCount}
-use Rattle.mls_magicd.specs.CommandLines.{NamesFiles, NumberOption, file_of, journal_option, pool_option, quota_option, workers_option}
+use Rattle.mls_magicd.specs.CommandLines.{NamesFiles, NumberOption, cell_tiles_option, file_of, journal_option, pool_option, quota_option, workers_option}
 use Rattle.mls_magicd.proofs.options.Options.parse.Goals as goal
 
 pub returns-in_ok-cells-in-Ok : goal.returns-in_ok-cells-in-Ok
@@ -35,9 +36,17 @@ returns-in_ok-cells-in-Ok g c =
       journal = number journal_option 3 c.unwrap_or_default-in-Ok-2.result journal_stands
           (found-number journal_option IsJournalLimit c.get_one-in-Ok-2.result c.and_then-in-Ok-2.result _ c.and_then-in-Ok-2.ensures c.unwrap_or_default-in-Ok-2.ensures (found_of m)
           c.get_one-in-Ok-2.ensures.none c.get_one-in-Ok-2.ensures.value (omega arith) (λ n enough bounded. record { enough = enough; bounded = bounded }));
-      workers = number workers_option 4 c.unwrap_or_default-in-Ok-3.result workers_stands
-          (found-number workers_option IsWorkerCount c.get_one-in-Ok-3.result c.and_then-in-Ok-3.result _ c.and_then-in-Ok-3.ensures c.unwrap_or_default-in-Ok-3.ensures (found_of m)
-          c.get_one-in-Ok-3.ensures.none c.get_one-in-Ok-3.ensures.value (omega arith) (λ n enough bounded. bounded));
+      cell_tiles = number cell_tiles_option 4 c.unwrap_or_default-in-Ok-3.result cell_tiles_stands
+          (found-number cell_tiles_option IsCellTiles c.get_one-in-Ok-3.result c.and_then-in-Ok-3.result _ c.and_then-in-Ok-3.ensures c.unwrap_or_default-in-Ok-3.ensures (found_of m)
+          c.get_one-in-Ok-3.ensures.none c.get_one-in-Ok-3.ensures.value (omega arith) (λ n enough bounded. record { enough = enough; bounded = bounded }));
+      workers = number workers_option 5 c.unwrap_or_default-in-Ok-4.result workers_stands
+          (found-number workers_option IsWorkerCount c.get_one-in-Ok-4.result c.and_then-in-Ok-4.result _ c.and_then-in-Ok-4.ensures c.unwrap_or_default-in-Ok-4.ensures (found_of m)
+          c.get_one-in-Ok-4.ensures.none c.get_one-in-Ok-4.ensures.value (omega arith) (λ n enough bounded. bounded));
+      live = λ asks. c.get_flag.ensures.value (live-named _ command m built taken.matches ∙ asks);
+      batch = λ asks. elim asks [
+        | inl none ↦ c.get_flag.ensures.none (live-named _ command m built taken.matches ∙ none)
+        | inr given ↦ c.get_flag.ensures.other (live-named _ command m built taken.matches ∙ given)
+      ];
       cells = named;
     }
 

@@ -1,0 +1,28 @@
+use Rattle.std.proofs.Common.{◌++◌, ℕ, List, sym, ap, subst, ◌∙◌}
+use Rattle.mls_live.specs.Lists.{list_of}
+use Rattle.mls_server.specs.LegalLists.{IsLegalList}
+use Rattle.mls_session.specs.declared.journal.Said.{Said}
+use Rattle.mls_wire.specs.Replies.{response_text}
+use Rattle.mls_crew.specs.Books.{labels_of}
+use Rattle.mls_crew.specs.Groups.{SaysLines, lines_of}
+use Rattle.mls_crew.proofs.LineLists.{none_said}
+use Rattle.mls_crew.proofs.Results.{ok_holds}
+use Rattle.mls_crew.proofs.speaking.say_group.Goals as goal
+
+pub returns : goal.returns
+unfolding response_text
+returns g c =
+    let (more, ran, added) = c.in_ok-say_lines.ensures in
+    let terms = g.N.Naming.terms in
+    let book = labels_of c.args.part.now.labels.now in
+    let lines = lines_of c.args.part.now.session c.args.part.now.sorting.now.handed in
+    let last = list_of c.say_lines.new.seat in
+    let said = subst (λ (said : List Said). SaysLines terms book c.args.name.now said lines more last) (none_said (list_of c.args.seat.now) c.requires) ran in
+    let opened = rw c.new-text.ensures.items at c.in_ok-push_response.ensures.text in (
+      c.id.result,
+      last,
+      more,
+      said,
+      added ∙ ap (λ (o : List ℕ). o ++ more) opened,
+      λ yes. ok_holds c.audit.result (IsLegalList terms last) (sym c.is_ok-audited.ensures.value ∙ yes) c.audit.ensures.legal,
+    )

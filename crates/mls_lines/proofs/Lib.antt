@@ -1,0 +1,6 @@
+pub mod AnswerLemmas
+pub mod EndLemmas
+pub mod GlossaryLemmas
+pub mod ReadingLemmas
+pub mod ReplyLemmas
+pub mod RunLemmas

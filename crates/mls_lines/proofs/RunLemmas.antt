@@ -1,0 +1,39 @@
+-- Lines that were carried out at a seat, one more at a time.
+use Rattle.std.proofs.Common.{◌≡◌, ◌<◌, ℕ, Bool, Option, Some, None, List, [], ◌∷◌, ◌++◌, refl, subst, arith}
+use Rattle.std.proofs.Math.Logic.{∥∥₁_elim}
+use Rattle.mls_session.specs.OwnSteps.{Terms}
+use Rattle.mls_wire.specs.NameBooks.{Names}
+use Rattle.mls_lines.specs.Answers.{AnswersLine, Held, name_held}
+use Rattle.mls_lines.specs.Glossaries.{says_beside}
+use Rattle.mls_lines.specs.Scripts.{Answered, AnswersLines, HasAnswered, IsLineOf, IsReply}
+
+module _ (terms : Terms) (book : Names) (script : Option (List ℕ)) where
+  -- the line leads from this session to that one
+  abbrev Answers : Option Held → Answered → Type 0
+  Answers before one = AnswersLine terms book one.n (says_beside book (name_held before) one.line) before one.text one.audited one.after
+
+  answers_more : (from : ℕ) (before : Option Held) (run : List Answered) (to : ℕ) (mid : Option Held) (last : Answered)
+      → AnswersLines terms book script from before run to mid → to < last.n → IsLineOf script last.n last.line → Answers mid last
+      → AnswersLines terms book script from before (run ++ last ∷ []) last.n last.after
+  answers_more from before [] to mid last (at, is) later stands answers =
+      (omega (arith, at, later), stands, subst (λ (held : Option Held). Answers held last) is answers, (refl, refl))
+  answers_more from before (one ∷ more) to mid last (later_one, stands_one, answers_one, rest) later stands answers =
+      (later_one, stands_one, answers_one, answers_more one.n one.after more to mid last rest later stands answers)
+
+  -- a line more was carried out
+  pub answered_more : (to : ℕ) (mid : Option Held) (last : Answered)
+      → ∥ HasAnswered terms book script to mid ∥₁ → to < last.n → IsLineOf script last.n last.line → Answers mid last
+      → ∥ HasAnswered terms book script last.n last.after ∥₁
+  answered_more to mid last has later stands answers =
+      ∥∥₁_elim has squash₁ (λ (run, answered). ∣ (run ++ last ∷ [], answers_more 0 None run to mid last answered later stands answers) ∣₁)
+
+  -- its text is a reply
+  pub answered_last : (to : ℕ) (mid : Option Held) (last : Answered)
+      → ∥ HasAnswered terms book script to mid ∥₁ → to < last.n → IsLineOf script last.n last.line → Answers mid last
+      → ∥ IsReply terms book script last.text ∥₁
+  answered_last to mid last has later stands answers =
+      ∥∥₁_elim has squash₁ (λ (run, answered). ∣ (run, last, answers_more 0 None run to mid last answered later stands answers, refl) ∣₁)
+
+  -- no line was carried out yet
+  pub answered_none : ∥ HasAnswered terms book script 0 None ∥₁
+  answered_none = ∣ ([], (refl, refl)) ∣₁

@@ -1,0 +1,23 @@
+use Rattle.std.proofs.Common.{◌≡◌, IfErr, OnOk, subst}
+use Rattle.mls_server.specs.Servers.{world_of}
+use Rattle.mls_server.specs.Settings.{terms_for}
+use Rattle.mls_wire.specs.Serving.{Gains}
+use Rattle.mls_lines.specs.Glossaries.{Glossary, book_in}
+use Rattle.mls_lines.specs.Scripts.{AreReplies, EndsLines}
+use Rattle.mls_lines.proofs.lines.Lines.serve.Goals as goal
+
+pub returns-clause-served : goal.returns-clause-served
+returns-clause-served g c =
+    let terms = terms_for (world_of c.args.self.server).setting in
+    let script = g.I.Read.remaining c.args.input.now.device in
+    subst (λ (names : Glossary). OnOk c.serve_as.result
+    (Gains (g.W.Write.contents c.args.output.now.device) (g.W.Write.contents c.serve_as.new.output.device) (AreReplies terms (book_in names) script)))
+    c.requires.glossary c.serve_as.ensures.served
+
+pub returns-clause-failed : goal.returns-clause-failed
+returns-clause-failed g c =
+    let terms = terms_for (world_of c.args.self.server).setting in
+    let script = g.I.Read.remaining c.args.input.now.device in
+    subst (λ (names : Glossary). IfErr c.serve_as.result
+    (λ fault. EndsLines terms (book_in names) script fault c.serve_as.new.input g.W.Write.contents c.args.output.now c.serve_as.new.output))
+    c.requires.glossary c.serve_as.ensures.failed

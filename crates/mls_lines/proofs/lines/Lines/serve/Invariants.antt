@@ -1,0 +1,12 @@
+use Rattle.mls_server.specs.Servers.{world_of}
+use Rattle.mls_server.specs.Settings.{terms_for}
+use Rattle.mls_lines.proofs.lines.Lines.serve.Given as goal
+
+abbrev pub ghosts-serve_as-N-Ledger : goal.ghosts-serve_as-N-Ledger
+ghosts-serve_as-N-Ledger g a = record { name = a.made.1.name; parts = a.made.1.parts }
+
+abbrev pub ghosts-serve_as-N-Naming : goal.ghosts-serve_as-N-Naming
+ghosts-serve_as-N-Naming g a = record { terms = terms_for (world_of a.lines.server).setting }
+
+abbrev pub ghosts-serve_as-N-Scripted : goal.ghosts-serve_as-N-Scripted
+ghosts-serve_as-N-Scripted g a = record { glossary = a.lines.glossary; script = g.I.Read.remaining a.input.now.device }

@@ -1,0 +1,4 @@
+pub mod Answers
+pub mod Glossaries
+pub mod Rosters
+pub mod Scripts

@@ -1,0 +1,66 @@
+-- What is written to lines that are carried out as they come. This project's own.
+use Rattle.std.specs.Prelude.{◌≡◌, ℕ, ◌<◌, ◌-◌, Bool, Option, Some, None, List, [], ◌∷◌, ◌++◌, slice_get, option_map}
+use Rattle.std.specs.List.{All, flat_map}
+use Rattle.mls_server.specs.Settings.{terms_for}
+use Rattle.mls_server.specs.Worlds.{World}
+use Rattle.mls_session.specs.OwnSteps.{Terms}
+use Rattle.mls_wire.specs.Lines.{script_of}
+use Rattle.mls_wire.specs.NameBooks.{Names}
+use Rattle.mls_wire.specs.Serving.{AppendsFront, Gains}
+use Rattle.mls_wire.specs.Watches.{HasCause, Watched}
+use Rattle.mls_wire.specs.declared.serving.ServeFault.{ServeFault}
+use Rattle.mls_wire.specs.declared.serving.ServeFault.TheVariants.{Read, Write, Memory}
+use Rattle.mls_lines.specs.Answers.{AnswersLine, Held, name_held}
+use Rattle.mls_lines.specs.Glossaries.{book_in, glossary_of, says_beside}
+
+-- where the script's bytes are known, its n-th line, from 1, is this one
+abbrev pub IsLineOf : Option (List ℕ) → ℕ → Option (List ℕ) → Type 0
+IsLineOf script n line = option_map (λ bytes. slice_get (script_of bytes) (n - 1)) script ≡ option_map (λ bytes. Some line) script
+
+-- a line that has its reply: its number, its bytes, its text, whether a list was audited where it closed a session, and the session that is open after it
+pub record Answered : Type 0 where
+  pub n : ℕ
+  pub line : Option (List ℕ)
+  pub text : List ℕ
+  pub audited : Bool
+  pub after : Option Held
+
+-- lines of the script, all after line `from` and each after the one before, are carried out at a seat one after another; line `to` comes last
+abbrev pub AnswersLines : Terms → Names → Option (List ℕ) → ℕ → Option Held → List Answered → ℕ → Option Held → Type 0
+AnswersLines terms book script from before [] to after = (to ≡ from) × (after ≡ before)
+AnswersLines terms book script from before (one ∷ more) to after =
+    (from < one.n) × IsLineOf script one.n one.line
+    × AnswersLine terms book one.n (says_beside book (name_held before) one.line) before one.text one.audited one.after
+    × AnswersLines terms book script one.n one.after more to after
+
+-- some lines of the script were carried out in their order at a seat, at which first no session is open; this is the last of them, and this session is open then
+abbrev pub HasAnswered : Terms → Names → Option (List ℕ) → ℕ → Option Held → Type 0
+HasAnswered terms book script to after = (answered : List Answered) × AnswersLines terms book script 0 None answered to after
+
+-- the text is that of the last of some lines of the script, which are carried out in their order at a seat, at which first no session is open
+abbrev pub IsReply : Terms → Names → Option (List ℕ) → List ℕ → Type 0
+IsReply terms book script text =
+    (earlier : List Answered) × (last : Answered) × AnswersLines terms book script 0 None (earlier ++ last ∷ []) last.n last.after × (text ≡ last.text)
+
+-- the bytes are such texts, one whole after another
+abbrev pub AreReplies : Terms → Names → Option (List ℕ) → List ℕ → Type 0
+AreReplies terms book script out =
+    (texts : List (List ℕ)) × All (λ text. ∥ IsReply terms book script text ∥₁) texts × (out ≡ flat_map (λ text. text) texts)
+
+-- the script fails with this fault; only where the output fails, the last reply may lack its end
+abbrev pub EndsLines : {R W : Type 0} → Terms → Names → Option (List ℕ) → ServeFault → Watched R → (W → Option (List ℕ)) → Watched W → Watched W → Type 0
+EndsLines terms book script Read input contents old new = HasCause input × Gains (contents old.device) (contents new.device) (AreReplies terms book script)
+EndsLines terms book script Memory input contents old new = Gains (contents old.device) (contents new.device) (AreReplies terms book script)
+EndsLines terms book script Write input contents old new =
+    HasCause new × ((out : List ℕ) × AreReplies terms book script out × AppendsFront (contents old.device) (contents new.device) out)
+
+-- ---- over a server in which no session is open
+abbrev pub book_on : World → Names
+book_on on = book_in (glossary_of on.setting)
+
+-- the output gained replies to lines of the script
+abbrev pub WritesLines : World → Option (List ℕ) → Option (List ℕ) → Option (List ℕ) → Type 0
+WritesLines on script written now = Gains written now (AreReplies (terms_for on.setting) (book_on on) script)
+
+abbrev pub FailsLines : {R W : Type 0} → World → ServeFault → Option (List ℕ) → Watched R → (W → Option (List ℕ)) → Watched W → Watched W → Type 0
+FailsLines on fault script input contents old new = EndsLines (terms_for on.setting) (book_on on) script fault input contents old new

@@ -1,0 +1,349 @@
+//! What a line does, and its reply.
+ghost use Rattle.std.specs.Prelude.{◌≡◌, ◌+◌, ◌++◌, ◌<◌, ℕ, Bool, List, [], None, Ok, true, is_ok, IfOk, OnErr, OnOk, length, vec_capacity, vec_len};
+ghost use Rattle.mls_live.specs.Lists.{list_of};
+ghost use Rattle.mls_server.specs.LegalLists.{IsLegalList};
+ghost use Rattle.mls_wire.specs.Replies.{answer_text, response_text};
+ghost use Rattle.mls_wire.specs.ScriptLines.{text_of};
+ghost use Rattle.mls_lines.specs.Answers.{AnswersLine, ClosesAt, OpensAt, SaysAt, held_by, name_held};
+ghost use Rattle.mls_lines.specs.Glossaries.{book_in, says_beside};
+
+use crate::hall::{Hall, Scripted};
+use crate::seating::{Sitting, parse};
+use crossbeam_channel::Sender;
+use mls_crew::{SeatLine, Voice, say_line};
+use mls_live::{Live, Naming, Seat};
+use mls_server::{Answer, Name, OpenFault, SessionId};
+use mls_session::Command;
+use mls_wire::{Line, LineFault, Response, ScriptLine, push_response};
+use std::alloc::{AllocError, Global};
+use std::sync::Wait;
+
+/// What a name's thread has for its lines.
+#[derive(Drop)]
+pub struct Clerk<'l, N: Scripted> {
+    pub hall: &'l Hall,
+    pub live: &'l Live<N>,
+    /// Where notices for the workers go, if there are any.
+    pub notices: Option<Sender<SessionId, Global>>,
+    pub ghost called: { hall.now.glossary ≡ N.glossary },
+}
+
+/// A line, and its number in the script.
+#[derive(Clone, Copy)]
+pub struct Numbered<'b> {
+    pub n: u128,
+    pub line: ScriptLine<'b>,
+}
+
+impl<'b> Numbered<'b> {
+    /// Returns a line with its number.
+    pub fn new(n: u128, line: ScriptLine<'b>) -> Numbered<'b>
+        ensures { (result.n ≡ n) × (text_of result.line ≡ text_of line.entry) }
+    {
+        Numbered { n, line }
+    }
+}
+
+impl<'l, N: Scripted> Clerk<'l, N> {
+    /// Does what a line asks for, and appends its reply text. Returns false where a session was closed whose list isn't
+    /// that of its journal.
+    ///
+    /// # Errors
+    ///
+    /// Out of memory, where the list had no room for the whole text. What the line asks for was done all the same.
+    pub fn answer<R: Wait>(
+        &self,
+        rt: &R,
+        sitting: &mut Option<Sitting<'l, N>>,
+        line: &Numbered<'_>,
+        out: &mut Vec<u8>,
+    ) -> Result<bool, AllocError>
+        requires parts { N.parts ≡ 65 }
+        ensures { (text : List ℕ) × (audited : Bool) × AnswersLine N.terms (book_in N.glossary) line.now.n
+            (says_beside (book_in N.glossary) (name_held (held_by sitting.old)) (text_of line.now.line))
+            (held_by sitting.old) text audited (held_by sitting.new)
+            × IfOk result (λ known. (known ≡ audited) × (out.new.items ≡ out.old.items ++ text))
+            × OnErr result (vec_capacity out.old < vec_len out.old + length text) }
+    {
+        match says::<N>(self.hall, name_of(sitting), line) {
+            Err(fault) => done(push_fault::<N>(self.hall, line.n, fault, out), true),
+            Ok(said) => self.carry_out(rt, sitting, line.n, said, out),
+        }
+    }
+
+    /// Does what line `n` asks for, as [`Clerk::answer`] does.
+    fn carry_out<R: Wait>(
+        &self,
+        rt: &R,
+        sitting: &mut Option<Sitting<'l, N>>,
+        n: u128,
+        said: Line,
+        out: &mut Vec<u8>,
+    ) -> Result<bool, AllocError>
+        requires parts { N.parts ≡ 65 }
+        ensures { (text : List ℕ) × (audited : Bool) × AnswersLine N.terms (book_in N.glossary) n (Ok said)
+            (held_by sitting.old) text audited (held_by sitting.new)
+            × IfOk result (λ known. (known ≡ audited) × (out.new.items ≡ out.old.items ++ text))
+            × OnErr result (vec_capacity out.old < vec_len out.old + length text) }
+    {
+        match said {
+            Line::Silent => Ok(true),
+            Line::Open(name) => done(self.open(rt, sitting, name, out), true),
+            Line::Close(name, _) => self.close(rt, sitting, n, name, out),
+            Line::Step(_, _) => done(self.refuse_steps(n, out), true),
+            Line::Steps(_, _, _) => done(self.refuse_steps(n, out), true),
+            Line::Audit(_, _) => done(self.say(rt, sitting, n, SeatLine::Audit, out), true),
+            Line::Look(_, _, look) => {
+                done(self.say(rt, sitting, n, SeatLine::Look(look), out), true)
+            }
+            Line::Run(_, _, command) => {
+                done(self.say(rt, sitting, n, SeatLine::Run(command), out), true)
+            }
+        }
+    }
+
+    /// Says a line at the seat.
+    fn say<R: Wait>(
+        &self,
+        rt: &R,
+        sitting: &mut Option<Sitting<'l, N>>,
+        n: u128,
+        line: SeatLine,
+        out: &mut Vec<u8>,
+    ) -> Result<(), AllocError>
+        ensures { (text : List ℕ) × SaysAt N.terms (book_in N.glossary) n line
+            (held_by sitting.old) text (held_by sitting.new)
+            × OnOk result (out.new.items ≡ out.old.items ++ text)
+            × OnErr result (vec_capacity out.old < vec_len out.old + length text) }
+    {
+        let Some(sitting) = sitting else {
+            return push_fault::<N>(self.hall, n, LineFault::NotOpen, out);
+        };
+        if is_catch_up(&line) {
+            sitting.seat.work_off(rt, self.hall.alloc);
+        }
+        let name = sitting.name;
+        let voice = Voice {
+            alloc: self.hall.alloc,
+            names: &self.hall.glossary,
+        };
+        say_line(rt, &voice, &name, &mut sitting.seat, &line, out)
+    }
+
+    /// Opens a session of this name, or replies why it can't be opened.
+    fn open<R: Wait>(
+        &self,
+        rt: &R,
+        sitting: &mut Option<Sitting<'l, N>>,
+        name: Name,
+        out: &mut Vec<u8>,
+    ) -> Result<(), AllocError>
+        ensures { (text : List ℕ) × OpensAt (book_in N.glossary) name
+            (held_by sitting.old) text (held_by sitting.new)
+            × OnOk result (out.new.items ≡ out.old.items ++ text)
+            × OnErr result (vec_capacity out.old < vec_len out.old + length text) }
+    {
+        if let Some(Sitting { name: other, .. }) = sitting {
+            let fault = if *other == name {
+                OpenFault::OpenAlready
+            } else {
+                OpenFault::SessionsFull
+            };
+            return push_answer::<N>(self.hall, name, Answer::Opened(Err(fault)), out);
+        }
+        match self.seat(rt, name) {
+            Ok(seat) => {
+                let id = seat.id();
+                *sitting = Some(Sitting { name, seat });
+                push_answer::<N>(self.hall, name, Answer::Opened(Ok(id)), out)
+            }
+            Err(fault) => push_answer::<N>(self.hall, name, Answer::Opened(Err(fault)), out),
+        }
+    }
+
+    /// Opens a session of this name, whose seat sends notices to the workers.
+    fn seat<R: Wait>(&self, rt: &R, name: Name) -> Result<Seat<'l, N>, OpenFault>
+        ensures { IfOk result (λ seat. list_of seat ≡ []) }
+    {
+        let mut seat = self.live.seat(rt, self.hall.alloc, name)?;
+        if let Some(notices) = &self.notices
+            && let Ok(notices) = notices.clone()
+        {
+            seat.notify(notices);
+        }
+        Ok(seat)
+    }
+
+    /// Closes the session, and returns whether its list was audited.
+    fn close<R: Wait>(
+        &self,
+        rt: &R,
+        sitting: &mut Option<Sitting<'l, N>>,
+        n: u128,
+        name: Name,
+        out: &mut Vec<u8>,
+    ) -> Result<bool, AllocError>
+        requires parts { N.parts ≡ 65 }
+        ensures { (text : List ℕ) × (audited : Bool) × ClosesAt N.terms (book_in N.glossary) n name
+            (held_by sitting.old) text audited (held_by sitting.new)
+            × IfOk result (λ known. (known ≡ audited) × (out.new.items ≡ out.old.items ++ text))
+            × OnErr result (vec_capacity out.old < vec_len out.old + length text) }
+    {
+        match sitting.take() {
+            Some(sitting) => self.leave(rt, sitting, name, out),
+            None => done(push_fault::<N>(self.hall, n, LineFault::NotOpen, out), true),
+        }
+    }
+
+    /// Closes an open session, and returns whether its list was audited.
+    fn leave<R: Wait>(
+        &self,
+        rt: &R,
+        sitting: Sitting<'l, N>,
+        name: Name,
+        out: &mut Vec<u8>,
+    ) -> Result<bool, AllocError>
+        requires parts { N.parts ≡ 65 }
+        ensures { (audited : Bool) × (audited ≡ true → IsLegalList N.terms (list_of sitting.entry.seat))
+            × IfOk result (λ known. (known ≡ audited) × (out.new.items ≡ out.old.items
+            ++ answer_text (book_in N.glossary) name (Answer.Closed (Ok tt))))
+            × OnErr result (vec_capacity out.old
+            < vec_len out.old + length (answer_text (book_in N.glossary) name (Answer.Closed (Ok tt)))) }
+    {
+        let Sitting { seat, .. } = sitting;
+        let audited = seat.audit(rt).is_ok();
+        let _ = self.live.leave(rt, seat);
+        done(
+            push_answer::<N>(self.hall, name, Answer::Closed(Ok(())), out),
+            audited,
+        )
+    }
+
+    /// Appends that line `n` is no command, since the workers take check steps.
+    fn refuse_steps(&self, n: u128, out: &mut Vec<u8>) -> Result<(), AllocError>
+        ensures ok { OnOk result (out.new.items ≡ out.old.items
+            ++ response_text (book_in N.glossary) n (Response.Fault LineFault.UnknownCommand)) }
+        ensures room { OnErr result (vec_capacity out.old
+            < vec_len out.old + length (response_text (book_in N.glossary) n (Response.Fault LineFault.UnknownCommand))) }
+    {
+        push_fault::<N>(self.hall, n, LineFault::UnknownCommand, out)
+    }
+}
+
+/// Returns whether a line asks that all areas be checked.
+fn is_catch_up(line: &SeatLine) -> bool {
+    matches!(line, SeatLine::Run(Command::CatchUp))
+}
+
+/// Returns whether a list was audited, where the line has its reply.
+fn done(replied: Result<(), AllocError>, audited: bool) -> Result<bool, AllocError>
+    ensures same { is_ok result ≡ is_ok replied }
+    ensures known { IfOk result (λ known. known ≡ audited) }
+{
+    replied?;
+    Ok(audited)
+}
+
+/// Returns what a line says where this session is open, or none, or its first fault.
+fn says<N: Scripted>(
+    hall: &Hall,
+    held: Option<Name>,
+    line: &Numbered<'_>,
+) -> Result<Line, LineFault>
+    requires { hall.now.glossary ≡ N.glossary }
+    ensures { result ≡ says_beside (book_in N.glossary) held (text_of line.now.line) }
+{
+    parse(&hall.glossary, held, line.line)
+}
+
+/// Returns the name of the session that is open.
+fn name_of<N: Naming>(sitting: &Option<Sitting<'_, N>>) -> Option<Name>
+    ensures { result ≡ name_held (held_by sitting.now) }
+{
+    match sitting {
+        Some(Sitting { name, .. }) => Some(*name),
+        None => None,
+    }
+}
+
+/// Appends the reply text of a line of which no thread has the name: then no session of its name is open.
+///
+/// # Errors
+///
+/// Out of memory, where the list had no room for the whole text.
+pub fn push_alone<N: Scripted>(
+    hall: &Hall,
+    line: &Numbered<'_>,
+    out: &mut Vec<u8>,
+) -> Result<(), AllocError>
+    requires { hall.now.glossary ≡ N.glossary }
+    ensures { (text : List ℕ) × AnswersLine N.terms (book_in N.glossary) line.now.n
+        (says_beside (book_in N.glossary) None (text_of line.now.line)) None text true None
+        × OnOk result (out.new.items ≡ out.old.items ++ text)
+        × OnErr result (vec_capacity out.old < vec_len out.old + length text) }
+{
+    match says::<N>(hall, None, line) {
+        Err(fault) => push_fault::<N>(hall, line.n, fault, out),
+        Ok(said) => push_said_alone::<N>(hall, line.n, &said, out),
+    }
+}
+
+/// Appends the reply text of line `n`, of which no thread has the name.
+fn push_said_alone<N: Scripted>(
+    hall: &Hall,
+    n: u128,
+    said: &Line,
+    out: &mut Vec<u8>,
+) -> Result<(), AllocError>
+    requires { hall.now.glossary ≡ N.glossary }
+    ensures { (text : List ℕ) × AnswersLine N.terms (book_in N.glossary) n (Ok said.now) None text true None
+        × OnOk result (out.new.items ≡ out.old.items ++ text)
+        × OnErr result (vec_capacity out.old < vec_len out.old + length text) }
+{
+    match said {
+        Line::Silent => Ok(()),
+        Line::Open(name) => {
+            let full = Answer::Opened(Err(OpenFault::SessionsFull));
+            push_answer::<N>(hall, *name, full, out)
+        }
+        Line::Step(_, _) => push_fault::<N>(hall, n, LineFault::UnknownCommand, out),
+        Line::Steps(_, _, _) => push_fault::<N>(hall, n, LineFault::UnknownCommand, out),
+        Line::Close(_, _) => push_fault::<N>(hall, n, LineFault::NotOpen, out),
+        Line::Audit(_, _) => push_fault::<N>(hall, n, LineFault::NotOpen, out),
+        Line::Look(_, _, _) => push_fault::<N>(hall, n, LineFault::NotOpen, out),
+        Line::Run(_, _, _) => push_fault::<N>(hall, n, LineFault::NotOpen, out),
+    }
+}
+
+/// Appends the answer to a line of this name.
+#[tactic(auto, unfolding(mls_wire::specs::Replies::response_text))]
+fn push_answer<N: Scripted>(
+    hall: &Hall,
+    name: Name,
+    answer: Answer,
+    out: &mut Vec<u8>,
+) -> Result<(), AllocError>
+    requires { hall.now.glossary ≡ N.glossary }
+    ensures ok { OnOk result (out.new.items ≡ out.old.items
+        ++ answer_text (book_in N.glossary) name answer) }
+    ensures room { OnErr result (vec_capacity out.old
+        < vec_len out.old + length (answer_text (book_in N.glossary) name answer)) }
+{
+    push_response(&hall.glossary, 0, &Response::Answered(name, answer), out)
+}
+
+/// Appends that line `n` has this fault.
+fn push_fault<N: Scripted>(
+    hall: &Hall,
+    n: u128,
+    fault: LineFault,
+    out: &mut Vec<u8>,
+) -> Result<(), AllocError>
+    requires { hall.now.glossary ≡ N.glossary }
+    ensures ok { OnOk result (out.new.items ≡ out.old.items
+        ++ response_text (book_in N.glossary) n (Response.Fault fault)) }
+    ensures room { OnErr result (vec_capacity out.old
+        < vec_len out.old + length (response_text (book_in N.glossary) n (Response.Fault fault))) }
+{
+    push_response(&hall.glossary, n, &Response::Fault(fault), out)
+}

@@ -1,0 +1,89 @@
+//! What all threads share.
+ghost use Rattle.std.specs.Prelude.{◌≡◌, ℕ, List, Option, Some};
+ghost use Rattle.mls_lines.specs.Glossaries.{Glossary, book_in};
+ghost use Rattle.mls_lines.specs.Scripts.{IsLineOf, IsReply};
+
+use crate::Glossary;
+use crate::roster::Roster;
+use mls_live::Naming;
+use std::alloc::Global;
+use std::marker::{Brand, PhantomData};
+use std::sync::Mutex;
+use std::sync::atomic::{AtomicBool, Ordering};
+
+/// The name of a script over a server under a lock: what names mean there, and its bytes, where they are known.
+pub trait Scripted: Naming {
+    ghost glossary: { Glossary };
+
+    ghost script: { Option (List ℕ) };
+}
+
+impl Scripted for Brand {
+    ghost use Rattle.std.specs.Prelude.{[], None};
+    ghost use Rattle.mls_tech.specs.Readings.{nothing_read};
+
+    ghost glossary = { record { tech = nothing_read; cells = [] } };
+
+    ghost script = { None };
+}
+
+/// What all threads share beside the server: what names mean, which name has which thread, and whether something failed.
+#[derive(Drop)]
+pub struct Hall {
+    pub alloc: Global,
+    pub glossary: Glossary,
+    pub roster: Mutex<Roster>,
+    /// Whether the output failed.
+    pub unwritten: AtomicBool,
+    /// Whether memory ran out for a reply, or a thread couldn't be started.
+    pub refused: AtomicBool,
+}
+
+impl Hall {
+    /// Returns whether no further line is to be read.
+    pub fn is_closed(&self) -> bool {
+        self.unwritten.load(Ordering::SeqCst) || self.refused.load(Ordering::SeqCst)
+    }
+}
+
+/// A line of the script that waits for its name's thread, and its number.
+#[derive(Drop)]
+pub struct Queued<N: Scripted> {
+    pub n: u128,
+    pub bytes: Vec<u8>,
+    of: PhantomData<N>,
+    pub ghost line: { IsLineOf N.script n (Some bytes.items) },
+}
+
+impl<N: Scripted> Queued<N> {
+    /// Returns a line with its number.
+    pub fn new(n: u128, bytes: Vec<u8>) -> Self
+        requires { IsLineOf N.script n (Some bytes.items) }
+    {
+        Queued {
+            n,
+            bytes,
+            of: PhantomData,
+        }
+    }
+}
+
+/// A reply to a line of the script.
+#[derive(Drop)]
+pub struct Reply<N: Scripted> {
+    pub text: Vec<u8>,
+    of: PhantomData<N>,
+    pub ghost reply: { ∥ IsReply N.terms (book_in N.glossary) N.script text.items ∥₁ },
+}
+
+impl<N: Scripted> Reply<N> {
+    /// Returns a reply of this text.
+    pub fn new(text: Vec<u8>) -> Self
+        requires { ∥ IsReply N.terms (book_in N.glossary) N.script text.items ∥₁ }
+    {
+        Reply {
+            text,
+            of: PhantomData,
+        }
+    }
+}

@@ -1,0 +1,96 @@
+//! The session of a name's thread.
+ghost use Rattle.std.specs.Prelude.{◌≡◌, Some};
+ghost use Rattle.mls_lines.specs.Glossaries.{book_in, is_stepwise, says_beside};
+ghost use Rattle.mls_wire.specs.ScriptLines.{text_of};
+
+use crate::Glossary;
+use mls_library::CellId;
+use mls_live::{Naming, Seat};
+use mls_server::{Name, SessionId};
+use mls_text::Words;
+use mls_wire::{Line, LineFault, Names, ScriptLine, parse_line};
+
+/// A session that is open: its name, and its seat.
+#[derive(Drop)]
+pub struct Sitting<'l, N: Naming> {
+    pub name: Name,
+    pub seat: Seat<'l, N>,
+}
+
+/// Names beside one session that may be open. Its id doesn't matter.
+#[derive(Drop)]
+struct Beside<'a> {
+    glossary: &'a Glossary,
+    held: Option<Name>,
+}
+
+impl Names for Beside<'_> {
+    ghost use Rattle.mls_lines.specs.Glossaries.{beside, book_in};
+
+    ghost book = { λ names. beside (book_in names.glossary.now) names.held };
+
+    fn type_of(&self, word: &[u8]) -> Option<u8> {
+        self.glossary.type_of(word)
+    }
+
+    fn cell_of(&self, word: &[u8]) -> Option<CellId> {
+        self.glossary.cell_of(word)
+    }
+
+    fn cell_name(&self, cell: CellId) -> Option<&[u8]> {
+        self.glossary.cell_name(cell)
+    }
+
+    fn type_name(&self, kind: u8) -> Option<&[u8]> {
+        self.glossary.type_name(kind)
+    }
+
+    fn short_type_name(&self, kind: u8) -> Option<&[u8]> {
+        self.glossary.short_type_name(kind)
+    }
+
+    fn why_text(&self, n: usize) -> Option<&[u8]> {
+        self.glossary.why_text(n)
+    }
+
+    fn session(&self, name: &Name) -> Option<SessionId> {
+        match &self.held {
+            Some(held) if name == held => Some(SessionId::of(0)),
+            _ => None,
+        }
+    }
+}
+
+/// Returns what a line says where this session is open, or none, or its first fault. `%step` and `%steps` are no
+/// commands.
+#[tactic(auto, unfolding(crate::specs::Glossaries::says_beside))]
+pub fn parse(
+    glossary: &Glossary,
+    held: Option<Name>,
+    line: ScriptLine<'_>,
+) -> Result<Line, LineFault>
+    ensures { result ≡ says_beside (book_in glossary.now) held (text_of line.entry) }
+{
+    match line {
+        ScriptLine::TooLong => Err(LineFault::UnknownCommand),
+        ScriptLine::Text(bytes) => parse_text(glossary, held, bytes),
+    }
+}
+
+/// Returns what the bytes of a line say.
+#[tactic(auto, unfolding(crate::specs::Glossaries::says_beside))]
+fn parse_text(glossary: &Glossary, held: Option<Name>, bytes: &[u8]) -> Result<Line, LineFault>
+    ensures { result ≡ says_beside (book_in glossary.now) held (Some bytes.now) }
+{
+    if begins_stepwise(Words::new(bytes)) {
+        return Err(LineFault::UnknownCommand);
+    }
+    parse_line(&Beside { glossary, held }, ScriptLine::Text(bytes))
+}
+
+/// Returns whether the first word is `%step` or `%steps`.
+fn begins_stepwise(mut words: Words) -> bool
+    ensures { result ≡ is_stepwise words.entry }
+{
+    matches!(words.next(), Some(b"%step" | b"%steps"))
+}

@@ -1,0 +1,140 @@
+//! The threads of names, and the workers beside them.
+ghost use Rattle.std.specs.Prelude.{◌≡◌};
+
+use crate::answering::Clerk;
+use crate::hall::{Hall, Queued, Reply, Scripted};
+use crate::progress::Progress;
+use crossbeam_channel::{Receiver, Sender};
+use mls_live::{Live, Plain, work};
+use mls_server::SessionId;
+use std::alloc::{AllocError, Global};
+use std::sync::Wait;
+use std::sync::atomic::Ordering;
+use std::thread;
+use std::thread::{Scope, Threads};
+
+/// A thread for names, before it runs: its number, its lines, and where replies and notices go.
+#[derive(Drop)]
+pub struct Place<N: Scripted> {
+    pub number: usize,
+    pub lines: Receiver<Queued<N>, Global>,
+    pub replies: Sender<Reply<N>, Global>,
+    pub notices: Option<Sender<SessionId, Global>>,
+}
+
+/// Answers the lines of all names, each name's in a thread of its own, while workers check, one for each receiver.
+/// Returns whether the list of each session was audited at its end.
+pub fn answer_all<N: Scripted + Send + Sync, R: Threads + Wait + Sync>(
+    rt: &R,
+    hall: &Hall,
+    live: &Live<N>,
+    places: Vec<Place<N>>,
+    workers: Vec<Receiver<SessionId, Global>>,
+) -> Result<bool, AllocError>
+    requires parts { N.parts ≡ 65 }
+    requires called { hall.now.glossary ≡ N.glossary }
+{
+    let answered = thread::scope(
+        thread::scope_env(),
+        rt,
+        move |scope| -> Result<bool, AllocError>
+            requires { (N.parts ≡ 65) × (hall.now.glossary ≡ N.glossary) }
+        { start(rt, scope, (hall, live), places, workers) },
+    );
+    if answered.is_err() {
+        hall.refused.store(true, Ordering::SeqCst);
+    }
+    answered
+}
+
+/// Starts all threads and takes the results of those for names.
+fn start<'s, E, N: Scripted + Send + Sync + 's, R: Threads + Wait + Sync>(
+    rt: &'s R,
+    scope: &Scope<'s, E>,
+    shared: (&'s Hall, &'s Live<N>),
+    mut places: Vec<Place<N>>,
+    workers: Vec<Receiver<SessionId, Global>>,
+) -> Result<bool, AllocError>
+    requires parts { N.parts ≡ 65 }
+    requires called { shared.0.now.glossary ≡ N.glossary }
+{
+    let (hall, live) = shared;
+    let mut handles = Vec::with_capacity(hall.alloc, places.len())?;
+    for from in workers {
+        let alloc = hall.alloc;
+        if scope
+            .spawn(move || work(rt, alloc, live, from, &Plain, u64::MAX))
+            .is_err()
+        {
+            hall.refused.store(true, Ordering::SeqCst);
+            return Err(AllocError);
+        }
+    }
+    while let Some(place) = places.pop() {
+        match scope.spawn(move || answer_lines(rt, hall, live, place)) {
+            Ok(handle) => handles.push_reserved(handle),
+            Err(_) => {
+                hall.refused.store(true, Ordering::SeqCst);
+                return Err(AllocError);
+            }
+        }
+    }
+    let mut audited = true;
+    while let Some(handle) = handles.pop() {
+        audited &= handle.join(rt);
+    }
+    Ok(audited)
+}
+
+/// Answers the lines of names, one name at a time, and closes the session that is open at the end. Returns whether the
+/// list of each session was audited at its end.
+///
+/// Once a reply was lost, for want of memory, no line of the thread is answered any more.
+fn answer_lines<'l, N: Scripted, R: Wait>(
+    rt: &R,
+    hall: &'l Hall,
+    live: &'l Live<N>,
+    place: Place<N>,
+) -> bool
+    requires parts { N.parts ≡ 65 }
+    requires called { hall.now.glossary ≡ N.glossary }
+{
+    let Place {
+        number,
+        lines,
+        replies,
+        notices,
+    } = place;
+    let mut progress = Progress::new(Clerk {
+        hall,
+        live,
+        notices,
+    });
+    let mut audited = true;
+    let mut lost = false;
+    for _ in rt.forever() {
+        let Ok(line) = lines.recv(rt) else {
+            break;
+        };
+        if !lost && !hall.unwritten.load(Ordering::SeqCst) {
+            match progress.answer(rt, &line) {
+                Some(answered) => {
+                    audited = audited && answered.audited;
+                    lost = !send(rt, &replies, answered.reply);
+                }
+                None => lost = true,
+            }
+            if lost {
+                hall.refused.store(true, Ordering::SeqCst);
+            }
+        }
+        hall.roster.lock(rt).leave(number, progress.is_open());
+    }
+    let closed = progress.end(rt);
+    audited && closed
+}
+
+/// Hands a reply to the writer, if it has a text, and returns whether there was memory for that.
+fn send<N: Scripted, R: Wait>(rt: &R, replies: &Sender<Reply<N>, Global>, reply: Reply<N>) -> bool {
+    reply.text.is_empty() || replies.send(rt, reply).is_ok()
+}
