@@ -66,6 +66,15 @@ none-from_count e set none x y inside =
     let square = term-le (λ x. bit (set x y)) e.left (e.right - e.left) x lines.0 (omega (arith, lines.0, lines.1)) in
     one_or_none (set x y) (omega (arith, row, square, none))
 
+-- two sets that together have all squares have as many
+pub whole-from-both :
+    (extent : Rect) (a b : ℕ → ℕ → Bool) → IsRectangleIn extent extent → ((x y : ℕ) → holds extent x y ≡ true → (a x y || b x y) ≡ true)
+    → size_of extent ≤ count_in extent a + count_in extent b
+whole-from-both e a b legal whole =
+    let all : count_in e (λ x y. a x y || b x y) ≡ size_of e =
+    count_in-agree e (λ x y. a x y || b x y) (holds e) (λ x y inside. whole x y inside ∙ sym inside) ∙ count_in-rect e e legal in
+    omega (arith, count_in-both e a b, all)
+
 -- so two sets that together have all squares, and no more than there are, share none
 pub apart-from_counts :
     (extent : Rect) (a b : ℕ → ℕ → Bool) → ((x y : ℕ) → holds extent x y ≡ true → (a x y || b x y) ≡ true)
@@ -89,13 +98,13 @@ and_true : (b : Bool) → (b && true) ≡ b
 and_true true = refl
 and_true false = refl
 
-in_common : (extent r : Rect) (x y : ℕ) → holds extent x y ≡ true → holds r x y ≡ holds (common r extent) x y
+pub in_common : (extent r : Rect) (x y : ℕ) → holds extent x y ≡ true → holds r x y ≡ holds (common r extent) x y
 in_common e r x y inside = sym (holds_common r e x y ∙ ap (λ b. holds r x y && b) inside ∙ and_true (holds r x y))
 
 has_squares-holds : (e : Rect) (x y : ℕ) → holds e x y ≡ true → has_squares e ≡ true
 has_squares-holds e x y inside = grind (arith, nat_tests)
 
-not_common : (extent r : Rect) (x y : ℕ) → has_squares (common r extent) ≡ false → holds extent x y ≡ true → holds r x y ≡ false
+pub not_common : (extent r : Rect) (x y : ℕ) → has_squares (common r extent) ≡ false → holds extent x y ≡ true → holds r x y ≡ false
 not_common e r x y none inside =
     false_from_ne_true (holds r x y) (λ here. both_ways (has_squares (common r e)) none (has_squares-holds (common r e) x y (sym (in_common e r x y inside) ∙ here)))
 

@@ -22,10 +22,10 @@ use Rattle.mls_errorplane.proofs.MarkCounts.{same_test}
 use Rattle.mls_errorplane.proofs.SquareCounts.{count_in, count_in-agree, count_in-apart, count_in-none}
 
 -- the marked squares of a tile, and of tiles
-abbrev in_tile : LaidTile → ℕ → ℕ → Bool
+abbrev pub in_tile : LaidTile → ℕ → ℕ → Bool
 in_tile tile x y = not (tile.piece.kind == 0) && holds tile.piece.rect x y
 
-abbrev in_tiles : List LaidTile → ℕ → ℕ → Bool
+abbrev pub in_tiles : List LaidTile → ℕ → ℕ → Bool
 in_tiles tiles x y = list_any (λ tile. in_tile tile x y) tiles
 
 -- a tile that has a square of the rectangle has as many as their common lines say, or none
@@ -66,7 +66,7 @@ count_in-tiles blocks r (tile ∷ rest) tiling found ordered =
     omega (arith, others, both, one, sum_by-cons (marked_part r) tile rest)
 
 -- a square of the rectangle is marked where a found tile of a kind other than 0 has it
-marked_by_tiles :
+pub marked_by_tiles :
     (pool : Pool) (owner : ℕ) (r : Rect) (tiles : List LaidTile) (x y : ℕ) → HasPlane pool owner → MeetArea (block_at (tiles_of pool owner)) r tiles → holds r x y ≡ true
     → is_marked (picture_in pool owner) x y ≡ in_tiles tiles x y
 marked_by_tiles pool owner r tiles x y plane are inside =

@@ -1,3 +1,4 @@
+pub mod AreaCounts
 pub mod AreaSizes
 pub mod CheckedMarks
 pub mod CheckedSquares
@@ -6,6 +7,7 @@ pub mod DirtySquares
 pub mod EmptyLayouts
 pub mod FinishedFindings
 pub mod FoundCounts
+pub mod FoundTotals
 pub mod KeptLists
 pub mod KeptRooms
 pub mod MarkCounts
@@ -14,6 +16,7 @@ pub mod PaintedPieces
 pub mod RangeSums
 pub mod RectCounts
 pub mod Recounts
+pub mod ShownBeside
 pub mod ShownMarks
 pub mod SquareCounts
 pub mod StepsDone

@@ -33,7 +33,7 @@ and_in true b here = refl
 and_in false b here = absurd (cc)
 
 -- are as many as in the rectangle alone
-count_in-part : (e r : Rect) (set : ℕ → ℕ → Bool) → IsRectangleIn e r → count_in e (λ x y. holds r x y && set x y) ≡ count_in r set
+pub count_in-part : (e r : Rect) (set : ℕ → ℕ → Bool) → IsRectangleIn e r → count_in e (λ x y. holds r x y && set x y) ≡ count_in r set
 count_in-part e r set legal =
     let row = λ (y : ℕ). sum_by (λ x. bit (holds r x y && set x y)) (columns e) in
     let part = λ (y : ℕ). sum_by (λ x. bit (set x y)) (columns r) in

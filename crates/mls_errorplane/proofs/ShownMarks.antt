@@ -21,7 +21,7 @@ use Rattle.mls_errorplane.proofs.CoveredOnce.{apart-from_counts, count_in-common
 use Rattle.mls_errorplane.proofs.SquareCounts.{count_in, count_in-none, count_in-rect}
 
 -- the squares of a tile of space
-abbrev in_space : LaidTile → ℕ → ℕ → Bool
+abbrev pub in_space : LaidTile → ℕ → ℕ → Bool
 in_space tile x y = (tile.piece.kind == 0) && holds tile.piece.rect x y
 
 -- ---- numbers of squares
@@ -29,7 +29,7 @@ kind-le : (extent r : Rect) (is_space : Bool) → count_in extent (λ x y. is_sp
 kind-le e r true = count_in-common e r
 kind-le e r false = let none : count_in e (λ x y. false) ≡ 0 = count_in-none e in omega (arith, none)
 
-space-le : (rect : Rect) (tiles : List LaidTile) → count_in rect (λ x y. list_any (λ tile. in_space tile x y) tiles) ≤ sum_by (space_size rect) tiles
+pub space-le : (rect : Rect) (tiles : List LaidTile) → count_in rect (λ x y. list_any (λ tile. in_space tile x y) tiles) ≤ sum_by (space_size rect) tiles
 space-le rect tiles = count_in-list rect in_space (space_size rect) tiles (λ k tile within. kind-le rect (get_or tiles k tile).piece.rect ((get_or tiles k tile).piece.kind == 0))
 
 areas-le : (rect : Rect) (areas : List Rect) → AreInside rect areas → count_in rect (squares_of areas) ≤ sum_by size_of areas

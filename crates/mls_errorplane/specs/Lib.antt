@@ -1,3 +1,4 @@
+pub mod AreaOrder
 pub mod CatchingUp
 pub mod Checkings
 pub mod DirtyLists

@@ -1,11 +1,11 @@
 -- What pieces paint on an error plane, and what its tiles show already. No public contract names these.
-use Rattle.std.specs.Prelude.{◌≡◌, ◌≢◌, ℕ, ◌==◌, true, if◌then◌else◌, List}
-use Rattle.mls_checker.specs.Marking.{SquareSet}
+use Rattle.std.specs.Prelude.{◌≡◌, ◌≢◌, ℕ, ◌==◌, true, false, if◌then◌else◌, List}
+use Rattle.mls_checker.specs.Marking.{Marks, SquareSet, marks}
 use Rattle.mls_geom.specs.Pictures.{Picture, overlaid}
 use Rattle.mls_geom.specs.Rects.{Rect, common, holds, size_of}
 use Rattle.mls_geom.specs.declared.piece.Piece.{Piece}
 use Rattle.mls_stitch.specs.declared.laid_tile.LaidTile.{LaidTile}
-use Rattle.mls_errorplane.specs.MarkPlanes.{remarked}
+use Rattle.mls_errorplane.specs.MarkPlanes.{is_marked, remarked}
 
 -- painted over any picture, the pieces mark the squares of the rectangle as the set says, and change no others
 abbrev pub Paints : List Piece → Rect → SquareSet → Type 0
@@ -28,3 +28,12 @@ marked_part rect tile = if tile.piece.kind == 0 then 0 else size_of (common tile
 -- how many squares of the rectangle a tile of space has, and none any other
 abbrev pub space_size : Rect → LaidTile → ℕ
 space_size rect tile = if tile.piece.kind == 0 then size_of (common tile.piece.rect rect) else 0
+
+-- of the tile's squares in the rectangle beside a part those of the set have kind 1, and the others kind 0
+abbrev pub ShowsBeside : Rect → Rect → SquareSet → LaidTile → Type 0
+ShowsBeside rect part set tile =
+    (x y : ℕ) → holds rect x y ≡ true → holds part x y ≡ false → holds tile.piece.rect x y ≡ true → tile.piece.kind ≡ (if set x y then 1 else 0)
+
+-- the picture's marked squares in the part are those of the marks
+abbrev pub AreMarked : Marks → Rect → Picture → Type 0
+AreMarked found part picture = (x y : ℕ) → holds part x y ≡ true → is_marked picture x y ≡ marks found x y

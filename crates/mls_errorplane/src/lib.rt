@@ -1,8 +1,10 @@
 //! Areas of a layout that await checking, and the marks that checks leave (Taylor and Ousterhout 1984).
 #![tactic(auto)]
 
+mod area_counts;
 mod basis;
 mod catching_up;
+mod differing;
 mod dirty;
 mod error_plane;
 mod job;

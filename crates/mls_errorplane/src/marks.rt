@@ -1,28 +1,32 @@
 //! Marks on error planes.
 ghost use Rattle.std.specs.Prelude.{◌≡◌, ◌+◌, ◌<◌, ◌≤◌, ◌↔◌, IfOk, IfSome, IsErr, OnErr, OnOk, vec_capacity};
+ghost use Rattle.std.specs.List.{sum_by};
 ghost use Rattle.mls_checker.specs.Findings.{IsExact};
 ghost use Rattle.mls_checker.specs.Marking.{marks};
-ghost use Rattle.mls_geom.specs.Rects.{IsRectangleIn};
+ghost use Rattle.mls_geom.specs.Rects.{IsRectangleIn, size_of};
 ghost use Rattle.mls_geom.specs.TileCounts.{tile_count};
 ghost use Rattle.mls_geom.specs.World.{world};
 ghost use Rattle.mls_paint.specs.Planes.{HasStrips, picture_in};
 ghost use Rattle.mls_paint.specs.Scratches.{HasRoomFor, KeepsRoom};
-ghost use Rattle.mls_stitch.specs.Tilings.{ChangesOnly, HasPlane};
-ghost use Rattle.mls_tilepool.specs.Pools.{room_of};
+ghost use Rattle.mls_stitch.specs.Areas.{MeetArea};
+ghost use Rattle.mls_stitch.specs.Tilings.{ChangesOnly, HasPlane, block_at};
+ghost use Rattle.mls_tilepool.specs.Pools.{room_of, tiles_of};
 ghost use Rattle.mls_errorplane.specs.MarkPlanes.{marked_count, most_pieces, remarked};
-ghost use Rattle.mls_errorplane.specs.PaintedMarks.{marked_part};
+ghost use Rattle.mls_errorplane.specs.PaintedMarks.{AreMarked, marked_part, space_size};
 
+use crate::area_counts::count_areas;
+use crate::differing::differing_part;
 use crate::dirty::lies_in_world;
 use crate::mark_pieces::list_pieces;
-use crate::shown_marks::show;
-use mls_checker::Finding;
+use crate::shown_marks::{show, space_size};
+use mls_checker::{Finding, Marks};
 use mls_geom::{Piece, Rect};
 use mls_paint::{Scratch, TooManyTiles, find_area, find_meeting, overlay, tile_count};
 use mls_stitch::{LaidTile, Plane};
 use mls_tilepool::Pool;
 
-/// How many squares of a piece were marked before it was marked anew, and how many are now. Both are 0 where nothing
-/// was painted.
+/// How many squares of the painted part of a piece were marked before it was marked anew, and how many are now. Both
+/// are 0 where nothing was painted.
 #[derive(Clone, Copy, Debug, PartialEq, Eq)]
 pub struct Recount {
     /// How many squares were marked.
@@ -73,10 +77,11 @@ pub fn mark(
     if show(scratch.tiles(), found) {
         return keep(pool, plane, limit);
     }
-    list_pieces(found, pieces);
-    let before = marked_in(pool, plane, rect, scratch);
+    let part = differing_part(scratch.tiles(), found);
+    list_pieces(found, part, pieces);
+    let before = count_shown(pool, plane, rect, part, scratch);
     overlay(pool, plane, pieces, limit, scratch)?;
-    let after = marked_in(pool, plane, rect, scratch);
+    let after = count_painted(pool, plane, found, part, scratch);
     Ok(Recount { before, after })
 }
 
@@ -95,13 +100,52 @@ fn keep(pool: &Pool, plane: &Plane, limit: u32) -> Result<Recount, TooManyTiles>
     })
 }
 
-/// Returns how many squares of a rectangle are marked.
+/// Returns how many squares are marked in a part of an area in which tiles were found. Searches again only where some
+/// of these share a square.
+fn count_shown(pool: &Pool, plane: &mut Plane, area: Rect, part: Rect, scratch: &mut Scratch) -> u64
+    requires plane { HasPlane pool.now plane.old }
+    requires room { HasRoomFor pool.now plane.old scratch.old }
+    requires found { MeetArea (block_at (tiles_of pool.now plane.old)) area scratch.old.tiles }
+    requires inside { IsRectangleIn area part }
+    ensures value { result ≡ marked_count part (picture_in pool.now plane.old) }
+    ensures legal { IsRectangleIn world part }
+    ensures plane { plane.new ≡ plane.old }
+    ensures rooms { KeepsRoom scratch.old scratch.new }
+{
+    lies_in_world(part);
+    match count_tiles(scratch.tiles(), part) {
+        Some(count) => count,
+        None => marked_in(pool, plane, part, scratch),
+    }
+}
+
+/// Returns how many squares are marked in a part of the marks' rectangle where those of the marks are. Searches only
+/// where some areas of the marks may share a square.
+fn count_painted(
+    pool: &Pool,
+    plane: &mut Plane,
+    found: &Marks,
+    part: Rect,
+    scratch: &mut Scratch,
+) -> u64
+    requires plane { HasPlane pool.now plane.old }
+    requires room { HasRoomFor pool.now plane.old scratch.old }
+    requires marked { AreMarked found.now part (picture_in pool.now plane.old) }
+    ensures value { result ≡ marked_count part (picture_in pool.now plane.old) }
+    ensures plane { plane.new ≡ plane.old }
+    ensures rooms { KeepsRoom scratch.old scratch.new }
+{
+    match count_areas(found, part) {
+        Some(count) => count,
+        None => marked_in(pool, plane, part, scratch),
+    }
+}
+
+/// Returns how many squares of a rectangle are marked, by a search.
 fn marked_in(pool: &Pool, plane: &mut Plane, rect: Rect, scratch: &mut Scratch) -> u64
     requires plane { HasPlane pool.now plane.old }
     requires room { HasRoomFor pool.now plane.old scratch.old }
     ensures value { result ≡ marked_count rect (picture_in pool.now plane.old) }
-    ensures few { result ≤ marked_count world (picture_in pool.now plane.old) }
-    ensures legal { IsRectangleIn world rect }
     ensures plane { plane.new ≡ plane.old }
     ensures rooms { KeepsRoom scratch.old scratch.new }
 {
@@ -112,6 +156,23 @@ fn marked_in(pool: &Pool, plane: &mut Plane, rect: Rect, scratch: &mut Scratch) 
         count += marked_part(tile, rect);
     }
     count
+}
+
+/// Returns how many marked squares of a rectangle tiles have that leave none of its squares out, or `None` where some
+/// of them share a square.
+fn count_tiles(tiles: &[LaidTile], rect: Rect) -> Option<u64>
+    ensures marked { IfSome result (λ count. count ≡ sum_by (marked_part rect) tiles.now) }
+    ensures whole { IfSome result (λ count. count + sum_by (space_size rect) tiles.now ≡ size_of rect) }
+{
+    let mut rest = rect.area().size();
+    let mut count = 0;
+    for tile in tiles {
+        let marked = marked_part(tile, rect);
+        let others = rest.checked_sub(space_size(tile, rect))?;
+        rest = others.checked_sub(marked)?;
+        count += marked;
+    }
+    if rest == 0 { Some(count) } else { None }
 }
 
 /// Returns how many marked squares of a rectangle a tile has.

@@ -43,7 +43,7 @@ fn are_settled(tiles: &[LaidTile], rect: Rect, areas: &[Area]) -> bool
 }
 
 /// Returns whether the tile is space, or of kind 1 with its squares of the rectangle in the areas.
-fn is_settled(tile: &LaidTile, rect: Rect, areas: &[Area]) -> bool
+pub(crate) fn is_settled(tile: &LaidTile, rect: Rect, areas: &[Area]) -> bool
     ensures { IsTrue result → IsSettled rect (squares_of areas.now) tile.now }
 {
     if tile.piece.kind == 0 {
@@ -103,10 +103,15 @@ fn area_at(column: u32, row: u32, rect: Rect, areas: &[Area]) -> Option<Area>
 /// areas of a rectangle with this left side: by bands of columns, then by rows, then by columns. Only says where to
 /// look.
 fn is_before(area: &Area, left: u32, column: u32, row: u32) -> bool {
-    let band = area.left.saturating_sub(left) / BAND;
-    let wanted = column.saturating_sub(left) / BAND;
+    let band = band_of(area.left, left);
+    let wanted = band_of(column, left);
     band < wanted
         || (band == wanted && (area.top <= row || (area.bottom <= row && area.left <= column)))
+}
+
+/// Returns which band a column is in, by which a check lists the areas of a rectangle with this left side.
+pub(crate) fn band_of(column: u32, left: u32) -> u32 {
+    column.saturating_sub(left) / BAND
 }
 
 /// Returns whether the areas and the space among the tiles have together no more squares of the rectangle than it
@@ -132,7 +137,7 @@ fn without_space(tiles: &[LaidTile], rect: Rect) -> Option<u64>
 }
 
 /// Returns how many squares of the rectangle the tile has, if it is space.
-fn space_size(tile: &LaidTile, rect: Rect) -> u64
+pub(crate) fn space_size(tile: &LaidTile, rect: Rect) -> u64
     ensures { result ≡ space_size rect tile.now }
 {
     if tile.piece.kind == 0 {

@@ -31,9 +31,9 @@ strips_all a strips = subst (λ list. AreUnorderedStrips world (picture_of list)
 
 -- the strips are laid and wait for their stitches
 pub AwaitStitches-built :
-    {mid : List (ℕ × Tile)} (pieces : List Piece) (after : List LaidTile) → AreUnorderedStrips world (picture_of pieces) pieces → Lays [] mid [] pieces [] after → AwaitStitches mid (fresh_at after) after
+    {mid : List (ℕ × Tile)} (pieces : List Piece) (after : List LaidTile) → AreUnorderedStrips world (picture_of pieces) pieces → Lays [] mid [] pieces [] after → AwaitStitches mid (fresh_at after) [] after
 AwaitStitches-built {mid} pieces after strips a =
-    subst (λ list. AwaitStitches mid (fresh_at list) list) (sym a.listed)
+    subst (λ list. AwaitStitches mid (fresh_at list) [] list) (sym a.listed)
     (AwaitStitches-strips (picture_of pieces) a.laid (subst (AreUnorderedStrips world (picture_of pieces)) (sym a.pieces) strips) a.ways.once mid a.ways)
 
 -- and once they are stitched, they show the picture, and are maximal

@@ -2,7 +2,7 @@
 use Rattle.std.proofs.Common.{◌≡◌, ◌≢◌, ℕ, true, List, [], map, get_or, Some, IsTrue, All, AllPairs, Contains, inl, inr, refl, sym, ap, ◌∙◌, subst, subst₂, le_refl}
 use Rattle.std.specs.Option.{IfSome}
 use Rattle.std.proofs.lemmas.Bool.{cases_Bool}
-use Rattle.std.proofs.lemmas.List.Elements.{All-contains, All-map, Contains-get_or}
+use Rattle.std.proofs.lemmas.List.Elements.{All-contains, All-map, All-nil, Contains-get_or}
 use Rattle.mls_geom.specs.Rects.{Rect, IsRectangleIn, Point, holds}
 use Rattle.mls_geom.specs.Locality.{AreUnorderedStrips}
 use Rattle.mls_geom.specs.Pictures.{Picture, picture_of}
@@ -18,6 +18,7 @@ use Rattle.mls_stitch.specs.Pending.{AwaitStitches, IsRightOrListed, keys_of}
 use Rattle.mls_stitch.specs.Placing.{GiveWay, unstitched}
 use Rattle.mls_stitch.specs.Stitches.{HoldsAt, LeadsTo, beyond}
 use Rattle.mls_stitch.specs.Tilings.{AreBlocks, AreTiledAs, ArePlaced, IsMaximal, block_at, shown}
+use Rattle.mls_stitch.specs.Walks.{IsLaid}
 use Rattle.mls_stitch.specs.declared.laid_tile.LaidTile.{LaidTile}
 use Rattle.mls_stitch.specs.declared.stitch.Stitch.{Stitch}
 use Rattle.mls_stitch.proofs.DistinctNumbers.{cases_Contains}
@@ -88,24 +89,23 @@ module _ (picture : Picture) (laid : List LaidTile) (strips : AreUnorderedStrips
 
     pending-entry :
         (entry : LaidTile) (tile : Tile) (stitch : Stitch) → Contains laid entry → tile_in tiles entry.id ≡ Some tile
-        → IsRightOrListed (fresh_at laid) laid entry.id tile entry.piece stitch
+        → IsRightOrListed (fresh_at laid) [] laid entry.id tile entry.piece stitch
     pending-entry entry tile stitch found is =
         let at = beyond stitch entry.piece.rect in
         let none = no_stitch tiles laid entry tile stitch ways.placed found is in
         elim (cases_Bool (holds world at.x at.y)) [
           | inl inside ↦
               let (other, there, in_other) = entry_with at.x at.y inside in
-              inr (keys_of-listed laid entry found, Any-contained (λ e. IsTrue (holds e.piece.rect at.x at.y)) laid other there in_other)
+              inr (inl (keys_of-listed laid entry found, Any-contained (λ e. IsTrue (holds e.piece.rect at.x at.y)) laid other there in_other))
           | inr outside ↦ inl (subst (λ s. LeadsTo (fresh_at laid) s at) (sym none) outside)
         ]
 
     -- so their tiles wait for their stitches
-    pub AwaitStitches-strips : AwaitStitches tiles (fresh_at laid) laid
+    pub AwaitStitches-strips : AwaitStitches tiles (fresh_at laid) [] laid
     AwaitStitches-strips = record {
-      tiling = AreBlocks-strips;
-      placed = placed;
-      listed = λ k d within. fresh_at-entry laid (get_or laid k d) once (Contains-get_or laid k d within);
-      once = once;
+      place = record { tiling = AreBlocks-strips; placed = placed };
+      laid_around = All-nil (IsLaid (fresh_at laid));
+      laid_fresh = λ k d within. fresh_at-entry laid (get_or laid k d) once (Contains-get_or laid k d within);
       pending = λ key tile block stitch is_tile is_block. pending-entry (record { id = key; piece = block }) tile stitch (fresh_at-listed laid key block is_block) is_tile;
     }
 

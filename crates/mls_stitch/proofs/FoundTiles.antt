@@ -15,7 +15,7 @@ use Rattle.mls_stitch.specs.Enumerations.{IsListedTo, first_row}
 use Rattle.mls_stitch.specs.Tilings.{AreBlocks}
 use Rattle.mls_stitch.specs.declared.laid_tile.LaidTile.{LaidTile}
 use Rattle.mls_stitch.proofs.Listings.{first_row_found, listed_whole, meets_lines, one_tile}
-use Rattle.mls_stitch.proofs.SettingStitches.{any_moved, once_moved}
+use Rattle.mls_stitch.proofs.MovedTiles.{any_moved, once_moved}
 use Rattle.mls_stitch.proofs.Sides.{legal-AreBlocks}
 
 -- two numbers in turn

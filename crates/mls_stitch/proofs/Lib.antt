@@ -13,6 +13,7 @@ pub mod Laying
 pub mod ListedTiles
 pub mod Listings
 pub mod MaximalTiles
+pub mod MovedTiles
 pub mod Neighbours
 pub mod OtherPlanes
 pub mod PaintedTiles
@@ -23,6 +24,7 @@ pub mod ReplacedPlanes
 pub mod ReplacedStitches
 pub mod ReplacedTiles
 pub mod SettingStitches
+pub mod SewnTiles
 pub mod ShownTiles
 pub mod SideListings
 pub mod Sides

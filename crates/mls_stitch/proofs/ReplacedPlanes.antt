@@ -1,6 +1,7 @@
 -- Fresh tiles laid in place of touched ones, and stitched with those around them.
-use Rattle.std.proofs.Common.{◌≡◌, ◌≢◌, ℕ, ◌+◌, ◌<◌, ◌≤◌, true, false, List, length, map, get_or, Option, Some, None, IsSome, IfSome, All, AllPairs, Contains, slice_get, inl, inr, refl, sym, ap, ◌∙◌, subst, arith}
+use Rattle.std.proofs.Common.{◌≡◌, ◌≢◌, ℕ, ◌+◌, ◌<◌, ◌≤◌, true, false, List, ◌++◌, drop, length, map, take, get_or, Option, Some, None, IsSome, IfSome, All, AllPairs, Contains, slice_get, inl, inr, refl, sym, ap, ◌∙◌, subst, subst₂, arith}
 use Rattle.std.specs.Option.{IsSomeAnd, option_map}
+use Rattle.std.proofs.Math.Seq.{drop-append_seam, take-append_seam}
 use Rattle.std.proofs.lemmas.Bool.{cases_lt}
 use Rattle.std.proofs.lemmas.List.{get_or_default, length-map}
 use Rattle.std.proofs.lemmas.Option.{none-some, same_Some, slice_get-get_or, slice_get-map, slice_get_within}
@@ -105,12 +106,22 @@ module _
 
     -- the fresh tiles and those around them wait for their stitches
     pub AwaitStitches-instead :
-        Surround (block_at old) touched (IsLost (block_at old) touched fresh) around → AllPairs (λ p q. p.id ≢ q.id) around → AwaitStitches mid (replaced (block_at old) touched lays.laid) after
-    AwaitStitches-instead round once =
+        Surround (block_at old) touched (IsLost (block_at old) touched fresh) around → AwaitStitches mid (replaced (block_at old) touched lays.laid) around lays.laid
+    AwaitStitches-instead round =
         let round' =
         Surround-fewer (block_at old) touched (IsLost (block_at old) touched fresh) (IsLostBy (block_at old) touched lays.laid) around round
         (λ p lost. lost-listed (block_at old) touched fresh lays.laid p lays.pieces lays.again lost) in
-        subst (AwaitStitches mid (replaced (block_at old) touched lays.laid)) (sym lays.listed) (AwaitStitches-replaced old mid (block_at old) touched lays.laid around plane may lays.ways round' once)
+        AwaitStitches-replaced old mid (block_at old) touched lays.laid around plane may lays.ways round'
+
+    -- so do the two parts of their list, of which the first has as many tiles as lie around
+    pub AwaitStitches-parted :
+        Surround (block_at old) touched (IsLost (block_at old) touched fresh) around → (beside laid : List LaidTile) → after ≡ beside ++ laid → length beside ≡ length around
+        → AwaitStitches mid (replaced (block_at old) touched lays.laid) beside laid
+    AwaitStitches-parted round beside laid is long =
+        let whole : beside ++ laid ≡ around ++ lays.laid = sym is ∙ lays.listed in
+        let first : beside ≡ around = sym (take-append_seam beside laid) ∙ ap (take (length beside)) whole ∙ ap (λ n. take n (around ++ lays.laid)) long ∙ take-append_seam around lays.laid in
+        let rest : laid ≡ lays.laid = sym (drop-append_seam beside laid) ∙ ap (drop (length beside)) whole ∙ ap (λ n. drop n (around ++ lays.laid)) long ∙ drop-append_seam around lays.laid in
+        subst₂ (AwaitStitches mid (replaced (block_at old) touched lays.laid)) (sym first) (sym rest) (AwaitStitches-instead round)
 
     -- and once they are stitched, the touched tiles are replaced
     pub Replaces-instead :

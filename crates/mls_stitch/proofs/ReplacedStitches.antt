@@ -2,21 +2,21 @@
 use Rattle.std.proofs.Common.{◌≡◌, ◌≢◌, ◌⊎◌, ℕ, true, false, cond, IsTrue, List, ◌++◌, map, get_or, Option, Some, None, inl, inr, refl, sym, ap, ◌∙◌, subst, subst₂}
 use Rattle.std.specs.List.{All, AllPairs, Any, Contains}
 use Rattle.std.proofs.lemmas.Bool.{both_ways, cases_Bool, false_from_ne_true}
-use Rattle.std.proofs.lemmas.List.Elements.{All-append, All-contains, Contains-append_left, Contains-append_right, Contains-get_or}
+use Rattle.std.proofs.lemmas.List.Elements.{All-contains, Contains-append_left, Contains-append_right, Contains-get_or}
 use Rattle.std.proofs.lemmas.Option.{none-some, same_Some}
 use Rattle.mls_geom.specs.Rects.{Point, holds}
 use Rattle.mls_geom.specs.World.{world}
 use Rattle.mls_geom.specs.declared.piece.Piece.{Piece}
-use Rattle.mls_geom.proofs.Ascending.{AllPairs-append}
 use Rattle.mls_geom.proofs.PiecePictures.{holds_outer}
 use Rattle.mls_tilepool.specs.Pools.{tile_in}
 use Rattle.mls_tilepool.specs.declared.tile.Tile.{Tile}
 use Rattle.mls_stitch.specs.Fresh.{MayReplace, replaced}
-use Rattle.mls_stitch.specs.Pending.{AwaitStitches, IsRightOrListed, keys_of}
+use Rattle.mls_stitch.specs.Pending.{AreListed, AwaitStitches, IsRightOrListed, keys_of}
 use Rattle.mls_stitch.specs.Placing.{AreClose, GiveWay, Surround, inside_only, moved, placed_at, unstitched}
 use Rattle.mls_stitch.specs.Replacements.{IsHeld, TakePlace}
 use Rattle.mls_stitch.specs.Stitches.{HoldsAt, LeadsTo, beyond, stitch_of}
 use Rattle.mls_stitch.specs.Tilings.{AreTiledAs, ArePlaced}
+use Rattle.mls_stitch.specs.Walks.{IsLaid}
 use Rattle.mls_stitch.specs.declared.laid_tile.LaidTile.{LaidTile}
 use Rattle.mls_stitch.specs.declared.stitch.Stitch.{Stitch}
 use Rattle.mls_stitch.specs.declared.stitch.Stitch.TheVariants.{Lb, Bl, Tr, Rt}
@@ -99,7 +99,7 @@ entry_same laid a b once found_a found_b same = elim (AllPairs-either (λ (p q :
 ]
 
 module _ (old new : List (ℕ × Tile)) (blocks : ℕ → Option Piece) (touched : List ℕ) (laid around : List LaidTile) (tiled : AreTiledAs old blocks) (may : MayReplace blocks touched laid)
-    (ways : GiveWay old new touched laid) (round : Surround blocks touched (IsLostBy blocks touched laid) around) (once : AllPairs (λ p q. p.id ≢ q.id) around)
+    (ways : GiveWay old new touched laid) (round : Surround blocks touched (IsLostBy blocks touched laid) around)
   where
     -- the tile of a laid piece
     placed-tile : (entry : LaidTile) → Contains laid entry → tile_in new entry.id ≡ Some (placed_at entry.piece (tile_in old entry.id))
@@ -122,34 +122,27 @@ module _ (old new : List (ℕ × Tile)) (blocks : ℕ → Option Piece) (touched
     ]
 
     -- a listed tile has its piece
-    listed : All (λ entry. replaced blocks touched laid entry.id ≡ Some entry.piece) (around ++ laid)
-    listed =
-        All-append (λ entry. replaced blocks touched laid entry.id ≡ Some entry.piece) around laid
-        (λ k d within. replaced-stays blocks touched laid may (get_or around k d).id (get_or around k d).piece (round.apart k d within) (round.each k d within))
-        (λ k d within. replaced-entry blocks touched laid (get_or laid k d) may.once (Contains-get_or laid k d within))
+    laid-around : All (IsLaid (replaced blocks touched laid)) around
+    laid-around k d within = replaced-stays blocks touched laid may (get_or around k d).id (get_or around k d).piece (round.apart k d within) (round.each k d within)
 
-    -- no tile around is fresh
-    across : All (λ p. All (λ q. p.id ≢ q.id) laid) around
-    across i d within_i j e within_j same =
-        kept-unlisted blocks touched laid may (get_or around i d).id (get_or around i d).piece (round.apart i d within_i) (round.each i d within_i)
-        (subst (Contains (keys_of laid)) (sym same) (keys_of-listed laid (get_or laid j e) (Contains-get_or laid j e within_j)))
+    laid-fresh : All (IsLaid (replaced blocks touched laid)) laid
+    laid-fresh k d within = replaced-entry blocks touched laid (get_or laid k d) may.once (Contains-get_or laid k d within)
 
-    -- a square of a touched tile is one of a listed tile
-    covered : (at : Point) → IsHeld blocks touched at → Any (λ entry. IsTrue (holds entry.piece.rect at.x at.y)) (around ++ laid)
-    covered at held =
-        let (entry, found, inside) = entry-held blocks touched laid may at held in
-        Any-contained (λ e. IsTrue (holds e.piece.rect at.x at.y)) (around ++ laid) entry (Contains-append_right around laid entry found) inside
+    -- a square of a touched tile is one of a laid tile
+    covered : (at : Point) → IsHeld blocks touched at → (entry : LaidTile) × Contains laid entry × IsTrue (holds entry.piece.rect at.x at.y)
+    covered at held = entry-held blocks touched laid may at held
 
     -- a tile that waits for its stitch to the square finds it
     found-listed :
-        (entry : LaidTile) (at : Point) → Contains laid entry → IsHeld blocks touched at ⊎ Any (λ e. IsTrue (holds e.piece.rect at.x at.y)) around
-        → Contains (keys_of (around ++ laid)) entry.id × Any (λ e. IsTrue (holds e.piece.rect at.x at.y)) (around ++ laid)
+        (entry : LaidTile) (at : Point) → Contains laid entry → IsHeld blocks touched at ⊎ Any (λ e. IsTrue (holds e.piece.rect at.x at.y)) around → AreListed around laid entry.id at
     found-listed entry at found place =
-        let here = keys_of-listed (around ++ laid) entry (Contains-append_right around laid entry found) in
+        let here = keys_of-listed laid entry found in
         elim place [
-          | inl held ↦ (here, covered at held)
+          | inl held ↦
+              let (other, there, inside) = covered at held in
+              inl (here, Any-contained (λ e. IsTrue (holds e.piece.rect at.x at.y)) (around ++ laid) other (Contains-append_right around laid other there) inside)
           | inr (k, tile, within, same, in_tile) ↦
-              (here, Any-contained (λ e. IsTrue (holds e.piece.rect at.x at.y)) (around ++ laid) tile (Contains-append_left around laid tile (k, within, same)) in_tile)
+              inl (here, Any-contained (λ e. IsTrue (holds e.piece.rect at.x at.y)) (around ++ laid) tile (Contains-append_left around laid tile (k, within, same)) in_tile)
         ]
 
     -- a square of a laid piece was the tile's under its key, or is lost
@@ -169,7 +162,7 @@ module _ (old new : List (ℕ × Tile)) (blocks : ℕ → Option Piece) (touched
     -- the stitch of a tile with a new key waits, if it is to lead anywhere
     pending-new :
         (entry : LaidTile) (tile : Tile) (stitch : Stitch) → Contains laid entry → tile_in old entry.id ≡ None → stitch_of stitch tile ≡ None
-        → IsRightOrListed (replaced blocks touched laid) (around ++ laid) entry.id tile entry.piece stitch
+        → IsRightOrListed (replaced blocks touched laid) around laid entry.id tile entry.piece stitch
     pending-new entry tile stitch found unused none =
         let at = beyond stitch entry.piece.rect in
         let no_block : blocks entry.id ≡ None = none_placed (tile_in old entry.id) (blocks entry.id) (tiled.placed entry.id) unused in
@@ -185,7 +178,7 @@ module _ (old new : List (ℕ × Tile)) (blocks : ℕ → Option Piece) (touched
     -- a stitch that leads where it did stays right, or waits if its square was touched
     pending-same :
         (entry : LaidTile) (slot : Option ℕ) (at : Point) → Contains laid entry → LeadsTo blocks slot at
-        → LeadsTo (replaced blocks touched laid) slot at ⊎ (Contains (keys_of (around ++ laid)) entry.id × Any (λ e. IsTrue (holds e.piece.rect at.x at.y)) (around ++ laid))
+        → LeadsTo (replaced blocks touched laid) slot at ⊎ AreListed around laid entry.id at
     pending-same entry None at found leads = inl leads
     pending-same entry (Some other) at found leads = elim (cases_Contains touched other) [
       | inl (k, within, same) ↦ inr (found-listed entry at found (inl (k, other, within, same, leads)))
@@ -207,7 +200,7 @@ module _ (old new : List (ℕ × Tile)) (blocks : ℕ → Option Piece) (touched
         (entry : LaidTile) (block : Piece) (stitch : Stitch) (slot : Option ℕ) → Contains laid entry → blocks entry.id ≡ Some block → LeadsTo blocks slot (beyond stitch block.rect)
         → holds world (beyond stitch entry.piece.rect).x (beyond stitch entry.piece.rect).y ≡ true
         → LeadsTo (replaced blocks touched laid) slot (beyond stitch entry.piece.rect)
-        ⊎ (Contains (keys_of (around ++ laid)) entry.id × Any (λ e. IsTrue (holds e.piece.rect (beyond stitch entry.piece.rect).x (beyond stitch entry.piece.rect).y)) (around ++ laid))
+        ⊎ AreListed around laid entry.id (beyond stitch entry.piece.rect)
     pending-inside entry block stitch slot found here leads inside =
         let e = entry.piece.rect in
         let at = beyond stitch e in
@@ -237,13 +230,13 @@ module _ (old new : List (ℕ × Tile)) (blocks : ℕ → Option Piece) (touched
     pending-moved :
         (entry : LaidTile) (tile before : Tile) (block : Piece) (stitch : Stitch) → Contains laid entry → blocks entry.id ≡ Some block
         → LeadsTo blocks (stitch_of stitch before) (beyond stitch block.rect) → stitch_of stitch tile ≡ inside_only (beyond stitch entry.piece.rect) (stitch_of stitch before)
-        → IsRightOrListed (replaced blocks touched laid) (around ++ laid) entry.id tile entry.piece stitch
+        → IsRightOrListed (replaced blocks touched laid) around laid entry.id tile entry.piece stitch
     pending-moved entry tile before block stitch found here leads is =
         let at = beyond stitch entry.piece.rect in
         elim (cases_Bool (holds world at.x at.y)) [
           | inl inside ↦
               let kept : stitch_of stitch tile ≡ stitch_of stitch before = is ∙ ap (λ b. cond b (stitch_of stitch before) None) inside in
-              subst (λ slot. LeadsTo (replaced blocks touched laid) slot at ⊎ (Contains (keys_of (around ++ laid)) entry.id × Any (λ e. IsTrue (holds e.piece.rect at.x at.y)) (around ++ laid))) (sym kept)
+              subst (λ slot. LeadsTo (replaced blocks touched laid) slot at ⊎ AreListed around laid entry.id at) (sym kept)
               (pending-inside entry block stitch (stitch_of stitch before) found here leads inside)
           | inr outside ↦
               let none : stitch_of stitch tile ≡ None = is ∙ ap (λ b. cond b (stitch_of stitch before) None) outside in
@@ -253,7 +246,7 @@ module _ (old new : List (ℕ × Tile)) (blocks : ℕ → Option Piece) (touched
     -- so does that of each laid tile
     pending-laid :
         (entry : LaidTile) (tile : Tile) (stitch : Stitch) → Contains laid entry → tile_in new entry.id ≡ Some tile
-        → IsRightOrListed (replaced blocks touched laid) (around ++ laid) entry.id tile entry.piece stitch
+        → IsRightOrListed (replaced blocks touched laid) around laid entry.id tile entry.piece stitch
     pending-laid entry tile stitch found is_tile = elim (cases_Option (tile_in old entry.id)) [
       | inl unused ↦
           let is : tile ≡ unstitched entry.piece = same_Some tile (unstitched entry.piece) (sym is_tile ∙ placed-tile entry found ∙ ap (λ o. Some (placed_at entry.piece o)) unused) in
@@ -267,7 +260,7 @@ module _ (old new : List (ℕ × Tile)) (blocks : ℕ → Option Piece) (touched
     -- an untouched tile that has a square close to one that is lost is listed
     listed-close :
         (key : ℕ) (block : Piece) (p q : Point) → ¬ (Contains touched key) → blocks key ≡ Some block → holds block.rect q.x q.y ≡ true → AreClose p q → IsLostBy blocks touched laid p
-        → Contains (keys_of (around ++ laid)) key
+        → Contains (keys_of around) key
     listed-close key block p q kept is inside close lost =
         let held_here = HoldsAt-block blocks key block q is inside in
         elim (round.whole p q lost close (holds_outer world block.rect q.x q.y (legal-AreBlocks blocks key block tiled.tiling is) inside)) [
@@ -275,7 +268,7 @@ module _ (old new : List (ℕ × Tile)) (blocks : ℕ → Option Piece) (touched
           | inr (k, tile, within, same, in_tile) ↦
               let tile_is = All-contains (λ e. blocks e.id ≡ Some e.piece) around tile round.each (k, within, same) in
               let key_is : tile.id ≡ key = tiled.tiling.apart tile.id key q (HoldsAt-block blocks tile.id tile.piece q tile_is in_tile) held_here in
-              subst (Contains (keys_of (around ++ laid))) key_is (keys_of-listed (around ++ laid) tile (Contains-append_left around laid tile (k, within, same)))
+              subst (Contains (keys_of around)) key_is (keys_of-listed around tile (k, within, same))
         ]
 
     -- a square of a touched tile is lost, or the piece under its key has it
@@ -299,7 +292,7 @@ module _ (old new : List (ℕ × Tile)) (blocks : ℕ → Option Piece) (touched
     pending-stitch :
         (key : ℕ) (block : Piece) (stitch : Stitch) (slot : Option ℕ) → ¬ (Contains touched key) → blocks key ≡ Some block → LeadsTo blocks slot (beyond stitch block.rect)
         → LeadsTo (replaced blocks touched laid) slot (beyond stitch block.rect)
-        ⊎ (Contains (keys_of (around ++ laid)) key × Any (λ entry. IsTrue (holds entry.piece.rect (beyond stitch block.rect).x (beyond stitch block.rect).y)) (around ++ laid))
+        ⊎ AreListed around laid key (beyond stitch block.rect)
     pending-stitch key block stitch None kept is leads = inl leads
     pending-stitch key block stitch (Some other) kept is leads = elim (cases_Contains touched other) [
       | inl (k, within, same) ↦
@@ -309,7 +302,11 @@ module _ (old new : List (ℕ × Tile)) (blocks : ℕ → Option Piece) (touched
             | inl lost ↦
                 let p : Point = corner_square stitch block.rect in
                 let (in_block, close) = corner_close stitch world block.rect (legal-AreBlocks blocks key block tiled.tiling is) in
-                inr (listed-close key block at p kept is in_block (close_back p at close) lost, covered at held)
+                let (entry, found, inside) = covered at held in
+                inr (inr (
+                  listed-close key block at p kept is in_block (close_back p at close) lost,
+                  Any-contained (λ e. IsTrue (holds e.piece.rect at.x at.y)) laid entry found inside,
+                ))
             | inr stays ↦ inl stays
           ]
       | inr other_kept ↦ inl (HoldsAt-stays blocks touched laid may other (beyond stitch block.rect) other_kept leads)
@@ -317,7 +314,7 @@ module _ (old new : List (ℕ × Tile)) (blocks : ℕ → Option Piece) (touched
 
     pending :
         (key : ℕ) (tile : Tile) (block : Piece) (stitch : Stitch) → tile_in new key ≡ Some tile → replaced blocks touched laid key ≡ Some block
-        → IsRightOrListed (replaced blocks touched laid) (around ++ laid) key tile block stitch
+        → IsRightOrListed (replaced blocks touched laid) around laid key tile block stitch
     pending key tile block stitch is_tile is_block = elim (replaced_cases blocks touched laid key block is_block) [
       | inl found ↦ pending-laid (record { id = key; piece = block }) tile stitch found is_tile
       | inr (kept, is_kept) ↦
@@ -326,11 +323,10 @@ module _ (old new : List (ℕ × Tile)) (blocks : ℕ → Option Piece) (touched
     ]
 
     -- so the tiles wait for their stitches
-    pub AwaitStitches-replaced : AwaitStitches new (replaced blocks touched laid) (around ++ laid)
+    pub AwaitStitches-replaced : AwaitStitches new (replaced blocks touched laid) around laid
     AwaitStitches-replaced = record {
-      tiling = AreBlocks-replaced blocks touched laid may tiled.tiling;
-      placed = placed-replaced;
-      listed = listed;
-      once = AllPairs-append (λ p q. p.id ≢ q.id) around laid once may.once across;
+      place = record { tiling = AreBlocks-replaced blocks touched laid may tiled.tiling; placed = placed-replaced };
+      laid_around = laid-around;
+      laid_fresh = laid-fresh;
       pending = pending;
     }

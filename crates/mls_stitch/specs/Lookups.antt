@@ -1,6 +1,7 @@
--- How the tile beyond another is looked up. A stitch sees the squares in lines: columns where it leads to a side, rows where it leads up or down.
-use Rattle.std.specs.Prelude.{◌-◌, Bool, ◌&&◌, ◌||◌, ◌==◌, nat_lt, nat_le, IsTrue, List}
-use Rattle.std.specs.List.{Any, AllPairs}
+-- How the tile beyond another is looked up. A stitch sees the squares in lines: columns where it leads to a side, rows where it leads up or down. The
+-- stitches that lead down or to the left see them from the other end, so that all four see the same.
+use Rattle.std.specs.Prelude.{◌≡◌, ℕ, ◌-◌, ◌<◌, ◌≤◌, Bool, true, false, ◌&&◌, ◌||◌, ◌==◌, nat_lt, nat_le, IsTrue, List, length, slice_index_or}
+use Rattle.std.specs.List.{AllPairs, AllWithin}
 use Rattle.mls_geom.specs.Rects.{Rect, Point, holds}
 use Rattle.mls_stitch.specs.Stitches.{beyond}
 use Rattle.mls_stitch.specs.declared.laid_tile.LaidTile.{LaidTile}
@@ -8,17 +9,28 @@ use Rattle.mls_stitch.specs.declared.lookup.Place.{Place}
 use Rattle.mls_stitch.specs.declared.stitch.Stitch.{Stitch}
 use Rattle.mls_stitch.specs.declared.stitch.Stitch.TheVariants.{Lb, Bl, Tr, Rt}
 
+-- the stitch that leads back over a side
+abbrev pub back_of : Stitch → Stitch
+back_of Lb = Rt
+back_of Bl = Tr
+back_of Tr = Bl
+back_of Rt = Lb
+
+-- a coordinate counted from the other end
+abbrev pub from_end : ℕ → ℕ
+from_end n = 4294967295 - n
+
 -- the line of a square, and its place along that line
 abbrev pub place_of : Stitch → Point → Place
-place_of Lb at = record { line = at.y; along = at.x }
-place_of Bl at = record { line = at.x; along = at.y }
+place_of Lb at = record { line = from_end at.y; along = from_end at.x }
+place_of Bl at = record { line = from_end at.x; along = from_end at.y }
 place_of Tr at = record { line = at.x; along = at.y }
 place_of Rt at = record { line = at.y; along = at.x }
 
 -- the first square of a rectangle on the line that it turns to the tiles whose stitch leads to it
 abbrev pub first_square : Stitch → Rect → Point
-first_square Lb rect = record { x = rect.left; y = rect.top - 1 }
-first_square Bl rect = record { x = rect.right - 1; y = rect.bottom }
+first_square Lb rect = record { x = rect.right - 1; y = rect.top - 1 }
+first_square Bl rect = record { x = rect.right - 1; y = rect.top - 1 }
 first_square Tr rect = record { x = rect.left; y = rect.bottom }
 first_square Rt rect = record { x = rect.left; y = rect.bottom }
 
@@ -37,6 +49,22 @@ is_up_to p q = nat_lt p.line q.line || (p.line == q.line && nat_le p.along q.alo
 abbrev pub AreSortedFor : Stitch → List LaidTile → Type 0
 AreSortedFor stitch = AllPairs (λ p q. IsTrue (is_up_to (start_of stitch p.piece.rect) (start_of stitch q.piece.rect)))
 
--- one of the tiles has the square beyond the rectangle
-abbrev pub IsListedBeyond : Stitch → Rect → List LaidTile → Type 0
-IsListedBeyond stitch rect = Any (λ entry. IsTrue (holds entry.piece.rect (beyond stitch rect).x (beyond stitch rect).y))
+-- the stitch of the one tile is to lead to the other
+abbrev pub leads_to : Stitch → LaidTile → LaidTile → Bool
+leads_to stitch from to = holds to.piece.rect (beyond stitch from.piece.rect).x (beyond stitch from.piece.rect).y
+
+-- the first tiles are those that begin at the square beyond the rectangle or before it
+pub record ArePartedAt (stitch : Stitch) (rect : Rect) (entries : List LaidTile) (count : ℕ) : Type 0 where
+  pub bound : count ≤ length entries
+  pub before : AllWithin (λ entry. is_up_to (start_of stitch entry.piece.rect) (place_beyond stitch rect) ≡ true) entries 0 count
+  pub after : AllWithin (λ entry. is_up_to (start_of stitch entry.piece.rect) (place_beyond stitch rect) ≡ false) entries count (length entries)
+
+-- the last of the first tiles is the one under this key, and passes the test
+pub record IsLastWith (test : LaidTile → Bool) (entries : List LaidTile) (count id : ℕ) : Type 0 where
+  pub some : 0 < count
+  pub is : (d : LaidTile) → (slice_index_or entries (count - 1) d).id ≡ id
+  pub passes : (d : LaidTile) → test (slice_index_or entries (count - 1) d) ≡ true
+
+-- the last of the first tiles doesn't pass the test, if there is one
+abbrev pub HasNoLastWith : (LaidTile → Bool) → List LaidTile → ℕ → Type 0
+HasNoLastWith test entries count = 0 < count → (d : LaidTile) → test (slice_index_or entries (count - 1) d) ≡ false

@@ -1,14 +1,11 @@
-//! Looking up the tile beyond another.
-ghost use Rattle.std.specs.Prelude.{◌≡◌, ◌≤◌, ◌↔◌, ℕ, true, false, Option, IfNone, IfSome, IsSomeAnd, IsTrue, length, slice_get};
-ghost use Rattle.std.specs.List.{All, AllWithin};
+//! Looking up the tiles beyond another.
+ghost use Rattle.std.specs.Prelude.{◌≡◌, ◌-◌, ◌<◌, ◌≤◌, ◌↔◌, true, false, IfNone, IfSome, IsSomeAnd, IsTrue, Some, length, slice_get};
+ghost use Rattle.std.specs.List.{AllWithin};
 ghost use Rattle.std.specs.List.Sorted.{IsPermutation};
 ghost use Rattle.mls_geom.specs.Rects.{holds};
-ghost use Rattle.mls_geom.specs.declared.piece.Piece.{Piece};
 ghost use Rattle.mls_stitch.specs.Placing.{inside_only};
-ghost use Rattle.mls_stitch.specs.Lookups.{AreSortedFor, IsListedBeyond, first_square, is_up_to, place_of, start_of};
-ghost use Rattle.mls_stitch.specs.Stitches.{HoldsAt, beyond};
-ghost use Rattle.mls_stitch.specs.Tilings.{AreBlocks};
-ghost use Rattle.mls_stitch.specs.Walks.{IsLaid};
+ghost use Rattle.mls_stitch.specs.Lookups.{ArePartedAt, AreSortedFor, HasNoLastWith, IsLastWith, back_of, first_square, is_up_to, leads_to, place_of, start_of};
+ghost use Rattle.mls_stitch.specs.Stitches.{beyond};
 
 use crate::{LaidTile, Stitch};
 use mls_geom::Rect;
@@ -64,13 +61,9 @@ impl Square {
     {
         let area = rect.area();
         match stitch {
-            Stitch::Lb => Square {
-                column: area.left,
-                row: area.top - 1,
-            },
-            Stitch::Bl => Square {
+            Stitch::Lb | Stitch::Bl => Square {
                 column: area.right - 1,
-                row: area.bottom,
+                row: area.top - 1,
             },
             Stitch::Tr | Stitch::Rt => Square {
                 column: area.left,
@@ -102,7 +95,8 @@ pub(crate) fn inside_only(stitch: Stitch, rect: Rect, to: Option<TileId>) -> Opt
     }
 }
 
-/// A line of squares as a stitch sees it, and a place along that line.
+/// A line of squares as a stitch sees it, and a place along that line. The stitches that lead down or to the left count
+/// both from the other end.
 #[derive(Clone, Copy, PartialEq, Eq, PartialOrd, Ord)]
 struct Place {
     line: u32,
@@ -115,13 +109,21 @@ impl Place {
         ensures { result ≡ place_of stitch square }
     {
         match stitch {
-            Stitch::Lb | Stitch::Rt => Place {
-                line: square.row,
-                along: square.column,
+            Stitch::Lb => Place {
+                line: u32::MAX - square.row,
+                along: u32::MAX - square.column,
             },
-            Stitch::Bl | Stitch::Tr => Place {
+            Stitch::Bl => Place {
+                line: u32::MAX - square.column,
+                along: u32::MAX - square.row,
+            },
+            Stitch::Tr => Place {
                 line: square.column,
                 along: square.row,
+            },
+            Stitch::Rt => Place {
+                line: square.row,
+                along: square.column,
             },
         }
     }
@@ -195,24 +197,64 @@ fn count_up_to(entries: &[LaidTile], stitch: Stitch, place: Place, near: usize) 
     entries.partition_point(|entry| start(stitch, entry).is_up_to(place))
 }
 
-/// Returns the tile to which the stitch of `tile` leads, or `None` if it is not one of the listed tiles. Looks first
-/// behind the first `near` tiles, and leaves there where to look for the next one.
-pub(crate) fn tile_beyond(
+/// Returns whether the stitch of a tile is to lead to another one.
+fn leads_to(stitch: Stitch, from: &LaidTile, to: &LaidTile) -> bool
+    ensures { result ≡ leads_to stitch from.now to.now }
+{
+    Square::beyond(stitch, from.piece.rect).is_in(to.piece.rect)
+}
+
+/// Returns how many of the tiles begin at the square beyond `tile` or before it. Looks first whether they are `near`
+/// ones, or one more.
+pub(crate) fn count_beyond(
     entries: &[LaidTile],
     stitch: Stitch,
     tile: &LaidTile,
-    near: &mut usize,
-) -> Option<TileId>
+    near: usize,
+) -> usize
     requires { AreSortedFor stitch entries.now }
-    ensures found { IfSome result (λ id. (blocks : ℕ → Option Piece) → All (IsLaid blocks) entries.now
-        → HoldsAt blocks id (beyond stitch tile.now.piece.rect)) }
-    ensures none { IfNone result ((blocks : ℕ → Option Piece) → AreBlocks blocks → All (IsLaid blocks) entries.now
-        → IsLaid blocks tile.now → ¬ (IsListedBeyond stitch tile.now.piece.rect entries.now)) }
+    ensures { ArePartedAt stitch tile.now.piece.rect entries.now result }
 {
     let square = Square::beyond(stitch, tile.piece.rect);
-    let reached = count_up_to(entries, stitch, Place::of(stitch, square), *near);
-    *near = reached;
-    let last = reached.checked_sub(1)?;
-    let entry = entries.get(last)?;
-    square.is_in(entry.piece.rect).then_some(entry.id)
+    count_up_to(entries, stitch, Place::of(stitch, square), near)
+}
+
+/// Returns the last of the first `count` tiles.
+fn last_of(entries: &[LaidTile], count: usize) -> Option<&LaidTile>
+    requires { count ≤ length entries.now }
+    ensures some { IfSome result (λ entry. (0 < count) × (slice_get entries.now (count - 1) ≡ Some entry.now)) }
+    ensures none { IfNone result (count ≡ 0) }
+{
+    entries.get(count.checked_sub(1)?)
+}
+
+/// Returns the last of the first `count` tiles, if the stitch of `tile` is to lead to it.
+pub(crate) fn last_onward(
+    entries: &[LaidTile],
+    stitch: Stitch,
+    tile: &LaidTile,
+    count: usize,
+) -> Option<TileId>
+    requires { count ≤ length entries.now }
+    ensures some { IfSome result (λ id. IsLastWith (λ entry. leads_to stitch tile.now entry) entries.now count id) }
+    ensures none { IfNone result (HasNoLastWith (λ entry. leads_to stitch tile.now entry) entries.now count) }
+{
+    let entry = last_of(entries, count)?;
+    leads_to(stitch, tile, entry).then_some(entry.id)
+}
+
+/// Returns the last of the first `count` tiles, if its stitch over the same side is to lead back to `tile`.
+pub(crate) fn last_back(
+    entries: &[LaidTile],
+    stitch: Stitch,
+    tile: &LaidTile,
+    count: usize,
+) -> Option<TileId>
+    requires { count ≤ length entries.now }
+    ensures some { IfSome result
+        (λ id. IsLastWith (λ entry. leads_to (back_of stitch) entry tile.now) entries.now count id) }
+    ensures none { IfNone result (HasNoLastWith (λ entry. leads_to (back_of stitch) entry tile.now) entries.now count) }
+{
+    let entry = last_of(entries, count)?;
+    leads_to(stitch.back(), entry, tile).then_some(entry.id)
 }

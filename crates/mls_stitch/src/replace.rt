@@ -64,9 +64,11 @@ impl Plane {
             &mut scratch.tiles,
             &mut scratch.entries,
         );
+        let kept = scratch.entries.len();
         place_instead(pool, &self.owner, touched, fresh, &mut scratch.entries);
         self.hints.keep_last(&scratch.entries);
-        stitch_listed(pool, &self.owner, &mut scratch.entries);
+        let (around, laid) = scratch.entries.split_at_mut(kept);
+        stitch_listed(pool, &self.owner, around, laid);
         Ok(())
     }
 }

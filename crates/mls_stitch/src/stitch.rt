@@ -1,5 +1,6 @@
 //! The four stitches of a tile.
 ghost use Rattle.std.specs.Prelude.{◌≡◌};
+ghost use Rattle.mls_stitch.specs.Lookups.{back_of};
 ghost use Rattle.mls_stitch.specs.Stitches.{stitch_of, with_stitch};
 
 use mls_tilepool::{Tile, TileId};
@@ -27,6 +28,18 @@ impl Stitch {
             Stitch::Bl => tile.bl,
             Stitch::Tr => tile.tr,
             Stitch::Rt => tile.rt,
+        }
+    }
+
+    /// Returns the stitch of the tiles beyond a side that leads back over it, where this one leads over that side.
+    pub(crate) fn back(self) -> Stitch
+        ensures { result ≡ back_of self }
+    {
+        match self {
+            Stitch::Lb => Stitch::Rt,
+            Stitch::Bl => Stitch::Tr,
+            Stitch::Tr => Stitch::Bl,
+            Stitch::Rt => Stitch::Lb,
         }
     }
 

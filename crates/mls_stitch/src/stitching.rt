@@ -1,17 +1,30 @@
 //! Setting the stitches of tiles that lie in place.
-ghost use Rattle.std.specs.Prelude.{◌≡◌, ℕ, IfSome, IsSome, Option, Some};
+ghost use Rattle.std.specs.Prelude.{◌≡◌, ◌≤◌, ◌↔◌, ℕ, IfSome, IsSome, IsTrue, Option, Some, length};
+ghost use Rattle.std.specs.List.{All};
+ghost use Rattle.std.specs.List.Sorted.{IsPermutation};
 ghost use Rattle.mls_geom.specs.declared.piece.Piece.{Piece};
 ghost use Rattle.mls_tilepool.specs.Pools.{Changes, count_of, tile_at, tiles_of};
-ghost use Rattle.mls_stitch.specs.Lookups.{AreSortedFor};
-ghost use Rattle.mls_stitch.specs.Pending.{AreStitchedBy, AwaitStitches};
-ghost use Rattle.mls_stitch.specs.Stitches.{with_stitch};
+ghost use Rattle.mls_stitch.specs.Lookups.{ArePartedAt, AreSortedFor, back_of};
+ghost use Rattle.mls_stitch.specs.Pending.{AreInPlace, AreSewn, AwaitStitches, IsLed, IsSewn, KeepStitches};
+ghost use Rattle.mls_stitch.specs.Stitches.{stitch_of, with_stitch};
 ghost use Rattle.mls_stitch.specs.Tilings.{AreTiledAs, ChangesOnly};
+ghost use Rattle.mls_stitch.specs.Walks.{IsLaid};
 
-use crate::lookup::{sort_for, tile_beyond};
+use crate::lookup::{count_beyond, last_back, last_onward, sort_for};
 use crate::{LaidTile, Stitch};
-use mls_tilepool::{Owner, Pool, TileId};
+use mls_tilepool::{Owner, Pool, Tile, TileId};
 
-/// Makes a stitch of one of the owner's tiles lead to the tile `to`.
+/// Returns whether a stitch of the tile leads to the tile `to`.
+fn leads(tile: &Tile, stitch: Stitch, to: TileId) -> bool
+    ensures { IsTrue result → stitch_of stitch tile.now ≡ Some to }
+{
+    match stitch.of(tile) {
+        Some(id) => id == to,
+        None => false,
+    }
+}
+
+/// Makes a stitch of one of the owner's tiles lead to the tile `to`. Doesn't write a tile whose stitch does already.
 fn set_stitch(pool: &mut Pool, owner: &Owner, id: TileId, stitch: Stitch, to: TileId)
     requires { IsSome (tile_at pool.old owner.now id) }
     ensures changes { IfSome (tile_at pool.old owner.now id)
@@ -19,57 +32,184 @@ fn set_stitch(pool: &mut Pool, owner: &Owner, id: TileId, stitch: Stitch, to: Ti
     ensures count { count_of pool.new owner.now ≡ count_of pool.old owner.now }
 {
     if let Some(mut tile) = pool.get(owner, id) {
+        if leads(&tile, stitch, to) {
+            return;
+        }
         stitch.set(&mut tile, Some(to));
         pool.set(owner, id, tile);
     }
 }
 
-/// Sets this stitch of each listed tile that it leads from to a listed tile. The tiles are sorted for it.
-fn stitch_sorted(pool: &mut Pool, owner: &Owner, stitch: Stitch, entries: &[LaidTile])
-    requires sorted { AreSortedFor stitch entries.now }
-    requires awaiting { (blocks : ℕ → Option Piece)
-        × AwaitStitches (tiles_of pool.old owner.now) blocks entries.now }
-    ensures stitched { (blocks : ℕ → Option Piece)
-        → AwaitStitches (tiles_of pool.old owner.now) blocks entries.now
-        → AreStitchedBy stitch (tiles_of pool.old owner.now) (tiles_of pool.new owner.now) blocks entries.now }
+/// Makes the stitch of a tile lead to the last of the first `count` fresh ones, if it is to. These are the ones up to
+/// the square beyond the tile.
+fn stitch_onward(
+    pool: &mut Pool,
+    owner: &Owner,
+    stitch: Stitch,
+    tile: &LaidTile,
+    fresh: &[LaidTile],
+    count: usize,
+)
+    requires sorted { AreSortedFor stitch fresh.now }
+    requires parted { ArePartedAt stitch tile.now.piece.rect fresh.now count }
+    requires place { (blocks : ℕ → Option Piece) × AreInPlace (tiles_of pool.old owner.now) blocks
+        × IsLaid blocks tile.now × All (IsLaid blocks) fresh.now }
+    ensures led { (blocks : ℕ → Option Piece) → AreInPlace (tiles_of pool.old owner.now) blocks
+        → IsLaid blocks tile.now → All (IsLaid blocks) fresh.now
+        → KeepStitches (tiles_of pool.old owner.now) (tiles_of pool.new owner.now) blocks
+        × All (λ other. IsLed (tiles_of pool.new owner.now) blocks stitch tile.now other) fresh.now }
+    ensures count { count_of pool.new owner.now ≡ count_of pool.old owner.now }
+    ensures only { ChangesOnly pool.old pool.new owner.now }
+{
+    if let Some(to) = last_onward(fresh, stitch, tile, count) {
+        set_stitch(pool, owner, tile.id, stitch, to);
+    }
+}
+
+/// Makes those of the first `count` fresh tiles lead back to a tile whose stitch over the same side is to. They are the
+/// last of these, which are the ones up to the square beyond the tile.
+fn stitch_back(
+    pool: &mut Pool,
+    owner: &Owner,
+    stitch: Stitch,
+    tile: &LaidTile,
+    fresh: &[LaidTile],
+    count: usize,
+)
+    requires sorted { AreSortedFor stitch fresh.now }
+    requires parted { ArePartedAt stitch tile.now.piece.rect fresh.now count }
+    requires place { (blocks : ℕ → Option Piece) × AreInPlace (tiles_of pool.old owner.now) blocks
+        × IsLaid blocks tile.now × All (IsLaid blocks) fresh.now }
+    ensures led { (blocks : ℕ → Option Piece) → AreInPlace (tiles_of pool.old owner.now) blocks
+        → IsLaid blocks tile.now → All (IsLaid blocks) fresh.now
+        → KeepStitches (tiles_of pool.old owner.now) (tiles_of pool.new owner.now) blocks
+        × All (λ other. IsLed (tiles_of pool.new owner.now) blocks (back_of stitch) other tile.now) fresh.now }
+    ensures count { count_of pool.new owner.now ≡ count_of pool.old owner.now }
+    ensures only { ChangesOnly pool.old pool.new owner.now }
+{
+    let mut rest = count;
+    'tiles: while let Some(id) = last_back(fresh, stitch, tile, rest) {
+        set_stitch(pool, owner, id, stitch.back(), tile.id);
+        rest -= 1;
+    }
+}
+
+/// Stitches a tile and fresh ones together over one side of the tile. The fresh tiles are sorted for it. Looks first
+/// behind the first `near` of them, and leaves there where to look for the next tile.
+fn stitch_side(
+    pool: &mut Pool,
+    owner: &Owner,
+    stitch: Stitch,
+    tile: &LaidTile,
+    fresh: &[LaidTile],
+    near: &mut usize,
+)
+    requires sorted { AreSortedFor stitch fresh.now }
+    requires place { (blocks : ℕ → Option Piece) × AreInPlace (tiles_of pool.old owner.now) blocks
+        × IsLaid blocks tile.now × All (IsLaid blocks) fresh.now }
+    ensures sewn { (blocks : ℕ → Option Piece) → AreInPlace (tiles_of pool.old owner.now) blocks
+        → IsLaid blocks tile.now → All (IsLaid blocks) fresh.now
+        → IsSewn (tiles_of pool.old owner.now) (tiles_of pool.new owner.now) blocks stitch tile.now fresh.now }
+    ensures count { count_of pool.new owner.now ≡ count_of pool.old owner.now }
+    ensures only { ChangesOnly pool.old pool.new owner.now }
+{
+    let count = count_beyond(fresh, stitch, tile, *near);
+    *near = count;
+    stitch_onward(pool, owner, stitch, tile, fresh, count);
+    stitch_back(pool, owner, stitch, tile, fresh, count);
+}
+
+/// Stitches each of the tiles and fresh ones together over one side of the tile. The fresh tiles are sorted for it.
+fn stitch_sides(
+    pool: &mut Pool,
+    owner: &Owner,
+    stitch: Stitch,
+    tiles: &[LaidTile],
+    fresh: &[LaidTile],
+)
+    requires sorted { AreSortedFor stitch fresh.now }
+    requires place { (blocks : ℕ → Option Piece) × AreInPlace (tiles_of pool.old owner.now) blocks
+        × All (IsLaid blocks) tiles.now × All (IsLaid blocks) fresh.now }
+    ensures sewn { (blocks : ℕ → Option Piece) → AreInPlace (tiles_of pool.old owner.now) blocks
+        → All (IsLaid blocks) tiles.now → All (IsLaid blocks) fresh.now
+        → AreSewn (tiles_of pool.old owner.now) (tiles_of pool.new owner.now) blocks stitch tiles.now fresh.now }
     ensures count { count_of pool.new owner.now ≡ count_of pool.old owner.now }
     ensures only { ChangesOnly pool.old pool.new owner.now }
 {
     let mut near = 0;
-    for entry in entries {
-        if let Some(to) = tile_beyond(entries, stitch, entry, &mut near) {
-            set_stitch(pool, owner, entry.id, stitch, to);
-        }
+    for tile in tiles {
+        stitch_side(pool, owner, stitch, tile, fresh, &mut near);
     }
 }
 
-/// Sets this stitch of each listed tile that it leads from to a listed tile.
-fn stitch_all(pool: &mut Pool, owner: &Owner, stitch: Stitch, entries: &mut [LaidTile])
-    requires { (blocks : ℕ → Option Piece)
-        × AwaitStitches (tiles_of pool.old owner.now) blocks entries.old }
-    ensures stitched { (blocks : ℕ → Option Piece)
-        → AwaitStitches (tiles_of pool.old owner.now) blocks entries.old
-        → AreStitchedBy stitch (tiles_of pool.old owner.now) (tiles_of pool.new owner.now) blocks entries.new }
+/// Stitches the tiles around and fresh ones together over one side of each tile around, if there are any.
+fn stitch_around(
+    pool: &mut Pool,
+    owner: &Owner,
+    stitch: Stitch,
+    around: &[LaidTile],
+    fresh: &mut [LaidTile],
+)
+    requires { (blocks : ℕ → Option Piece) × AreInPlace (tiles_of pool.old owner.now) blocks
+        × All (IsLaid blocks) around.now × All (IsLaid blocks) fresh.old }
+    ensures sewn { (blocks : ℕ → Option Piece) → AreInPlace (tiles_of pool.old owner.now) blocks
+        → All (IsLaid blocks) around.now → All (IsLaid blocks) fresh.old
+        → AreSewn (tiles_of pool.old owner.now) (tiles_of pool.new owner.now) blocks stitch around.now fresh.new }
+    ensures moved { IsPermutation fresh.old fresh.new }
     ensures count { count_of pool.new owner.now ≡ count_of pool.old owner.now }
     ensures only { ChangesOnly pool.old pool.new owner.now }
 {
-    sort_for(stitch, entries);
-    stitch_sorted(pool, owner, stitch, entries);
+    if around.is_empty() {
+        return;
+    }
+    sort_for(stitch, fresh);
+    stitch_sides(pool, owner, stitch, around, fresh);
 }
 
-/// Sets each stitch of the listed tiles that leads to a listed tile. In the order of n log n for n tiles.
-pub(crate) fn stitch_listed(pool: &mut Pool, owner: &Owner, entries: &mut [LaidTile])
+/// Stitches the tiles around and fresh ones together over one side of each tile around, and the fresh ones over the
+/// same side and the one across.
+fn stitch_all(
+    pool: &mut Pool,
+    owner: &Owner,
+    stitch: Stitch,
+    around: &[LaidTile],
+    fresh: &mut [LaidTile],
+)
+    requires { (blocks : ℕ → Option Piece) × AreInPlace (tiles_of pool.old owner.now) blocks
+        × All (IsLaid blocks) around.now × All (IsLaid blocks) fresh.old }
+    ensures sewn { (blocks : ℕ → Option Piece) → AreInPlace (tiles_of pool.old owner.now) blocks
+        → All (IsLaid blocks) around.now → All (IsLaid blocks) fresh.old
+        → AreSewn (tiles_of pool.old owner.now) (tiles_of pool.new owner.now) blocks stitch around.now fresh.new
+        × AreSewn (tiles_of pool.old owner.now) (tiles_of pool.new owner.now) blocks stitch fresh.new fresh.new }
+    ensures moved { IsPermutation fresh.old fresh.new }
+    ensures count { count_of pool.new owner.now ≡ count_of pool.old owner.now }
+    ensures only { ChangesOnly pool.old pool.new owner.now }
+{
+    sort_for(stitch, fresh);
+    stitch_sides(pool, owner, stitch, around, fresh);
+    stitch_sides(pool, owner, stitch, fresh, fresh);
+}
+
+/// Sets each stitch of the fresh tiles and of those around them that leads from or to a fresh tile. In the order of
+/// n log n for n tiles.
+pub(crate) fn stitch_listed(
+    pool: &mut Pool,
+    owner: &Owner,
+    around: &[LaidTile],
+    fresh: &mut [LaidTile],
+)
     // Some blocks are those as which the tiles are placed.
-    requires { (blocks : ℕ → Option Piece) × AwaitStitches (tiles_of pool.old owner.now) blocks entries.old }
-    ensures stitched { (blocks : ℕ → Option Piece) → AwaitStitches (tiles_of pool.old owner.now) blocks entries.old
+    requires { (blocks : ℕ → Option Piece) × AwaitStitches (tiles_of pool.old owner.now) blocks around.now fresh.old }
+    ensures stitched { (blocks : ℕ → Option Piece)
+        → AwaitStitches (tiles_of pool.old owner.now) blocks around.now fresh.old
         → AreTiledAs (tiles_of pool.new owner.now) blocks }
     ensures count { count_of pool.new owner.now ≡ count_of pool.old owner.now }
     ensures only { ChangesOnly pool.old pool.new owner.now }
 {
-    // Tiles of one height are in order for both stitches between rows at once, and those of one width for both between
-    // columns, so that the second sort of each two finds them sorted.
-    stitch_all(pool, owner, Stitch::Lb, entries);
-    stitch_all(pool, owner, Stitch::Rt, entries);
-    stitch_all(pool, owner, Stitch::Bl, entries);
-    stitch_all(pool, owner, Stitch::Tr, entries);
+    // Tiles of one height are in order for both stitches between rows at once, but from the other end, and those of one
+    // width for both between columns.
+    stitch_all(pool, owner, Stitch::Rt, around, fresh);
+    stitch_around(pool, owner, Stitch::Lb, around, fresh);
+    stitch_all(pool, owner, Stitch::Tr, around, fresh);
+    stitch_around(pool, owner, Stitch::Bl, around, fresh);
 }

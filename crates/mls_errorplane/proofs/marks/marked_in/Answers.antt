@@ -26,11 +26,3 @@ returns-clause-value c =
     c.loop-tile.invariant
     ∙ ap (λ (list : List LaidTile). sum_by (marked_part c.args.rect) list) (take_all c.loop-tile.tile-index tiles c.loop-tile-test.false ∙ c.tiles-tile-items.ensures)
     ∙ sym (marked_count-found c.args.pool.now c.args.plane.now c.args.rect c.find_area.new.scratch.tiles c.requires.plane c.find_area.ensures.found)
-
-pub returns-clause-few : goal.returns-clause-few
-returns-clause-few c =
-    let picture = picture_in c.args.pool.now c.args.plane.now in
-    let tiles = c.tiles-tile-items.result.now in
-    let whole = marked_count-found c.args.pool.now c.args.plane.now c.args.rect c.find_area.new.scratch.tiles c.requires.plane c.find_area.ensures.found in
-    let all = ap (λ (list : List LaidTile). sum_by (marked_part c.args.rect) list) (take_all c.loop-tile.tile-index tiles c.loop-tile-test.false ∙ c.tiles-tile-items.ensures) in
-    omega (arith, c.loop-tile.invariant, all, whole, marked_count-part world c.args.rect picture c.lies_in_world.ensures)

@@ -1,0 +1,95 @@
+-- Parts beside which tiles show a set of squares.
+use Rattle.std.proofs.Common.{◌≡◌, ℕ, ◌+◌, ◌<◌, Bool, ◌||◌, true, false, if◌then◌else◌, inl, inr, List, get_or, length, take, All, refl, sym, ap, subst, ◌∙◌, arith}
+use Rattle.std.proofs.Math.Path.{fun_ext}
+use Rattle.std.proofs.lemmas.Bool.{both_ways, cases_Bool, cond-false, cond-true, false_from_ne_true}
+use Rattle.std.proofs.lemmas.List.Elements.{All-contains, All-push}
+use Rattle.std.proofs.lemmas.List.Folds.{list_any_more}
+use Rattle.mls_geom.specs.Pictures.{overlaid}
+use Rattle.mls_geom.specs.declared.piece.Piece.{Piece}
+use Rattle.mls_geom.specs.Rects.{Rect, IsRectangleIn, IsWithin, common, holds}
+use Rattle.mls_tilepool.specs.Pools.{Pool, tiles_of}
+use Rattle.mls_stitch.specs.Areas.{MeetArea}
+use Rattle.mls_stitch.specs.Tilings.{HasPlane, block_at}
+use Rattle.mls_stitch.specs.declared.laid_tile.LaidTile.{LaidTile}
+use Rattle.mls_paint.specs.Planes.{picture_in}
+use Rattle.mls_checker.specs.Findings.{Finding}
+use Rattle.mls_checker.specs.Marking.{Marks, SquareSet, marks, squares_of}
+use Rattle.mls_checker.proofs.Copying.{found-HasPiece}
+use Rattle.mls_checker.proofs.Prefixes.{take_next}
+use Rattle.mls_errorplane.specs.MarkPlanes.{remarked}
+use Rattle.mls_errorplane.specs.PaintedMarks.{Paints, ShowsBeside}
+use Rattle.mls_errorplane.proofs.PaintedPieces.{holds_inside, overlaid-part}
+
+-- ---- areas
+either : (P : Type 0) (a b : Bool) → (a || b) ≡ true → (a ≡ true → P) → (b ≡ true → P) → P
+either P true b both one other = one refl
+either P false b both one other = other both
+
+-- a square of the areas so far and the next is of those or of this
+pub held-next :
+    {P : Type 0} → (areas : List Rect) (i : ℕ) (area : Rect) (x y : ℕ) → i < length areas → area ≡ get_or areas i area → squares_of (take (i + 1) areas) x y ≡ true
+    → (squares_of (take i areas) x y ≡ true → P) → (holds area x y ≡ true → P) → P
+held-next {P} areas i area x y within is here before in_area =
+    let next : squares_of (take (i + 1) areas) x y ≡ (squares_of (take i areas) x y || holds area x y) =
+    list_any_more (λ (e : Rect). holds e x y) areas i area within ∙ ap (λ (e : Rect). squares_of (take i areas) x y || holds e x y) (sym is) in
+    either P (squares_of (take i areas) x y) (holds area x y) (sym next ∙ here) before in_area
+
+-- what a rectangle has in common with another one lies in that
+pub common_within : (rect tile part area : Rect) → area ≡ rect → part ≡ common tile area → IsWithin rect part
+common_within rect tile part area is same = rw same (rw is (record {
+  left = omega arith;
+  bottom = omega arith;
+  right = omega arith;
+  top = omega arith;
+}))
+
+-- ---- tiles
+-- where more squares are left out, a tile shows the set beside them, too
+beside-wider :
+    (rect part wider : Rect) (set : SquareSet) (tile : LaidTile) → ((x y : ℕ) → holds part x y ≡ true → holds wider x y ≡ true) → ShowsBeside rect part set tile
+    → ShowsBeside rect wider set tile
+beside-wider rect part wider set tile more shows x y here out held =
+    shows x y here (false_from_ne_true (holds part x y) (λ inside. both_ways (holds wider x y) out (more x y inside))) held
+
+-- tiles so far and the next
+pub beside-next :
+    (rect part wider : Rect) (set : SquareSet) (tiles : List LaidTile) (i : ℕ) (tile : LaidTile) → i < length tiles → tile ≡ get_or tiles i tile
+    → ((x y : ℕ) → holds part x y ≡ true → holds wider x y ≡ true) → All (ShowsBeside rect part set) (take i tiles) → ShowsBeside rect wider set tile
+    → All (ShowsBeside rect wider set) (take (i + 1) tiles)
+beside-next rect part wider set tiles i tile within is more shows new =
+    rw (take_next tiles i tile within is)
+    (All-push (ShowsBeside rect wider set) (take i tiles) tile (λ k d at. beside-wider rect part wider set (get_or (take i tiles) k d) more (shows k d at)) new)
+
+-- ---- pictures
+-- where tiles show a set beside a part, marking the part anew is marking the rectangle anew
+pub remarked-part :
+    (pool : Pool) (owner : ℕ) (rect part : Rect) (found : List LaidTile) (set : SquareSet) → HasPlane pool owner → MeetArea (block_at (tiles_of pool owner)) rect found
+    → IsRectangleIn rect part → All (ShowsBeside rect part set) found → remarked (picture_in pool owner) part set ≡ remarked (picture_in pool owner) rect set
+remarked-part pool owner rect part found set plane are inside shows = fun_ext (λ x. fun_ext (λ y.
+    let below = picture_in pool owner x y in
+    let marked : ℕ = if set x y then 1 else 0 in
+    elim (cases_Bool (holds part x y)) [
+      | inl here ↦ cond-true (holds part x y) marked below here ∙ sym (cond-true (holds rect x y) marked below (holds_inside rect part x y inside here))
+      | inr out ↦ cond-false (holds part x y) marked below out ∙ elim (cases_Bool (holds rect x y)) [
+        | inl here ↦ (let (k, tile, within, is, held) = are.whole x y here in
+            found-HasPiece pool owner rect found found k tile plane are refl within (sym is) x y held
+            ∙ All-contains (ShowsBeside rect part set) found tile shows (k, within, is) x y here out held
+            ∙ sym (cond-true (holds rect x y) marked below here))
+        | inr outside ↦ sym (cond-false (holds rect x y) marked below outside)
+      ]
+    ]))
+
+-- so painting the part gives the picture with the finding's marks
+pub overlaid-found :
+    (pool : Pool) (owner : ℕ) (pieces over : List Piece) (part area : Rect) (found : Marks) (finding : Finding) (tiles listed : List LaidTile) → HasPlane pool owner
+    → MeetArea (block_at (tiles_of pool owner)) area tiles → area ≡ found.rect → listed ≡ tiles → IsRectangleIn found.rect part
+    → All (ShowsBeside found.rect part (marks found)) listed → Paints pieces part (marks found) → over ≡ pieces → found ≡ finding.marks → finding.marks.rect ≡ finding.piece
+    → overlaid (picture_in pool owner) over ≡ remarked (picture_in pool owner) finding.piece (marks finding.marks)
+overlaid-found pool owner pieces over part area found finding tiles listed plane are of_marks same inside shows paints named is of_piece =
+    let below = picture_in pool owner in
+    let here : MeetArea (block_at (tiles_of pool owner)) found.rect listed =
+    subst (λ (list : List LaidTile). MeetArea (block_at (tiles_of pool owner)) found.rect list) (sym same)
+    (subst (λ (e : Rect). MeetArea (block_at (tiles_of pool owner)) e tiles) of_marks are) in
+    overlaid-part pieces over part (marks found) below paints named
+    ∙ remarked-part pool owner found.rect part listed (marks found) plane here inside shows
+    ∙ ap (λ (m : Marks). remarked below m.rect (marks m)) is ∙ ap (λ (e : Rect). remarked below e (marks finding.marks)) of_piece

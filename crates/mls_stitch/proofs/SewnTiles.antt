@@ -1,0 +1,260 @@
+-- Tiles are stitched to fresh ones, one by one: each leads to the last of those up to the square beyond it, and the last of these lead back.
+use Rattle.std.proofs.Common.{◌≡◌, ℕ, ◌+◌, ◌-◌, ◌<◌, ◌≤◌, Bool, true, List, length, get_or, All, Some, Option, sym, ap, subst, ◌∙◌, arith, inl, inr}
+use Rattle.std.specs.List.{AllWithin}
+use Rattle.std.specs.List.Sorted.{IsPermutation}
+use Rattle.std.proofs.lemmas.Bool.{cases_lt, false≢true}
+use Rattle.std.proofs.lemmas.List.Elements.{All-contains, AllWithin-more, Contains-append_cases, at_read}
+use Rattle.std.proofs.lemmas.List.Sorted.{IsPermutation-refl, IsPermutation-sym, IsPermutation-trans}
+use Rattle.std.proofs.lemmas.Option.{same_Some}
+use Rattle.mls_geom.specs.declared.piece.Piece.{Piece}
+use Rattle.mls_tilepool.specs.declared.tile.Tile.{Tile}
+use Rattle.mls_stitch.proofs.FreshTiles.{entry-keys_of}
+use Rattle.mls_stitch.proofs.SettingStitches.{AreLed-later, IsSet, KeepStitches-refl, KeepStitches-set, KeepStitches-trans, set_is_right}
+use Rattle.mls_stitch.proofs.Sides.{HoldsAt-block, placed_tile}
+use Rattle.mls_stitch.proofs.TilesBeyond.{back_early, back_later, last_has_beyond}
+use Rattle.mls_stitch.specs.Lookups.{ArePartedAt, AreSortedFor, HasNoLastWith, IsLastWith, back_of, leads_to}
+use Rattle.mls_stitch.specs.Pending.{AreInPlace, AreLed, AreListed, AreSewn, AwaitStitches, IsLed, IsSewn, IsStitchedAt, KeepStitches}
+use Rattle.mls_stitch.specs.Stitches.{HoldsAt, LeadsTo, beyond, stitch_of}
+use Rattle.mls_stitch.specs.Tilings.{AreTiledAs}
+use Rattle.mls_stitch.specs.Walks.{IsLaid}
+use Rattle.mls_stitch.specs.declared.laid_tile.LaidTile.{LaidTile}
+use Rattle.mls_stitch.specs.declared.stitch.Stitch.{Stitch}
+use Rattle.mls_stitch.specs.declared.stitch.Stitch.TheVariants.{Lb, Bl, Tr, Rt}
+
+-- the tiles while those that lead back are set: those of the last ones before the count are right
+pub record ArePartlyBack (old new : List (ℕ × Tile)) (blocks : ℕ → Option Piece) (stitch : Stitch) (entries : List LaidTile) (rest count : ℕ) : Type 0 where
+  pub keeps : KeepStitches old new blocks
+  pub done : AllWithin (λ other. IsStitchedAt new blocks (back_of stitch) other.id) entries rest count
+
+-- the last of the first tiles lies as its block
+pub last_laid :
+    (blocks : ℕ → Option Piece) (test : LaidTile → Bool) (entries : List LaidTile) (count id : ℕ) (d : LaidTile) → All (IsLaid blocks) entries → count ≤ length entries → IsLastWith test entries count id
+    → blocks id ≡ Some (get_or entries (count - 1) d).piece
+last_laid blocks test entries count id d listed bound last = ap blocks (sym (last.is d)) ∙ listed (count - 1) d (omega (arith, bound, last.some))
+
+module _
+    {blocks : ℕ → Option Piece} (stitch : Stitch) (tile : LaidTile) (entries : List LaidTile) (count : ℕ) (listed : All (IsLaid blocks) entries) (laid : IsLaid blocks tile)
+    (sorted : AreSortedFor stitch entries) (parted : ArePartedAt stitch tile.piece.rect entries count)
+  where
+    -- a tile whose stitch is to lead to the last of the first ones leads to each to which it is to lead, once it is set
+    pub onward_set :
+        {old new : List (ℕ × Tile)} {id : ℕ} {was : Tile} → AreInPlace old blocks → IsLastWith (λ entry. leads_to stitch tile entry) entries count id → IsSet stitch old new tile.id id was
+        → KeepStitches old new blocks × All (λ other. IsLed new blocks stitch tile other) entries
+    onward_set {id} place last change =
+        let there = last_laid blocks (λ entry. leads_to stitch tile entry) entries count id tile listed parted.bound last in
+        let held : HoldsAt blocks id (beyond stitch tile.piece.rect) = HoldsAt-block blocks id (get_or entries (count - 1) tile).piece (beyond stitch tile.piece.rect) there (last.passes tile) in
+        (KeepStitches-set tile.piece change laid held place, λ k d within led. set_is_right blocks tile.piece change laid held)
+
+    -- and it does so without that, where its stitch isn't to lead to the last of the first ones
+    pub onward_none :
+        {tiles : List (ℕ × Tile)} → AreInPlace tiles blocks → HasNoLastWith (λ entry. leads_to stitch tile entry) entries count
+        → KeepStitches tiles tiles blocks × All (λ other. IsLed tiles blocks stitch tile other) entries
+    onward_none place none = (
+      KeepStitches-refl place,
+      λ k d within led.
+          let (some, passes) = last_has_beyond stitch tile entries count place.tiling listed laid sorted parted k d within led in
+          absurd (false≢true (sym (none some d) ∙ passes)),
+    )
+
+    pub ArePartlyBack-start : {tiles : List (ℕ × Tile)} → AreInPlace tiles blocks → ArePartlyBack tiles tiles blocks stitch entries count count
+    ArePartlyBack-start place = record { keeps = KeepStitches-refl place; done = λ k d low high. absurd (omega (arith, low, high)) }
+
+    -- one more is set
+    pub ArePartlyBack-set :
+        {old now new : List (ℕ × Tile)} {rest id : ℕ} {was : Tile} (back : Stitch) → back ≡ back_of stitch → rest ≤ count → ArePartlyBack old now blocks stitch entries rest count
+        → IsLastWith (λ entry. leads_to (back_of stitch) entry tile) entries rest id → IsSet back now new id tile.id was → ArePartlyBack old new blocks stitch entries (rest - 1) count
+    ArePartlyBack-set {now} {new} {rest} {id} {was} back is bound part last set =
+        let change : IsSet (back_of stitch) now new id tile.id was = subst (λ (s : Stitch). IsSet s now new id tile.id was) is set in
+        let e = get_or entries (rest - 1) tile in
+        let there = last_laid blocks (λ entry. leads_to (back_of stitch) entry tile) entries rest id tile listed (omega (arith, bound, parted.bound)) last in
+        let held : HoldsAt blocks tile.id (beyond (back_of stitch) e.piece.rect) = HoldsAt-block blocks tile.id tile.piece (beyond (back_of stitch) e.piece.rect) laid (last.passes tile) in
+        let keeps : KeepStitches now new blocks = KeepStitches-set e.piece change there held part.keeps.place in
+        let right : IsStitchedAt new blocks (back_of stitch) id = set_is_right blocks e.piece change there held in
+        record {
+          keeps = KeepStitches-trans part.keeps keeps;
+          done = λ k d low high. elim (cases_lt k rest) [
+            | inl before ↦
+                let one : k ≡ rest - 1 = omega (arith, low, before) in
+                subst (IsStitchedAt new blocks (back_of stitch)) (sym (ap (λ n. (get_or entries n d).id) one ∙ last.is d)) right
+            | inr after ↦ keeps.kept (back_of stitch) (get_or entries k d).id (part.done k d after high)
+          ];
+        }
+
+    -- none before them leads back
+    pub ArePartlyBack-end :
+        {old new : List (ℕ × Tile)} {rest : ℕ} → rest ≤ count → ArePartlyBack old new blocks stitch entries rest count → HasNoLastWith (λ entry. leads_to (back_of stitch) entry tile) entries rest
+        → KeepStitches old new blocks × All (λ other. IsLed new blocks (back_of stitch) other tile) entries
+    ArePartlyBack-end {rest} bound part none = (
+      part.keeps,
+      λ k d within led.
+          let tiling = part.keeps.place.tiling in
+          let early : k < count = back_early stitch tile entries count tiling listed laid sorted parted k d within led in
+          elim (cases_lt k rest) [
+            | inl before ↦
+                let passes = back_later stitch tile entries count tiling listed laid sorted parted k (rest - 1) d (omega (arith, before)) (omega (arith, before, bound)) led in
+                absurd (false≢true (sym (none (omega (arith, before)) d) ∙ passes))
+            | inr after ↦ part.done k d after early
+          ],
+    )
+
+-- the tiles while sides are sewn: those of the first tiles are
+pub record ArePartlySewn (old new : List (ℕ × Tile)) (blocks : ℕ → Option Piece) (stitch : Stitch) (tiles fresh : List LaidTile) (index : ℕ) : Type 0 where
+  pub keeps : KeepStitches old new blocks
+  pub onward : AllWithin (λ tile. All (λ other. IsLed new blocks stitch tile other) fresh) tiles 0 index
+  pub back : AllWithin (λ tile. All (λ other. IsLed new blocks (back_of stitch) other tile) fresh) tiles 0 index
+
+pub ArePartlySewn-start :
+    {now : List (ℕ × Tile)} {blocks : ℕ → Option Piece} {stitch : Stitch} {tiles fresh : List LaidTile} → AreInPlace now blocks → ArePartlySewn now now blocks stitch tiles fresh 0
+ArePartlySewn-start place = record {
+  keeps = KeepStitches-refl place;
+  onward = λ k d low high. absurd (omega (arith, high));
+  back = λ k d low high. absurd (omega (arith, high));
+}
+
+pub ArePartlySewn-more :
+    {old now new : List (ℕ × Tile)} {blocks : ℕ → Option Piece} {stitch : Stitch} {tiles fresh : List LaidTile} {index : ℕ} (tile : LaidTile)
+    → ArePartlySewn old now blocks stitch tiles fresh index → index < length tiles → tile ≡ get_or tiles index tile → IsSewn now new blocks stitch tile fresh
+    → ArePartlySewn old new blocks stitch tiles fresh (index + 1)
+ArePartlySewn-more {new} {blocks} {stitch} {tiles} {fresh} {index} tile part within is sewn = record {
+  keeps = KeepStitches-trans part.keeps sewn.keeps;
+  onward = AllWithin-more (λ (t : LaidTile). All (λ other. IsLed new blocks stitch t other) fresh) tiles 0 index
+      (λ k d low high i e inside led. sewn.keeps.kept stitch (get_or tiles k d).id (part.onward k d low high i e inside led))
+      (at_read tiles (λ (t : LaidTile). All (λ other. IsLed new blocks stitch t other) fresh) index tile within is sewn.onward);
+  back = AllWithin-more (λ (t : LaidTile). All (λ other. IsLed new blocks (back_of stitch) other t) fresh) tiles 0 index
+      (λ k d low high i e inside led. sewn.keeps.kept (back_of stitch) (get_or fresh i e).id (part.back k d low high i e inside led))
+      (at_read tiles (λ (t : LaidTile). All (λ other. IsLed new blocks (back_of stitch) other t) fresh) index tile within is sewn.back);
+}
+
+pub AreSewn-end :
+    {old new : List (ℕ × Tile)} {blocks : ℕ → Option Piece} {stitch : Stitch} {tiles fresh : List LaidTile} → ArePartlySewn old new blocks stitch tiles fresh (length tiles)
+    → AreSewn old new blocks stitch tiles fresh
+AreSewn-end part = record {
+  keeps = part.keeps;
+  onward = λ k d within. part.onward k d (omega arith) within;
+  back = λ i e inside k d within. part.back k d (omega arith) within i e inside;
+}
+
+-- no tiles are sewn to any
+pub AreSewn-none :
+    {now : List (ℕ × Tile)} {blocks : ℕ → Option Piece} {stitch : Stitch} {tiles fresh : List LaidTile} → AreInPlace now blocks → length tiles ≡ 0 → AreSewn now now blocks stitch tiles fresh
+AreSewn-none place none = record {
+  keeps = KeepStitches-refl place;
+  onward = λ k d within. absurd (omega (arith, within, none));
+  back = λ i e inside k d within. absurd (omega (arith, within, none));
+}
+
+-- tiles around and fresh ones lead to each other by this stitch
+record AreAllLed (tiles : List (ℕ × Tile)) (blocks : ℕ → Option Piece) (stitch : Stitch) (around fresh : List LaidTile) : Type 0 where
+  inward : AreLed tiles blocks stitch around fresh
+  among : AreLed tiles blocks stitch fresh fresh
+  outward : AreLed tiles blocks stitch fresh around
+
+-- a stitch of a listed tile that is to lead to a listed one does, where at least one of the two is fresh
+led_listed :
+    {tiles : List (ℕ × Tile)} {blocks : ℕ → Option Piece} (stitch : Stitch) (around fresh : List LaidTile) (key : ℕ) (block : Piece) → AreAllLed tiles blocks stitch around fresh
+    → All (IsLaid blocks) around → All (IsLaid blocks) fresh → blocks key ≡ Some block → AreListed around fresh key (beyond stitch block.rect) → IsStitchedAt tiles blocks stitch key
+led_listed {tiles} {blocks} stitch around fresh key block led laid_around laid_fresh laid (inl (key_in, (k, other, within, same, held))) =
+    let (entry, found, is) = entry-keys_of fresh key key_in in
+    let one : block ≡ entry.piece = same_Some block entry.piece (sym laid ∙ ap blocks (sym is) ∙ All-contains (IsLaid blocks) fresh entry laid_fresh found) in
+    let leads : leads_to stitch entry other ≡ true = subst (λ (p : Piece). leads_to stitch (record { id = key; piece = p }) other ≡ true) one held in
+    subst (IsStitchedAt tiles blocks stitch) is (elim (Contains-append_cases around fresh other (k, within, same)) [
+      | inl beside ↦
+          All-contains (λ e. IsLed tiles blocks stitch entry e) around other (All-contains (λ e. All (λ o. IsLed tiles blocks stitch e o) around) fresh entry led.outward found) beside leads
+      | inr own ↦
+          All-contains (λ e. IsLed tiles blocks stitch entry e) fresh other (All-contains (λ e. All (λ o. IsLed tiles blocks stitch e o) fresh) fresh entry led.among found) own leads
+    ])
+led_listed {tiles} {blocks} stitch around fresh key block led laid_around laid_fresh laid (inr (key_in, (k, other, within, same, held))) =
+    let (entry, found, is) = entry-keys_of around key key_in in
+    let one : block ≡ entry.piece = same_Some block entry.piece (sym laid ∙ ap blocks (sym is) ∙ All-contains (IsLaid blocks) around entry laid_around found) in
+    let leads : leads_to stitch entry other ≡ true = subst (λ (p : Piece). leads_to stitch (record { id = key; piece = p }) other ≡ true) one held in
+    subst (IsStitchedAt tiles blocks stitch) is
+    (All-contains (λ e. IsLed tiles blocks stitch entry e) fresh other (All-contains (λ e. All (λ o. IsLed tiles blocks stitch e o) fresh) around entry led.inward found) (k, within, same) leads)
+
+-- what holds of the four stitches holds of each
+each_stitch : (P : Stitch → Type 0) → P Lb → P Bl → P Tr → P Rt → (stitch : Stitch) → P stitch
+each_stitch P lb bl tr rt Lb = lb
+each_stitch P lb bl tr rt Bl = bl
+each_stitch P lb bl tr rt Tr = tr
+each_stitch P lb bl tr rt Rt = rt
+
+-- so all stitches lead where they are to lead
+all_stitched :
+    {old new : List (ℕ × Tile)} {blocks : ℕ → Option Piece} {around fresh : List LaidTile} → AwaitStitches old blocks around fresh → KeepStitches old new blocks
+    → ((stitch : Stitch) → AreAllLed new blocks stitch around fresh) → AreTiledAs new blocks
+all_stitched {old} {new} {blocks} {around} {fresh} waits keeps led = record {
+  tiling = keeps.place.tiling;
+  placed = keeps.place.placed;
+  stitched = λ key tile block stitch there laid.
+      let (before, was, here) = placed_tile old blocks key block (waits.place.placed key) laid in
+      let right : IsStitchedAt new blocks stitch key = elim (waits.pending key before block stitch was laid) [
+        | inl leads ↦
+            keeps.kept stitch key (λ now shape is is_shape.
+            subst (λ (t : Tile). LeadsTo blocks (stitch_of stitch t) (beyond stitch shape.rect)) (same_Some before now (sym was ∙ is))
+            (subst (λ (p : Piece). LeadsTo blocks (stitch_of stitch before) (beyond stitch p.rect)) (same_Some block shape (sym laid ∙ is_shape)) leads))
+        | inr listed ↦ led_listed stitch around fresh key block (led stitch) waits.laid_around waits.laid_fresh laid listed
+      ] in
+      right tile block there laid;
+}
+
+-- four rounds, over the four sides of the tiles around, of which two sew the fresh tiles to each other
+module _
+    {a b c d e : List (ℕ × Tile)} {blocks : ℕ → Option Piece} {around f g h i j : List LaidTile} (waits : AwaitStitches a blocks around f) (fg : IsPermutation f g) (gh : IsPermutation g h)
+    (hi : IsPermutation h i) (ij : IsPermutation i j) (up : AreSewn a b blocks Rt around g) (rows : AreSewn a b blocks Rt g g) (down : AreSewn b c blocks Lb around h) (right : AreSewn c d blocks Tr around i)
+    (columns : AreSewn c d blocks Tr i i) (left : AreSewn d e blocks Bl around j)
+  where
+    -- each list is the first one in another order
+    to_f : IsPermutation g f
+    to_f = IsPermutation-sym f g fg
+
+    from_h : IsPermutation h f
+    from_h = IsPermutation-sym f h (IsPermutation-trans f g h fg gh)
+
+    from_i : IsPermutation i f
+    from_i = IsPermutation-sym f i (IsPermutation-trans f h i (IsPermutation-trans f g h fg gh) hi)
+
+    from_j : IsPermutation j f
+    from_j = IsPermutation-sym f j (IsPermutation-trans f i j (IsPermutation-trans f h i (IsPermutation-trans f g h fg gh) hi) ij)
+
+    same : IsPermutation around around
+    same = IsPermutation-refl around
+
+    -- and what leads where it is to lead after a round still does in the end
+    after_b : KeepStitches b e blocks
+    after_b = KeepStitches-trans down.keeps (KeepStitches-trans right.keeps left.keeps)
+
+    after_c : KeepStitches c e blocks
+    after_c = KeepStitches-trans right.keeps left.keeps
+
+    at_end : KeepStitches e e blocks
+    at_end = KeepStitches-refl left.keeps.place
+
+    by_lb : AreAllLed e blocks Lb around f
+    by_lb = record {
+      inward = AreLed-later Lb after_c same from_h down.onward;
+      among = AreLed-later Lb after_b to_f to_f rows.back;
+      outward = AreLed-later Lb after_b to_f same up.back;
+    }
+
+    by_rt : AreAllLed e blocks Rt around f
+    by_rt = record {
+      inward = AreLed-later Rt after_b same to_f up.onward;
+      among = AreLed-later Rt after_b to_f to_f rows.onward;
+      outward = AreLed-later Rt after_c from_h same down.back;
+    }
+
+    by_bl : AreAllLed e blocks Bl around f
+    by_bl = record {
+      inward = AreLed-later Bl at_end same from_j left.onward;
+      among = AreLed-later Bl left.keeps from_i from_i columns.back;
+      outward = AreLed-later Bl left.keeps from_i same right.back;
+    }
+
+    by_tr : AreAllLed e blocks Tr around f
+    by_tr = record {
+      inward = AreLed-later Tr left.keeps same from_i right.onward;
+      among = AreLed-later Tr left.keeps from_i from_i columns.onward;
+      outward = AreLed-later Tr at_end from_j same left.back;
+    }
+
+    pub AreTiledAs-sewn : AreTiledAs e blocks
+    AreTiledAs-sewn = all_stitched waits (KeepStitches-trans up.keeps after_b) (each_stitch (λ stitch. AreAllLed e blocks stitch around f) by_lb by_bl by_tr by_rt)

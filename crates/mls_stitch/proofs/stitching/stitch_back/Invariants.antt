@@ -1,0 +1,20 @@
+use Rattle.std.proofs.Common.{◌≡◌, ℕ, ◌≤◌, Option, All}
+use Rattle.mls_geom.specs.declared.piece.Piece.{Piece}
+use Rattle.mls_tilepool.specs.Pools.{count_of, tiles_of}
+use Rattle.mls_stitch.specs.Pending.{AreInPlace}
+use Rattle.mls_stitch.specs.Tilings.{ChangesOnly}
+use Rattle.mls_stitch.specs.Walks.{IsLaid}
+use Rattle.mls_stitch.proofs.SewnTiles.{ArePartlyBack}
+use Rattle.mls_stitch.proofs.stitching.stitch_back.Given as goal
+
+abbrev pub invariant-tiles : goal.invariant-tiles
+invariant-tiles l = record {
+  bound : l.rest ≤ l.count;
+  led : (blocks : ℕ → Option Piece) → AreInPlace (tiles_of l.fn.pool l.owner) blocks → IsLaid blocks l.tile → All (IsLaid blocks) l.fresh
+      → ArePartlyBack (tiles_of l.fn.pool l.owner) (tiles_of l.pool l.owner) blocks l.stitch l.fresh l.rest l.count;
+  same : count_of l.pool l.owner ≡ count_of l.fn.pool l.owner;
+  only : ChangesOnly l.fn.pool l.pool l.owner;
+}
+
+abbrev pub decreases-tiles : goal.decreases-tiles
+decreases-tiles l = l.rest
