@@ -616,7 +616,7 @@ class WorkersTrial(Trial):
 
 
 class LiveTrial(WorkersTrial):
-    """A script whose lines are answered as they come, and whose growths are refused."""
+    """A script whose lines are carried out as they come, and whose growths are refused."""
 
     def by_line(self, replies):
         """Returns the reply to each line that has one, by the line's place. Those of each name must be to the first of

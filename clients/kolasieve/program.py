@@ -19,7 +19,7 @@ class Ended(Exception):
 
 
 class Program:
-    """A running magicd. It is enough that lines of one session are answered in their order."""
+    """A running magicd. It is enough that lines of one session are carried out in their order."""
 
     def __init__(self, process, on_end):
         self.process = process

@@ -28,7 +28,7 @@ class Asked:
 class Session:
     """A session that is in use at this relay.
 
-    Its lines are answered in their order. A command that its journal has is durable before its reply is passed on; any
+    Its lines are carried out in their order. A command that its journal has is durable before its reply is passed on; any
     other reply is passed on once it is certain that the relay still held the session when it came.
     """
 
@@ -154,11 +154,11 @@ class Session:
             for (row, line), waiting in zip(asked, replies):
                 check_played(row, line, await waiting)
         finally:
-            # What was asked is answered before the session is closed or used.
+            # What was asked is replied to before the session is closed or used.
             await asyncio.gather(*replies, return_exceptions=True)
 
     async def leave(self):
-        """Closes the session in its magicd, once its lines are answered. The log has it still, if there is one."""
+        """Closes the session in its magicd, once its lines are replied to. The log has it still, if there is one."""
         while self.task is not None:
             await asyncio.wait([self.task])
         if self.program is not None:

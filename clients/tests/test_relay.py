@@ -114,3 +114,37 @@ class ManyConnections(RelayCase):
         refused = subprocess.run(self.command("--quota", "x"), stderr=subprocess.PIPE, text=True, timeout=20)
         self.assertEqual(refused.returncode, 1)
         self.assertIn("magicd doesn't start", refused.stderr)
+
+
+class Ports(RelayCase):
+    def start(self):
+        probe = socket.socket()
+        probe.bind(("127.0.0.1", 0))
+        self.port = probe.getsockname()[1]
+        probe.close()
+        self.token = self.folder / "token"
+        words = [str(HERE.parent / "relay"), "--listen", f"127.0.0.1:{self.port}", "--token", str(self.token), "--server", SERVER]
+        self.relay = subprocess.Popen(words, stderr=self.messages, start_new_session=True)
+        self.wait_for(("127.0.0.1", self.port))
+
+    def test_the_token_opens(self):
+        self.assertEqual(stat.S_IMODE(os.stat(self.token).st_mode), 0o600)
+        right, wrong = (Client(("127.0.0.1", self.port)) for _ in range(2))
+        right.send(self.token.read_text().strip())
+        self.assertEqual(right.ask("%open a"), ["a opened"])
+        wrong.send("guess", "%open b")
+        self.assertEqual([wrong.reply(), wrong.reply()], ["@ token refused", ""])
+        right.close()
+        wrong.close()
+
+    def test_a_port_in_use(self):
+        words = [str(HERE.parent / "relay"), "--listen", f"127.0.0.1:{self.port}", "--token", str(self.folder / "other")]
+        second = subprocess.run(words, stderr=subprocess.PIPE, text=True, timeout=20)
+        self.assertEqual(second.returncode, 1)
+        self.assertIn("address already in use", second.stderr)
+
+    def test_another_address(self):
+        words = [str(HERE.parent / "relay"), "--listen", "0.0.0.0:7777"]
+        refused = subprocess.run(words, stderr=subprocess.PIPE, text=True, timeout=20)
+        self.assertEqual(refused.returncode, 1)
+        self.assertIn("only the loopback address is listened at without --tls", refused.stderr)

@@ -315,7 +315,7 @@ fn push_said_alone<N: Scripted>(
     }
 }
 
-/// Appends the answer to a line of this name.
+/// Appends the reply to a line of this name.
 #[tactic(auto, unfolding(mls_wire::specs::Replies::response_text))]
 fn push_answer<N: Scripted>(
     hall: &Hall,

@@ -1,4 +1,4 @@
-//! Lines that are answered as they come: a thread for each session's name, and workers that check beside them.
+//! Lines that are carried out as they come: a thread for each session's name, and workers that check beside them.
 #![tactic(auto)]
 
 mod answering;

@@ -1,4 +1,4 @@
-//! A server whose lines are answered as they come.
+//! A server whose lines are carried out as they come.
 ghost use Rattle.std.specs.Prelude.{◌≡◌, ◌≢◌, ℕ, List, [], IfOk, IfErr, OnOk, OnErr};
 ghost use Rattle.mls_server.specs.Servers.{world_of};
 ghost use Rattle.mls_server.specs.Settings.{terms_for};
@@ -138,7 +138,7 @@ fn serve_as<N: Scripted + Send + Sync, I: Read, W: Write + Send, T: Threads + Wa
     Ok(Served { audited })
 }
 
-/// Reads the lines, answers them and writes the replies, all at once.
+/// Reads the lines, carries them out and writes the replies, all at once.
 fn run<N: Scripted + Send + Sync, I: Read, W: Write + Send, T: Threads + Wait + Sync>(
     rt: &T,
     shared: (&Hall, Live<N>),
@@ -166,7 +166,7 @@ fn run<N: Scripted + Send + Sync, I: Read, W: Write + Send, T: Threads + Wait + 
     } = ends;
     let mut desk = Some(desk);
     let mut crew = Some((places, workers));
-    // Where no thread can be made, the second of two runs first: so the lines are read, answered, and replied to.
+    // Where no thread can be made, the second of two runs first: so the lines are read, carried out, and replied to.
     let ((written, answered), read) = join_mut(
         rt,
         &mut || -> (Result<(), WriteFault>, Result<bool, AllocError>)

@@ -24,7 +24,7 @@ pub struct Desk<N: Scripted> {
     pub replies: Sender<Reply<N>, Global>,
 }
 
-/// Reads the lines of the script, and hands each to the thread of its name, or answers it where there is none.
+/// Reads the lines of the script, and hands each to the thread of its name, or replies to it where there is none.
 ///
 /// Returns at the end of the input, or before the next line once the output failed or memory ran out.
 pub fn read_lines<N: Scripted, I: Read, R: Wait>(
@@ -56,7 +56,7 @@ pub fn read_lines<N: Scripted, I: Read, R: Wait>(
     Ok(())
 }
 
-/// Hands a line to the thread of its name, or answers it where there is none.
+/// Hands a line to the thread of its name, or replies to it where there is none.
 fn hand<N: Scripted, R: Wait>(
     rt: &R,
     hall: &Hall,

@@ -89,7 +89,7 @@ fn start<'s, E, N: Scripted + Send + Sync + 's, R: Threads + Wait + Sync>(
 /// Answers the lines of names, one name at a time, and closes the session that is open at the end. Returns whether the
 /// list of each session was audited at its end.
 ///
-/// Once a reply was lost, for want of memory, no line of the thread is answered any more.
+/// Once a reply was lost because memory ran out, no line of the thread is carried out any more.
 fn answer_lines<'l, N: Scripted, R: Wait>(
     rt: &R,
     hall: &'l Hall,

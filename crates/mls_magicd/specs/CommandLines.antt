@@ -74,7 +74,7 @@ number_named option words = one_of option.name (matches_of magicd words)
 unfoldable pub live_named : List Text → Option Text
 live_named words = one_of (codes "live") (matches_of magicd words)
 
--- the words ask for lines that are answered as they come
+-- the words ask for lines that are carried out as they come
 abbrev pub AskForLive : List Text → Type 0
 AskForLive words = live_named words ≡ Some (codes "true")
 

@@ -35,7 +35,7 @@ pub enum Fault<'a> {
     /// The script was left before its end.
     #[error(transparent)]
     Serve(ServeFault),
-    /// What a session was told isn't what its journal has.
+    /// A session's replies aren't those of its journal.
     #[error("audit differs")]
     Differs,
 }

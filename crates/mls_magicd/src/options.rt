@@ -33,7 +33,7 @@ pub struct Options<'a> {
     pub cell_tiles: CellTiles,
     /// How many workers check behind the sessions.
     pub workers: Workers,
-    /// Whether lines are answered as they come, beside the workers.
+    /// Whether lines are carried out as they come, beside the workers.
     pub live: bool,
     /// The cells, in order.
     pub cells: Vec<CellArgument<'a>>,
@@ -194,7 +194,7 @@ fn live_option<'a>(alloc: Global) -> Arg<'a>
     Arg::new(alloc, "live")
         .long("live")
         .action(ArgAction::SetTrue)
-        .help("Answers each session's lines as they come, beside the workers")
+        .help("Replies to each line as soon as it is carried out, beside the workers")
 }
 
 fn cells_argument<'a>(alloc: Global) -> Arg<'a>

@@ -253,7 +253,7 @@ fn serve_crew<'a, T: Threads + Wait + Sync, F: Files, R: Read, W: Write, E: Writ
     Ok(())
 }
 
-/// Runs the program with lines that are answered as they come.
+/// Runs the program with lines that are carried out as they come.
 fn run_live<T: Threads + Wait + Sync, F: Files, R: Read, W: Write + Send, E: Write>(
     rt: &T,
     alloc: Global,
@@ -313,7 +313,7 @@ fn serve_live<'a, T: Threads + Wait + Sync, F: Files, R: Read, W: Write + Send, 
     Ok(())
 }
 
-/// Does what comes before lines that are answered as they come: makes the server, loads the cells, and notes what names
+/// Does what comes before lines that are carried out as they come: makes the server, loads the cells, and notes what names
 /// mean.
 fn start_lines<'a, F: Files, E: Write>(
     alloc: Global,

@@ -88,7 +88,7 @@ fn line_of_a_million_bytes(rt: HostRuntime) -> Result<(), Fail> {
 /// How many random lines there are.
 const RANDOM_LINES: u32 = 100_000;
 
-/// How many of them are answered as they come.
+/// How many of them are carried out as they come.
 const LIVE_LINES: u32 = 20_000;
 
 /// Lines that can be read.

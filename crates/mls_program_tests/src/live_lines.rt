@@ -1,13 +1,15 @@
-//! The whole program with lines that are answered as they come: each session's replies, names that are closed and opened
+//! The whole program with lines that are carried out as they come: each session's replies, names that are closed and opened
 //! again, opens that are refused, and streams that fail.
 use crate::cells::{CELL, NamedFiles};
 use crate::devices::{BROKEN, TroubledReader, TroubledWriter};
 use crate::programs::{Ending, ended, ended_on, ended_with};
 use rand::RngExt;
 use rand_pcg::Pcg32;
-use std::alloc::{AllocError, Global};
+use std::alloc::{Alloc, AllocError, Global};
 use std::process::Abort;
+use std::sync::Wait;
 use std::test::Fail;
+use std::thread::Threads;
 
 const FILES: NamedFiles<'static> = NamedFiles {
     files: &[("c.mag", CELL)],
@@ -133,8 +135,8 @@ fn replies_of(alloc: Global, output: &[u8], name: &str) -> Result<Vec<u8>, Alloc
 }
 
 /// Asserts that a run ended well, and that each session had the replies that its own lines have alone.
-fn expect_parts(
-    rt: &HostRuntime,
+fn expect_parts<T: Threads + Wait + Sync + Alloc<A = Global> + Abort>(
+    rt: &T,
     ending: &Ending,
     parts: &[String],
 ) -> Result<(), Fail> {
@@ -144,7 +146,11 @@ fn expect_parts(
         let alone = ended(rt, ALONE, &FILES, part.as_bytes());
         let replies = replies_of(rt.alloc(), &ending.output, name)?;
         assert!(rt; !alone.output.is_empty());
-        assert_eq!(rt; replies.as_slice(), alone.output.as_slice(), "session {name}");
+        assert_eq!(rt;
+            replies.as_slice(),
+            alone.output.as_slice(),
+            "session {name}"
+        );
     }
     Ok(())
 }
@@ -209,7 +215,10 @@ fn more_names_than_threads(rt: HostRuntime) -> Result<(), Fail> {
     let script = openings(rt.alloc(), 70)?;
     let ending = ended(&rt, LIVE, &FILES, script.as_bytes());
     assert_eq!(rt; count_ends(&ending.output, b" opened"), 64);
-    assert_eq!(rt; count_ends(&ending.output, b" refused open 2 sessions full"), 6);
+    assert_eq!(rt;
+        count_ends(&ending.output, b" refused open 2 sessions full"),
+        6
+    );
     assert_eq!(rt; ending.status, 0);
     Ok(())
 }
@@ -228,8 +237,10 @@ fn refused_names_leave_their_threads(rt: HostRuntime) -> Result<(), Fail> {
 
 #[test]
 fn lines_of_no_session(rt: HostRuntime) -> Result<(), Fail> {
-    let script = b"# none\n\nb what\n%step a\n%steps a 3\n%open\n%open a-b\n%open x y\n%close\n%uses c\nc box 1\n";
-    let replies = b"line 3 fault 4 not open\nline 4 fault 1 unknown command\nline 5 fault 1 unknown command\nline 6 fault 3 name\nline 7 fault 3 name\nline 8 fault 1 unknown command\nline 9 fault 3 name\nline 10 fault 4 not open\nline 11 fault 1 unknown command\n";
+    let script =
+        b"# none\n\nb what\n%step a\n%steps a 3\n%open\n%open a-b\n%open x y\n%close\n%uses c\nc box 1\n";
+    let replies =
+        b"line 3 fault 4 not open\nline 4 fault 1 unknown command\nline 5 fault 1 unknown command\nline 6 fault 3 name\nline 7 fault 3 name\nline 8 fault 1 unknown command\nline 9 fault 3 name\nline 10 fault 4 not open\nline 11 fault 1 unknown command\n";
     let ending = ended(&rt, LIVE, &FILES, script);
     assert_eq!(rt; ending.status, 0);
     // The thread of the name `x` may be done with line 8 after the others.
@@ -242,8 +253,10 @@ fn lines_of_no_session(rt: HostRuntime) -> Result<(), Fail> {
 
 #[test]
 fn lines_of_one_session(rt: HostRuntime) -> Result<(), Fail> {
-    let script = b"%open a\n%open a\n%step a\n%foo a\na box 0 0 1 10\na sing\na paint poly\n%close a b\na drc why\n%audit a\n%close a\na what\n";
-    let replies = b"a opened\na refused open 1 open already\nline 3 fault 1 unknown command\nline 4 fault 1 unknown command\na ok\nline 6 fault 1 unknown command\na ok\nline 8 fault 1 unknown command\na why 0\na audited 3\na closed\nline 12 fault 4 not open\n";
+    let script =
+        b"%open a\n%open a\n%step a\n%foo a\na box 0 0 1 10\na sing\na paint poly\n%close a b\na drc why\n%audit a\n%close a\na what\n";
+    let replies =
+        b"a opened\na refused open 1 open already\nline 3 fault 1 unknown command\nline 4 fault 1 unknown command\na ok\nline 6 fault 1 unknown command\na ok\nline 8 fault 1 unknown command\na why 0\na audited 3\na closed\nline 12 fault 4 not open\n";
     let ending = ended(&rt, LIVE, &FILES, script);
     assert_eq!(rt; ending.status, 0);
     assert_eq!(rt; ending.output.as_slice(), replies.as_slice());
@@ -260,7 +273,10 @@ fn input_that_fails(rt: HostRuntime) -> Result<(), Fail> {
     let ending = ended_on(&rt, LIVE, &FILES, input);
     assert_eq!(rt; ending.status, 1);
     assert_eq!(rt; ending.output.as_slice(), b"a opened\na ok\n".as_slice());
-    assert_eq!(rt; ending.messages.as_slice(), b"magicd: input failed\n".as_slice());
+    assert_eq!(rt;
+        ending.messages.as_slice(),
+        b"magicd: input failed\n".as_slice()
+    );
     Ok(())
 }
 

@@ -1,4 +1,4 @@
-//! The whole program with workers: groups of replies, lines that are answered at once, and streams that fail.
+//! The whole program with workers: groups of replies, lines that are replied to at once, and streams that fail.
 use crate::cells::{CELL, NamedFiles};
 use crate::devices::{BROKEN, TroubledReader, TroubledWriter};
 use crate::programs::{ended, ended_on, ended_with, expect_ended, expect_row};

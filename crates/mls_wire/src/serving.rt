@@ -17,6 +17,9 @@ use std::alloc::{AllocError, Global};
 use std::io::{Read, Write};
 use thiserror::Error;
 
+/// How many bytes the memory for a reply may have to stay for the next one.
+const KEPT_BYTES: usize = 65_536;
+
 /// Why a script was left before its end.
 #[derive(Clone, Copy, Debug, PartialEq, Eq, Error)]
 #[error("{}", self.text())]
@@ -152,7 +155,15 @@ fn serve_line<W: Write>(
     text.clear();
     push_response(server, n, &response, text)?;
     send(text, output)?;
+    give_back(alloc, text);
     Ok(())
+}
+
+/// Gives the memory of a reply's text back where it is more than a usual reply needs.
+fn give_back(alloc: Global, text: &mut Vec<u8>) {
+    if text.capacity() > KEPT_BYTES {
+        *text = Vec::new(alloc);
+    }
 }
 
 /// Writes bytes and flushes them.
