@@ -18,7 +18,7 @@ use Rattle.mls_session.specs.declared.change.Change.{Change}
 use Rattle.mls_session.specs.declared.reply.Reply.{Reply}
 use Rattle.mls_session.specs.declared.reply.Reply.TheVariants.{Done, Refused}
 use Rattle.mls_session.specs.declared.refusal.Refusal.TheVariants.{Quota}
-use Rattle.mls_session.proofs.FirstPlanes.{any_at}
+use Rattle.mls_library.proofs.FirstPlanes.{any_at}
 
 -- the plane of the layout would have more tiles
 abbrev pub exceeds : ℕ → Layout → ℕ → Bool

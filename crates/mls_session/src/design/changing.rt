@@ -8,8 +8,8 @@ ghost use Rattle.mls_session.specs.OwnSteps.{design_step};
 ghost use Rattle.mls_session.specs.Setups.{config_of};
 
 use super::Design;
-use crate::bounds::dumped_rect;
-use crate::change::{Change, cell_leaves_world};
+use crate::bounds::placed_bounds;
+use crate::change::Change;
 use crate::{Command, Refusal, Reply, Setup};
 use mls_geom::Rect;
 use mls_kinds::KindSet;
@@ -75,11 +75,10 @@ impl Design {
             return Reply::Refused(Refusal::UnknownCell);
         };
         let planes = cell.planes();
-        let Workspace { pool, scratch, .. } = workspace;
-        if cell_leaves_world(pool, planes, dx, dy, scratch) {
-            return Reply::Refused(Refusal::CellOutside);
-        }
-        let rect = dumped_rect(pool, planes, dx, dy, scratch);
+        let rect = match placed_bounds(cell.bounds(), dx, dy) {
+            Ok(rect) => rect,
+            Err(refusal) => return Reply::Refused(refusal),
+        };
         self.change(setup, &Change::Dump { planes, dx, dy }, rect, workspace)
     }
 
@@ -108,15 +107,13 @@ impl Design {
         let Some(cell) = setup.library.get(id) else {
             return Reply::Refused(Refusal::UnknownCell);
         };
-        let planes = cell.planes();
-        let Workspace { pool, scratch, .. } = workspace;
-        if cell_leaves_world(pool, planes, dx, dy, scratch) {
-            return Reply::Refused(Refusal::CellOutside);
-        }
+        let rect = match placed_bounds(cell.bounds(), dx, dy) {
+            Ok(rect) => rect,
+            Err(refusal) => return Reply::Refused(refusal),
+        };
         if self.uses.len() >= MOST_USES {
             return Reply::Refused(Refusal::TooManyUses);
         }
-        let rect = dumped_rect(pool, planes, dx, dy, scratch);
         self.uses.push_reserved(CellUse { cell: id, dx, dy });
         self.soil(&setup.rules, rect);
         Reply::Done

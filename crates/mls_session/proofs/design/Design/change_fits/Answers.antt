@@ -6,7 +6,7 @@ use Rattle.mls_paint.specs.Planes.{HasStrips, layout_in, picture_in}
 use Rattle.mls_session.specs.Inner.{CanChange, changed, changed_layout}
 use Rattle.mls_session.specs.Designs.{Design}
 use Rattle.mls_session.proofs.ChangedQuotas.{exceeds, exceeds-fits, exceeds-more, exceeds_quota-more, exceeds_quota-none}
-use Rattle.mls_session.proofs.FirstPlanes.{any_more}
+use Rattle.mls_library.proofs.FirstPlanes.{any_more}
 use Rattle.mls_session.proofs.HomePlanes.{HasStrips-at, planes_kept}
 use Rattle.mls_session.proofs.design.Design.change_fits.Goals as goal
 

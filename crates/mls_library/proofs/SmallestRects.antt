@@ -10,9 +10,8 @@ use Rattle.mls_geom.specs.World.{world}
 use Rattle.mls_geom.proofs.Holds.{between_holds, holds_between}
 use Rattle.mls_geom.proofs.PiecePictures.{holds_outer}
 use Rattle.mls_geom.proofs.Squares.{Contains-range_with_len, range_with_len-Contains}
-use Rattle.mls_session.specs.Bounds.{bounds_of, column_has, row_has}
-use Rattle.mls_session.specs.Inner.{round_both}
-use Rattle.mls_session.proofs.LineEnds.{back_above, back_fails, back_of, front_below, front_fails, front_of}
+use Rattle.mls_library.specs.Bounds.{bounds_of, column_has, round_both, row_has}
+use Rattle.mls_library.proofs.LineEnds.{back_above, back_fails, back_of, front_below, front_fails, front_of}
 
 -- the world has the square, which passes the test
 abbrev pub Passes : (ℕ → ℕ → Bool) → ℕ → ℕ → Type 0
@@ -152,6 +151,26 @@ same_bounds test None None one other = refl
 same_bounds test None (Some b) one other = absurd (one b.left other.on_left.0 other.on_left.1)
 same_bounds test (Some a) None one other = absurd (other a.left one.on_left.0 one.on_left.1)
 same_bounds test (Some a) (Some b) one other = ap (λ e. Some e) (same_smallest test a b one other)
+
+-- the rectangle depends on the squares of the world alone
+pub same_squares : (s t : ℕ → ℕ → Bool) → ((x y : ℕ) → holds world x y ≡ true → s x y ≡ t x y) → bounds_of s ≡ bounds_of t
+same_squares s t same = same_bounds t (bounds_of s) (bounds_of t) (by (bounds_of s) (IsBounds-bounds_of s)) (IsBounds-bounds_of t)
+  where
+    onward : (x y : ℕ) → Passes s x y → Passes t x y
+    onward x y passes = (passes.0, sym (same x y passes.0) ∙ passes.1)
+
+    back : (x y : ℕ) → Passes t x y → Passes s x y
+    back x y passes = (passes.0, same x y passes.0 ∙ passes.1)
+
+    by : (found : Option Rect) → IsBounds s found → IsBounds t found
+    by None none = λ x y passes. none x y (back x y passes)
+    by (Some e) smallest = record {
+      each = λ x y passes. smallest.each x y (back x y passes);
+      on_left = (smallest.on_left.0, onward e.left smallest.on_left.0 smallest.on_left.1);
+      on_bottom = (smallest.on_bottom.0, onward smallest.on_bottom.0 e.bottom smallest.on_bottom.1);
+      on_right = let (x, y, is, passes) = smallest.on_right in (x, y, is, onward x y passes);
+      on_top = let (x, y, is, passes) = smallest.on_top in (x, y, is, onward x y passes);
+    }
 
 -- ---- round the squares of two tests
 or_cases : (a b : Bool) → (a || b) ≡ true → (a ≡ true) ⊎ (b ≡ true)
