@@ -4,6 +4,7 @@ pub mod CheckedMarks
 pub mod CheckedSquares
 pub mod CoveredOnce
 pub mod DirtySquares
+pub mod DroppedRows
 pub mod EmptyLayouts
 pub mod FinishedFindings
 pub mod FoundCounts
@@ -11,14 +12,18 @@ pub mod FoundTotals
 pub mod KeptLists
 pub mod KeptRooms
 pub mod MarkCounts
+pub mod NextStretches
 pub mod PaintedAreas
 pub mod PaintedPieces
 pub mod RangeSums
-pub mod RectCounts
 pub mod Recounts
+pub mod RectCounts
 pub mod ShownBeside
 pub mod ShownMarks
 pub mod SquareCounts
 pub mod StepsDone
+pub mod StretchSteps
+pub mod UniformLayouts
+pub mod UniformPlanes
 pub mod ViolatedNear
 pub mod ViolatedParts

@@ -1,5 +1,5 @@
 -- Check steps one after another: what they keep, and that they come to an end.
-use Rattle.std.proofs.Common.{◌≡◌, ◌≢◌, ℕ, zero, suc, ◌+◌, ◌*◌, ◌^◌, ◌<◌, ◌≤◌, List, [], ◌∷◌, length, get_or, All, refl, sym, ap, subst, arith, add-one}
+use Rattle.std.proofs.Common.{◌≡◌, ◌≢◌, ℕ, zero, suc, ◌+◌, ◌*◌, ◌^◌, ◌<◌, ◌≤◌, List, [], ◌∷◌, get_or, All, None, refl, sym, ap, subst, arith, add-one}
 use Rattle.mls_edgerule.specs.declared.edge_rule.EdgeRule.{EdgeRule}
 use Rattle.mls_geom.specs.Layouts.{Layout}
 use Rattle.mls_geom.specs.Rects.{Rect}
@@ -16,7 +16,7 @@ use Rattle.mls_layout.specs.declared.uses.Uses.{Uses}
 use Rattle.mls_layout.proofs.FlatLayouts.{HasCells-ChangesAmong, flat_layout-ChangesAmong}
 use Rattle.mls_errorplane.specs.CatchingUp.{AfterSteps, HasCaughtUp, Steps}
 use Rattle.mls_errorplane.specs.Checkings.{Checking, IsChecked}
-use Rattle.mls_errorplane.specs.DirtyLists.{IsDirtyList, area_of, dropped}
+use Rattle.mls_errorplane.specs.DirtyLists.{IsDirtyList, area_of, dropped, first_piece_of}
 use Rattle.mls_errorplane.specs.ErrorPlanes.{HasStepped}
 use Rattle.mls_errorplane.specs.declared.catching_up.CaughtUp.TheVariants as caught_up
 use Rattle.mls_errorplane.specs.declared.error_plane.Stepped.TheVariants as stepped
@@ -61,10 +61,10 @@ pub few-Done :
     → HasStepped rules layout limit old stepped.Done new → count + 1 + area_of new.dirty ≤ 65 * 2 ^ 32
 few-Done rules layout limit count old new kept few step = omega (arith, few kept, area_of-Done rules layout limit old new kept step)
 
--- a list without areas is empty
-pub no_areas : (areas : List Rect) → (0 < length areas → ⊥) → areas ≡ []
-no_areas [] none = refl
-no_areas (first ∷ rest) none = absurd (none (omega arith))
+-- a list without a first piece is empty
+pub no_piece : (areas : List Rect) → first_piece_of areas ≡ None → areas ≡ []
+no_piece [] none = refl
+no_piece (first ∷ rest) none = absurd (cc)
 
 -- ---- planes
 -- a change of one owner's tiles leaves the planes of others, and the layout on them

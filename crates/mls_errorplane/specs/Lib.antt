@@ -8,3 +8,4 @@ pub mod Jobs
 pub mod MarkPlanes
 pub mod Outcomes
 pub mod PaintedMarks
+pub mod Stretches

@@ -28,6 +28,8 @@ impl ErrorPlane {
     /// Checks piece after piece in a layout on these planes with the uses, until no area awaits checking or a step
     /// isn't done.
     ///
+    /// Where each plane shows one kind round many pieces, and their marks are right already, they are checked as one.
+    ///
     /// The steps that were done stay so. The planes and the cells must be of other owners than the error plane.
     pub fn catch_up(
         &mut self,
@@ -55,9 +57,12 @@ impl ErrorPlane {
         ensures owners { planes.new ≡ planes.old }
     {
         let mut done = 0;
-        'steps: while self.areas() > 0 {
+        'steps: while let Some(piece) = self.dirty.first_piece() {
             match self.step(alloc, planes, basis, limit, workspace) {
-                Stepped::Done => done += 1,
+                Stepped::Done => {
+                    let more = self.drop_alike(planes, basis, piece, workspace);
+                    done += 1 + more;
+                }
                 Stepped::Idle => return CaughtUp::Done,
                 Stepped::Full => return CaughtUp::Full,
                 Stepped::Memory => return CaughtUp::Memory { steps: done },

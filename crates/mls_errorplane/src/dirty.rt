@@ -6,7 +6,9 @@ ghost use Rattle.mls_geom.specs.World.{world};
 ghost use Rattle.mls_errorplane.specs.MarkPlanes.{most_pieces};
 ghost use Rattle.mls_errorplane.specs.DirtyLists as spec;
 ghost use Rattle.mls_errorplane.specs.DirtyLists.{IsDirtyList, added, dropped, first_piece_of, united, zone_round};
+ghost use Rattle.mls_errorplane.specs.Stretches.{DropsIn, IsNext, with_rest};
 
+use crate::stretch::Stretch;
 use mls_geom::Rect;
 use mls_layout::MARK_ROOM;
 use std::alloc::{AllocError, Global};
@@ -17,7 +19,7 @@ use std::marker::Model;
 const MOST_AREAS: usize = 64;
 
 /// A piece is at most this wide and this high.
-const PIECE_SIDE: u32 = 256;
+pub(crate) const PIECE_SIDE: u32 = 256;
 
 /// The areas of a layout that await checking, which are checked piece by piece, those added first before others.
 ///
@@ -68,6 +70,7 @@ impl Dirty {
         ensures piece { result ≡ first_piece_of self.now }
         ensures legal { IfSome result (IsRectangleIn world) }
         ensures few { IfSome result (λ piece. most_pieces piece ≤ MARK_ROOM) }
+        ensures kept { IsDirtyList self.now }
     {
         let first = self.areas.front()?;
         Some(piece_of(*first))
@@ -79,6 +82,25 @@ impl Dirty {
         ensures { self.new ≡ dropped self.old }
     {
         drop_piece(&mut self.areas);
+    }
+
+    /// Returns the next pieces as a stretch: `most` pieces of the first area, if it is no higher than a piece, and else
+    /// `most` rows of them. If the area has fewer, returns all of it.
+    pub(crate) fn next_stretch(&self, most: u32) -> Option<Stretch>
+        requires { 1 ≤ most }
+        ensures next { IfSome result (λ stretch. IsNext self.now stretch) }
+        ensures kept { IsDirtyList self.now }
+    {
+        let first = self.areas.front()?;
+        Some(Stretch::of(*first, most))
+    }
+
+    /// Takes the pieces of a stretch out of the list, which are its next ones.
+    pub(crate) fn drop_stretch(&mut self, stretch: &Stretch)
+        requires { IsNext self.old stretch.now }
+        ensures { DropsIn stretch.now.rect stretch.now.pieces self.old self.new }
+    {
+        replace_first(&mut self.areas, stretch.rest);
     }
 
     /// Copies the areas, in their order.
@@ -170,5 +192,19 @@ fn drop_piece(areas: &mut VecDeque<Rect>)
     }
     if piece.right < area.right {
         areas.push_front_reserved(Rect::between(piece.right, area.bottom, area.right, piece.top));
+    }
+}
+
+/// Puts what is left of the first area, if anything is, in its place.
+fn replace_first(areas: &mut VecDeque<Rect>, rest: Option<Rect>)
+    requires { deque_len areas.old < deque_capacity areas.old }
+    ensures items { areas.new.items ≡ with_rest rest areas.old.items }
+    ensures room { deque_capacity areas.new ≡ deque_capacity areas.old }
+{
+    if areas.pop_front().is_none() {
+        return;
+    }
+    if let Some(rest) = rest {
+        areas.push_front_reserved(rest);
     }
 }

@@ -13,6 +13,9 @@ mod mark_pieces;
 mod marks;
 mod opening;
 mod shown_marks;
+mod stretch;
+mod stretches;
+mod uniform;
 mod violated;
 
 pub use basis::Basis;

@@ -15,7 +15,6 @@ HasRowRoom-less row less more below room = record {
 
 pub HasSweepRoom-less : (sweep : Sweep) (less more : ℕ) → less ≤ more → HasSweepRoom sweep more → HasSweepRoom sweep less
 HasSweepRoom-less sweep less more below room = record {
-  pieces = omega (arith, room.pieces);
   lines = omega (arith, room.lines);
   starts = omega (arith, room.starts);
   active = omega (arith, room.active);

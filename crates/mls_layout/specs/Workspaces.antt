@@ -3,6 +3,10 @@ use Rattle.std.specs.Prelude.{ℕ, ◌≤◌, IfSome}
 use Rattle.mls_paint.specs.Scratches.{Scratch}
 use Rattle.mls_tilepool.specs.Pools.{Pool, room_of}
 
+-- the most planes that a layout may have
+abbrev pub most_planes : ℕ
+most_planes = 4
+
 -- the most tiles that a plane may reserve
 abbrev pub tile_room : ℕ
 tile_room = 16448

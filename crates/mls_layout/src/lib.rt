@@ -23,4 +23,4 @@ pub use pieces::push_flat;
 pub use shown_kinds::kinds;
 pub use strips::{FlatStrips, Unlisted, flat_strips};
 pub use uses::{CellUse, MOST_USES, Uses};
-pub use workspace::{MARK_ROOM, PIECE_ROOM, TILE_ROOM, Workspace};
+pub use workspace::{MARK_ROOM, MOST_PLANES, PIECE_ROOM, TILE_ROOM, Workspace};

@@ -1,8 +1,9 @@
 //! What calls borrow to work in.
 ghost use Rattle.std.specs.Prelude.{◌≡◌, ◌≤◌, [], IfOk, IfSome, length, map, vec_capacity};
+ghost use Rattle.std.specs.List.{All};
 ghost use Rattle.mls_geom.specs.StripLists.{strips_of};
 ghost use Rattle.mls_geom.specs.World.{world};
-ghost use Rattle.mls_layout.specs.Workspaces.{FitsWorkspace, HasRooms};
+ghost use Rattle.mls_layout.specs.Workspaces.{FitsWorkspace, HasRooms, most_planes, tile_room};
 ghost use Rattle.mls_paint.specs.Planes.{HasStrips, picture_in};
 ghost use Rattle.mls_tilepool.specs.Pools.{IsOwner, count_of, room_of};
 
@@ -12,6 +13,9 @@ use mls_paint::{Scratch, strips_of};
 use mls_stitch::{LaidTile, Plane};
 use mls_tilepool::Pool;
 use std::alloc::{AllocError, Global};
+
+/// The most planes that a layout may have.
+pub const MOST_PLANES: usize = 4;
 
 /// The most tiles that a plane may reserve.
 pub const TILE_ROOM: u32 = 16_448;
@@ -25,7 +29,7 @@ pub const MARK_ROOM: usize = 32_769;
 /// What a call borrows: the pool of all tiles, and the lists in which it searches and paints.
 ///
 /// All memory is reserved when the workspace is made, so that planes of [`TILE_ROOM`] tiles can be searched,
-/// [`PIECE_ROOM`] pieces painted, and [`MARK_ROOM`] listed.
+/// [`PIECE_ROOM`] pieces painted, [`MARK_ROOM`] listed, and [`TILE_ROOM`] for each of [`MOST_PLANES`] planes.
 #[derive(Drop)]
 pub struct Workspace {
     /// The tiles of all planes.
@@ -34,9 +38,13 @@ pub struct Workspace {
     pub scratch: Scratch,
     /// The list in which a call makes the pieces that it paints.
     pub pieces: Vec<Piece>,
+    /// The lists in which a change of several planes makes the pieces of each, one for each plane.
+    pub plane_pieces: Vec<Vec<Piece>>,
     /// The squares of a part of a layout, where cells are placed in it.
     pub grid: KindGrid,
     ghost rooms: { HasRooms scratch (vec_capacity pieces) },
+    ghost planes: { length plane_pieces.items ≡ most_planes },
+    ghost plane_rooms: { All (λ list. vec_capacity list ≡ tile_room) plane_pieces.items },
 }
 
 impl Workspace {
@@ -52,6 +60,7 @@ impl Workspace {
             pool: Pool::new(alloc, capacity)?,
             scratch: Scratch::new(alloc, TILE_ROOM, PIECE_ROOM)?,
             pieces: Vec::with_capacity(alloc, MARK_ROOM)?,
+            plane_pieces: plane_lists(alloc)?,
             grid: KindGrid::new(alloc)?,
         })
     }
@@ -72,6 +81,18 @@ impl Workspace {
         strips_of(pool, plane, scratch);
         list_pieces_of(scratch.tiles(), pieces);
     }
+}
+
+/// Creates the lists in which a change of several planes makes the pieces of each.
+fn plane_lists(alloc: Global) -> Result<Vec<Vec<Piece>>, AllocError>
+    ensures planes { IfOk result (λ lists. length lists.items ≡ most_planes) }
+    ensures rooms { IfOk result (λ lists. All (λ list. vec_capacity list ≡ tile_room) lists.items) }
+{
+    let mut lists = Vec::with_capacity(alloc, MOST_PLANES)?;
+    for _ in 0..MOST_PLANES {
+        lists.push_reserved(Vec::with_capacity(alloc, TILE_ROOM as usize)?);
+    }
+    Ok(lists)
 }
 
 /// A plane has no more tiles than it reserves. Does nothing: the contract is the law.

@@ -1,10 +1,11 @@
 -- Cells at home in a pool stay so, and show what they showed, as tiles of other owners change and as owners are added.
-use Rattle.std.proofs.Common.{◌≡◌, ℕ, List, get_or, All, Contains, ap, ◌∙◌}
+use Rattle.std.proofs.Common.{◌≡◌, ℕ, List, length, get_or, All, Contains, ap, sym, ◌∙◌}
 use Rattle.mls_geom.specs.Layouts.{Layout}
 use Rattle.mls_stitch.specs.Tilings.{shown}
 use Rattle.mls_tilepool.specs.Pools.{Pool, room_of, tiles_of}
 use Rattle.mls_paint.specs.Owners.{AddsOwners, ChangesAmong}
 use Rattle.mls_paint.proofs.OwnerFrames.{has_room-HasStrips, layout_in-kept, not_added, room_of-ChangesAmong}
+use Rattle.mls_library.specs.Bounds.{painted_bounds}
 use Rattle.mls_library.specs.Libraries.{IsCellHome, IsHome, Library, NamedCell, cell_layout}
 use Rattle.mls_library.proofs.BuiltPlanes.{IsFrozen-kept}
 
@@ -27,6 +28,7 @@ module _ (old new : Pool) where
     frozen = λ k d within. IsFrozen-kept old new (get_or cell.planes k d) (kept k d within).tiles (kept k d within).room (home.frozen k d within);
     apart = home.apart;
     bounded = λ plane x y outside. ap (λ (layout : Layout). layout plane x y) (cell_layout-kept cell kept) ∙ home.bounded plane x y outside;
+    smallest = home.smallest ∙ ap (painted_bounds (length cell.planes)) (sym (cell_layout-kept cell kept));
   }
 
   pub IsHome-kept : (cells : Library) → All (λ cell. All (IsKept old new) cell.planes) cells → IsHome old cells → IsHome new cells

@@ -1,9 +1,8 @@
 -- The words of private contracts: how the reader goes about what the other modules define. A caller needs none of them.
-use Rattle.std.specs.Prelude.{◌≡◌, ◌≢◌, ℕ, ◌<◌, ◌≤◌, ℤ, ⊤, false, Option, Result, Ok, Err, List, length, map, slice_index_or}
+use Rattle.std.specs.Prelude.{◌≡◌, ◌≢◌, ℕ, ◌<◌, ◌≤◌, ℤ, ⊤, Result, Ok, Err, List, length, map, slice_index_or}
 use Rattle.std.specs.List.{All, AllPairs}
 use Rattle.mls_geom.specs.Locality.{AreUnorderedStrips}
 use Rattle.mls_geom.specs.Pictures.{Picture, picture_of}
-use Rattle.mls_geom.specs.Rects.{Rect}
 use Rattle.mls_geom.specs.World.{world}
 use Rattle.mls_geom.specs.declared.piece.Piece.{Piece}
 use Rattle.mls_text.specs.Digits.{value_at_most}
@@ -11,7 +10,7 @@ use Rattle.mls_tilepool.specs.Pools.{Pool}
 use Rattle.mls_paint.specs.Owners.{AddsOwners}
 use Rattle.mls_paint.specs.Planes.{picture_in}
 use Rattle.mls_library.specs.CellFiles.{layout_of, or_fault}
-use Rattle.mls_library.specs.Libraries.{Cell, IsFrozen, NamedCell, holds_some, most_tiles, tile_counts, total}
+use Rattle.mls_library.specs.Libraries.{Cell, IsFrozen, NamedCell, most_tiles, tile_counts, total}
 use Rattle.mls_library.specs.declared.cell_rect.CellRect.{CellRect}
 use Rattle.mls_library.specs.declared.fault.CellFaultKind.{CellFaultKind}
 use Rattle.mls_library.specs.declared.fault.CellFaultKind.TheVariants.{OutsideWorld}
@@ -50,10 +49,6 @@ named_cell name cell = record { name = name; planes = cell.planes; bounds = cell
 -- the entries of a map from names, as cells
 abbrev pub cells_in : {K V : Type 0} → (K → List ℕ) → (V → Cell) → List (K × V) → List NamedCell
 cells_in bytes cell entries = map (λ entry. named_cell (bytes entry.0) (cell entry.1)) entries
-
--- the wider bounds have each square of the others
-abbrev pub IsWider : Option Rect → Option Rect → Type 0
-IsWider bounds wider = (x y : ℕ) → holds_some wider x y ≡ false → holds_some bounds x y ≡ false
 
 -- the list has the strips of the picture, in any order, and shows it
 pub record ArePlaneStrips (picture : Picture) (list : List Piece) : Type 0 where

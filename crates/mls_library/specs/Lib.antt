@@ -1,3 +1,4 @@
+pub mod Bounds
 pub mod CellFiles
 pub mod Faults
 pub mod Inner

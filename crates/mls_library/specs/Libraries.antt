@@ -11,6 +11,7 @@ use Rattle.mls_text.specs.Words.{same_word}
 use Rattle.mls_tilepool.specs.Pools.{Pool, room_of, unreserved}
 use Rattle.mls_paint.specs.Owners.{AddsOwners}
 use Rattle.mls_paint.specs.Planes.{HasStrips, layout_in, picture_in}
+use Rattle.mls_library.specs.Bounds.{painted_bounds}
 use Rattle.mls_library.specs.CellFiles.{layout_of, reading_of}
 use Rattle.mls_library.specs.Faults.{UnlessMemory}
 use Rattle.mls_library.specs.declared.cell_rect.CellRect.{CellRect}
@@ -18,7 +19,7 @@ use Rattle.mls_library.specs.declared.fault.CellFault.{CellFault}
 use Rattle.mls_library.specs.declared.fault.CellFaultKind.{CellFaultKind}
 use Rattle.mls_library.specs.declared.fault.CellFaultKind.TheVariants.{Form, TooManyTiles, NameTwice, PoolFull, LibraryFull}
 
--- the owners of the tiles of a cell's planes, the first of plane 0, and a rectangle round all that the cell shows, if it shows anything
+-- the owners of the tiles of a cell's planes, the first of plane 0, and the rectangle round all that the cell shows, if it shows anything
 pub record Cell : Type 0 where
   pub planes : List ℕ
   pub bounds : Option Rect
@@ -73,11 +74,12 @@ holds_some (Some rect) x y = holds rect x y
 abbrev pub ShowsWithin : Option Rect → Picture → Type 0
 ShowsWithin bounds picture = (x y : ℕ) → holds_some bounds x y ≡ false → picture x y ≡ 0
 
--- each plane of a cell is frozen, they have different owners, and none shows anything outside the cell's bounds
+-- each plane of a cell is frozen, they have different owners, and the cell's bounds are the smallest round all that they show
 pub record IsCellHome (pool : Pool) (cell : NamedCell) : Type 0 where
   pub frozen : All (IsFrozen pool) cell.planes
   pub apart : AllPairs (λ a b. a ≢ b) cell.planes
   pub bounded : (plane : ℕ) → ShowsWithin cell.bounds (cell_layout pool cell plane)
+  pub smallest : cell.bounds ≡ painted_bounds (length cell.planes) (cell_layout pool cell)
 
 -- no owner has planes of both cells
 abbrev pub AreApart : NamedCell → NamedCell → Type 0

@@ -1,44 +1,44 @@
-//! The bounds of what planes show.
-ghost use Rattle.std.specs.Prelude.{All};
-ghost use Rattle.mls_geom.specs.Pictures.{empty_picture, painted, picture_of};
-ghost use Rattle.mls_library.specs.Inner.{IsWider};
-ghost use Rattle.mls_library.specs.Libraries.{ShowsWithin};
+//! The smallest rectangle round what planes show.
+ghost use Rattle.std.specs.Prelude.{◌≡◌, map};
+ghost use Rattle.mls_library.specs.Bounds.{any_painted, are_painted, bounds_of, round_both};
 
 use mls_geom::{Piece, Rect};
 
-/// Returns the rectangle round all strips that aren't space, or `None` if there are none.
+/// Returns the smallest rectangle round all strips that aren't space, or `None` if there are none.
 pub(crate) fn bounds_of(planes: &[Vec<Piece>]) -> Option<Rect>
-    ensures { All (λ strips. ShowsWithin result (picture_of strips.items)) planes.now }
+    ensures { result ≡ bounds_of (any_painted (map (λ strips. strips.items) planes.now)) }
 {
     let mut bounds = None;
     for strips in planes {
-        bounds = widened(bounds, strips);
+        bounds = round_both(bounds, strips_bounds(strips));
     }
     bounds
 }
 
-/// Returns the rectangle round the bounds and all strips that aren't space.
-fn widened(bounds: Option<Rect>, strips: &[Piece]) -> Option<Rect>
-    ensures wider { IsWider bounds result }
-    ensures shows { ShowsWithin result (picture_of strips.now) }
+/// Returns the smallest rectangle round the strips that aren't space, or `None` if there are none.
+fn strips_bounds(strips: &[Piece]) -> Option<Rect>
+    ensures { result ≡ bounds_of (are_painted strips.now) }
 {
-    let mut all = bounds;
+    let mut bounds = None;
     for strip in strips {
-        all = joined(all, strip);
+        if strip.kind != 0 {
+            // For its contract alone: the rectangle lies in the world.
+            strip.rect.area();
+            bounds = round_both(bounds, Some(strip.rect));
+        }
     }
-    all
+    bounds
 }
 
-/// Returns the rectangle round the bounds and the strip, unless it is space.
-fn joined(bounds: Option<Rect>, strip: &Piece) -> Option<Rect>
-    ensures wider { IsWider bounds result }
-    ensures shows { ShowsWithin result (painted empty_picture strip.now) }
+/// Returns the smallest rectangle round both, or the only one, or none.
+fn round_both(one: Option<Rect>, other: Option<Rect>) -> Option<Rect>
+    ensures { result ≡ round_both one other }
 {
-    if strip.kind == 0 {
-        return bounds;
-    }
-    match bounds {
-        Some(rect) => Some(rect.joined(strip.rect)),
-        None => Some(strip.rect),
-    }
+    let Some(first) = one else {
+        return other;
+    };
+    let Some(second) = other else {
+        return one;
+    };
+    Some(first.joined(second))
 }

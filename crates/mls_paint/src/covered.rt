@@ -26,7 +26,7 @@ pub fn push_covered(
     ensures rooms { KeepsRoom scratch.old scratch.new }
 {
     let limit = scratch.room.saturating_add(scratch.pieces);
-    if scratch.sweep.find(&[], pieces, limit).is_err() {
+    if scratch.sweep.find(pieces, limit).is_err() {
         return Ok(false);
     }
     out.extend_from_slice(scratch.sweep.strips())?;

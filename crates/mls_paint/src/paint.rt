@@ -5,7 +5,7 @@ ghost use Rattle.mls_geom.specs.Pictures.{overlaid};
 ghost use Rattle.mls_geom.specs.TileCounts.{tile_count};
 ghost use Rattle.mls_geom.specs.World.{AreLegal, world};
 ghost use Rattle.mls_tilepool.specs.Pools.{count_of, room_of, tiles_of};
-ghost use Rattle.mls_stitch.specs.Areas.{ListTouched};
+ghost use Rattle.mls_stitch.specs.Areas.{AreSearched, ListTouched};
 ghost use Rattle.mls_stitch.specs.Tilings.{ChangesOnly, HasPlane, block_at};
 ghost use Rattle.mls_paint.specs.Painting.{KeepsUntouched};
 ghost use Rattle.mls_paint.specs.Planes.{HasStrips, picture_in};
@@ -15,7 +15,7 @@ use crate::Scratch;
 use crate::changes::list_changes;
 use crate::planes::read_count;
 use crate::sweeps::Sweeps;
-use mls_geom::{Piece, TooMany};
+use mls_geom::{Piece, Rect, TooMany};
 use mls_stitch::{LaidTile, Plane};
 use mls_tilepool::Pool;
 use thiserror::Error;
@@ -95,7 +95,7 @@ pub fn overlay_within(
     ensures rooms { KeepsRoom scratch.old scratch.new }
 {
     let count = read_count(pool, plane, scratch);
-    find_touched(pool, plane, over, turns, scratch);
+    let searched = find_touched(pool, plane, over, turns, scratch);
     let Scratch {
         search,
         sweep,
@@ -107,7 +107,7 @@ pub fn overlay_within(
     } = scratch;
     find_fresh(search.tiles(), over, count, limit, touched, sweep)?;
     list_changes(search.tiles(), sweep.strips(), touched, gone, names, fresh);
-    plane.replace(pool, names, fresh, search).unwrap();
+    plane.replace(pool, names, fresh, searched, search).unwrap();
     Ok(Painted {
         rebuilt: turns == 0,
     })
@@ -130,7 +130,7 @@ pub fn fits(
     ensures rooms { KeepsRoom scratch.old scratch.new }
 {
     let count = read_count(pool, plane, scratch);
-    find_touched(pool, plane, over, TURNS, scratch);
+    let _searched = find_touched(pool, plane, over, TURNS, scratch);
     let Scratch {
         search,
         sweep,
@@ -141,35 +141,47 @@ pub fn fits(
 }
 
 /// Finds tiles of the plane, and among them all that the pieces touch, and leaves them in the scratch: all tiles
-/// where there are no turns, and else those that [`Plane::touching`] finds.
-fn find_touched(pool: &Pool, plane: &mut Plane, over: &[Piece], turns: u32, scratch: &mut Scratch)
+/// where there are no turns, and else those that [`Plane::touching`] finds. Returns the area whose tiles are all found,
+/// if one search was enough.
+fn find_touched(
+    pool: &Pool,
+    plane: &mut Plane,
+    over: &[Piece],
+    turns: u32,
+    scratch: &mut Scratch,
+) -> Option<Rect>
     requires plane { HasPlane pool.now plane.old }
     requires room { count_of pool.now plane.old ≤ scratch.old.room }
     ensures found { ListTouched (block_at (tiles_of pool.now plane.old)) over.now scratch.new.tiles }
+    ensures searched { AreSearched (block_at (tiles_of pool.now plane.old)) result scratch.new.tiles }
     ensures few { length scratch.new.tiles ≤ count_of pool.now plane.old }
     ensures plane { plane.new ≡ plane.old }
     ensures rooms { KeepsRoom scratch.old scratch.new }
 {
     if turns == 0 {
         plane.strips_of(pool, &mut scratch.search);
+        None
     } else {
-        plane.touching(pool, over, turns as usize, &mut scratch.search);
+        plane.touching(pool, over, turns as usize, &mut scratch.search)
     }
 }
 
-/// Makes `pieces` the rectangles and kinds of the tiles.
-fn list_pieces(tiles: &[LaidTile], pieces: &mut Vec<Piece>)
-    requires { length tiles.now ≤ vec_capacity pieces.old }
-    ensures items { pieces.new.items ≡ map (λ tile. tile.piece) tiles.now }
-    ensures room { vec_capacity pieces.new ≡ vec_capacity pieces.old }
+/// Makes `pieces` the rectangles and kinds of the tiles, and after them the pieces that are painted over them.
+fn list_pieces(tiles: &[LaidTile], over: &[Piece], pieces: &mut Vec<Piece>)
+    requires { length tiles.now + length over.now ≤ vec_capacity pieces.old }
+    ensures items { pieces.new.items ≡ map (λ tile. tile.piece) tiles.now ++ over.now }
+    ensures room { vec_capacity pieces.old ≤ vec_capacity pieces.new }
 {
     pieces.clear();
     for tile in tiles {
         pieces.push_reserved(tile.piece);
     }
+    // Their room is reserved, so the call succeeds.
+    pieces.extend_from_slice(over).unwrap();
 }
 
 /// Finds the strips that take the place of the tiles when pieces are painted over their plane, which has `count` tiles.
+/// Makes `touched` the tiles' rectangles and kinds.
 ///
 /// Fails if the plane would then have more than `limit` tiles.
 fn find_fresh(
@@ -181,7 +193,7 @@ fn find_fresh(
     sweep: &mut Sweeps,
 ) -> Result<(), TooManyTiles>
     requires some { length tiles.now ≤ count }
-    requires tiles_fit { length tiles.now ≤ vec_capacity touched.old }
+    requires tiles_fit { length tiles.now + length over.now ≤ vec_capacity touched.old }
     requires pieces_fit { length tiles.now + length over.now ≤ sweep.old.room }
     requires strips_fit { limit ≤ sweep.old.room }
     ensures strips { OnOk result (AreCoveredStrips world
@@ -191,13 +203,14 @@ fn find_fresh(
         < count + covered_count world (laid (map (λ tile. tile.piece) tiles.now ++ over.now))) }
     ensures kinds { HaveKinds (map (λ tile. tile.piece) tiles.now ++ over.now) }
     ensures legal { AreLegal over.now }
-    ensures touched { touched.new.items ≡ map (λ tile. tile.piece) tiles.now }
-    ensures touched_room { vec_capacity touched.new ≡ vec_capacity touched.old }
+    ensures touched { OnOk result (touched.new.items ≡ map (λ tile. tile.piece) tiles.now) }
+    ensures touched_room { vec_capacity touched.old ≤ vec_capacity touched.new }
     ensures sweep_room { sweep.new.room ≡ sweep.old.room }
 {
-    list_pieces(tiles, touched);
+    list_pieces(tiles, over, touched);
     let limit = limit as usize;
-    let fresh = sweep.find(touched, over, limit)?;
+    let fresh = sweep.find(touched, limit)?;
+    touched.truncate(tiles.len());
     let kept = count - tiles.len();
     if limit - fresh < kept {
         return Err(TooManyTiles);

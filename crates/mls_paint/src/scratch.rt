@@ -17,6 +17,7 @@ pub struct Scratch {
     pub(crate) pieces: usize,
     pub(crate) search: Search,
     pub(crate) sweep: Sweeps,
+    // The pieces of touched tiles, and those that are painted over them.
     pub(crate) touched: Vec<Piece>,
     // The tiles that are to give way, and the strips that are to take their place.
     pub(crate) gone: Vec<LaidTile>,
@@ -33,7 +34,7 @@ impl Model for Scratch {
     ghost view = { λ s. record { tiles = s.search.tiles; room = s.room; pieces = s.pieces } };
 
     ghost invariant = { λ s. (s.search.room ≡ s.room) × (s.sweep.room ≡ s.room + s.pieces)
-        × (s.room ≤ vec_capacity s.touched) × (s.room ≤ vec_capacity s.gone) × (s.room ≤ vec_capacity s.names)
+        × (s.room + s.pieces ≤ vec_capacity s.touched) × (s.room ≤ vec_capacity s.gone) × (s.room ≤ vec_capacity s.names)
         × (s.room ≤ vec_capacity s.fresh) };
 }
 
@@ -52,7 +53,7 @@ impl Scratch {
             pieces,
             search,
             sweep: Sweeps::new(alloc, room + pieces)?,
-            touched: Vec::with_capacity(alloc, room)?,
+            touched: Vec::with_capacity(alloc, room + pieces)?,
             gone: Vec::with_capacity(alloc, room)?,
             names: Vec::with_capacity(alloc, room)?,
             fresh: Vec::with_capacity(alloc, room)?,

@@ -1,5 +1,5 @@
 //! Sweeps whose strips are kept, so that what one call has found the next finds without a sweep.
-ghost use Rattle.std.specs.Prelude.{◌≡◌, ◌+◌, ◌<◌, ◌≤◌, ◌↔◌, ◌++◌, [], IfOk, IfSome, IsErr, OnOk, Some, length, slice_get, vec_len};
+ghost use Rattle.std.specs.Prelude.{◌≡◌, ◌<◌, ◌≤◌, ◌↔◌, [], IfOk, IfSome, IsErr, OnOk, Some, length, slice_get, vec_len};
 ghost use Rattle.std.specs.List.{All};
 ghost use Rattle.std.specs.Option.{option_map};
 ghost use Rattle.mls_geom.specs.Locality.{AreCoveredStrips, HaveKinds, covered_count, laid};
@@ -35,12 +35,12 @@ impl Model for Sweeps {
 }
 
 /// Returns the place of these pieces in what is kept.
-fn find_kept(kept: &[Swept], touched: &[Piece], over: &[Piece]) -> Option<usize>
+fn find_kept(kept: &[Swept], pieces: &[Piece]) -> Option<usize>
     ensures { IfSome result (λ place. (place < length kept.now)
-        × (option_map (λ swept. swept.pieces) (slice_get kept.now place) ≡ Some (touched.now ++ over.now))) }
+        × (option_map (λ swept. swept.pieces) (slice_get kept.now place) ≡ Some pieces.now)) }
 {
     for (place, swept) in kept.iter().enumerate() {
-        if swept.is_of(touched, over) {
+        if swept.is_of(pieces) {
             return Some(place);
         }
     }
@@ -93,24 +93,19 @@ impl Sweeps {
     /// are.
     ///
     /// Fails if there are more than `limit`.
-    pub(crate) fn find(
-        &mut self,
-        touched: &[Piece],
-        over: &[Piece],
-        limit: usize,
-    ) -> Result<usize, TooMany>
-        requires pieces_fit { length touched.now + length over.now ≤ self.old.room }
+    pub(crate) fn find(&mut self, pieces: &[Piece], limit: usize) -> Result<usize, TooMany>
+        requires pieces_fit { length pieces.now ≤ self.old.room }
         requires strips_fit { limit ≤ self.old.room }
-        ensures legal { AreLegal (touched.now ++ over.now) }
-        ensures kinds { HaveKinds (touched.now ++ over.now) }
-        ensures strips { OnOk result (AreCoveredStrips world (laid (touched.now ++ over.now)) self.new.strips) }
+        ensures legal { AreLegal pieces.now }
+        ensures kinds { HaveKinds pieces.now }
+        ensures strips { OnOk result (AreCoveredStrips world (laid pieces.now) self.new.strips) }
         ensures count { IfOk result (λ n. (n ≡ length self.new.strips)
-            × (n ≡ covered_count world (laid (touched.now ++ over.now)))) }
-        ensures too_many { IsErr result ↔ (limit < covered_count world (laid (touched.now ++ over.now))) }
+            × (n ≡ covered_count world (laid pieces.now))) }
+        ensures too_many { IsErr result ↔ (limit < covered_count world (laid pieces.now)) }
         ensures room { self.new.room ≡ self.old.room }
     {
-        let Some(place) = find_kept(&self.kept, touched, over) else {
-            return self.sweep_anew(touched, over, limit);
+        let Some(place) = find_kept(&self.kept, pieces) else {
+            return self.sweep_anew(pieces, limit);
         };
         let strips = self.kept[place].strips().len();
         self.last = place;
@@ -123,25 +118,20 @@ impl Sweeps {
     /// Finds the strips of what these pieces cover by a sweep, keeps them, and returns how many there are.
     ///
     /// Fails if there are more than `limit`.
-    fn sweep_anew(
-        &mut self,
-        touched: &[Piece],
-        over: &[Piece],
-        limit: usize,
-    ) -> Result<usize, TooMany>
-        requires pieces_fit { length touched.now + length over.now ≤ self.old.room }
+    fn sweep_anew(&mut self, pieces: &[Piece], limit: usize) -> Result<usize, TooMany>
+        requires pieces_fit { length pieces.now ≤ self.old.room }
         requires strips_fit { limit ≤ self.old.room }
-        ensures legal { AreLegal (touched.now ++ over.now) }
-        ensures kinds { HaveKinds (touched.now ++ over.now) }
-        ensures strips { OnOk result (AreCoveredStrips world (laid (touched.now ++ over.now)) self.new.strips) }
+        ensures legal { AreLegal pieces.now }
+        ensures kinds { HaveKinds pieces.now }
+        ensures strips { OnOk result (AreCoveredStrips world (laid pieces.now) self.new.strips) }
         ensures count { IfOk result (λ n. (n ≡ length self.new.strips)
-            × (n ≡ covered_count world (laid (touched.now ++ over.now)))) }
-        ensures too_many { IsErr result ↔ (limit < covered_count world (laid (touched.now ++ over.now))) }
+            × (n ≡ covered_count world (laid pieces.now))) }
+        ensures too_many { IsErr result ↔ (limit < covered_count world (laid pieces.now)) }
         ensures room { self.new.room ≡ self.old.room }
     {
-        let fresh = fresh_strips(touched, over, limit, &mut self.sweep)?;
+        let fresh = fresh_strips(pieces, limit, &mut self.sweep)?;
         let place = place_after(self.last, self.kept.len());
-        self.kept[place].keep(touched, over, self.sweep.strips());
+        self.kept[place].keep(pieces, self.sweep.strips());
         self.last = place;
         Ok(fresh)
     }

@@ -1,5 +1,5 @@
 //! Pieces that were swept, and the strips that were found.
-ghost use Rattle.std.specs.Prelude.{◌≡◌, ◌+◌, ◌≤◌, ◌++◌, IfOk, IsTrue, length};
+ghost use Rattle.std.specs.Prelude.{◌≡◌, ◌≤◌, IfOk, IsTrue, length};
 ghost use Rattle.mls_geom.specs.Locality.{AreCoveredStrips, HaveKinds, laid};
 ghost use Rattle.mls_geom.specs.World.{AreLegal, world};
 
@@ -44,15 +44,11 @@ impl Swept {
         })
     }
 
-    /// Returns whether the pieces are these two lists, one after the other.
-    pub(crate) fn is_of(&self, touched: &[Piece], over: &[Piece]) -> bool
-        ensures { IsTrue result → self.now.pieces ≡ touched.now ++ over.now }
+    /// Returns whether the pieces are these.
+    pub(crate) fn is_of(&self, pieces: &[Piece]) -> bool
+        ensures { IsTrue result → self.now.pieces ≡ pieces.now }
     {
-        if self.pieces.len() < touched.len() {
-            return false;
-        }
-        let (first, rest) = self.pieces.split_at(touched.len());
-        first == touched && rest == over
+        self.pieces.as_slice() == pieces
     }
 
     /// Returns the strips of what the pieces cover.
@@ -65,21 +61,20 @@ impl Swept {
         &self.strips
     }
 
-    /// Makes the pieces these two lists, one after the other, whose strips were found.
-    pub(crate) fn keep(&mut self, touched: &[Piece], over: &[Piece], strips: &[Piece])
-        requires pieces_fit { length touched.now + length over.now ≤ self.old.room }
+    /// Makes the pieces these, whose strips were found.
+    pub(crate) fn keep(&mut self, pieces: &[Piece], strips: &[Piece])
+        requires pieces_fit { length pieces.now ≤ self.old.room }
         requires strips_fit { length strips.now ≤ self.old.room }
-        requires kinds { HaveKinds (touched.now ++ over.now) }
-        requires legal { AreLegal (touched.now ++ over.now) }
-        requires covered { AreCoveredStrips world (laid (touched.now ++ over.now)) strips.now }
-        ensures pieces { self.new.pieces ≡ touched.now ++ over.now }
+        requires kinds { HaveKinds pieces.now }
+        requires legal { AreLegal pieces.now }
+        requires covered { AreCoveredStrips world (laid pieces.now) strips.now }
+        ensures pieces { self.new.pieces ≡ pieces.now }
         ensures strips { self.new.strips ≡ strips.now }
         ensures room { self.new.room ≡ self.old.room }
     {
         self.pieces.clear();
         self.strips.clear();
-        self.pieces.extend_from_slice(touched).unwrap();
-        self.pieces.extend_from_slice(over).unwrap();
+        self.pieces.extend_from_slice(pieces).unwrap();
         self.strips.extend_from_slice(strips).unwrap();
     }
 }

@@ -151,7 +151,7 @@ fn count_strips(alloc: Global, pieces: &[Piece]) -> Result<usize, Fail> {
     if !scratch.holds(pieces.len(), 4000) {
         return Ok(0);
     }
-    Ok(fresh_strips(&[], pieces, 4000, &mut scratch)?)
+    Ok(fresh_strips(pieces, 4000, &mut scratch)?)
 }
 
 #[test]

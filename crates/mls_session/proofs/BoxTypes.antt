@@ -8,7 +8,7 @@ use Rattle.mls_geom.specs.Rects.{Rect}
 use Rattle.mls_geom.specs.Pictures.{kinds_in, shows}
 use Rattle.mls_session.specs.Own.{Config, Drawn, layout_of, shows_type, types_in, what_step}
 use Rattle.mls_session.specs.declared.reply.Reply.TheVariants.{Kinds}
-use Rattle.mls_session.proofs.FirstPlanes.{any_more}
+use Rattle.mls_library.proofs.FirstPlanes.{any_more}
 
 pub types_none : (layout : Layout) (e : Rect) → types_in 0 layout e ≡ 0
 unfolding types_in

@@ -1,5 +1,5 @@
 -- Whether a plane would have more tiles than the quota, on one plane and on all.
-use Rattle.std.proofs.Common.{◌≡◌, Bool, true, false, not, ℕ, ◌<◌, ◌≤◌, nat_lt, if◌then◌else◌, Result, Ok, Err, IsErr, IsOk, [], length, get_or, inl, inr, refl, sym, ap, ◌∙◌, subst, arith}
+use Rattle.std.proofs.Common.{◌≡◌, Bool, true, false, not, ℕ, ◌<◌, ◌≤◌, nat_lt, if◌then◌else◌, Result, Ok, Err, IsErr, IsOk, [], inl, inr, refl, sym, ap, ◌∙◌, subst, arith}
 use Rattle.std.specs.List.{list_any, range_with_len}
 use Rattle.std.proofs.lemmas.Bool.{cases_lt}
 use Rattle.std.proofs.lemmas.Bool.Decides.{nat_tests}
@@ -7,18 +7,13 @@ use Rattle.mls_geom.specs.Layouts.{Layout}
 use Rattle.mls_geom.specs.Pictures.{Picture}
 use Rattle.mls_geom.specs.TileCounts.{tile_count}
 use Rattle.mls_geom.specs.World.{world}
-use Rattle.mls_tilepool.specs.Pools.{Pool}
 use Rattle.mls_tech.specs.Readings.{nothing_read}
-use Rattle.mls_paint.specs.Planes.{layout_in, picture_in}
-use Rattle.mls_paint.proofs.OwnerFrames.{layout_in-at}
-use Rattle.mls_session.specs.Inner.{FitsQuota, changed, changed_layout}
+use Rattle.mls_session.specs.Inner.{FitsQuota}
 use Rattle.mls_session.specs.Own.{Config, Drawn, change_step, exceeds_quota}
-use Rattle.mls_session.specs.Designs.{Design}
-use Rattle.mls_session.specs.declared.change.Change.{Change}
 use Rattle.mls_session.specs.declared.reply.Reply.{Reply}
 use Rattle.mls_session.specs.declared.reply.Reply.TheVariants.{Done, Refused}
 use Rattle.mls_session.specs.declared.refusal.Refusal.TheVariants.{Quota}
-use Rattle.mls_session.proofs.FirstPlanes.{any_at}
+use Rattle.mls_library.proofs.FirstPlanes.{any_at}
 
 -- the plane of the layout would have more tiles
 abbrev pub exceeds : ℕ → Layout → ℕ → Bool
@@ -31,31 +26,27 @@ pub exceeds_quota-is :
 exceeds_quota-is config layout planes quota count same = rw (count, same) refl
 
 -- ---- on one plane
-module _ (pool : Pool) (design : Design) (change : Change) (i owner limit : ℕ) (over : Picture) (within : i < length design.planes) (is : owner ≡ get_or design.planes i owner) (same : limit ≡ design.quota) (made : over ≡ changed pool change i (picture_in pool owner)) where
-  made-at : over ≡ changed_layout pool change (layout_in pool design.planes) i
-  made-at = made ∙ ap (changed pool change i) (sym (layout_in-at pool design.planes i owner within is))
-
-  pub exceeds-fits : tile_count world over ≤ limit → exceeds design.quota (changed_layout pool change (layout_in pool design.planes)) i ≡ false
+module _ (layout : Layout) (quota i limit : ℕ) (over : Picture) (same : limit ≡ quota) (made : over ≡ layout i) where
+  pub exceeds-fits : tile_count world over ≤ limit → exceeds quota layout i ≡ false
   exceeds-fits few =
-      let test : nat_lt design.quota (tile_count world over) ≡ false = grind (arith, nat_tests, few, same) in
-      ap (λ picture. nat_lt design.quota (tile_count world picture)) (sym made-at) ∙ test
+      let test : nat_lt quota (tile_count world over) ≡ false = grind (arith, nat_tests, few, same) in
+      ap (λ picture. nat_lt quota (tile_count world picture)) (sym made) ∙ test
 
-  pub exceeds-more : (tile_count world over ≤ limit → ⊥) → exceeds design.quota (changed_layout pool change (layout_in pool design.planes)) i ≡ true
+  pub exceeds-more : (tile_count world over ≤ limit → ⊥) → exceeds quota layout i ≡ true
   exceeds-more many =
       let more : limit < tile_count world over = elim (cases_lt limit (tile_count world over)) [
         | inl above ↦ above
         | inr few ↦ absurd (many few)
       ] in
-      let test : nat_lt design.quota (tile_count world over) ≡ true = grind (arith, nat_tests, more, same) in
-      ap (λ picture. nat_lt design.quota (tile_count world picture)) (sym made-at) ∙ test
+      let test : nat_lt quota (tile_count world over) ≡ true = grind (arith, nat_tests, more, same) in
+      ap (λ picture. nat_lt quota (tile_count world picture)) (sym made) ∙ test
 
   -- a plane that fits the quota is painted
   pub ok_where_fits :
-      {T E : Type 0} (painted : Result T E) → FitsQuota (length design.planes) design.quota (changed_layout pool change (layout_in pool design.planes))
-      → (IsErr painted → limit < tile_count world over) → IsOk painted
-  ok_where_fits (Ok done) fits refused = refl
-  ok_where_fits (Err fault) fits refused =
-      let few = subst (λ picture. tile_count world picture ≤ design.quota) (sym made-at) (fits i within) in
+      {T E : Type 0} (painted : Result T E) (planes : ℕ) → i < planes → FitsQuota planes quota layout → (IsErr painted → limit < tile_count world over) → IsOk painted
+  ok_where_fits (Ok done) planes within fits refused = refl
+  ok_where_fits (Err fault) planes within fits refused =
+      let few = subst (λ picture. tile_count world picture ≤ quota) (sym made) (fits i within) in
       absurd (omega (arith, few, same, refused refl))
 
 -- ---- on all planes

@@ -15,7 +15,7 @@ use Rattle.mls_session.specs.Changes.{layout_leaves_world, leaves_world}
 use Rattle.mls_session.specs.Own.{Config, Drawn, cell_at, change_step, dump_step, dumped_layout}
 use Rattle.mls_session.specs.declared.reply.Reply.TheVariants.{Refused}
 use Rattle.mls_session.specs.declared.refusal.Refusal.TheVariants.{CellOutside}
-use Rattle.mls_session.proofs.FirstPlanes.{any_at}
+use Rattle.mls_library.proofs.FirstPlanes.{any_at}
 
 -- the cell of this number has these planes
 abbrev pub HasPlanes : Library → ℕ → List ℕ → Type 0

@@ -14,14 +14,15 @@ use Rattle.mls_geom.proofs.Holds.{holds_between}
 use Rattle.mls_geom.proofs.Squares.{range_with_len-Contains}
 use Rattle.mls_kinds.specs.KindSets.{holds as has_kind}
 use Rattle.mls_checker.specs.ZoneLayouts.{AgreeOutside}
-use Rattle.mls_session.specs.Bounds.{dumped_rect, has_paint, moved_rect, painted_bounds}
+use Rattle.mls_library.specs.Bounds.{has_paint, painted_bounds}
+use Rattle.mls_session.specs.Bounds.{dumped_rect, moved_rect}
 use Rattle.mls_layout.specs.Moves.{kind_at, moved}
 use Rattle.mls_session.specs.Changes.{has_square, layout_leaves_world, leaves_world}
 use Rattle.mls_session.specs.Own.{dumped_layout, erased_layout, with_plane}
-use Rattle.mls_session.proofs.FirstPlanes.{any_at}
+use Rattle.mls_library.proofs.FirstPlanes.{any_at}
 use Rattle.mls_session.proofs.MovedRects.{IsMoved, IsMoved-moved_rect, has_square-to, holds-IsMoved, holds_at, lines_moved, moved_rect-is, none_of, not_beyond}
 use Rattle.mls_session.proofs.MovedTiles.{leaves_world-at}
-use Rattle.mls_session.proofs.SmallestRects.{IsBounds, IsBounds-bounds_of, IsSmallest, Passes}
+use Rattle.mls_library.proofs.SmallestRects.{IsBounds, IsBounds-bounds_of, IsSmallest, Passes}
 
 -- ---- paint and erase
 pub AgreeOutside-painted :
@@ -40,7 +41,7 @@ AgreeOutside-erased layout e kinds plane x y outside = ap (λ inside. if inside 
 
 -- ---- dump
 -- a smallest rectangle has a square
-sized : (test : ℕ → ℕ → Bool) (e : Rect) → IsSmallest test e → (e.left < e.right) × (e.bottom < e.top)
+pub sized : (test : ℕ → ℕ → Bool) (e : Rect) → IsSmallest test e → (e.left < e.right) × (e.bottom < e.top)
 sized test e smallest =
     let (y, left) = smallest.on_left in
     let (x, bottom) = smallest.on_bottom in
@@ -48,7 +49,7 @@ sized test e smallest =
     let row = holds_between e x e.bottom (smallest.each x e.bottom bottom) in
     (column.1, row.3)
 
-bounds_there : (test : ℕ → ℕ → Bool) (found : Option Rect) (e : Rect) → IsBounds test found → found ≡ Some e → IsSmallest test e
+pub bounds_there : (test : ℕ → ℕ → Bool) (found : Option Rect) (e : Rect) → IsBounds test found → found ≡ Some e → IsSmallest test e
 bounds_there test found e is same = subst (IsBounds test) same is
 
 module _ (planes : ℕ) (cell : Layout) (dx dy : ℤ) where
@@ -71,7 +72,7 @@ module _ (planes : ℕ) (cell : Layout) (dx dy : ℤ) where
               absurd (cc (sym stays ∙ any_at (λ plane. leaves_world (cell plane) dx dy) planes plane within leaves))
         ]
 
-    moved_rect-smallest : (e : Rect) → IsSmallest (has_paint planes cell) e → moved_rect e dx dy ≡ Some (lines_moved e dx dy)
+    pub moved_rect-smallest : (e : Rect) → IsSmallest (has_paint planes cell) e → moved_rect e dx dy ≡ Some (lines_moved e dx dy)
     moved_rect-smallest e smallest =
         let size = sized (has_paint planes cell) e smallest in
         let (ly, on_left) = smallest.on_left in

@@ -1,7 +1,5 @@
-pub mod BoundedTiles
 pub mod BoxTypes
 pub mod CaughtUpDesigns
-pub mod CellBounds
 pub mod CellFrames
 pub mod ChangedPlanes
 pub mod ChangedQuotas
@@ -30,8 +28,8 @@ pub mod JournalledSteps
 pub mod KeptPlanes
 pub mod KeptRooms
 pub mod LegalJournals
-pub mod LineEnds
 pub mod ListedLayers
+pub mod ListedPieces
 pub mod MarkedTexts
 pub mod MovedRects
 pub mod MovedTiles
@@ -39,6 +37,7 @@ pub mod Openings
 pub mod OwnReplies
 pub mod Painting
 pub mod PartialFacts
+pub mod PlacedBounds
 pub mod PlacedCells
 pub mod RepaintedPlanes
 pub mod Results
@@ -46,6 +45,5 @@ pub mod RightMarks
 pub mod SavedCounts
 pub mod SavedPlanes
 pub mod SessionLooks
-pub mod SmallestRects
 pub mod StepRuns
 pub mod TilePieces

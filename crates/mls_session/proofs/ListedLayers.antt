@@ -21,7 +21,7 @@ use Rattle.mls_layout.specs.declared.strips.Unlisted.{Unlisted}
 use Rattle.mls_layout.specs.declared.strips.Unlisted.TheVariants.{Memory, TooMany}
 use Rattle.mls_session.specs.Inner.{ListsPlanes}
 use Rattle.mls_session.specs.Own.{exceeds_tiles}
-use Rattle.mls_session.proofs.FirstPlanes.{any_at, any_more}
+use Rattle.mls_library.proofs.FirstPlanes.{any_at, any_more}
 use Rattle.mls_session.proofs.SavedCounts.{layer_lines-few, strips_few}
 
 module _ (tech : Tech) (layout : Layout) where

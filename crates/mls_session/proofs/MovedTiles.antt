@@ -1,9 +1,9 @@
 -- Dumping a cell's plane: the pieces are its tiles that aren't space, moved, and none leaves the world where no square does.
-use Rattle.std.proofs.Common.{◌≡◌, ◌≢◌, Bool, true, false, ℕ, ℤ, pos, negsuc, ◌+ℤ◌, ◌-ℤ◌, ◌==◌, ◌&&◌, not, if◌then◌else◌, Option, Some, None, IsSome, List, All, Contains, inl, inr, ne_eqb, refl, sym, ap, ◌∙◌}
+use Rattle.std.proofs.Common.{◌≡◌, ◌≢◌, Bool, true, false, ℕ, ℤ, pos, negsuc, ◌+ℤ◌, ◌-ℤ◌, ◌==◌, ◌&&◌, not, if◌then◌else◌, Option, Some, None, IsSome, List, Contains, inl, inr, ne_eqb, refl, sym, ap, ◌∙◌}
 use Rattle.std.specs.List.{list_any}
 use Rattle.std.proofs.Math.Bool.{and-false, and-true}
 use Rattle.std.proofs.Math.Path.{fun_ext}
-use Rattle.std.proofs.lemmas.Bool.{cases_Bool, false_from_ne_true}
+use Rattle.std.proofs.lemmas.Bool.{cases_Bool}
 use Rattle.std.proofs.lemmas.Bool.Decides.{same_from_decides}
 use Rattle.std.proofs.lemmas.List.Elements.{All-contains}
 use Rattle.std.proofs.lemmas.List.Folds.{Any-from_list_any, list_any-from_Any}
@@ -23,16 +23,12 @@ use Rattle.mls_stitch.proofs.Sides.{legal-AreBlocks}
 use Rattle.mls_layout.specs.Moves.{kind_at, moved}
 use Rattle.mls_session.specs.Changes.{dumped, has_square, leaves_world}
 use Rattle.mls_session.specs.Bounds.{moved_rect}
-use Rattle.mls_session.proofs.MovedRects.{IsMoved-moved_rect, has_square-IsMoved, holds-IsMoved, holds_at, square-leaves}
+use Rattle.mls_session.proofs.MovedRects.{IsMoved-moved_rect, holds-IsMoved, holds_at, square-leaves}
 use Rattle.mls_session.proofs.TilePieces.{ArePatches, is_covered}
 
 -- the square is one of the tile's, moved, and isn't space
 abbrev pub dumps : ℤ → ℤ → LaidTile → ℕ → ℕ → Bool
 dumps dx dy tile x y = holds_at tile.piece.rect (pos x -ℤ dx) (pos y -ℤ dy) && not (tile.piece.kind == 0)
-
--- the tile is space, or isn't lost as it is moved
-abbrev pub Stays : ℤ → ℤ → LaidTile → Type 0
-Stays dx dy tile = tile.piece.kind ≢ 0 → moved_rect tile.piece.rect dx dy ≢ None
 
 both : (a b : Bool) → a ≡ true → b ≡ true → (a && b) ≡ true
 both a b first second = rw (first, second) refl
@@ -74,7 +70,7 @@ leaves_world-at picture dx dy x y inside leaves =
     list_any-from_Any (λ y. list_any (λ x. test x y) (columns world)) (rows world)
     (i, y, row_within, row_is, list_any-from_Any (λ x. test x y) (columns world) (j, x, column_within, column_is, leaves))
 
-at-leaves_world :
+pub at-leaves_world :
     (picture : Picture) (dx dy : ℤ) → leaves_world picture dx dy ≡ true
     → (x : ℕ) × (y : ℕ) × (holds world x y ≡ true) × ((not (picture x y == 0) && not (has_square (pos x +ℤ dx) (pos y +ℤ dy))) ≡ true)
 unfolding leaves_world
@@ -85,15 +81,6 @@ at-leaves_world picture dx dy h =
     let row = range_with_len-Contains world.bottom world.top y (i, row_within, row_is) in
     let column = range_with_len-Contains world.left world.right x (j, column_within, column_is) in
     (x, y, between_holds world x y column.0 column.1 row.0 row.1, leaves)
-
--- no square of a rectangle that stays does
-keeps :
-    (dx dy : ℤ) (x y : ℕ) (e : Rect) (after : Option Rect) → IsRectangleIn world e → holds e x y ≡ true → moved_rect e dx dy ≡ after → after ≢ None
-    → not (has_square (pos x +ℤ dx) (pos y +ℤ dy)) ≡ true → ⊥
-keeps dx dy x y e None legal inside is stays leaves = stays refl
-keeps dx dy x y e (Some r) legal inside is stays leaves =
-    let there = has_square-IsMoved e r dx dy x y (IsMoved-moved_rect e r dx dy legal.wide legal.tall is) inside in
-    absurd (cc (sym leaves ∙ ap not there))
 
 -- ---- what is painted
 module _ (tiles : List (ℕ × Tile)) (list : List LaidTile) (plane : IsPlane tiles) (differ : KeysDiffer tiles) (found : AreInArea (block_at tiles) world list) where
@@ -173,17 +160,6 @@ module _ (tiles : List (ℕ × Tile)) (list : List LaidTile) (plane : IsPlane ti
       let kind = shows_there tile x y there inside in
       let is_some : not (shown tiles x y == 0) ≡ true = ap (λ k. not (k == 0)) kind ∙ ap not (ne_eqb tile.piece.kind 0 some) in
       leaves_world-at (shown tiles) dx dy x y (holds_outer world tile.piece.rect x y legal inside) (both _ _ is_some (ap not out))
-
-  pub leaves_world-Stays : (dx dy : ℤ) → All (Stays dx dy) list → leaves_world (shown tiles) dx dy ≡ false
-  leaves_world-Stays dx dy stays = false_from_ne_true (leaves_world (shown tiles) dx dy) (λ leaves.
-      let (x, y, inside, out) = at-leaves_world (shown tiles) dx dy leaves in
-      let tests = parts (not (shown tiles x y == 0)) (not (has_square (pos x +ℤ dx) (pos y +ℤ dy))) out in
-      let (tile, there, held) = tile_there x y tests.0 in
-      let legal = legal_there tile there in
-      let kind = shows_there tile x y there held in
-      let some : tile.piece.kind ≢ 0 = λ zero. absurd (cc (sym tests.0 ∙ ap (λ k. not (k == 0)) (kind ∙ zero))) in
-      let kept = All-contains (Stays dx dy) list tile stays there some in
-      keeps dx dy x y tile.piece.rect (moved_rect tile.piece.rect dx dy) legal held refl kept tests.1)
 
   pub moved_rect-some :
       (dx dy : ℤ) (tile : LaidTile) → Contains list tile → tile.piece.kind ≢ 0 → leaves_world (shown tiles) dx dy ≡ false → IsSome (moved_rect tile.piece.rect dx dy)

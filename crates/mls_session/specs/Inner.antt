@@ -1,9 +1,9 @@
 -- The words of private contracts. A caller needs none of them.
-use Rattle.std.specs.Prelude.{◌≡◌, ℕ, ◌+◌, ◌*◌, ◌^◌, ◌++◌, ◌<◌, ◌≤◌, false, true, if◌then◌else◌, Option, Some, None, List, [], ◌∷◌, IfSome, length, map}
-use Rattle.std.specs.List.{All, Contains, range_with_len}
+use Rattle.std.specs.Prelude.{◌≡◌, ℕ, ℤ, Result, Ok, Err, ◌+◌, ◌*◌, ◌^◌, ◌++◌, ◌<◌, ◌≤◌, false, true, if◌then◌else◌, Option, Some, None, List, [], ◌∷◌, IfSome, get_or, length, map}
+use Rattle.std.specs.List.{All, range_with_len}
 use Rattle.mls_geom.specs.Layouts.{Layout}
-use Rattle.mls_geom.specs.Pictures.{Picture}
-use Rattle.mls_geom.specs.Rects.{Rect, joined}
+use Rattle.mls_geom.specs.Pictures.{Picture, overlaid}
+use Rattle.mls_geom.specs.Rects.{Rect}
 use Rattle.mls_geom.specs.TileCounts.{tile_count}
 use Rattle.mls_geom.specs.World.{world}
 use Rattle.mls_geom.specs.declared.piece.Piece.{Piece}
@@ -11,6 +11,7 @@ use Rattle.mls_library.specs.Libraries.{IsFrozen}
 use Rattle.mls_library.specs.SavedCells.{strips_on}
 use Rattle.mls_paint.specs.Planes.{layout_in, picture_in}
 use Rattle.mls_tilepool.specs.Pools.{Pool, room_of}
+use Rattle.mls_session.specs.Bounds.{moved_rect}
 use Rattle.mls_session.specs.Changes.{dumped, erased, leaves_world}
 use Rattle.mls_errorplane.specs.DirtyLists.{IsDirtyList, area_of}
 use Rattle.mls_errorplane.specs.declared.catching_up.CaughtUp.{CaughtUp}
@@ -29,15 +30,19 @@ use Rattle.mls_session.specs.declared.command.Command.TheVariants.{CatchUp}
 use Rattle.mls_session.specs.declared.executed.Executed.{Executed}
 use Rattle.mls_session.specs.declared.journal.Entry.{Entry}
 use Rattle.mls_session.specs.declared.journal.Said.{Said}
-use Rattle.mls_session.specs.declared.refusal.Refusal.TheVariants.{Memory, Quota}
+use Rattle.mls_session.specs.declared.refusal.Refusal.{Refusal}
+use Rattle.mls_session.specs.declared.refusal.Refusal.TheVariants.{CellOutside, Memory, Quota}
 use Rattle.mls_session.specs.declared.reply.Reply.{Reply}
 use Rattle.mls_session.specs.declared.reply.Reply.TheVariants.{Done, Stopped}
 
--- the smallest rectangle round both, where there may be only one of them or none
-abbrev pub round_both : Option Rect → Option Rect → Option Rect
-round_both None other = other
-round_both (Some a) None = Some a
-round_both (Some a) (Some b) = Some (joined a b)
+-- where bounds lie that are moved, unless they leave the world
+abbrev pub placed_at : Option Rect → Result (Option Rect) Refusal
+placed_at None = Err CellOutside
+placed_at (Some rect) = Ok (Some rect)
+
+abbrev pub placed_bounds : Option Rect → ℤ → ℤ → Result (Option Rect) Refusal
+placed_bounds None dx dy = Ok None
+placed_bounds (Some bounds) dx dy = placed_at (moved_rect bounds dx dy)
 
 -- what a change makes of what a plane shows
 abbrev pub changed : Pool → Change → ℕ → Picture → Picture
@@ -48,6 +53,14 @@ changed pool (DumpChange planes dx dy) plane below = dumped below (layout_in poo
 abbrev pub changed_layout : Pool → Change → Layout → Layout
 changed_layout pool change layout plane = changed pool change plane (layout plane)
 
+-- what a layout shows once the pieces of each plane are painted over it
+abbrev pub painted_over : List (List Piece) → Layout → Layout
+painted_over pieces layout plane = overlaid (layout plane) (get_or pieces plane [])
+
+-- painted over the layout's first planes, these pieces make the change
+abbrev pub ListsChange : Pool → Change → ℕ → Layout → List (List Piece) → Type 0
+ListsChange pool change planes layout pieces = (plane : ℕ) → plane < planes → painted_over pieces layout plane ≡ changed_layout pool change layout plane
+
 -- a list of this capacity has room for as many pieces as the owner has reserved tiles
 abbrev pub HasCapacityFor : Pool → ℕ → ℕ → Type 0
 HasCapacityFor pool owner capacity = IfSome (room_of pool owner) (λ room. room ≤ capacity)
@@ -57,10 +70,10 @@ abbrev pub CanChange : Pool → Change → Type 0
 CanChange pool (EraseChange rect kinds) = Unit {0}
 CanChange pool (DumpChange planes dx dy) = All (IsFrozen pool) planes.now × All (λ owner. leaves_world (picture_in pool owner) dx dy ≡ false) planes.now
 
--- the change reads no plane of these owners, and at most as many planes as there are
-abbrev pub IsApartFrom : Change → List ℕ → Type 0
-IsApartFrom (EraseChange rect kinds) owners = Unit {0}
-IsApartFrom (DumpChange planes dx dy) owners = All (λ owner. ¬ (Contains owners owner)) planes.now × (length planes.now ≤ length owners)
+-- the change reads at most this many planes
+abbrev pub ReadsAtMost : ℕ → Change → Type 0
+ReadsAtMost count (EraseChange rect kinds) = Unit {0}
+ReadsAtMost count (DumpChange planes dx dy) = length planes.now ≤ count
 
 -- none of the first planes of the layout has more tiles than the quota
 abbrev pub FitsQuota : ℕ → ℕ → Layout → Type 0

@@ -5,7 +5,7 @@ ghost use Rattle.mls_geom.specs.Pictures.{Picture, overlaid};
 ghost use Rattle.mls_library.specs.Libraries.{IsFrozen, most_tiles};
 ghost use Rattle.mls_paint.specs.Planes.{HasStrips, layout_in, picture_in};
 ghost use Rattle.mls_paint.specs.Scratches.{HasRoomFor, KeepsRoom};
-ghost use Rattle.mls_session.specs.Changes.{dumped, erased, layout_leaves_world, leaves_world};
+ghost use Rattle.mls_session.specs.Changes.{dumped, erased, leaves_world};
 ghost use Rattle.mls_session.specs.Inner.{CanChange, HasCapacityFor, changed};
 ghost use Rattle.mls_tilepool.specs.Pools.{room_of};
 
@@ -129,41 +129,4 @@ fn list_dumped(
             });
         }
     }
-}
-
-/// Returns whether a square of the cell that isn't space leaves the world as it is moved.
-pub(crate) fn cell_leaves_world(
-    pool: &Pool,
-    planes: &[Plane],
-    dx: i32,
-    dy: i32,
-    scratch: &mut Scratch,
-) -> bool
-    requires cell { All (IsFrozen pool.now) planes.now }
-    requires cell_room { most_tiles ≤ scratch.old.room }
-    ensures leaves { result ≡ layout_leaves_world (length planes.now) (layout_in pool.now planes.now) dx dy }
-    ensures rooms { KeepsRoom scratch.old scratch.new }
-{
-    for plane in planes {
-        if plane_leaves_world(pool, plane, dx, dy, scratch) {
-            return true;
-        }
-    }
-    false
-}
-
-/// Returns whether a square of a cell's plane that isn't space leaves the world as it is moved.
-fn plane_leaves_world(pool: &Pool, plane: &Plane, dx: i32, dy: i32, scratch: &mut Scratch) -> bool
-    requires cell { IsFrozen pool.now plane.now }
-    requires cell_room { most_tiles ≤ scratch.old.room }
-    ensures leaves { result ≡ leaves_world (picture_in pool.now plane.now) dx dy }
-    ensures rooms { KeepsRoom scratch.old scratch.new }
-{
-    strips_of(pool, plane, scratch);
-    for tile in scratch.tiles() {
-        if tile.piece.kind != 0 && moved_rect(tile.piece.rect, dx, dy).is_none() {
-            return true;
-        }
-    }
-    false
 }

@@ -1,26 +1,29 @@
 -- The tiles round the touched ones, gathered from one search after another, or from one round all.
-use Rattle.std.proofs.Common.{◌≡◌, ◌⊎◌, ◌↔◌, ℕ, ◌+◌, ◌<◌, ◌≤◌, ◌==◌, Bool, true, false, not, cond, IsTrue, List, [], ◌∷◌, ◌++◌, length, take, get_or, slice_get, Option, Some, None, Any, Contains, inl, inr, sym, ap, ◌∙◌, subst, append-nil, append_assoc, arith}
+use Rattle.std.proofs.Common.{◌≡◌, ◌⊎◌, ◌↔◌, ℕ, filter, refl, ◌+◌, ◌<◌, ◌≤◌, ◌==◌, Bool, true, false, not, cond, IsTrue, List, [], ◌∷◌, ◌++◌, length, take, get_or, slice_get, Option, Some, None, Any, Contains, inl, inr, sym, ap, ◌∙◌, subst, append-nil, append_assoc, arith}
 use Rattle.std.specs.List.{list_any}
 use Rattle.std.specs.Option.{IfSome, IsSomeAnd, option_map}
 use Rattle.std.proofs.lemmas.Bool.{cases_lt}
+use Rattle.std.proofs.lemmas.List.Filters.{length-filter_both}
 use Rattle.std.proofs.lemmas.List.Elements.{All-append, All-contains, All-filter, All-nil, Contains-push_cases, filter_more, filter_passes}
 use Rattle.std.proofs.lemmas.Option.{get_or_from_slice_get, same_Some, slice_get_within}
-use Rattle.mls_geom.specs.Rects.{Rect, Point, IsWithin, holds}
+use Rattle.mls_geom.specs.Rects.{Rect, Point, IsWithin, holds, meets}
 use Rattle.mls_geom.specs.declared.piece.Piece.{Piece}
 use Rattle.mls_geom.proofs.Ascending.{Contains-filter}
-use Rattle.mls_geom.proofs.Holds.{between_holds, holds_between}
 use Rattle.mls_geom.proofs.JoinedLists.{Any-append_left, Any-append_right}
+use Rattle.mls_tilepool.specs.declared.tile.Tile.{Tile}
+use Rattle.mls_stitch.specs.Areas.{AreSearched}
 use Rattle.mls_stitch.specs.Gathering.{AreMet, EncloseBlocks, IsInPart}
 use Rattle.mls_stitch.specs.Pending.{keys_of}
 use Rattle.mls_stitch.specs.Placing.{IsLost, KeepsKeys, Surround, unlisted_of}
 use Rattle.mls_stitch.specs.Replacements.{IsHeld}
 use Rattle.mls_stitch.specs.Stitches.{HoldsAt}
-use Rattle.mls_stitch.specs.Tilings.{AreBlocks}
+use Rattle.mls_stitch.specs.Tilings.{AreBlocks, block_at}
 use Rattle.mls_stitch.specs.declared.laid_tile.LaidTile.{LaidTile}
 use Rattle.mls_stitch.proofs.CloseSquares.{close_in_grown}
 use Rattle.mls_stitch.proofs.DistinctNumbers.{cases_Contains}
 use Rattle.mls_stitch.proofs.FreshTiles.{entry-keys_of, list_any-Contains, list_any-absent}
-use Rattle.mls_stitch.proofs.Gathered.{IsRound, both_true, met_square}
+use Rattle.mls_stitch.proofs.Gathered.{AreMet-meeting, IsRound, both_true, held_inside, met_square}
+use Rattle.mls_stitch.proofs.ListedTiles.{length-le-AreLaid}
 use Rattle.mls_stitch.proofs.Listings.{same_tile}
 use Rattle.mls_stitch.proofs.ReplacedStitches.{Any-contained}
 use Rattle.mls_stitch.proofs.Sides.{HoldsAt-block, holds-HoldsAt, there-IsSomeAnd}
@@ -127,6 +130,23 @@ held_or_kept blocks keys found tile at listed laid holding =
           inr (Any-contained (λ (t : LaidTile). IsTrue (holds t.piece.rect at.x at.y)) (unlisted_of keys found) tile (Contains-filter (is_unlisted keys) found tile listed unlisted) holding)
     ]
 
+-- where an area was searched, its tiles that meet a smaller one are all of its
+pub searched_inside :
+    (blocks : ℕ → Option Piece) (searched : Option Rect) (inner : Rect) (list : List LaidTile) → AreBlocks blocks → AreSearched blocks searched list → IsSomeAnd searched (λ area. IsWithin area inner)
+    → AreMet blocks inner (filter (λ (tile : LaidTile). meets tile.piece.rect inner) list)
+searched_inside blocks None inner list tiling given inside = absurd inside
+searched_inside blocks (Some area) inner list tiling (met, once) inside = AreMet-meeting blocks area inner list tiling met inside
+
+-- which are at most all
+pub searched_few :
+    (tiles : List (ℕ × Tile)) (searched : Option Rect) (inner : Rect) (list : List LaidTile) → AreSearched (block_at tiles) searched list → IsSomeAnd searched (λ area. IsWithin area inner) → length list ≤ length tiles
+searched_few tiles None inner list given inside = absurd inside
+searched_few tiles (Some area) inner list (met, once) inside = length-le-AreLaid tiles list (λ k d within. (met.each k d within).laid) once
+
+pub meeting_few : (list : List LaidTile) (area : Rect) → length (filter (λ (tile : LaidTile). meets tile.piece.rect area) list) ≤ length list
+meeting_few list area =
+    omega (arith, length-filter_both (λ (t : LaidTile). meets t.piece.rect area) (λ (t : LaidTile). not (meets t.piece.rect area)) (λ t. refl) list)
+
 -- round bounds with all these squares these tiles were found
 pub Surround-met :
     (blocks : ℕ → Option Piece) (keys : List ℕ) (squares : Point → Type 0) (bounds area : Rect) (found : List LaidTile) → AreBlocks blocks
@@ -142,17 +162,12 @@ Surround-met blocks keys squares bounds area found tiling inside around met = re
       held_or_kept blocks keys found tile at listed laid holding;
 }
 
--- a square of a tile in the bounds is one of theirs
-square_within : (bounds e : Rect) (p : Point) → IsWithin bounds e → holds e p.x p.y ≡ true → holds bounds p.x p.y ≡ true
-square_within bounds e p inside held =
-    let lines = holds_between e p.x p.y held in
-    between_holds bounds p.x p.y (omega (arith, lines.0, inside.left)) (omega (arith, lines.1, inside.right)) (omega (arith, lines.2, inside.bottom)) (omega (arith, lines.3, inside.top))
-
+-- the squares of tiles in the bounds are squares of theirs
 pub held_within : (blocks : ℕ → Option Piece) (bounds : Rect) (keys : List ℕ) (p : Point) → EncloseBlocks blocks bounds keys → IsHeld blocks keys p → holds bounds p.x p.y ≡ true
 held_within blocks bounds keys p inside (k, key, within, is, held) =
     let (block, here, in_block) = there-IsSomeAnd (blocks key) (λ b. holds b.rect p.x p.y ≡ true) held in
     let reached : IsWithin bounds block.rect = subst (λ o. IfSome o (λ b. IsWithin bounds b.rect)) here (All-contains (λ j. IfSome (blocks j) (λ b. IsWithin bounds b.rect)) keys key inside (k, within, is)) in
-    square_within bounds block.rect p reached in_block
+    held_inside bounds block.rect p.x p.y reached in_block
 
 -- these squares, and those of these parts
 abbrev pub IsOneOrPart : (Point → Type 0) → List (Option Rect) → Point → Type 0

@@ -1,21 +1,21 @@
 -- Bounds, and the tiles that a search or a scan of an area found.
-use Rattle.std.proofs.Common.{◌≡◌, ◌⊎◌, ℕ, Bool, ◌&&◌, true, false, IsTrue, List, [], ◌∷◌, ◌++◌, length, get_or, Option, Some, None, All, Any, Contains, inl, inr, refl, sym, ap, ◌∙◌, subst, arith}
+use Rattle.std.proofs.Common.{◌≡◌, ◌⊎◌, ℕ, Bool, ◌&&◌, true, false, IsTrue, List, [], ◌∷◌, ◌++◌, length, get_or, Option, Some, None, All, Any, Contains, filter, inl, inr, refl, sym, ap, ◌∙◌, subst, arith}
 use Rattle.std.specs.Option.{IfNone, IfSome, IsSome, option_map_or}
 use Rattle.std.proofs.lemmas.Bool.{both_ways, cases_eq, cond-false, ne_eqb}
-use Rattle.std.proofs.lemmas.List.Elements.{All-contains, All-push, All-nil, Contains-append_left, Contains-append_right}
+use Rattle.std.proofs.lemmas.List.Elements.{All-contains, All-filter, All-push, All-nil, Contains-append_left, Contains-append_right, filter_passes}
 use Rattle.std.proofs.lemmas.Option.{same_Some}
 use Rattle.mls_geom.specs.Locality.{touches}
 use Rattle.mls_geom.specs.Rects.{Rect, Point, IsRectangleIn, IsWithin, grown, holds, joined, meets}
 use Rattle.mls_geom.specs.World.{world}
 use Rattle.mls_geom.specs.declared.piece.Piece.{Piece}
-use Rattle.mls_geom.proofs.Ascending.{Contains-first, Contains-map}
+use Rattle.mls_geom.proofs.Ascending.{Contains-filter, Contains-first, Contains-map}
 use Rattle.mls_geom.proofs.Holds.{between_holds, holds_between}
 use Rattle.mls_geom.proofs.JoinedRects.{IsWithin-joined, IsWithin-joined_itself}
 use Rattle.mls_geom.proofs.KindsShown.{common_square, meets_by_square}
 use Rattle.mls_geom.proofs.PiecePictures.{holds_outer}
 use Rattle.mls_tilepool.specs.Pools.{tile_in}
 use Rattle.mls_tilepool.specs.declared.tile.Tile.{Tile}
-use Rattle.mls_stitch.specs.Areas.{IsFound}
+use Rattle.mls_stitch.specs.Areas.{IsFound, MeetArea}
 use Rattle.mls_stitch.specs.Enumerations.{IsListedTo}
 use Rattle.mls_stitch.specs.Gathering.{AreMet}
 use Rattle.mls_stitch.specs.Pending.{keys_of}
@@ -24,6 +24,7 @@ use Rattle.mls_stitch.specs.Walks.{IsLaid}
 use Rattle.mls_stitch.specs.declared.laid_tile.LaidTile.{LaidTile}
 use Rattle.mls_stitch.proofs.FreshTiles.{entry-keys_of}
 use Rattle.mls_stitch.proofs.Listings.{listed_whole}
+use Rattle.mls_stitch.proofs.ReplacedStitches.{Any-contained}
 use Rattle.mls_stitch.proofs.Sides.{HoldsAt-block, there-IsSomeAnd}
 
 -- the smallest rectangle round more and more has more and more within it
@@ -63,6 +64,29 @@ AreMet-listed blocks area list tiling inside listed = record {
       let (x, y, in_block, in_area) = common_square block.rect area met in
       met_key blocks key block list x y tiling here in_block (λ k d within. (listed.each k d within).laid) (listed_whole blocks area list tiling inside listed x y in_area);
 }
+
+-- a rectangle has the squares of those in it
+pub held_inside : (outer e : Rect) (x y : ℕ) → IsWithin outer e → holds e x y ≡ true → holds outer x y ≡ true
+held_inside outer e x y inside held =
+    let lines = holds_between e x y held in
+    between_holds outer x y (omega (arith, lines.0, inside.left)) (omega (arith, lines.1, inside.right)) (omega (arith, lines.2, inside.bottom)) (omega (arith, lines.3, inside.top))
+
+-- of the tiles of an area those that meet a smaller one are all of its
+pub AreMet-meeting :
+    (blocks : ℕ → Option Piece) (area inner : Rect) (list : List LaidTile) → AreBlocks blocks → MeetArea blocks area list → IsWithin area inner
+    → AreMet blocks inner (filter (λ (tile : LaidTile). meets tile.piece.rect inner) list)
+AreMet-meeting blocks area inner list tiling met within =
+    let meeting = λ (tile : LaidTile). meets tile.piece.rect inner in
+    let laid = All-filter meeting (IsLaid blocks) list (λ k d less. (met.each k d less).laid) in
+    record {
+      each = λ k d less. record { laid = laid k d less; met = filter_passes meeting list k d less };
+      whole = λ key block here touched.
+          let (x, y, in_block, in_inner) = common_square block.rect inner touched in
+          let (k, tile, less, is, held) = met.whole x y (held_inside area inner x y within in_inner) in
+          let listed = Contains-filter meeting list tile (k, less, is) (meets_by_square tile.piece.rect inner x y held in_inner) in
+          met_key blocks key block (filter meeting list) x y tiling here in_block laid
+          (Any-contained (λ (t : LaidTile). IsTrue (holds t.piece.rect x y)) (filter meeting list) tile listed held);
+    }
 
 -- a listed tile has each square of the world that lies in the area
 pub met_square :

@@ -1,5 +1,5 @@
 -- Area search (Ousterhout 1984), and the scratch in which it leaves what it finds.
-use Rattle.std.specs.Prelude.{◌≡◌, ℕ, max, Bool, ◌&&◌, ◌||◌, ◌==◌, nat_lt, IsTrue, List, map, Option, Some, ◌≢◌, true}
+use Rattle.std.specs.Prelude.{◌≡◌, ℕ, max, Bool, ◌&&◌, ◌||◌, ◌==◌, nat_lt, IfSome, IsTrue, List, map, Option, Some, ◌≢◌, true}
 use Rattle.std.specs.List.{All, Any, AllPairs, Contains}
 use Rattle.mls_geom.specs.Locality.{is_touched}
 use Rattle.mls_geom.specs.Rects.{Rect, holds, meets}
@@ -27,6 +27,10 @@ pub record IsFound (blocks : ℕ → Option Piece) (area : Rect) (tile : LaidTil
 pub record MeetArea (blocks : ℕ → Option Piece) (area : Rect) (list : List LaidTile) : Type 0 where
   pub each : All (IsFound blocks area) list
   pub whole : (x y : ℕ) → IsTrue (holds area x y) → Any (λ tile. IsTrue (holds tile.piece.rect x y)) list
+
+-- where an area was searched, the list has the tiles that have a square of it, each once
+abbrev pub AreSearched : (ℕ → Option Piece) → Option Rect → List LaidTile → Type 0
+AreSearched blocks searched list = IfSome searched (λ area. MeetArea blocks area list × AllPairs (λ p q. p.id ≢ q.id) list)
 
 -- the list has the tiles that have a square of the area, in order, each once
 pub record AreInArea (blocks : ℕ → Option Piece) (area : Rect) (list : List LaidTile) : Type 0 where

@@ -1,8 +1,10 @@
 //! The tiles around touched ones.
-ghost use Rattle.std.specs.Prelude.{◌≡◌, ◌≢◌, ◌==◌, ◌↔◌, ◌⊎◌, ◌++◌, ℕ, ◌+◌, ◌≤◌, IsSome, IsTrue, length, vec_len, vec_capacity};
+ghost use Rattle.std.specs.Prelude.{◌≡◌, ◌≢◌, ◌==◌, ◌↔◌, ◌⊎◌, ◌++◌, ℕ, ◌+◌, ◌≤◌, IsSome, IsTrue, filter, length, vec_len, vec_capacity};
 ghost use Rattle.std.specs.List.{All, AllPairs, Contains, list_any};
 ghost use Rattle.std.specs.List.Sorted.{IsNonDecreasing};
 ghost use Rattle.mls_tilepool.specs.Pools.{count_of, tile_at, tiles_of};
+ghost use Rattle.mls_geom.specs.Rects.{meets};
+ghost use Rattle.mls_stitch.specs.Areas.{AreSearched};
 ghost use Rattle.mls_stitch.specs.Placing.{IsLost, KeepsKeys, Surround, unlisted_of};
 ghost use Rattle.mls_stitch.specs.Replacements.{IsHeld};
 ghost use Rattle.mls_stitch.specs.Tilings.{HasPlane, block_at};
@@ -15,6 +17,7 @@ use crate::parts::parts_lost;
 use crate::replacement::Replacement;
 use crate::scan::scan_area;
 use crate::steps::{Steps, are_many};
+use mls_geom::Rect;
 use mls_tilepool::{Owner, Pool, TileId};
 
 /// How many steps the searches round single tiles take at most for each tile of the plane.
@@ -104,8 +107,22 @@ fn list_round_all(
     }
 }
 
+/// Makes `found` those of the tiles that have a square of the area.
+fn list_meeting(tiles: &[LaidTile], area: Rect, found: &mut Vec<LaidTile>)
+    requires room { length tiles.now ≤ vec_capacity found.old }
+    ensures found { found.new.items ≡ filter (λ tile. meets tile.piece.rect area) tiles.now }
+    ensures room { vec_capacity found.new ≡ vec_capacity found.old }
+{
+    found.clear();
+    for tile in tiles {
+        if tile.meets(area) {
+            found.push_reserved(*tile);
+        }
+    }
+}
+
 /// Lists the tiles round the squares that each touched tile loses in turn, other than the ones with the keys. A tile
-/// may be listed more than once.
+/// may be listed more than once. Where the tiles of an area are found already, none is searched there again.
 ///
 /// Returns `false` if that takes more than a few steps for each tile of the plane, or there are many to go round.
 fn list_round_lost(
@@ -118,6 +135,7 @@ fn list_round_lost(
 ) -> bool
     requires plane { HasPlane pool.now owner.now }
     requires there { All (λ key. IsSome (tile_at pool.now owner.now key)) replacement.now.touched.now }
+    requires searched { AreSearched (block_at (tiles_of pool.now owner.now)) replacement.now.searched replacement.now.around.now }
     requires ascending { IsNonDecreasing keys.now }
     requires found_fit { count_of pool.now owner.now ≤ vec_capacity found.old }
     requires entries_fit { count_of pool.now owner.now + count_of pool.now owner.now
@@ -144,7 +162,12 @@ fn list_round_lost(
         let parts = parts_lost(whole, replacement.rect_at(index));
         for part in &parts {
             if let Some(part) = part {
-                list_tiles(pool, owner, *id, part.grow(1), found, &mut steps);
+                let round = part.grow(1);
+                if replacement.has_searched(round) {
+                    list_meeting(replacement.around, round, found);
+                } else {
+                    list_tiles(pool, owner, *id, round, found, &mut steps);
+                }
                 if steps.are_spent() {
                     return false;
                 }
@@ -169,6 +192,7 @@ pub(crate) fn list_around(
 )
     requires plane { HasPlane pool.now owner.now }
     requires there { All (λ key. IsSome (tile_at pool.now owner.now key)) replacement.now.touched.now }
+    requires searched { AreSearched (block_at (tiles_of pool.now owner.now)) replacement.now.searched replacement.now.around.now }
     requires keys_fit { length replacement.now.touched.now ≤ vec_capacity keys.old }
     requires found_fit { count_of pool.now owner.now ≤ vec_capacity found.old }
     requires entries_fit { count_of pool.now owner.now + count_of pool.now owner.now

@@ -1,6 +1,7 @@
 //! Replacing tiles.
 ghost use Rattle.std.specs.Prelude.{◌≡◌, ◌+◌, ◌<◌, ◌≤◌, ◌↔◌, IfSome, OnOk, OnErr, IsErr, IsSomeAnd, IsTrue, length};
 ghost use Rattle.mls_tilepool.specs.Pools.{IsOwner, count_of, room_of, tiles_of};
+ghost use Rattle.mls_stitch.specs.Areas.{AreSearched};
 ghost use Rattle.mls_stitch.specs.Tilings.{ChangesOnly, HasPlane, block_at};
 ghost use Rattle.mls_stitch.specs.Replacements.{Replaces, TakePlace};
 
@@ -9,7 +10,7 @@ use crate::place::place_instead;
 use crate::replacement::Replacement;
 use crate::stitching::stitch_listed;
 use crate::{Plane, Scratch};
-use mls_geom::Piece;
+use mls_geom::{Piece, Rect};
 use mls_tilepool::{NoRoom, Owner, Pool, TileId};
 
 /// Returns whether the owner's room is enough once as many tiles as are touched have given way to the fresh ones.
@@ -28,17 +29,19 @@ impl Plane {
     /// Replaces the touched tiles by pieces over exactly their squares.
     ///
     /// All other tiles keep their names, rectangles and kinds, and each stitch that did not lead to a touched tile.
-    /// The names of touched tiles serve again as far as they go. Fails if the owner has no room for more tiles, and
-    /// then leaves all as it was.
+    /// The names of touched tiles serve again as far as they go. Where the scratch has all tiles of an area, `searched`,
+    /// none is searched there again. Fails if the owner has no room for more tiles, and then leaves all as it was.
     pub fn replace(
         &mut self,
         pool: &mut Pool,
         touched: &[TileId],
         fresh: &[Piece],
+        searched: Option<Rect>,
         scratch: &mut Scratch,
     ) -> Result<(), NoRoom>
         requires plane { HasPlane pool.old self.old }
         requires pieces { TakePlace (block_at (tiles_of pool.old self.old)) touched.now fresh.now }
+        requires searched { AreSearched (block_at (tiles_of pool.old self.old)) searched scratch.old.tiles }
         requires tiles_fit { count_of pool.old self.old ≤ scratch.old.room }
         requires pieces_fit { length fresh.now ≤ scratch.old.room }
         ensures no_room { IsErr result ↔ IsSomeAnd (room_of pool.old self.old)
@@ -55,13 +58,18 @@ impl Plane {
         if !has_room(pool, &self.owner, touched.len(), fresh.len()) {
             return Err(NoRoom);
         }
-        let replacement = Replacement { touched, fresh };
+        let replacement = Replacement {
+            touched,
+            fresh,
+            searched,
+            around: &scratch.tiles,
+        };
         list_around(
             pool,
             &self.owner,
             &replacement,
             &mut scratch.touched,
-            &mut scratch.tiles,
+            &mut scratch.found,
             &mut scratch.entries,
         );
         let kept = scratch.entries.len();

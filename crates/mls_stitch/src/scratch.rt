@@ -11,7 +11,10 @@ use std::marker::Model;
 #[derive(Drop)]
 pub struct Scratch {
     room: usize,
+    // Twice as many: a tile may be found more than once.
     pub(crate) tiles: Vec<LaidTile>,
+    // What is searched where the tiles stay.
+    pub(crate) found: Vec<LaidTile>,
     // Twice as many: tiles to be stitched, and their neighbours.
     pub(crate) entries: Vec<LaidTile>,
     // The keys of tiles that are to give way, in ascending order.
@@ -26,7 +29,8 @@ impl Model for Scratch {
 
     ghost view = { λ s. record { tiles = s.tiles.items; room = s.room } };
 
-    ghost invariant = { λ s. (s.room ≤ vec_capacity s.tiles) × (s.room + s.room ≤ vec_capacity s.entries)
+    ghost invariant = { λ s. (s.room + s.room ≤ vec_capacity s.tiles) × (s.room ≤ vec_capacity s.found)
+        × (s.room + s.room ≤ vec_capacity s.entries)
         × (s.room ≤ vec_capacity s.touched) };
 }
 
@@ -38,7 +42,8 @@ impl Scratch {
         let room = room as usize;
         Ok(Scratch {
             room,
-            tiles: Vec::with_capacity(alloc, room)?,
+            tiles: Vec::with_capacity(alloc, 2 * room)?,
+            found: Vec::with_capacity(alloc, room)?,
             entries: Vec::with_capacity(alloc, 2 * room)?,
             touched: Vec::with_capacity(alloc, room)?,
         })

@@ -102,7 +102,7 @@ impl Plane {
         // So the call below fails only where there is no room at all.
         prove!(pool.count(&self.owner) <= pool.room(&self.owner));
         let corner = second.rect.corner();
-        self.replace(pool, &[tile], &[first, second], scratch)?;
+        self.replace(pool, &[tile], &[first, second], None, scratch)?;
         Ok(self.find(pool, corner))
     }
 
@@ -127,7 +127,7 @@ impl Plane {
     {
         // So there is room for one tile in place of two.
         prove!(pool.count(&self.owner) <= pool.room(&self.owner));
-        self.replace(pool, &[first, second], &[whole], scratch)
+        self.replace(pool, &[first, second], &[whole], None, scratch)
             .unwrap();
     }
 

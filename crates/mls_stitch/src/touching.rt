@@ -1,9 +1,9 @@
 //! The tiles that pieces touch.
-ghost use Rattle.std.specs.Prelude.{◌≡◌, ◌+◌, ◌++◌, ◌≤◌, IsSomeAnd, IsTrue, length, vec_len, vec_capacity};
+ghost use Rattle.std.specs.Prelude.{◌≡◌, ◌+◌, ◌++◌, ◌≤◌, IfSome, IsSome, IsSomeAnd, IsTrue, length, vec_len, vec_capacity};
 ghost use Rattle.mls_geom.specs.Rects.{IsWithin};
 ghost use Rattle.mls_tilepool.specs.Pools.{count_of, tiles_of};
-ghost use Rattle.mls_stitch.specs.Areas.{ListTouched};
-ghost use Rattle.mls_stitch.specs.Gathering.{HasTouched};
+ghost use Rattle.mls_stitch.specs.Areas.{AreSearched, ListTouched};
+ghost use Rattle.mls_stitch.specs.Gathering.{EnclosePieces, HasTouched};
 ghost use Rattle.mls_stitch.specs.Tilings.{HasPlane, block_at};
 
 use crate::around::{free_room, sort_dedup};
@@ -24,6 +24,41 @@ fn list_all(found: &[LaidTile], list: &mut Vec<LaidTile>)
     for tile in found {
         list.push_reserved(*tile);
     }
+}
+
+/// Returns the rectangle of the first piece, if it has all others within it.
+fn enclosing(over: &[Piece]) -> Option<Rect>
+    ensures { IfSome result (λ bounds. EnclosePieces bounds over.now) }
+{
+    let bounds = over.first()?.rect;
+    if over.iter().all(|piece| bounds.encloses(piece.rect)) {
+        Some(bounds)
+    } else {
+        None
+    }
+}
+
+/// Lists the tiles round the first piece, each once, if it has all others within it, and returns the area that was
+/// searched. The search starts at the plane's tile in hand.
+fn list_round_first(
+    pool: &Pool,
+    plane: &Plane,
+    over: &[Piece],
+    list: &mut Vec<LaidTile>,
+) -> Option<Rect>
+    requires plane { HasPlane pool.now plane.now }
+    requires room { count_of pool.now plane.now ≤ vec_capacity list.old }
+    ensures searched { AreSearched (block_at (tiles_of pool.now plane.now)) result list.new.items }
+    ensures touched { IsSome result → ListTouched (block_at (tiles_of pool.now plane.now)) over.now list.new.items }
+    ensures few { IsSome result → vec_len list.new ≤ count_of pool.now plane.now }
+    ensures room { vec_capacity list.new ≡ vec_capacity list.old }
+{
+    let bounds = enclosing(over)?;
+    let from = plane.hints.start(pool, &plane.owner, bounds.corner());
+    let mut steps = Steps::up_to(usize::MAX);
+    let area = bounds.grow(1);
+    list_tiles(pool, &plane.owner, from, area, list, &mut steps);
+    Some(area)
 }
 
 /// Returns whether the rectangle lies in the one round which tiles were searched last.
@@ -122,25 +157,34 @@ impl Plane {
     /// Finds tiles of the plane, each once, and among them all that one of the pieces touches, by a square, a side or a
     /// corner, and leaves them in the scratch.
     ///
-    /// Searches round each piece, and finds what these touch. Where the searches would take more than `turns`, or
-    /// there are many pieces beside the plane's tiles, looks at each tile of the plane instead, and finds those in
-    /// the bounds of all pieces and next to them. A search takes a turn for each tile that it goes through or looks
-    /// at.
-    pub fn touching(&mut self, pool: &Pool, over: &[Piece], turns: usize, scratch: &mut Scratch)
+    /// Searches once where the first piece has all others within it, and returns the area whose tiles are all found
+    /// then. Else searches round each piece; and where that would take more than `turns`, or there are many pieces
+    /// beside the plane's tiles, looks at each tile of the plane instead, and finds those in the bounds of all pieces
+    /// and next to them. A search takes a turn for each tile that it goes through or looks at.
+    pub fn touching(
+        &mut self,
+        pool: &Pool,
+        over: &[Piece],
+        turns: usize,
+        scratch: &mut Scratch,
+    ) -> Option<Rect>
         requires plane { HasPlane pool.now self.old }
         requires room { count_of pool.now self.old ≤ scratch.old.room }
         ensures touched { ListTouched (block_at (tiles_of pool.now self.old)) over.now scratch.new.tiles }
+        ensures searched { AreSearched (block_at (tiles_of pool.now self.old)) result scratch.new.tiles }
         ensures few { length scratch.new.tiles ≤ count_of pool.now self.old }
         ensures plane { self.new ≡ self.old }
         ensures scratch_room { scratch.new.room ≡ scratch.old.room }
     {
         let Scratch { tiles, entries, .. } = scratch;
-        list_touched(pool, self, over, turns, tiles, entries);
-        scratch.tiles.clear();
-        list_all(&scratch.entries, &mut scratch.tiles);
+        let searched = list_round_first(pool, self, over, tiles);
+        if searched.is_none() {
+            list_touched(pool, self, over, turns, entries, tiles);
+        }
         if let Some(tile) = scratch.tiles.first() {
             let first = over.first().map_or(tile.piece.rect, |piece| piece.rect);
             self.hints.keep(first.corner(), tile.id);
         }
+        searched
     }
 }

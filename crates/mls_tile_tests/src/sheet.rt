@@ -140,15 +140,16 @@ fn repaint(
 {
     find_area(plane, pool, piece.rect.grow(1), scratch)?;
     let names = names_of(alloc, scratch.tiles())?;
-    let touched = pieces_of(alloc, scratch.tiles())?;
+    let mut pieces = pieces_of(alloc, scratch.tiles())?;
     read(*piece);
-    read_all(&touched);
+    read_all(&pieces);
     let limit = ROOM as usize;
-    if touched.len() >= limit || !sweep.holds(limit, limit) || scratch.room() < limit {
+    if pieces.len() >= limit || !sweep.holds(limit, limit) || scratch.room() < limit {
         return Err(Fail::new("no room"));
     }
-    fresh_strips(&touched, &[*piece], limit, sweep)?;
-    plane.replace(pool, &names, sweep.strips(), scratch)?;
+    pieces.push(*piece)?;
+    fresh_strips(&pieces, limit, sweep)?;
+    plane.replace(pool, &names, sweep.strips(), None, scratch)?;
     Ok(())
 }
 

@@ -5,7 +5,6 @@ use Rattle.mls_geom.specs.declared.sweep.Sweep.{Sweep}
 
 -- a sweep over this many pieces fits: each piece has two lines, and so has the world
 pub record HasSweepRoom (sweep : Sweep) (room : ℕ) : Type 0 where
-  pub pieces : room ≤ vec_capacity sweep.pieces
   pub lines : 2 * room + 2 ≤ vec_capacity sweep.lines
   pub starts : room ≤ vec_capacity sweep.starts
   pub active : room ≤ vec_capacity sweep.active

@@ -1,19 +1,20 @@
 //! Commands that change several planes: all of them, or none.
-ghost use Rattle.std.specs.Prelude.{◌≡◌, not, length};
+ghost use Rattle.std.specs.Prelude.{◌≡◌, ◌<◌, ◌≤◌, IsTrue, not, length, map, ℕ};
+ghost use Rattle.mls_layout.specs.Workspaces.{most_planes};
 ghost use Rattle.mls_paint.specs.Owners.{ChangesAmong};
 ghost use Rattle.mls_paint.specs.Planes.{layout_in};
-ghost use Rattle.mls_session.specs.Inner.{CanChange, FitsQuota, IsApartFrom, changed_layout};
+ghost use Rattle.mls_session.specs.Inner.{CanChange, FitsQuota, ListsChange, ReadsAtMost, changed_layout, painted_over};
 ghost use Rattle.mls_session.specs.Own.{Config, are_types, change_step, edit_step, exceeds_quota};
 ghost use Rattle.mls_session.specs.OwnSteps.{design_step};
 ghost use Rattle.mls_session.specs.Setups.{config_of};
 
 use super::Design;
-use crate::bounds::dumped_rect;
-use crate::change::{Change, cell_leaves_world};
+use crate::bounds::placed_bounds;
+use crate::change::Change;
 use crate::{Command, Refusal, Reply, Setup};
 use mls_geom::Rect;
 use mls_kinds::KindSet;
-use mls_layout::{CellUse, MOST_USES, Workspace};
+use mls_layout::{CellUse, MOST_PLANES, MOST_USES, Workspace};
 use mls_library::CellId;
 use mls_paint::{fits, overlay};
 use mls_tech::Tech;
@@ -75,11 +76,10 @@ impl Design {
             return Reply::Refused(Refusal::UnknownCell);
         };
         let planes = cell.planes();
-        let Workspace { pool, scratch, .. } = workspace;
-        if cell_leaves_world(pool, planes, dx, dy, scratch) {
-            return Reply::Refused(Refusal::CellOutside);
-        }
-        let rect = dumped_rect(pool, planes, dx, dy, scratch);
+        let rect = match placed_bounds(cell.bounds(), dx, dy) {
+            Ok(rect) => rect,
+            Err(refusal) => return Reply::Refused(refusal),
+        };
         self.change(setup, &Change::Dump { planes, dx, dy }, rect, workspace)
     }
 
@@ -108,15 +108,13 @@ impl Design {
         let Some(cell) = setup.library.get(id) else {
             return Reply::Refused(Refusal::UnknownCell);
         };
-        let planes = cell.planes();
-        let Workspace { pool, scratch, .. } = workspace;
-        if cell_leaves_world(pool, planes, dx, dy, scratch) {
-            return Reply::Refused(Refusal::CellOutside);
-        }
+        let rect = match placed_bounds(cell.bounds(), dx, dy) {
+            Ok(rect) => rect,
+            Err(refusal) => return Reply::Refused(refusal),
+        };
         if self.uses.len() >= MOST_USES {
             return Reply::Refused(Refusal::TooManyUses);
         }
-        let rect = dumped_rect(pool, planes, dx, dy, scratch);
         self.uses.push_reserved(CellUse { cell: id, dx, dy });
         self.soil(&setup.rules, rect);
         Reply::Done
@@ -134,7 +132,7 @@ impl Design {
         requires home { IsHome workspace.old.pool self.old }
         requires made_for { IsMadeFor setup.now self.old }
         requires can_change { CanChange workspace.old.pool change.now }
-        requires apart { IsApartFrom change.now self.old.planes }
+        requires planes { ReadsAtMost (length self.old.planes) change.now }
         ensures step { edit_step (config_of setup.now workspace.old.pool)
             (designed_of workspace.old.pool self.old) rect
             (change_step (config_of setup.now workspace.old.pool) (drawn_of workspace.old.pool self.old)
@@ -143,22 +141,27 @@ impl Design {
         ensures keeps { KeepsPlanes workspace.old.pool workspace.new.pool self.old self.new }
         ensures refused { OnRefused result ((self.new ≡ self.old) × (workspace.new.pool ≡ workspace.old.pool)) }
     {
+        prove!(setup.tech.planes() <= MOST_PLANES);
         if !self.change_fits(change, workspace) {
             return Reply::Refused(Refusal::Quota);
         }
-        self.make_change(change, workspace);
+        self.paint_listed(workspace);
         self.soil(&setup.rules, rect);
         Reply::Done
     }
 
-    /// Returns whether no plane would have more tiles than the quota after a change.
+    /// Lists the pieces that a change paints on each plane, and returns whether no plane would have more tiles than
+    /// the quota then.
     fn change_fits(&mut self, change: &Change<'_>, workspace: &mut Workspace) -> bool
         requires home { IsHome workspace.old.pool self.old }
+        requires few_planes { length self.old.planes ≤ most_planes }
         requires can_change { CanChange workspace.old.pool change.now }
         ensures fits { (config : Config) → config.tech.plane_count ≡ length self.old.planes
             → config.quota ≡ self.old.quota
             → result ≡ not (exceeds_quota config
             (changed_layout workspace.old.pool change.now (drawn_of workspace.old.pool self.old).paint)) }
+        ensures lists { IsTrue result → ListsChange workspace.old.pool change.now (length self.old.planes)
+            (drawn_of workspace.old.pool self.old).paint (map (λ list. list.items) workspace.new.plane_pieces.items) }
         ensures same { self.new ≡ self.old }
         ensures pool { workspace.new.pool ≡ workspace.old.pool }
     {
@@ -167,10 +170,11 @@ impl Design {
             let Workspace {
                 pool,
                 scratch,
-                pieces,
+                plane_pieces,
                 ..
             } = workspace;
             let plane = &mut self.planes[i];
+            let pieces = &mut plane_pieces[i];
             change.list_pieces(pool, i, plane, pieces, scratch);
             if !fits(pool, plane, pieces, limit, scratch) {
                 return false;
@@ -179,15 +183,17 @@ impl Design {
         true
     }
 
-    /// Makes a change on all planes. None of them has more tiles than the quota then.
-    fn make_change(&mut self, change: &Change<'_>, workspace: &mut Workspace)
+    /// Paints the pieces that are listed for each plane on it. No plane has more tiles than the quota then.
+    fn paint_listed(&mut self, workspace: &mut Workspace)
         requires home { IsHome workspace.old.pool self.old }
-        requires can_change { CanChange workspace.old.pool change.now }
-        requires apart { IsApartFrom change.now self.old.planes }
+        requires few_planes { length self.old.planes ≤ most_planes }
         requires fits { FitsQuota (length self.old.planes) self.old.quota
-            (changed_layout workspace.old.pool change.now (drawn_of workspace.old.pool self.old).paint) }
-        ensures layout { layout_in workspace.new.pool self.old.planes
-            ≡ changed_layout workspace.old.pool change.now (drawn_of workspace.old.pool self.old).paint }
+            (painted_over (map (λ list. list.items) workspace.old.plane_pieces.items)
+            (drawn_of workspace.old.pool self.old).paint) }
+        ensures layout { (plane : ℕ) → plane < length self.old.planes
+            → layout_in workspace.new.pool self.old.planes plane
+            ≡ painted_over (map (λ list. list.items) workspace.old.plane_pieces.items)
+            (drawn_of workspace.old.pool self.old).paint plane }
         ensures home { AreAtHome workspace.new.pool self.old.quota self.old.planes }
         ensures only { ChangesAmong workspace.old.pool workspace.new.pool self.old.planes }
         ensures same { self.new ≡ self.old }
@@ -197,11 +203,11 @@ impl Design {
             let Workspace {
                 pool,
                 scratch,
-                pieces,
+                plane_pieces,
                 ..
             } = workspace;
             let plane = &mut self.planes[i];
-            change.list_pieces(pool, i, plane, pieces, scratch);
+            let pieces = &plane_pieces[i];
             overlay(pool, plane, pieces, limit, scratch).unwrap();
         }
     }

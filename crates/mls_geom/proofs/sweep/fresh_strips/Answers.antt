@@ -1,6 +1,9 @@
-use Rattle.std.proofs.Common.{arith}
+use Rattle.std.proofs.Common.{◌≡◌, ℕ, ◌+◌, ◌++◌, List, length, subst, arith}
+use Rattle.mls_geom.specs.Locality.{AreCoveredStrips, AreUnorderedStrips, AreUntouched, HaveKinds, covered_count, laid}
+use Rattle.mls_geom.specs.Pictures.{overlaid}
 use Rattle.mls_geom.specs.Rects.{IsRectangleIn}
-use Rattle.mls_geom.specs.World.{world}
+use Rattle.mls_geom.specs.TileCounts.{tile_count}
+use Rattle.mls_geom.specs.World.{AreLegal, world}
 use Rattle.mls_geom.specs.declared.piece.Piece.{Piece}
 use Rattle.mls_geom.proofs.CoveredCounts.{fresh_strips_number}
 use Rattle.mls_geom.proofs.ListLemmas.{All-append_right}
@@ -12,18 +15,23 @@ abbrev IsLegal : Piece → Type 0
 IsLegal piece = IsRectangleIn world piece.rect
 
 pub invariant_of-scratch : goal.invariant_of-scratch
-invariant_of-scratch c = (c.find_fresh.ensures.room _ c.scratch.invariant.0, c.scratch.invariant.1)
+invariant_of-scratch c = (c.find_strips.ensures.room _ c.scratch.invariant.0, c.scratch.invariant.1, c.scratch.invariant.2)
 
-pub returns-in_err-find_fresh-clause-tile_count : goal.returns-in_err-find_fresh-clause-tile_count
-returns-in_err-find_fresh-clause-tile_count c = λ below kept strips untouched.
-    fresh_strips_number world below c.args.over.now kept c.args.touched.now strips c.find_fresh.ensures.kinds
-    (All-append_right IsLegal c.args.touched.now c.args.over.now c.find_fresh.ensures.legal) untouched
+-- what the strips number beside those that stay
+number :
+    (pieces : List Piece) → HaveKinds pieces → AreLegal pieces → (below : ℕ → ℕ → ℕ) (kept touched over : List Piece) → pieces ≡ touched ++ over
+    → AreUnorderedStrips world below (kept ++ touched) → AreUntouched over kept → tile_count world (overlaid below over) ≡ length kept + covered_count world (laid pieces)
+number pieces kinds legal below kept touched over is strips untouched =
+    rw is
+    (fresh_strips_number world below over kept touched strips (subst HaveKinds is kinds) (All-append_right IsLegal touched over (subst AreLegal is legal)) untouched)
+
+pub returns-in_err-find_strips-clause-tile_count : goal.returns-in_err-find_strips-clause-tile_count
+returns-in_err-find_strips-clause-tile_count c = number c.args.pieces.now c.find_strips.ensures.kinds c.find_strips.ensures.legal
 
 pub invariant_of-scratch-2 : goal.invariant_of-scratch-2
 invariant_of-scratch-2 c =
-    let kept = c.find_fresh.ensures.room _ c.scratch.invariant.0 in (
+    let kept = c.find_strips.ensures.room _ c.scratch.invariant.0 in (
       record {
-        pieces = kept.pieces;
         lines = kept.lines;
         starts = kept.starts;
         active = kept.active;
@@ -32,18 +40,18 @@ invariant_of-scratch-2 c =
         strips = rw c.swap.ensures.y_after (omega (arith, c.scratch.invariant.1));
       },
       rw c.swap.ensures.x_after (omega (arith, kept.strips)),
+      c.scratch.invariant.2,
     )
 
 pub returns-clause-legal : goal.returns-clause-legal
-returns-clause-legal c = rw c.swap.ensures.x_after (λ k d within. IsRectangleIn-IsStrip world _ _ (c.in_ok-find_fresh.ensures.strips.each k d within).0)
+returns-clause-legal c = rw c.swap.ensures.x_after (λ k d within. IsRectangleIn-IsStrip world _ _ (c.in_ok-find_strips.ensures.strips.each k d within).0)
 
 pub returns-clause-replaced : goal.returns-clause-replaced
-returns-clause-replaced c = λ below kept strips untouched.
+returns-clause-replaced c = λ below kept touched over is strips untouched.
     rw c.swap.ensures.x_after
-    (touched_strips_give_way world below c.args.over.now kept c.args.touched.now _ strips c.find_fresh.ensures.kinds
-    (All-append_right IsLegal c.args.touched.now c.args.over.now c.find_fresh.ensures.legal) untouched c.in_ok-find_fresh.ensures.strips)
+    (touched_strips_give_way world below over kept touched _ strips (subst HaveKinds is c.find_strips.ensures.kinds)
+    (All-append_right IsLegal touched over (subst AreLegal is c.find_strips.ensures.legal)) untouched
+    (subst (λ pieces. AreCoveredStrips world (laid pieces) c.find_strips.new.sweep.strips.items) is c.in_ok-find_strips.ensures.strips))
 
 pub returns-clause-tile_count : goal.returns-clause-tile_count
-returns-clause-tile_count c = λ below kept strips untouched.
-    fresh_strips_number world below c.args.over.now kept c.args.touched.now strips c.find_fresh.ensures.kinds
-    (All-append_right IsLegal c.args.touched.now c.args.over.now c.find_fresh.ensures.legal) untouched
+returns-clause-tile_count c = number c.args.pieces.now c.find_strips.ensures.kinds c.find_strips.ensures.legal

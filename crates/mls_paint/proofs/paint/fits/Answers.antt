@@ -14,11 +14,11 @@ returns-clause-fits c =
     let pool = c.args.pool.now in
     let owner = c.args.plane.now in
     let over = c.args.over.now in
-    let list = c.find_touched.new.scratch.tiles in
+    let list = c.find_touched-searched.new.scratch.tiles in
     let tiles : c.tiles.result.now ≡ list = c.tiles.ensures ∙ ap (λ s. s.tiles) c.scratch.view_is in
     let gives : GivesWay pool owner over list = record {
       strips = c.requires.strips;
-      listed = c.find_touched.ensures.found;
+      listed = c.find_touched-searched.ensures.found;
       kinds = subst (λ listed. HaveKinds (pieces_of listed ++ over)) tiles c.find_fresh.ensures.kinds;
       legal = c.find_fresh.ensures.legal;
     } in

@@ -14,11 +14,11 @@ returns-in_err-find_fresh-clause-too_many c =
     let pool = c.args.pool.now in
     let owner = c.args.plane.now in
     let over = c.args.over.now in
-    let list = c.find_touched.new.scratch.tiles in
+    let list = c.find_touched-searched.new.scratch.tiles in
     let tiles : c.tiles.result.now ≡ list = c.tiles.ensures ∙ ap (λ s. s.tiles) c.scratch.view_is in
     let gives : GivesWay pool owner over list = record {
       strips = c.requires.strips;
-      listed = c.find_touched.ensures.found;
+      listed = c.find_touched-searched.ensures.found;
       kinds = subst (λ listed. HaveKinds (pieces_of listed ++ over)) tiles c.find_fresh.ensures.kinds;
       legal = c.find_fresh.ensures.legal;
     } in
@@ -27,22 +27,22 @@ returns-in_err-find_fresh-clause-too_many c =
 
 pub list_changes-requires-clause-corners : goal.list_changes-requires-clause-corners
 list_changes-requires-clause-corners c =
-    let list = c.find_touched.new.scratch.tiles in
+    let list = c.find_touched-searched.new.scratch.tiles in
     let tiles : c.tiles.result.now ≡ list = c.tiles.ensures ∙ ap (λ s. s.tiles) c.scratch.view_is in
     let gives : GivesWay c.args.pool.now c.args.plane.now c.args.over.now list = record {
       strips = c.requires.strips;
-      listed = c.find_touched.ensures.found;
+      listed = c.find_touched-searched.ensures.found;
       kinds = subst (λ listed. HaveKinds (pieces_of listed ++ c.args.over.now)) tiles c.find_fresh.ensures.kinds;
       legal = c.find_fresh.ensures.legal;
     } in
-    rw (c.find_fresh.ensures.touched ∙ ap pieces_of tiles) (CornersDiffer-GivesWay c.args.pool.now c.args.plane.now c.args.over.now list gives)
+    rw (c.in_ok-find_fresh.ensures.touched ∙ ap pieces_of tiles) (CornersDiffer-GivesWay c.args.pool.now c.args.plane.now c.args.over.now list gives)
 
 pub replace-requires-clause-pieces : goal.replace-requires-clause-pieces
 replace-requires-clause-pieces c =
     let pool = c.args.pool.now in
     let owner = c.args.plane.now in
     let over = c.args.over.now in
-    let list = c.find_touched.new.scratch.tiles in
+    let list = c.find_touched-searched.new.scratch.tiles in
     let fresh = c.find_fresh.new.sweep.strips in
     let tiles : c.tiles.result.now ≡ list = c.tiles.ensures ∙ ap (λ s. s.tiles) c.scratch.view_is in
     let tiles' : c.tiles-2.result.now ≡ list = c.tiles-2.ensures ∙ ap (λ s. s.tiles) c.scratch.view_is in
@@ -54,12 +54,12 @@ replace-requires-clause-pieces c =
     subst₂ IsPermutation (ap (λ l. put_of c.strips.result.now (pieces_of l)) tiles' ∙ ap (λ f. put_of f (pieces_of list)) c.strips.ensures) (sym c.deref-2.ensures.value) c.list_changes.ensures.fresh in
     let gives : GivesWay pool owner over list = record {
       strips = c.requires.strips;
-      listed = c.find_touched.ensures.found;
+      listed = c.find_touched-searched.ensures.found;
       kinds = subst (λ listed. HaveKinds (pieces_of listed ++ over)) tiles c.find_fresh.ensures.kinds;
       legal = c.find_fresh.ensures.legal;
     } in
     let covered = subst (λ listed. AreCoveredStrips world (laid (pieces_of listed ++ over)) fresh) tiles c.in_ok-find_fresh.ensures.strips in
-    rw c.find_touched.ensures.plane (TakePlace-GivesWay pool owner over list fresh names put gives covered named moved)
+    rw c.find_touched-searched.ensures.plane (TakePlace-GivesWay pool owner over list fresh names put gives covered named moved)
 
 pub returns : goal.returns
 returns c =
@@ -67,9 +67,9 @@ returns c =
     let new = c.replace.new.pool in
     let owner = c.args.plane.now in
     let over = c.args.over.now in
-    let list = c.find_touched.new.scratch.tiles in
+    let list = c.find_touched-searched.new.scratch.tiles in
     let fresh = c.find_fresh.new.sweep.strips in
-    let found = c.find_touched.ensures in
+    let found = c.find_touched-searched.ensures in
     let tiles : c.tiles.result.now ≡ list = c.tiles.ensures ∙ ap (λ s. s.tiles) c.scratch.view_is in
     let tiles' : c.tiles-2.result.now ≡ list = c.tiles-2.ensures ∙ ap (λ s. s.tiles) c.scratch.view_is in
     let names = c.deref.result.now in

@@ -1,27 +1,42 @@
 -- Round the parts that each touched tile loses.
-use Rattle.std.proofs.Common.{◌≡◌, ◌+◌, ◌++◌, ◌∷◌, [], take, get_or, length, inl, inr, refl, ap, sym, ◌∙◌, subst, Vec, Global, vec_capacity, arith}
+use Rattle.std.proofs.Common.{◌≡◌, ◌≤◌, ◌+◌, ◌++◌, ◌∷◌, [], take, get_or, length, inl, inr, refl, ap, sym, ◌∙◌, subst, Vec, Global, vec_capacity, arith}
 use Rattle.std.proofs.lemmas.List.{take_all, take_more}
 use Rattle.std.proofs.lemmas.Option.{slice_get_read}
 use Rattle.mls_geom.specs.Rects.{Rect}
 use Rattle.mls_geom.specs.World.{world}
 use Rattle.mls_tilepool.specs.Pools.{tiles_of}
 use Rattle.mls_stitch.specs.Enumerations.{IsListedTo}
+use Rattle.mls_stitch.specs.Gathering.{AreMet}
 use Rattle.mls_stitch.specs.Tilings.{block_at}
 use Rattle.mls_stitch.specs.declared.laid_tile.LaidTile.{LaidTile}
-use Rattle.mls_stitch.proofs.AroundTiles.{IsLostBefore, IsOneOrPart, Surround-keeps, lost_all, lost_more, lost_none, parts_more, parts_none, parts_skip}
+use Rattle.mls_stitch.proofs.AroundTiles.{IsLostBefore, IsOneOrPart, Surround-keeps, lost_all, lost_more, lost_none, meeting_few, parts_more, parts_none, parts_skip, searched_few, searched_inside}
 use Rattle.mls_stitch.proofs.Gathered.{AreMet-listed}
 use Rattle.mls_stitch.proofs.ListedTiles.{length-le-AreLaid}
 use Rattle.mls_stitch.proofs.ReplacedPlanes.{laid_as}
 use Rattle.mls_stitch.proofs.around.list_round_lost.Goals as goal
-use Rattle.mls_stitch.proofs.around.list_round_lost.Goals.{in-Some+else-are_spent, in_default}
+use Rattle.mls_stitch.proofs.around.list_round_lost.Goals.{in-Some+else-are_spent, in_default, then-has_searched, else-has_searched}
+
+pub list_meeting-requires : goal.list_meeting-requires
+list_meeting-requires c =
+    let replacement = c.args.replacement.now in
+    let tiles = tiles_of c.args.pool.now c.args.owner.now in
+    let all = searched_few tiles replacement.searched c.grow-round.result replacement.around.now c.requires.searched (c.has_searched.ensures c.if-has_searched.true) in
+    record { room = omega (arith, all, c.loop-part.invariant.found_room, c.loop-id.invariant.found_room, c.requires.found_fit) }
 
 pub list_kept-requires-clause-room : goal.list_kept-requires-clause-room
 list_kept-requires-clause-room c =
     let tiles = tiles_of c.args.pool.now c.args.owner.now in
     let blocks = block_at tiles in
     let lost = IsLostBefore blocks c.args.replacement.now.touched.now c.args.replacement.now.fresh.now c.loop-id.id-index in
-    let listed = c.list_tiles.ensures.listed in
-    let found = length-le-AreLaid tiles c.list_tiles.new.list.items (λ k d within. (listed.each k d within).laid) listed.once in
+    let replacement = c.args.replacement.now in
+    let found : length c.if-has_searched.found.items ≤ length tiles = elim c.if-has_searched.branch [
+      | then-has_searched w ↦
+          let all = searched_few tiles replacement.searched c.grow-round.result replacement.around.now c.requires.searched (c.has_searched.ensures w.if-has_searched.true) in
+          rw (w.found-is, w.list_meeting.ensures.found) (omega (arith, all, meeting_few replacement.around.now c.grow-round.result))
+      | else-has_searched w ↦
+          let listed = w.list_tiles.ensures.listed in
+          rw w.found-is (length-le-AreLaid tiles w.list_tiles.new.list.items (λ k d within. (listed.each k d within).laid) listed.once)
+    ] in
     let kept = Surround-keeps blocks c.args.keys.now (IsOneOrPart lost (take c.loop-part.part-index c.parts_lost-parts.result)) c.loop-part.entries.items c.free_room.new.entries.items c.loop-part.invariant.around c.free_room.ensures.keeps in
     elim c.free_room.ensures.free [
       | inl free ↦ omega (arith, free, c.len.ensures, c.deref.ensures.len)
@@ -49,18 +64,30 @@ loop-part-preserved c =
     let more : take (i + 1) parts ≡ before ++ get_or parts i c.part-item.result ∷ [] = take_more parts i c.part-item.result (omega (arith, c.loop-part-test.true, c.type_inv.part-items)) in
     elim c.match-part.branch [
       | in-Some+else-are_spent w ↦
-          let list = w.list_tiles.new.list in
+          let round = w.grow-round.result in
           let part : Rect = w.in-Some.part in
-          let met =
-          AreMet-listed blocks w.grow.result list.items c.requires.plane.plane.tiling w.list_tiles.ensures.legal
-          (subst (λ n. IsListedTo blocks w.grow.result list.items n world.top) list.ok.0 w.list_tiles.ensures.listed) in
+          let replacement = c.args.replacement.now in
+          let met : AreMet blocks round w.if-has_searched.found.items = elim w.if-has_searched.branch [
+            | then-has_searched v ↦
+                rw (v.found-is, v.list_meeting.ensures.found)
+                (searched_inside blocks replacement.searched round replacement.around.now c.requires.plane.plane.tiling c.requires.searched (w.has_searched.ensures v.if-has_searched.true))
+            | else-has_searched v ↦
+                let list = v.list_tiles.new.list in
+                rw v.found-is
+                (AreMet-listed blocks round list.items c.requires.plane.plane.tiling v.list_tiles.ensures.legal
+                (subst (λ n. IsListedTo blocks round list.items n world.top) list.ok.0 v.list_tiles.ensures.listed))
+          ] in
+          let room : vec_capacity w.if-has_searched.found ≡ vec_capacity c.loop-part.found = elim w.if-has_searched.branch [
+            | then-has_searched v ↦ ap (λ (l : Vec LaidTile Global). vec_capacity l) v.found-is ∙ v.list_meeting.ensures.room
+            | else-has_searched v ↦ ap (λ (l : Vec LaidTile Global). vec_capacity l) v.found-is ∙ v.list_tiles.ensures.room
+          ] in
           let added = rw w.deref.ensures.value at w.list_kept.ensures.kept in
           let kept = Surround-keeps blocks keys (IsOneOrPart lost before) c.loop-part.entries.items w.free_room.new.entries.items so_far.around w.free_room.ensures.keeps in
           record {
             around =
                 rw (more, w.in-Some.is, w.entries-is, added)
-                (parts_more blocks keys lost before part w.grow.result list.items w.free_room.new.entries.items c.requires.plane.plane.tiling w.grow.ensures.squares met kept);
-            found_room = ap (λ (v : Vec LaidTile Global). vec_capacity v) w.found-is ∙ w.list_tiles.ensures.room ∙ so_far.found_room;
+                (parts_more blocks keys lost before part round w.if-has_searched.found.items w.free_room.new.entries.items c.requires.plane.plane.tiling w.grow-round.ensures.squares met kept);
+            found_room = ap (λ (v : Vec LaidTile Global). vec_capacity v) w.found-is ∙ room ∙ so_far.found_room;
             entries_room = ap (λ (v : Vec LaidTile Global). vec_capacity v) w.entries-is ∙ w.list_kept.ensures.room ∙ w.free_room.ensures.room ∙ so_far.entries_room;
           }
       | in_default w ↦ record {

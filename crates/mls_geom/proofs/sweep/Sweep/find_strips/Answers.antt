@@ -4,7 +4,6 @@ use Rattle.mls_geom.proofs.sweep.Sweep.find_strips.Goals as goal
 pub returns-clause-room : goal.returns-clause-room
 returns-clause-room c = λ n room.
     c.stack_bands.ensures.room n record {
-      pieces = room.pieces;
       lines = omega (arith, room.lines);
       starts = omega (arith, room.starts);
       active = room.active;

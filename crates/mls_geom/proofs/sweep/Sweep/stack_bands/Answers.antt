@@ -16,7 +16,7 @@ use Rattle.mls_geom.proofs.sweep.Sweep.stack_bands.Goals.{After-deref_mut}
 
 pub loop-i-init : goal.loop-i-init
 loop-i-init c =
-    let pieces = c.args.self.now.pieces.items in
+    let pieces = c.args.pieces.now in
     let first = first_line world pieces c.args.self.now.lines.items c.requires.lines in
     record {
       parted =
@@ -41,27 +41,27 @@ top_is : (c : After-deref_mut) → c.index-top.result.now ≡ get_or c.args.self
 top_is c = get_or_read c.args.self.now.lines.items c.loop-i.i _ (omega arith) c.index-top.ensures 0
 
 top_within : (c : After-deref_mut) → c.index-top.result.now ≤ world.top
-top_within c = rw (top_is c) (IsLineOf-lines world c.args.self.now.pieces.items c.args.self.now.lines.items c.requires.lines c.loop-i.i (omega arith)).1
+top_within c = rw (top_is c) (IsLineOf-lines world c.args.pieces.now c.args.self.now.lines.items c.requires.lines c.loop-i.i (omega arith)).1
 
-band : (c : After-deref_mut) → IsBand c.args.self.now.pieces.items c.index-bottom.result.now c.index-top.result.now
-band c = IsBand-lines world c.args.self.now.pieces.items c.args.self.now.lines.items c.requires.lines c.loop-i.i _ _ (omega arith) (omega arith) (bottom_is c) (top_is c)
+band : (c : After-deref_mut) → IsBand c.args.pieces.now c.index-bottom.result.now c.index-top.result.now
+band c = IsBand-lines world c.args.pieces.now c.args.self.now.lines.items c.requires.lines c.loop-i.i _ _ (omega arith) (omega arith) (bottom_is c) (top_is c)
 
 -- what it is stacked on, and its runs
-below : (c : After-deref_mut) → AreStacked world (laid c.args.self.now.pieces.items) c.index-bottom.result.now c.loop-i.strips.items c.deref-in-loop-i-3.result.now
-below c = rw (bottom_is c, c.deref-in-loop-i-3.ensures.value) c.loop-i.invariant.stacked
+below : (c : After-deref_mut) → AreStacked world (laid c.args.pieces.now) c.index-bottom.result.now c.loop-i.strips.items c.deref-in-loop-i.result.now
+below c = rw (bottom_is c, c.deref-in-loop-i.ensures.value) c.loop-i.invariant.stacked
 
-runs : (c : After-deref_mut) → AreRuns world (laid c.args.self.now.pieces.items) c.index-bottom.result.now c.deref_mut.result.now
-runs c = rw c.deref_mut.ensures.value (rw c.deref-in-loop-i.ensures.value at c.find_runs.ensures.runs)
+runs : (c : After-deref_mut) → AreRuns world (laid c.args.pieces.now) c.index-bottom.result.now c.deref_mut.result.now
+runs c = rw c.deref_mut.ensures.value c.find_runs.ensures.runs
 
 pub stack-requires-clause-drawn : goal.stack-requires-clause-drawn
 stack-requires-clause-drawn c =
     let d = (goal.at.stack-requires-clause-drawn c).After-deref_mut in
-    (laid c.args.self.now.pieces.items, below d, runs d, AreAlike-band world c.args.self.now.pieces.items _ _ (band d))
+    (laid c.args.pieces.now, below d, runs d, AreAlike-band world c.args.pieces.now _ _ (band d))
 
 pub returns-in_err-stack-clause-too_many : goal.returns-in_err-stack-clause-too_many
 returns-in_err-stack-clause-too_many c =
     let d = (goal.at.returns-in_err-stack-clause-too_many c).After-deref_mut in
-    let pieces = c.args.self.now.pieces.items in
+    let pieces = c.args.pieces.now in
     let more = c.in_err-stack.ensures.too_many (laid pieces) (below d) (runs d) (AreAlike-band world pieces _ _ (band d)) in
     rw (err_from_is_err_and c.from_residual.result c.from_residual.ensures.1).1
     (omega (arith, more, covered_count_up_to_grows world (laid pieces) _ world.top (top_within d)))
@@ -70,7 +70,6 @@ pub returns-in_err-stack-clause-room : goal.returns-in_err-stack-clause-room
 returns-in_err-stack-clause-room c = λ n room.
     let row = c.find_runs.ensures.room n (c.loop-i.invariant.runs_room n room).0 in
     record {
-      pieces = room.pieces;
       lines = room.lines;
       starts = room.starts;
       active = omega (arith, room.active);
@@ -82,13 +81,13 @@ returns-in_err-stack-clause-room c = λ n room.
 pub loop-i-preserved : goal.loop-i-preserved
 loop-i-preserved c =
     let d = (goal.at.loop-i-preserved c).After-deref_mut in
-    let pieces = c.args.self.now.pieces.items in
+    let pieces = c.args.pieces.now in
     let stacked = c.in_ok-stack.ensures.stacked (laid pieces) (below d) (runs d) (AreAlike-band world pieces _ _ (band d)) in
     let next : c.loop-i.i + 1 - 1 ≡ c.loop-i.i = omega arith in
     record {
       parted =
           rw (next, ← top_is d)
-          (ArePartedAt-up _ _ pieces _ _ (rw c.deref.ensures.value at c.activate-waiting.ensures.parted) (band d).tall (λ k e within. ((band d).outside k e within).begin));
+          (ArePartedAt-up _ _ pieces _ _ c.activate-waiting.ensures.parted (band d).tall (λ k e within. ((band d).outside k e within).begin));
       fit = omega arith;
       stacked = rw (next, ← top_is d, c.swap.ensures.x_after, with_items_is c.find_runs.new.self.runs c.stack.new.row (omega arith)) stacked;
       within = c.in_ok-stack.ensures.within;
@@ -104,11 +103,10 @@ pub returns-clause-stacked : goal.returns-clause-stacked
 returns-clause-stacked c =
     let lines = c.args.self.now.lines.items in
     let is_last : length lines - 1 ≡ c.loop-i.i - 1 = omega arith in
-    rw (← is_last, last_line world c.args.self.now.pieces.items lines c.requires.lines) at c.loop-i.invariant.stacked
+    rw (← is_last, last_line world c.args.pieces.now lines c.requires.lines) at c.loop-i.invariant.stacked
 
 pub returns-clause-room : goal.returns-clause-room
 returns-clause-room c = λ n room. record {
-  pieces = room.pieces;
   lines = room.lines;
   starts = room.starts;
   active = omega (arith, room.active);

@@ -11,9 +11,9 @@ abbrev pub invariant-loop-i : goal.invariant-loop-i
 invariant-loop-i l =
     let line = slice_index l.lines.items (l.i - 1) in
     record {
-      parted : ArePartedAt line l.pieces.items l.active.items l.waiting;
+      parted : ArePartedAt line l.pieces l.active.items l.waiting;
       fit : vec_len l.active + length l.waiting ≤ vec_capacity l.active;
-      stacked : AreStacked world (laid l.pieces.items) line l.strips.items l.below.items;
+      stacked : AreStacked world (laid l.pieces) line l.strips.items l.below.items;
       within : vec_len l.strips ≤ l.limit;
       active_room : vec_capacity l.active ≡ vec_capacity l.initial.active;
       strips_room : vec_capacity l.strips ≡ vec_capacity l.initial.strips;

@@ -1,17 +1,20 @@
-use Rattle.std.proofs.Common.{◌≡◌, ℕ, ◌<◌, ◌≤◌, [], ◌∷◌, ◌++◌, map, true, Some, None, Err, length, nat_lt, All, ap, sym, subst, ◌∙◌, arith}
+use Rattle.std.proofs.Common.{◌≡◌, slice_get, ℕ, ◌<◌, ◌≤◌, [], ◌∷◌, ◌++◌, map, true, Some, None, Err, length, nat_lt, All, ap, sym, subst, ◌∙◌, arith}
 use Rattle.std.specs.List.{list_any}
 use Rattle.std.proofs.lemmas.List.{length-map}
-use Rattle.std.proofs.lemmas.List.Elements.{All-push}
+use Rattle.std.proofs.lemmas.List.Elements.{All-map, All-push}
+use Rattle.mls_geom.specs.Locality.{AreUnorderedStrips}
 use Rattle.mls_geom.specs.Pictures.{picture_of}
+use Rattle.mls_geom.specs.World.{world}
 use Rattle.mls_tilepool.specs.Pools.{unreserved}
 use Rattle.mls_paint.specs.Owners.{AddsOwners}
+use Rattle.mls_library.specs.Bounds.{any_painted, bounds_of}
 use Rattle.mls_library.specs.CellFiles.{reading_of}
-use Rattle.mls_library.specs.Inner.{AreBuilt, cells_in, named_cell}
+use Rattle.mls_library.specs.Inner.{AreBuilt, IsFrozenList, cells_in, named_cell}
 use Rattle.mls_library.specs.Libraries as spec
 use Rattle.mls_library.specs.Libraries.{HavePlanes, IsHome, KeepsCells, NamedCell, ShowsWithin, cell_layout}
 use Rattle.mls_library.specs.declared.fault.CellFault.{CellFault}
 use Rattle.mls_library.specs.declared.fault.CellFaultKind.TheVariants.{PoolFull, TooManyTiles}
-use Rattle.mls_library.proofs.CellBounds.{AreBuilt-within}
+use Rattle.mls_library.proofs.CellBounds.{AreBuilt-within, ShowsWithin-lists, painted_bounds-built}
 use Rattle.mls_library.proofs.CellLayouts.{layout_in-rects}
 use Rattle.mls_library.proofs.CellNames.{KeepsCells-append, cells_in-new, place_of_new}
 use Rattle.mls_library.proofs.HomeCells.{IsHome-push}
@@ -132,14 +135,17 @@ returns c =
     let known : All (λ painted. painted.plane < length owners) rects =
     subst (λ n. All (λ painted. painted.plane < n) rects) (sym (built.count ∙ all)) c.in_ok-rects.ensures.known
     in
-    let within : All (λ list. ShowsWithin bounds (picture_of list.items)) strips =
-    subst (All (λ list. ShowsWithin bounds (picture_of list.items))) c.deref-3.ensures.value c.bounds_of-bounds.ensures
+    let smallest : bounds ≡ bounds_of (any_painted lists) =
+    c.bounds_of-bounds.ensures ∙ ap (λ found. bounds_of (any_painted (map (λ list. list.items) found))) c.deref-3.ensures.value
     in
+    let frozen = lists_frozen (λ list. list.items) strips rects planes c.args.limit listed number c.tiles-most.ensures.legal.bounded in
+    let shown : All (λ list. AreUnorderedStrips world (picture_of list) list) lists = λ k d within. (All-map (λ list. IsFrozenList list) (λ list. list.items) strips frozen k d within).strips in
     let bounded : (plane : ℕ) → ShowsWithin bounds (cell_layout new cell plane) =
-    AreBuilt-within c.args.pool.now new owners (λ list. list.items) strips bounds built within
+    subst (λ found. (plane : ℕ) → ShowsWithin found (cell_layout new cell plane)) (sym smallest)
+    (AreBuilt-within c.args.pool.now new owners lists (bounds_of (any_painted lists)) built (ShowsWithin-lists lists shown))
     in
     let home : IsHome new (cells ++ cell ∷ []) =
-    IsHome-push c.args.pool.now new cells cell _ c.requires.home built.added (record { frozen = built.frozen; apart = built.apart; bounded = bounded })
+    IsHome-push c.args.pool.now new cells cell _ c.requires.home built.added (record { frozen = built.frozen; apart = built.apart; bounded = bounded; smallest = smallest ∙ painted_bounds-built lists shown c.args.pool.now new owners built })
     in
     record {
       loads = (
@@ -164,3 +170,7 @@ returns c =
       library_kept = tt;
       pool_kept = tt;
     }
+
+-- nothing was added
+pub returns-in_err-reserve-clause-cells_kept : goal.returns-in_err-reserve-clause-cells_kept
+returns-in_err-reserve-clause-cells_kept c = λ id within. rw c.reserve.ensures.entries (ap (λ cells. slice_get cells id) c.self.view_is)

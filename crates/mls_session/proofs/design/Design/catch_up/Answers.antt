@@ -2,7 +2,7 @@ use Rattle.std.proofs.Common.{◌≡◌, length, sym, ap, subst, ◌∙◌}
 use Rattle.std.specs.Vec.{with_items}
 use Rattle.std.proofs.lemmas.List.{with_items_is}
 use Rattle.mls_errorplane.specs.CatchingUp.{HasCaughtUp}
-use Rattle.mls_errorplane.specs.ErrorPlanes.{ErrorPlane, ShowsMarks, checking_of}
+use Rattle.mls_errorplane.specs.ErrorPlanes.{ErrorPlane, checking_of}
 use Rattle.mls_session.specs.Inner.{Counts}
 use Rattle.mls_session.specs.Own.{layout_of}
 use Rattle.mls_session.specs.OwnSteps.{DesignSteps}

@@ -1,5 +1,5 @@
 -- No plane is changed unless each would fit.
-use Rattle.std.proofs.Common.{◌≡◌, length, refl, sym, ap, ◌∙◌}
+use Rattle.std.proofs.Common.{◌≡◌, length, map, refl, sym, ap, ◌∙◌, arith}
 use Rattle.mls_tilepool.specs.Pools.{Pool}
 use Rattle.mls_paint.specs.Planes.{layout_in}
 use Rattle.mls_errorplane.specs.ErrorPlanes.{checking_of}
@@ -7,10 +7,12 @@ use Rattle.mls_session.specs.Inner.{FitsQuota, changed_layout}
 use Rattle.mls_session.specs.Own.{change_step, soiled_after}
 use Rattle.mls_session.specs.Designs.{Design, designed_of, drawn_of}
 use Rattle.mls_session.specs.Setups.{config_of}
+use Rattle.mls_session.proofs.ChangedPlanes.{layout_in-changed}
 use Rattle.mls_session.proofs.ChangedQuotas.{FitsQuota-tested, change_step-Refused}
 use Rattle.mls_session.proofs.CommandSteps.{edit_step-Refused}
 use Rattle.mls_session.proofs.EditedDesigns.{change-Done}
 use Rattle.mls_session.proofs.ErrorPlanes.{KeepsPlanes-layout, KeepsPlanes-same}
+use Rattle.mls_session.proofs.ListedPieces.{FitsQuota-listed}
 use Rattle.mls_session.specs.declared.reply.Reply.TheVariants.{Done, Refused}
 use Rattle.mls_session.specs.declared.refusal.Refusal.TheVariants.{Quota}
 use Rattle.mls_session.proofs.design.Design.change.Goals as goal
@@ -33,19 +35,19 @@ returns-then-not-change_fits-clause-keeps c =
     let design = c.args.self.now in
     rw (c.change_fits.ensures.same, c.change_fits.ensures.pool) (KeepsPlanes-same c.args.workspace.now.pool design design c.requires.home refl refl refl refl)
 
-pub make_change-requires : goal.make_change-requires
-make_change-requires c =
+pub paint_listed-requires : goal.paint_listed-requires
+paint_listed-requires c =
     let pool = c.args.workspace.now.pool in
     let design = c.args.self.now in
+    let layout = layout_in pool design.planes in
     let tested = c.change_fits.ensures in
-    let fits : FitsQuota (length design.planes) design.quota (changed_layout pool c.args.change.now (layout_in pool design.planes)) =
-    FitsQuota-tested c.change_fits.result (changed_layout pool c.args.change.now (layout_in pool design.planes)) (length design.planes) design.quota tested.fits
-    c.if-not-change_fits.false in
+    let pieces = map (λ list. list.items) c.change_fits.new.workspace.plane_pieces.items in
+    let fits : FitsQuota (length design.planes) design.quota (changed_layout pool c.args.change.now layout) =
+    FitsQuota-tested c.change_fits.result (changed_layout pool c.args.change.now layout) (length design.planes) design.quota tested.fits c.if-not-change_fits.false in
     rw (tested.same, tested.pool) (record {
       home = c.requires.home;
-      can_change = c.requires.can_change;
-      apart = c.requires.apart;
-      fits = fits;
+      few_planes = omega (arith, c.planes.ensures.value, c.planes.ensures.limit, c.requires.made_for.planes);
+      fits = FitsQuota-listed pool c.args.change.now (length design.planes) design.quota layout pieces (tested.lists c.if-not-change_fits.false) fits;
     })
 
 pub returns-clause-step : goal.returns-clause-step
@@ -55,13 +57,15 @@ returns-clause-step c =
     let config = config_of c.args.setup.now pool in
     let layout = changed_layout pool c.args.change.now (layout_in pool design.planes) in
     let tested = c.change_fits.ensures in
-    let made = rw (tested.same, tested.pool) at c.make_change.ensures in
-    let new = c.make_change.new.workspace.pool in
+    let made = rw (tested.same, tested.pool) at c.paint_listed.ensures in
+    let new = c.paint_listed.new.workspace.pool in
+    let pieces = map (λ list. list.items) c.change_fits.new.workspace.plane_pieces.items in
+    let painted = layout_in-changed pool new design c.args.change.now pieces c.requires.planes (tested.lists c.if-not-change_fits.false) made.layout in
     let same = c.soil.ensures.same in
-    let mid : c.make_change.new.self.errors ≡ design.errors = ap (λ (d : Design). d.errors) made.same in
+    let mid : c.paint_listed.new.self.errors ≡ design.errors = ap (λ (d : Design). d.errors) made.same in
     change-Done config pool new design c.soil.new.self c.args.rect c.requires.home made.only
     (c.soil.ensures.checking new ∙ ap (λ (d : Design). soiled_after config.rules c.args.rect Done (checking_of new d.errors)) made.same) layout c.change_fits.result
-    (tested.fits config (sym c.requires.made_for.planes) (sym c.requires.made_for.quota)) c.if-not-change_fits.false made.layout
+    (tested.fits config (sym c.requires.made_for.planes) (sym c.requires.made_for.quota)) c.if-not-change_fits.false painted
     (ap (λ (d : Design). d.box) same ∙ ap (λ (d : Design). d.box) made.same) (ap (λ (d : Design). d.planes) same ∙ ap (λ (d : Design). d.planes) made.same)
     (ap (λ (d : Design). d.uses) same ∙ ap (λ (d : Design). d.uses) made.same)
 
@@ -70,8 +74,8 @@ returns-clause-keeps c =
     let pool = c.args.workspace.now.pool in
     let design = c.args.self.now in
     let tested = c.change_fits.ensures in
-    let made = rw (tested.same, tested.pool) at c.make_change.ensures in
+    let made = rw (tested.same, tested.pool) at c.paint_listed.ensures in
     let same = c.soil.ensures.same in
-    KeepsPlanes-layout pool c.make_change.new.workspace.pool design c.soil.new.self c.requires.home made.home made.only
+    KeepsPlanes-layout pool c.paint_listed.new.workspace.pool design c.soil.new.self c.requires.home made.home made.only
     (ap (λ (d : Design). d.planes) same ∙ ap (λ (d : Design). d.planes) made.same) (ap (λ (d : Design). d.quota) same ∙ ap (λ (d : Design). d.quota) made.same)
     (c.soil.ensures.owner ∙ ap (λ (d : Design). d.errors.owner) made.same) (c.soil.ensures.marked ∙ ap (λ (d : Design). d.errors.marked) made.same)

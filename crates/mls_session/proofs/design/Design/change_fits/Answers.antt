@@ -1,13 +1,14 @@
--- Each turn asks whether one plane more would fit.
-use Rattle.std.proofs.Common.{◌≡◌, ◌||◌, ℕ, List, get_or, length, sym, ap, subst, ◌∙◌, arith}
+-- Each turn lists the pieces of one plane more, and asks whether it would fit.
+use Rattle.std.proofs.Common.{◌≡◌, ◌||◌, ℕ, ◌<◌, List, get_or, length, map, sym, ap, subst, ◌∙◌, arith}
 use Rattle.mls_geom.specs.Pictures.{overlaid}
 use Rattle.mls_tilepool.specs.Pools.{Pool}
 use Rattle.mls_paint.specs.Planes.{HasStrips, layout_in, picture_in}
-use Rattle.mls_session.specs.Inner.{CanChange, changed, changed_layout}
+use Rattle.mls_session.specs.Inner.{CanChange, ListsChange, changed_layout}
 use Rattle.mls_session.specs.Designs.{Design}
 use Rattle.mls_session.proofs.ChangedQuotas.{exceeds, exceeds-fits, exceeds-more, exceeds_quota-more, exceeds_quota-none}
-use Rattle.mls_session.proofs.FirstPlanes.{any_more}
+use Rattle.mls_library.proofs.FirstPlanes.{any_more}
 use Rattle.mls_session.proofs.HomePlanes.{HasStrips-at, planes_kept}
+use Rattle.mls_session.proofs.ListedPieces.{ListsChange-more, lent-changed, listed-changed}
 use Rattle.mls_session.proofs.design.Design.change_fits.Goals as goal
 
 pub list_pieces-requires-clause-strips : goal.list_pieces-requires-clause-strips
@@ -41,15 +42,17 @@ returns-then-not-fits-clause-fits c = λ config count same.
     let owner = c.index_mut-plane.result.now in
     let is : owner ≡ get_or design.planes i owner = c.index_mut-plane.ensures.value ∙ ap (λ (kept : Design). get_or kept.planes i owner) c.loop-i.invariant.same in
     let whole = ap (λ (kept : Design). length kept.planes) c.self.view_is in
+    let within : i < length design.planes = omega (arith, whole) in
     let limit = c.tiles-limit.ensures.value ∙ ap (λ (kept : Design). kept.quota) c.self.view_is in
     let mid = c.loop-i.workspace.pool in
-    let lent = ap (picture_in mid) c.list_pieces.ensures.plane in
-    let below = picture_in mid c.list_pieces.new.plane in
-    let made : overlaid below c.deref.result.now ≡ changed pool change i (picture_in pool owner) =
-    ap (overlaid below) c.deref.ensures.value ∙ c.list_pieces.ensures.picture below lent ∙ ap (changed mid change i) lent
-    ∙ ap (λ (p : Pool). changed p change i (picture_in p owner)) c.loop-i.invariant.pool in
-    exceeds_quota-more config (changed_layout pool change (layout_in pool design.planes)) (length design.planes) design.quota i count same (omega (arith, whole))
-    (exceeds-more pool design change i owner c.tiles-limit.result (overlaid below c.deref.result.now) (omega (arith, whole)) is limit made
+    let plane = c.list_pieces.new.plane in
+    let over = c.deref.result.now in
+    let layout = changed_layout pool change (layout_in pool design.planes) in
+    let made : overlaid (picture_in mid plane) over ≡ layout i =
+    lent-changed pool mid design change i owner c.list_pieces.new.pieces.items within is c.loop-i.invariant.pool c.list_pieces.ensures.picture plane over
+    c.list_pieces.ensures.plane c.deref.ensures.value in
+    exceeds_quota-more config layout (length design.planes) design.quota i count same within
+    (exceeds-more layout design.quota i c.tiles-limit.result (overlaid (picture_in mid plane) over) limit made
     (λ few. absurd (cc (sym c.if-not-fits.true ∙ c.fits.ensures.fits.1 few))))
 
 pub loop-i-preserved : goal.loop-i-preserved
@@ -62,23 +65,27 @@ loop-i-preserved c =
     let owner = c.index_mut-plane.result.now in
     let is : owner ≡ get_or design.planes i owner = c.index_mut-plane.ensures.value ∙ ap (λ (kept : Design). get_or kept.planes i owner) turn.invariant.same in
     let whole = ap (λ (kept : Design). length kept.planes) c.self.view_is in
+    let within : i < length design.planes = omega (arith, whole) in
     let limit = c.tiles-limit.ensures.value ∙ ap (λ (kept : Design). kept.quota) c.self.view_is in
-    let mid = c.loop-i.workspace.pool in
-    let lent = ap (picture_in mid) c.list_pieces.ensures.plane in
-    let below = picture_in mid c.list_pieces.new.plane in
-    let made : overlaid below c.deref.result.now ≡ changed pool change i (picture_in pool owner) =
-    ap (overlaid below) c.deref.ensures.value ∙ c.list_pieces.ensures.picture below lent ∙ ap (changed mid change i) lent
-    ∙ ap (λ (p : Pool). changed p change i (picture_in p owner)) c.loop-i.invariant.pool in
-    let kept = planes_kept turn.self-inside.planes.items i owner c.fits.new.plane c.index_mut-plane.ensures.value (c.fits.ensures.plane ∙ c.list_pieces.ensures.plane) in
+    let mid = turn.workspace.pool in
+    let plane = c.list_pieces.new.plane in
+    let over = c.deref.result.now in
+    let list = c.list_pieces.new.pieces in
     let layout = changed_layout pool change (layout_in pool design.planes) in
+    let made : overlaid (picture_in mid plane) over ≡ layout i =
+    lent-changed pool mid design change i owner list.items within is turn.invariant.pool c.list_pieces.ensures.picture plane over
+    c.list_pieces.ensures.plane c.deref.ensures.value in
+    let kept = planes_kept turn.self-inside.planes.items i owner c.fits.new.plane c.index_mut-plane.ensures.value (c.fits.ensures.plane ∙ c.list_pieces.ensures.plane) in
     record {
       pool = turn.invariant.pool;
       same = ap (λ (planes : List ℕ). record { box = turn.self-inside.box_rect; planes = planes; uses = turn.self-inside.uses.items; quota = turn.self-inside.quota; errors = turn.self-inside.errors }) kept ∙ turn.invariant.same;
       room = turn.invariant.room;
       few =
           any_more (exceeds design.quota layout) i ∙ ap (λ before. before || exceeds design.quota layout i) turn.invariant.few
-          ∙ exceeds-fits pool design change i owner c.tiles-limit.result (overlaid below c.deref.result.now) (omega (arith, whole)) is limit made
-          (c.fits.ensures.fits.0 c.if-not-fits.false);
+          ∙ exceeds-fits layout design.quota i c.tiles-limit.result (overlaid (picture_in mid plane) over) limit made (c.fits.ensures.fits.0 c.if-not-fits.false);
+      lists =
+          ListsChange-more (λ list. list.items) turn.workspace.plane_pieces.items i pool change (layout_in pool design.planes) list (omega (arith, whole))
+          (listed-changed pool mid design change i owner list.items within is turn.invariant.pool c.list_pieces.ensures.picture) turn.invariant.lists;
     }
 
 pub returns-clause-fits : goal.returns-clause-fits
@@ -88,3 +95,11 @@ returns-clause-fits c = λ config count same.
     let whole = ap (λ (kept : Design). length kept.planes) c.self.view_is in
     exceeds_quota-none config (changed_layout pool c.args.change.now (layout_in pool design.planes)) (length design.planes) design.quota c.loop-i.i count same
     (omega (arith, whole)) c.loop-i.invariant.few
+
+pub returns-clause-lists : goal.returns-clause-lists
+returns-clause-lists c = λ passed.
+    let pool = c.args.workspace.now.pool in
+    let design = c.args.self.now in
+    let whole = ap (λ (kept : Design). length kept.planes) c.self.view_is in
+    let all : c.loop-i.i ≡ length design.planes = omega (arith, whole) in
+    subst (λ n. ListsChange pool c.args.change.now n (layout_in pool design.planes) (map (λ list. list.items) c.loop-i.workspace.plane_pieces.items)) all c.loop-i.invariant.lists

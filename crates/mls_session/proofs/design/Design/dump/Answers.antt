@@ -1,8 +1,8 @@
--- The cell's planes are frozen, and none of the design's.
-use Rattle.std.proofs.Common.{◌≡◌, Some, All, Contains, [], ◌∷◌, length, refl, sym, ap, ◌∙◌, arith}
+-- The cell's planes are frozen, and no more than the design's.
+use Rattle.std.proofs.Common.{◌≡◌, Some, All, length, refl, sym, ap, ◌∙◌, arith}
 use Rattle.std.proofs.lemmas.Int.{to_z-of_z}
-use Rattle.std.proofs.lemmas.List.Elements.{Contains-append_left}
 use Rattle.mls_library.specs.Libraries.{IsFrozen}
+use Rattle.mls_library.proofs.FoundCells.{smallest_found}
 use Rattle.mls_paint.specs.Planes.{layout_in}
 use Rattle.mls_session.specs.Bounds.{dumped_rect}
 use Rattle.mls_session.specs.Own.{cell_at, dump_step, dumped_in, edit_step}
@@ -12,25 +12,12 @@ use Rattle.mls_session.specs.Setups.{config_of}
 use Rattle.mls_session.specs.declared.refusal.Refusal.TheVariants.{CellOutside}
 use Rattle.mls_session.proofs.CommandSteps.{edit_step-Refused}
 use Rattle.mls_session.proofs.DumpedCells.{HasPlanes, cell_at-HasPlanes, dump_step-CellOutside, dump_step-change_step, each_stays, planes_there}
+use Rattle.mls_session.proofs.PlacedBounds.{placed-Err, placed-Ok}
 use Rattle.mls_session.proofs.design.Design.dump.Goals as goal
 
-pub cell_leaves_world-requires-clause-cell : goal.cell_leaves_world-requires-clause-cell
-cell_leaves_world-requires-clause-cell c =
-    let planes = c.planes-planes.result.now in
-    let library = c.args.setup.now.library in
-    let there : HasPlanes library c.in-Some.id planes = ap (λ owners. Some owners) c.planes-planes.ensures ∙ c.in-Some-get.ensures.planes in
-    planes_there (All (IsFrozen c.args.workspace.now.pool)) library c.in-Some.id planes (λ k d within. (c.requires.can_dump.home.each k d within).frozen) there
-
-pub dumped_rect-rect-requires-clause-cell : goal.dumped_rect-rect-requires-clause-cell
-dumped_rect-rect-requires-clause-cell c =
-    let planes = c.planes-planes.result.now in
-    let library = c.args.setup.now.library in
-    let there : HasPlanes library c.in-Some.id planes = ap (λ owners. Some owners) c.planes-planes.ensures ∙ c.in-Some-get.ensures.planes in
-    planes_there (All (IsFrozen c.args.workspace.now.pool)) library c.in-Some.id planes (λ k d within. (c.requires.can_dump.home.each k d within).frozen) there
-
-pub returns-then-cell_leaves_world-clause-step : goal.returns-then-cell_leaves_world-clause-step
+pub returns-in-Err-clause-step : goal.returns-in-Err-clause-step
 unfolding design_step
-returns-then-cell_leaves_world-clause-step c =
+returns-in-Err-clause-step c =
     let pool = c.args.workspace.now.pool in
     let design = c.args.self.now in
     let setup = c.args.setup.now in
@@ -40,34 +27,33 @@ returns-then-cell_leaves_world-clause-step c =
     let as_many = planes_there (λ owners. length owners ≡ setup.tech.plane_count) setup.library c.in-Some.id planes c.requires.can_dump.planes there in
     let along = c.ranges.dx in
     let up = c.ranges.dy in
-    let leaves = simp to_z-of_z at c.if-cell_leaves_world.ensures.leaves in
-    rw c.in-Some.is
+    let bounds = smallest_found pool setup.library c.in-Some.id planes c.bounds.result c.requires.can_dump.home there (ap (λ bounds. Some bounds) c.bounds.ensures ∙ c.in-Some-get.ensures.bounds) in
+    let outside = placed-Err (length planes) (layout_in pool planes) c.args.dx c.args.dy c.bounds.result c.in-Err.refusal bounds (simp to_z-of_z at c.in-Err.ensures) in
+    rw (c.in-Some.is, outside.0)
     (edit_step-Refused config (designed_of pool design) (dumped_in config (cell_at config (Some c.in-Some.id)) c.args.dx c.args.dy)
     (dump_step config (drawn_of pool design) (cell_at config (Some c.in-Some.id)) c.args.dx c.args.dy) CellOutside
     (dump_step-CellOutside config (drawn_of pool design) (Some c.in-Some.id) (layout_in pool planes) c.args.dx c.args.dy (length planes)
-    (cell_at-HasPlanes config pool setup.library c.in-Some.id planes refl there) (sym as_many) (sym leaves)))
+    (cell_at-HasPlanes config pool setup.library c.in-Some.id planes refl there) (sym as_many) outside.1))
 
 pub change-requires-clause-can_change : goal.change-requires-clause-can_change
 change-requires-clause-can_change c =
     let pool = c.args.workspace.now.pool in
     let library = c.args.setup.now.library in
     let planes = c.planes-planes.result.now in
-    let there : HasPlanes library c.in-Some.id planes = ap (λ owners. Some owners) c.planes-planes.ensures ∙ c.in-Some-get.ensures.planes in (
+    let there : HasPlanes library c.in-Some.id planes = ap (λ owners. Some owners) c.planes-planes.ensures ∙ c.in-Some-get.ensures.planes in
+    let bounds = smallest_found pool library c.in-Some.id planes c.bounds.result c.requires.can_dump.home there (ap (λ bounds. Some bounds) c.bounds.ensures ∙ c.in-Some-get.ensures.bounds) in
+    let stays = placed-Ok (length planes) (layout_in pool planes) _ _ c.bounds.result c.in-Ok.rect bounds c.in-Ok.ensures in (
       planes_there (All (IsFrozen pool)) library c.in-Some.id planes (λ k d within. (c.requires.can_dump.home.each k d within).frozen) there,
-      each_stays pool planes _ _ (sym c.if-cell_leaves_world.ensures.leaves),
+      each_stays pool planes _ _ stays.0,
     )
 
-pub change-requires-clause-apart : goal.change-requires-clause-apart
-change-requires-clause-apart c =
-    let design = c.args.self.now in
+pub change-requires-clause-planes : goal.change-requires-clause-planes
+change-requires-clause-planes c =
     let setup = c.args.setup.now in
     let planes = c.planes-planes.result.now in
     let there : HasPlanes setup.library c.in-Some.id planes = ap (λ owners. Some owners) c.planes-planes.ensures ∙ c.in-Some-get.ensures.planes in
-    let as_many = planes_there (λ owners. length owners ≡ setup.tech.plane_count) setup.library c.in-Some.id planes c.requires.can_dump.planes there in (
-      planes_there (All (λ owner. ¬ (Contains design.planes owner))) setup.library c.in-Some.id planes
-          (λ k d within i e among found. c.requires.can_dump.apart k d within i e among (Contains-append_left design.planes (design.errors.owner ∷ []) _ found)) there,
-      omega (arith, as_many, c.requires.made_for.planes),
-    )
+    let as_many = planes_there (λ owners. length owners ≡ setup.tech.plane_count) setup.library c.in-Some.id planes c.requires.can_dump.planes there in
+    omega (arith, as_many, c.requires.made_for.planes)
 
 pub returns-clause-step : goal.returns-clause-step
 unfolding design_step
@@ -82,13 +68,13 @@ returns-clause-step c =
     let found = cell_at-HasPlanes config pool setup.library c.in-Some.id planes refl there in
     let along = c.ranges.dx in
     let up = c.ranges.dy in
-    let stays = simp to_z-of_z at c.if-cell_leaves_world.ensures.leaves in
+    let bounds = smallest_found pool setup.library c.in-Some.id planes c.bounds.result c.requires.can_dump.home there (ap (λ bounds. Some bounds) c.bounds.ensures ∙ c.in-Some-get.ensures.bounds) in
+    let placed = placed-Ok (length planes) (layout_in pool planes) c.args.dx c.args.dy c.bounds.result c.in-Ok.rect bounds (simp to_z-of_z at c.in-Ok.ensures) in
     let changed = simp to_z-of_z at c.change.ensures.step in
-    let rect = simp to_z-of_z at c.dumped_rect-rect.ensures.rect in
-    let same : dumped_in config (cell_at config (Some c.in-Some.id)) c.args.dx c.args.dy ≡ c.dumped_rect-rect.result =
-    ap (λ cell. dumped_in config cell c.args.dx c.args.dy) found ∙ ap (λ n. dumped_rect n (layout_in pool planes) c.args.dx c.args.dy) (sym as_many) ∙ sym rect in
+    let same : dumped_in config (cell_at config (Some c.in-Some.id)) c.args.dx c.args.dy ≡ c.in-Ok.rect =
+    ap (λ cell. dumped_in config cell c.args.dx c.args.dy) found ∙ ap (λ n. dumped_rect n (layout_in pool planes) c.args.dx c.args.dy) (sym as_many) ∙ sym placed.1 in
     rw c.in-Some.is
     (ap (λ e. edit_step config (designed_of pool design) e (dump_step config (drawn_of pool design) (cell_at config (Some c.in-Some.id)) c.args.dx c.args.dy)) same
-    ∙ ap (edit_step config (designed_of pool design) c.dumped_rect-rect.result)
-    (dump_step-change_step config (drawn_of pool design) (Some c.in-Some.id) (layout_in pool planes) c.args.dx c.args.dy (length planes) found (sym as_many) (sym stays))
+    ∙ ap (edit_step config (designed_of pool design) c.in-Ok.rect)
+    (dump_step-change_step config (drawn_of pool design) (Some c.in-Some.id) (layout_in pool planes) c.args.dx c.args.dy (length planes) found (sym as_many) placed.0)
     ∙ changed)

@@ -1,7 +1,7 @@
 use Rattle.std.proofs.Common.{◌≡◌, length, ap, ◌∙◌, subst, sym}
 use Rattle.std.specs.Vec.{with_items}
 use Rattle.std.proofs.lemmas.List.{with_items_is}
-use Rattle.mls_errorplane.specs.ErrorPlanes.{ErrorPlane, HasStepped, ShowsMarks, checking_of}
+use Rattle.mls_errorplane.specs.ErrorPlanes.{ErrorPlane, HasStepped, checking_of}
 use Rattle.mls_stitch.specs.Tilings.{ChangesOnly}
 use Rattle.mls_session.specs.Designs.{Design, drawn_of}
 use Rattle.mls_session.specs.Own.{layout_of}
