@@ -1,3 +1,5 @@
+pub mod AlikeLayouts
+pub mod AlikePlanes
 pub mod AreaCounts
 pub mod AreaSizes
 pub mod CheckedMarks
@@ -23,7 +25,5 @@ pub mod ShownMarks
 pub mod SquareCounts
 pub mod StepsDone
 pub mod StretchSteps
-pub mod UniformLayouts
-pub mod UniformPlanes
 pub mod ViolatedNear
 pub mod ViolatedParts

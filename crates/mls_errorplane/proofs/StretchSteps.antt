@@ -1,14 +1,14 @@
 -- Check steps over pieces whose marks are right already: they change the list alone.
-use Rattle.std.proofs.Common.{◌≡◌, ◌≢◌, ℕ, zero, suc, ◌+◌, ◌<◌, ◌≤◌, not, ◌==◌, true, false, inl, inr, List, [], ◌∷◌, Option, Some, sym, ap, subst, ◌∙◌, arith, add-suc, add-zero}
+use Rattle.std.proofs.Common.{◌≡◌, ◌≢◌, ℕ, zero, suc, ◌+◌, ◌<◌, ◌≤◌, not, ◌==◌, true, false, inl, inr, List, [], ◌∷◌, Option, None, Some, IfSome, refl, sym, ap, subst, ◌∙◌, arith, add-suc, add-zero}
 use Rattle.std.specs.Option.{IsSomeAnd}
 use Rattle.std.proofs.Math.Path.{fun_ext}
-use Rattle.std.proofs.lemmas.Bool.{cases_Bool, cond-false, cond-true}
+use Rattle.std.proofs.lemmas.Bool.{cases_Bool, cases_lt, cond-false, cond-true}
 use Rattle.mls_edgerule.specs.declared.edge_rule.EdgeRule.{EdgeRule}
 use Rattle.mls_geom.specs.Layouts.{Layout}
 use Rattle.mls_geom.specs.Pictures.{Picture}
-use Rattle.mls_geom.specs.Rects.{Rect, IsRectangleIn, grown, holds, joined}
+use Rattle.mls_geom.specs.Rects.{Rect, IsRectangleIn, IsWithin, grown, holds, joined}
 use Rattle.mls_geom.specs.World.{world}
-use Rattle.mls_geom.proofs.Holds.{between_holds, holds_between}
+use Rattle.mls_geom.proofs.Holds.{between_holds, holds-IsWithin, holds_between}
 use Rattle.mls_geom.proofs.JoinedRects.{holds-joined_one, holds-joined_other, joined-IsRectangleIn}
 use Rattle.mls_tilepool.specs.Pools.{Pool}
 use Rattle.mls_paint.specs.Planes.{HasStrips, picture_in}
@@ -20,11 +20,14 @@ use Rattle.mls_errorplane.specs.Checkings.{Checking, checked_marks}
 use Rattle.mls_errorplane.specs.DirtyLists.{IsDirtyList, area_of, dropped, first_piece_of, piece_of}
 use Rattle.mls_errorplane.specs.ErrorPlanes.{ErrorPlane, HasStepped, ShowsMarks, exceeds, marks_picture}
 use Rattle.mls_errorplane.specs.MarkPlanes.{is_marked, marked_count}
-use Rattle.mls_errorplane.specs.Stretches.{AreRight, DropsIn, IsUniform, ShowsOneKind}
+use Rattle.mls_errorplane.specs.Stretches.{AreRight, AreRightIn, DropsIn, IsAlike, ShowsAlike, like_column}
+use Rattle.mls_errorplane.specs.declared.checked.Checked.{Checked}
 use Rattle.mls_errorplane.specs.declared.error_plane.Stepped.TheVariants as stepped
+use Rattle.mls_errorplane.specs.declared.likeness.Likeness.{Likeness}
+use Rattle.mls_errorplane.specs.declared.likeness.Likeness.TheVariants.{OneKind, Columns}
+use Rattle.mls_errorplane.proofs.AlikeLayouts.{forbidden-alike}
 use Rattle.mls_errorplane.proofs.AreaSizes.{area_of-dropped-less}
 use Rattle.mls_errorplane.proofs.KeptLists.{IsDirtyList-dropped}
-use Rattle.mls_errorplane.proofs.UniformLayouts.{forbidden-uniform}
 
 -- a square of a rectangle in another one is one of that
 inner_holds : (outer e : Rect) (x y : ℕ) → IsRectangleIn outer e → holds e x y ≡ true → holds outer x y ≡ true
@@ -49,6 +52,16 @@ checked_marks-right rules layout piece marks right = fun_ext (λ x. fun_ext (λ 
   | inl here ↦ cond-true (holds piece x y) (forbidden rules layout x y) (marks x y) here ∙ sym (right x y here)
   | inr elsewhere ↦ cond-false (holds piece x y) (forbidden rules layout x y) (marks x y) elsewhere
 ]))
+
+-- and one that is right at a square is so after any piece is checked
+checked_marks-keeps :
+    (rules : List EdgeRule) (layout : Layout) (piece : Option Rect) (marks : SquareSet) (x y : ℕ) → marks x y ≡ forbidden rules layout x y
+    → checked_marks rules layout piece marks x y ≡ forbidden rules layout x y
+checked_marks-keeps rules layout None marks x y right = right
+checked_marks-keeps rules layout (Some piece) marks x y right = elim (cases_Bool (holds piece x y)) [
+  | inl here ↦ cond-true (holds piece x y) (forbidden rules layout x y) (marks x y) here
+  | inr elsewhere ↦ cond-false (holds piece x y) (forbidden rules layout x y) (marks x y) elsewhere ∙ right
+]
 
 not_empty : (first : Rect) (rest : List Rect) → first ∷ rest ≢ []
 not_empty first rest none = absurd (cc)
@@ -132,26 +145,81 @@ DropsIn-fewer rect (suc count) old new (mid, drops, inside, is) kept =
     omega (arith, sizes, one, DropsIn-fewer rect count old mid drops kept)
 
 -- ---- marks
--- where layout and marks are uniform, marks that are right at one square are right at all
-AreRight-uniform :
-    (rules : List EdgeRule) (layout : Layout) (picture : Picture) (rect : Rect) (a b : ℕ) → IsRectangleIn world rect → IsUniform rules layout rect → ShowsOneKind 0 rect picture
-    → holds rect a b ≡ true → is_marked picture a b ≡ forbidden rules layout a b → AreRight rules layout (is_marked picture) rect
-AreRight-uniform rules layout picture rect a b legal uniform one there right x y here =
+-- where layout and marks show the same in two squares, marks that are right at one are right at the other
+right-alike :
+    (rules : List EdgeRule) (layout : Layout) (picture : Picture) (likeness : Likeness) (rect : Rect) (x y a b : ℕ) → IsRectangleIn world rect
+    → IsAlike likeness rules layout rect → ShowsAlike likeness 0 rect picture → like_column likeness rect x ≡ like_column likeness rect a
+    → holds rect x y ≡ true → holds rect a b ≡ true → is_marked picture a b ≡ forbidden rules layout a b → is_marked picture x y ≡ forbidden rules layout x y
+right-alike rules layout picture likeness rect x y a b legal alike one same here there right =
     let in_grown : (x y : ℕ) → holds rect x y ≡ true → holds (grown 0 rect) x y ≡ true = λ x y inside.
     (let lines = holds_between rect x y inside in
     between_holds (grown 0 rect) x y (omega (arith, lines.0)) (omega (arith, lines.1)) (omega (arith, lines.2)) (omega (arith, lines.3))) in
-    ap (λ kind. not (kind == 0)) (one x y (in_grown x y here) ∙ sym (one a b (in_grown a b there))) ∙ right
-    ∙ forbidden-uniform rules layout rect a b x y uniform there here (inner_holds world rect a b legal there) (inner_holds world rect x y legal here)
+    ap (λ kind. not (kind == 0)) (one x y (in_grown x y here) ∙ ap (λ column. picture column rect.bottom) same ∙ sym (one a b (in_grown a b there))) ∙ right
+    ∙ sym (forbidden-alike rules layout likeness rect x y a b alike same here there (inner_holds world rect x y legal here) (inner_holds world rect a b legal there))
 
--- so marks that are right in one rectangle are right in another, where all is uniform round both together
-pub AreRight-joined :
-    (rules : List EdgeRule) (layout : Layout) (picture : Picture) (checked rect : Rect) → IsRectangleIn world checked → IsRectangleIn world rect
-    → IsUniform rules layout (joined checked rect) → ShowsOneKind 0 (joined checked rect) picture → AreRight rules layout (is_marked picture) checked
+-- so marks that are right in one rectangle are right in another, where all is of one kind round both together
+pub AreRight-one_kind :
+    (rules : List EdgeRule) (layout : Layout) (picture : Picture) (last rect : Rect) → IsRectangleIn world last → IsRectangleIn world rect
+    → IsAlike OneKind rules layout (joined last rect) → ShowsAlike OneKind 0 (joined last rect) picture → AreRight rules layout (is_marked picture) last
     → AreRight rules layout (is_marked picture) rect
-AreRight-joined rules layout picture checked rect legal legal' uniform one right x y here =
-    let corner = between_holds checked checked.left checked.bottom (omega arith) legal.wide (omega arith) legal.tall in
-    AreRight-uniform rules layout picture (joined checked rect) checked.left checked.bottom (joined-IsRectangleIn world checked rect legal legal') uniform one
-    (holds-joined_one checked rect checked.left checked.bottom corner) (right checked.left checked.bottom corner) x y (holds-joined_other checked rect x y here)
+AreRight-one_kind rules layout picture last rect legal legal' alike one right x y here =
+    let corner = between_holds last last.left last.bottom (omega arith) legal.wide (omega arith) legal.tall in
+    right-alike rules layout picture OneKind (joined last rect) x y last.left last.bottom (joined-IsRectangleIn world last rect legal legal') alike one refl
+    (holds-joined_other last rect x y here) (holds-joined_one last rect last.left last.bottom corner) (right last.left last.bottom corner)
+
+-- and in another with the same columns, where all is in columns round both together
+pub AreRight-columns :
+    (rules : List EdgeRule) (layout : Layout) (picture : Picture) (row rect : Rect) → IsRectangleIn world row → IsRectangleIn world rect
+    → rect.left ≡ row.left → rect.right ≡ row.right → IsAlike Columns rules layout (joined row rect) → ShowsAlike Columns 0 (joined row rect) picture
+    → AreRight rules layout (is_marked picture) row → AreRight rules layout (is_marked picture) rect
+AreRight-columns rules layout picture row rect legal legal' left right alike one are x y here =
+    let lines = holds_between rect x y here in
+    let below = between_holds row x row.bottom (omega (arith, left, lines.0)) (omega (arith, right, lines.1)) (omega arith) legal.tall in
+    right-alike rules layout picture Columns (joined row rect) x y x row.bottom (joined-IsRectangleIn world row rect legal legal') alike one refl
+    (holds-joined_other row rect x y here) (holds-joined_one row rect x row.bottom below) (are x row.bottom below)
+
+-- marks that are right in a rectangle are right in what it encloses
+pub AreRight-within :
+    (rules : List EdgeRule) (layout : Layout) (marks : SquareSet) (outer rect : Rect) → IsWithin outer rect → AreRight rules layout marks outer
+    → AreRight rules layout marks rect
+AreRight-within rules layout marks outer rect within right x y here = right x y (holds-IsWithin outer rect x y within here)
+
+-- and where they are right in two rectangles of the same columns, of which one begins where the other ends, they are right in both together
+pub AreRight-above :
+    (rules : List EdgeRule) (layout : Layout) (marks : SquareSet) (block row : Rect) → row.left ≡ block.left → row.right ≡ block.right → row.bottom ≡ block.top
+    → AreRight rules layout marks block → AreRight rules layout marks row → AreRight rules layout marks (joined block row)
+AreRight-above rules layout marks block row left right bottom are are' x y here =
+    let lines = holds_between (joined block row) x y here in
+    elim (cases_lt y block.top) [
+      | inl below ↦ are x y (between_holds block x y (omega (arith, left, lines.0)) (omega (arith, right, lines.1)) (omega (arith, bottom, below, lines.2)) below)
+      | inr above ↦ are' x y (between_holds row x y (omega (arith, left, lines.0)) (omega (arith, right, lines.1)) (omega (arith, bottom, above)) (omega (arith, bottom, above, lines.3)))
+    ]
+
+-- marks that are right in some pieces stay so in a step that is done, and in its piece they are
+Done-keeps :
+    (rules : List EdgeRule) (layout : Layout) (limit : ℕ) (old new : Checking) (rect : Rect) → HasStepped rules layout limit old stepped.Done new
+    → AreRight rules layout old.marks rect → AreRight rules layout new.marks rect
+Done-keeps rules layout limit old new rect step right x y here =
+    ap (λ (checking : Checking). checking.marks x y) step.2 ∙ checked_marks-keeps rules layout (first_piece_of old.dirty) old.marks x y (right x y here)
+
+pub Done-AreRightIn :
+    (rules : List EdgeRule) (layout : Layout) (limit : ℕ) (old new : Checking) (checked : Option Checked) → HasStepped rules layout limit old stepped.Done new
+    → IfSome checked (AreRightIn rules layout old.marks) → IfSome checked (AreRightIn rules layout new.marks)
+Done-AreRightIn rules layout limit old new None step right = right
+Done-AreRightIn rules layout limit old new (Some checked) step right = (
+  Done-keeps rules layout limit old new checked.last step right.0,
+  Done-keeps rules layout limit old new checked.row step right.1,
+  Done-keeps rules layout limit old new checked.block step right.2,
+)
+
+pub AreRightIn-same :
+    (rules : List EdgeRule) (layout other : Layout) (marks set : SquareSet) (checked : Checked) → layout ≡ other → marks ≡ set → AreRightIn rules layout marks checked
+    → AreRightIn rules other set checked
+AreRightIn-same rules layout other marks set checked same_layout same right = (
+  AreRight-same rules layout other marks set checked.last same_layout same right.0,
+  AreRight-same rules layout other marks set checked.row same_layout same right.1,
+  AreRight-same rules layout other marks set checked.block same_layout same right.2,
+)
 
 -- ---- a plane
 -- a plane of marks whose pool, owner and count are as they were

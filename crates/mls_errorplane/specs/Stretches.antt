@@ -1,4 +1,4 @@
--- Pieces that are checked as one, since each plane shows one kind round all of them. This project's own.
+-- Pieces that are checked as one, since each plane shows the same round all of them as round pieces whose marks are right. This project's own.
 use Rattle.std.specs.Prelude.{◌≡◌, ◌<◌, ℕ, zero, suc, true, List, [], ◌∷◌, ◌++◌, Option}
 use Rattle.std.specs.Option.{IsSomeAnd, option_to_list}
 use Rattle.mls_edgerule.specs.Halos.{halo_of}
@@ -9,6 +9,9 @@ use Rattle.mls_geom.specs.Rects.{Rect, IsRectangleIn, grown, holds}
 use Rattle.mls_checker.specs.Forbids.{forbidden}
 use Rattle.mls_checker.specs.Marking.{SquareSet}
 use Rattle.mls_errorplane.specs.DirtyLists.{dropped, first_piece_of}
+use Rattle.mls_errorplane.specs.declared.checked.Checked.{Checked}
+use Rattle.mls_errorplane.specs.declared.likeness.Likeness.{Likeness}
+use Rattle.mls_errorplane.specs.declared.likeness.Likeness.TheVariants.{OneKind, Columns}
 use Rattle.mls_errorplane.specs.declared.stretch.Stretch.{Stretch}
 
 -- the list without its next pieces, this many of them and all in the rectangle, is the other list
@@ -25,14 +28,23 @@ with_rest rest (first ∷ others) = option_to_list rest ++ others
 abbrev pub IsNext : List Rect → Stretch → Type 0
 IsNext areas stretch = (0 < stretch.pieces) × DropsIn stretch.rect stretch.pieces areas (with_rest stretch.rest areas)
 
--- in the rectangle, and at most h squares away from it, the picture shows one kind, that of the rectangle's corner
-abbrev pub ShowsOneKind : ℕ → Rect → Picture → Type 0
-ShowsOneKind h rect picture = (x y : ℕ) → holds (grown h rect) x y ≡ true → picture x y ≡ picture rect.left rect.bottom
+-- the column in whose lowest square a rectangle shows what it shows in this column: its leftmost one where it shows one kind, and the same one where it shows columns
+abbrev pub like_column : Likeness → Rect → ℕ → ℕ
+like_column OneKind rect x = rect.left
+like_column Columns rect x = x
 
--- as far as the rules reach round the rectangle each plane shows one kind
-abbrev pub IsUniform : List EdgeRule → Layout → Rect → Type 0
-IsUniform rules layout rect = (plane : ℕ) → ShowsOneKind (halo_of rules) rect (layout plane)
+-- in the rectangle, and at most h squares away from it, the picture shows one kind, that of the rectangle's corner, or one kind in each column
+abbrev pub ShowsAlike : Likeness → ℕ → Rect → Picture → Type 0
+ShowsAlike likeness h rect picture = (x y : ℕ) → holds (grown h rect) x y ≡ true → picture x y ≡ picture (like_column likeness rect x) rect.bottom
+
+-- as far as the rules reach round the rectangle each plane shows one kind, or columns
+abbrev pub IsAlike : Likeness → List EdgeRule → Layout → Rect → Type 0
+IsAlike likeness rules layout rect = (plane : ℕ) → ShowsAlike likeness (halo_of rules) rect (layout plane)
 
 -- in the rectangle the marks are exactly the squares that the rules forbid
 abbrev pub AreRight : List EdgeRule → Layout → SquareSet → Rect → Type 0
 AreRight rules layout marks rect = (x y : ℕ) → holds rect x y ≡ true → marks x y ≡ forbidden rules layout x y
+
+-- they are so in all three rectangles
+abbrev pub AreRightIn : List EdgeRule → Layout → SquareSet → Checked → Type 0
+AreRightIn rules layout marks checked = AreRight rules layout marks checked.last × AreRight rules layout marks checked.row × AreRight rules layout marks checked.block

@@ -8,6 +8,7 @@ ghost use Rattle.mls_tilepool.specs.Pools.{room_of};
 ghost use Rattle.mls_errorplane.specs.CatchingUp.{HasCaughtUp};
 ghost use Rattle.mls_errorplane.specs.ErrorPlanes.{ShowsMarks, checking_of};
 
+use crate::checked::Checked;
 use crate::{Basis, ErrorPlane, Stepped};
 use mls_layout::Workspace;
 use mls_stitch::Plane;
@@ -29,6 +30,8 @@ impl ErrorPlane {
     /// isn't done.
     ///
     /// Where each plane shows one kind round many pieces, and their marks are right already, they are checked as one.
+    /// So are whole rows above one that was just checked, where each plane shows bars that go up through all of them,
+    /// and the marks do too.
     ///
     /// The steps that were done stay so. The planes and the cells must be of other owners than the error plane.
     pub fn catch_up(
@@ -57,10 +60,13 @@ impl ErrorPlane {
         ensures owners { planes.new ≡ planes.old }
     {
         let mut done = 0;
+        let mut checked: Option<Checked> = None;
         'steps: while let Some(piece) = self.dirty.first_piece() {
             match self.step(alloc, planes, basis, limit, workspace) {
                 Stepped::Done => {
-                    let more = self.drop_alike(planes, basis, piece, workspace);
+                    let mut now = Checked::after(&checked, piece);
+                    let more = self.drop_alike(planes, basis, &mut now, workspace);
+                    checked = Some(now);
                     done += 1 + more;
                 }
                 Stepped::Idle => return CaughtUp::Done,

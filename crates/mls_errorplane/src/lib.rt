@@ -1,21 +1,23 @@
 //! Areas of a layout that await checking, and the marks that checks leave (Taylor and Ousterhout 1984).
 #![tactic(auto)]
 
+mod alike;
 mod area_counts;
 mod basis;
 mod catching_up;
+mod checked;
 mod differing;
 mod dirty;
 mod error_plane;
 mod job;
 pub mod laws;
+mod likeness;
 mod mark_pieces;
 mod marks;
 mod opening;
 mod shown_marks;
 mod stretch;
 mod stretches;
-mod uniform;
 mod violated;
 
 pub use basis::Basis;

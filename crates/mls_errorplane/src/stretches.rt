@@ -1,4 +1,4 @@
-//! Checking pieces as one, where each plane shows one kind round all of them.
+//! Checking pieces as one, where each plane shows one kind round all of them, or columns.
 ghost use Rattle.std.specs.Prelude.{◌≡◌, ◌+◌, ◌<◌, ◌≤◌, ℕ, false, IfNone, IfSome, IsTrue, length};
 ghost use Rattle.std.specs.List.{All};
 ghost use Rattle.mls_geom.specs.Rects.{IsRectangleIn};
@@ -10,11 +10,13 @@ ghost use Rattle.mls_stitch.specs.Tilings.{HasPlane};
 ghost use Rattle.mls_errorplane.specs.CatchingUp.{Steps};
 ghost use Rattle.mls_errorplane.specs.DirtyLists.{area_of};
 ghost use Rattle.mls_errorplane.specs.ErrorPlanes.{ShowsMarks, checking_of, exceeds};
-ghost use Rattle.mls_errorplane.specs.Stretches.{AreRight, DropsIn, IsUniform, ShowsOneKind};
+ghost use Rattle.mls_errorplane.specs.Stretches.{AreRight, AreRightIn, DropsIn, IsAlike, ShowsAlike};
 
+use crate::alike::{is_alike, shows_alike};
+use crate::checked::Checked;
 use crate::dirty::lies_in_world;
+use crate::likeness::Likeness;
 use crate::stretch::Stretch;
-use crate::uniform::{is_uniform, shows_one_kind};
 use crate::{Basis, ErrorPlane};
 use mls_geom::Rect;
 use mls_layout::Workspace;
@@ -34,17 +36,19 @@ fn next_most(stretch: &Stretch, most: u32) -> u32
 
 impl ErrorPlane {
     /// Takes the next pieces out of the areas as long as a check would leave their marks as they are, and returns how
-    /// many these were. In the rectangle `checked` the marks must be right.
+    /// many these were. In the rectangles of `checked` the marks must be right; afterwards these are the last pieces
+    /// that were taken.
     ///
     /// Goes on from rectangle to rectangle, where round both together each plane of the layout shows one kind, and the
-    /// error plane one in them. A rectangle is twice as large as the one before, or, where that is too much, half as
+    /// error plane one in them; and from row to row, where round both together each plane shows columns, and the error
+    /// plane columns in them. A rectangle is twice as large as the one before, or, where that is too much, half as
     /// large, and the first of an area is one piece or one row: so each search is small beside what it is about to
     /// save. No memory is taken.
     pub(crate) fn drop_alike(
         &mut self,
         planes: &mut [Plane],
         basis: &Basis<'_>,
-        checked: Rect,
+        checked: &mut Checked,
         workspace: &mut Workspace,
     ) -> u64
         requires planes { All (HasPlane workspace.old.pool) planes.old }
@@ -52,19 +56,21 @@ impl ErrorPlane {
         requires cells { HasCells workspace.old.pool (length planes.old) basis.now.uses.library.now }
         requires marks { ShowsMarks workspace.old.pool self.old }
         requires marks_fit { FitsWorkspace workspace.old.pool self.old.owner }
-        requires right { AreRight basis.now.rules.now
+        requires right { AreRightIn basis.now.rules.now
             (flat_layout workspace.old.pool basis.now.uses planes.old)
-            (checking_of workspace.old.pool self.old).marks checked }
+            (checking_of workspace.old.pool self.old).marks checked.old }
         ensures steps { (limit : ℕ) → exceeds limit (checking_of workspace.old.pool self.old).marks ≡ false
             → Steps basis.now.rules.now (flat_layout workspace.old.pool basis.now.uses planes.old) limit result
             (checking_of workspace.old.pool self.old) (checking_of workspace.new.pool self.new) }
+        ensures right { AreRightIn basis.now.rules.now
+            (flat_layout workspace.old.pool basis.now.uses planes.old)
+            (checking_of workspace.old.pool self.old).marks checked.new }
         ensures fewer { result + area_of self.new.dirty ≤ area_of self.old.dirty }
         ensures owner { self.new.owner ≡ self.old.owner }
         ensures marked { self.new.marked ≡ self.old.marked }
         ensures owners { planes.new ≡ planes.old }
         ensures pool { workspace.new.pool ≡ workspace.old.pool }
     {
-        let mut checked = checked;
         let mut most: u32 = 1;
         let mut steps = 0;
         if self.areas() == 0 {
@@ -77,7 +83,7 @@ impl ErrorPlane {
                 continue;
             };
             steps += stretch.pieces;
-            checked = stretch.rect;
+            *checked = checked.then(stretch.rect);
             most = next_most(&stretch, most);
         }
         steps
@@ -89,7 +95,7 @@ impl ErrorPlane {
         &mut self,
         planes: &mut [Plane],
         basis: &Basis<'_>,
-        checked: Rect,
+        checked: &Checked,
         most: u32,
         workspace: &mut Workspace,
     ) -> Option<Stretch>
@@ -99,9 +105,9 @@ impl ErrorPlane {
         requires cells { HasCells workspace.old.pool (length planes.old) basis.now.uses.library.now }
         requires marks { ShowsMarks workspace.old.pool self.old }
         requires marks_fit { FitsWorkspace workspace.old.pool self.old.owner }
-        requires right { AreRight basis.now.rules.now
+        requires right { AreRightIn basis.now.rules.now
             (flat_layout workspace.old.pool basis.now.uses planes.old)
-            (checking_of workspace.old.pool self.old).marks checked }
+            (checking_of workspace.old.pool self.old).marks checked.now }
         ensures drops { IfSome result (λ stretch. DropsIn stretch.rect stretch.pieces self.old.dirty self.new.dirty) }
         ensures fewer { IfSome result (λ stretch. (0 < stretch.pieces)
             × (stretch.pieces + area_of self.new.dirty ≤ area_of self.old.dirty)) }
@@ -115,21 +121,20 @@ impl ErrorPlane {
         ensures pool { workspace.new.pool ≡ workspace.old.pool }
     {
         let stretch = self.dirty.next_stretch(most)?;
-        lies_in_world(checked);
-        lies_in_world(stretch.rect);
-        if !self.is_alike(planes, basis, checked.joined(stretch.rect), workspace) {
+        if !self.is_marked_right(planes, basis, checked, stretch.rect, workspace) {
             return None;
         }
         self.dirty.drop_stretch(&stretch);
         Some(stretch)
     }
 
-    /// Returns whether the marks are the same in the whole rectangle, and each plane of the layout with the uses shows
-    /// one kind in it and as far round it as the rules reach. Where a use may show something there, returns `false`.
-    fn is_alike(
+    /// Returns whether the marks in the rectangle are known to be right: they are if it was checked before, shows one
+    /// kind together with the last pieces, or lies on their row and shows columns together with it.
+    fn is_marked_right(
         &mut self,
         planes: &mut [Plane],
         basis: &Basis<'_>,
+        checked: &Checked,
         rect: Rect,
         workspace: &mut Workspace,
     ) -> bool
@@ -138,17 +143,82 @@ impl ErrorPlane {
         requires cells { HasCells workspace.old.pool (length planes.old) basis.now.uses.library.now }
         requires marks { HasPlane workspace.old.pool self.old.owner }
         requires marks_fit { FitsWorkspace workspace.old.pool self.old.owner }
-        ensures marks { IsTrue result → ShowsOneKind 0 rect (picture_in workspace.old.pool self.old.owner) }
-        ensures uniform { IsTrue result → IsUniform basis.now.rules.now
+        requires right { AreRightIn basis.now.rules.now
+            (flat_layout workspace.old.pool basis.now.uses planes.old)
+            (checking_of workspace.old.pool self.old).marks checked.now }
+        ensures right { IsTrue result → AreRight basis.now.rules.now
+            (flat_layout workspace.old.pool basis.now.uses planes.old)
+            (checking_of workspace.old.pool self.old).marks rect }
+        ensures same { self.new ≡ self.old }
+        ensures owners { planes.new ≡ planes.old }
+        ensures pool { workspace.new.pool ≡ workspace.old.pool }
+    {
+        if checked.block.encloses(rect) {
+            return true;
+        }
+        let last = checked.last;
+        let row = checked.row;
+        lies_in_world(rect);
+        lies_in_world(last);
+        if self.is_alike(
+            planes,
+            basis,
+            Likeness::OneKind,
+            last.joined(rect),
+            workspace,
+        ) {
+            return true;
+        }
+        lies_in_world(row);
+        if !is_on_row(rect, row) {
+            return false;
+        }
+        self.is_alike(
+            planes,
+            basis,
+            Likeness::Columns,
+            row.joined(rect),
+            workspace,
+        )
+    }
+
+    /// Returns whether the marks are the same in the whole rectangle, or in each of its columns, and each plane of the
+    /// layout with the uses shows one kind, or columns, in it and as far round it as the rules reach. Where a use may
+    /// show something there, returns `false`.
+    fn is_alike(
+        &mut self,
+        planes: &mut [Plane],
+        basis: &Basis<'_>,
+        likeness: Likeness,
+        rect: Rect,
+        workspace: &mut Workspace,
+    ) -> bool
+        requires planes { All (HasPlane workspace.old.pool) planes.old }
+        requires planes_fit { All (FitsWorkspace workspace.old.pool) planes.old }
+        requires cells { HasCells workspace.old.pool (length planes.old) basis.now.uses.library.now }
+        requires marks { HasPlane workspace.old.pool self.old.owner }
+        requires marks_fit { FitsWorkspace workspace.old.pool self.old.owner }
+        ensures marks { IsTrue result
+            → ShowsAlike likeness 0 rect (picture_in workspace.old.pool self.old.owner) }
+        ensures layout { IsTrue result → IsAlike likeness basis.now.rules.now
             (flat_layout workspace.old.pool basis.now.uses planes.old) rect }
         ensures same { self.new ≡ self.old }
         ensures owners { planes.new ≡ planes.old }
         ensures pool { workspace.new.pool ≡ workspace.old.pool }
     {
         let Workspace { pool, scratch, .. } = workspace;
-        if !shows_one_kind(pool, &mut self.plane, rect, 0, scratch) {
+        if !shows_alike(pool, &mut self.plane, likeness, rect, 0, scratch) {
             return false;
         }
-        is_uniform(planes, basis, rect, workspace)
+        is_alike(planes, basis, likeness, rect, workspace)
     }
+}
+
+/// Returns whether the rectangle begins where the row ends above, and has the same columns.
+fn is_on_row(rect: Rect, row: Rect) -> bool
+    ensures { IsTrue result → (rect.left ≡ row.left) × (rect.right ≡ row.right) }
+{
+    let lines = rect.area();
+    let below = row.area();
+    lines.bottom == below.top && lines.left == below.left && lines.right == below.right
 }

@@ -1,16 +1,20 @@
 use Rattle.std.proofs.Common.{ℕ, List, All, length, refl, sym, ap, subst, ◌∙◌, arith}
 use Rattle.mls_geom.specs.Layouts.{Layout}
+use Rattle.mls_tilepool.specs.Pools.{Pool}
 use Rattle.mls_stitch.specs.Tilings.{ChangesOnly, HasPlane}
 use Rattle.mls_stitch.proofs.PoolChanges.{ChangesOnly-refl, ChangesOnly-trans}
+use Rattle.mls_paint.specs.Planes.{picture_in}
 use Rattle.mls_layout.specs.Uses.{HasCells, flat_layout}
+use Rattle.mls_checker.proofs.LentPlanes.{lent-same}
 use Rattle.mls_errorplane.specs.ErrorPlanes.{ErrorPlane, HasStepped, checking_of}
 use Rattle.mls_errorplane.specs.DirtyLists.{IsDirtyList, first_piece_of}
+use Rattle.mls_errorplane.specs.MarkPlanes.{is_marked}
 use Rattle.mls_errorplane.specs.CatchingUp.{Steps}
-use Rattle.mls_errorplane.specs.Stretches.{AreRight}
+use Rattle.mls_errorplane.specs.Stretches.{AreRightIn}
 use Rattle.mls_errorplane.specs.declared.error_plane.Stepped.TheVariants.{Done, Full, Idle, Memory}
 use Rattle.mls_errorplane.proofs.AreaSizes.{area_of-le}
 use Rattle.mls_errorplane.proofs.StepsDone.{HasCaughtUp-Full, HasCaughtUp-Idle, HasCaughtUp-Memory, HasCells-apart, HasPlane-apart, area_of-Done, few-Done, flat_layout-apart, no_piece}
-use Rattle.mls_errorplane.proofs.StretchSteps.{Done-AreRight, ShowsMarks-lent, Steps-stretch}
+use Rattle.mls_errorplane.proofs.StretchSteps.{AreRightIn-same, Done-AreRight, Done-AreRightIn, ShowsMarks-lent, Steps-stretch}
 use Rattle.mls_errorplane.proofs.error_plane.ErrorPlane.catch_up.Goals as goal
 
 pub step-requires-clause-planes : goal.step-requires-clause-planes
@@ -46,15 +50,19 @@ drop_alike-more-requires-clause-right c =
     let so_far = c.steps.invariant in
     let rules = c.args.basis.now.rules.now in
     let uses = c.args.basis.now.uses in
+    let layout = flat_layout c.args.workspace.now.pool uses c.args.planes.now in
+    let mid = checking_of c.steps.workspace.pool c.steps.self in
+    let new = checking_of c.step.new.workspace.pool c.step.new.self in
     let only = ChangesOnly-trans so_far.only (subst (ChangesOnly c.steps.workspace.pool c.step.new.workspace.pool) so_far.owner c.step.ensures.only) in
     let here = ap (flat_layout c.steps.workspace.pool uses) so_far.owners
     ∙ flat_layout-apart c.args.workspace.now.pool c.steps.workspace.pool c.args.self.now.owner uses c.args.planes.now so_far.only c.requires.cells_apart c.requires.apart in
     let there = ap (flat_layout c.step.new.workspace.pool uses) (c.step.ensures.owners ∙ so_far.owners)
     ∙ flat_layout-apart c.args.workspace.now.pool c.step.new.workspace.pool c.args.self.now.owner uses c.args.planes.now only c.requires.cells_apart c.requires.apart in
-    subst (λ (layout : Layout). AreRight rules layout (checking_of c.step.new.workspace.pool c.step.new.self).marks c.in-Some.piece) (here ∙ sym there)
-    (Done-AreRight rules (flat_layout c.steps.workspace.pool uses c.steps.planes) c.args.limit (checking_of c.steps.workspace.pool c.steps.self)
-    (checking_of c.step.new.workspace.pool c.step.new.self) c.in-Some.piece c.in-Done.ensures.stepped
-    (c.in-Some.ensures.piece ∙ ap (λ (e : ErrorPlane). first_piece_of e.dirty) c.self.view_is))
+    let step = subst (λ (l : Layout). HasStepped rules l c.args.limit mid Done new) here c.in-Done.ensures.stepped in
+    let first = c.in-Some.ensures.piece ∙ ap (λ (e : ErrorPlane). first_piece_of e.dirty) c.self.view_is in
+    subst (λ (l : Layout). AreRightIn rules l new.marks c.after-now.result) (sym there)
+    (c.after-now.ensures rules layout new.marks (Done-AreRightIn rules layout c.args.limit mid new c.steps.checked step so_far.right)
+    (Done-AreRight rules layout c.args.limit mid new c.in-Some.piece step first))
 
 pub overflow_add-done : goal.overflow_add-done
 overflow_add-done c =
@@ -96,6 +104,9 @@ steps-preserved c =
       after = Steps-stretch rules layout c.args.limit c.steps.done more old mid new last so_far.after step
           (λ fits. subst (λ (l : Layout). Steps rules l c.args.limit more new last) there (c.drop_alike-more.ensures.steps c.args.limit fits));
       few = λ kept. omega (arith, few, c.drop_alike-more.ensures.fewer);
+      right = AreRightIn-same rules (flat_layout c.step.new.workspace.pool uses c.step.new.planes) layout new.marks last.marks c.drop_alike-more.new.checked there
+          (sym (lent-same (λ (p : Pool) (owner : ℕ). is_marked (picture_in p owner)) c.step.new.workspace.pool c.drop_alike-more.new.workspace.pool c.step.new.self.owner
+          c.drop_alike-more.new.self.owner c.drop_alike-more.ensures.pool c.drop_alike-more.ensures.owner)) c.drop_alike-more.ensures.right;
       marks = ShowsMarks-lent c.step.new.workspace.pool c.drop_alike-more.new.workspace.pool c.step.new.self c.drop_alike-more.new.self c.drop_alike-more.ensures.pool
           c.drop_alike-more.ensures.owner c.drop_alike-more.ensures.marked c.step.ensures.marks;
       only = subst (λ pool. ChangesOnly c.args.workspace.now.pool pool c.args.self.now.owner) (sym c.drop_alike-more.ensures.pool) only;
@@ -140,6 +151,7 @@ pub steps-init : goal.steps-init
 steps-init c = record {
   after = refl;
   few = λ kept. omega (arith, area_of-le c.args.self.now.dirty kept);
+  right = tt;
   marks = c.requires.marks;
   only = ChangesOnly-refl c.args.workspace.now.pool c.args.self.now.owner;
   owner = refl;

@@ -1,16 +1,19 @@
-use Rattle.std.proofs.Common.{◌≡◌, ◌+◌, ◌*◌, ◌^◌, ◌≤◌}
+use Rattle.std.proofs.Common.{◌≡◌, ◌+◌, ◌*◌, ◌^◌, ◌≤◌, IfSome}
 use Rattle.mls_stitch.specs.Tilings.{ChangesOnly}
 use Rattle.mls_layout.specs.Uses.{flat_layout}
 use Rattle.mls_errorplane.specs.CatchingUp.{Steps}
 use Rattle.mls_errorplane.specs.DirtyLists.{IsDirtyList, area_of}
 use Rattle.mls_errorplane.specs.ErrorPlanes.{ShowsMarks, checking_of}
+use Rattle.mls_errorplane.specs.Stretches.{AreRightIn}
 use Rattle.mls_errorplane.proofs.error_plane.ErrorPlane.catch_up.Given as goal
 
--- all steps so far were done, in the layout as it was, and their number and the squares that still await checking aren't too many to count
+-- all steps so far were done, in the layout as it was, and their number and the squares that still await checking aren't too many to count; the marks of the
+-- pieces that were checked last are right
 abbrev pub invariant-steps : goal.invariant-steps
 invariant-steps l = record {
   after : Steps l.fn.basis.rules.now (flat_layout l.fn.workspace.pool l.fn.basis.uses l.fn.planes) l.limit l.done (checking_of l.fn.workspace.pool l.fn.self) (checking_of l.workspace.pool l.self);
   few : IsDirtyList l.self.dirty → l.done + area_of l.self.dirty ≤ 65 * 2 ^ 32;
+  right : IfSome l.checked (AreRightIn l.fn.basis.rules.now (flat_layout l.fn.workspace.pool l.fn.basis.uses l.fn.planes) (checking_of l.workspace.pool l.self).marks);
   marks : ShowsMarks l.workspace.pool l.self;
   only : ChangesOnly l.fn.workspace.pool l.workspace.pool l.fn.self.owner;
   owner : l.self.owner ≡ l.fn.self.owner;

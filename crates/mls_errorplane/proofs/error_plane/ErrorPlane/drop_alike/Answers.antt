@@ -6,7 +6,7 @@ use Rattle.mls_checker.proofs.LentPlanes.{lent-same}
 use Rattle.mls_errorplane.specs.ErrorPlanes.{checking_of}
 use Rattle.mls_errorplane.specs.MarkPlanes.{is_marked}
 use Rattle.mls_errorplane.proofs.AreaSizes.{area_of-le}
-use Rattle.mls_errorplane.proofs.StretchSteps.{AreRight-same, Steps-dropped}
+use Rattle.mls_errorplane.proofs.StretchSteps.{AreRight-same, AreRightIn-same, Steps-dropped}
 use Rattle.mls_errorplane.proofs.error_plane.ErrorPlane.drop_alike.Goals as goal
 
 pub drop_one_stretch-requires-clause-right : goal.drop_one_stretch-requires-clause-right
@@ -15,7 +15,7 @@ drop_one_stretch-requires-clause-right c =
     let pool = c.args.workspace.now.pool in
     let now = c.stretches.workspace.pool in
     let uses = c.args.basis.now.uses in
-    AreRight-same c.args.basis.now.rules.now (flat_layout pool uses c.args.planes.now) (flat_layout now uses c.stretches.planes) (is_marked (picture_in pool c.args.self.now.owner))
+    AreRightIn-same c.args.basis.now.rules.now (flat_layout pool uses c.args.planes.now) (flat_layout now uses c.stretches.planes) (is_marked (picture_in pool c.args.self.now.owner))
     (is_marked (picture_in now c.stretches.self.owner)) c.stretches.checked
     (sym (lent-same (λ (p : Pool) (planes : List ℕ). flat_layout p uses planes) pool now c.args.planes.now c.stretches.planes so_far.pool so_far.owners))
     (sym (lent-same (λ (p : Pool) (owner : ℕ). is_marked (picture_in p owner)) pool now c.args.self.now.owner c.stretches.self.owner so_far.pool so_far.owner))
@@ -44,7 +44,7 @@ stretches-preserved c =
     record {
       steps = λ limit fits. Steps-dropped rules layout limit c.stretches.steps stretch.pieces stretch.rect (checking_of pool c.args.self.now) (checking_of now c.stretches.self)
           (checking_of new.workspace.pool new.self) (so_far.steps limit fits) same same' found.drops right fits;
-      right = right;
+      right = c.then.ensures rules layout marks so_far.right right;
       fewer = omega (arith, so_far.fewer, found.fewer.1);
       owner = c.drop_one_stretch.ensures.owner ∙ so_far.owner;
       marked = c.drop_one_stretch.ensures.marked ∙ so_far.marked;

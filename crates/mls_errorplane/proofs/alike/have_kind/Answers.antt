@@ -3,7 +3,7 @@ use Rattle.std.proofs.lemmas.List.{take_all}
 use Rattle.std.proofs.lemmas.List.Elements.{All-push}
 use Rattle.mls_checker.proofs.Prefixes.{take_next}
 use Rattle.mls_stitch.specs.declared.laid_tile.LaidTile.{LaidTile}
-use Rattle.mls_errorplane.proofs.uniform.have_kind.Goals as goal
+use Rattle.mls_errorplane.proofs.alike.have_kind.Goals as goal
 
 pub loop-tile-preserved : goal.loop-tile-preserved
 loop-tile-preserved c =

@@ -1,0 +1,134 @@
+"""Times checks of the whole world. Called by bench/world.sh, which says what the rows are."""
+import os
+import pathlib
+import random
+import subprocess
+import sys
+import tempfile
+import time
+
+from talking import Failed, Program
+
+RUNS = 3
+TIMES = 1, 64
+WORLD = -32768, -32768, 32768, 32768
+# How many seconds workers may take before the row has a dash.
+PATIENCE = 50
+OPTIONS = ["--quota", "16384", "--journal", "65536"]
+
+ALL_FORBIDDEN = "planes\np\nend\ntypes\np q\nend\ndrc\nedge space space 1 q 0 0 \"q only\"\nend\n"
+
+
+def box(sides):
+    return "box {} {} {} {}".format(*sides)
+
+
+def paint(*sides, kind="poly"):
+    return [box(sides), f"paint {kind}"]
+
+
+def flat(commands):
+    return [line for group in commands for line in group]
+
+
+def strewn(kind, rows):
+    """Returns rectangles of a type: as many rows as there are in each, of one height each, and 16 apart."""
+    dice = random.Random(kind)
+    for row in range(rows):
+        top = 16 * row + dice.randint(1, 8)
+        for column in range(rows):
+            left = 16 * column + dice.randint(0, 7)
+            yield paint(left, 16 * row, left + dice.randint(1, 8), top, kind=kind)
+
+
+SQUARES = [(2 * x - 32768, 2 * y - 32768) for x in range(56) for y in range(56)]
+CORNER = flat(paint(x, y, x + 1, y + 1) for x, y in SQUARES)
+BARS = flat(paint(64 * n - 32000, WORLD[1], 64 * n - 31998, WORLD[3]) for n in range(1000))
+STREWN = flat([*strewn("poly", 71), *strewn("m1", 71)])
+STREWN_BOX = 0, 0, 1136, 1136
+
+# The layouts, each with its technology, if that isn't M, and with the box that is checked.
+LAYOUTS = {
+    "empty": ([], None, WORLD),
+    "painted": (paint(*WORLD), None, WORLD),
+    "corner": (CORNER, None, WORLD),
+    "bars": (BARS, None, WORLD),
+    "marked": ([], ALL_FORBIDDEN, WORLD),
+    "strewn": (STREWN, None, WORLD),
+    "alone": (STREWN, None, STREWN_BOX),
+}
+
+
+def setting(layout, sides):
+    """Returns the lines up to the checks: the layout, all of it checked, and the box."""
+    return [*layout, "drc catchup", box(sides)]
+
+
+def run(program, words, lines):
+    """Runs a script of one session, and returns the processor's seconds and the replies, without the name."""
+    script = "%open a\n" + "".join(f"a {line}\n" for line in lines)
+    before = os.times()
+    ran = subprocess.run([program, *words], input=script.encode(), capture_output=True, check=True, timeout=600)
+    after = os.times()
+    spent = after.children_user + after.children_system - before.children_user - before.children_system
+    return spent, [line.partition(" ")[2] for line in ran.stdout.decode().splitlines()]
+
+
+def catching_up(program, words, layout, sides, times):
+    """Returns how many seconds checks take that are asked for so many times and caught up with."""
+    lines = setting(layout, sides)
+    checks = [*lines, *["drc check"] * times, "drc catchup", "drc count"]
+    bare, spent = [], []
+    for _ in range(RUNS):
+        seconds, before = run(program, words, [*lines, "drc count"])
+        bare.append(seconds)
+        seconds, after = run(program, words, checks)
+        spent.append(seconds)
+        if set(after[1:-1]) != {"ok"} or before[-1] != after[-1] or not after[-1].endswith(" 0 pending"):
+            raise Failed(f"{after[-1]} after {before[-1]}, or a line that isn't ok: {set(after[1:-1])}")
+    return min(spent) - min(bare)
+
+
+def by_workers(program, words, layout, sides, times):
+    """Returns how many seconds one worker takes for checks that are asked for so many times, or nothing."""
+    with Program([program, *words, "--live", "--workers", "1"], ["a"]) as live:
+        live.send(["%open a", *(f"a {line}" for line in setting(layout, sides))])
+        for _ in range(len(layout) + 3):
+            live.reply("a")
+        begin = time.perf_counter()
+        live.send(["a drc check"] * times)
+        for _ in range(times):
+            live.reply("a")
+        while True:
+            live.send(["a drc count"])
+            now, said = live.reply("a")
+            if said.endswith(" 0 pending"):
+                return now - begin
+            if now - begin > PATIENCE:
+                return None
+            time.sleep(0.001)
+
+
+def shown(seconds):
+    return "-" if seconds is None else f"{seconds * 1e3:.0f}"
+
+
+def main(program, asked):
+    with tempfile.TemporaryDirectory() as folder:
+        print("layout", *(f"catchup {n}" for n in asked), *(f"worker {n}" for n in asked), sep="\t", flush=True)
+        for name, (layout, technology, sides) in LAYOUTS.items():
+            words = list(OPTIONS)
+            if technology:
+                path = pathlib.Path(folder, "t.tech")
+                path.write_text(technology)
+                words += ["--tech", str(path)]
+            each = [(timed, times) for timed in (catching_up, by_workers) for times in asked]
+            row = [shown(timed(program, words, layout, sides, times)) for timed, times in each]
+            print(name, *row, sep="\t", flush=True)
+
+
+if __name__ == "__main__":
+    try:
+        main(sys.argv[1], [int(word) for word in sys.argv[2:]] or TIMES)
+    except Failed as failure:
+        sys.exit(f"world: {failure}")

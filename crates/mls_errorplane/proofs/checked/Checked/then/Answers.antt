@@ -1,0 +1,6 @@
+use Rattle.mls_errorplane.proofs.checked.Checked.then.Goals as goal
+
+pub returns : goal.returns
+returns c = λ rules layout marks right here.
+    let row = c.row_with-row.ensures rules layout marks right.1 here in
+    (here, row, c.block_with.ensures rules layout marks right.2 row)

@@ -1,0 +1,84 @@
+//! Pieces that were checked, from which the marks of others are known to be right.
+ghost use Rattle.std.specs.Prelude.{IfSome, List};
+ghost use Rattle.mls_edgerule.specs.declared.edge_rule.EdgeRule.{EdgeRule};
+ghost use Rattle.mls_geom.specs.Layouts.{Layout};
+ghost use Rattle.mls_checker.specs.Marking.{SquareSet};
+ghost use Rattle.mls_errorplane.specs.Stretches.{AreRight, AreRightIn};
+
+use mls_geom::Rect;
+
+/// Which pieces were checked last.
+#[derive(Clone, Copy)]
+pub(crate) struct Checked {
+    /// The last one, or the last that were checked as one.
+    pub last: Rect,
+    /// The same, and to the left of it the pieces of its row that were checked just before.
+    pub row: Rect,
+    /// Rows that were checked one above another, and have the same columns.
+    pub block: Rect,
+}
+
+impl Checked {
+    /// Returns which pieces were checked last, if those of the rectangle were checked after these, or as the first.
+    pub fn after(checked: &Option<Checked>, rect: Rect) -> Checked
+        ensures { (rules : List EdgeRule) (layout : Layout) (marks : SquareSet)
+            → IfSome checked.now (AreRightIn rules layout marks) → AreRight rules layout marks rect
+            → AreRightIn rules layout marks result }
+    {
+        match checked {
+            Some(before) => before.then(rect),
+            None => Checked {
+                last: rect,
+                row: rect,
+                block: rect,
+            },
+        }
+    }
+
+    /// Returns which pieces were checked last, if those of the rectangle were checked after these.
+    pub fn then(&self, rect: Rect) -> Checked
+        ensures { (rules : List EdgeRule) (layout : Layout) (marks : SquareSet)
+            → AreRightIn rules layout marks self.now → AreRight rules layout marks rect
+            → AreRightIn rules layout marks result }
+    {
+        let row = row_with(self.row, rect);
+        Checked {
+            last: rect,
+            row,
+            block: block_with(self.block, row),
+        }
+    }
+}
+
+/// Returns the row with the rectangle, if that goes on with it to the right, and else the rectangle alone.
+fn row_with(row: Rect, rect: Rect) -> Rect
+    ensures { (rules : List EdgeRule) (layout : Layout) (marks : SquareSet) → AreRight rules layout marks row
+        → AreRight rules layout marks rect → AreRight rules layout marks result }
+{
+    let lines = row.area();
+    let next = rect.area();
+    if next.left == lines.right && next.bottom == lines.bottom && next.top == lines.top {
+        return row.joined(rect);
+    }
+    rect
+}
+
+/// Returns the block with the row, if that goes on with it above; the block, if it encloses the row, or that is a part
+/// of the next one; and else the row.
+fn block_with(block: Rect, row: Rect) -> Rect
+    ensures { (rules : List EdgeRule) (layout : Layout) (marks : SquareSet) → AreRight rules layout marks block
+        → AreRight rules layout marks row → AreRight rules layout marks result }
+{
+    if block.encloses(row) {
+        return block;
+    }
+    let lines = block.area();
+    let next = row.area();
+    if next.left != lines.left || next.bottom != lines.top || lines.right < next.right {
+        return row;
+    }
+    if next.right < lines.right {
+        return block;
+    }
+    block.joined(row)
+}

@@ -1,0 +1,10 @@
+//! How squares of a rectangle show the same.
+
+/// In which squares of a rectangle a plane shows the same kind.
+#[derive(Clone, Copy)]
+pub(crate) enum Likeness {
+    /// In all of them.
+    OneKind,
+    /// In those of one column, so that what is drawn are bars as high as the rectangle.
+    Columns,
+}
