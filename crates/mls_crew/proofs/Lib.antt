@@ -1,4 +1,3 @@
-pub mod Commands
 pub mod CountdownLemmas
 pub mod LineLists
 pub mod SortedLines

@@ -7,9 +7,10 @@ use Rattle.std.specs.List.{filter}
 use Rattle.mls_session.specs.OwnSteps.{Terms}
 use Rattle.mls_session.specs.declared.journal.Said.{Said}
 use Rattle.mls_wire.specs.NameBooks.{Names}
-use Rattle.mls_crew.specs.Groups.{SaysLine, SaysLines, lines_of}
-use Rattle.mls_crew.specs.declared.seat_line.Handed.{Handed}
-use Rattle.mls_crew.specs.declared.seat_line.SeatLine.{SeatLine}
+use Rattle.mls_seat_lines.specs.SeatLines.{SaysLine}
+use Rattle.mls_crew.specs.Groups.{SaysLines, lines_of}
+use Rattle.mls_crew.specs.declared.handed.Handed.{Handed}
+use Rattle.mls_seat_lines.specs.declared.seat_line.SeatLine.{SeatLine}
 
 lines_of-one : (session : ℕ) (handed : Handed) → lines_of session (handed ∷ []) ≡ (if handed.session == session then handed.line ∷ [] else [])
 lines_of-one session handed =

@@ -4,7 +4,7 @@ use Rattle.mls_wire.specs.NameBooks.{Names}
 use Rattle.mls_wire.specs.declared.line.Line.{Line}
 use Rattle.mls_wire.specs.declared.line.LineFault.{LineFault}
 use Rattle.mls_crew.specs.Sorting.{Sorted, Sorts, SortsLine, added}
-use Rattle.mls_crew.specs.declared.seat_line.Handed.{Handed}
+use Rattle.mls_crew.specs.declared.handed.Handed.{Handed}
 
 same_sorted : (head head' : List ℕ) (handed handed' : List Handed) (opened : List (List ℕ)) → head ≡ head' → handed ≡ handed'
     → record { head = head; handed = handed; opened = opened } ≡ (let s : Sorted = record { head = head'; handed = handed'; opened = opened } in s)

@@ -1,60 +1,19 @@
 -- What the lines of a session give at its seat, whatever the other threads do meanwhile. This project's own.
-use Rattle.std.specs.Prelude.{◌≡◌, ◌⊎◌, ◌==◌, ℕ, Bool, true, false, List, [], ◌∷◌, ◌++◌, length, map, Result, Ok, IfOk}
-use Rattle.std.specs.Bool.{MatchBool}
+use Rattle.std.specs.Prelude.{◌≡◌, ◌==◌, ℕ, Bool, true, List, [], ◌∷◌, ◌++◌, map, Ok}
 use Rattle.std.specs.List.{filter}
 use Rattle.mls_session.specs.OwnSteps.{Terms}
-use Rattle.mls_session.specs.declared.command.Command.{Command}
-use Rattle.mls_session.specs.declared.command.Command.TheVariants.{Save}
 use Rattle.mls_session.specs.declared.journal.Said.{Said}
-use Rattle.mls_session.specs.declared.look.Look.{Look}
-use Rattle.mls_session.specs.declared.look.Looked.{Looked}
-use Rattle.mls_session.specs.declared.refusal.Refusal.TheVariants.{JournalFull}
-use Rattle.mls_session.specs.declared.reply.Reply.{Reply}
-use Rattle.mls_session.specs.declared.reply.Reply.TheVariants.{Refused}
 use Rattle.mls_server.specs.LegalLists.{IsLegalList}
-use Rattle.mls_server.specs.declared.answer.Answer.TheVariants.{Commanded, Looked as LookedAt, Opened, Saved}
-use Rattle.mls_server.specs.declared.fault.NotOpen.{NotOpen}
-use Rattle.mls_live.specs.Audits.{CanLookAt, CanReply}
-use Rattle.mls_live.specs.Lists.{added_by}
+use Rattle.mls_server.specs.declared.answer.Answer.TheVariants.{Opened}
 use Rattle.mls_wire.specs.NameBooks.{Names}
-use Rattle.mls_wire.specs.Replies.{answer_text, response_text}
-use Rattle.mls_wire.specs.SeatTexts.{differs_text}
-use Rattle.mls_wire.specs.declared.response.Response.TheVariants.{Audited}
-use Rattle.mls_crew.specs.declared.seat_line.Handed.{Handed}
-use Rattle.mls_crew.specs.declared.seat_line.SeatLine.{SeatLine}
-use Rattle.mls_crew.specs.declared.seat_line.SeatLine.TheVariants.{Audit, Look as LookLine, Run}
+use Rattle.mls_wire.specs.Replies.{answer_text}
+use Rattle.mls_seat_lines.specs.SeatLines.{SaysLine}
+use Rattle.mls_seat_lines.specs.declared.seat_line.SeatLine.{SeatLine}
+use Rattle.mls_crew.specs.declared.handed.Handed.{Handed}
 
 -- the lines that were handed to the session of this number, in order
 abbrev pub lines_of : ℕ → List Handed → List SeatLine
 lines_of session handed = map (λ line. line.line) (filter (λ line. line.session == session) handed)
-
-abbrev pub is_save : Command → Bool
-is_save Save = true
-is_save _ = false
-
--- after a list of commands and replies, the command has this text and leaves this list. The reply is one that a session with a legal journal can have, or says that the
--- journal is full; that of a save is followed by the saved text
-abbrev pub SaysCommand : Terms → Names → List ℕ → List Said → Command → List ℕ → List Said → Type 0
-SaysCommand terms book name said command text now =
-    (result : Result Reply NotOpen) × (now ≡ said ++ added_by command result)
-    × MatchBool (is_save command) ((saved : List ℕ) × (text ≡ answer_text book name (Saved result saved)))
-    ((text ≡ answer_text book name (Commanded result)) × IfOk result (λ reply. CanReply terms command reply ⊎ (reply ≡ Refused JournalFull)))
-
--- the text is that the list so far is audited, and then it is that of a legal journal; or that it differs
-abbrev pub SaysAudit : Terms → Names → List ℕ → List Said → List ℕ → Type 0
-SaysAudit terms book name said text =
-    ((text ≡ response_text book 0 (Audited name (length said))) × IsLegalList terms said) ⊎ (text ≡ differs_text name)
-
--- the text is that of what a look at a session with a legal journal can return, and of the text that comes with it
-abbrev pub SaysLook : Terms → Names → List ℕ → Look → List ℕ → Type 0
-SaysLook terms book name look text =
-    (looked : Result Looked NotOpen) × (shown : List ℕ) × (text ≡ answer_text book name (LookedAt looked shown)) × CanLookAt terms look looked shown
-
--- after a list of commands and replies, the line has this text and leaves this list
-abbrev pub SaysLine : Terms → Names → List ℕ → List Said → SeatLine → List ℕ → List Said → Type 0
-SaysLine terms book name said (Run command) text now = SaysCommand terms book name said command text now
-SaysLine terms book name said (LookLine look) text now = SaysLook terms book name look text × (now ≡ said)
-SaysLine terms book name said Audit text now = SaysAudit terms book name said text × (now ≡ said)
 
 -- the lines are said one after another
 abbrev pub SaysLines : Terms → Names → List ℕ → List Said → List SeatLine → List ℕ → List Said → Type 0

@@ -12,9 +12,9 @@ use Rattle.mls_wire.specs.declared.line.Line.TheVariants.{Silent, Open, Close, S
 use Rattle.mls_wire.specs.declared.line.LineFault.{LineFault}
 use Rattle.mls_wire.specs.declared.line.LineFault.TheVariants.{NotOpen, UnknownCommand}
 use Rattle.mls_wire.specs.declared.response.Response.TheVariants.{Answered, Fault}
-use Rattle.mls_crew.specs.declared.seat_line.Handed.{Handed}
-use Rattle.mls_crew.specs.declared.seat_line.SeatLine.{SeatLine}
-use Rattle.mls_crew.specs.declared.seat_line.SeatLine.TheVariants.{Audit as AuditLine, Look as LookLine, Run as RunLine}
+use Rattle.mls_crew.specs.declared.handed.Handed.{Handed}
+use Rattle.mls_seat_lines.specs.declared.seat_line.SeatLine.{SeatLine}
+use Rattle.mls_seat_lines.specs.declared.seat_line.SeatLine.TheVariants.{Audit as AuditLine, Look as LookLine, Run as RunLine}
 
 -- the number of the session of this name, in the order of opening
 abbrev pub session_of : List (List ℕ) → List ℕ → Option ℕ

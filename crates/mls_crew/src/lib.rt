@@ -2,13 +2,12 @@
 #![tactic(auto)]
 
 mod crew;
+mod handed;
 mod labels;
-mod seat_line;
 mod sorting;
 mod speaking;
 mod threads;
 
 pub use crew::{Crew, Served};
+pub use handed::Handed;
 pub use labels::Labels;
-pub use seat_line::{Handed, SeatLine};
-pub use speaking::{Voice, say_line};

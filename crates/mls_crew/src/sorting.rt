@@ -5,9 +5,10 @@ ghost use Rattle.mls_crew.specs.Books.{labels_of};
 ghost use Rattle.mls_crew.specs.Sorting.{Opens, Sorts, SortsLine, added, at_once, faulty, handed_to, session_of};
 ghost use Rattle.mls_wire.specs.Replies.{response_text};
 
-use crate::{Handed, Labels, SeatLine};
+use crate::{Handed, Labels};
 use crossbeam_channel::Sender;
 use mls_live::{Live, Naming, Seat};
+use mls_seat_lines::SeatLine;
 use mls_server::{Answer, Name, OpenFault, SessionId};
 use mls_wire::{Line, LineFault, Response, push_response};
 use std::alloc::{AllocError, Global};

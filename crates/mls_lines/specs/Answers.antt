@@ -17,9 +17,9 @@ use Rattle.mls_wire.specs.declared.line.Line.TheVariants.{Silent, Open, Close, A
 use Rattle.mls_wire.specs.declared.line.LineFault.{LineFault}
 use Rattle.mls_wire.specs.declared.line.LineFault.TheVariants.{NotOpen, UnknownCommand}
 use Rattle.mls_wire.specs.declared.response.Response.TheVariants.{Fault}
-use Rattle.mls_crew.specs.Groups.{SaysLine}
-use Rattle.mls_crew.specs.declared.seat_line.SeatLine.{SeatLine}
-use Rattle.mls_crew.specs.declared.seat_line.SeatLine.TheVariants.{Audit as AuditLine, Look as LookLine, Run as RunLine}
+use Rattle.mls_seat_lines.specs.SeatLines.{SaysLine}
+use Rattle.mls_seat_lines.specs.declared.seat_line.SeatLine.{SeatLine}
+use Rattle.mls_seat_lines.specs.declared.seat_line.SeatLine.TheVariants.{Audit as AuditLine, Look as LookLine, Run as RunLine}
 use Rattle.mls_lines.specs.declared.seating.Sitting.{Sitting}
 use Rattle.mls_live.specs.declared.naming.Naming.{Ghosts}
 

@@ -6,7 +6,7 @@ use Rattle.mls_wire.specs.Replies.{response_text}
 use Rattle.mls_crew.specs.Books.{labels_of}
 use Rattle.mls_crew.specs.Groups.{SaysLines, lines_of}
 use Rattle.mls_crew.proofs.LineLists.{none_said}
-use Rattle.mls_crew.proofs.Results.{ok_holds}
+use Rattle.mls_seat_lines.proofs.Results.{ok_holds}
 use Rattle.mls_crew.proofs.speaking.say_group.Goals as goal
 
 pub returns : goal.returns

@@ -1,7 +1,7 @@
 use Rattle.std.proofs.Common.{sym, ◌∙◌}
 use Rattle.mls_live.specs.Lists.{list_of}
 use Rattle.mls_server.specs.LegalLists.{IsLegalList}
-use Rattle.mls_crew.proofs.Results.{ok_holds}
+use Rattle.mls_seat_lines.proofs.Results.{ok_holds}
 use Rattle.mls_lines.proofs.AnswerLemmas.{done_gives}
 use Rattle.mls_lines.proofs.answering.Clerk.leave.Goals as goal
 

@@ -2,7 +2,7 @@ use Rattle.std.proofs.Common.{◌≡◌, ◌++◌, ℕ, List, refl, sym, ap, sub
 use Rattle.mls_live.specs.Audits.{CanLookAt}
 use Rattle.mls_server.specs.declared.answer.Answer.TheVariants.{Looked}
 use Rattle.mls_wire.specs.Replies.{answer_text}
-use Rattle.mls_crew.proofs.speaking.look.Goals as goal
+use Rattle.mls_seat_lines.proofs.saying.look.Goals as goal
 
 pub returns : goal.returns
 returns g c =

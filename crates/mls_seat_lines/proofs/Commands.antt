@@ -14,7 +14,7 @@ use Rattle.mls_live.specs.Audits.{CanReply}
 use Rattle.mls_live.specs.Lists.{added_by}
 use Rattle.mls_wire.specs.NameBooks.{Names}
 use Rattle.mls_wire.specs.Replies.{answer_text}
-use Rattle.mls_crew.specs.Groups.{SaysCommand, is_save}
+use Rattle.mls_seat_lines.specs.SeatLines.{SaysCommand, is_save}
 
 pub says_command :
     (terms : Terms) (book : Names) (name : List ℕ) (said now : List Said) (command : Command) (result : Result Reply NotOpen) (text : List ℕ) → is_save command ≡ false

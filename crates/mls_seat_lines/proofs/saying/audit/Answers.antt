@@ -1,7 +1,7 @@
 use Rattle.std.proofs.Common.{ℕ, ap, inl}
 use Rattle.mls_wire.specs.Replies.{response_text}
 use Rattle.mls_wire.specs.declared.response.Response.TheVariants.{Audited}
-use Rattle.mls_crew.proofs.speaking.audit.Goals as goal
+use Rattle.mls_seat_lines.proofs.saying.audit.Goals as goal
 
 pub returns-in-Ok : goal.returns-in-Ok
 returns-in-Ok g c =

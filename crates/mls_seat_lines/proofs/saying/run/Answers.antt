@@ -2,8 +2,8 @@ use Rattle.std.proofs.Common.{refl, sym, ◌∙◌}
 use Rattle.mls_live.specs.Lists.{list_of}
 use Rattle.mls_server.specs.declared.answer.Answer.TheVariants.{Commanded}
 use Rattle.mls_wire.specs.Replies.{answer_text, response_text}
-use Rattle.mls_crew.proofs.Commands.{says_command}
-use Rattle.mls_crew.proofs.speaking.run.Goals as goal
+use Rattle.mls_seat_lines.proofs.Commands.{says_command}
+use Rattle.mls_seat_lines.proofs.saying.run.Goals as goal
 
 pub returns : goal.returns
 unfolding response_text

@@ -11,12 +11,3 @@ pub enum SeatLine {
     /// Asks for the audit.
     Audit,
 }
-
-/// A line, and the number of the session that it is handed to: 0 for the one that was opened first.
-#[derive(Clone, Copy, Debug, PartialEq, Eq)]
-pub struct Handed {
-    /// The session's number.
-    pub session: usize,
-    /// The line.
-    pub line: SeatLine,
-}
