@@ -12,8 +12,6 @@ mod many_seats;
 #[cfg(test)]
 mod moments;
 #[cfg(test)]
-mod random_lines;
-#[cfg(test)]
 mod refused_seats;
 #[cfg(test)]
 mod retiring;

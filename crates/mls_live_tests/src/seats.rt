@@ -102,7 +102,7 @@ pub fn expect_count<N: Naming, R: Wait + Abort>(
 }
 
 /// Returns how many entries the audit of a seat has, or `None` where its list differs.
-pub fn audited<N: Naming, R: Wait>(rt: &R, seat: &Seat<'_, N>) -> Option<usize> {
+fn audited<N: Naming, R: Wait>(rt: &R, seat: &Seat<'_, N>) -> Option<usize> {
     match seat.audit(rt) {
         Ok(audited) => Some(audited.entries),
         Err(_) => None,

@@ -1,0 +1,1 @@
+"""Tests of the program as the gate has built it; README.md has the form of the pages."""
