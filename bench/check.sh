@@ -1,29 +1,109 @@
 #!/usr/bin/env bash
-# Nanoseconds to check a piece of 256 by 256 squares, beside the plain program that checks it square by square.
+# Design rule checks alone, through magicd: lines that check a piece of 256 by 256 squares, and lines that ask which
+# rules are violated in it.
 #
-# Each of two planes has a grid of rectangles, which makes 1, 81, 353 or 1,001 strips; the rectangles are apart from each
-# other, so that no square is forbidden. The rules are the 4 of technology M, and then 40 of distances from 1 to 4. The
-# program takes these steps, and after each plain one the next three ten times:
+# Each of two planes has a grid of rectangles, which makes 1, 81, 353 or 1,001 strips; the rectangles are apart from
+# each other, so that no square is forbidden. The rules are the 4 of technology M, and then 40 of distances from 1 to 4.
+# The layout was checked before.
 #
-#   plain     finds the forbidden squares of the piece and the rules that forbid them by the plain program, 30 times, from a
-#             layout that it has by squares
-#   read      reads the piece and the rules' halo round it from both planes
-#   check     finds the forbidden squares of the piece
-#   why       finds the rules that forbid some square of it
-#   look      reads a box of 20 by 20 in the piece with the most strips and the halo round it, and finds the rules that forbid
-#             some square of it, 300 times; its strips are those that are read of a plane
+#   check     `drc check` of the box that lies the rules' halo inside the piece, so that just the piece awaits checking,
+#             and `%step`, which reads the piece and the halo round it from both planes, and finds the forbidden squares
+#             of the piece
+#   why       `drc why` of the piece, which reads it and the halo, too, and finds the rules that forbid some square of
+#             it
+#   look      `drc why` of a box of 20 by 20 in the piece with the most strips; its strips are those that are read of a
+#             plane
 #
-# Each time is the least of one such step; the last column is how many times as long the plain program takes.
+# Each time is the processor's, in the program and in the system, for one such step, with the reading of its lines and
+# the writing of their replies, in microseconds. It is the difference of two scripts, one with hundreds or thousands of
+# steps and one without, of each the least of five runs that take turns. The bench fails where a rule is violated, a
+# square is marked, or an area is left to be checked.
+#
+# It runs the program that it builds, or PROGRAM.
 set -eu
+TIMEFORMAT='%U %S'
 here=$(cd "$(dirname "${BASH_SOURCE[0]}")/.." && pwd)
-crate=$here/crates/mls_bench
-log=$(mktemp)
-trap 'rm -f "$log"' EXIT
+work=$(mktemp -d)
+trap 'rm -rf "$work"' EXIT
 
-if ! (cd "$crate" && rt run > "$log" 2>&1); then
-    grep -v '^checked ' "$log" | tail -n 50 >&2
-    echo "the build failed" >&2
-    exit 1
+# cells ROWS COLUMNS: paints a rectangle in each of so many rows and columns of cells of the piece, poly and ndiff by
+# turns and m1 over both, and checks them. Where there are 24 columns, rectangles are 6 squares wide and 4 apart
+cells() {
+    echo '%open a'
+    awk -v rows="$1" -v columns="$2" 'BEGIN {
+        for (i = 0; i < rows; i++) for (j = 0; j < columns; j++) {
+            height = int(256 / rows); bottom = height * i; top = bottom + int(height * 6 / 10)
+            width = int(256 / columns); left = width * j; right = left + int(width * 6 / 10)
+            printf "a box %d %d %d %d\n", left, bottom, right, top
+            print (i + j) % 2 == 0 ? "a paint poly" : "a paint ndiff"
+            print "a paint m1"
+        }
+    }'
+    echo 'a drc catchup'
+}
+
+# forty_rules: the technology of 40 rules, ten lines with each distance from 1 to 4
+forty_rules() {
+    printf '%s\n' planes active metal1 end types 'active poly' 'active ndiff' 'metal1 m1' end drc
+    for distance in 1 2 3 4; do
+        printf '%s\n' "width poly $distance \"\"" "width ndiff $distance \"\"" "width poly,ndiff $distance \"\"" \
+            "width m1 $distance \"\"" "spacing poly poly $distance touching_ok \"\"" \
+            "spacing ndiff ndiff $distance touching_ok \"\"" "spacing poly ndiff $distance touching_illegal \"\"" \
+            "spacing ndiff poly $distance touching_illegal \"\"" "spacing m1 m1 $distance touching_ok \"\"" \
+            "edge4way space m1 $distance space,poly,ndiff 0 0 \"\" active"
+    done
+    echo end
+}
+
+# repeat N LINE..: these lines, so many times
+repeat() {
+    printf '%s\n' "${@:2}" | awk -v n="$1" '
+        { lines = lines $0 "\n" }
+        END { for (i = 0; i < n; i++) printf "%s", lines }'
+}
+
+# run_timed I SCRIPT: runs magicd on a script, and keeps the least microseconds of all runs with this I
+run_timed() {
+    local us
+    { time "$program" --quota 16384 --journal 65536 "${words[@]}" < "$2" > "$work/out" 2> "$work/messages" ||
+        { cat "$work/messages" >&3; exit 1; }; } 3>&2 2> "$work/time"
+    if grep -m 1 -vxE 'a (opened|ok|step done|why 0|count 0 errors 0 pending)' "$work/out" >&2; then exit 1; fi
+    us=$(awk '{ printf "%d", 1e6 * ($1 + $2) }' "$work/time")
+    if [ -z "${least[$1]:-}" ] || [ "$us" -lt "${least[$1]}" ]; then least[$1]=$us; fi
+}
+
+# row STEP STRIPS N LEFT SIDE LINE..: the row of a step that is these lines, taken N times on the layout, for the box of
+# this side whose left and lower edges lie at LEFT
+row() {
+    local step=$1 strips=$2 n=$3 box="a box $4 $4 $(($4 + $5)) $(($4 + $5))" us
+    shift 5
+    least=()
+    { cat "$work/layout"; echo "$box"; echo 'a drc count'; } > "$work/less"
+    { cat "$work/layout"; echo "$box"; repeat "$n" "$@"; echo 'a drc count'; } > "$work/more"
+    for _ in 1 2 3 4 5; do
+        run_timed 0 "$work/less"
+        run_timed 1 "$work/more"
+    done
+    us=$((least[1] - least[0]))
+    awk -v OFS='\t' -v step="$step" -v rules="$rules" -v strips="$strips" -v n="$n" -v us="$us" 'BEGIN {
+        print step, rules, strips, sprintf("%.2f", us / n)
+    }'
+}
+
+program=${PROGRAM:-}
+if [ -z "$program" ]; then
+    "$here/magicd" < /dev/null
+    program=$here/crates/magicd/out/magicd
 fi
-printf '%s\t%s\t%s\t%s\t%s\n' step rules strips ns times
-"$crate/out/mls_bench" check
+forty_rules > "$work/forty"
+printf '%s\t%s\t%s\t%s\n' step rules strips us
+for rules in 4 40; do
+    if [ "$rules" = 4 ]; then words=() halo=4; else words=(--tech "$work/forty") halo=5; fi
+    for size in '0 0 1 20000' '5 7 81 4000' '11 15 353 1000' '20 24 1001 400'; do
+        read -r rows columns strips n <<< "$size"
+        cells "$rows" "$columns" > "$work/layout"
+        row check "$strips" "$n" "$halo" "$((256 - 2 * halo))" 'a drc check' '%step a'
+        row why "$strips" "$n" 0 256 'a drc why'
+    done
+    row look 24 10000 118 20 'a drc why'
+done

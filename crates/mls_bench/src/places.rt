@@ -17,11 +17,6 @@ fn line_after(line: i32, squares: i32) -> i32 {
     line.saturating_add(squares)
 }
 
-/// Returns the line where this row or column of cells begins.
-fn line_of(index: u8, side: i32) -> i32 {
-    side.saturating_mul(i32::from(index))
-}
-
 /// Returns a square of this side by its lower-left corner.
 fn square(left: i32, bottom: i32, side: i32) -> Result<Rect, RectFault> {
     let right = line_after(left, side);
@@ -77,50 +72,4 @@ impl Places {
             lane: square(between, between, PAINTED_SIDE)?,
         })
     }
-}
-
-/// Rows and columns of cells in a piece of 256 by 256 squares.
-#[derive(Clone, Copy)]
-pub struct CellGrid {
-    pub rows: u8,
-    pub columns: u8,
-}
-
-/// The side of the piece that is checked.
-const PIECE_SIDE: i32 = 256;
-
-/// Returns the piece that is checked.
-pub fn checked_piece() -> Result<Rect, RectFault> {
-    square(0, 0, PIECE_SIDE)
-}
-
-/// Where the box lies that is looked at, and its side.
-const LOOKED_LINE: i32 = 118;
-
-const LOOKED_SIDE: i32 = 20;
-
-/// Returns the box that is looked at, in the middle of the piece.
-pub fn looked_box() -> Result<Rect, RectFault> {
-    square(LOOKED_LINE, LOOKED_LINE, LOOKED_SIDE)
-}
-
-/// Makes a rectangle in each cell, of two kinds in turn. Where there are 24 columns, rectangles are 6 squares wide
-/// and 4 apart.
-pub fn cells(alloc: Global, grid: CellGrid, kinds: [u8; 2]) -> Result<Vec<Piece>> {
-    let height = PIECE_SIDE / i32::from(grid.rows.max(1));
-    let width = PIECE_SIDE / i32::from(grid.columns.max(1));
-    let mut pieces = Vec::new(alloc);
-    for row in 0..grid.rows {
-        let bottom = line_of(row, height);
-        let top = line_after(bottom, height * 6 / 10);
-        for column in 0..grid.columns {
-            let left = line_of(column, width);
-            let right = line_after(left, width * 6 / 10);
-            pieces.push(Piece {
-                rect: Rect::new(left, bottom, right, top)?,
-                kind: kinds[usize::from((row ^ column) % 2)],
-            })?;
-        }
-    }
-    Ok(pieces)
 }
