@@ -1,6 +1,6 @@
 """The longer tests, with their figures: /usr/bin/python3 -m tests.long
 
-Prints a table for docs/CLIENTS.md. They take some minutes.
+Prints a table of times. They take some minutes.
 """
 
 import asyncio
