@@ -13,6 +13,7 @@ pub mod FoundCounts
 pub mod FoundTotals
 pub mod KeptLists
 pub mod KeptRooms
+pub mod LikeSquares
 pub mod MarkCounts
 pub mod NextStretches
 pub mod PaintedAreas

@@ -1,12 +1,12 @@
 -- Check steps over pieces whose marks are right already: they change the list alone.
-use Rattle.std.proofs.Common.{◌≡◌, ◌≢◌, ℕ, zero, suc, ◌+◌, ◌<◌, ◌≤◌, not, ◌==◌, true, false, inl, inr, List, [], ◌∷◌, Option, None, Some, IfSome, refl, sym, ap, subst, ◌∙◌, arith, add-suc, add-zero}
+use Rattle.std.proofs.Common.{◌≡◌, ◌≢◌, ℕ, zero, suc, ◌+◌, ◌<◌, ◌≤◌, not, ◌==◌, true, false, inl, inr, List, [], ◌∷◌, Option, None, Some, IfSome, sym, ap, subst, ◌∙◌, arith, add-suc, add-zero}
 use Rattle.std.specs.Option.{IsSomeAnd}
 use Rattle.std.proofs.Math.Path.{fun_ext}
 use Rattle.std.proofs.lemmas.Bool.{cases_Bool, cases_lt, cond-false, cond-true}
 use Rattle.mls_edgerule.specs.declared.edge_rule.EdgeRule.{EdgeRule}
 use Rattle.mls_geom.specs.Layouts.{Layout}
 use Rattle.mls_geom.specs.Pictures.{Picture}
-use Rattle.mls_geom.specs.Rects.{Rect, IsRectangleIn, IsWithin, grown, holds, joined}
+use Rattle.mls_geom.specs.Rects.{Rect, IsRectangleIn, IsWithin, holds, joined}
 use Rattle.mls_geom.specs.World.{world}
 use Rattle.mls_geom.proofs.Holds.{between_holds, holds-IsWithin, holds_between}
 use Rattle.mls_geom.proofs.JoinedRects.{holds-joined_one, holds-joined_other, joined-IsRectangleIn}
@@ -20,14 +20,14 @@ use Rattle.mls_errorplane.specs.Checkings.{Checking, checked_marks}
 use Rattle.mls_errorplane.specs.DirtyLists.{IsDirtyList, area_of, dropped, first_piece_of, piece_of}
 use Rattle.mls_errorplane.specs.ErrorPlanes.{ErrorPlane, HasStepped, ShowsMarks, exceeds, marks_picture}
 use Rattle.mls_errorplane.specs.MarkPlanes.{is_marked, marked_count}
-use Rattle.mls_errorplane.specs.Stretches.{AreRight, AreRightIn, DropsIn, IsAlike, ShowsAlike, like_column}
+use Rattle.mls_errorplane.specs.Stretches.{AreRight, AreRightIn, DropsIn, IsAlike, ShowsAlike, Tells, like_column, like_row}
 use Rattle.mls_errorplane.specs.declared.checked.Checked.{Checked}
 use Rattle.mls_errorplane.specs.declared.error_plane.Stepped.TheVariants as stepped
 use Rattle.mls_errorplane.specs.declared.likeness.Likeness.{Likeness}
-use Rattle.mls_errorplane.specs.declared.likeness.Likeness.TheVariants.{OneKind, Columns}
 use Rattle.mls_errorplane.proofs.AlikeLayouts.{forbidden-alike}
 use Rattle.mls_errorplane.proofs.AreaSizes.{area_of-dropped-less}
 use Rattle.mls_errorplane.proofs.KeptLists.{IsDirtyList-dropped}
+use Rattle.mls_errorplane.proofs.LikeSquares.{alike-same, grown-holds, like_column-again, like_row-again}
 
 -- a square of a rectangle in another one is one of that
 inner_holds : (outer e : Rect) (x y : ℕ) → IsRectangleIn outer e → holds e x y ≡ true → holds outer x y ≡ true
@@ -149,34 +149,24 @@ DropsIn-fewer rect (suc count) old new (mid, drops, inside, is) kept =
 right-alike :
     (rules : List EdgeRule) (layout : Layout) (picture : Picture) (likeness : Likeness) (rect : Rect) (x y a b : ℕ) → IsRectangleIn world rect
     → IsAlike likeness rules layout rect → ShowsAlike likeness 0 rect picture → like_column likeness rect x ≡ like_column likeness rect a
-    → holds rect x y ≡ true → holds rect a b ≡ true → is_marked picture a b ≡ forbidden rules layout a b → is_marked picture x y ≡ forbidden rules layout x y
-right-alike rules layout picture likeness rect x y a b legal alike one same here there right =
-    let in_grown : (x y : ℕ) → holds rect x y ≡ true → holds (grown 0 rect) x y ≡ true = λ x y inside.
-    (let lines = holds_between rect x y inside in
-    between_holds (grown 0 rect) x y (omega (arith, lines.0)) (omega (arith, lines.1)) (omega (arith, lines.2)) (omega (arith, lines.3))) in
-    ap (λ kind. not (kind == 0)) (one x y (in_grown x y here) ∙ ap (λ column. picture column rect.bottom) same ∙ sym (one a b (in_grown a b there))) ∙ right
-    ∙ sym (forbidden-alike rules layout likeness rect x y a b alike same here there (inner_holds world rect x y legal here) (inner_holds world rect a b legal there))
+    → like_row likeness rect y ≡ like_row likeness rect b → holds rect x y ≡ true → holds rect a b ≡ true
+    → is_marked picture a b ≡ forbidden rules layout a b → is_marked picture x y ≡ forbidden rules layout x y
+right-alike rules layout picture likeness rect x y a b legal alike marks column row here there right =
+    ap (λ kind. not (kind == 0)) (alike-same likeness 0 rect picture x y a b marks column row (grown-holds 0 rect x y here) (grown-holds 0 rect a b there)) ∙ right
+    ∙ sym (forbidden-alike rules layout likeness rect x y a b alike column row here there (inner_holds world rect x y legal here) (inner_holds world rect a b legal there))
 
--- so marks that are right in one rectangle are right in another, where all is of one kind round both together
-pub AreRight-one_kind :
-    (rules : List EdgeRule) (layout : Layout) (picture : Picture) (last rect : Rect) → IsRectangleIn world last → IsRectangleIn world rect
-    → IsAlike OneKind rules layout (joined last rect) → ShowsAlike OneKind 0 (joined last rect) picture → AreRight rules layout (is_marked picture) last
-    → AreRight rules layout (is_marked picture) rect
-AreRight-one_kind rules layout picture last rect legal legal' alike one right x y here =
-    let corner = between_holds last last.left last.bottom (omega arith) legal.wide (omega arith) legal.tall in
-    right-alike rules layout picture OneKind (joined last rect) x y last.left last.bottom (joined-IsRectangleIn world last rect legal legal') alike one refl
-    (holds-joined_other last rect x y here) (holds-joined_one last rect last.left last.bottom corner) (right last.left last.bottom corner)
-
--- and in another with the same columns, where all is in columns round both together
-pub AreRight-columns :
-    (rules : List EdgeRule) (layout : Layout) (picture : Picture) (row rect : Rect) → IsRectangleIn world row → IsRectangleIn world rect
-    → rect.left ≡ row.left → rect.right ≡ row.right → IsAlike Columns rules layout (joined row rect) → ShowsAlike Columns 0 (joined row rect) picture
-    → AreRight rules layout (is_marked picture) row → AreRight rules layout (is_marked picture) rect
-AreRight-columns rules layout picture row rect legal legal' left right alike one are x y here =
-    let lines = holds_between rect x y here in
-    let below = between_holds row x row.bottom (omega (arith, left, lines.0)) (omega (arith, right, lines.1)) (omega arith) legal.tall in
-    right-alike rules layout picture Columns (joined row rect) x y x row.bottom (joined-IsRectangleIn world row rect legal legal') alike one refl
-    (holds-joined_other row rect x y here) (holds-joined_one row rect x row.bottom below) (are x row.bottom below)
+-- so marks that are right in one rectangle are right in another, if it has the squares that show what those of the other show, and the likeness is round both together
+pub AreRight-alike :
+    (rules : List EdgeRule) (layout : Layout) (picture : Picture) (likeness : Likeness) (from rect : Rect) → IsRectangleIn world from → IsRectangleIn world rect
+    → Tells likeness from rect → IsAlike likeness rules layout (joined from rect) → ShowsAlike likeness 0 (joined from rect) picture
+    → AreRight rules layout (is_marked picture) from → AreRight rules layout (is_marked picture) rect
+AreRight-alike rules layout picture likeness from rect legal legal' tells alike marks right x y here =
+    let column = like_column likeness from x in
+    let row = like_row likeness from y in
+    let both = joined from rect in
+    right-alike rules layout picture likeness both x y column row (joined-IsRectangleIn world from rect legal legal') alike marks
+    (sym (like_column-again likeness both from x)) (sym (like_row-again likeness both from y))
+    (holds-joined_other from rect x y here) (holds-joined_one from rect column row (tells x y here)) (right column row (tells x y here))
 
 -- marks that are right in a rectangle are right in what it encloses
 pub AreRight-within :

@@ -31,7 +31,7 @@ impl ErrorPlane {
     ///
     /// Where each plane shows one kind round many pieces, and their marks are right already, they are checked as one.
     /// So are whole rows above one that was just checked, where each plane shows bars that go up through all of them,
-    /// and the marks do too.
+    /// and the marks do too; and pieces to the right of one that was just checked, where bars go across all of them.
     ///
     /// The steps that were done stay so. The planes and the cells must be of other owners than the error plane.
     pub fn catch_up(

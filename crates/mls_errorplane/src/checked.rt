@@ -1,10 +1,12 @@
 //! Pieces that were checked, from which the marks of others are known to be right.
-ghost use Rattle.std.specs.Prelude.{IfSome, List};
+ghost use Rattle.std.specs.Prelude.{◌≡◌, IfSome, IsTrue, List};
 ghost use Rattle.mls_edgerule.specs.declared.edge_rule.EdgeRule.{EdgeRule};
 ghost use Rattle.mls_geom.specs.Layouts.{Layout};
 ghost use Rattle.mls_checker.specs.Marking.{SquareSet};
-ghost use Rattle.mls_errorplane.specs.Stretches.{AreRight, AreRightIn};
+ghost use Rattle.mls_errorplane.specs.Stretches.{AreRight, AreRightIn, Tells};
 
+use crate::dirty::lies_in_world;
+use crate::likeness::Likeness;
 use mls_geom::Rect;
 
 /// Which pieces were checked last.
@@ -16,6 +18,15 @@ pub(crate) struct Checked {
     pub row: Rect,
     /// Rows that were checked one above another, and have the same columns.
     pub block: Rect,
+}
+
+/// Checked pieces whose marks others have too, if each plane has a likeness in both together.
+#[derive(Clone, Copy)]
+pub(crate) struct Source {
+    /// The checked pieces.
+    pub rect: Rect,
+    /// The likeness that each plane must have.
+    pub likeness: Likeness,
 }
 
 impl Checked {
@@ -48,6 +59,51 @@ impl Checked {
             block: block_with(self.block, row),
         }
     }
+
+    /// Returns the pieces whose marks those of the rectangle have, if each plane shows bars in both together: the last
+    /// ones, if the rectangle goes on with them to the right, and the last row, if it goes on with that above.
+    pub fn source_of(&self, rect: Rect) -> Option<Source>
+        ensures tells { IfSome result (λ source. Tells source.likeness source.rect rect) }
+        ensures right { (rules : List EdgeRule) (layout : Layout) (marks : SquareSet)
+            → AreRightIn rules layout marks self.now
+            → IfSome result (λ source. AreRight rules layout marks source.rect) }
+    {
+        let last = self.last;
+        let row = self.row;
+        lies_in_world(last);
+        lies_in_world(row);
+        if is_beside(rect, last) {
+            return Some(Source {
+                rect: last,
+                likeness: Likeness::Rows,
+            });
+        }
+        if is_above(rect, row) {
+            return Some(Source {
+                rect: row,
+                likeness: Likeness::Columns,
+            });
+        }
+        None
+    }
+}
+
+/// Returns whether the rectangle begins where the row ends at the right, and has the same rows of squares.
+fn is_beside(rect: Rect, row: Rect) -> bool
+    ensures { IsTrue result → (rect.left ≡ row.right) × (rect.bottom ≡ row.bottom) × (rect.top ≡ row.top) }
+{
+    let lines = rect.area();
+    let before = row.area();
+    lines.left == before.right && lines.bottom == before.bottom && lines.top == before.top
+}
+
+/// Returns whether the rectangle begins where the row ends above, and has the same columns of squares.
+fn is_above(rect: Rect, row: Rect) -> bool
+    ensures { IsTrue result → (rect.left ≡ row.left) × (rect.right ≡ row.right) }
+{
+    let lines = rect.area();
+    let below = row.area();
+    lines.bottom == below.top && lines.left == below.left && lines.right == below.right
 }
 
 /// Returns the row with the rectangle, if that goes on with it to the right, and else the rectangle alone.
@@ -55,9 +111,7 @@ fn row_with(row: Rect, rect: Rect) -> Rect
     ensures { (rules : List EdgeRule) (layout : Layout) (marks : SquareSet) → AreRight rules layout marks row
         → AreRight rules layout marks rect → AreRight rules layout marks result }
 {
-    let lines = row.area();
-    let next = rect.area();
-    if next.left == lines.right && next.bottom == lines.bottom && next.top == lines.top {
+    if is_beside(rect, row) {
         return row.joined(rect);
     }
     rect

@@ -1,8 +1,6 @@
-//! Checking pieces as one, where each plane shows one kind round all of them, or columns.
+//! Checking pieces as one, where each plane shows one kind round all of them, or bars.
 ghost use Rattle.std.specs.Prelude.{◌≡◌, ◌+◌, ◌<◌, ◌≤◌, ℕ, false, IfNone, IfSome, IsTrue, length};
 ghost use Rattle.std.specs.List.{All};
-ghost use Rattle.mls_geom.specs.Rects.{IsRectangleIn};
-ghost use Rattle.mls_geom.specs.World.{world};
 ghost use Rattle.mls_layout.specs.Uses.{HasCells, flat_layout};
 ghost use Rattle.mls_layout.specs.Workspaces.{FitsWorkspace};
 ghost use Rattle.mls_paint.specs.Planes.{picture_in};
@@ -40,10 +38,9 @@ impl ErrorPlane {
     /// that were taken.
     ///
     /// Goes on from rectangle to rectangle, where round both together each plane of the layout shows one kind, and the
-    /// error plane one in them; and from row to row, where round both together each plane shows columns, and the error
-    /// plane columns in them. A rectangle is twice as large as the one before, or, where that is too much, half as
-    /// large, and the first of an area is one piece or one row: so each search is small beside what it is about to
-    /// save. No memory is taken.
+    /// error plane one in them; to the right, where they show rows; and from row to row, where they show columns. A
+    /// rectangle is twice as large as the one before, or, where that is too much, half as large, and the first of an
+    /// area is one piece or one row: so each search is small beside what it is about to save. No memory is taken.
     pub(crate) fn drop_alike(
         &mut self,
         planes: &mut [Plane],
@@ -129,7 +126,8 @@ impl ErrorPlane {
     }
 
     /// Returns whether the marks in the rectangle are known to be right: they are if it was checked before, shows one
-    /// kind together with the last pieces, or lies on their row and shows columns together with it.
+    /// kind together with the last pieces, goes on with these to the right and shows rows together with them, or lies
+    /// on their row and shows columns together with it.
     fn is_marked_right(
         &mut self,
         planes: &mut [Plane],
@@ -157,7 +155,6 @@ impl ErrorPlane {
             return true;
         }
         let last = checked.last;
-        let row = checked.row;
         lies_in_world(rect);
         lies_in_world(last);
         if self.is_alike(
@@ -169,22 +166,21 @@ impl ErrorPlane {
         ) {
             return true;
         }
-        lies_in_world(row);
-        if !is_on_row(rect, row) {
+        let Some(source) = checked.source_of(rect) else {
             return false;
-        }
+        };
+        lies_in_world(source.rect);
         self.is_alike(
             planes,
             basis,
-            Likeness::Columns,
-            row.joined(rect),
+            source.likeness,
+            source.rect.joined(rect),
             workspace,
         )
     }
 
-    /// Returns whether the marks are the same in the whole rectangle, or in each of its columns, and each plane of the
-    /// layout with the uses shows one kind, or columns, in it and as far round it as the rules reach. Where a use may
-    /// show something there, returns `false`.
+    /// Returns whether the marks have the likeness in the rectangle, and each plane of the layout with the uses has it
+    /// in the rectangle and as far round it as the rules reach. Where a use may show something there, returns `false`.
     fn is_alike(
         &mut self,
         planes: &mut [Plane],
@@ -212,13 +208,4 @@ impl ErrorPlane {
         }
         is_alike(planes, basis, likeness, rect, workspace)
     }
-}
-
-/// Returns whether the rectangle begins where the row ends above, and has the same columns.
-fn is_on_row(rect: Rect, row: Rect) -> bool
-    ensures { IsTrue result → (rect.left ≡ row.left) × (rect.right ≡ row.right) }
-{
-    let lines = rect.area();
-    let below = row.area();
-    lines.bottom == below.top && lines.left == below.left && lines.right == below.right
 }
