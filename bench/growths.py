@@ -547,8 +547,8 @@ class WorkersTrial(Trial):
         self.usual_said = self.by_line(self.replies)
 
     def by_line(self, replies):
-        """Returns the reply to each `%open` and to each line of a session, by the line's place. The replies to the other
-        lines must come first, in the order of the script, and then those of each session."""
+        """Returns the reply to each `%open` and to each line of a session, by the line's place. The replies
+        to the other lines must come first, in the order of the script, and then those of each session."""
         rest, said, groups = iter([*replies, None]), {}, {}
         reply = next(rest)
         for at in self.script.replying:
