@@ -14,7 +14,7 @@
 #   count             the number of marks in a scatter that was checked
 #   why               the rules that are violated in a box of 20 by 20 somewhere in a scatter
 #   why, world        the rules that are violated anywhere in the world, where the layout is three bars
-#   empty world       the whole world is checked, which is empty: 65,536 pieces
+#   empty world       the whole world is checked, which is empty: 67,108,864 pieces
 #
 # Each time is the difference of two scripts, of each the least of five runs that take turns. The rows of scatters have the
 # number of marked squares at the end.
@@ -73,13 +73,13 @@ world() {
     for bar in '0 0 1 10' '20 0 22 10' '24 0 26 10'; do
         printf 'a box %s\na paint poly\n' "$bar"
     done
-    echo "a box -32768 -32768 32768 32768"
+    echo "a box -1048576 -1048576 1048576 1048576"
     awk -v line="$1" -v times="$2" 'BEGIN { for (r = 0; r < times; r++) print line }'
 }
 
 # empty LINE..: the box round the world, and these lines
 empty() {
-    printf '%%open a\na box -32768 -32768 32768 32768\n'
+    printf '%%open a\na box -1048576 -1048576 1048576 1048576\n'
     if [ "$#" -gt 0 ]; then printf '%s\n' "$@"; fi
 }
 
@@ -139,4 +139,4 @@ world 'a drc why' 10 > "$work/more"
 row 'why, world' '3 bars' 10
 empty > "$work/less"
 empty 'a drc check' 'a drc catchup' 'a drc count' > "$work/more"
-row 'empty world' '65536 pieces' 1
+row 'empty world' '67108864 pieces' 1

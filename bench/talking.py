@@ -16,6 +16,10 @@ class Failed(Exception):
     """What ends a bench."""
 
 
+class Late(Failed):
+    """A reply took too long."""
+
+
 class Program:
     """The program, which ends with the block that it is opened for."""
 
@@ -61,12 +65,12 @@ class Program:
         except OSError as error:
             raise Failed(f"magicd reads no more lines: {error}") from None
 
-    def reply(self, name):
+    def reply(self, name, limit=LIMIT):
         """Returns when the next reply of a session was read, and what it says behind the name."""
         try:
-            reply = self.replies[name].get(timeout=LIMIT)
+            reply = self.replies[name].get(timeout=limit)
         except queue.Empty:
-            raise Failed(f"{name}: no reply within {LIMIT} seconds") from None
+            raise Late(f"{name}: no reply within {limit} seconds") from None
         if reply is None:
             raise Failed(self.strange or "magicd has ended early")
         return reply

@@ -13,7 +13,7 @@
 #   shifted   the same cell at 16 by 16 places, 2 from one to the next: 103 by 38 squares, 7,905 tiles when dumped, and
 #             a million strips of cells in one piece
 #   far       one use of a cell of two squares of 4, in opposite corners of the world
-#   spread    one use of a cell of 44 by 44 squares of 1, 1,400 from one to the next, all over the world
+#   spread    one use of a cell of 44 by 44 squares of 1, 45,000 from one to the next, all over the world
 #
 # The rule of the last four is `spacing poly poly 1 touching_illegal` alone, which forbids nothing in them. The rows of
 # the first two layouts are:
@@ -27,12 +27,12 @@
 #                     time of its `box`
 #   of all, of the world      the same in the box round all, and in that of the world
 #
-# Those of the others, where the layout was checked before, are:
+# Those of the others are:
 #
 #   what, why         in a box of 250 by 250, the whole of a piece but for its halo
 #   step              `drc check` of that box, and the check step of the one piece that it is
 #
-# of deep and shifted, and `what` and `why` of the world of far and spread.
+# of deep and shifted, which were checked before, and `what` and `why` of the world of far and spread, which weren't.
 #
 # Each time is the processor's, in the program and in the system: that of a script less that of one without the lines,
 # of each the least of three runs that take turns. The columns are the row, the layout, the microseconds a line with
@@ -168,7 +168,7 @@ usual() {
         checked "$all" > "$work/less"
         { cat "$work/less"; repeated 50 "a $line"; } > "$work/more"
         row "${line#drc } of all" 50
-        checked 'a box -32768 -32768 32768 32768' > "$work/less"
+        checked 'a box -1048576 -1048576 1048576 1048576' > "$work/less"
         { cat "$work/less"; repeated 5 "a $line"; } > "$work/more"
         row "${line#drc } of the world" 5
     done
@@ -191,7 +191,7 @@ worst() {
 wide() {
     local line
     words=(--tech "$work/tech" --quota 16384 "c=$work/$layout.mag")
-    checked 'a box -32768 -32768 32768 32768' > "$work/less"
+    { laid "$layout"; echo 'a box -1048576 -1048576 1048576 1048576'; } > "$work/less"
     for line in what 'drc why'; do
         { cat "$work/less"; repeated 10 "a $line"; } > "$work/more"
         row "${line#drc } of the world" 10
@@ -205,9 +205,9 @@ if [ -z "$program" ]; then
 fi
 cell 5 5 4 8 > "$work/small.mag"
 cell 88 23 1 2 > "$work/large.mag"
-printf '%s\n' magic '<< poly >>' 'rect -32768 -32768 -32764 -32764' 'rect 32764 32764 32768 32768' '<< end >>' \
+printf '%s\n' magic '<< poly >>' 'rect -1048576 -1048576 -1048572 -1048572' 'rect 1048572 1048572 1048576 1048576' '<< end >>' \
     > "$work/far.mag"
-cell 44 44 1 1400 -30000 > "$work/spread.mag"
+cell 44 44 1 45000 -970000 > "$work/spread.mag"
 printf '%s\n' planes active metal1 end types 'active poly' 'active ndiff' 'metal1 m1' end \
     drc 'spacing poly poly 1 touching_illegal "d"' end > "$work/tech"
 

@@ -7,16 +7,16 @@ import sys
 import tempfile
 import time
 
-from talking import Failed, Program
+from talking import Failed, Late, Program
 
 RUNS = 3
 TIMES = 1, 64
-WORLD = -32768, -32768, 32768, 32768
-# How many seconds workers may take before the row has a dash.
-PATIENCE = 50
+WORLD = -1048576, -1048576, 1048576, 1048576
+# How many seconds a line or the workers may take, with `--live`, before the row has a dash.
+PATIENCE = 10
 OPTIONS = ["--quota", "16384", "--journal", "65536"]
 
-ALL_FORBIDDEN = "planes\np\nend\ntypes\np q\nend\ndrc\nedge space space 1 q 0 0 \"q only\"\nend\n"
+SPACE_FORBIDDEN = "planes\np\nend\ntypes\np q\nend\ndrc\nedge space space 1 q 0 0 \"q only\"\nend\n"
 
 
 def box(sides):
@@ -41,9 +41,10 @@ def strewn(kind, rows):
             yield paint(left, 16 * row, left + dice.randint(1, 8), top, kind=kind)
 
 
-SQUARES = [(2 * x - 32768, 2 * y - 32768) for x in range(56) for y in range(56)]
+SQUARES = [(2 * x + WORLD[0], 2 * y + WORLD[1]) for x in range(56) for y in range(56)]
 CORNER = flat(paint(x, y, x + 1, y + 1) for x, y in SQUARES)
 BARS = flat(paint(64 * n - 32000, WORLD[1], 64 * n - 31998, WORLD[3]) for n in range(1000))
+ROWS = flat(paint(WORLD[0], 64 * n - 32000, WORLD[2], 64 * n - 31998) for n in range(1000))
 STREWN = flat([*strewn("poly", 71), *strewn("m1", 71)])
 STREWN_BOX = 0, 0, 1136, 1136
 
@@ -53,7 +54,8 @@ LAYOUTS = {
     "painted": (paint(*WORLD), None, WORLD),
     "corner": (CORNER, None, WORLD),
     "bars": (BARS, None, WORLD),
-    "marked": ([], ALL_FORBIDDEN, WORLD),
+    "rows": (ROWS, None, WORLD),
+    "marked": ([], SPACE_FORBIDDEN, WORLD),
     "strewn": (STREWN, None, WORLD),
     "alone": (STREWN, None, STREWN_BOX),
 }
@@ -93,8 +95,11 @@ def by_workers(program, words, layout, sides, times):
     """Returns how many seconds one worker takes for checks that are asked for so many times, or nothing."""
     with Program([program, *words, "--live", "--workers", "1"], ["a"]) as live:
         live.send(["%open a", *(f"a {line}" for line in setting(layout, sides))])
-        for _ in range(len(layout) + 3):
-            live.reply("a")
+        try:
+            for _ in range(len(layout) + 3):
+                live.reply("a", PATIENCE)
+        except Late:
+            return None
         begin = time.perf_counter()
         live.send(["a drc check"] * times)
         for _ in range(times):

@@ -8,6 +8,7 @@
 #   painted   poly in the whole world
 #   corner    squares of 1 by 1 on a pitch of 2 in the lower left corner, all marked: more than half of the quota
 #   bars      a thousand bars as high as the world, 2 wide on a pitch of 64
+#   rows      the same with x and y exchanged
 #   marked    a technology whose rule forbids every square of the empty layout, which is all marked
 #   strewn    10,082 rectangles of poly and metal, with sides of 1 to 8, over 1,136 by 1,136 squares
 #   alone     the same, but their box alone is checked
@@ -15,10 +16,11 @@
 # Columns: milliseconds of the processor that a script with the checks and `drc catchup` takes more than one without
 # them, for one check and for 64, the least of three runs; then, with `--live`, milliseconds by the clock from the first
 # `drc check` until `drc count`, asked each millisecond, has no area pending, with one worker, for one check and for 64.
-# With numbers as arguments as many checks are asked for. It fails where other squares are marked at the end.
+# A dash stands for more than ten seconds. With numbers as arguments as many checks are asked for. It fails where other
+# squares are marked at the end.
 #
-# Aims: 20 for empty; 100 for painted, bars and marked; for strewn 1.2 of alone and empty together; 64 checks as long as
-# one. It runs the program that it builds, or PROGRAM. It needs Python 3. Nothing of it runs in the gate.
+# Aims: 20 for empty; 100 for painted, bars, rows and marked; for strewn 1.2 of alone and empty together; 64 checks as
+# long as one. It runs the program that it builds, or PROGRAM. It needs Python 3. Nothing of it runs in the gate.
 set -eu
 here=$(cd "$(dirname "${BASH_SOURCE[0]}")/.." && pwd)
 program=${PROGRAM:-}

@@ -48,9 +48,9 @@ rectangles() {
         function put(kind, l, b, r, t) { print kind, l, b, r, t }
         function turn(kind, l, b, r, t) { print kind, b, l, t, r }
         function kind_of(i) { return i % 2 == 0 ? "poly" : "ndiff" }
-        function world(kind) { put(kind, -32768, -32768, 32768, 32768) }
+        function world(kind) { put(kind, -far, -far, far, far) }
         BEGIN {
-            seed = 2026
+            seed = 2026; far = 1048576
             if (shape == "comb") {
                 for (i = 0; i < n; i++) put("poly", 0, 4 * i, 10, 4 * i + 2)
                 for (i = 1; i <= n; i++) put("poly", -4 * i, 0, 2 - 4 * i, 4 * n - 2)
@@ -76,7 +76,7 @@ rectangles() {
             } else if (shape == "rings") {
                 for (i = 0; i < n; i++) put(kind_of(i), i - 8000, i - 8000, 8000 - i, 8000 - i)
             } else if (shape == "columns") {
-                for (i = 0; i < n; i++) put("poly", 4 * i - 16000, -32768, 4 * i - 15998, 32768)
+                for (i = 0; i < n; i++) put("poly", 4 * i - 16000, -far, 4 * i - 15998, far)
             } else if (shape == "squares") {
                 for (j = 0; j < n; j++) for (i = 0; i < n; i++) put("poly", 4 * i, 4 * j, 4 * i + 2, 4 * j + 2)
             } else if (shape == "scatter") {
@@ -115,13 +115,13 @@ rectangles() {
                 for (i = 0; i < n; i++) put(kind_of(i), 0, i, n, i + 1)
                 for (i = 0; i < n; i++) put("poly", i, 0, i + 1, n)
             } else if (shape == "rows of the world over columns") {
-                for (i = 0; i < n; i++) put(kind_of(i), 4 * i - 32768, -32768, 4 * i - 32764, 32768)
-                for (i = 0; i < n; i++) put("poly", -32768, 4 * i - 32768, 32768, 4 * i - 32764)
+                for (i = 0; i < n; i++) put(kind_of(i), 4 * i - 32768, -far, 4 * i - 32764, far)
+                for (i = 0; i < n; i++) put("poly", -far, 4 * i - 32768, far, 4 * i - 32764)
                 world("poly")
             } else if (shape == "lattice and covered") {
                 for (i = 0; i < n; i++) {
-                    put("poly", 4 * i - 32768, -32768, 4 * i - 32766, 32768)
-                    put("ndiff", -32768, 4 * i - 32768, 32768, 4 * i - 32766)
+                    put("poly", 4 * i - 32768, -far, 4 * i - 32766, far)
+                    put("ndiff", -far, 4 * i - 32768, far, 4 * i - 32766)
                 }
                 world("poly")
             } else if (shape == "strewn and covered") {
@@ -314,7 +314,7 @@ often() {
     row "$text" "$aim" "$times"
 }
 
-world='a box -32768 -32768 32768 32768'
+world='a box -1048576 -1048576 1048576 1048576'
 programs=("$@")
 if [ "${#programs[@]}" -eq 0 ]; then
     "$here/magicd" < /dev/null

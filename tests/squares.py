@@ -12,7 +12,7 @@ import shlex
 
 from tests.serving import ROOT
 
-WORLD = 32768
+WORLD = 1048576
 PLANES = ("poly", "ndiff"), ("m1",)
 KINDS = "poly", "ndiff", "m1"
 NAMES = {"poly": "poly", "p": "poly", "ndiff": "ndiff", "nd": "ndiff", "m1": "m1"}

@@ -35,7 +35,7 @@ TABLES = [
 # Lines that can be read.
 READABLE = re.split(r"[|\n]", """%open a|%open b|%open c|%close a|%close b|%step a|%step b|%steps a 3|%audit a|%audit c
 %save a|%stat b|%uses a|%marks b|%journal b|%why c 0 0 9 9|a box 0 0 4 4|a box 3 0 9 9|b box 0 0 1 10|b box 5 5 5 9
-c box -32768 0 -32760 2|a paint poly|a paint ndiff|b paint m1|b paint gold|c paint p|a erase poly|b erase poly,m1
+c box -1048576 0 -1048568 2|a paint poly|a paint ndiff|b paint m1|b paint gold|c paint p|a erase poly|b erase poly,m1
 c erase gold|a dump c 0 0|b getcell c 0 0|a what|b what|a save|c save|a drc check|b drc catchup|c drc why|a drc count
 b drc count""")
 

@@ -2,11 +2,11 @@
 
 from tests.model import ModelCase
 from tests.serving import serve
-from tests.squares import Window
+from tests.squares import WORLD, Window
 
 GREATEST = ["--quota", "16384", "--journal", "65536"]
 
-WORLD = "a box -32768 -32768 32768 32768"
+WHOLE = f"a box {-WORLD} {-WORLD} {WORLD} {WORLD}"
 
 # How many rectangles are strewn: those of each plane make some 8,000 tiles.
 STREWN = 4800
@@ -32,7 +32,7 @@ def strewn():
 
 class Large(ModelCase):
     def test_strewn_rectangles_and_the_world(self):
-        asked = ["a drc catchup", "a drc count", WORLD, "a drc check", "a drc why", "a drc catchup", "a drc count"]
+        asked = ["a drc catchup", "a drc count", WHOLE, "a drc check", "a drc why", "a drc catchup", "a drc count"]
         replies = self.expect_model(GREATEST, [*strewn(), *asked, "%audit a"], Window(-10, -10, 1200))
         # A further program, which went square by square too, counted as many.
         self.assertEqual(replies[-2], "a count 6383 errors 0 pending")
@@ -40,7 +40,7 @@ class Large(ModelCase):
     def test_all_pieces_of_the_world(self):
         boxes = ["a box 0 0 1 10", "a box 20 0 22 10", "a box 24 0 26 10"]
         painted = [line for box in boxes for line in (box, "a paint poly")]
-        asked = [WORLD, "a drc check", "a drc why", "a drc catchup", "a drc count"]
+        asked = [WHOLE, "a drc check", "a drc why", "a drc catchup", "a drc count"]
         replies = self.expect_model(GREATEST, ["%open a", *painted, *asked], Window(-10, -10, 50))
         self.assertEqual(replies[-1], "a count 30 errors 0 pending")
 
@@ -60,9 +60,9 @@ class Large(ModelCase):
 
     def test_plane_of_thousands_of_tiles(self):
         # 40 rungs over the world, cut by 40 bars, each of which makes 81 tiles more.
-        boxes = [f"-32768 {low} 32768 {low + 2}\na paint poly" for low in range(0, 160, 4)]
-        boxes += [f"{low} -32768 {low + 2} 32768\na paint ndiff" for low in range(0, 160, 4)]
-        script = "\n".join(["%open a", *(f"a box {box}" for box in boxes), WORLD, "a what", "a erase ndiff", "a what"])
+        boxes = [f"{-WORLD} {low} {WORLD} {low + 2}\na paint poly" for low in range(0, 160, 4)]
+        boxes += [f"{low} {-WORLD} {low + 2} {WORLD}\na paint ndiff" for low in range(0, 160, 4)]
+        script = "\n".join(["%open a", *(f"a box {box}" for box in boxes), WHOLE, "a what", "a erase ndiff", "a what"])
         replies = "a opened\n" + "a ok\n" * 161 + "a what 2 poly ndiff\na ok\na what 1 poly\n"
         self.assertEqual(serve(["--quota", "16384"], script), (replies, "", 0))
 

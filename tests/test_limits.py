@@ -56,8 +56,8 @@ class Limits(unittest.TestCase):
 
     def test_cell_planes_of_4096_and_4097_tiles(self):
         # At the world's left border there is no space to the left of the squares.
-        self.expect(["c=c.mag"], [], {"c.mag": wide_cell(-32768, 2047)})
-        files = {"c.mag": wide_cell(-32767, 2047)}
+        self.expect(["c=c.mag"], [], {"c.mag": wide_cell(-1048576, 2047)})
+        files = {"c.mag": wide_cell(-1048575, 2047)}
         self.expect_message(["c=c.mag"], "cell c line 0 fault 6 too many tiles", files)
 
     def greatest_layout(self):
@@ -65,7 +65,7 @@ class Limits(unittest.TestCase):
         script, replies = "%open a\n", "a opened\n"
         for bottom in (0, 2, 4, 6):
             script, replies = script + f"a dump c 0 {bottom}\n", replies + "a ok\n"
-        for left, reply in ((0, "ok"), (4, "ok"), (-32768, "ok"), (8, "refused 5 quota")):
+        for left, reply in ((0, "ok"), (4, "ok"), (-1048576, "ok"), (8, "refused 5 quota")):
             script += f"a box {left} 10 {left + 1} 11\na paint poly\na paint m1\n"
             replies += f"a ok\na {reply}\na {reply}\n"
         ending = serve(["--quota=16384", "c=c.mag"], script + "a save\n", {"c.mag": wide_cell(0, 2046)})

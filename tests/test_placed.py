@@ -55,7 +55,7 @@ class Placed(unittest.TestCase):
     def test_placed_cells_have_the_replies_of_dumped_ones(self):
         dice = random.Random(3)
         rounds = [apart(dice) for _ in range(ROUNDS)] + [over(dice) for _ in range(ROUNDS)]
-        rounds.append(["box -32768 -32768 32768 32768", "drc why", "drc catchup", "drc count", "what"])
+        rounds.append(["box -1048576 -1048576 1048576 1048576", "drc why", "drc catchup", "drc count", "what"])
         script = "%open p\n%open d\n"
         for line in (line for lines in rounds for line in lines):
             script += f"p {line}\nd {line.replace('getcell', 'dump')}\n"

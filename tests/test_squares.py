@@ -3,7 +3,7 @@
 import random
 
 from tests.model import ModelCase
-from tests.squares import Window
+from tests.squares import WORLD, Window
 
 CELLS = {
     "c": [("poly", (0, 0, 2, 4)), ("m1", (1, 0, 4, 3))],
@@ -13,7 +13,8 @@ CELLS = {
 
 # How many random scripts there are, and the middles of them: corners of the world, borders, and places in it.
 SCRIPTS = 360
-MIDDLES = [(x, y) for x in (-32768, 32768) for y in (-32768, 32768)] + [(0, 0), (-128, 256), (500, 32768), (-32768, 7)]
+MIDDLES = [(x, y) for x in (-WORLD, WORLD) for y in (-WORLD, WORLD)]
+MIDDLES += [(0, 0), (32768, -32768), (500, WORLD), (-WORLD, 7)]
 
 # How the program is run, in turn.
 WAYS = [], ["--workers", "2"], ["--live", "--workers", "2"]
@@ -21,7 +22,7 @@ WAYS = [], ["--workers", "2"], ["--live", "--workers", "2"]
 # Lines whose replies depend on check steps.
 STEPPED = ["%marks a", "a drc count", "%step a\na drc count", "%steps a 3\na drc count"]
 
-WHOLE = "a box -32768 -32768 32768 32768"
+WHOLE = f"a box {-WORLD} {-WORLD} {WORLD} {WORLD}"
 
 
 def box(dice, x, y):
@@ -32,7 +33,7 @@ def box(dice, x, y):
 
 def round_middle(x, y, far):
     """Returns the box in the world that is so far round a point."""
-    return "a box {} {} {} {}".format(*(min(max(at, -32768), 32768) for at in (x - far, y - far, x + far, y + far)))
+    return "a box {} {} {} {}".format(*(min(max(at, -WORLD), WORLD) for at in (x - far, y - far, x + far, y + far)))
 
 
 def random_lines(dice, x, y, is_plain):
@@ -76,7 +77,7 @@ class Squares(ModelCase):
 
     def test_as_many_uses_as_there_may_be(self):
         first = ["%open a", *["a getcell c 0 0"] * 256]
-        more = [f"a getcell {words}" for words in ("c 0 0", "f 0 0", "c 32765 0", "e 0 0")]
+        more = [f"a getcell {words}" for words in ("c 0 0", "f 0 0", "c 1048573 0", "e 0 0")]
         asked = [WHOLE, "a what", "a drc why", "a drc catchup", "a drc count", "a save", "%audit a", "%uses a"]
         stepped = ["a drc count", "%step a", "a drc count", "a getcell c 0 0", "%step a", "a drc count"]
         for workers, lines in (("0", more + asked), ("2", more + asked), ("0", more[:1] + stepped)):

@@ -1,5 +1,5 @@
--- Where each plane shows one kind round squares, the rules forbid all of these or none; where it shows columns, all of a column or none.
-use Rattle.std.proofs.Common.{◌≡◌, ℕ, true, ◌&&◌, ◌||◌, List, refl, sym, ap, ◌∙◌}
+-- Where each plane shows one kind round squares, the rules forbid all of these or none; where it shows columns, all of a column or none; where rows, all of a row.
+use Rattle.std.proofs.Common.{◌≡◌, ℕ, true, not, ◌&&◌, ◌||◌, List, refl, sym, ap, ◌∙◌}
 use Rattle.std.specs.List.{list_any}
 use Rattle.mls_edgerule.specs.Directions.{directions_in}
 use Rattle.mls_edgerule.specs.declared.edge_rule.EdgeRule.{EdgeRule}
@@ -12,9 +12,11 @@ use Rattle.mls_geom.specs.declared.direction.Direction.TheVariants.{Right, Up, L
 use Rattle.mls_checker.specs.Forbids.{forbidden, forbids, in_block, in_row, is_disallowed, reaches}
 use Rattle.mls_checker.proofs.ListTests.{list_any_same}
 use Rattle.mls_checker.proofs.Locality.{forbidden_same_in}
-use Rattle.mls_errorplane.specs.Stretches.{IsAlike, like_column}
+use Rattle.mls_kinds.specs.KindSets.{holds as has_type}
+use Rattle.mls_errorplane.specs.Stretches.{IsAlike, like_column, like_row}
 use Rattle.mls_errorplane.specs.declared.likeness.Likeness.{Likeness}
-use Rattle.mls_errorplane.specs.declared.likeness.Likeness.TheVariants.{OneKind, Columns}
+use Rattle.mls_errorplane.specs.declared.likeness.Likeness.TheVariants.{OneKind, Columns, Rows}
+use Rattle.mls_errorplane.proofs.LikeSquares.{like_column-again, like_row-again}
 
 -- where the rules forbid both squares or none, and both are of the world, both are forbidden or none
 forbidden-both :
@@ -28,62 +30,76 @@ forbidden-both rules layout x y a b same here there =
     ∙ list_any_same (λ rule. forbids rule layout p) (λ rule. forbids rule layout q) rules same
     ∙ sym (ap (λ inside. inside && list_any (λ rule. forbids rule layout q) rules) there)
 
--- ---- one kind
--- a layout in which each plane shows one kind everywhere
-abbrev alike : (ℕ → ℕ) → Layout
-alike kinds plane x y = kinds plane
+-- ---- like squares
+-- the layout that shows in each square what a layout shows in the one that a rectangle has for it
+abbrev alike : Likeness → Rect → Layout → Layout
+alike likeness rect layout plane x y = layout plane (like_column likeness rect x) (like_row likeness rect y)
 
--- a rule forbids each square of it, or none
-forbids-alike : (rule : EdgeRule) (kinds : ℕ → ℕ) (p q : Point) → forbids rule (alike kinds) p ≡ forbids rule (alike kinds) q
+-- a square by its column and its row, and the one that a rectangle has for it
+abbrev point : ℕ → ℕ → Point
+point x y = record { x = x; y = y }
+
+abbrev like : Likeness → Rect → ℕ → ℕ → Point
+like likeness rect x y = point (like_column likeness rect x) (like_row likeness rect y)
+
+-- an edge of a rule reaches both, or none
+reached-alike :
+    (rule : EdgeRule) (likeness : Likeness) (rect : Rect) (layout : Layout) (x y : ℕ) (direction : Direction)
+    → (in_row rule (alike likeness rect layout) direction (record { x = x; y = y })
+    || list_any (in_block rule (alike likeness rect layout) direction (record { x = x; y = y })) (across direction))
+    ≡ (in_row rule (alike likeness rect layout) direction (like likeness rect x y)
+    || list_any (in_block rule (alike likeness rect layout) direction (like likeness rect x y)) (across direction))
+reached-alike rule OneKind rect layout x y direction = refl
+reached-alike rule Columns rect layout x y Right = refl
+reached-alike rule Columns rect layout x y Up = refl
+reached-alike rule Columns rect layout x y Left = refl
+reached-alike rule Columns rect layout x y Down = refl
+reached-alike rule Rows rect layout x y Right = refl
+reached-alike rule Rows rect layout x y Up = refl
+reached-alike rule Rows rect layout x y Left = refl
+reached-alike rule Rows rect layout x y Down = refl
+
+reaches-alike :
+    (rule : EdgeRule) (likeness : Likeness) (rect : Rect) (layout : Layout) (x y : ℕ)
+    → reaches rule (alike likeness rect layout) (record { x = x; y = y }) ≡ reaches rule (alike likeness rect layout) (like likeness rect x y)
 unfolding reaches
-forbids-alike rule kinds p q = refl
-
--- ---- columns
--- a layout in which each plane shows the same in each row
-abbrev columns : (ℕ → ℕ → ℕ) → Layout
-columns kinds plane x y = kinds plane x
-
--- an edge of a rule reaches each square of a column, or none
-reached-columns :
-    (rule : EdgeRule) (kinds : ℕ → ℕ → ℕ) (x y b : ℕ) (direction : Direction)
-    → (in_row rule (columns kinds) direction (record { x = x; y = y }) || list_any (in_block rule (columns kinds) direction (record { x = x; y = y })) (across direction))
-    ≡ (in_row rule (columns kinds) direction (record { x = x; y = b }) || list_any (in_block rule (columns kinds) direction (record { x = x; y = b })) (across direction))
-reached-columns rule kinds x y b Right = refl
-reached-columns rule kinds x y b Up = refl
-reached-columns rule kinds x y b Left = refl
-reached-columns rule kinds x y b Down = refl
-
-reaches-columns :
-    (rule : EdgeRule) (kinds : ℕ → ℕ → ℕ) (x y b : ℕ) → reaches rule (columns kinds) (record { x = x; y = y }) ≡ reaches rule (columns kinds) (record { x = x; y = b })
-unfolding reaches
-reaches-columns rule kinds x y b =
+reaches-alike rule likeness rect layout x y =
+    let seen = alike likeness rect layout in
     let p : Point = record { x = x; y = y } in
-    let q : Point = record { x = x; y = b } in
-    list_any_same (λ direction. in_row rule (columns kinds) direction p || list_any (in_block rule (columns kinds) direction p) (across direction))
-    (λ direction. in_row rule (columns kinds) direction q || list_any (in_block rule (columns kinds) direction q) (across direction)) (directions_in rule.directions)
-    (reached-columns rule kinds x y b)
+    let q = like likeness rect x y in
+    list_any_same (λ direction. in_row rule seen direction p || list_any (in_block rule seen direction p) (across direction))
+    (λ direction. in_row rule seen direction q || list_any (in_block rule seen direction q) (across direction)) (directions_in rule.directions)
+    (reached-alike rule likeness rect layout x y)
 
--- and so a rule forbids all or none
-forbids-columns :
-    (rule : EdgeRule) (kinds : ℕ → ℕ → ℕ) (x y b : ℕ) → forbids rule (columns kinds) (record { x = x; y = y }) ≡ forbids rule (columns kinds) (record { x = x; y = b })
-forbids-columns rule kinds x y b =
-    ap (λ reached. is_disallowed rule (columns kinds) (record { x = x; y = y }) && reached) (reaches-columns rule kinds x y b)
+-- their kinds are the same
+kind-alike :
+    (likeness : Likeness) (rect : Rect) (layout : Layout) (plane x y : ℕ)
+    → alike likeness rect layout plane x y ≡ alike likeness rect layout plane (like_column likeness rect x) (like_row likeness rect y)
+kind-alike likeness rect layout plane x y =
+    ap (λ column. layout plane column (like_row likeness rect y)) (sym (like_column-again likeness rect rect x))
+    ∙ ap (layout plane (like_column likeness rect (like_column likeness rect x))) (sym (like_row-again likeness rect rect y))
+
+-- and so a rule forbids both or none
+forbids-alike :
+    (rule : EdgeRule) (likeness : Likeness) (rect : Rect) (layout : Layout) (x y : ℕ)
+    → forbids rule (alike likeness rect layout) (record { x = x; y = y }) ≡ forbids rule (alike likeness rect layout) (like likeness rect x y)
+forbids-alike rule likeness rect layout x y =
+    let seen = alike likeness rect layout in
+    ap (λ kind. not (has_type rule.ok_types kind) && reaches rule seen (record { x = x; y = y })) (kind-alike likeness rect layout rule.check_plane x y)
+    ∙ ap (λ reached. is_disallowed rule seen (like likeness rect x y) && reached) (reaches-alike rule likeness rect layout x y)
 
 -- ---- the law
--- two squares of a rectangle whose columns show the same are both forbidden or both allowed
+-- two squares of a rectangle for which it has the same are both forbidden or both allowed
 pub forbidden-alike :
     (rules : List EdgeRule) (layout : Layout) (likeness : Likeness) (rect : Rect) (x y a b : ℕ) → IsAlike likeness rules layout rect
-    → like_column likeness rect x ≡ like_column likeness rect a → holds rect x y ≡ true → holds rect a b ≡ true
-    → holds world x y ≡ true → holds world a b ≡ true → forbidden rules layout x y ≡ forbidden rules layout a b
-forbidden-alike rules layout OneKind rect x y a b uniform same here there inside inside' =
-    let kinds : ℕ → ℕ = λ plane. layout plane rect.left rect.bottom in
-    let agree = forbidden_same_in rules rect layout (alike kinds) uniform in
-    agree x y here
-    ∙ forbidden-both rules (alike kinds) x y a b (λ rule. forbids-alike rule kinds (record { x = x; y = y }) (record { x = a; y = b })) inside inside'
-    ∙ sym (agree a b there)
-forbidden-alike rules layout Columns rect x y a b uniform same here there inside inside' =
-    let kinds : ℕ → ℕ → ℕ = λ plane column. layout plane column rect.bottom in
-    let agree = forbidden_same_in rules rect layout (columns kinds) uniform in
-    let forbids-both : (rule : EdgeRule) → forbids rule (columns kinds) (record { x = x; y = y }) ≡ forbids rule (columns kinds) (record { x = a; y = b }) =
-    λ rule. forbids-columns rule kinds x y b ∙ ap (λ column. forbids rule (columns kinds) (record { x = column; y = b })) same in
-    agree x y here ∙ forbidden-both rules (columns kinds) x y a b forbids-both inside inside' ∙ sym (agree a b there)
+    → like_column likeness rect x ≡ like_column likeness rect a → like_row likeness rect y ≡ like_row likeness rect b
+    → holds rect x y ≡ true → holds rect a b ≡ true → holds world x y ≡ true → holds world a b ≡ true
+    → forbidden rules layout x y ≡ forbidden rules layout a b
+forbidden-alike rules layout likeness rect x y a b uniform column row here there inside inside' =
+    let seen = alike likeness rect layout in
+    let agree = forbidden_same_in rules rect layout seen uniform in
+    let same : like likeness rect x y ≡ like likeness rect a b =
+    ap (λ n. point n (like_row likeness rect y)) column ∙ ap (point (like_column likeness rect a)) row in
+    let forbids-both : (rule : EdgeRule) → forbids rule seen (record { x = x; y = y }) ≡ forbids rule seen (record { x = a; y = b }) =
+    λ rule. forbids-alike rule likeness rect layout x y ∙ ap (forbids rule seen) same ∙ sym (forbids-alike rule likeness rect layout a b) in
+    agree x y here ∙ forbidden-both rules seen x y a b forbids-both inside inside' ∙ sym (agree a b there)

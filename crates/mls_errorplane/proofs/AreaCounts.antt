@@ -74,18 +74,18 @@ marked-bit : (b : Bool) → not (cond b 1 0 == 0) ≡ b
 marked-bit true = refl
 marked-bit false = refl
 
-marked-few : (picture : Picture) → marked_count world picture ≤ 4294967296
+marked-few : (picture : Picture) → marked_count world picture ≤ 4398046511104
 marked-few picture = omega (arith, marked_count-le world picture)
 
-count_in-world : (set : SquareSet) → count_in world set ≤ 4294967296
+count_in-world : (set : SquareSet) → count_in world set ≤ 4398046511104
 unfolding marked_count
 count_in-world set =
     let picture : Picture = λ x y. cond (set x y) 1 0 in
-    subst (λ n. n ≤ 4294967296) (count_in-agree world (is_marked picture) set (λ x y _. marked-bit (set x y))) (marked-few picture)
+    subst (λ n. n ≤ 4398046511104) (count_in-agree world (is_marked picture) set (λ x y _. marked-bit (set x y))) (marked-few picture)
 
 -- no rectangle of the world has more squares of a set than the world has squares
-pub count_in-few : (rect : Rect) (set : SquareSet) → IsRectangleIn world rect → count_in rect set ≤ 4294967296
-count_in-few rect set legal = subst (λ n. n ≤ 4294967296) (count_in-part world rect set legal) (count_in-world (λ x y. holds rect x y && set x y))
+pub count_in-few : (rect : Rect) (set : SquareSet) → IsRectangleIn world rect → count_in rect set ≤ 4398046511104
+count_in-few rect set legal = subst (λ n. n ≤ 4398046511104) (count_in-part world rect set legal) (count_in-world (λ x y. holds rect x y && set x y))
 
 -- a picture whose marked squares are those of the areas has as many as were counted
 pub counted-all :

@@ -59,12 +59,12 @@ pub area_of-dropped-less : (first : Rect) (rest : List Rect) → IsRectangleIn w
 area_of-dropped-less first rest legal = omega (arith, area_of-dropped first rest legal, size_of-piece first legal)
 
 -- no list has more squares than the world has, times its areas
-pub area_of-le : (areas : List Rect) → IsDirtyList areas → area_of areas ≤ 65 * 2 ^ 32
+pub area_of-le : (areas : List Rect) → IsDirtyList areas → area_of areas ≤ 65 * 2 ^ 42
 area_of-le areas kept =
-    let each : All (λ area. size_of area ≤ 65536 * 65536) areas = λ k d within.
+    let each : All (λ area. size_of area ≤ 2097152 * 2097152) areas = λ k d within.
     let legal = kept.legal k d within in
-    mul-le _ _ 65536 65536 (omega (arith, legal.left_in, legal.right_in)) (omega (arith, legal.bottom_in, legal.top_in)) in
-    omega (arith, sum_by-le size_of (65536 * 65536) areas each, kept.few)
+    mul-le _ _ 2097152 2097152 (omega (arith, legal.left_in, legal.right_in)) (omega (arith, legal.bottom_in, legal.top_in)) in
+    omega (arith, sum_by-le size_of (2097152 * 2097152) areas each, kept.few)
 
 -- a piece takes few pieces of marks
 pub few_pieces : (area : Rect) → most_pieces (piece_of area) ≤ 32769

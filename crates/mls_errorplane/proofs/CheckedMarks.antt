@@ -38,10 +38,10 @@ two_kinds false = refl
 pub marked-marks_picture : (set : SquareSet) → is_marked (marks_picture set) ≡ set
 marked-marks_picture set = fun_ext (λ x. fun_ext (λ y. two_kinds (set x y)))
 
-abbrev mark_kind : Bool → ℕ
+abbrev pub mark_kind : Bool → ℕ
 mark_kind marked = if marked then 1 else 0
 
-marked_either : (inside set new old : Bool) → (inside ≡ true → set ≡ new) → (if inside then mark_kind set else mark_kind old) ≡ mark_kind (if inside then new else old)
+pub marked_either : (inside set new old : Bool) → (inside ≡ true → set ≡ new) → (if inside then mark_kind set else mark_kind old) ≡ mark_kind (if inside then new else old)
 marked_either true set new old same = ap mark_kind (same refl)
 marked_either false set new old same = refl
 

@@ -2,6 +2,8 @@ pub mod AlikeLayouts
 pub mod AlikePlanes
 pub mod AreaCounts
 pub mod AreaSizes
+pub mod CarriedMarks
+pub mod CarriedSteps
 pub mod CheckedMarks
 pub mod CheckedSquares
 pub mod CoveredOnce
@@ -13,6 +15,7 @@ pub mod FoundCounts
 pub mod FoundTotals
 pub mod KeptLists
 pub mod KeptRooms
+pub mod LikeSquares
 pub mod MarkCounts
 pub mod NextStretches
 pub mod PaintedAreas
@@ -23,6 +26,9 @@ pub mod RectCounts
 pub mod ShownBeside
 pub mod ShownMarks
 pub mod SquareCounts
+pub mod StairCorners
+pub mod StairCounts
+pub mod StairSums
 pub mod StepsDone
 pub mod StretchSteps
 pub mod ViolatedNear

@@ -5,9 +5,9 @@ use Rattle.std.proofs.Math.Nat.{one-le-mul}
 use Rattle.mls_geom.specs.Rects.{Rect, IsRectangleIn, has_squares}
 use Rattle.mls_geom.specs.World.{world}
 use Rattle.mls_errorplane.specs.DirtyLists.{piece_side}
-use Rattle.mls_errorplane.specs.Stretches.{DropsIn, IsNext}
+use Rattle.mls_errorplane.specs.Stretches.{DropsAll, IsNext}
 use Rattle.mls_errorplane.specs.declared.stretch.Stretch.{Stretch}
-use Rattle.mls_errorplane.proofs.DroppedRows.{from_column, from_row, row-DropsIn, rows-DropsIn, with_area}
+use Rattle.mls_errorplane.proofs.DroppedRows.{from_column, from_row, row-DropsAll, rows-DropsAll, with_area}
 
 -- what holds of the first area's list holds of the list
 pub next-first :
@@ -30,7 +30,7 @@ pub row-IsNext :
     (area rect from : Rect) (others : List Rect) (rest : Option Rect) (pieces count right : ℕ) → IsRectangleIn world area → area.top ≤ area.bottom + piece_side
     → piece_side * pieces < (area.right - area.left) + piece_side → right ≡ min area.right (area.left + pieces * piece_side)
     → rect ≡ record { left = area.left; bottom = area.bottom; right = right; top = area.top } → from ≡ record area { left = right }
-    → rest ≡ (if has_squares from then Some from else None) → count ≡ pieces → 0 < pieces → (0 < count) × DropsIn rect count (area ∷ others) (option_to_list rest ++ others)
+    → rest ≡ (if has_squares from then Some from else None) → count ≡ pieces → 0 < pieces → (0 < count) × DropsAll rect count (area ∷ others) (option_to_list rest ++ others)
 row-IsNext area rect from others rest pieces count right legal low fits to is is_from left is_count some =
     let same : right ≡ min area.right (area.left + piece_side * pieces) = omega (arith, to) in
     let lefts = ap (λ (e : Rect). e.left) is in
@@ -38,10 +38,10 @@ row-IsNext area rect from others rest pieces count right legal low fits to is is
     let rights = ap (λ (e : Rect). e.right) is in
     let tops = ap (λ (e : Rect). e.top) is in
     let here = with_rest-area from (from_column area (min area.right (area.left + piece_side * pieces))) rest others (is_from ∙ ap (from_column area) same) left in
-    subst (λ n. (0 < n) × DropsIn rect n (area ∷ others) (option_to_list rest ++ others)) (sym is_count) (
+    subst (λ n. (0 < n) × DropsAll rect n (area ∷ others) (option_to_list rest ++ others)) (sym is_count) (
       some,
-      subst (DropsIn rect pieces (area ∷ others)) here
-          (row-DropsIn rect area others pieces legal.wide legal.tall low fits (omega (arith, lefts)) (omega (arith, rights, same)) (omega (arith, bottoms)) (omega (arith, tops))),
+      subst (DropsAll rect pieces (area ∷ others)) here
+          (row-DropsAll rect area others pieces legal.wide legal.tall low fits lefts (rights ∙ same) bottoms tops),
     )
 
 -- whole rows
@@ -50,7 +50,7 @@ pub rows-IsNext :
     → area.right - area.left ≤ piece_side * columns → piece_side * columns < (area.right - area.left) + piece_side → piece_side * rows < (area.top - area.bottom) + piece_side
     → top ≡ min area.top (area.bottom + rows * piece_side) → rect ≡ record { left = area.left; bottom = area.bottom; right = area.right; top = top }
     → from ≡ record area { bottom = top } → rest ≡ (if has_squares from then Some from else None) → count ≡ columns * rows → 0 < columns → 0 < rows
-    → (0 < count) × DropsIn rect count (area ∷ others) (option_to_list rest ++ others)
+    → (0 < count) × DropsAll rect count (area ∷ others) (option_to_list rest ++ others)
 rows-IsNext area rect from others rest columns rows count top legal enough fits fit to is is_from left is_count some some' =
     let same : top ≡ min area.top (area.bottom + piece_side * rows) = omega (arith, to) in
     let lefts = ap (λ (e : Rect). e.left) is in
@@ -58,9 +58,8 @@ rows-IsNext area rect from others rest columns rows count top legal enough fits 
     let rights = ap (λ (e : Rect). e.right) is in
     let tops = ap (λ (e : Rect). e.top) is in
     let here = with_rest-area from (from_row area (min area.top (area.bottom + piece_side * rows))) rest others (is_from ∙ ap (from_row area) same) left in
-    subst (λ n. (0 < n) × DropsIn rect n (area ∷ others) (option_to_list rest ++ others)) (sym is_count) (
+    subst (λ n. (0 < n) × DropsAll rect n (area ∷ others) (option_to_list rest ++ others)) (sym is_count) (
       one-le-mul some some',
-      subst (DropsIn rect (columns * rows) (area ∷ others)) here
-          (rows-DropsIn rect area others columns rows legal.wide legal.tall fits (omega (arith, enough, legal.wide)) fit (omega (arith, lefts)) (omega (arith, rights))
-          (omega (arith, bottoms)) (omega (arith, tops, same))),
+      subst (DropsAll rect (columns * rows) (area ∷ others)) here
+          (rows-DropsAll rect area others columns rows legal.wide legal.tall fits (omega (arith, enough, legal.wide)) fit lefts rights bottoms (tops ∙ same)),
     )

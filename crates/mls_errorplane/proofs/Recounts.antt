@@ -19,7 +19,7 @@ module _ (old new : Picture) (marked before after : ℕ) where
   -- no more squares are marked than the world has
   pub recount-few :
       marked ≡ marked_count world old → marked_count world new + before ≡ marked_count world old + after → before ≤ marked_count world old
-      → marked - before + after ≤ 4294967296
+      → marked - before + after ≤ 4398046511104
   recount-few counted recounted few = omega (arith, counted, recounted, few, marked_count-le world new)
 
   pub recount-before : marked ≡ marked_count world old → before ≤ marked_count world old → before ≤ marked

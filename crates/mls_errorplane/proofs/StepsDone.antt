@@ -57,8 +57,8 @@ area_of-Done rules layout limit old new kept step =
 
 -- so a step more doesn't make too many to count
 pub few-Done :
-    (rules : List EdgeRule) (layout : Layout) (limit count : ℕ) (old new : Checking) → IsDirtyList old.dirty → (IsDirtyList old.dirty → count + area_of old.dirty ≤ 65 * 2 ^ 32)
-    → HasStepped rules layout limit old stepped.Done new → count + 1 + area_of new.dirty ≤ 65 * 2 ^ 32
+    (rules : List EdgeRule) (layout : Layout) (limit count : ℕ) (old new : Checking) → IsDirtyList old.dirty → (IsDirtyList old.dirty → count + area_of old.dirty ≤ 65 * 2 ^ 42)
+    → HasStepped rules layout limit old stepped.Done new → count + 1 + area_of new.dirty ≤ 65 * 2 ^ 42
 few-Done rules layout limit count old new kept few step = omega (arith, few kept, area_of-Done rules layout limit old new kept step)
 
 -- a list without a first piece is empty

@@ -1,36 +1,40 @@
 -- Check steps over pieces whose marks are right already: they change the list alone.
-use Rattle.std.proofs.Common.{◌≡◌, ◌≢◌, ℕ, zero, suc, ◌+◌, ◌<◌, ◌≤◌, not, ◌==◌, true, false, inl, inr, List, [], ◌∷◌, Option, None, Some, IfSome, refl, sym, ap, subst, ◌∙◌, arith, add-suc, add-zero}
+use Rattle.std.proofs.Common.{◌≡◌, ◌≢◌, ℕ, zero, suc, ◌+◌, ◌<◌, ◌≤◌, not, ◌==◌, true, false, inl, inr, List, [], ◌∷◌, Option, None, Some, IfSome, sym, ap, subst, ◌∙◌, arith, add-suc, add-zero}
 use Rattle.std.specs.Option.{IsSomeAnd}
 use Rattle.std.proofs.Math.Path.{fun_ext}
 use Rattle.std.proofs.lemmas.Bool.{cases_Bool, cases_lt, cond-false, cond-true}
 use Rattle.mls_edgerule.specs.declared.edge_rule.EdgeRule.{EdgeRule}
 use Rattle.mls_geom.specs.Layouts.{Layout}
 use Rattle.mls_geom.specs.Pictures.{Picture}
-use Rattle.mls_geom.specs.Rects.{Rect, IsRectangleIn, IsWithin, grown, holds, joined}
+use Rattle.mls_geom.specs.Rects.{Rect, IsRectangleIn, IsWithin, holds, joined}
 use Rattle.mls_geom.specs.World.{world}
 use Rattle.mls_geom.proofs.Holds.{between_holds, holds-IsWithin, holds_between}
 use Rattle.mls_geom.proofs.JoinedRects.{holds-joined_one, holds-joined_other, joined-IsRectangleIn}
 use Rattle.mls_tilepool.specs.Pools.{Pool}
 use Rattle.mls_paint.specs.Planes.{HasStrips, picture_in}
 use Rattle.mls_checker.specs.Forbids.{forbidden}
+use Rattle.mls_checker.specs.Findings.{Finding}
 use Rattle.mls_checker.specs.Marking.{SquareSet}
 use Rattle.mls_checker.proofs.LentPlanes.{lent, lent-same}
 use Rattle.mls_errorplane.specs.CatchingUp.{Steps}
-use Rattle.mls_errorplane.specs.Checkings.{Checking, checked_marks}
+use Rattle.mls_errorplane.specs.Checkings.{Checking, check_step, checked_marks}
 use Rattle.mls_errorplane.specs.DirtyLists.{IsDirtyList, area_of, dropped, first_piece_of, piece_of}
 use Rattle.mls_errorplane.specs.ErrorPlanes.{ErrorPlane, HasStepped, ShowsMarks, exceeds, marks_picture}
 use Rattle.mls_errorplane.specs.MarkPlanes.{is_marked, marked_count}
-use Rattle.mls_errorplane.specs.Stretches.{AreRight, AreRightIn, DropsIn, IsAlike, ShowsAlike, like_column}
+use Rattle.mls_errorplane.specs.Outcomes.{HasFinished}
+use Rattle.mls_errorplane.specs.Stretches.{AreRight, AreRightIn, DropsIn, IsAlike, ShowsAlike, Tells, like_column, like_row}
 use Rattle.mls_errorplane.specs.declared.checked.Checked.{Checked}
 use Rattle.mls_errorplane.specs.declared.error_plane.Stepped.TheVariants as stepped
+use Rattle.mls_errorplane.specs.declared.error_plane.Outcome.{Outcome}
+use Rattle.mls_errorplane.specs.declared.error_plane.Outcome.TheVariants.{Finished, Full, Stale}
 use Rattle.mls_errorplane.specs.declared.likeness.Likeness.{Likeness}
-use Rattle.mls_errorplane.specs.declared.likeness.Likeness.TheVariants.{OneKind, Columns}
 use Rattle.mls_errorplane.proofs.AlikeLayouts.{forbidden-alike}
 use Rattle.mls_errorplane.proofs.AreaSizes.{area_of-dropped-less}
 use Rattle.mls_errorplane.proofs.KeptLists.{IsDirtyList-dropped}
+use Rattle.mls_errorplane.proofs.LikeSquares.{alike-same, grown-holds, like_column-again, like_row-again}
 
 -- a square of a rectangle in another one is one of that
-inner_holds : (outer e : Rect) (x y : ℕ) → IsRectangleIn outer e → holds e x y ≡ true → holds outer x y ≡ true
+pub inner_holds : (outer e : Rect) (x y : ℕ) → IsRectangleIn outer e → holds e x y ≡ true → holds outer x y ≡ true
 inner_holds outer e x y inside here =
     let lines = holds_between e x y here in
     between_holds outer x y (omega (arith, inside.left_in, lines.0)) (omega (arith, inside.right_in, lines.1)) (omega (arith, inside.bottom_in, lines.2)) (omega (arith, inside.top_in, lines.3))
@@ -63,7 +67,7 @@ checked_marks-keeps rules layout (Some piece) marks x y right = elim (cases_Bool
   | inr elsewhere ↦ cond-false (holds piece x y) (forbidden rules layout x y) (marks x y) elsewhere ∙ right
 ]
 
-not_empty : (first : Rect) (rest : List Rect) → first ∷ rest ≢ []
+pub not_empty : (first : Rect) (rest : List Rect) → first ∷ rest ≢ []
 not_empty first rest none = absurd (cc)
 
 HasStepped-right :
@@ -94,10 +98,10 @@ pub Done-fits :
 Done-fits rules layout limit old new step = ap (λ (checking : Checking). exceeds limit checking.marks) step.2 ∙ step.1
 
 pub Done-AreRight :
-    (rules : List EdgeRule) (layout : Layout) (limit : ℕ) (old new : Checking) (piece : Rect) → HasStepped rules layout limit old stepped.Done new
-    → Some piece ≡ first_piece_of old.dirty → AreRight rules layout new.marks piece
-Done-AreRight rules layout limit old new piece step first x y here =
-    ap (λ (checking : Checking). checking.marks x y) step.2 ∙ ap (λ (at : Option Rect). checked_marks rules layout at old.marks x y) (sym first)
+    (rules : List EdgeRule) (layout : Layout) (old new : Checking) (piece : Rect) → new ≡ check_step rules layout old → Some piece ≡ first_piece_of old.dirty
+    → AreRight rules layout new.marks piece
+Done-AreRight rules layout old new piece is first x y here =
+    ap (λ (checking : Checking). checking.marks x y) is ∙ ap (λ (at : Option Rect). checked_marks rules layout at old.marks x y) (sym first)
     ∙ cond-true (holds piece x y) (forbidden rules layout x y) (old.marks x y) here
 
 -- steps so far, one more, and those of a stretch
@@ -149,34 +153,24 @@ DropsIn-fewer rect (suc count) old new (mid, drops, inside, is) kept =
 right-alike :
     (rules : List EdgeRule) (layout : Layout) (picture : Picture) (likeness : Likeness) (rect : Rect) (x y a b : ℕ) → IsRectangleIn world rect
     → IsAlike likeness rules layout rect → ShowsAlike likeness 0 rect picture → like_column likeness rect x ≡ like_column likeness rect a
-    → holds rect x y ≡ true → holds rect a b ≡ true → is_marked picture a b ≡ forbidden rules layout a b → is_marked picture x y ≡ forbidden rules layout x y
-right-alike rules layout picture likeness rect x y a b legal alike one same here there right =
-    let in_grown : (x y : ℕ) → holds rect x y ≡ true → holds (grown 0 rect) x y ≡ true = λ x y inside.
-    (let lines = holds_between rect x y inside in
-    between_holds (grown 0 rect) x y (omega (arith, lines.0)) (omega (arith, lines.1)) (omega (arith, lines.2)) (omega (arith, lines.3))) in
-    ap (λ kind. not (kind == 0)) (one x y (in_grown x y here) ∙ ap (λ column. picture column rect.bottom) same ∙ sym (one a b (in_grown a b there))) ∙ right
-    ∙ sym (forbidden-alike rules layout likeness rect x y a b alike same here there (inner_holds world rect x y legal here) (inner_holds world rect a b legal there))
+    → like_row likeness rect y ≡ like_row likeness rect b → holds rect x y ≡ true → holds rect a b ≡ true
+    → is_marked picture a b ≡ forbidden rules layout a b → is_marked picture x y ≡ forbidden rules layout x y
+right-alike rules layout picture likeness rect x y a b legal alike marks column row here there right =
+    ap (λ kind. not (kind == 0)) (alike-same likeness 0 rect picture x y a b marks column row (grown-holds 0 rect x y here) (grown-holds 0 rect a b there)) ∙ right
+    ∙ sym (forbidden-alike rules layout likeness rect x y a b alike column row here there (inner_holds world rect x y legal here) (inner_holds world rect a b legal there))
 
--- so marks that are right in one rectangle are right in another, where all is of one kind round both together
-pub AreRight-one_kind :
-    (rules : List EdgeRule) (layout : Layout) (picture : Picture) (last rect : Rect) → IsRectangleIn world last → IsRectangleIn world rect
-    → IsAlike OneKind rules layout (joined last rect) → ShowsAlike OneKind 0 (joined last rect) picture → AreRight rules layout (is_marked picture) last
-    → AreRight rules layout (is_marked picture) rect
-AreRight-one_kind rules layout picture last rect legal legal' alike one right x y here =
-    let corner = between_holds last last.left last.bottom (omega arith) legal.wide (omega arith) legal.tall in
-    right-alike rules layout picture OneKind (joined last rect) x y last.left last.bottom (joined-IsRectangleIn world last rect legal legal') alike one refl
-    (holds-joined_other last rect x y here) (holds-joined_one last rect last.left last.bottom corner) (right last.left last.bottom corner)
-
--- and in another with the same columns, where all is in columns round both together
-pub AreRight-columns :
-    (rules : List EdgeRule) (layout : Layout) (picture : Picture) (row rect : Rect) → IsRectangleIn world row → IsRectangleIn world rect
-    → rect.left ≡ row.left → rect.right ≡ row.right → IsAlike Columns rules layout (joined row rect) → ShowsAlike Columns 0 (joined row rect) picture
-    → AreRight rules layout (is_marked picture) row → AreRight rules layout (is_marked picture) rect
-AreRight-columns rules layout picture row rect legal legal' left right alike one are x y here =
-    let lines = holds_between rect x y here in
-    let below = between_holds row x row.bottom (omega (arith, left, lines.0)) (omega (arith, right, lines.1)) (omega arith) legal.tall in
-    right-alike rules layout picture Columns (joined row rect) x y x row.bottom (joined-IsRectangleIn world row rect legal legal') alike one refl
-    (holds-joined_other row rect x y here) (holds-joined_one row rect x row.bottom below) (are x row.bottom below)
+-- so marks that are right in one rectangle are right in another, if it has the squares that show what those of the other show, and the likeness is round both together
+pub AreRight-alike :
+    (rules : List EdgeRule) (layout : Layout) (picture : Picture) (likeness : Likeness) (from rect : Rect) → IsRectangleIn world from → IsRectangleIn world rect
+    → Tells likeness from rect → IsAlike likeness rules layout (joined from rect) → ShowsAlike likeness 0 (joined from rect) picture
+    → AreRight rules layout (is_marked picture) from → AreRight rules layout (is_marked picture) rect
+AreRight-alike rules layout picture likeness from rect legal legal' tells alike marks right x y here =
+    let column = like_column likeness from x in
+    let row = like_row likeness from y in
+    let both = joined from rect in
+    right-alike rules layout picture likeness both x y column row (joined-IsRectangleIn world from rect legal legal') alike marks
+    (sym (like_column-again likeness both from x)) (sym (like_row-again likeness both from y))
+    (holds-joined_other from rect x y here) (holds-joined_one from rect column row (tells x y here)) (right column row (tells x y here))
 
 -- marks that are right in a rectangle are right in what it encloses
 pub AreRight-within :
@@ -197,20 +191,31 @@ AreRight-above rules layout marks block row left right bottom are are' x y here 
 
 -- marks that are right in some pieces stay so in a step that is done, and in its piece they are
 Done-keeps :
-    (rules : List EdgeRule) (layout : Layout) (limit : ℕ) (old new : Checking) (rect : Rect) → HasStepped rules layout limit old stepped.Done new
-    → AreRight rules layout old.marks rect → AreRight rules layout new.marks rect
-Done-keeps rules layout limit old new rect step right x y here =
-    ap (λ (checking : Checking). checking.marks x y) step.2 ∙ checked_marks-keeps rules layout (first_piece_of old.dirty) old.marks x y (right x y here)
+    (rules : List EdgeRule) (layout : Layout) (old new : Checking) (rect : Rect) → new ≡ check_step rules layout old → AreRight rules layout old.marks rect
+    → AreRight rules layout new.marks rect
+Done-keeps rules layout old new rect is right x y here =
+    ap (λ (checking : Checking). checking.marks x y) is ∙ checked_marks-keeps rules layout (first_piece_of old.dirty) old.marks x y (right x y here)
 
 pub Done-AreRightIn :
-    (rules : List EdgeRule) (layout : Layout) (limit : ℕ) (old new : Checking) (checked : Option Checked) → HasStepped rules layout limit old stepped.Done new
+    (rules : List EdgeRule) (layout : Layout) (old new : Checking) (checked : Option Checked) → new ≡ check_step rules layout old
     → IfSome checked (AreRightIn rules layout old.marks) → IfSome checked (AreRightIn rules layout new.marks)
-Done-AreRightIn rules layout limit old new None step right = right
-Done-AreRightIn rules layout limit old new (Some checked) step right = (
-  Done-keeps rules layout limit old new checked.last step right.0,
-  Done-keeps rules layout limit old new checked.row step right.1,
-  Done-keeps rules layout limit old new checked.block step right.2,
+Done-AreRightIn rules layout old new None is right = right
+Done-AreRightIn rules layout old new (Some checked) is right = (
+  Done-keeps rules layout old new checked.last is right.0,
+  Done-keeps rules layout old new checked.row is right.1,
+  Done-keeps rules layout old new checked.block is right.2,
 )
+
+-- and so it is after a finding that was finished
+pub Finished-AreRightIn :
+    (rules : List EdgeRule) (planes : ℕ) (layout : Layout) (limit : ℕ) (old new : Checking) (finding : Finding) (outcome : Outcome) (checked : Option Checked) (after : Checked)
+    → HasFinished rules planes layout limit old finding outcome new → outcome ≡ Finished → IfSome checked (AreRightIn rules layout old.marks)
+    → (IfSome checked (AreRightIn rules layout new.marks) → AreRight rules layout new.marks finding.piece → AreRightIn rules layout new.marks after)
+    → AreRightIn rules layout new.marks after
+Finished-AreRightIn rules planes layout limit old new finding Finished checked after (fresh, fits, is) here right then =
+    then (Done-AreRightIn rules layout old new checked is right) (Done-AreRight rules layout old new finding.piece is (sym fresh.piece))
+Finished-AreRightIn rules planes layout limit old new finding Stale checked after same other right then = absurd (cc other)
+Finished-AreRightIn rules planes layout limit old new finding Full checked after same other right then = absurd (cc other)
 
 pub AreRightIn-same :
     (rules : List EdgeRule) (layout other : Layout) (marks set : SquareSet) (checked : Checked) → layout ≡ other → marks ≡ set → AreRightIn rules layout marks checked

@@ -1,4 +1,5 @@
 pub mod AreaOrder
+pub mod Carrying
 pub mod CatchingUp
 pub mod Checkings
 pub mod DirtyLists

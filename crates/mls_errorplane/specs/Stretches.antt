@@ -1,23 +1,49 @@
 -- Pieces that are checked as one, since each plane shows the same round all of them as round pieces whose marks are right. This project's own.
-use Rattle.std.specs.Prelude.{◌≡◌, ◌<◌, ℕ, zero, suc, true, List, [], ◌∷◌, ◌++◌, Option}
+use Rattle.std.specs.Prelude.{◌≡◌, ◌+◌, ◌<◌, ◌≤◌, ℕ, zero, suc, nat_lt, Bool, ◌&&◌, ◌||◌, true, false, List, [], ◌∷◌, ◌++◌, Option}
 use Rattle.std.specs.Option.{IsSomeAnd, option_to_list}
 use Rattle.mls_edgerule.specs.Halos.{halo_of}
 use Rattle.mls_edgerule.specs.declared.edge_rule.EdgeRule.{EdgeRule}
 use Rattle.mls_geom.specs.Layouts.{Layout}
 use Rattle.mls_geom.specs.Pictures.{Picture}
-use Rattle.mls_geom.specs.Rects.{Rect, IsRectangleIn, grown, holds}
+use Rattle.mls_geom.specs.Rects.{Rect, IsRectangleIn, IsWithin, grown, holds}
 use Rattle.mls_checker.specs.Forbids.{forbidden}
 use Rattle.mls_checker.specs.Marking.{SquareSet}
-use Rattle.mls_errorplane.specs.DirtyLists.{dropped, first_piece_of}
+use Rattle.mls_errorplane.specs.DirtyLists.{dropped, first_piece_of, piece_side}
 use Rattle.mls_errorplane.specs.declared.checked.Checked.{Checked}
 use Rattle.mls_errorplane.specs.declared.likeness.Likeness.{Likeness}
-use Rattle.mls_errorplane.specs.declared.likeness.Likeness.TheVariants.{OneKind, Columns}
+use Rattle.mls_errorplane.specs.declared.likeness.Likeness.TheVariants.{OneKind, Columns, Rows}
 use Rattle.mls_errorplane.specs.declared.stretch.Stretch.{Stretch}
 
 -- the list without its next pieces, this many of them and all in the rectangle, is the other list
 abbrev pub DropsIn : Rect → ℕ → List Rect → List Rect → Type 0
 DropsIn rect zero old new = new ≡ old
 DropsIn rect (suc count) old new = (mid : List Rect) × DropsIn rect count old mid × IsSomeAnd (first_piece_of mid) (IsRectangleIn rect) × (new ≡ dropped mid)
+
+-- all squares below the row low, and in the rows from there to high those left of the column cut
+pub record Stair : Type 0 where
+  pub cut : ℕ
+  pub low : ℕ
+  pub high : ℕ
+
+abbrev pub in_stair : Stair → ℕ → ℕ → Bool
+in_stair stair x y = nat_lt y stair.low || (nat_lt y stair.high && nat_lt x stair.cut)
+
+-- the piece lies in the rectangle, and there the stair after it has the squares of the one before and those of the piece; no more of its rows are cut than a piece has
+pub record Takes (rect : Rect) (before after : Stair) (piece : Rect) : Type 0 where
+  pub inside : IsRectangleIn rect piece
+  pub up : after.low ≤ after.high
+  pub few : after.high ≤ after.low + piece_side
+  pub squares : (x y : ℕ) → holds rect x y ≡ true → in_stair after x y ≡ (in_stair before x y || holds piece x y)
+
+-- the list without its next pieces, this many of them and all in the rectangle, is the other list; the squares dropped so far are after each piece those of a stair there, and after the last those of this one
+abbrev pub DropsTo : Rect → Stair → ℕ → List Rect → List Rect → Type 0
+DropsTo rect stair zero old new = (new ≡ old) × ((x y : ℕ) → holds rect x y ≡ true → in_stair stair x y ≡ false)
+DropsTo rect stair (suc count) old new =
+    (mid : List Rect) × (before : Stair) × DropsTo rect before count old mid × IsSomeAnd (first_piece_of mid) (Takes rect before stair) × (new ≡ dropped mid)
+
+-- and they are all squares of the rectangle
+abbrev pub DropsAll : Rect → ℕ → List Rect → List Rect → Type 0
+DropsAll rect count old new = (stair : Stair) × DropsTo rect stair count old new × ((x y : ℕ) → holds rect x y ≡ true → in_stair stair x y ≡ true)
 
 -- what is left of the first area, if anything is, in its place
 abbrev pub with_rest : Option Rect → List Rect → List Rect
@@ -26,20 +52,36 @@ with_rest rest (first ∷ others) = option_to_list rest ++ others
 
 -- the pieces of the stretch, at least one, are the next ones of the list
 abbrev pub IsNext : List Rect → Stretch → Type 0
-IsNext areas stretch = (0 < stretch.pieces) × DropsIn stretch.rect stretch.pieces areas (with_rest stretch.rest areas)
+IsNext areas stretch = (0 < stretch.pieces) × DropsAll stretch.rect stretch.pieces areas (with_rest stretch.rest areas)
 
--- the column in whose lowest square a rectangle shows what it shows in this column: its leftmost one where it shows one kind, and the same one where it shows columns
+-- the square in which a rectangle shows what it shows in this one, by its column and its row: its corner where it shows one kind, the lowest square of the column where it shows columns, and the leftmost one of the row where it shows rows
 abbrev pub like_column : Likeness → Rect → ℕ → ℕ
 like_column OneKind rect x = rect.left
 like_column Columns rect x = x
+like_column Rows rect x = rect.left
 
--- in the rectangle, and at most h squares away from it, the picture shows one kind, that of the rectangle's corner, or one kind in each column
+abbrev pub like_row : Likeness → Rect → ℕ → ℕ
+like_row OneKind rect y = rect.bottom
+like_row Columns rect y = rect.bottom
+like_row Rows rect y = y
+
+-- in the rectangle, and at most h squares away from it, the picture shows one kind, or one kind in each column, or one in each row
 abbrev pub ShowsAlike : Likeness → ℕ → Rect → Picture → Type 0
-ShowsAlike likeness h rect picture = (x y : ℕ) → holds (grown h rect) x y ≡ true → picture x y ≡ picture (like_column likeness rect x) rect.bottom
+ShowsAlike likeness h rect picture = (x y : ℕ) → holds (grown h rect) x y ≡ true → picture x y ≡ picture (like_column likeness rect x) (like_row likeness rect y)
 
--- as far as the rules reach round the rectangle each plane shows one kind, or columns
+-- as far as the rules reach round the rectangle each plane shows one kind, or columns, or rows
 abbrev pub IsAlike : Likeness → List EdgeRule → Layout → Rect → Type 0
 IsAlike likeness rules layout rect = (plane : ℕ) → ShowsAlike likeness (halo_of rules) rect (layout plane)
+
+-- a rectangle spans another one: for columns from its bottom to its top, for rows from its left to its right, and for one kind both
+abbrev pub Spans : Likeness → Rect → Rect → Type 0
+Spans OneKind outer rect = IsWithin outer rect
+Spans Columns outer rect = (outer.bottom ≤ rect.bottom) × (rect.top ≤ outer.top)
+Spans Rows outer rect = (outer.left ≤ rect.left) × (rect.right ≤ outer.right)
+
+-- a rectangle has the squares that show what those of another one show
+abbrev pub Tells : Likeness → Rect → Rect → Type 0
+Tells likeness from rect = (x y : ℕ) → holds rect x y ≡ true → holds from (like_column likeness from x) (like_row likeness from y) ≡ true
 
 -- in the rectangle the marks are exactly the squares that the rules forbid
 abbrev pub AreRight : List EdgeRule → Layout → SquareSet → Rect → Type 0

@@ -1,15 +1,15 @@
-//! Whether a layout shows one kind on each plane round a rectangle, or columns.
-ghost use Rattle.std.specs.Prelude.{◌≡◌, ◌+◌, ◌-◌, ◌≤◌, ℕ, true, IfSome, IsTrue, length};
+//! Whether a layout shows one kind on each plane round a rectangle, or bars.
+ghost use Rattle.std.specs.Prelude.{◌≡◌, ◌≤◌, ℕ, true, IfSome, IsTrue, length};
 ghost use Rattle.std.specs.List.{All};
-ghost use Rattle.mls_geom.specs.Rects.{IsWithin, grown, holds};
+ghost use Rattle.mls_geom.specs.Rects.{grown, holds};
 ghost use Rattle.mls_geom.specs.World.{world};
 ghost use Rattle.mls_layout.specs.Uses.{HasCells, flat_layout};
 ghost use Rattle.mls_layout.specs.Workspaces.{FitsWorkspace};
 ghost use Rattle.mls_paint.specs.Planes.{picture_in};
 ghost use Rattle.mls_paint.specs.Scratches.{HasRoomFor, KeepsRoom};
 ghost use Rattle.mls_stitch.specs.Tilings.{HasPlane};
-ghost use Rattle.mls_errorplane.specs.Stretches.{IsAlike, ShowsAlike};
-ghost use Rattle.mls_errorplane.specs.declared.likeness.Likeness.TheVariants.{OneKind, Columns};
+ghost use Rattle.mls_errorplane.specs.Stretches.{IsAlike, ShowsAlike, Spans};
+ghost use Rattle.mls_errorplane.specs.declared.likeness.Likeness.TheVariants.{OneKind};
 
 use crate::Basis;
 use crate::dirty::lies_in_world;
@@ -20,8 +20,8 @@ use mls_paint::{Scratch, find_meeting};
 use mls_stitch::{LaidTile, Plane};
 use mls_tilepool::Pool;
 
-/// Returns whether each plane of the layout with the uses shows one kind, or columns, in the rectangle and as far round
-/// it as the rules reach. Where a use may show something there, returns `false`. No memory is taken.
+/// Returns whether each plane of the layout with the uses has the likeness in the rectangle and as far round it as the
+/// rules reach. Where a use may show something there, returns `false`. No memory is taken.
 pub(crate) fn is_alike(
     planes: &mut [Plane],
     basis: &Basis<'_>,
@@ -46,8 +46,8 @@ pub(crate) fn is_alike(
     each_shows_alike(pool, planes, likeness, rect, halo, scratch)
 }
 
-/// Returns whether each plane shows one kind, or columns, in the rectangle and at most `halo` squares away from it. The
-/// searches leave in the scratch what they find.
+/// Returns whether each plane has the likeness in the rectangle and at most `halo` squares away from it. The searches
+/// leave in the scratch what they find.
 fn each_shows_alike(
     pool: &Pool,
     planes: &mut [Plane],
@@ -58,6 +58,7 @@ fn each_shows_alike(
 ) -> bool
     requires planes { All (λ owner. HasPlane pool.now owner) planes.old }
     requires room { All (λ owner. HasRoomFor pool.now owner scratch.old) planes.old }
+    requires near { halo ≤ 256 }
     ensures each { IsTrue result
         → All (λ owner. ShowsAlike likeness halo rect (picture_in pool.now owner)) planes.old }
     ensures owners { planes.new ≡ planes.old }
@@ -71,8 +72,8 @@ fn each_shows_alike(
     true
 }
 
-/// Returns whether the plane shows one kind, or columns, in the rectangle and at most `halo` squares away from it. The
-/// search leaves in the scratch what it finds.
+/// Returns whether the plane has the likeness in the rectangle and at most `halo` squares away from it. The search
+/// leaves in the scratch what it finds.
 pub(crate) fn shows_alike(
     pool: &Pool,
     plane: &mut Plane,
@@ -83,13 +84,16 @@ pub(crate) fn shows_alike(
 ) -> bool
     requires plane { HasPlane pool.now plane.old }
     requires room { HasRoomFor pool.now plane.old scratch.old }
+    requires near { halo ≤ 256 }
     ensures alike { IsTrue result → ShowsAlike likeness halo rect (picture_in pool.now plane.old) }
     ensures owner { plane.new ≡ plane.old }
     ensures rooms { KeepsRoom scratch.old scratch.new }
 {
     match likeness {
         Likeness::OneKind => shows_one_kind(pool, plane, rect, halo, scratch),
-        Likeness::Columns => shows_columns(pool, plane, rect, halo, scratch),
+        Likeness::Columns | Likeness::Rows => {
+            shows_bars(pool, plane, likeness, rect, halo, scratch)
+        }
     }
 }
 
@@ -103,37 +107,40 @@ fn shows_one_kind(
 ) -> bool
     requires plane { HasPlane pool.now plane.old }
     requires room { HasRoomFor pool.now plane.old scratch.old }
+    requires near { halo ≤ 256 }
     ensures one { IsTrue result → ShowsAlike OneKind halo rect (picture_in pool.now plane.old) }
     ensures owner { plane.new ≡ plane.old }
     ensures rooms { KeepsRoom scratch.old scratch.new }
 {
     lies_in_world(rect);
     match one_kind(pool, plane, rect.grow(halo), scratch) {
-        Some(kind) => kind == 0 || is_amid_world(rect, halo),
+        Some(kind) => kind == 0 || is_amid_world(Likeness::OneKind, rect, halo),
         None => false,
     }
 }
 
-/// Returns whether the plane shows columns in the rectangle and at most `halo` squares away from it. Where some of these
-/// squares lie below or above the world, returns `false`.
-fn shows_columns(
+/// Returns whether the plane's tiles span the rectangle and what lies at most `halo` squares away from it, so that it
+/// has the likeness there. Where the world doesn't span that, returns `false`.
+fn shows_bars(
     pool: &Pool,
     plane: &mut Plane,
+    likeness: Likeness,
     rect: Rect,
     halo: u32,
     scratch: &mut Scratch,
 ) -> bool
     requires plane { HasPlane pool.now plane.old }
     requires room { HasRoomFor pool.now plane.old scratch.old }
-    ensures columns { IsTrue result → ShowsAlike Columns halo rect (picture_in pool.now plane.old) }
+    requires near { halo ≤ 256 }
+    ensures alike { IsTrue result → ShowsAlike likeness halo rect (picture_in pool.now plane.old) }
     ensures owner { plane.new ≡ plane.old }
     ensures rooms { KeepsRoom scratch.old scratch.new }
 {
     lies_in_world(rect);
-    if !is_amid_rows(rect, halo) {
+    if !is_amid_world(likeness, rect, halo) {
         return false;
     }
-    are_columns(pool, plane, rect.grow(halo), scratch)
+    are_bars(pool, plane, likeness, rect.grow(halo), scratch)
 }
 
 /// Returns the kind that all squares of the area have on the plane, if they have the same one. The search leaves in the
@@ -146,33 +153,39 @@ fn one_kind(pool: &Pool, plane: &mut Plane, area: Rect, scratch: &mut Scratch) -
     ensures owner { plane.new ≡ plane.old }
     ensures rooms { KeepsRoom scratch.old scratch.new }
 {
-    if !begins_alike(pool, plane, Likeness::OneKind, area, scratch) {
+    if !begins_alike(pool, plane, Likeness::Rows, area, scratch) {
         return None;
     }
     find_meeting(pool, plane, area, scratch);
     kind_of(scratch.tiles())
 }
 
-/// Returns whether in each column of the area all squares have the same kind on the plane. The search leaves in the
-/// scratch what it finds.
-fn are_columns(pool: &Pool, plane: &mut Plane, area: Rect, scratch: &mut Scratch) -> bool
+/// Returns whether the plane's tiles span the area, so that it has the likeness there. The search leaves in the scratch
+/// what it finds.
+fn are_bars(
+    pool: &Pool,
+    plane: &mut Plane,
+    likeness: Likeness,
+    area: Rect,
+    scratch: &mut Scratch,
+) -> bool
     requires plane { HasPlane pool.now plane.old }
     requires room { HasRoomFor pool.now plane.old scratch.old }
-    ensures columns { IsTrue result → (x y b : ℕ) → holds area x y ≡ true → holds area x b ≡ true
-        → picture_in pool.now plane.old x y ≡ picture_in pool.now plane.old x b }
+    ensures alike { IsTrue result → ShowsAlike likeness 0 area (picture_in pool.now plane.old) }
     ensures owner { plane.new ≡ plane.old }
     ensures rooms { KeepsRoom scratch.old scratch.new }
 {
-    if !begins_alike(pool, plane, Likeness::Columns, area, scratch) {
+    if !begins_alike(pool, plane, likeness, area, scratch) {
         return false;
     }
+    lies_in_world(area);
     find_meeting(pool, plane, area, scratch);
-    have_height(scratch.tiles(), area)
+    all_span(scratch.tiles(), likeness, area)
 }
 
-/// Returns whether the tile of the area's lower left square reaches as far to the right as the area or, for columns, as
-/// far up. Where all squares have one kind, or columns have, it does, since tiles are maximal strips, and where many
-/// tiles lie it seldom does.
+/// Returns whether the tile of the area's lower left square spans the area. Since tiles are maximal strips, it does so
+/// for rows where all squares have one kind, or rows have, and for columns where columns have; and where many tiles lie
+/// it seldom does.
 fn begins_alike(
     pool: &Pool,
     plane: &mut Plane,
@@ -190,16 +203,8 @@ fn begins_alike(
     let square = Rect::between(lines.left, lines.bottom, lines.left + 1, lines.bottom + 1);
     find_meeting(pool, plane, square, scratch);
     match scratch.tiles() {
-        [tile, ..] => reaches_far(tile.piece.rect.area(), likeness, lines),
+        [tile, ..] => spans(tile.piece.rect.area(), likeness, lines),
         [] => false,
-    }
-}
-
-/// Returns whether the lines of a tile lie as far to the right as those of the area or, for columns, as far up.
-fn reaches_far(tile: Area, likeness: Likeness, area: Area) -> bool {
-    match likeness {
-        Likeness::OneKind => area.right <= tile.right,
-        Likeness::Columns => area.top <= tile.top,
     }
 }
 
@@ -226,45 +231,35 @@ fn have_kind(tiles: &[LaidTile], kind: u8) -> bool
     true
 }
 
-/// Returns whether all tiles reach from the bottom of the area to its top.
-fn have_height(tiles: &[LaidTile], area: Rect) -> bool
-    ensures { IsTrue result → All (λ tile. (tile.piece.rect.bottom ≤ area.bottom)
-        × (area.top ≤ tile.piece.rect.top)) tiles.now }
+/// Returns whether each of the tiles spans the area.
+fn all_span(tiles: &[LaidTile], likeness: Likeness, area: Rect) -> bool
+    ensures { IsTrue result → All (λ tile. Spans likeness tile.piece.rect area) tiles.now }
 {
+    let lines = area.area();
     for tile in tiles {
-        if !has_height(tile.piece.rect, area) {
+        if !spans(tile.piece.rect.area(), likeness, lines) {
             return false;
         }
     }
     true
 }
 
-/// Returns whether the rectangle reaches from the bottom of the area to its top.
-fn has_height(rect: Rect, area: Rect) -> bool
-    ensures { IsTrue result → (rect.bottom ≤ area.bottom) × (area.top ≤ rect.top) }
+/// Returns whether the world spans the rectangle with the squares that lie at most `halo` squares away from it.
+fn is_amid_world(likeness: Likeness, rect: Rect, halo: u32) -> bool
+    requires { halo ≤ 256 }
+    ensures { IsTrue result → Spans likeness world (grown halo rect) }
 {
-    let lines = rect.area();
-    let limits = area.area();
-    lines.bottom <= limits.bottom && limits.top <= lines.top
+    spans(Rect::world().area(), likeness, Area::around(rect, halo))
 }
 
-/// Returns whether all squares that lie at most `halo` squares away from the rectangle are squares of the world.
-fn is_amid_world(rect: Rect, halo: u32) -> bool
-    ensures { IsTrue result → IsWithin world (grown halo rect) }
+/// Returns whether an area spans another one: for columns from its bottom to its top, for rows from its left to its
+/// right, and for one kind both.
+fn spans(outer: Area, likeness: Likeness, area: Area) -> bool
+    ensures { IsTrue result → Spans likeness outer area }
 {
-    let lines = rect.area();
-    let limits = Rect::world().area();
-    halo <= lines.left - limits.left
-        && halo <= lines.bottom - limits.bottom
-        && halo <= limits.right - lines.right
-        && halo <= limits.top - lines.top
-}
-
-/// Returns whether all squares that lie at most `halo` squares below or above the rectangle are squares of the world.
-fn is_amid_rows(rect: Rect, halo: u32) -> bool
-    ensures { IsTrue result → (world.bottom ≤ rect.bottom - halo) × (rect.top + halo ≤ world.top) }
-{
-    let lines = rect.area();
-    let limits = Rect::world().area();
-    halo <= lines.bottom - limits.bottom && halo <= limits.top - lines.top
+    match likeness {
+        Likeness::OneKind => outer.encloses(area),
+        Likeness::Columns => outer.bottom <= area.bottom && area.top <= outer.top,
+        Likeness::Rows => outer.left <= area.left && area.right <= outer.right,
+    }
 }

@@ -29,9 +29,10 @@ impl ErrorPlane {
     /// Checks piece after piece in a layout on these planes with the uses, until no area awaits checking or a step
     /// isn't done.
     ///
-    /// Where each plane shows one kind round many pieces, and their marks are right already, they are checked as one.
-    /// So are whole rows above one that was just checked, where each plane shows bars that go up through all of them,
-    /// and the marks do too.
+    /// Where each plane shows one kind round many pieces, they are checked as one. So are whole rows above one that was
+    /// just checked, where each plane shows bars that go up through all of them, and pieces to the right of one that
+    /// was just checked, where bars go across all of them. If the marks of these pieces change, they do so at once, but
+    /// only where the tiles before and after are together well within the limit.
     ///
     /// The steps that were done stay so. The planes and the cells must be of other owners than the error plane.
     pub fn catch_up(
@@ -65,7 +66,7 @@ impl ErrorPlane {
             match self.step(alloc, planes, basis, limit, workspace) {
                 Stepped::Done => {
                     let mut now = Checked::after(&checked, piece);
-                    let more = self.drop_alike(planes, basis, &mut now, workspace);
+                    let more = self.drop_alike(planes, basis, &mut now, limit, workspace);
                     checked = Some(now);
                     done += 1 + more;
                 }

@@ -1,15 +1,21 @@
 //! Pieces that were checked, from which the marks of others are known to be right.
-ghost use Rattle.std.specs.Prelude.{IfSome, List};
+ghost use Rattle.std.specs.Prelude.{◌≡◌, ℕ, IfSome, IsTrue, List};
 ghost use Rattle.mls_edgerule.specs.declared.edge_rule.EdgeRule.{EdgeRule};
 ghost use Rattle.mls_geom.specs.Layouts.{Layout};
 ghost use Rattle.mls_checker.specs.Marking.{SquareSet};
-ghost use Rattle.mls_errorplane.specs.Stretches.{AreRight, AreRightIn};
+ghost use Rattle.mls_errorplane.specs.Checkings.{Checking};
+ghost use Rattle.mls_errorplane.specs.Outcomes.{HasFinished};
+ghost use Rattle.mls_errorplane.specs.Stretches.{AreRight, AreRightIn, Tells};
 
+use crate::Outcome;
+use crate::dirty::lies_in_world;
+use crate::likeness::Likeness;
+use mls_checker::Finding;
 use mls_geom::Rect;
 
-/// Which pieces were checked last.
-#[derive(Clone, Copy)]
-pub(crate) struct Checked {
+/// Which pieces were checked last, in whose rectangles the marks are right.
+#[derive(Clone, Copy, Debug, PartialEq, Eq)]
+pub struct Checked {
     /// The last one, or the last that were checked as one.
     pub last: Rect,
     /// The same, and to the left of it the pieces of its row that were checked just before.
@@ -18,9 +24,34 @@ pub(crate) struct Checked {
     pub block: Rect,
 }
 
+/// Checked pieces whose marks others have too, if each plane has a likeness in both together.
+#[derive(Clone, Copy)]
+pub(crate) struct Source {
+    /// The checked pieces.
+    pub rect: Rect,
+    /// The likeness that each plane must have.
+    pub likeness: Likeness,
+}
+
 impl Checked {
+    /// Returns which pieces were checked last, after a finding was finished so: where it was, its piece is one of them.
+    pub fn after_finding(
+        checked: Option<Checked>,
+        finding: &Finding,
+        outcome: Outcome,
+    ) -> Option<Checked>
+        ensures { (rules : List EdgeRule) (planes : ℕ) (layout : Layout) (limit : ℕ) (old new : Checking)
+            → HasFinished rules planes layout limit old finding.now outcome new
+            → IfSome checked (AreRightIn rules layout old.marks) → IfSome result (AreRightIn rules layout new.marks) }
+    {
+        match outcome {
+            Outcome::Finished => Some(Checked::after(&checked, finding.piece())),
+            Outcome::Stale | Outcome::Full => checked,
+        }
+    }
+
     /// Returns which pieces were checked last, if those of the rectangle were checked after these, or as the first.
-    pub fn after(checked: &Option<Checked>, rect: Rect) -> Checked
+    pub(crate) fn after(checked: &Option<Checked>, rect: Rect) -> Checked
         ensures { (rules : List EdgeRule) (layout : Layout) (marks : SquareSet)
             → IfSome checked.now (AreRightIn rules layout marks) → AreRight rules layout marks rect
             → AreRightIn rules layout marks result }
@@ -36,7 +67,7 @@ impl Checked {
     }
 
     /// Returns which pieces were checked last, if those of the rectangle were checked after these.
-    pub fn then(&self, rect: Rect) -> Checked
+    pub(crate) fn then(&self, rect: Rect) -> Checked
         ensures { (rules : List EdgeRule) (layout : Layout) (marks : SquareSet)
             → AreRightIn rules layout marks self.now → AreRight rules layout marks rect
             → AreRightIn rules layout marks result }
@@ -48,6 +79,51 @@ impl Checked {
             block: block_with(self.block, row),
         }
     }
+
+    /// Returns the pieces whose marks those of the rectangle have, if each plane shows bars in both together: the last
+    /// ones, if the rectangle goes on with them to the right, and the last row, if it goes on with that above.
+    pub(crate) fn source_of(&self, rect: Rect) -> Option<Source>
+        ensures tells { IfSome result (λ source. Tells source.likeness source.rect rect) }
+        ensures right { (rules : List EdgeRule) (layout : Layout) (marks : SquareSet)
+            → AreRightIn rules layout marks self.now
+            → IfSome result (λ source. AreRight rules layout marks source.rect) }
+    {
+        let last = self.last;
+        let row = self.row;
+        lies_in_world(last);
+        lies_in_world(row);
+        if is_beside(rect, last) {
+            return Some(Source {
+                rect: last,
+                likeness: Likeness::Rows,
+            });
+        }
+        if is_above(rect, row) {
+            return Some(Source {
+                rect: row,
+                likeness: Likeness::Columns,
+            });
+        }
+        None
+    }
+}
+
+/// Returns whether the rectangle begins where the row ends at the right, and has the same rows of squares.
+fn is_beside(rect: Rect, row: Rect) -> bool
+    ensures { IsTrue result → (rect.left ≡ row.right) × (rect.bottom ≡ row.bottom) × (rect.top ≡ row.top) }
+{
+    let lines = rect.area();
+    let before = row.area();
+    lines.left == before.right && lines.bottom == before.bottom && lines.top == before.top
+}
+
+/// Returns whether the rectangle begins where the row ends above, and has the same columns of squares.
+fn is_above(rect: Rect, row: Rect) -> bool
+    ensures { IsTrue result → (rect.left ≡ row.left) × (rect.right ≡ row.right) }
+{
+    let lines = rect.area();
+    let below = row.area();
+    lines.bottom == below.top && lines.left == below.left && lines.right == below.right
 }
 
 /// Returns the row with the rectangle, if that goes on with it to the right, and else the rectangle alone.
@@ -55,9 +131,7 @@ fn row_with(row: Rect, rect: Rect) -> Rect
     ensures { (rules : List EdgeRule) (layout : Layout) (marks : SquareSet) → AreRight rules layout marks row
         → AreRight rules layout marks rect → AreRight rules layout marks result }
 {
-    let lines = row.area();
-    let next = rect.area();
-    if next.left == lines.right && next.bottom == lines.bottom && next.top == lines.top {
+    if is_beside(rect, row) {
         return row.joined(rect);
     }
     rect

@@ -6,7 +6,7 @@ ghost use Rattle.mls_geom.specs.World.{world};
 ghost use Rattle.mls_errorplane.specs.MarkPlanes.{most_pieces};
 ghost use Rattle.mls_errorplane.specs.DirtyLists as spec;
 ghost use Rattle.mls_errorplane.specs.DirtyLists.{IsDirtyList, added, dropped, first_piece_of, united, zone_round};
-ghost use Rattle.mls_errorplane.specs.Stretches.{DropsIn, IsNext, with_rest};
+ghost use Rattle.mls_errorplane.specs.Stretches.{DropsAll, IsNext, with_rest};
 
 use crate::stretch::Stretch;
 use mls_geom::Rect;
@@ -98,7 +98,7 @@ impl Dirty {
     /// Takes the pieces of a stretch out of the list, which are its next ones.
     pub(crate) fn drop_stretch(&mut self, stretch: &Stretch)
         requires { IsNext self.old stretch.now }
-        ensures { DropsIn stretch.now.rect stretch.now.pieces self.old self.new }
+        ensures { DropsAll stretch.now.rect stretch.now.pieces self.old self.new }
     {
         replace_first(&mut self.areas, stretch.rest);
     }

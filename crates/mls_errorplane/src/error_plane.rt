@@ -58,7 +58,7 @@ pub enum Outcome {
 pub struct ErrorPlane {
     pub(crate) plane: Plane,
     // How many squares are marked.
-    marked: u64,
+    pub(crate) marked: u64,
     pub(crate) dirty: Dirty,
 }
 
@@ -279,7 +279,7 @@ impl ErrorPlane {
 }
 
 /// Returns how many squares are marked, once those of a piece were marked anew.
-fn recounted(marked: u64, recount: Recount) -> u64
+pub(crate) fn recounted(marked: u64, recount: Recount) -> u64
     requires before { recount.before ≤ marked }
     requires few { (marked - recount.before) + recount.after ≤ size_of world }
     ensures { result + recount.before ≡ marked + recount.after }

@@ -4,6 +4,7 @@
 mod alike;
 mod area_counts;
 mod basis;
+mod carrying;
 mod catching_up;
 mod checked;
 mod differing;
@@ -15,6 +16,7 @@ mod likeness;
 mod mark_pieces;
 mod marks;
 mod opening;
+mod settling;
 mod shown_marks;
 mod stretch;
 mod stretches;
@@ -22,6 +24,7 @@ mod violated;
 
 pub use basis::Basis;
 pub use catching_up::CaughtUp;
+pub use checked::Checked;
 pub use dirty::Dirty;
 pub use error_plane::{ErrorPlane, Outcome, Stepped};
 pub use job::Job;

@@ -7,4 +7,6 @@ pub(crate) enum Likeness {
     OneKind,
     /// In those of one column, so that what is drawn are bars as high as the rectangle.
     Columns,
+    /// In those of one row, so that what is drawn are bars as wide as the rectangle.
+    Rows,
 }

@@ -142,7 +142,7 @@ fn count_painted(
 }
 
 /// Returns how many squares of a rectangle are marked, by a search.
-fn marked_in(pool: &Pool, plane: &mut Plane, rect: Rect, scratch: &mut Scratch) -> u64
+pub(crate) fn marked_in(pool: &Pool, plane: &mut Plane, rect: Rect, scratch: &mut Scratch) -> u64
     requires plane { HasPlane pool.now plane.old }
     requires room { HasRoomFor pool.now plane.old scratch.old }
     ensures value { result ≡ marked_count rect (picture_in pool.now plane.old) }

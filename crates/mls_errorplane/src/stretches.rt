@@ -1,19 +1,20 @@
-//! Checking pieces as one, where each plane shows one kind round all of them, or columns.
-ghost use Rattle.std.specs.Prelude.{◌≡◌, ◌+◌, ◌<◌, ◌≤◌, ℕ, false, IfNone, IfSome, IsTrue, length};
-ghost use Rattle.std.specs.List.{All};
-ghost use Rattle.mls_geom.specs.Rects.{IsRectangleIn};
-ghost use Rattle.mls_geom.specs.World.{world};
+//! Checking pieces as one, where each plane shows one kind round all of them, or bars.
+ghost use Rattle.std.specs.Prelude.{◌≡◌, ◌≢◌, ◌+◌, ◌<◌, ◌≤◌, ℕ, false, [], ◌∷◌, IfNone, IfSome, IsTrue, List, length};
+ghost use Rattle.std.specs.List.{All, Contains};
+ghost use Rattle.mls_geom.specs.Layouts.{Layout};
+ghost use Rattle.mls_geom.specs.Rects.{Rect, joined};
 ghost use Rattle.mls_layout.specs.Uses.{HasCells, flat_layout};
 ghost use Rattle.mls_layout.specs.Workspaces.{FitsWorkspace};
-ghost use Rattle.mls_paint.specs.Planes.{picture_in};
-ghost use Rattle.mls_stitch.specs.Tilings.{HasPlane};
+ghost use Rattle.mls_checker.specs.Marking.{SquareSet};
+ghost use Rattle.mls_stitch.specs.Tilings.{ChangesOnly, HasPlane};
+ghost use Rattle.mls_tilepool.specs.Pools.{room_of};
 ghost use Rattle.mls_errorplane.specs.CatchingUp.{Steps};
 ghost use Rattle.mls_errorplane.specs.DirtyLists.{area_of};
 ghost use Rattle.mls_errorplane.specs.ErrorPlanes.{ShowsMarks, checking_of, exceeds};
-ghost use Rattle.mls_errorplane.specs.Stretches.{AreRight, AreRightIn, DropsIn, IsAlike, ShowsAlike};
+ghost use Rattle.mls_errorplane.specs.Stretches.{AreRight, AreRightIn, DropsAll, IsAlike, Tells};
 
 use crate::alike::{is_alike, shows_alike};
-use crate::checked::Checked;
+use crate::checked::{Checked, Source};
 use crate::dirty::lies_in_world;
 use crate::likeness::Likeness;
 use crate::stretch::Stretch;
@@ -21,6 +22,17 @@ use crate::{Basis, ErrorPlane};
 use mls_geom::Rect;
 use mls_layout::Workspace;
 use mls_stitch::Plane;
+
+/// With what the next stretch is tried.
+#[derive(Clone, Copy)]
+struct Trial {
+    /// The pieces that were checked last.
+    checked: Checked,
+    /// How many pieces or rows it has at most.
+    most: u32,
+    /// How many tiles the error plane may have.
+    limit: u32,
+}
 
 /// Returns how many pieces or rows to try after this stretch, which had at most `most`: twice as many, and one where it
 /// was the rest of its area.
@@ -34,42 +46,93 @@ fn next_most(stretch: &Stretch, most: u32) -> u32
     }
 }
 
+/// Returns pieces that were checked and tell what the marks in the rectangle must be, if the layout with the uses has
+/// the likeness for that round both together: the last pieces, if it shows one kind; and else the last pieces or their
+/// row, if the rectangle goes on with these and it shows bars.
+fn alike_source(
+    planes: &mut [Plane],
+    basis: &Basis<'_>,
+    checked: &Checked,
+    rect: Rect,
+    workspace: &mut Workspace,
+) -> Option<Source>
+    requires planes { All (HasPlane workspace.old.pool) planes.old }
+    requires planes_fit { All (FitsWorkspace workspace.old.pool) planes.old }
+    requires cells { HasCells workspace.old.pool (length planes.old) basis.now.uses.library.now }
+    ensures tells { IfSome result (λ source. Tells source.likeness source.rect rect) }
+    ensures alike { IfSome result (λ source. IsAlike source.likeness basis.now.rules.now
+        (flat_layout workspace.old.pool basis.now.uses planes.old) (joined source.rect rect)) }
+    ensures right { (layout : Layout) (marks : SquareSet)
+        → AreRightIn basis.now.rules.now layout marks checked.now
+        → IfSome result (λ source. AreRight basis.now.rules.now layout marks source.rect) }
+    ensures owners { planes.new ≡ planes.old }
+    ensures pool { workspace.new.pool ≡ workspace.old.pool }
+{
+    let last = Source {
+        rect: checked.last,
+        likeness: Likeness::OneKind,
+    };
+    lies_in_world(last.rect);
+    if is_alike(
+        planes,
+        basis,
+        last.likeness,
+        last.rect.joined(rect),
+        workspace,
+    ) {
+        return Some(last);
+    }
+    let source = checked.source_of(rect)?;
+    let both = source.rect.joined(rect);
+    if !is_alike(planes, basis, source.likeness, both, workspace) {
+        return None;
+    }
+    Some(source)
+}
+
 impl ErrorPlane {
-    /// Takes the next pieces out of the areas as long as a check would leave their marks as they are, and returns how
-    /// many these were. In the rectangles of `checked` the marks must be right; afterwards these are the last pieces
-    /// that were taken.
+    /// Takes the next pieces out of the areas as long as their marks are known to be right or can be made so at once,
+    /// and returns how many these were: as many check steps, each of them done. In the rectangles of `checked` the
+    /// marks must be right; afterwards these are the last pieces that were taken.
     ///
-    /// Goes on from rectangle to rectangle, where round both together each plane of the layout shows one kind, and the
-    /// error plane one in them; and from row to row, where round both together each plane shows columns, and the error
-    /// plane columns in them. A rectangle is twice as large as the one before, or, where that is too much, half as
-    /// large, and the first of an area is one piece or one row: so each search is small beside what it is about to
-    /// save. No memory is taken.
+    /// Goes on from rectangle to rectangle, where round both together each plane of the layout shows one kind; to the
+    /// right, where they show rows; and from row to row, where they show columns. If the error plane doesn't show the
+    /// same yet, the marks are carried on, where that takes few enough tiles. A rectangle is twice as large as the one
+    /// before, or, where that is too much, half as large, and the first of an area is one piece or one row: so each
+    /// search is small beside what it is about to save. No memory is taken.
+    ///
+    /// The planes and the cells must be of other owners than the error plane.
     pub(crate) fn drop_alike(
         &mut self,
         planes: &mut [Plane],
         basis: &Basis<'_>,
         checked: &mut Checked,
+        limit: u32,
         workspace: &mut Workspace,
     ) -> u64
         requires planes { All (HasPlane workspace.old.pool) planes.old }
         requires planes_fit { All (FitsWorkspace workspace.old.pool) planes.old }
+        requires apart { All (λ owner. owner ≢ self.old.owner) planes.old }
         requires cells { HasCells workspace.old.pool (length planes.old) basis.now.uses.library.now }
+        requires cells_apart { All (λ cell. All (λ owner. ¬ (Contains (self.old.owner ∷ []) owner)) cell.planes)
+            basis.now.uses.library.now }
         requires marks { ShowsMarks workspace.old.pool self.old }
         requires marks_fit { FitsWorkspace workspace.old.pool self.old.owner }
+        requires limit { IfSome (room_of workspace.old.pool self.old.owner) (λ room. limit ≤ room) }
+        requires fits { exceeds limit (checking_of workspace.old.pool self.old).marks ≡ false }
         requires right { AreRightIn basis.now.rules.now
             (flat_layout workspace.old.pool basis.now.uses planes.old)
             (checking_of workspace.old.pool self.old).marks checked.old }
-        ensures steps { (limit : ℕ) → exceeds limit (checking_of workspace.old.pool self.old).marks ≡ false
-            → Steps basis.now.rules.now (flat_layout workspace.old.pool basis.now.uses planes.old) limit result
-            (checking_of workspace.old.pool self.old) (checking_of workspace.new.pool self.new) }
+        ensures steps { Steps basis.now.rules.now (flat_layout workspace.old.pool basis.now.uses planes.old) limit
+            result (checking_of workspace.old.pool self.old) (checking_of workspace.new.pool self.new) }
         ensures right { AreRightIn basis.now.rules.now
             (flat_layout workspace.old.pool basis.now.uses planes.old)
-            (checking_of workspace.old.pool self.old).marks checked.new }
+            (checking_of workspace.new.pool self.new).marks checked.new }
         ensures fewer { result + area_of self.new.dirty ≤ area_of self.old.dirty }
+        ensures marks { ShowsMarks workspace.new.pool self.new }
+        ensures only { ChangesOnly workspace.old.pool workspace.new.pool self.old.owner }
         ensures owner { self.new.owner ≡ self.old.owner }
-        ensures marked { self.new.marked ≡ self.old.marked }
         ensures owners { planes.new ≡ planes.old }
-        ensures pool { workspace.new.pool ≡ workspace.old.pool }
     {
         let mut most: u32 = 1;
         let mut steps = 0;
@@ -77,8 +140,12 @@ impl ErrorPlane {
             return steps;
         }
         'stretches: while most > 0 {
-            let Some(stretch) = self.drop_one_stretch(planes, basis, checked, most, workspace)
-            else {
+            let trial = Trial {
+                checked: *checked,
+                most,
+                limit,
+            };
+            let Some(stretch) = self.drop_one_stretch(planes, basis, &trial, workspace) else {
                 most /= 2;
                 continue;
             };
@@ -89,136 +156,105 @@ impl ErrorPlane {
         steps
     }
 
-    /// Takes the next stretch out of the areas, and returns it, where the marks are right in it as they are. Otherwise
-    /// changes nothing.
+    /// Takes the next stretch out of the areas, and returns it, where the marks in it are known to be right or can be
+    /// made so at once. Otherwise changes nothing.
     fn drop_one_stretch(
         &mut self,
         planes: &mut [Plane],
         basis: &Basis<'_>,
-        checked: &Checked,
-        most: u32,
+        trial: &Trial,
         workspace: &mut Workspace,
     ) -> Option<Stretch>
-        requires some { 1 ≤ most }
+        requires some { 1 ≤ trial.now.most }
         requires planes { All (HasPlane workspace.old.pool) planes.old }
         requires planes_fit { All (FitsWorkspace workspace.old.pool) planes.old }
         requires cells { HasCells workspace.old.pool (length planes.old) basis.now.uses.library.now }
         requires marks { ShowsMarks workspace.old.pool self.old }
         requires marks_fit { FitsWorkspace workspace.old.pool self.old.owner }
+        requires limit { IfSome (room_of workspace.old.pool self.old.owner) (λ room. trial.now.limit ≤ room) }
+        requires fits { exceeds trial.now.limit (checking_of workspace.old.pool self.old).marks ≡ false }
         requires right { AreRightIn basis.now.rules.now
             (flat_layout workspace.old.pool basis.now.uses planes.old)
-            (checking_of workspace.old.pool self.old).marks checked.now }
-        ensures drops { IfSome result (λ stretch. DropsIn stretch.rect stretch.pieces self.old.dirty self.new.dirty) }
+            (checking_of workspace.old.pool self.old).marks trial.now.checked }
+        ensures steps { IfSome result (λ stretch. Steps basis.now.rules.now
+            (flat_layout workspace.old.pool basis.now.uses planes.old) trial.now.limit stretch.pieces
+            (checking_of workspace.old.pool self.old) (checking_of workspace.new.pool self.new)) }
         ensures fewer { IfSome result (λ stretch. (0 < stretch.pieces)
             × (stretch.pieces + area_of self.new.dirty ≤ area_of self.old.dirty)) }
         ensures right { IfSome result (λ stretch. AreRight basis.now.rules.now
             (flat_layout workspace.old.pool basis.now.uses planes.old)
-            (checking_of workspace.old.pool self.old).marks stretch.rect) }
-        ensures none { IfNone result (self.new ≡ self.old) }
+            (checking_of workspace.new.pool self.new).marks stretch.rect) }
+        ensures checked { AreRightIn basis.now.rules.now
+            (flat_layout workspace.old.pool basis.now.uses planes.old)
+            (checking_of workspace.new.pool self.new).marks trial.now.checked }
+        ensures fits { exceeds trial.now.limit (checking_of workspace.new.pool self.new).marks ≡ false }
+        ensures none { IfNone result ((self.new ≡ self.old) × (workspace.new.pool ≡ workspace.old.pool)) }
+        ensures marks { ShowsMarks workspace.new.pool self.new }
+        ensures only { ChangesOnly workspace.old.pool workspace.new.pool self.old.owner }
         ensures owner { self.new.owner ≡ self.old.owner }
-        ensures marked { self.new.marked ≡ self.old.marked }
         ensures owners { planes.new ≡ planes.old }
-        ensures pool { workspace.new.pool ≡ workspace.old.pool }
     {
-        let stretch = self.dirty.next_stretch(most)?;
-        if !self.is_marked_right(planes, basis, checked, stretch.rect, workspace) {
+        let stretch = self.dirty.next_stretch(trial.most)?;
+        if !self.make_right(planes, basis, trial, stretch.rect, workspace) {
             return None;
         }
         self.dirty.drop_stretch(&stretch);
         Some(stretch)
     }
 
-    /// Returns whether the marks in the rectangle are known to be right: they are if it was checked before, shows one
-    /// kind together with the last pieces, or lies on their row and shows columns together with it.
-    fn is_marked_right(
+    /// Makes the marks in the rectangle right, and returns whether they are now: they are if it was checked before, or
+    /// pieces that were checked tell them, and the error plane shows these marks already, or few enough tiles can show
+    /// them. Otherwise changes nothing.
+    fn make_right(
         &mut self,
         planes: &mut [Plane],
         basis: &Basis<'_>,
-        checked: &Checked,
+        trial: &Trial,
         rect: Rect,
         workspace: &mut Workspace,
     ) -> bool
         requires planes { All (HasPlane workspace.old.pool) planes.old }
         requires planes_fit { All (FitsWorkspace workspace.old.pool) planes.old }
         requires cells { HasCells workspace.old.pool (length planes.old) basis.now.uses.library.now }
-        requires marks { HasPlane workspace.old.pool self.old.owner }
+        requires marks { ShowsMarks workspace.old.pool self.old }
         requires marks_fit { FitsWorkspace workspace.old.pool self.old.owner }
+        requires limit { IfSome (room_of workspace.old.pool self.old.owner) (λ room. trial.now.limit ≤ room) }
+        requires fits { exceeds trial.now.limit (checking_of workspace.old.pool self.old).marks ≡ false }
         requires right { AreRightIn basis.now.rules.now
             (flat_layout workspace.old.pool basis.now.uses planes.old)
-            (checking_of workspace.old.pool self.old).marks checked.now }
+            (checking_of workspace.old.pool self.old).marks trial.now.checked }
+        ensures steps { IsTrue result → (count : ℕ) (old new : List Rect) → DropsAll rect count old new
+            → Steps basis.now.rules.now (flat_layout workspace.old.pool basis.now.uses planes.old) trial.now.limit count
+            (record { marks = (checking_of workspace.old.pool self.old).marks; dirty = old })
+            (record { marks = (checking_of workspace.new.pool self.new).marks; dirty = new }) }
         ensures right { IsTrue result → AreRight basis.now.rules.now
             (flat_layout workspace.old.pool basis.now.uses planes.old)
-            (checking_of workspace.old.pool self.old).marks rect }
-        ensures same { self.new ≡ self.old }
+            (checking_of workspace.new.pool self.new).marks rect }
+        ensures checked { AreRightIn basis.now.rules.now
+            (flat_layout workspace.old.pool basis.now.uses planes.old)
+            (checking_of workspace.new.pool self.new).marks trial.now.checked }
+        ensures fits { exceeds trial.now.limit (checking_of workspace.new.pool self.new).marks ≡ false }
+        ensures refused { result ≡ false → (self.new ≡ self.old) × (workspace.new.pool ≡ workspace.old.pool) }
+        ensures marks { ShowsMarks workspace.new.pool self.new }
+        ensures only { ChangesOnly workspace.old.pool workspace.new.pool self.old.owner }
+        ensures owner { self.new.owner ≡ self.old.owner }
+        ensures dirty { self.new.dirty ≡ self.old.dirty }
         ensures owners { planes.new ≡ planes.old }
-        ensures pool { workspace.new.pool ≡ workspace.old.pool }
     {
+        let checked = &trial.checked;
         if checked.block.encloses(rect) {
             return true;
         }
-        let last = checked.last;
-        let row = checked.row;
+        let Some(source) = alike_source(planes, basis, checked, rect, workspace) else {
+            return false;
+        };
         lies_in_world(rect);
-        lies_in_world(last);
-        if self.is_alike(
-            planes,
-            basis,
-            Likeness::OneKind,
-            last.joined(rect),
-            workspace,
-        ) {
+        lies_in_world(source.rect);
+        let both = source.rect.joined(rect);
+        let Workspace { pool, scratch, .. } = workspace;
+        if shows_alike(pool, &mut self.plane, source.likeness, both, 0, scratch) {
             return true;
         }
-        lies_in_world(row);
-        if !is_on_row(rect, row) {
-            return false;
-        }
-        self.is_alike(
-            planes,
-            basis,
-            Likeness::Columns,
-            row.joined(rect),
-            workspace,
-        )
+        self.carry(source, rect, trial.limit, workspace)
     }
-
-    /// Returns whether the marks are the same in the whole rectangle, or in each of its columns, and each plane of the
-    /// layout with the uses shows one kind, or columns, in it and as far round it as the rules reach. Where a use may
-    /// show something there, returns `false`.
-    fn is_alike(
-        &mut self,
-        planes: &mut [Plane],
-        basis: &Basis<'_>,
-        likeness: Likeness,
-        rect: Rect,
-        workspace: &mut Workspace,
-    ) -> bool
-        requires planes { All (HasPlane workspace.old.pool) planes.old }
-        requires planes_fit { All (FitsWorkspace workspace.old.pool) planes.old }
-        requires cells { HasCells workspace.old.pool (length planes.old) basis.now.uses.library.now }
-        requires marks { HasPlane workspace.old.pool self.old.owner }
-        requires marks_fit { FitsWorkspace workspace.old.pool self.old.owner }
-        ensures marks { IsTrue result
-            → ShowsAlike likeness 0 rect (picture_in workspace.old.pool self.old.owner) }
-        ensures layout { IsTrue result → IsAlike likeness basis.now.rules.now
-            (flat_layout workspace.old.pool basis.now.uses planes.old) rect }
-        ensures same { self.new ≡ self.old }
-        ensures owners { planes.new ≡ planes.old }
-        ensures pool { workspace.new.pool ≡ workspace.old.pool }
-    {
-        let Workspace { pool, scratch, .. } = workspace;
-        if !shows_alike(pool, &mut self.plane, likeness, rect, 0, scratch) {
-            return false;
-        }
-        is_alike(planes, basis, likeness, rect, workspace)
-    }
-}
-
-/// Returns whether the rectangle begins where the row ends above, and has the same columns.
-fn is_on_row(rect: Rect, row: Rect) -> bool
-    ensures { IsTrue result → (rect.left ≡ row.left) × (rect.right ≡ row.right) }
-{
-    let lines = rect.area();
-    let below = row.area();
-    lines.bottom == below.top && lines.left == below.left && lines.right == below.right
 }

@@ -17,11 +17,11 @@ use mls_stitch::Plane;
 use std::alloc::{AllocError, Global};
 
 /// A piece that is read at once is at most this wide and this high.
-const READ_SIDE: u32 = 8192;
+const READ_SIDE: u32 = 65_536;
 
 /// Returns the rules that forbid some square of the rectangle in the layout on these planes with the uses.
 ///
-/// The layout is read in pieces of at most 8192 by 8192 squares, one after another: few of them, so that what is as
+/// The layout is read in pieces of at most 65,536 by 65,536 squares, one after another: few of them, so that what is as
 /// high as the world isn't read hundreds of times, and none so wide that a search along a tile in it passes all
 /// neighbours that the tile has in the world. Fails only if memory runs out.
 pub fn why(

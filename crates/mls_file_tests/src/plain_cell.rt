@@ -224,7 +224,7 @@ fn read_rect(name: &[u8], words: &[&[u8]]) -> Result<Option<PlainRect>, u8> {
 
 /// Returns whether the world has no line at this distance from 0.
 fn is_outside(line: i32) -> bool {
-    line < -32768 || 32768 < line
+    line < -1048576 || 1048576 < line
 }
 
 /// Returns the integer that a word spells, or one of the same sign that the world hasn't either.

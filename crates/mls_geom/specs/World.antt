@@ -11,9 +11,9 @@ use Rattle.mls_geom.specs.declared.rect.RectFault.TheVariants.{Empty, Outside}
 abbrev pub origin : ℕ
 origin = 4194304
 
--- the world reaches 32768 squares from there to each side
+-- the world reaches 1048576 squares from there to each side
 abbrev pub world : Rect
-world = record { left = 4161536; bottom = 4161536; right = 4227072; top = 4227072 }
+world = record { left = 3145728; bottom = 3145728; right = 5242880; top = 5242880 }
 
 -- the user's coordinate z, counted from the corner far outside the world
 unfoldable pub coordinate_of : ℤ → ℕ
@@ -42,7 +42,7 @@ AreLegal pieces = All (λ piece. IsRectangleIn world piece.rect) pieces
 
 -- the area reaches at most 256 squares over the world's border
 pub record IsNearWorld (area : Rect) : Type 0 where
-  pub left : 4161280 ≤ area.left
-  pub below : 4161280 ≤ area.bottom
-  pub right : area.right ≤ 4227328
-  pub above : area.top ≤ 4227328
+  pub left : 3145472 ≤ area.left
+  pub below : 3145472 ≤ area.bottom
+  pub right : area.right ≤ 5243136
+  pub above : area.top ≤ 5243136

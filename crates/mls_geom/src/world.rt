@@ -4,16 +4,16 @@ ghost use Rattle.mls_geom.specs.World as spec;
 ghost use Rattle.mls_geom.specs.World.{origin, world};
 
 /// How many squares the world reaches from the user's 0 to each side.
-const REACH: u32 = 32_768;
+const REACH: u32 = 1_048_576;
 
 /// What users call 0. Coordinates are counted from a corner far outside the world, so that the squares
 /// round the world have numbers too.
 const ORIGIN: u32 = 4_194_304;
 
-/// The least coordinate of the world, which users call -32768.
+/// The least coordinate of the world, which users call -1048576.
 pub(crate) const LOW: u32 = ORIGIN - REACH;
 
-/// The greatest coordinate of the world, which users call 32768.
+/// The greatest coordinate of the world, which users call 1048576.
 pub(crate) const HIGH: u32 = ORIGIN + REACH;
 
 /// Returns whether the user's coordinate lies outside the world.

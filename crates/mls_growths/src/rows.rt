@@ -107,11 +107,11 @@ const SMALLEST_QUOTA: [FrugalCall; 8] = [
 
 /// The whole world under the least quota, two of its corners, and a square in its middle, which is refused.
 const WHOLE_WORLD: [FrugalCall; 9] = [
-    FrugalCall::Box(-32_768, -32_768, 32_768, 32_768),
+    FrugalCall::Box(-1_048_576, -1_048_576, 1_048_576, 1_048_576),
     FrugalCall::Paint(1),
-    FrugalCall::Box(-32_768, -32_768, -32_767, -32_767),
+    FrugalCall::Box(-1_048_576, -1_048_576, -1_048_575, -1_048_575),
     FrugalCall::Paint(2),
-    FrugalCall::Box(32_767, 32_767, 32_768, 32_768),
+    FrugalCall::Box(1_048_575, 1_048_575, 1_048_576, 1_048_576),
     FrugalCall::Paint(2),
     FrugalCall::Count,
     FrugalCall::Box(0, 0, 1, 1),
@@ -148,7 +148,7 @@ const PLACED_CELLS: [FrugalCall; 14] = [
     FrugalCall::FinishRef,
     FrugalCall::GetCell(8),
     FrugalCall::FinishRef,
-    FrugalCall::GetCell(32_765),
+    FrugalCall::GetCell(1_048_573),
     FrugalCall::Box(0, 0, 4, 4),
     FrugalCall::Erase(1),
     FrugalCall::Dump,

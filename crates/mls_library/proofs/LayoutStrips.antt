@@ -80,4 +80,4 @@ too_many (Err fault) h p = rw h (refl, p)
 
 -- a plane has a strip
 pub some_strip : (list : List Piece) → IsFrozenList list → 1 ≤ length list
-some_strip list frozen = let found = frozen.strips.whole 4161536 4161536 refl in omega (arith, found.2)
+some_strip list frozen = let found = frozen.strips.whole 3145728 3145728 refl in omega (arith, found.2)

@@ -117,16 +117,16 @@ not_at_most low high before = grind (arith, ints)
 pub rect_of-user_lines : (rect : Rect) → IsRectangleIn world rect → rect_of (user_line rect.left) (user_line rect.bottom) (user_line rect.right) (user_line rect.top) ≡ Ok rect
 unfolding rect_of
 rect_of-user_lines rect legal =
-    let left_from : 4161536 ≤ rect.left = legal.left_in in
-    let bottom_from : 4161536 ≤ rect.bottom = legal.bottom_in in
-    let right_to : rect.right ≤ 4227072 = legal.right_in in
-    let top_to : rect.top ≤ 4227072 = legal.top_in in
+    let left_from : 3145728 ≤ rect.left = legal.left_in in
+    let bottom_from : 3145728 ≤ rect.bottom = legal.bottom_in in
+    let right_to : rect.right ≤ 5242880 = legal.right_in in
+    let top_to : rect.top ≤ 5242880 = legal.top_in in
     let wide : rect.left < rect.right = legal.wide in
     let tall : rect.bottom < rect.top = legal.tall in
-    let left_to : rect.left ≤ 4227072 = omega arith in
-    let bottom_to : rect.bottom ≤ 4227072 = omega arith in
-    let right_from : 4161536 ≤ rect.right = omega arith in
-    let top_from : 4161536 ≤ rect.top = omega arith in
+    let left_to : rect.left ≤ 5242880 = omega arith in
+    let bottom_to : rect.bottom ≤ 5242880 = omega arith in
+    let right_from : 3145728 ≤ rect.right = omega arith in
+    let top_from : 3145728 ≤ rect.top = omega arith in
     let flat = not_at_most rect.left rect.right wide in
     let short = not_at_most rect.bottom rect.top tall in
     let l = inside_world rect.left left_from left_to in

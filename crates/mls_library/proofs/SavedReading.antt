@@ -31,12 +31,12 @@ on_plane plane strip = record { plane = plane; piece = strip }
 
 -- two lines of the world, where a rectangle begins and ends
 record AreWorldLines (first last : ℕ) : Type 0 where
-  first_from : 4161536 ≤ first
-  first_to : first ≤ 4227072
-  last_from : 4161536 ≤ last
-  last_to : last ≤ 4227072
+  first_from : 3145728 ≤ first
+  first_to : first ≤ 5242880
+  last_from : 3145728 ≤ last
+  last_to : last ≤ 5242880
 
-world_lines : (first last : ℕ) → 4161536 ≤ first → first < last → last ≤ 4227072 → AreWorldLines first last
+world_lines : (first last : ℕ) → 3145728 ≤ first → first < last → last ≤ 5242880 → AreWorldLines first last
 world_lines first last low before high = record { first_from = low; first_to = omega (arith, before, high); last_from = omega (arith, low, before); last_to = high }
 
 -- ---- what each line means

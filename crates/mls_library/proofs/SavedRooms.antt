@@ -46,22 +46,22 @@ coordinate_length line z end from to tied =
 module _ (rect : Rect) (z : ℤ) (end : ℕ) (legal : IsRectangleIn world rect) where
   pub left_length : pos rect.left ≡ z +ℤ pos origin → length (signed_decimal (passed z) ++ end ∷ []) ≡ length (coordinate_text rect.left) + 1
   left_length tied =
-      let right_to : rect.right ≤ 4227072 = legal.right_in in
+      let right_to : rect.right ≤ 5242880 = legal.right_in in
       coordinate_length rect.left z end legal.left_in (omega (arith, legal.wide, right_to)) tied
 
   pub bottom_length : pos rect.bottom ≡ z +ℤ pos origin → length (signed_decimal (passed z) ++ end ∷ []) ≡ length (coordinate_text rect.bottom) + 1
   bottom_length tied =
-      let top_to : rect.top ≤ 4227072 = legal.top_in in
+      let top_to : rect.top ≤ 5242880 = legal.top_in in
       coordinate_length rect.bottom z end legal.bottom_in (omega (arith, legal.tall, top_to)) tied
 
   pub right_length : pos rect.right ≡ z +ℤ pos origin → length (signed_decimal (passed z) ++ end ∷ []) ≡ length (coordinate_text rect.right) + 1
   right_length tied =
-      let left_from : 4161536 ≤ rect.left = legal.left_in in
+      let left_from : 3145728 ≤ rect.left = legal.left_in in
       coordinate_length rect.right z end (omega (arith, legal.wide, left_from)) legal.right_in tied
 
   pub top_length : pos rect.top ≡ z +ℤ pos origin → length (signed_decimal (passed z) ++ end ∷ []) ≡ length (coordinate_text rect.top) + 1
   top_length tied =
-      let bottom_from : 4161536 ≤ rect.bottom = legal.bottom_in in
+      let bottom_from : 3145728 ≤ rect.bottom = legal.bottom_in in
       coordinate_length rect.top z end (omega (arith, legal.tall, bottom_from)) legal.top_in tied
 
 -- ---- the lines of strips

@@ -68,10 +68,10 @@ pub rect_line_appended :
     → i1 ≡ i0 ++ codes "rect " → i2 ≡ i1 ++ (signed_decimal (passed l) ++ 32 ∷ []) → i3 ≡ i2 ++ (signed_decimal (passed b) ++ 32 ∷ [])
     → i4 ≡ i3 ++ (signed_decimal (passed r) ++ 32 ∷ []) → i5 ≡ i4 ++ (signed_decimal (passed t) ++ 10 ∷ []) → i5 ≡ i0 ++ (spaced (rect_words rect) ++ 10 ∷ [])
 rect_line_appended rect l b r t i0 i1 i2 i3 i4 i5 legal el eb er et e1 e2 e3 e4 e5 =
-    let left_from : 4161536 ≤ rect.left = legal.left_in in
-    let bottom_from : 4161536 ≤ rect.bottom = legal.bottom_in in
-    let right_to : rect.right ≤ 4227072 = legal.right_in in
-    let top_to : rect.top ≤ 4227072 = legal.top_in in
+    let left_from : 3145728 ≤ rect.left = legal.left_in in
+    let bottom_from : 3145728 ≤ rect.bottom = legal.bottom_in in
+    let right_to : rect.right ≤ 5242880 = legal.right_in in
+    let top_to : rect.top ≤ 5242880 = legal.top_in in
     let tl = coordinate_text-of rect.left l left_from (omega (arith, legal.wide, right_to)) el in
     let tb = coordinate_text-of rect.bottom b bottom_from (omega (arith, legal.tall, top_to)) eb in
     let tr = coordinate_text-of rect.right r (omega (arith, legal.wide, left_from)) right_to er in

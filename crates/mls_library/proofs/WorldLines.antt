@@ -11,16 +11,16 @@ use Rattle.mls_library.specs.Inner.{at_distance, distance_of}
 use Rattle.mls_library.specs.declared.fault.CellFaultKind.{CellFaultKind}
 use Rattle.mls_library.specs.declared.fault.CellFaultKind.TheVariants.{OutsideWorld}
 
--- the world reaches 32768 squares to each side
-is_outside-pos : (n : ℕ) → is_outside (pos n) ≡ nat_lt 32768 n
+-- the world reaches 1048576 squares to each side
+is_outside-pos : (n : ℕ) → is_outside (pos n) ≡ nat_lt 1048576 n
 unfolding is_outside
 is_outside-pos n = grind (arith, ints, nat_tests)
 
-is_outside-neg : (n : ℕ) → is_outside (neg_ℤ (pos n)) ≡ nat_lt 32768 n
+is_outside-neg : (n : ℕ) → is_outside (neg_ℤ (pos n)) ≡ nat_lt 1048576 n
 unfolding is_outside
 is_outside-neg n = grind (arith, ints, nat_tests)
 
-module _ (side : ℕ → ℤ) (far : (n : ℕ) → is_outside (side n) ≡ nat_lt 32768 n) (n : ℕ) where
+module _ (side : ℕ → ℤ) (far : (n : ℕ) → is_outside (side n) ≡ nat_lt 1048576 n) (n : ℕ) where
   abbrev line_if : Bool → Result ℤ CellFaultKind
   line_if outside = cond outside (Err OutsideWorld) (Ok (side n))
 
@@ -31,10 +31,10 @@ module _ (side : ℕ → ℤ) (far : (n : ℕ) → is_outside (side n) ≡ nat_l
   by true = refl
   by false = refl
 
-  line_at_distance : line_if (is_outside (side n)) ≡ distance_if (nat_le n 32768)
+  line_at_distance : line_if (is_outside (side n)) ≡ distance_if (nat_le n 1048576)
   line_at_distance =
-      let near : not (nat_lt 32768 n) ≡ nat_le n 32768 = grind (arith, nat_tests) in
-      ap line_if (far n) ∙ by (nat_lt 32768 n) ∙ ap distance_if near
+      let near : not (nat_lt 1048576 n) ≡ nat_le n 1048576 = grind (arith, nat_tests) in
+      ap line_if (far n) ∙ by (nat_lt 1048576 n) ∙ ap distance_if near
 
 -- a word with a `-`
 pub world_line-negative : (word : List ℕ) → begins_with 45 word ≡ true → world_line word ≡ at_distance (λ n. neg_ℤ (pos n)) (distance_of (drop 1 word))

@@ -35,7 +35,7 @@ IsKnownMeaning planes Ends = ⊤
 
 -- how far from 0 digits lead, if the world has lines there
 abbrev pub distance_of : List ℕ → Result ℕ CellFaultKind
-distance_of digits = or_fault OutsideWorld (value_at_most 32768 digits)
+distance_of digits = or_fault OutsideWorld (value_at_most 1048576 digits)
 
 -- the line at a distance from 0, to one side
 abbrev pub at_distance : (ℕ → ℤ) → Result ℕ CellFaultKind → Result ℤ CellFaultKind

@@ -9,7 +9,7 @@ use crate::CellFaultKind;
 use mls_text::{is_number, value_at_most};
 
 /// How far from 0 the world's lines reach.
-const REACH: u64 = 32_768;
+const REACH: u64 = 1_048_576;
 
 /// Returns whether the word is an optional `-` and one or more digits.
 pub(crate) fn is_integer(word: &[u8]) -> bool

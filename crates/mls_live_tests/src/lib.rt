@@ -19,3 +19,5 @@ mod retiring;
 mod seats;
 #[cfg(test)]
 mod servers;
+#[cfg(test)]
+mod settling;

@@ -191,10 +191,10 @@ fn inner_corner(rt: HostRuntime) -> Result<(), Fail> {
 #[test]
 fn diffusion_in_a_world_of_poly(rt: HostRuntime) -> Result<(), Fail> {
     let pieces = [
-        piece(POLY, (-32768, -32768, 32768, 32768))?,
-        piece(NDIFF, (-32768, -32768, -32767, -32767))?,
+        piece(POLY, (-1048576, -1048576, 1048576, 1048576))?,
+        piece(NDIFF, (-1048576, -1048576, -1048575, -1048575))?,
     ];
-    let corner = (-32768, -32768, -32760, -32760);
+    let corner = (-1048576, -1048576, -1048568, -1048568);
     assert_eq!(rt; violated(rt.alloc(), &pieces, corner)?, 0b100);
     Ok(())
 }
@@ -255,14 +255,14 @@ fn large_square(rt: HostRuntime) -> Result<(), Fail> {
 /// Asserts what technology M marks in the four corners of the world, of bars there.
 fn expect_in_corners(rt: &impl Abort, alloc: Global, layout: &mut Layout) -> Result<(), Fail> {
     let marked = [
-        (-32767, -32768, -32766, -32758),
-        (-32767, 32758, -32766, 32768),
+        (-1048575, -1048576, -1048574, -1048566),
+        (-1048575, 1048566, -1048574, 1048576),
     ];
     for corner in [
-        (-32768, -32768, -32752, -32752),
-        (-32768, 32752, -32752, 32768),
-        (32752, -32768, 32768, -32752),
-        (32752, 32752, 32768, 32768),
+        (-1048576, -1048576, -1048560, -1048560),
+        (-1048576, 1048560, -1048560, 1048576),
+        (1048560, -1048576, 1048576, -1048560),
+        (1048560, 1048560, 1048576, 1048576),
     ] {
         expect_by_technology_m(rt, alloc, layout, rect(corner)?, &marked)?;
     }
@@ -272,10 +272,10 @@ fn expect_in_corners(rt: &impl Abort, alloc: Global, layout: &mut Layout) -> Res
 #[test]
 fn corners_of_the_world(rt: HostRuntime) -> Result<(), Fail> {
     let bars = [
-        piece(POLY, (-32768, -32768, -32767, -32758))?,
-        piece(POLY, (-32768, 32758, -32767, 32768))?,
-        piece(POLY, (32767, -32768, 32768, -32758))?,
-        piece(POLY, (32767, 32758, 32768, 32768))?,
+        piece(POLY, (-1048576, -1048576, -1048575, -1048566))?,
+        piece(POLY, (-1048576, 1048566, -1048575, 1048576))?,
+        piece(POLY, (1048575, -1048576, 1048576, -1048566))?,
+        piece(POLY, (1048575, 1048566, 1048576, 1048576))?,
     ];
     let mut layout = active(rt.alloc(), &bars)?;
     expect_in_corners(&rt, rt.alloc(), &mut layout)

@@ -38,8 +38,8 @@ struct Field {
 impl Field {
     /// The field of a layout: in the middle of the world and in its corners in turn.
     fn of_layout(number: usize, scale: i32) -> Field {
-        let low = -32768;
-        let high = 32768i32.saturating_sub(scale.saturating_mul(16));
+        let low = -1048576;
+        let high = 1048576i32.saturating_sub(scale.saturating_mul(16));
         let (left, bottom) = match number % 5 {
             0 => (0, 0),
             1 => (low, low),

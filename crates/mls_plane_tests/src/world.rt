@@ -20,11 +20,11 @@ fn faults_in_words(rt: HostRuntime) -> Result<(), Fail> {
 #[test]
 fn world_ends_at_its_lines(rt: HostRuntime) {
     for (left, bottom, right, top, fault) in [
-        (-32768, -32768, 32768, 32768, None),
-        (-32769, 0, 1, 1, Some(RectFault::Outside)),
-        (0, -32769, 1, 1, Some(RectFault::Outside)),
-        (0, 0, 32769, 1, Some(RectFault::Outside)),
-        (0, 0, 1, 32769, Some(RectFault::Outside)),
+        (-1048576, -1048576, 1048576, 1048576, None),
+        (-1048577, 0, 1, 1, Some(RectFault::Outside)),
+        (0, -1048577, 1, 1, Some(RectFault::Outside)),
+        (0, 0, 1048577, 1, Some(RectFault::Outside)),
+        (0, 0, 1, 1048577, Some(RectFault::Outside)),
         (
             i32::MIN,
             i32::MIN,
@@ -32,16 +32,16 @@ fn world_ends_at_its_lines(rt: HostRuntime) {
             i32::MAX,
             Some(RectFault::Outside),
         ),
-        (5, 0, 5, 40000, Some(RectFault::Empty)),
-        (0, 7, 40000, 7, Some(RectFault::Empty)),
+        (5, 0, 5, 2000000, Some(RectFault::Empty)),
+        (0, 7, 2000000, 7, Some(RectFault::Empty)),
     ] {
         assert_eq!(rt; Rect::new(left, bottom, right, top).err(), fault);
     }
     for (x, y, is_there) in [
-        (-32768, -32768, true),
-        (32767, 32767, true),
-        (32768, 0, false),
-        (0, -32769, false),
+        (-1048576, -1048576, true),
+        (1048575, 1048575, true),
+        (1048576, 0, false),
+        (0, -1048577, false),
     ] {
         assert_eq!(rt; Point::new(x, y).is_some(), is_there);
     }

@@ -1,5 +1,5 @@
 -- A session is opened beside others.
-use Rattle.std.proofs.Common.{◌≡◌, ℕ, ◌+◌, ◌-◌, ◌*◌, ◌<◌, ◌≤◌, List, [], ◌∷◌, ◌++◌, length, map, get_or, All, refl, sym, ap, subst, ◌∙◌, length-append, arith}
+use Rattle.std.proofs.Common.{◌≡◌, ℕ, ◌+◌, ◌-◌, ◌*◌, ◌<◌, ◌≤◌, List, [], ◌∷◌, ◌++◌, length, map, get_or, All, None, refl, sym, ap, subst, ◌∙◌, length-append, arith}
 use Rattle.std.proofs.lemmas.List.{map-append}
 use Rattle.std.proofs.lemmas.List.Elements.{All-push}
 use Rattle.std.proofs.lemmas.List.Quantifiers.{all_pairs_push}
@@ -12,7 +12,7 @@ use Rattle.mls_session.specs.Quotas.{plane_reserve}
 use Rattle.mls_session.specs.Sessions.{IsHome, IsMadeFor, Session, kept_of, owners_of, state_of}
 use Rattle.mls_session.specs.Setups.{config_of, terms_of}
 use Rattle.mls_tilepool.specs.Pools.{Pool, unreserved}
-use Rattle.mls_server.specs.Servers.{AreApart, IsOpenIn, Server, seat_for, setting_of, world_of}
+use Rattle.mls_server.specs.Servers.{AreApart, IsOpenIn, OpenSession, Server, seat_for, setting_of, world_of}
 use Rattle.mls_server.specs.Settings.{session_reserve}
 use Rattle.mls_server.specs.Worlds.{Seat, with_session}
 use Rattle.mls_server.proofs.OtherSessions.{AreOpenIn, CanDump-apart, IsOpenIn-apart, KeepsOthers, apart-AddsOwners, cells_apart-AddsOwners, others-AddsOwners, seat_for-apart, world_of-apart}
@@ -45,19 +45,24 @@ module _ (server : Server) (are : AreOpenIn server) (session : Session) {new : P
 
   module _ (home : IsHome new session) (made_for : IsMadeFor server.setup session) (right : HasRightMarks (config_of server.setup new) (state_of new session).design)
       (opening : kept_of new session ≡ kept_at_opening server.setup.rules) where
-    IsOpenIn-opened : IsOpenIn server.setup new session
+    -- it with the next id; no check is known
+    abbrev first_open : OpenSession
+    first_open = record { id = server.given + 1; session = session; checked = None }
+
+    IsOpenIn-opened : IsOpenIn server.setup new first_open
     IsOpenIn-opened = record {
       made_for = made_for;
       home = home;
       can_dump = record { home = cells_stay.home; apart = cells_apart; planes = cells_stay.planes };
       marks_right = right;
+      knows_right = tt;
       legal = subst (IsLegal (terms_of server.setup new)) (sym opening) (IsLegal-opening (terms_of server.setup new));
     }
 
     module _ (name : List ℕ) where
       -- its entry
       abbrev last : Entry
-      last = (name, record { id = server.given + 1; session = session })
+      last = (name, first_open)
 
       -- the server with it
       abbrev pub opened : Server
@@ -67,8 +72,8 @@ module _ (server : Server) (are : AreOpenIn server) (session : Session) {new : P
       AreOpen-opened few = record {
         cells_home = cells_stay;
         made =
-            All-push (λ (entry : Entry). IsOpenIn server.setup new entry.1.session) server.sessions last
-            (λ k d within. IsOpenIn-apart others (get_or server.sessions k d).1.session (apart k d within) cells_apart (are.made k d within)) IsOpenIn-opened;
+            All-push (λ (entry : Entry). IsOpenIn server.setup new entry.1) server.sessions last
+            (λ k d within. IsOpenIn-apart others (get_or server.sessions k d).1 (apart k d within) cells_apart (are.made k d within)) IsOpenIn-opened;
         apart = all_pairs_push (λ (a b : Entry). AreApart (owners_of a.1.session) (owners_of b.1.session)) server.sessions last are.apart apart;
         rising =
             all_pairs_push (λ (a b : Entry). a.1.id < b.1.id) server.sessions last are.rising

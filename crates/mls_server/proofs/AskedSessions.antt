@@ -5,7 +5,8 @@ use Rattle.std.proofs.lemmas.Bool.{cases_lt}
 use Rattle.indexmap.specs.Layout.{length-set_value_at, set_value_at}
 use Rattle.mls_paint.specs.Owners.{ChangesAmong}
 use Rattle.mls_paint.proofs.OwnerFrames.{unreserved-ChangesAmong}
-use Rattle.mls_session.specs.Designs.{CanDump, HasRightMarks}
+use Rattle.mls_errorplane.specs.declared.checked.Checked.{Checked}
+use Rattle.mls_session.specs.Designs.{CanDump, HasRightMarks, KnowsRight}
 use Rattle.mls_session.specs.Journals.{IsLegal, Kept}
 use Rattle.mls_session.specs.OwnSteps.{Terms}
 use Rattle.mls_session.specs.declared.journal.Entry.{Entry as JournalEntry}
@@ -41,7 +42,7 @@ pub record IsAsked (now server : Server) (id place : ℕ) (before : OpenSession)
   pub are : AreOpenIn server
   pub found : IsAt server.sessions place before
   pub has_id : before.id ≡ id
-  pub made : IsOpenIn server.setup server.pool before.session
+  pub made : IsOpenIn server.setup server.pool before
   pub terms : own_terms server ≡ terms_for (setting_of now)
   pub kept : kept_in (world_of now) id ≡ Some (kept_of server.pool before.session)
   pub owners : owners_under now id ≡ owners_of before.session
@@ -80,8 +81,8 @@ is_asked {now} {server} shows are id place first before scanned = record {
     differ : AllBut (HasOtherId id) server.sessions place
     differ = others-differ server.sessions place id before are.rising at is
 
-    made : IsOpenIn server.setup server.pool before.session
-    made = All-at (λ (member : OpenSession). IsOpenIn server.setup server.pool member.session) server.sessions place before are.made at
+    made : IsOpenIn server.setup server.pool before
+    made = All-at (λ (member : OpenSession). IsOpenIn server.setup server.pool member) server.sessions place before are.made at
 
 module _ {now server : Server} {id place : ℕ} {before : OpenSession} (asked : IsAsked now server id place before) where
   -- ---- what stays beside it, as only its own owners change
@@ -89,9 +90,9 @@ module _ {now server : Server} {id place : ℕ} {before : OpenSession} (asked : 
     pub cells-beside : CanDump server.setup new []
     cells-beside = CanDump-apart others asked.made.can_dump.apart asked.are.cells_home
 
-    pub made-beside : AllBut (λ entry. IsOpenIn server.setup new entry.1.session) server.sessions place
+    pub made-beside : AllBut (λ entry. IsOpenIn server.setup new entry.1) server.sessions place
     made-beside k d within differ =
-        IsOpenIn-apart others (get_or server.sessions k d).1.session (asked.apart k d within differ) asked.made.can_dump.apart (asked.are.made k d within)
+        IsOpenIn-apart others (get_or server.sessions k d).1 (asked.apart k d within differ) asked.made.can_dump.apart (asked.are.made k d within)
 
     pub stays-beside : AllBut (StaysApart id server.pool new) server.sessions place
     stays-beside k d within differ = (asked.others k d within differ, seat_for-apart others (get_or server.sessions k d) (asked.apart k d within differ))
@@ -107,50 +108,53 @@ module _ {now server : Server} {id place : ℕ} {before : OpenSession} (asked : 
 
   -- ---- it changes tiles of its own owners alone
   module _ {new : Pool} {after : Session} (keeps : KeepsPlanes server.pool new before.session after) where
-    abbrev member : OpenSession
-    member = record before { session = after }
-
-    abbrev pub changed : Server
-    changed = record server { pool = new; sessions = set_value_at server.sessions place member }
-
     pub frame-changed : ChangesAmong now.pool new (owners_under now id)
     frame-changed =
         subst₂ (λ (pool : Pool) (owners : List ℕ). ChangesAmong pool new owners) (ap (λ (on : Server). on.pool) asked.shows) (sym asked.owners) keeps.planes.only
 
-    pub AreOpen-changed :
-        (HasRightMarks (own_terms server).config (state_of server.pool before.session).design → HasRightMarks (own_terms server).config (state_of new after).design)
-        → (IsLegal (own_terms server) (kept_of server.pool before.session) → IsLegal (own_terms server) (kept_of new after)) → AreOpenIn changed
-    AreOpen-changed right legal = record {
-      cells_home = cells-beside (others-kept keeps);
-      made =
-          All-replaced (λ entry. IsOpenIn server.setup new entry.1.session) member server.sessions place (made-beside (others-kept keeps))
-          (λ name. IsOpenIn-kept keeps asked.made right legal);
-      apart =
-          AllPairs-replaced (λ entry. owners_of entry.1.session) before member (λ name. owners_of-kept keeps) AreApart server.sessions place asked.found asked.are.apart;
-      rising = AllPairs-replaced (λ entry. entry.1.id) before member (λ name. refl) (λ a b. a < b) server.sessions place asked.found asked.are.rising;
-      within =
-          All-replaced (λ entry. (1 ≤ entry.1.id) × (entry.1.id ≤ server.given)) member server.sessions place (λ k d within differ. asked.are.within k d within)
-          (λ name. All-at (λ (each : OpenSession). (1 ≤ each.id) × (each.id ≤ server.given)) server.sessions place before asked.are.within asked.found);
-      few = subst (λ (count : ℕ). count ≤ 64) (sym (length-set_value_at server.sessions place member)) asked.are.few;
-    }
+    -- whatever earlier checks are known then
+    module _ (checked : Option Checked) where
+      abbrev member : OpenSession
+      member = record before { session = after; checked = checked }
 
-    world_of-changed : world_of changed ≡ with_kept (world_of server) id (kept_of new after)
-    world_of-changed =
-        world_of-apart server (others-kept keeps) asked.made.can_dump.apart server.given (set_value_at server.sessions place member) _ _
-        (seats-replaced id server.pool new server.sessions place before asked.found asked.has_id (stays-beside (others-kept keeps)) member refl)
-        (unreserved-ChangesAmong server.pool new (owners_of before.session) keeps.planes.only)
+      abbrev pub changed : Server
+      changed = record server { pool = new; sessions = set_value_at server.sessions place member }
 
-    -- whatever the session did
-    pub OnSeat-changed :
-        {A : Type 0} (Does : Terms → Kept → A → Kept → Type 0) (answer : A) → Does (own_terms server) (kept_of server.pool before.session) answer (kept_of new after)
-        → OnSeat (world_of now) id (Does (terms_for (setting_of now))) (Ok answer) (world_of changed)
-    OnSeat-changed Does answer does = (
-      kept_of server.pool before.session,
-      kept_of new after,
-      asked.kept,
-      subst (λ (terms : Terms). Does terms (kept_of server.pool before.session) answer (kept_of new after)) asked.terms does,
-      world_of-changed ∙ ap (λ (on : Server). with_kept (world_of on) id (kept_of new after)) asked.shows,
-    )
+      pub AreOpen-changed :
+          (HasRightMarks (own_terms server).config (state_of server.pool before.session).design → HasRightMarks (own_terms server).config (state_of new after).design)
+          → KnowsRight (own_terms server).config (state_of new after).design checked
+          → (IsLegal (own_terms server) (kept_of server.pool before.session) → IsLegal (own_terms server) (kept_of new after)) → AreOpenIn changed
+      AreOpen-changed right knows legal = record {
+        cells_home = cells-beside (others-kept keeps);
+        made =
+            All-replaced (λ entry. IsOpenIn server.setup new entry.1) member server.sessions place (made-beside (others-kept keeps))
+            (λ name. IsOpenIn-kept asked.made member keeps right knows legal);
+        apart =
+            AllPairs-replaced (λ entry. owners_of entry.1.session) before member (λ name. owners_of-kept keeps) AreApart server.sessions place asked.found asked.are.apart;
+        rising = AllPairs-replaced (λ entry. entry.1.id) before member (λ name. refl) (λ a b. a < b) server.sessions place asked.found asked.are.rising;
+        within =
+            All-replaced (λ entry. (1 ≤ entry.1.id) × (entry.1.id ≤ server.given)) member server.sessions place (λ k d within differ. asked.are.within k d within)
+            (λ name. All-at (λ (each : OpenSession). (1 ≤ each.id) × (each.id ≤ server.given)) server.sessions place before asked.are.within asked.found);
+        few = subst (λ (count : ℕ). count ≤ 64) (sym (length-set_value_at server.sessions place member)) asked.are.few;
+      }
+
+      world_of-changed : world_of changed ≡ with_kept (world_of server) id (kept_of new after)
+      world_of-changed =
+          world_of-apart server (others-kept keeps) asked.made.can_dump.apart server.given (set_value_at server.sessions place member) _ _
+          (seats-replaced id server.pool new server.sessions place before asked.found asked.has_id (stays-beside (others-kept keeps)) member refl)
+          (unreserved-ChangesAmong server.pool new (owners_of before.session) keeps.planes.only)
+
+      -- whatever the session did
+      pub OnSeat-changed :
+          {A : Type 0} (Does : Terms → Kept → A → Kept → Type 0) (answer : A) → Does (own_terms server) (kept_of server.pool before.session) answer (kept_of new after)
+          → OnSeat (world_of now) id (Does (terms_for (setting_of now))) (Ok answer) (world_of changed)
+      OnSeat-changed Does answer does = (
+        kept_of server.pool before.session,
+        kept_of new after,
+        asked.kept,
+        subst (λ (terms : Terms). Does terms (kept_of server.pool before.session) answer (kept_of new after)) asked.terms does,
+        world_of-changed ∙ ap (λ (on : Server). with_kept (world_of on) id (kept_of new after)) asked.shows,
+      )
 
 -- ---- how many entries a journal has
 module _ (pool : Pool) (id : ℕ) where

@@ -29,7 +29,7 @@ module _ {now server : Server} {id place : ℕ} {closed : OpenSession} (asked : 
   pub AreOpen-closed : AreOpenIn left
   AreOpen-closed = record {
     cells_home = cells-beside asked others;
-    made = All-removed (λ entry. IsOpenIn server.setup new entry.1.session) server.sessions place within-closed (made-beside asked others);
+    made = All-removed (λ entry. IsOpenIn server.setup new entry.1) server.sessions place within-closed (made-beside asked others);
     apart = all_pairs_remove (λ (a b : Entry). AreApart (owners_of a.1.session) (owners_of b.1.session)) server.sessions place within-closed asked.are.apart;
     rising = all_pairs_remove (λ (a b : Entry). a.1.id < b.1.id) server.sessions place within-closed asked.are.rising;
     within =

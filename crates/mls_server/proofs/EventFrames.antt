@@ -2,7 +2,7 @@
 use Rattle.std.proofs.Common.{◌≡◌, ◌≢◌, ◌⊎◌, ℕ, ◌+◌, ◌≤◌, ◌==◌, Bool, true, false, Option, Some, None, Result, Ok, Err, List, [], ◌∷◌, inl, inr, le_refl, refl, sym, ap, ◌∙◌, subst, arith}
 use Rattle.std.proofs.lemmas.Bool.{eq-eqb, eqb-true}
 use Rattle.mls_errorplane.specs.declared.job.Job.{Job}
-use Rattle.mls_session.specs.Journals.{Commands, Finishes, Kept, StepsOnce, StepsUpTo, kept_at_opening}
+use Rattle.mls_session.specs.Journals.{ChecksTimes, Commands, Finishes, Kept, StepsOnce, StepsUpTo, kept_at_opening}
 use Rattle.mls_session.specs.declared.reply.Reply.{Reply}
 use Rattle.mls_server.proofs.Seats.{with_kept-none, with_kept-numbered, with_kept-other, with_session-numbered, with_session-other, with_session-same, without_session-numbered, without_session-other, without_session-same}
 use Rattle.mls_server.specs.Events.{Closes, DoesGrab, Happens, OnSeat, Opens, Runs, SavesText}
@@ -11,7 +11,7 @@ use Rattle.mls_server.specs.Settings.{terms_for}
 use Rattle.mls_server.specs.Worlds.{IsNumbered, World, kept_in, with_kept, with_session, without_session}
 use Rattle.mls_server.specs.declared.answer.Answer.{Answer}
 use Rattle.mls_server.specs.declared.event.Event.{Event}
-use Rattle.mls_server.specs.declared.event.Event.TheVariants.{Open, Close, Command, Save, Look, Grab, Finish, Step, Steps}
+use Rattle.mls_server.specs.declared.event.Event.TheVariants.{Open, Close, Command, Save, Look, Grab, Finish, Step, Steps, Settle}
 use Rattle.mls_server.specs.declared.fault.GrabFault.{GrabFault}
 use Rattle.mls_server.specs.declared.fault.GrabFault.TheVariants.{NotOpen as NoSession, Memory as OutOfMemory}
 use Rattle.mls_server.specs.declared.fault.NotOpen.{NotOpen}
@@ -67,6 +67,7 @@ MayLead old (Grab id) new = MayKeep old id new
 MayLead old (Finish id finding) new = MayKeep old id new
 MayLead old (Step id) new = MayKeep old id new
 MayLead old (Steps id most) new = MayKeep old id new
+MayLead old (Settle id) new = MayKeep old id new
 
 pub Happens-may : (old : World) (event : Event) (answer : Answer) (new : World) → Happens old event answer new → MayLead old event new
 Happens-may old (Open name) answer new (result, is, opens) = Opens-may old name result new opens
@@ -81,6 +82,8 @@ Happens-may old (Finish id finding) answer new (result, is, does) =
 Happens-may old (Step id) answer new (result, is, does) = OnSeat-may old id (λ before end after. StepsOnce (terms_for old.setting) before end after) result new does
 Happens-may old (Steps id most) answer new (result, is, does) =
     OnSeat-may old id (λ before run after. StepsUpTo (terms_for old.setting) most before run after) result new does
+Happens-may old (Settle id) answer new (result, is, does) =
+    OnSeat-may old id (λ before count after. ChecksTimes (terms_for old.setting) count before after) result new does
 
 -- ---- what every event keeps
 -- the setting, and that ids are given in order
@@ -109,6 +112,7 @@ module _ (old : World) where
   MayLead-keeps (Finish id finding) new may = keep_keeps id new may
   MayLead-keeps (Step id) new may = keep_keeps id new may
   MayLead-keeps (Steps id most) new may = keep_keeps id new may
+  MayLead-keeps (Settle id) new may = keep_keeps id new may
 
   pub Happens-keeps : (event : Event) (answer : Answer) (new : World) → Happens old event answer new → Keeps old new
   Happens-keeps event answer new happens = MayLead-keeps event new (Happens-may old event answer new happens)
@@ -162,6 +166,7 @@ module _ (old : World) (numbered : IsNumbered old) (other : ℕ) where
       by_event (Finish id finding) not_of may = keep_leaves id new not_of may
       by_event (Step id) not_of may = keep_leaves id new not_of may
       by_event (Steps id most) not_of may = keep_leaves id new not_of may
+      by_event (Settle id) not_of may = keep_leaves id new not_of may
 
 -- ---- ids that were given
 -- one that is not open never opens again
@@ -193,6 +198,7 @@ module _ (old : World) (id : ℕ) (new : World) (none : kept_in old id ≡ None)
   MayLead-closed (Finish number finding) of may = MayKeep-closed number of may
   MayLead-closed (Step number) of may = MayKeep-closed number of may
   MayLead-closed (Steps number most) of may = MayKeep-closed number of may
+  MayLead-closed (Settle number) of may = MayKeep-closed number of may
 
   pub Happens-closed : (event : Event) (answer : Answer) → IsNumbered old → id ≤ old.given → Happens old event answer new → kept_in new id ≡ None
   Happens-closed event answer numbered given happens = by_test (is_of id event) refl

@@ -13,14 +13,14 @@ use Rattle.mls_library.proofs.KeptCells.{IsCellApart, IsCellApart-AddsOwners, Is
 use Rattle.mls_paint.specs.Owners.{AddsOwners, ChangesAmong, RemovesOwners}
 use Rattle.mls_paint.specs.Planes.{HasStrips, layout_in, picture_in}
 use Rattle.mls_paint.proofs.OwnerFrames.{HasStrips-kept, has_room-HasStrips, not_added, room_of-ChangesAmong}
-use Rattle.mls_session.specs.Designs.{CanDump, HasRightMarks}
+use Rattle.mls_session.specs.Designs.{CanDump, HasRightMarks, KnowsRight}
 use Rattle.mls_session.specs.Journals.{IsLegal, Kept}
 use Rattle.mls_session.specs.OwnSteps.{Terms}
 use Rattle.mls_session.specs.Sessions.{IsHome, Session, kept_of, owners_of}
 use Rattle.mls_session.specs.Setups.{terms_of}
 use Rattle.mls_session.specs.declared.setup.Setup.{Setup}
 use Rattle.mls_tilepool.specs.Pools.{Pool, room_of, unreserved}
-use Rattle.mls_server.specs.Servers.{AreApart, AreOpen, IsOpenIn, Server, seat_for, setting_of, world_of}
+use Rattle.mls_server.specs.Servers.{AreApart, AreOpen, IsOpenIn, OpenSession, Server, seat_for, setting_of, world_of}
 use Rattle.mls_server.specs.Settings.{NamedLayout, named_layout, named_layouts}
 use Rattle.mls_server.specs.Worlds.{Seat}
 use Rattle.mls_server.proofs.ReplacedSessions.{Entry, map_same}
@@ -151,20 +151,24 @@ module _ {old new : Pool} {owners : List ℕ} (others : KeepsOthers old new owne
       };
     }
 
-    -- so all that is known of it stays true
-    module _ {setup : Setup} (cells_apart : All (IsCellApart owners) setup.library) (made : IsOpenIn setup old session) where
-      terms_of-apart : terms_of setup new ≡ terms_of setup old
-      terms_of-apart = terms-same setup (cell_layouts-apart setup.library cells_apart)
+  -- so all that is known of it stays true
+  module _ (opened : OpenSession) (apart : AreApart (owners_of opened.session) owners) {setup : Setup} (cells_apart : All (IsCellApart owners) setup.library)
+      (made : IsOpenIn setup old opened) where
+    terms_of-apart : terms_of setup new ≡ terms_of setup old
+    terms_of-apart = terms-same setup (cell_layouts-apart setup.library cells_apart)
 
-      pub IsOpenIn-apart : IsOpenIn setup new session
-      IsOpenIn-apart = record {
-        made_for = made.made_for;
-        home = IsHome-apart made.home;
-        can_dump = CanDump-apart cells_apart made.can_dump;
-        marks_right =
-            subst₂ (λ (terms : Terms) (kept : Kept). HasRightMarks terms.config kept.own.design) (sym terms_of-apart) (sym kept_of-apart) made.marks_right;
-        legal = subst₂ (λ (terms : Terms) (kept : Kept). IsLegal terms kept) (sym terms_of-apart) (sym kept_of-apart) made.legal;
-      }
+    as_before : (P : Terms → Kept → Type 0) → P (terms_of setup old) (kept_of old opened.session) → P (terms_of setup new) (kept_of new opened.session)
+    as_before P p = subst₂ P (sym terms_of-apart) (sym (kept_of-apart opened.session apart)) p
+
+    pub IsOpenIn-apart : IsOpenIn setup new opened
+    IsOpenIn-apart = record {
+      made_for = made.made_for;
+      home = IsHome-apart opened.session apart made.home;
+      can_dump = CanDump-apart cells_apart made.can_dump;
+      marks_right = as_before (λ terms kept. HasRightMarks terms.config kept.own.design) made.marks_right;
+      knows_right = as_before (λ terms kept. KnowsRight terms.config kept.own.design opened.checked) made.knows_right;
+      legal = as_before (λ terms kept. IsLegal terms kept) made.legal;
+    }
 
   pub seat_for-apart : (entry : Entry) → AreApart (owners_of entry.1.session) owners → seat_for new entry ≡ seat_for old entry
   seat_for-apart entry apart = ap (λ (kept : Kept). record { id = entry.1.id; name = entry.0; kept = kept }) (kept_of-apart entry.1.session apart)

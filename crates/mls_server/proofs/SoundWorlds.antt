@@ -16,7 +16,7 @@ use Rattle.mls_server.proofs.SessionTerms.{terms_of-setting}
 
 module _ (server : Server) (made : AreOpenIn server) where
   abbrev IsMade : List ℕ × OpenSession → Type 0
-  IsMade entry = IsOpenIn server.setup server.pool entry.1.session
+  IsMade entry = IsOpenIn server.setup server.pool entry.1
 
   within :
       (session : Session) → IsLegal (terms_of server.setup server.pool) (kept_of server.pool session) → (kept_of server.pool session).own.entries ≤ server.setup.limit

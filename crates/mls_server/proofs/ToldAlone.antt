@@ -21,14 +21,14 @@ use Rattle.mls_server.proofs.AloneRuns.{alone-both}
 use Rattle.mls_server.proofs.EventFrames.{Happens-keeps, Happens-leaves, Keeps, Leaves}
 use Rattle.mls_server.proofs.OwnEffects.{ChecksOnce-leads, ChecksTimes-leads, Commands-leads, Leads, Saves-leads, Saves-text, none-leads}
 use Rattle.mls_server.proofs.Seats.{not_open-beyond, with_kept-same, without_session-same}
-use Rattle.mls_server.specs.Events.{Closes, DoesCommand, DoesFinish, DoesGrab, DoesStep, DoesSteps, Happens, LooksAt, Runs, SavesText}
+use Rattle.mls_server.specs.Events.{Closes, DoesCommand, DoesFinish, DoesGrab, DoesSettle, DoesStep, DoesSteps, Happens, LooksAt, Runs, SavesText}
 use Rattle.mls_server.specs.OwnLists.{Adds, AddsIf, HasText, IsToldAlone, Item, OwnList, alone, at, is_of, started, told, told_to}
 use Rattle.mls_server.specs.Settings.{Setting, terms_for}
 use Rattle.mls_server.specs.Worlds.{IsNumbered, World, kept_in, with_kept, without_session}
 use Rattle.mls_server.specs.declared.answer.Answer.{Answer}
-use Rattle.mls_server.specs.declared.answer.Answer.TheVariants.{Closed, Commanded, Saved, Looked, Grabbed, Finished, Stepped, SteppedTimes}
+use Rattle.mls_server.specs.declared.answer.Answer.TheVariants.{Closed, Commanded, Saved, Looked, Grabbed, Finished, Stepped, SteppedTimes, Settled}
 use Rattle.mls_server.specs.declared.event.Event.{Event}
-use Rattle.mls_server.specs.declared.event.Event.TheVariants.{Open, Close, Command, Save, Look, Grab, Finish, Step, Steps}
+use Rattle.mls_server.specs.declared.event.Event.TheVariants.{Open, Close, Command, Save, Look, Grab, Finish, Step, Steps, Settle}
 use Rattle.mls_server.specs.declared.fault.GrabFault.{GrabFault}
 use Rattle.mls_server.specs.declared.fault.GrabFault.TheVariants.{NotOpen as NoSession, Memory as OutOfMemory}
 use Rattle.mls_server.specs.declared.fault.NotOpen.{NotOpen}
@@ -164,6 +164,12 @@ module _ (old : World) (numbered : IsNumbered old) (id : ℕ) (kept : Kept) (sto
       changed (Steps id most) (SteppedTimes (Ok run)) before after new is_open is tt (ChecksTimes-leads (terms_for old.setting) run.done before after checks)
   of_steps most (Err fault) new (none, is) = unchanged (Steps id most) (SteppedTimes (Err fault)) new is refl tt refl
 
+  of_settle :
+      (result : Result ℕ NotOpen) (new : World) → DoesSettle old id result new → Adds-here true (terms_for old.setting) (Settle id) (Settled result) id kept new
+  of_settle (Ok count) new (before, after, is_open, checks, is) =
+      changed (Settle id) (Settled (Ok count)) before after new is_open is tt (ChecksTimes-leads (terms_for old.setting) count before after checks)
+  of_settle (Err fault) new (none, is) = unchanged (Settle id) (Settled (Err fault)) new is refl tt refl
+
   -- an event of this session, which is of this id
   module _ (answer : Answer) (new : World) where
     abbrev AddsHere : Event → Answer → Type 0
@@ -195,6 +201,8 @@ module _ (old : World) (numbered : IsNumbered old) (id : ℕ) (kept : Kept) (sto
         at_id (λ other. Step other) number of (λ does. subst (AddsHere (Step id)) (sym does.1) (of_step does.0 new does.2)) happens
     own_event (Steps number most) of happens =
         at_id (λ other. Steps other most) number of (λ does. subst (AddsHere (Steps id most)) (sym does.1) (of_steps most does.0 new does.2)) happens
+    own_event (Settle number) of happens =
+        at_id (λ other. Settle other) number of (λ does. subst (AddsHere (Settle id)) (sym does.1) (of_settle does.0 new does.2)) happens
 
   -- one of another session, or one that opens this
   left : (new : World) → Keeps old new → Leaves old id new → Stands new id kept

@@ -13,7 +13,7 @@ use Rattle.mls_library.specs.Faults.{UnlessMemory}
 use Rattle.mls_library.specs.Libraries.{loading_of, tile_counts, total}
 use Rattle.mls_library.specs.SavedCells.{saved_text}
 use Rattle.mls_library.specs.declared.fault.CellFault.{CellFault}
-use Rattle.mls_session.specs.Journals.{Commands, Finishes, Kept, Saves, StepsOnce, StepsUpTo}
+use Rattle.mls_session.specs.Journals.{ChecksTimes, Commands, Finishes, Kept, Saves, StepsOnce, StepsUpTo}
 use Rattle.mls_session.specs.Looks.{Looks}
 use Rattle.mls_session.specs.Own.{layout_of}
 use Rattle.mls_session.specs.declared.command.Command.{Command as OwnCommand}
@@ -24,9 +24,9 @@ use Rattle.mls_session.specs.declared.step_run.StepRun.{StepRun}
 use Rattle.mls_server.specs.Settings.{NamedLayout, cell_names, config_for, session_reserve, terms_for}
 use Rattle.mls_server.specs.Worlds.{World, kept_in, session_named, with_kept, with_session, without_session}
 use Rattle.mls_server.specs.declared.event.Event.{Event}
-use Rattle.mls_server.specs.declared.event.Event.TheVariants.{Open, Close, Command, Save, Look, Grab, Finish, Step, Steps}
+use Rattle.mls_server.specs.declared.event.Event.TheVariants.{Open, Close, Command, Save, Look, Grab, Finish, Step, Steps, Settle}
 use Rattle.mls_server.specs.declared.answer.Answer.{Answer}
-use Rattle.mls_server.specs.declared.answer.Answer.TheVariants.{Opened, Closed, Commanded, Saved, Looked, Grabbed, Finished, Stepped, SteppedTimes}
+use Rattle.mls_server.specs.declared.answer.Answer.TheVariants.{Opened, Closed, Commanded, Saved, Looked, Grabbed, Finished, Stepped, SteppedTimes, Settled}
 use Rattle.mls_server.specs.declared.fault.OpenFault.{OpenFault}
 use Rattle.mls_server.specs.declared.fault.OpenFault.TheVariants.{OpenAlready, SessionsFull, PoolFull, Memory}
 use Rattle.mls_server.specs.declared.fault.GrabFault.{GrabFault}
@@ -109,6 +109,10 @@ DoesSteps old id most result new = OnSeat old id (λ before run after. StepsUpTo
 abbrev pub DoesFinish : World → ℕ → Finding → Result Outcome NotOpen → World → Type 0
 DoesFinish old id finding result new = OnSeat old id (λ before outcome after. Finishes (terms_for old.setting) before finding outcome after) result new
 
+-- this many check steps one after another
+abbrev pub DoesSettle : World → ℕ → Result ℕ NotOpen → World → Type 0
+DoesSettle old id result new = OnSeat old id (λ before count after. ChecksTimes (terms_for old.setting) count before after) result new
+
 -- the next job of the session's layout, if any, and nothing changes
 abbrev pub DoesGrab : World → ℕ → Result (Option Job) GrabFault → World → Type 0
 DoesGrab old id (Ok job) new =
@@ -130,6 +134,7 @@ Happens old (Grab id) answer new = (result : Result (Option Job) GrabFault) × (
 Happens old (Finish id finding) answer new = (result : Result Outcome NotOpen) × (answer ≡ Finished result) × DoesFinish old id finding result new
 Happens old (Step id) answer new = (result : Result StepEnd NotOpen) × (answer ≡ Stepped result) × DoesStep old id result new
 Happens old (Steps id most) answer new = (result : Result StepRun NotOpen) × (answer ≡ SteppedTimes result) × DoesSteps old id most result new
+Happens old (Settle id) answer new = (result : Result ℕ NotOpen) × (answer ≡ Settled result) × DoesSettle old id result new
 
 -- the events have these answers, one after another, and lead to the new world
 abbrev pub Runs : World → List Event → List Answer → World → Type 0

@@ -14,9 +14,9 @@ use Rattle.mls_session.specs.declared.reply.Reply.TheVariants.{Done, Kinds, Save
 use Rattle.mls_server.specs.Settings.{terms_for}
 use Rattle.mls_server.specs.Worlds.{World, kept_in}
 use Rattle.mls_server.specs.declared.event.Event.{Event}
-use Rattle.mls_server.specs.declared.event.Event.TheVariants.{Open, Close, Command, Save, Look, Grab, Finish, Step, Steps}
+use Rattle.mls_server.specs.declared.event.Event.TheVariants.{Open, Close, Command, Save, Look, Grab, Finish, Step, Steps, Settle}
 use Rattle.mls_server.specs.declared.answer.Answer.{Answer}
-use Rattle.mls_server.specs.declared.answer.Answer.TheVariants.{Opened, Closed, Commanded, Saved, Looked, Grabbed, Finished, Stepped, SteppedTimes}
+use Rattle.mls_server.specs.declared.answer.Answer.TheVariants.{Opened, Closed, Commanded, Saved, Looked, Grabbed, Finished, Stepped, SteppedTimes, Settled}
 
 -- ---- own lists
 -- a command, or an accepted check step
@@ -35,6 +35,7 @@ session_of (Grab id) = Some id
 session_of (Finish id finding) = Some id
 session_of (Step id) = Some id
 session_of (Steps id most) = Some id
+session_of (Settle id) = Some id
 
 -- what catching up contributes that stopped: where memory stopped it, some accepted check steps, which leave this many areas, at least one; else itself
 abbrev pub AddsStopped : Bool → OwnCommand → ℕ → List Item → Kept → Type 0
@@ -52,14 +53,15 @@ AddsCommand command (SavedLines lines) items after = items ≡ asked command ∷
 AddsCommand command (Count errors pending) items after = items ≡ asked command ∷ []
 AddsCommand command (Why rules) items after = items ≡ asked command ∷ []
 
--- what an answer contributes: a finished finding and a step that is done, one check step; several steps, as many as were done; all else, but for commands
--- and saves, nothing
+-- what an answer contributes: a finished finding and a step that is done, one check step; several steps and settling, as many as were done; all else, but
+-- for commands and saves, nothing
 abbrev pub Adds : Event → Answer → List Item → Kept → Type 0
 Adds (Command id command) (Commanded (Ok reply)) items after = AddsCommand command reply items after
 Adds (Save id) (Saved (Ok reply) text) items after = AddsCommand SaveCommand reply items after
 Adds (Finish id finding) (Finished (Ok FindingFinished)) items after = items ≡ checked ∷ []
 Adds (Step id) (Stepped (Ok StepDone)) items after = items ≡ checked ∷ []
 Adds (Steps id most) (SteppedTimes (Ok run)) items after = items ≡ replicate run.done checked
+Adds (Settle id) (Settled (Ok count)) items after = items ≡ replicate count checked
 Adds event answer items after = items ≡ []
 
 -- an event of another session contributes nothing
@@ -85,6 +87,7 @@ told (Grabbed result) = []
 told (Finished result) = []
 told (Stepped result) = []
 told (SteppedTimes result) = []
+told (Settled result) = []
 
 -- the text that comes with the reply to a save is that of the own paint, as the session keeps it, or empty where it isn't saved; and a look returns, with its
 -- text, what a look at what the session keeps does

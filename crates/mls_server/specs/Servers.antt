@@ -1,7 +1,8 @@
 -- What a server keeps, and the world that it shows. This project's own.
-use Rattle.std.specs.Prelude.{ℕ, ◌<◌, ◌≤◌, ◌==◌, if◌then◌else◌, List, [], ◌∷◌, length, map}
+use Rattle.std.specs.Prelude.{ℕ, ◌<◌, ◌≤◌, ◌==◌, if◌then◌else◌, List, [], ◌∷◌, length, map, Option}
 use Rattle.std.specs.List.{All, AllPairs, Contains, position_or_len}
-use Rattle.mls_session.specs.Designs.{CanDump, HasRightMarks}
+use Rattle.mls_errorplane.specs.declared.checked.Checked.{Checked}
+use Rattle.mls_session.specs.Designs.{CanDump, HasRightMarks, KnowsRight}
 use Rattle.mls_session.specs.Journals.{IsLegal}
 use Rattle.mls_session.specs.Sessions.{IsHome, IsMadeFor, Session, kept_of, owners_of, state_of}
 use Rattle.mls_session.specs.Setups.{config_of, terms_of}
@@ -10,10 +11,11 @@ use Rattle.mls_tilepool.specs.Pools.{Pool, unreserved}
 use Rattle.mls_server.specs.Settings.{Setting, named_layouts}
 use Rattle.mls_server.specs.Worlds.{Seat, World}
 
--- an open session and its id
+-- an open session, its id, and where earlier checks are known to have left right marks
 pub record OpenSession : Type 0 where
   pub id : ℕ
   pub session : Session
+  pub checked : Option Checked
 
 -- the setup of each session, the pool of all tiles, how many ids were given, and the open sessions by name, in the order in which they were opened
 pub record Server : Type 0 where
@@ -52,14 +54,15 @@ abbrev pub place_in : List (List ℕ × OpenSession) → ℕ → ℕ
 place_in entries id = position_or_len (λ entry. entry.1.id == id) entries
 
 -- ---- what every server keeps
--- the session was opened with this setup, its planes lie in the pool beside those of the cells, its marks are right by the rules, and its journal is
--- legal
-pub record IsOpenIn (setup : Setup) (pool : Pool) (session : Session) : Type 0 where
-  pub made_for : IsMadeFor setup session
-  pub home : IsHome pool session
-  pub can_dump : CanDump setup pool (owners_of session)
-  pub marks_right : HasRightMarks (config_of setup pool) (state_of pool session).design
-  pub legal : IsLegal (terms_of setup pool) (kept_of pool session)
+-- the session was opened with this setup, its planes lie in the pool beside those of the cells, its marks are right by the rules, and where earlier checks
+-- are known to have left right marks too, and its journal is legal
+pub record IsOpenIn (setup : Setup) (pool : Pool) (opened : OpenSession) : Type 0 where
+  pub made_for : IsMadeFor setup opened.session
+  pub home : IsHome pool opened.session
+  pub can_dump : CanDump setup pool (owners_of opened.session)
+  pub marks_right : HasRightMarks (config_of setup pool) (state_of pool opened.session).design
+  pub knows_right : KnowsRight (config_of setup pool) (state_of pool opened.session).design opened.checked
+  pub legal : IsLegal (terms_of setup pool) (kept_of pool opened.session)
 
 -- no owner is of both
 abbrev pub AreApart : List ℕ → List ℕ → Type 0
@@ -68,7 +71,7 @@ AreApart a b = (owner : ℕ) → Contains a owner → ¬ (Contains b owner)
 -- so were all open sessions, no two of which have an owner or an id in common; no id is greater than the number of those that were given
 pub record AreOpen (setup : Setup) (pool : Pool) (given : ℕ) (sessions : List (List ℕ × OpenSession)) : Type 0 where
   pub cells_home : CanDump setup pool []
-  pub made : All (λ entry. IsOpenIn setup pool entry.1.session) sessions
+  pub made : All (λ entry. IsOpenIn setup pool entry.1) sessions
   pub apart : AllPairs (λ a b. AreApart (owners_of a.1.session) (owners_of b.1.session)) sessions
   pub rising : AllPairs (λ a b. a.1.id < b.1.id) sessions
   pub within : All (λ entry. (1 ≤ entry.1.id) × (entry.1.id ≤ given)) sessions

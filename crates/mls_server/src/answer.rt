@@ -24,4 +24,6 @@ pub enum Answer {
     Stepped(Result<Stepped, NotOpen>),
     /// How many check steps were done, and how they ended.
     SteppedTimes(Result<StepRun, NotOpen>),
+    /// How many pieces were taken out of the areas as known to be marked rightly.
+    Settled(Result<u64, NotOpen>),
 }

@@ -24,4 +24,6 @@ pub enum Event {
     Step(SessionId),
     /// Does at most so many check steps in a session.
     Steps(SessionId, u64),
+    /// Takes pieces out of a session's areas whose marks are known to be right.
+    Settle(SessionId),
 }

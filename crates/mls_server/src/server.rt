@@ -16,6 +16,7 @@ mod sessions;
 use crate::{Capacity, Limits, Name, SessionId};
 use indexmap::IndexMap;
 use mls_edgerule::Rules;
+use mls_errorplane::Checked;
 use mls_layout::Workspace;
 use mls_library::{CellFault, CellFile, CellId, Library};
 use mls_session::{JournalLimit, Session, Setup};
@@ -23,11 +24,12 @@ use mls_tech::Tech;
 use std::alloc::{AllocError, Global};
 use std::marker::Model;
 
-/// A session that is open, and its id.
+/// A session that is open, its id, and where earlier checks are known to have left right marks.
 #[derive(Drop)]
 pub(crate) struct OpenSession {
     pub(crate) id: SessionId,
     pub(crate) session: Session,
+    pub(crate) checked: Option<Checked>,
 }
 
 /// A server of up to 64 sessions over one pool.
@@ -46,7 +48,7 @@ impl Model for OpenSession {
 
     ghost Value = { OpenSession };
 
-    ghost view = { λ s. record { id = s.id; session = s.session } };
+    ghost view = { λ s. record { id = s.id; session = s.session; checked = s.checked } };
 }
 
 impl Model for Server {

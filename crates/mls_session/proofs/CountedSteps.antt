@@ -1,7 +1,8 @@
 -- The check steps that are counted: there are never more than squares that awaited checking.
-use Rattle.std.proofs.Common.{◌≡◌, ◌≢◌, ℕ, ◌+◌, ◌^◌, ◌≤◌, ◌<◌, Some, List, [], ◌∷◌, sym, subst, arith}
+use Rattle.std.proofs.Common.{◌≡◌, ◌≢◌, ℕ, zero, suc, ◌+◌, ◌^◌, ◌≤◌, ◌<◌, Some, List, [], ◌∷◌, sym, subst, arith}
 use Rattle.mls_checker.specs.Findings.{Finding}
 use Rattle.mls_edgerule.specs.declared.edge_rule.EdgeRule.{EdgeRule}
+use Rattle.mls_errorplane.specs.CatchingUp.{Steps}
 use Rattle.mls_errorplane.specs.Checkings.{Checking}
 use Rattle.mls_errorplane.specs.DirtyLists.{IsDirtyList, area_of, first_piece_of}
 use Rattle.mls_errorplane.specs.ErrorPlanes.{HasStepped}
@@ -48,6 +49,16 @@ IsCounted-stepped rules layout limit count old new stepped.Idle counted (none, s
 IsCounted-stepped rules layout limit count old new stepped.Done counted step = IsCounted-Done rules layout limit count old new counted step
 IsCounted-stepped rules layout limit count old new stepped.Full counted (some, full, same) = IsCounted-same count old new same counted
 IsCounted-stepped rules layout limit count old new stepped.Memory counted (some, same) = IsCounted-same count old new same counted
+
+-- some more, one after another
+pub IsCounted-Steps :
+    (rules : List EdgeRule) (layout : Layout) (limit count more : ℕ) (old new : Checking) → IsCounted old.dirty count
+    → Steps rules layout limit more old new → IsCounted new.dirty (count + more)
+IsCounted-Steps rules layout limit count zero old new counted same = IsCounted-same count old new same counted
+IsCounted-Steps rules layout limit count (suc more) old new counted (mid, steps, last) =
+    let one : (count + more) + 1 ≡ count + suc more = omega arith in
+    subst (IsCounted new.dirty) one
+    (IsCounted-Done rules layout limit (count + more) mid new (IsCounted-Steps rules layout limit count more old mid counted steps) last)
 
 -- a fresh finding is of the first area
 fresh_some : (areas : List Rect) (piece : Rect) → first_piece_of areas ≡ Some piece → areas ≢ []

@@ -3,6 +3,7 @@ use Rattle.std.proofs.Common.{◌≡◌, ℕ, ◌+◌, true, List, Some, None, l
 use Rattle.std.specs.Option.{option_map}
 use Rattle.mls_checker.specs.Findings.{Finding}
 use Rattle.mls_edgerule.specs.declared.edge_rule.EdgeRule.{EdgeRule}
+use Rattle.mls_errorplane.specs.CatchingUp.{Steps}
 use Rattle.mls_errorplane.specs.Checkings.{Checking, check_step}
 use Rattle.mls_errorplane.specs.ErrorPlanes.{HasStepped, exceeds}
 use Rattle.mls_errorplane.specs.Outcomes.{HasFinished}
@@ -11,10 +12,10 @@ use Rattle.mls_errorplane.specs.declared.error_plane.Outcome.TheVariants as outc
 use Rattle.mls_errorplane.specs.declared.error_plane.Stepped.{Stepped}
 use Rattle.mls_errorplane.specs.declared.error_plane.Stepped.TheVariants as stepped
 use Rattle.mls_session.specs.Inner.{Journal, after_steps, done_steps, finished_steps}
-use Rattle.mls_session.specs.Journals.{ChecksOnce, Finishes, Kept, StepsOnce}
+use Rattle.mls_session.specs.Journals.{ChecksOnce, ChecksTimes, Finishes, Kept, StepsOnce}
 use Rattle.mls_session.specs.Own.{Designed, Drawn, layout_of}
-use Rattle.mls_session.specs.OwnSteps.{Terms, checked, own_check}
-use Rattle.mls_session.proofs.CheckedDesigns.{checked-done, checked-full}
+use Rattle.mls_session.specs.OwnSteps.{Terms, checked, checked_times, own_check}
+use Rattle.mls_session.proofs.CheckedDesigns.{checked-done, checked-full, checked_times-Steps, checks-Some}
 use Rattle.mls_session.proofs.CountedSteps.{HasStepped-Finished}
 use Rattle.mls_session.proofs.JournalledCommands.{kept_with}
 
@@ -66,6 +67,14 @@ module _ (terms : Terms) (old new : Designed) (journal : Journal) (drawn : new.d
   finishes finding outcome.Stale (stale, same) = (stale, kept same)
   finishes finding outcome.Full (fresh, full, same) = (fresh, own_check_full full, kept same)
 
+  checks_times :
+      (count : ℕ) → Steps terms.config.rules (layout_of terms.config old.drawn) terms.config.quota count old.checking new.checking
+      → ChecksTimes terms count (kept_with old journal) (kept_with new (after_steps journal count))
+  checks_times count steps =
+      let done : checked_times count terms.config old ≡ Some new =
+      checked_times-Steps terms.config old count new.checking steps ∙ ap Some (sym (design_of new.checking refl)) in
+      (record { design = new; entries = length journal.entries }, checks-Some terms count (kept_with old journal).own new done, refl)
+
 -- ---- steps of a design
 -- a check step of the design is one of the session
 pub StepsOnce-stepped :
@@ -88,3 +97,13 @@ Finishes-finished terms rules planes quota old new journal after finding ended c
     (subst (λ (p : ℕ). HasFinished rules p (layout_of terms.config old.drawn) terms.config.quota old.checking finding ended new.checking) (sym count)
     (subst (λ (q : ℕ). HasFinished rules planes (layout_of terms.config old.drawn) q old.checking finding ended new.checking) (sym limit) done)) in
     subst (λ (j : Journal). Finishes terms (kept_with old journal) finding ended (kept_with new j)) (sym is) (finishes terms old new journal drawn finding ended here)
+
+-- so are steps one after another
+pub ChecksTimes-Steps :
+    (terms : Terms) (rules : List EdgeRule) (quota count : ℕ) (old new : Designed) (journal after : Journal)
+    → terms.config.rules ≡ rules → terms.config.quota ≡ quota → Steps rules (layout_of terms.config old.drawn) quota count old.checking new.checking
+    → new.drawn ≡ old.drawn → after ≡ after_steps journal count → ChecksTimes terms count (kept_with old journal) (kept_with new after)
+ChecksTimes-Steps terms rules quota count old new journal after by limit steps drawn is =
+    let here = subst (λ (r : List EdgeRule). Steps r (layout_of terms.config old.drawn) terms.config.quota count old.checking new.checking) (sym by)
+    (subst (λ (q : ℕ). Steps rules (layout_of terms.config old.drawn) q count old.checking new.checking) (sym limit) steps) in
+    subst (λ (j : Journal). ChecksTimes terms count (kept_with old journal) (kept_with new j)) (sym is) (checks_times terms old new journal drawn count here)

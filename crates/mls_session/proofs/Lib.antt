@@ -27,6 +27,7 @@ pub mod JournalledSaves
 pub mod JournalledSteps
 pub mod KeptPlanes
 pub mod KeptRooms
+pub mod KnownMarks
 pub mod LegalJournals
 pub mod ListedLayers
 pub mod ListedPieces

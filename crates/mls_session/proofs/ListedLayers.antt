@@ -63,12 +63,12 @@ module _ (tech : Tech) (layout : Layout) where
   pub count_before-next : (kind : ℕ) → 1 ≤ kind → length (lines_before (kind + 1)) ≡ length (lines_before kind) + length (layer_lines tech kind (strips_at kind))
   count_before-next kind from = ap length (lines_before-next kind from) ∙ length-append (lines_before kind) (layer_lines tech kind (strips_at kind))
 
-  strips_at-few : (found : Option ℕ) → length (option_map_or (strips_on layout) found []) ≤ 4294967296
+  strips_at-few : (found : Option ℕ) → length (option_map_or (strips_on layout) found []) ≤ 4398046511104
   strips_at-few None = omega arith
   strips_at-few (Some plane) = strips_few (layout plane)
 
   -- which are no more than the world has squares, and one
-  pub section-few : (kind : ℕ) → length (layer_lines tech kind (strips_at kind)) ≤ 4294967297
+  pub section-few : (kind : ℕ) → length (layer_lines tech kind (strips_at kind)) ≤ 4398046511105
   section-few kind = omega (arith, layer_lines-few tech kind (strips_at kind), strips_at-few (plane_of_type tech.type_planes kind))
 
 -- ---- the strips of the first planes

@@ -60,5 +60,5 @@ pub dirty_lines-few : (areas : List Rect) → length (dirty_lines areas) ≤ len
 dirty_lines-few [] = omega arith
 dirty_lines-few (area ∷ areas) = omega (arith, length-map (area ∷ areas) (λ rect. spaced (rect_words rect)))
 
-pub mark_lines-few : (picture : Picture) (marks : List Piece) → marks ≡ strips_of world picture → length (mark_lines marks) ≤ 4294967297
+pub mark_lines-few : (picture : Picture) (marks : List Piece) → marks ≡ strips_of world picture → length (mark_lines marks) ≤ 4398046511105
 mark_lines-few picture marks are = omega (arith, kind_lines-few (codes "error_p") marked marks, ap length are, strips_few picture)

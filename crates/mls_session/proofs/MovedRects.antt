@@ -18,7 +18,7 @@ use Rattle.mls_session.specs.Bounds.{moved_line, moved_rect, or_none}
 -- ---- lines
 -- the world has no line at this coordinate, counted as the program does
 abbrev pub is_beyond : ℤ → Bool
-is_beyond z = int_lt z (pos 4161536) || int_lt (pos 4227072) z
+is_beyond z = int_lt z (pos 3145728) || int_lt (pos 5242880) z
 
 is_outside-moved_line : (line : ℕ) (z : ℤ) → is_outside (moved_line line z) ≡ is_beyond (pos line +ℤ z)
 unfolding is_outside
@@ -80,7 +80,7 @@ pub record IsMoved (e r : Rect) (dx dy : ℤ) : Type 0 where
   pub top : pos r.top ≡ pos e.top +ℤ dy
   pub legal : IsRectangleIn world r
 
-within : (z : ℤ) → is_beyond z ≡ false → (pos (nat_abs z) ≡ z) × (4161536 ≤ nat_abs z) × (nat_abs z ≤ 4227072)
+within : (z : ℤ) → is_beyond z ≡ false → (pos (nat_abs z) ≡ z) × (3145728 ≤ nat_abs z) × (nat_abs z ≤ 5242880)
 within (pos n) h = (refl, grind (arith, ints, nat_tests), grind (arith, ints, nat_tests))
 within (negsuc n) h = absurd (cc h)
 
@@ -123,11 +123,11 @@ IsMoved-moved_rect e r dx dy wide tall is =
     subst (λ s. IsMoved e s dx dy) stays.1 moved
 
 -- ---- sums of 32 bits
-fits_near : (z : ℤ) → negsuc 32767 ≤ℤ z → z ≤ℤ pos 32768 → FitsSigned w32 z
+fits_near : (z : ℤ) → negsuc 1048575 ≤ℤ z → z ≤ℤ pos 1048576 → FitsSigned w32 z
 fits_near (pos n) low high = fits_signed_from_abs w32 (pos n) (omega (arith, ints, high))
 fits_near (negsuc n) low high = fits_signed_from_abs w32 (negsuc n) (omega (arith, ints, low))
 
-near : (line : ℕ) (w z : ℤ) → pos line ≡ w +ℤ pos origin → is_beyond (pos line +ℤ z) ≡ false → (negsuc 32767 ≤ℤ (w +ℤ z)) × ((w +ℤ z) ≤ℤ pos 32768)
+near : (line : ℕ) (w z : ℤ) → pos line ≡ w +ℤ pos origin → is_beyond (pos line +ℤ z) ≡ false → (negsuc 1048575 ≤ℤ (w +ℤ z)) × ((w +ℤ z) ≤ℤ pos 1048576)
 near line w z counted stays =
     let inside = within (pos line +ℤ z) stays in
     (omega (arith, ints, inside.0, inside.1, counted), omega (arith, ints, inside.0, inside.2, counted))
@@ -223,10 +223,10 @@ module _ (e r : Rect) (dx dy : ℤ) (x y : ℕ) (moved : IsMoved e r dx dy) wher
   holds-IsMoved = holds-at (pos x -ℤ dx) (pos y -ℤ dy) refl refl
 
 -- ---- squares that leave the world
-has_square-from : (x y : ℤ) → pos 4161536 ≤ℤ x → x <ℤ pos 4227072 → pos 4161536 ≤ℤ y → y <ℤ pos 4227072 → has_square x y ≡ true
+has_square-from : (x y : ℤ) → pos 3145728 ≤ℤ x → x <ℤ pos 5242880 → pos 3145728 ≤ℤ y → y <ℤ pos 5242880 → has_square x y ≡ true
 has_square-from x y a b c d = grind (arith, ints)
 
-pub has_square-to : (x y : ℤ) → has_square x y ≡ true → (pos 4161536 ≤ℤ x) × (x <ℤ pos 4227072) × (pos 4161536 ≤ℤ y) × (y <ℤ pos 4227072)
+pub has_square-to : (x y : ℤ) → has_square x y ≡ true → (pos 3145728 ≤ℤ x) × (x <ℤ pos 5242880) × (pos 3145728 ≤ℤ y) × (y <ℤ pos 5242880)
 has_square-to x y h = (grind (arith, ints), grind (arith, ints), grind (arith, ints), grind (arith, ints))
 
 -- the world has each square of a rectangle that stays
@@ -239,7 +239,7 @@ has_square-IsMoved e r dx dy x y moved inside =
     (omega (arith, ints, lines.2, moved.bottom, moved.legal.bottom_in))
     (omega (arith, ints, lines.3, moved.top, moved.legal.top_in))
 
-pub not_beyond : (z : ℤ) → pos 4161536 ≤ℤ z → z ≤ℤ pos 4227072 → is_beyond z ≡ false
+pub not_beyond : (z : ℤ) → pos 3145728 ≤ℤ z → z ≤ℤ pos 5242880 → is_beyond z ≡ false
 not_beyond z low high = grind (arith, ints)
 
 pub none_of : (a b c d : Bool) → a ≡ false → b ≡ false → c ≡ false → d ≡ false → (a || b || c || d) ≡ false

@@ -17,6 +17,7 @@ use Rattle.mls_tilepool.specs.Pools.{Pool}
 use Rattle.mls_checker.specs.Findings.{Finding}
 use Rattle.mls_checker.specs.ZoneLayouts.{AgreeOutside}
 use Rattle.mls_library.specs.Libraries.{HavePlanes, IsHome as AreCellsHome, Library, cell_layout}
+use Rattle.mls_errorplane.specs.CatchingUp.{Steps}
 use Rattle.mls_errorplane.specs.Checkings.{Checking, IsChecked}
 use Rattle.mls_errorplane.specs.DirtyLists.{area_of}
 use Rattle.mls_errorplane.specs.ErrorPlanes.{HasStepped}
@@ -222,6 +223,14 @@ HasFinished-IsChecked rules planes layout limit old new finding outcome.Finished
     subst (IsChecked rules layout) (sym is) (step-IsChecked rules layout old right)
 HasFinished-IsChecked rules planes layout limit old new finding outcome.Stale (stale, same) right = subst (IsChecked rules layout) (sym same) right
 HasFinished-IsChecked rules planes layout limit old new finding outcome.Full (fresh, full, same) right = subst (IsChecked rules layout) (sym same) right
+
+-- any number of steps keeps them right
+pub Steps-IsChecked :
+    (rules : List EdgeRule) (layout : Layout) (limit count : ℕ) (old new : Checking) → Steps rules layout limit count old new
+    → IsChecked rules layout old → IsChecked rules layout new
+Steps-IsChecked rules layout limit zero old new same right = subst (IsChecked rules layout) (sym same) right
+Steps-IsChecked rules layout limit (suc count) old new (mid, steps, last) right =
+    HasStepped-IsChecked rules layout limit mid new stepped.Done last (Steps-IsChecked rules layout limit count old mid steps right)
 
 -- so does a check step of the design that is accepted, and any number of them
 module _ (config : Config) where

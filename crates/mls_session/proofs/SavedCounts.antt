@@ -40,10 +40,10 @@ kind_lines-few name kind strips =
 pub layer_lines-few : (tech : Tech) (kind : ℕ) (strips : List Piece) → length (layer_lines tech kind strips) ≤ length strips + 1
 layer_lines-few tech kind strips = kind_lines-few (first_name tech kind) kind strips
 
--- a plane of the world has at most 2^32
-pub strips_few : (picture : Picture) → length (strips_of world picture) ≤ 4294967296
+-- a plane of the world has at most 2^42
+pub strips_few : (picture : Picture) → length (strips_of world picture) ≤ 4398046511104
 strips_few picture =
-    let high : length (rows world) ≡ 65536 = length-range_with_len world.bottom 65536 in
-    let wide : length (columns world) ≡ 65536 = length-range_with_len world.left 65536 in
-    let squares : length (rows world) * length (columns world) ≡ 4294967296 = ap (λ n. n * length (columns world)) high ∙ ap (λ n. 65536 * n) wide in
+    let high : length (rows world) ≡ 2097152 = length-range_with_len world.bottom 2097152 in
+    let wide : length (columns world) ≡ 2097152 = length-range_with_len world.left 2097152 in
+    let squares : length (rows world) * length (columns world) ≡ 4398046511104 = ap (λ n. n * length (columns world)) high ∙ ap (λ n. 2097152 * n) wide in
     subst (λ n. length (strips_of world picture) ≤ n) squares (strips_of-squares world picture)

@@ -1,5 +1,5 @@
 -- What a caller sees of a design, its own state, and its planes in the pool.
-use Rattle.std.specs.Prelude.{◌≡◌, ◌≢◌, ℕ, Option, Some, List, [], ◌∷◌, ◌++◌, length, ⊤}
+use Rattle.std.specs.Prelude.{◌≡◌, ◌≢◌, ℕ, Option, Some, None, IfSome, List, [], ◌∷◌, ◌++◌, length, ⊤}
 use Rattle.std.specs.List.{All, AllPairs, Contains}
 use Rattle.mls_geom.specs.Rects.{Rect}
 use Rattle.mls_layout.specs.declared.uses.CellUse.{CellUse}
@@ -9,8 +9,12 @@ use Rattle.mls_paint.specs.Owners.{ChangesAmong}
 use Rattle.mls_paint.specs.Planes.{HasStrips, layout_in}
 use Rattle.mls_errorplane.specs.Checkings.{IsChecked}
 use Rattle.mls_errorplane.specs.ErrorPlanes.{ErrorPlane, ShowsMarks, checking_of}
+use Rattle.mls_errorplane.specs.Stretches.{AreRightIn}
+use Rattle.mls_errorplane.specs.declared.checked.Checked.{Checked}
 use Rattle.mls_session.specs.Own.{Config, Designed, Drawn, layout_of}
 use Rattle.mls_session.specs.Quotas.{plane_reserve}
+use Rattle.mls_session.specs.declared.command.Command.{Command}
+use Rattle.mls_session.specs.declared.command.Command.TheVariants.{Box, Paint, Erase, Dump, GetCell, What, Save, Check, CatchUp, Why as WhyCommand, Count as CountCommand}
 use Rattle.mls_session.specs.declared.setup.Setup.{Setup}
 use Rattle.mls_session.specs.declared.reply.Reply.{Reply}
 use Rattle.mls_session.specs.declared.reply.Reply.TheVariants.{Done, Kinds, Saved, Count, Why, Refused, Stopped}
@@ -83,3 +87,21 @@ OnRefused (Stopped refusal pending) P = ⊤
 -- outside the areas that await checking, the marked squares are exactly those of the layout that the rules forbid
 abbrev pub HasRightMarks : Config → Designed → Type 0
 HasRightMarks config own = IsChecked config.rules (layout_of config own.drawn) own.checking
+
+-- in the rectangles that earlier checks left, if there were any, the marked squares are exactly those of the layout that the rules forbid
+abbrev pub KnowsRight : Config → Designed → Option Checked → Type 0
+KnowsRight config own checked = IfSome checked (AreRightIn config.rules (layout_of config own.drawn) own.checking.marks)
+
+-- where they are known to be so after a command: where they were, if it leaves the layout and the marks
+abbrev pub known_after : Command → Option Checked → Option Checked
+known_after (Box left bottom right top) checked = checked
+known_after What checked = checked
+known_after Save checked = checked
+known_after Check checked = checked
+known_after WhyCommand checked = checked
+known_after CountCommand checked = checked
+known_after (Paint kind) checked = None
+known_after (Erase kinds) checked = None
+known_after (Dump cell dx dy) checked = None
+known_after (GetCell cell dx dy) checked = None
+known_after CatchUp checked = None

@@ -109,7 +109,7 @@ after_command journal command executed =
 
 -- each check step leaves fewer squares in the areas, so the steps that were done since the last entry and those to come are no more than these
 abbrev pub most_checks : ℕ
-most_checks = 65 * 2 ^ 32
+most_checks = 65 * 2 ^ 42
 
 -- the areas are legal and few, and so is the number of check steps since the last entry
 pub record IsCounted (dirty : List Rect) (checks : ℕ) : Type 0 where

@@ -1,4 +1,8 @@
 //! What a user asks of a session.
+ghost use Rattle.std.specs.Prelude.{◌≡◌};
+ghost use Rattle.mls_session.specs.Designs as spec;
+
+use mls_errorplane::Checked;
 use mls_kinds::KindSet;
 use mls_library::CellId;
 
@@ -42,4 +46,26 @@ pub enum Command {
     Why,
     /// Asks for the number of marked squares, and of areas that await checking.
     Count,
+}
+
+impl Command {
+    /// Returns where marks are known to be right after the command, if they were so here before: there, if it leaves the
+    /// layout and the marks as they are, whatever its reply, and else nowhere.
+    pub fn known_after(&self, checked: &Option<Checked>) -> Option<Checked>
+        ensures { result ≡ spec.known_after self.now checked.now }
+    {
+        match self {
+            Command::Box { .. }
+            | Command::What
+            | Command::Save
+            | Command::Check
+            | Command::Why
+            | Command::Count => *checked,
+            Command::Paint(_)
+            | Command::Erase(_)
+            | Command::Dump { .. }
+            | Command::GetCell { .. }
+            | Command::CatchUp => None,
+        }
+    }
 }

@@ -93,7 +93,7 @@ fn count_layers(tech: &Tech, layers: &[FlatStrips]) -> usize
     requires listed { (layout : Layout) × ListsPlanes layout layers.now }
     ensures count { (layout : Layout) → ListsPlanes layout layers.now
         → result ≡ length (layers_lines tech.now (strips_on layout) (types_of tech.now)) }
-    ensures few { result ≤ 2 ^ 39 }
+    ensures few { result ≤ 2 ^ 49 }
 {
     let types = tech.types() as u8;
     let mut lines = 0;

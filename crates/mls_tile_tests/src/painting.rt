@@ -252,10 +252,10 @@ fn turns_change_no_tile(rt: HostRuntime) -> Result<(), Fail> {
 
 /// The corners of the world, and the kinds that are painted there.
 const CORNERS: [(u8, Sides); 4] = [
-    (1, (-32768, -32768, -32767, -32767)),
-    (2, (32767, -32768, 32768, -32767)),
-    (3, (-32768, 32767, -32767, 32768)),
-    (63, (32767, 32767, 32768, 32768)),
+    (1, (-1048576, -1048576, -1048575, -1048575)),
+    (2, (1048575, -1048576, 1048576, -1048575)),
+    (3, (-1048576, 1048575, -1048575, 1048576)),
+    (63, (1048575, 1048575, 1048576, 1048576)),
 ];
 
 /// Paints the corners.
@@ -282,16 +282,16 @@ fn expect_corners(rt: &impl Abort, canvas: &mut Canvas) -> Result<(), Fail> {
 /// Returns the tiles that the leftmost column meets.
 fn leftmost_tiles() -> Result<[Piece; 3], RectFault> {
     Ok([
-        piece(1, (-32768, -32768, -32767, -32767))?,
-        piece(0, (-32768, -32767, 32768, 32767))?,
-        piece(3, (-32768, 32767, -32767, 32768))?,
+        piece(1, (-1048576, -1048576, -1048575, -1048575))?,
+        piece(0, (-1048576, -1048575, 1048576, 1048575))?,
+        piece(3, (-1048576, 1048575, -1048575, 1048576))?,
     ])
 }
 
 /// Asserts that an area search of the leftmost column finds them.
 fn expect_leftmost_tiles(rt: &impl Abort, alloc: Global, canvas: &mut Canvas) -> Result<(), Fail> {
     let left = leftmost_tiles()?;
-    let column = Rect::new(-32768, -32768, -32767, 32768)?;
+    let column = Rect::new(-1048576, -1048576, -1048575, 1048576)?;
     let found = canvas.area(alloc, column)?;
     assert_eq!(rt; found.as_slice(), left.as_slice());
     Ok(())

@@ -8,15 +8,15 @@ use std::test::Fail;
 
 /// The lower-left squares of the tiles of a plane with one bar: B below it, L to its left, the bar P, R to its right,
 /// and A above it.
-const B: Option<Square> = Some((-32768, -32768));
+const B: Option<Square> = Some((-1048576, -1048576));
 
-const L: Option<Square> = Some((-32768, 0));
+const L: Option<Square> = Some((-1048576, 0));
 
 const P: Option<Square> = Some((0, 0));
 
 const R: Option<Square> = Some((1, 0));
 
-const A: Option<Square> = Some((-32768, 10));
+const A: Option<Square> = Some((-1048576, 10));
 
 /// The upper part of P, split at row 5.
 const Q: Option<Square> = Some((0, 5));
@@ -40,35 +40,35 @@ fn bar(alloc: Global) -> Result<Sheet, Fail> {
 /// Returns the tiles of the plane of a bar.
 fn rows_of_bar() -> [Row; 5] {
     [
-        row((-32768, -32768, 32768, 0), 0, [None, None, None, R]),
-        row((-32768, 0, 0, 10), 0, [B, None, P, A]),
+        row((-1048576, -1048576, 1048576, 0), 0, [None, None, None, R]),
+        row((-1048576, 0, 0, 10), 0, [B, None, P, A]),
         row((0, 0, 1, 10), 1, [B, L, R, A]),
-        row((1, 0, 32768, 10), 0, [B, P, None, A]),
-        row((-32768, 10, 32768, 32768), 0, [L, None, None, None]),
+        row((1, 0, 1048576, 10), 0, [B, P, None, A]),
+        row((-1048576, 10, 1048576, 1048576), 0, [L, None, None, None]),
     ]
 }
 
 /// Returns them with the bar split at row 5.
 fn rows_of_split_bar() -> [Row; 6] {
     [
-        row((-32768, -32768, 32768, 0), 0, [None, None, None, R]),
-        row((-32768, 0, 0, 10), 0, [B, None, Q, A]),
+        row((-1048576, -1048576, 1048576, 0), 0, [None, None, None, R]),
+        row((-1048576, 0, 0, 10), 0, [B, None, Q, A]),
         row((0, 0, 1, 5), 1, [B, L, R, Q]),
-        row((1, 0, 32768, 10), 0, [B, P, None, A]),
+        row((1, 0, 1048576, 10), 0, [B, P, None, A]),
         row((0, 5, 1, 10), 1, [P, L, R, A]),
-        row((-32768, 10, 32768, 32768), 0, [L, None, None, None]),
+        row((-1048576, 10, 1048576, 1048576), 0, [L, None, None, None]),
     ]
 }
 
 /// Returns them with the space to the left of the bar split at column -9.
 fn rows_of_split_space() -> [Row; 6] {
     [
-        row((-32768, -32768, 32768, 0), 0, [None, None, None, R]),
-        row((-32768, 0, -9, 10), 0, [B, None, M, A]),
+        row((-1048576, -1048576, 1048576, 0), 0, [None, None, None, R]),
+        row((-1048576, 0, -9, 10), 0, [B, None, M, A]),
         row((-9, 0, 0, 10), 0, [B, L, P, A]),
         row((0, 0, 1, 10), 1, [B, M, R, A]),
-        row((1, 0, 32768, 10), 0, [B, P, None, A]),
-        row((-32768, 10, 32768, 32768), 0, [L, None, None, None]),
+        row((1, 0, 1048576, 10), 0, [B, P, None, A]),
+        row((-1048576, 10, 1048576, 1048576), 0, [L, None, None, None]),
     ]
 }
 
@@ -134,7 +134,7 @@ fn space_splits_and_joins_in_x(rt: HostRuntime) -> Result<(), Fail> {
 #[test]
 fn area_of_bar_in_order(rt: HostRuntime) -> Result<(), Fail> {
     let mut sheet = bar(rt.alloc())?;
-    let corners = [(-32768, 0), (0, 0), (1, 0), (-32768, 10)];
+    let corners = [(-1048576, 0), (0, 0), (1, 0), (-1048576, 10)];
     expect_area(&rt, rt.alloc(), &mut sheet, (-1, 5, 2, 12), &corners)
 }
 
@@ -156,19 +156,19 @@ fn planes_of_one_pool_leave_one_another(rt: HostRuntime) -> Result<(), Fail> {
 
 /// Asserts that a plane has the world as its only tile.
 fn expect_world(rt: &impl Abort, alloc: Global, sheet: &mut Sheet) -> Result<(), Fail> {
-    let world = (-32768, -32768, 32768, 32768);
+    let world = (-1048576, -1048576, 1048576, 1048576);
     expect_rows(rt, alloc, sheet, &[row(world, 0, [None; 4])])?;
-    expect_area(rt, alloc, sheet, world, &[(-32768, -32768)])
+    expect_area(rt, alloc, sheet, world, &[(-1048576, -1048576)])
 }
 
 /// Asserts that the only tile is found in the middle and in the corners of the world.
 fn expect_world_at_squares(rt: &impl Abort, sheet: &mut Sheet) {
     for (x, y) in [
         (0, 0),
-        (-32768, -32768),
-        (32767, 32767),
-        (-32768, 32767),
-        (32767, -32768),
+        (-1048576, -1048576),
+        (1048575, 1048575),
+        (-1048576, 1048575),
+        (1048575, -1048576),
     ] {
         assert_eq!(rt; sheet.find(x, y), B, "at {x}, {y}");
     }
@@ -203,11 +203,11 @@ fn expect_tiles_of_comb(rt: &impl Abort, sheet: &mut Sheet) {
         (797, 50, (797, 0)),
         (1, 50, (1, 0)),
         (798, 99, (798, 0)),
-        (-1, 0, (-32768, 0)),
+        (-1, 0, (-1048576, 0)),
         (799, 99, (799, 0)),
-        (400, 100, (-32768, 100)),
+        (400, 100, (-1048576, 100)),
         (401, 50, (401, 0)),
-        (401, -1, (-32768, -32768)),
+        (401, -1, (-1048576, -1048576)),
     ] {
         assert_eq!(rt; sheet.find(x, y), Some(corner), "at {x}, {y}");
     }
@@ -247,51 +247,55 @@ fn comb_of_400_bars(rt: HostRuntime) -> Result<(), Fail> {
 /// Returns the squares in the corners of the world, each of a kind of its own.
 fn corner_pieces() -> Result<[Piece; 4], RectFault> {
     Ok([
-        piece(1, (-32768, -32768, -32767, -32767))?,
-        piece(2, (32767, -32768, 32768, -32767))?,
-        piece(3, (-32768, 32767, -32767, 32768))?,
-        piece(4, (32767, 32767, 32768, 32768))?,
+        piece(1, (-1048576, -1048576, -1048575, -1048575))?,
+        piece(2, (1048575, -1048576, 1048576, -1048575))?,
+        piece(3, (-1048576, 1048575, -1048575, 1048576))?,
+        piece(4, (1048575, 1048575, 1048576, 1048576))?,
     ])
 }
 
 /// Returns the tiles of their plane.
 fn rows_of_corners() -> [Row; 7] {
-    let below = Some((-32767, -32768));
-    let middle = Some((-32768, -32767));
-    let above = Some((-32767, 32767));
-    let upper_right = Some((32767, 32767));
+    let below = Some((-1048575, -1048576));
+    let middle = Some((-1048576, -1048575));
+    let above = Some((-1048575, 1048575));
+    let upper_right = Some((1048575, 1048575));
     [
         row(
-            (-32768, -32768, -32767, -32767),
+            (-1048576, -1048576, -1048575, -1048575),
             1,
             [None, None, below, middle],
         ),
         row(
-            (-32767, -32768, 32767, -32767),
+            (-1048575, -1048576, 1048575, -1048575),
             0,
-            [None, B, Some((32767, -32768)), middle],
+            [None, B, Some((1048575, -1048576)), middle],
         ),
         row(
-            (32767, -32768, 32768, -32767),
+            (1048575, -1048576, 1048576, -1048575),
             2,
             [None, below, None, middle],
         ),
         row(
-            (-32768, -32767, 32768, 32767),
+            (-1048576, -1048575, 1048576, 1048575),
             0,
             [B, None, None, upper_right],
         ),
         row(
-            (-32768, 32767, -32767, 32768),
+            (-1048576, 1048575, -1048575, 1048576),
             3,
             [middle, None, above, None],
         ),
         row(
-            (-32767, 32767, 32767, 32768),
+            (-1048575, 1048575, 1048575, 1048576),
             0,
-            [middle, Some((-32768, 32767)), upper_right, None],
+            [middle, Some((-1048576, 1048575)), upper_right, None],
         ),
-        row((32767, 32767, 32768, 32768), 4, [middle, above, None, None]),
+        row(
+            (1048575, 1048575, 1048576, 1048576),
+            4,
+            [middle, above, None, None],
+        ),
     ]
 }
 
@@ -300,4 +304,32 @@ fn tiles_in_all_corners_of_the_world(rt: HostRuntime) -> Result<(), Fail> {
     let pieces = corner_pieces()?;
     let mut sheet = Sheet::of(rt.alloc(), &pieces)?;
     expect_rows(&rt, rt.alloc(), &mut sheet, &rows_of_corners())
+}
+
+/// Returns the tiles of a plane with two bars far from the world's border, between which lies the line 32768.
+fn rows_at_a_line_far_inside() -> [Row; 6] {
+    let right = Some((32768, 0));
+    let after = Some((40000, 0));
+    [
+        row(
+            (-1048576, -1048576, 1048576, 0),
+            0,
+            [None, None, None, after],
+        ),
+        row((-1048576, 0, 0, 10), 0, [B, None, P, A]),
+        row((0, 0, 32768, 10), 1, [B, L, right, A]),
+        row((32768, 0, 40000, 10), 2, [B, P, after, A]),
+        row((40000, 0, 1048576, 10), 0, [B, right, None, A]),
+        row((-1048576, 10, 1048576, 1048576), 0, [L, None, None, None]),
+    ]
+}
+
+#[test]
+fn bars_on_both_sides_of_a_line_far_inside(rt: HostRuntime) -> Result<(), Fail> {
+    let pieces = [
+        piece(1, (0, 0, 32768, 10))?,
+        piece(2, (32768, 0, 40000, 10))?,
+    ];
+    let mut sheet = Sheet::of(rt.alloc(), &pieces)?;
+    expect_rows(&rt, rt.alloc(), &mut sheet, &rows_at_a_line_far_inside())
 }

@@ -22,7 +22,7 @@ use Rattle.mls_wire.specs.declared.response.Response.{Response}
 use Rattle.mls_wire.specs.declared.response.Response.TheVariants.{Silent, Fault, Answered, Audited}
 use Rattle.mls_server.specs.Faults.{open_fault_number, open_fault_text}
 use Rattle.mls_server.specs.declared.answer.Answer.{Answer}
-use Rattle.mls_server.specs.declared.answer.Answer.TheVariants.{Opened, Closed, Commanded, Saved as SavedAs, Looked as LookedAt, Grabbed, Finished, Stepped, SteppedTimes}
+use Rattle.mls_server.specs.declared.answer.Answer.TheVariants.{Opened, Closed, Commanded, Saved as SavedAs, Looked as LookedAt, Grabbed, Finished, Stepped, SteppedTimes, Settled}
 
 -- a number and its text, with a space between
 abbrev pub numbered : ℕ → List ℕ → List ℕ
@@ -118,6 +118,7 @@ answer_text book name (LookedAt (Ok looked) text) = name ++ 32 ∷ looked_text b
 answer_text book name (LookedAt (Err fault) text) = []
 answer_text book name (Grabbed result) = []
 answer_text book name (Finished result) = []
+answer_text book name (Settled result) = []
 answer_text book name (Stepped (Ok end)) = name ++ codes " step " ++ stepped_text end ++ 10 ∷ []
 answer_text book name (Stepped (Err fault)) = []
 answer_text book name (SteppedTimes (Ok run)) = name ++ codes " steps " ++ steps_text run ++ 10 ∷ []

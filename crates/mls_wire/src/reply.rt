@@ -165,7 +165,8 @@ fn push_answer<N: Names>(
         | Answer::Stepped(Err(_))
         | Answer::SteppedTimes(Err(_))
         | Answer::Grabbed(_)
-        | Answer::Finished(_) => Ok(()),
+        | Answer::Finished(_)
+        | Answer::Settled(_) => Ok(()),
     }
 }
 

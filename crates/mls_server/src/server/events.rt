@@ -32,6 +32,7 @@ impl Server {
             Event::Finish(id, finding) => Answer::Finished(self.finish_ref(*id, finding)),
             Event::Step(id) => Answer::Stepped(self.step(alloc, *id)),
             Event::Steps(id, most) => Answer::SteppedTimes(self.run_steps(alloc, *id, *most)),
+            Event::Settle(id) => Answer::Settled(self.settle(*id)),
         }
     }
 

@@ -44,7 +44,12 @@ impl Server {
         *given += 1;
         let id = SessionId::of(*given);
         // There is room for it.
-        sessions.insert(name, OpenSession { id, session }).unwrap();
+        let opened = OpenSession {
+            id,
+            session,
+            checked: None,
+        };
+        sessions.insert(name, opened).unwrap();
         Ok(id)
     }
 

@@ -3,7 +3,7 @@ ghost use Rattle.std.specs.Prelude.{◌≡◌, ◌+◌, ◌++◌, ◌==◌, ◌<
 ghost use Rattle.std.specs.List.{position};
 ghost use Rattle.std.specs.Option.{option_map};
 ghost use Rattle.mls_paint.specs.Owners.{ChangesAmong};
-ghost use Rattle.mls_server.specs.Events.{DoesCommand, DoesFinish, DoesGrab, DoesStep, DoesSteps, LooksAt, SavesText, own_text};
+ghost use Rattle.mls_server.specs.Events.{DoesCommand, DoesFinish, DoesGrab, DoesSettle, DoesStep, DoesSteps, LooksAt, SavesText, own_text};
 ghost use Rattle.mls_server.specs.Servers.{owners_under, place_in, world_of};
 ghost use Rattle.mls_server.specs.Worlds.{kept_in};
 ghost use Rattle.mls_session.specs.declared.refusal.Refusal.TheVariants.{Memory};
@@ -37,6 +37,7 @@ impl Server {
         let Some(asked) = sessions.get_index_mut(place) else {
             return Err(NotOpen);
         };
+        asked.checked = command.known_after(&asked.checked);
         Ok(asked.session.command(alloc, setup, command, workspace))
     }
 
@@ -128,6 +129,7 @@ impl Server {
         let Some(asked) = sessions.get_index_mut(place) else {
             return Err(NotOpen);
         };
+        asked.checked = None;
         Ok(asked.session.step(alloc, setup, workspace))
     }
 
@@ -146,6 +148,7 @@ impl Server {
         let Some(asked) = sessions.get_index_mut(place) else {
             return Err(NotOpen);
         };
+        asked.checked = None;
         Ok(asked.session.run_steps(alloc, setup, most, workspace))
     }
 
@@ -172,7 +175,30 @@ impl Server {
         let Some(asked) = sessions.get_index_mut(place) else {
             return Err(NotOpen);
         };
-        Ok(asked.session.finish(setup, finding, workspace))
+        let checked = &mut asked.checked;
+        Ok(asked.session.finish(setup, finding, checked, workspace))
+    }
+
+    /// Takes pieces out of a session's areas whose marks are known to be right since an earlier check, and returns how
+    /// many; each counts as a check step. No memory is taken.
+    ///
+    /// [`Server::finish`] notes what it checked; a command that may change the layout or the marks makes the session
+    /// forget it, and so does a step.
+    pub fn settle(&mut self, id: SessionId) -> Result<u64, NotOpen>
+        ensures settles { DoesSettle (world_of self.old) id result (world_of self.new) }
+        ensures frame { ChangesAmong self.old.pool self.new.pool (owners_under self.old id) }
+    {
+        let place = self.place_of(id);
+        let Server {
+            setup,
+            workspace,
+            sessions,
+            ..
+        } = self;
+        let Some(asked) = sessions.get_index_mut(place) else {
+            return Err(NotOpen);
+        };
+        Ok(asked.session.settle(setup, &mut asked.checked, workspace))
     }
 
     /// Returns the journal of a session, if it is open.

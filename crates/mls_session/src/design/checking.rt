@@ -1,10 +1,12 @@
 //! Commands on what awaits checking, and on the marks.
 ghost use Rattle.std.specs.Prelude.{◌≡◌, IfOk, length};
 ghost use Rattle.mls_checker.specs.Findings.{violated_rules};
+ghost use Rattle.mls_errorplane.specs.CatchingUp.{Steps};
 ghost use Rattle.mls_errorplane.specs.DirtyLists.{IsDirtyList};
 ghost use Rattle.mls_errorplane.specs.ErrorPlanes.{HasStepped, UnlessDone, checking_of};
 ghost use Rattle.mls_errorplane.specs.Jobs.{HasGrabbed};
 ghost use Rattle.mls_errorplane.specs.Outcomes.{HasFinished, UnlessFinished};
+ghost use Rattle.mls_errorplane.specs.Stretches.{AreRightIn};
 ghost use Rattle.mls_session.specs.Inner.{Counts, caught_up_reply, steps_of};
 ghost use Rattle.mls_session.specs.Own.{count_step, layout_of, soiled_after};
 ghost use Rattle.mls_session.specs.OwnSteps.{DesignSteps, design_step};
@@ -16,7 +18,7 @@ use crate::executed::Executed;
 use crate::{Command, Refusal, Reply, Setup};
 use mls_checker::Finding;
 use mls_edgerule::{RuleSet, Rules};
-use mls_errorplane::{CaughtUp, Job, Outcome, Stepped, why};
+use mls_errorplane::{CaughtUp, Checked, Job, Outcome, Stepped, why};
 use mls_geom::Rect;
 use mls_layout::Workspace;
 use std::alloc::{AllocError, Global};
@@ -124,6 +126,35 @@ impl Design {
         let planes = &mut self.planes;
         self.errors
             .finish(planes, &basis, finding, limit, workspace)
+    }
+
+    /// Takes the next pieces whose marks are known to be right out of the areas that await checking, and returns how
+    /// many.
+    ///
+    /// The marks must be right in the rectangles of `checked`, and are so in those that it has afterwards. No memory is
+    /// taken.
+    pub fn settle(&mut self, setup: &Setup, checked: &mut Checked, workspace: &mut Workspace) -> u64
+        requires home { IsHome workspace.old.pool self.old }
+        requires made_for { IsMadeFor setup.now self.old }
+        requires can_dump { CanDump setup.now workspace.old.pool (owners_of self.old) }
+        requires right { AreRightIn setup.now.rules
+            (layout_of (config_of setup.now workspace.old.pool) (drawn_of workspace.old.pool self.old))
+            (checking_of workspace.old.pool self.old.errors).marks checked.old }
+        ensures steps { Steps setup.now.rules
+            (layout_of (config_of setup.now workspace.old.pool) (drawn_of workspace.old.pool self.old))
+            self.old.quota result (checking_of workspace.old.pool self.old.errors)
+            (checking_of workspace.new.pool self.new.errors) }
+        ensures right { AreRightIn setup.now.rules
+            (layout_of (config_of setup.now workspace.old.pool) (drawn_of workspace.old.pool self.old))
+            (checking_of workspace.new.pool self.new.errors).marks checked.new }
+        ensures drawn { drawn_of workspace.new.pool self.new ≡ drawn_of workspace.old.pool self.old }
+        ensures keeps { KeepsPlanes workspace.old.pool workspace.new.pool self.old self.new }
+    {
+        let limit = self.quota.tiles();
+        let basis = setup.basis(&self.uses);
+        let planes = &mut self.planes;
+        self.errors
+            .settle(planes, &basis, checked, limit, workspace)
     }
 
     /// Checks all areas that await checking, piece by piece.

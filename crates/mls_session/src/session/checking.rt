@@ -3,16 +3,16 @@ ghost use Rattle.std.specs.Prelude.{◌≡◌, ℕ, length};
 ghost use Rattle.mls_errorplane.specs.ErrorPlanes.{UnlessDone};
 ghost use Rattle.mls_errorplane.specs.Jobs.{HasGrabbed};
 ghost use Rattle.mls_errorplane.specs.Outcomes.{UnlessFinished};
-ghost use Rattle.mls_session.specs.Designs.{CanDump, HasRightMarks};
+ghost use Rattle.mls_session.specs.Designs.{CanDump, HasRightMarks, KnowsRight};
 ghost use Rattle.mls_session.specs.Inner.{done_steps, finished_steps};
-ghost use Rattle.mls_session.specs.Journals.{Finishes, IsLegal, StepsOnce, StepsUpTo};
+ghost use Rattle.mls_session.specs.Journals.{ChecksTimes, Finishes, IsLegal, StepsOnce, StepsUpTo};
 ghost use Rattle.mls_session.specs.Own.{layout_of};
 ghost use Rattle.mls_session.specs.Setups.{config_of, terms_of};
 
 use super::Session;
 use crate::{Setup, StepRun};
 use mls_checker::Finding;
-use mls_errorplane::{Job, Outcome, Stepped};
+use mls_errorplane::{Checked, Job, Outcome, Stepped};
 use mls_layout::Workspace;
 use std::alloc::{AllocError, Global};
 
@@ -101,10 +101,21 @@ impl Session {
     /// it is stale otherwise.
     ///
     /// Unless this is finished, nothing changes. No memory is taken.
-    pub fn finish(&mut self, setup: &Setup, finding: &Finding, workspace: &mut Workspace) -> Outcome
+    ///
+    /// The marks must be right in the rectangles of `checked`, and are so in those that it has afterwards, where that of
+    /// a finished piece is one.
+    pub fn finish(
+        &mut self,
+        setup: &Setup,
+        finding: &Finding,
+        checked: &mut Option<Checked>,
+        workspace: &mut Workspace,
+    ) -> Outcome
         requires home { IsHome workspace.old.pool self.old }
         requires made_for { IsMadeFor setup.now self.old }
         requires can_dump { CanDump setup.now workspace.old.pool (owners_of self.old) }
+        requires knows { KnowsRight (config_of setup.now workspace.old.pool)
+            (state_of workspace.old.pool self.old).design checked.old }
         ensures finished { Finishes (terms_of setup.now workspace.old.pool)
             (kept_of workspace.old.pool self.old) finding.now result (kept_of workspace.new.pool self.new) }
         ensures legal { IsLegal (terms_of setup.now workspace.old.pool) (kept_of workspace.old.pool self.old)
@@ -112,12 +123,50 @@ impl Session {
         ensures marks_right { HasRightMarks (config_of setup.now workspace.old.pool)
             (state_of workspace.old.pool self.old).design
             → HasRightMarks (config_of setup.now workspace.old.pool) (state_of workspace.new.pool self.new).design }
+        ensures knows { KnowsRight (config_of setup.now workspace.old.pool)
+            (state_of workspace.new.pool self.new).design checked.new }
         ensures unless_finished { UnlessFinished result (workspace.new.pool ≡ workspace.old.pool) }
         ensures keeps { KeepsPlanes workspace.old.pool workspace.new.pool self.old self.new }
     {
         let outcome = self.design.finish(setup, finding, workspace);
         self.journal.count(finished_steps(outcome));
+        *checked = Checked::after_finding(*checked, finding, outcome);
         outcome
+    }
+
+    /// Takes the next pieces whose marks are known to be right out of the areas that await checking, and returns how
+    /// many: each counts as a check step. Without `checked`, none is taken.
+    ///
+    /// The marks must be right in the rectangles of `checked`, and are so in those that it has afterwards. No memory is
+    /// taken.
+    pub fn settle(
+        &mut self,
+        setup: &Setup,
+        checked: &mut Option<Checked>,
+        workspace: &mut Workspace,
+    ) -> u64
+        requires home { IsHome workspace.old.pool self.old }
+        requires made_for { IsMadeFor setup.now self.old }
+        requires can_dump { CanDump setup.now workspace.old.pool (owners_of self.old) }
+        requires knows { KnowsRight (config_of setup.now workspace.old.pool)
+            (state_of workspace.old.pool self.old).design checked.old }
+        ensures settled { ChecksTimes (terms_of setup.now workspace.old.pool) result
+            (kept_of workspace.old.pool self.old) (kept_of workspace.new.pool self.new) }
+        ensures legal { IsLegal (terms_of setup.now workspace.old.pool) (kept_of workspace.old.pool self.old)
+            → IsLegal (terms_of setup.now workspace.old.pool) (kept_of workspace.new.pool self.new) }
+        ensures marks_right { HasRightMarks (config_of setup.now workspace.old.pool)
+            (state_of workspace.old.pool self.old).design
+            → HasRightMarks (config_of setup.now workspace.old.pool) (state_of workspace.new.pool self.new).design }
+        ensures knows { KnowsRight (config_of setup.now workspace.old.pool)
+            (state_of workspace.new.pool self.new).design checked.new }
+        ensures keeps { KeepsPlanes workspace.old.pool workspace.new.pool self.old self.new }
+    {
+        let Some(known) = checked else {
+            return 0;
+        };
+        let steps = self.design.settle(setup, known, workspace);
+        self.journal.count(steps);
+        steps
     }
 }
 

@@ -1,4 +1,4 @@
--- the planes so far show one kind each, or columns, and no owner has changed
+-- the planes so far have the likeness, and no owner has changed
 use Rattle.std.proofs.Common.{◌≡◌, ℕ, ◌<◌, get_or}
 use Rattle.mls_paint.specs.Planes.{picture_in}
 use Rattle.mls_paint.specs.Scratches.{KeepsRoom}

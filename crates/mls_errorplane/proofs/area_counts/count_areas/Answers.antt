@@ -33,8 +33,8 @@ overflow_add-count c =
     let total =
     counted-next areas c.loop-area.area-index c.area-item.result c.loop-area.passed c.args.part c.loop-area.count c.size-count.result c.loop-area-test.true c.area-item.is so_far.passed
     c.in_ok-passed.ensures.apart so_far.counted sized in
-    let few : c.loop-area.count + c.size-count.result ≤ 4294967296 =
-    subst (λ n. n ≤ 4294967296) (sym total) (count_in-few c.args.part (squares_of (take (c.loop-area.area-index + 1) areas)) c.area-lines.ensures.legal) in
+    let few : c.loop-area.count + c.size-count.result ≤ 4398046511104 =
+    subst (λ n. n ≤ 4398046511104) (sym total) (count_in-few c.args.part (squares_of (take (c.loop-area.area-index + 1) areas)) c.area-lines.ensures.legal) in
     omega (arith, few)
 
 pub returns : goal.returns

@@ -9,5 +9,5 @@ abbrev pub invariant-loop-kind : goal.invariant-loop-kind
 invariant-loop-kind l = record {
   from : 1 ≤ l.kind;
   count : (layout : Layout) → ListsPlanes layout l.layers → l.lines ≡ length (lines_before l.tech layout l.kind);
-  few : l.lines ≤ l.kind * 4294967297;
+  few : l.lines ≤ l.kind * 4398046511105;
 }

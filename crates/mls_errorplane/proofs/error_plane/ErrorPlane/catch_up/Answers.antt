@@ -1,20 +1,17 @@
-use Rattle.std.proofs.Common.{ℕ, List, All, length, refl, sym, ap, subst, ◌∙◌, arith}
+use Rattle.std.proofs.Common.{ℕ, List, [], ◌∷◌, All, length, refl, sym, ap, subst, ◌∙◌, arith}
 use Rattle.mls_geom.specs.Layouts.{Layout}
-use Rattle.mls_tilepool.specs.Pools.{Pool}
 use Rattle.mls_stitch.specs.Tilings.{ChangesOnly, HasPlane}
 use Rattle.mls_stitch.proofs.PoolChanges.{ChangesOnly-refl, ChangesOnly-trans}
-use Rattle.mls_paint.specs.Planes.{picture_in}
+use Rattle.mls_library.proofs.KeptCells.{IsCellApart}
 use Rattle.mls_layout.specs.Uses.{HasCells, flat_layout}
-use Rattle.mls_checker.proofs.LentPlanes.{lent-same}
 use Rattle.mls_errorplane.specs.ErrorPlanes.{ErrorPlane, HasStepped, checking_of}
 use Rattle.mls_errorplane.specs.DirtyLists.{IsDirtyList, first_piece_of}
-use Rattle.mls_errorplane.specs.MarkPlanes.{is_marked}
 use Rattle.mls_errorplane.specs.CatchingUp.{Steps}
 use Rattle.mls_errorplane.specs.Stretches.{AreRightIn}
 use Rattle.mls_errorplane.specs.declared.error_plane.Stepped.TheVariants.{Done, Full, Idle, Memory}
 use Rattle.mls_errorplane.proofs.AreaSizes.{area_of-le}
 use Rattle.mls_errorplane.proofs.StepsDone.{HasCaughtUp-Full, HasCaughtUp-Idle, HasCaughtUp-Memory, HasCells-apart, HasPlane-apart, area_of-Done, few-Done, flat_layout-apart, no_piece}
-use Rattle.mls_errorplane.proofs.StretchSteps.{AreRightIn-same, Done-AreRight, Done-AreRightIn, ShowsMarks-lent, Steps-stretch}
+use Rattle.mls_errorplane.proofs.StretchSteps.{Done-AreRight, Done-AreRightIn, Done-fits, Steps-stretch}
 use Rattle.mls_errorplane.proofs.error_plane.ErrorPlane.catch_up.Goals as goal
 
 pub step-requires-clause-planes : goal.step-requires-clause-planes
@@ -45,6 +42,10 @@ drop_alike-more-requires-clause-cells c =
     subst (λ (planes : List ℕ). HasCells c.step.new.workspace.pool (length planes) cells) (sym (c.step.ensures.owners ∙ so_far.owners))
     (HasCells-apart c.args.workspace.now.pool c.step.new.workspace.pool c.args.self.now.owner only cells c.requires.cells_apart (length c.args.planes.now) c.requires.cells)
 
+pub drop_alike-more-requires-clause-cells_apart : goal.drop_alike-more-requires-clause-cells_apart
+drop_alike-more-requires-clause-cells_apart c =
+    subst (λ (owner : ℕ). All (IsCellApart (owner ∷ [])) c.args.basis.now.uses.library.now) (sym (c.step.ensures.owner ∙ c.steps.invariant.owner)) c.requires.cells_apart
+
 pub drop_alike-more-requires-clause-right : goal.drop_alike-more-requires-clause-right
 drop_alike-more-requires-clause-right c =
     let so_far = c.steps.invariant in
@@ -61,8 +62,13 @@ drop_alike-more-requires-clause-right c =
     let step = subst (λ (l : Layout). HasStepped rules l c.args.limit mid Done new) here c.in-Done.ensures.stepped in
     let first = c.in-Some.ensures.piece ∙ ap (λ (e : ErrorPlane). first_piece_of e.dirty) c.self.view_is in
     subst (λ (l : Layout). AreRightIn rules l new.marks c.after-now.result) (sym there)
-    (c.after-now.ensures rules layout new.marks (Done-AreRightIn rules layout c.args.limit mid new c.steps.checked step so_far.right)
-    (Done-AreRight rules layout c.args.limit mid new c.in-Some.piece step first))
+    (c.after-now.ensures rules layout new.marks (Done-AreRightIn rules layout mid new c.steps.checked step.2 so_far.right)
+    (Done-AreRight rules layout mid new c.in-Some.piece step.2 first))
+
+pub drop_alike-more-requires-clause-fits : goal.drop_alike-more-requires-clause-fits
+drop_alike-more-requires-clause-fits c =
+    Done-fits c.args.basis.now.rules.now (flat_layout c.steps.workspace.pool c.args.basis.now.uses c.steps.planes) c.args.limit (checking_of c.steps.workspace.pool c.steps.self)
+    (checking_of c.step.new.workspace.pool c.step.new.self) c.in-Done.ensures.stepped
 
 pub overflow_add-done : goal.overflow_add-done
 overflow_add-done c =
@@ -100,16 +106,14 @@ steps-preserved c =
     ∙ flat_layout-apart c.args.workspace.now.pool c.step.new.workspace.pool c.args.self.now.owner uses c.args.planes.now only c.requires.cells_apart c.requires.apart in
     let step = subst (λ (l : Layout). HasStepped rules l c.args.limit mid Done new) here c.in-Done.ensures.stepped in
     let few = few-Done rules (flat_layout c.steps.workspace.pool uses c.steps.planes) c.args.limit c.steps.done mid new (subst (λ (e : ErrorPlane). IsDirtyList e.dirty) c.self.view_is c.in-Some.ensures.kept) so_far.few c.in-Done.ensures.stepped in
+    let further = ChangesOnly-trans only (subst (ChangesOnly c.step.new.workspace.pool c.drop_alike-more.new.workspace.pool) (c.step.ensures.owner ∙ so_far.owner) c.drop_alike-more.ensures.only) in
     record {
       after = Steps-stretch rules layout c.args.limit c.steps.done more old mid new last so_far.after step
-          (λ fits. subst (λ (l : Layout). Steps rules l c.args.limit more new last) there (c.drop_alike-more.ensures.steps c.args.limit fits));
+          (λ fits. subst (λ (l : Layout). Steps rules l c.args.limit more new last) there c.drop_alike-more.ensures.steps);
       few = λ kept. omega (arith, few, c.drop_alike-more.ensures.fewer);
-      right = AreRightIn-same rules (flat_layout c.step.new.workspace.pool uses c.step.new.planes) layout new.marks last.marks c.drop_alike-more.new.checked there
-          (sym (lent-same (λ (p : Pool) (owner : ℕ). is_marked (picture_in p owner)) c.step.new.workspace.pool c.drop_alike-more.new.workspace.pool c.step.new.self.owner
-          c.drop_alike-more.new.self.owner c.drop_alike-more.ensures.pool c.drop_alike-more.ensures.owner)) c.drop_alike-more.ensures.right;
-      marks = ShowsMarks-lent c.step.new.workspace.pool c.drop_alike-more.new.workspace.pool c.step.new.self c.drop_alike-more.new.self c.drop_alike-more.ensures.pool
-          c.drop_alike-more.ensures.owner c.drop_alike-more.ensures.marked c.step.ensures.marks;
-      only = subst (λ pool. ChangesOnly c.args.workspace.now.pool pool c.args.self.now.owner) (sym c.drop_alike-more.ensures.pool) only;
+      right = subst (λ (l : Layout). AreRightIn rules l last.marks c.drop_alike-more.new.checked) there c.drop_alike-more.ensures.right;
+      marks = c.drop_alike-more.ensures.marks;
+      only = further;
       owner = c.drop_alike-more.ensures.owner ∙ c.step.ensures.owner ∙ so_far.owner;
       owners = c.drop_alike-more.ensures.owners ∙ c.step.ensures.owners ∙ so_far.owners;
     }

@@ -1,23 +1,23 @@
-use Rattle.std.proofs.Common.{◌≡◌, ◌+◌, ◌*◌, ◌^◌, ◌≤◌, ℕ, false}
+use Rattle.std.proofs.Common.{◌≡◌, ◌+◌, ◌*◌, ◌^◌, ◌≤◌, false}
+use Rattle.mls_stitch.specs.Tilings.{ChangesOnly}
 use Rattle.mls_layout.specs.Uses.{flat_layout}
 use Rattle.mls_errorplane.specs.CatchingUp.{Steps}
 use Rattle.mls_errorplane.specs.DirtyLists.{area_of}
-use Rattle.mls_errorplane.specs.ErrorPlanes.{checking_of, exceeds}
+use Rattle.mls_errorplane.specs.ErrorPlanes.{ShowsMarks, checking_of, exceeds}
 use Rattle.mls_errorplane.specs.Stretches.{AreRightIn}
 use Rattle.mls_errorplane.proofs.error_plane.ErrorPlane.drop_alike.Given as goal
 
--- the pieces so far are as many check steps, and the marks are right in the last of them
+-- the pieces so far are as many check steps, in the layout as it was, and the marks are right in the last of them
 abbrev pub invariant-stretches : goal.invariant-stretches
 invariant-stretches l = record {
-  steps :
-      (limit : ℕ) → exceeds limit (checking_of l.fn.workspace.pool l.fn.self).marks ≡ false
-      → Steps l.fn.basis.rules.now (flat_layout l.fn.workspace.pool l.fn.basis.uses l.fn.planes) limit l.steps (checking_of l.fn.workspace.pool l.fn.self) (checking_of l.workspace.pool l.self);
-  right : AreRightIn l.fn.basis.rules.now (flat_layout l.fn.workspace.pool l.fn.basis.uses l.fn.planes) (checking_of l.fn.workspace.pool l.fn.self).marks l.checked;
+  steps : Steps l.fn.basis.rules.now (flat_layout l.fn.workspace.pool l.fn.basis.uses l.fn.planes) l.limit l.steps (checking_of l.fn.workspace.pool l.fn.self) (checking_of l.workspace.pool l.self);
+  right : AreRightIn l.fn.basis.rules.now (flat_layout l.fn.workspace.pool l.fn.basis.uses l.fn.planes) (checking_of l.workspace.pool l.self).marks l.checked;
   fewer : l.steps + area_of l.self.dirty ≤ area_of l.fn.self.dirty;
+  fits : exceeds l.limit (checking_of l.workspace.pool l.self).marks ≡ false;
+  marks : ShowsMarks l.workspace.pool l.self;
+  only : ChangesOnly l.fn.workspace.pool l.workspace.pool l.fn.self.owner;
   owner : l.self.owner ≡ l.fn.self.owner;
-  marked : l.self.marked ≡ l.fn.self.marked;
   owners : l.planes ≡ l.fn.planes;
-  pool : l.workspace.pool ≡ l.fn.workspace.pool;
 }
 
 -- how many squares await checking, and then how many pieces are tried

@@ -1,6 +1,11 @@
-use Rattle.std.proofs.Common.{Some, sym, ap, ◌∙◌}
+use Rattle.std.proofs.Common.{Option, Some, sym, ap, subst, ◌∙◌}
 use Rattle.std.specs.Option.{option_copied_mut}
+use Rattle.mls_errorplane.specs.declared.checked.Checked.{Checked}
+use Rattle.mls_session.specs.Designs.{KnowsRight}
 use Rattle.mls_session.specs.Journals.{Commands}
+use Rattle.mls_session.specs.Sessions.{kept_of}
+use Rattle.mls_session.specs.Setups.{terms_of}
+use Rattle.mls_session.proofs.KnownMarks.{Commands-knows}
 use Rattle.mls_server.specs.contracts.server.OpenSession.{the_view as session_view}
 use Rattle.mls_server.specs.contracts.server.Server.{the_view}
 use Rattle.mls_server.proofs.AskedSessions.{AreOpen-changed, IsAsked, OnSeat-changed, frame-changed, is_asked, not_open}
@@ -26,13 +31,18 @@ pub invariant_of-self-2 : goal.invariant_of-self-2
 invariant_of-self-2 c =
     let is = asked (goal.at.invariant_of-self-2 c).After-asked in
     let done = c.command.ensures in
-    AreOpen-changed is done.keeps done.marks_right done.legal
+    let before = session_view c.asked.inside in
+    let terms = terms_of c.self.inside.setup c.self.inside.workspace.pool in
+    let after = kept_of c.command.new.workspace.pool c.command.new.self in
+    let knows = Commands-knows terms (kept_of c.self.inside.workspace.pool before.session) after before.checked c.command.result is.made.knows_right c.args.command done.step in
+    AreOpen-changed is done.keeps c.known_after-asked-inside.result done.marks_right
+    (subst (λ (checked : Option Checked). KnowsRight terms.config after.own.design checked) (sym c.known_after-asked-inside.ensures) knows) done.legal
 
 pub returns : goal.returns
 returns c =
     let is = asked (goal.at.returns c).After-asked in
     let done = c.command.ensures in
     record {
-      does = OnSeat-changed is done.keeps (λ terms before reply after. Commands terms before c.args.command reply after) c.command.result done.step;
+      does = OnSeat-changed is done.keeps c.known_after-asked-inside.result (λ terms before reply after. Commands terms before c.args.command reply after) c.command.result done.step;
       frame = frame-changed is done.keeps;
     }

@@ -20,19 +20,19 @@ returns-in_default-clause-finishes c =
 pub finish-requires : goal.finish-requires
 finish-requires c =
     let is = asked (goal.at.finish-requires c).After-asked in
-    record { home = is.made.home; made_for = is.made.made_for; can_dump = is.made.can_dump }
+    record { home = is.made.home; made_for = is.made.made_for; can_dump = is.made.can_dump; knows = is.made.knows_right }
 
 pub invariant_of-self-2 : goal.invariant_of-self-2
 invariant_of-self-2 c =
     let is = asked (goal.at.invariant_of-self-2 c).After-asked in
     let done = c.finish.ensures in
-    AreOpen-changed is done.keeps done.marks_right done.legal
+    AreOpen-changed is done.keeps c.finish.new.checked done.marks_right done.knows done.legal
 
 pub returns : goal.returns
 returns c =
     let is = asked (goal.at.returns c).After-asked in
     let done = c.finish.ensures in
     record {
-      finishes = OnSeat-changed is done.keeps (λ terms before outcome after. Finishes terms before c.args.finding.now outcome after) c.finish.result done.finished;
+      finishes = OnSeat-changed is done.keeps c.finish.new.checked (λ terms before outcome after. Finishes terms before c.args.finding.now outcome after) c.finish.result done.finished;
       frame = frame-changed is done.keeps;
     }

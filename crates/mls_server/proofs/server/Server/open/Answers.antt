@@ -27,17 +27,17 @@ overflow_add-given c =
     omega (arith, left)
 
 -- the new session's entry is the last
-added : (c : goal.Joined-unwrap) → c.insert.new.self.entries ≡ c.self.inside.sessions.entries ++ (c.args.name, record { id = c.self.inside.given + 1; session = c.in-Ok-open.session }) ∷ []
+added : (c : goal.Joined-unwrap) → c.insert.new.self.entries ≡ c.self.inside.sessions.entries ++ (c.args.name, record { id = c.self.inside.given + 1; session = c.in-Ok-open.session; checked = None }) ∷ []
 added c =
     let own = c.self.inside in
     let unnamed = unnamed-none (world_of (the_view own)) c.args.name (no_fault c.self.view_is c.args.name c.in_default.ensures.fault) in
     let absent = lookup-unnamed own.workspace.pool c.args.name own.sessions.entries unnamed in
-    let opened : OpenSession = record { id = c.of-id.result; session = c.in-Ok-open.session } in
+    let opened : OpenSession = record { id = c.of-id.result; session = c.in-Ok-open.session; checked = None } in
     let room = c.in-Ok.ensures.ok in
     on_ok c.insert.result _ (c.insert.ensures.succeeds (omega (arith, room))) c.insert.ensures.entries
     ∙ ap (λ (entries : List (List ℕ × OpenSession)). insert_entry same_word entries c.args.name opened) c.reserve.ensures.entries
     ∙ insert_entry-unnamed own.workspace.pool c.args.name opened own.sessions.entries absent
-    ∙ ap (λ (id : ℕ). own.sessions.entries ++ (c.args.name, record { id = id; session = c.in-Ok-open.session }) ∷ []) c.of-id.ensures
+    ∙ ap (λ (id : ℕ). own.sessions.entries ++ (c.args.name, record { id = id; session = c.in-Ok-open.session; checked = None }) ∷ []) c.of-id.ensures
   where
     on_ok : {T E : Type 0} (r : Result T E) (P : Type 0) → IsOk r → OnOk r P → P
     on_ok (Ok x) P is p = p

@@ -1,4 +1,4 @@
-use Rattle.std.proofs.Common.{Some, sym, ap, ◌∙◌}
+use Rattle.std.proofs.Common.{None, Some, sym, ap, ◌∙◌}
 use Rattle.std.specs.Option.{option_copied_mut}
 use Rattle.mls_session.specs.Journals.{StepsUpTo}
 use Rattle.mls_server.specs.contracts.server.OpenSession.{the_view as session_view}
@@ -26,13 +26,13 @@ pub invariant_of-self-2 : goal.invariant_of-self-2
 invariant_of-self-2 c =
     let is = asked (goal.at.invariant_of-self-2 c).After-asked in
     let done = c.run_steps.ensures in
-    AreOpen-changed is done.keeps done.marks_right done.legal
+    AreOpen-changed is done.keeps None done.marks_right tt done.legal
 
 pub returns : goal.returns
 returns c =
     let is = asked (goal.at.returns c).After-asked in
     let done = c.run_steps.ensures in
     record {
-      steps = OnSeat-changed is done.keeps (λ terms before run after. StepsUpTo terms c.args.most before run after) c.run_steps.result done.stepped;
+      steps = OnSeat-changed is done.keeps None (λ terms before run after. StepsUpTo terms c.args.most before run after) c.run_steps.result done.stepped;
       frame = frame-changed is done.keeps;
     }

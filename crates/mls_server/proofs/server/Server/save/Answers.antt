@@ -1,6 +1,6 @@
 use Rattle.std.proofs.Common.{◌≡◌, ℕ, List, [], ◌++◌, append-nil, length, Some, Ok, refl, sym, ap, subst, ◌∙◌, arith}
 use Rattle.std.specs.Option.{option_copied_mut, option_map_or}
-use Rattle.mls_session.specs.Designs.{Design, HasRightMarks, designed_of}
+use Rattle.mls_session.specs.Designs.{Design, HasRightMarks, KnowsRight, designed_of}
 use Rattle.indexmap.specs.Layout.{set_value_at}
 use Rattle.mls_session.specs.Journals.{Saves}
 use Rattle.mls_session.specs.Setups.{config_of}
@@ -40,8 +40,10 @@ invariant_of-self-2 c =
     let done = c.save.ensures in
     subst (λ (pool : Pool). AreOpen c.self.inside.setup pool c.self.inside.given (set_value_at c.self.inside.sessions.entries c.place_of-place.result (record (session_view c.asked.inside) { session = c.save.new.self })))
     (sym done.pool)
-    (AreOpen-changed is (keeps-same is c.save.new.self done.design done.limit)
-    (subst (λ (design : Design). HasRightMarks (config_of c.self.inside.setup c.self.inside.workspace.pool) (designed_of c.self.inside.workspace.pool design)) (sym done.design)) done.legal)
+    (AreOpen-changed is (keeps-same is c.save.new.self done.design done.limit) (session_view c.asked.inside).checked
+    (subst (λ (design : Design). HasRightMarks (config_of c.self.inside.setup c.self.inside.workspace.pool) (designed_of c.self.inside.workspace.pool design)) (sym done.design))
+    (subst (λ (design : Design). KnowsRight (config_of c.self.inside.setup c.self.inside.workspace.pool) (designed_of c.self.inside.workspace.pool design) (session_view c.asked.inside).checked) (sym done.design) is.made.knows_right)
+    done.legal)
 
 pub returns-clause-saves : goal.returns-clause-saves
 returns-clause-saves c =
@@ -52,7 +54,7 @@ returns-clause-saves c =
     let sessions = set_value_at server.sessions c.place_of-place.result (record (session_view c.asked.inside) { session = c.save.new.self }) in
     subst (λ (pool : Pool). (text : List ℕ) × SavesText (world_of c.args.self.now) c.args.id (Ok c.save.result) text (world_of (record server { pool = pool; sessions = sessions })) × (c.save.new.out.items ≡ c.args.out.now.items ++ text))
     (sym done.pool)
-    (said.0, OnSeat-changed is (keeps-same is c.save.new.self done.design done.limit) (λ terms before reply after. Saves terms before reply said.0 after) c.save.result said.1, said.2)
+    (said.0, OnSeat-changed is (keeps-same is c.save.new.self done.design done.limit) (session_view c.asked.inside).checked (λ terms before reply after. Saves terms before reply said.0 after) c.save.result said.1, said.2)
 
 pub returns-clause-room : goal.returns-clause-room
 returns-clause-room c =

@@ -12,6 +12,6 @@ invariant-loop-kind l = record {
   pool : l.workspace.pool ≡ l.fn.workspace.pool;
   from : 1 ≤ l.kind;
   count : l.lines ≡ length (lines_up_to (header_lines l.tech) l.tech (strips_on (layout_in l.fn.workspace.pool l.self.planes)) (l.kind - 1)) + 1;
-  few : l.lines ≤ l.kind * 4294967297;
+  few : l.lines ≤ l.kind * 4398046511105;
   lists : IfSome l.listed (ListsPlane (layout_in l.fn.workspace.pool l.self.planes) l.workspace.pieces.items);
 }

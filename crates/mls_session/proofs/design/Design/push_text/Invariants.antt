@@ -13,7 +13,7 @@ invariant-loop-kind l = record {
   from : 1 ≤ l.kind;
   text : l.out.items ≡ l.fn.out.items ++ text_of (lines_up_to (header_lines l.tech) l.tech (strips_on (layout_in l.fn.workspace.pool l.self.planes)) (l.kind - 1));
   count : l.lines ≡ length (lines_up_to (header_lines l.tech) l.tech (strips_on (layout_in l.fn.workspace.pool l.self.planes)) (l.kind - 1)) + 1;
-  few : l.lines ≤ l.kind * 4294967297;
+  few : l.lines ≤ l.kind * 4398046511105;
   capacity : vec_capacity l.fn.out ≤ vec_capacity l.out;
   lists : IfSome l.listed (ListsPlane (layout_in l.fn.workspace.pool l.self.planes) l.workspace.pieces.items);
 }

@@ -1,0 +1,114 @@
+-- Check steps over a stretch whose marks change: where there are few enough tiles before and after together, each of them is done.
+use Rattle.std.proofs.Common.{◌≡◌, ℕ, zero, suc, ◌+◌, ◌*◌, ◌≤◌, ◌||◌, nat_lt, Bool, true, false, cond, if◌then◌else◌, inl, inr, List, [], ◌∷◌, Some, refl, sym, ap, subst, ◌∙◌, arith}
+use Rattle.std.specs.Option.{IsSomeAnd}
+use Rattle.std.proofs.Math.Path.{fun_ext}
+use Rattle.std.proofs.lemmas.Bool.{both_ways, cases_Bool, false_from_ne_true, le-ltb}
+use Rattle.mls_edgerule.specs.declared.edge_rule.EdgeRule.{EdgeRule}
+use Rattle.mls_geom.specs.Layouts.{Layout}
+use Rattle.mls_geom.specs.Rects.{Rect, holds}
+use Rattle.mls_geom.specs.TileCounts.{tile_count}
+use Rattle.mls_geom.specs.World.{world}
+use Rattle.mls_checker.specs.Forbids.{forbidden}
+use Rattle.mls_checker.specs.Marking.{SquareSet}
+use Rattle.mls_errorplane.specs.CatchingUp.{Steps}
+use Rattle.mls_errorplane.specs.Checkings.{checked_marks}
+use Rattle.mls_errorplane.specs.DirtyLists.{dropped, first_piece_of, piece_of, piece_side}
+use Rattle.mls_errorplane.specs.ErrorPlanes.{HasStepped, exceeds, marks_picture}
+use Rattle.mls_errorplane.specs.Stretches.{AreRight, DropsAll, DropsTo, Stair, Takes, in_stair}
+use Rattle.mls_errorplane.specs.declared.error_plane.Stepped.TheVariants as stepped
+use Rattle.mls_errorplane.proofs.StairCounts.{stair, tile_count-stair}
+use Rattle.mls_errorplane.proofs.StretchSteps.{checking_with, inner_holds, not_empty}
+
+-- ---- marks on the way
+-- in the stair the one set, and elsewhere the other
+abbrev on_the_way : Stair → SquareSet → SquareSet → SquareSet
+on_the_way at marks after x y = if in_stair at x y then after x y else marks x y
+
+picked : (b p q : Bool) → cond {A = ℕ} (cond b p q) 1 0 ≡ cond b (cond {A = ℕ} p 1 0) (cond {A = ℕ} q 1 0)
+picked true p q = refl
+picked false p q = refl
+
+-- their picture has no more tiles than both pictures, and two for each row of a piece
+marks_picture-way : (at : Stair) (marks after : SquareSet) → marks_picture (on_the_way at marks after) ≡ stair at.cut at.low at.high (marks_picture after) (marks_picture marks)
+marks_picture-way at marks after = fun_ext (λ x. fun_ext (λ y. picked (in_stair at x y) (after x y) (marks x y)))
+
+tile_count-way :
+    (extent : Rect) (limit : ℕ) (at : Stair) (marks after : SquareSet) → at.low ≤ at.high → at.high ≤ at.low + piece_side
+    → tile_count extent (marks_picture marks) + tile_count extent (marks_picture after) + 2 * piece_side ≤ limit
+    → nat_lt limit (tile_count extent (marks_picture (on_the_way at marks after))) ≡ false
+tile_count-way extent limit at marks after up few fits =
+    let counts = ap (tile_count extent) (marks_picture-way at marks after) in
+    let most = tile_count-stair extent (marks_picture after) (marks_picture marks) at.cut at.low at.high up in
+    le-ltb limit (tile_count extent (marks_picture (on_the_way at marks after))) (omega (arith, counts, most, up, few, fits))
+
+-- ---- steps
+-- the marks of one square of the rectangle, after its piece or another one is checked
+inside-checked : (here was now a m f : Bool) → now ≡ (was || here) → a ≡ f → cond here f (cond was a m) ≡ cond now a m
+inside-checked true true now a m f is right = sym (ap (λ b. cond b a m) is ∙ right)
+inside-checked true false now a m f is right = sym (ap (λ b. cond b a m) is ∙ right)
+inside-checked false true now a m f is right = sym (ap (λ b. cond b a m) is)
+inside-checked false false now a m f is right = sym (ap (λ b. cond b a m) is)
+
+-- and of one outside it
+either : (b a m : Bool) → a ≡ m → cond b a m ≡ m
+either true a m same = same
+either false a m same = refl
+
+outside-checked : (here was now a m f : Bool) → here ≡ false → a ≡ m → cond here f (cond was a m) ≡ cond now a m
+outside-checked here was now a m f elsewhere same = ap (λ b. cond b f (cond was a m)) elsewhere ∙ either was a m same ∙ sym (either now a m same)
+
+module _
+    (rules : List EdgeRule) (layout : Layout) (rect : Rect) (marks after : SquareSet) (right : AreRight rules layout after rect)
+    (same : (x y : ℕ) → holds rect x y ≡ false → after x y ≡ marks x y) where
+  -- a check of the next piece makes the marks on the way those of the next stair
+  checked_marks-way : (before at : Stair) (piece : Rect) → Takes rect before at piece → checked_marks rules layout (Some piece) (on_the_way before marks after) ≡ on_the_way at marks after
+  checked_marks-way before at piece takes = fun_ext (λ x. fun_ext (λ y. elim (cases_Bool (holds rect x y)) [
+    | inl inside ↦
+        inside-checked (holds piece x y) (in_stair before x y) (in_stair at x y) (after x y) (marks x y) (forbidden rules layout x y) (takes.squares x y inside) (right x y inside)
+    | inr outside ↦
+        outside-checked (holds piece x y) (in_stair before x y) (in_stair at x y) (after x y) (marks x y) (forbidden rules layout x y)
+        (false_from_ne_true (holds piece x y) (λ here. both_ways (holds rect x y) outside (inner_holds rect piece x y takes.inside here)))
+        (same x y outside)
+  ]))
+
+  -- they begin with the one set, and end with the other
+  way-none : (at : Stair) → ((x y : ℕ) → holds rect x y ≡ true → in_stair at x y ≡ false) → on_the_way at marks after ≡ marks
+  way-none at none = fun_ext (λ x. fun_ext (λ y. elim (cases_Bool (holds rect x y)) [
+    | inl inside ↦ ap (λ b. cond b (after x y) (marks x y)) (none x y inside)
+    | inr outside ↦ either (in_stair at x y) (after x y) (marks x y) (same x y outside)
+  ]))
+
+  way-all : (at : Stair) → ((x y : ℕ) → holds rect x y ≡ true → in_stair at x y ≡ true) → on_the_way at marks after ≡ after
+  way-all at all = fun_ext (λ x. fun_ext (λ y. elim (cases_Bool (holds rect x y)) [
+    | inl inside ↦ ap (λ b. cond b (after x y) (marks x y)) (all x y inside)
+    | inr outside ↦ either (in_stair at x y) (after x y) (marks x y) (same x y outside) ∙ sym (same x y outside)
+  ]))
+
+  module _ (limit : ℕ) (fits : tile_count world (marks_picture marks) + tile_count world (marks_picture after) + 2 * piece_side ≤ limit) where
+    HasStepped-way :
+        (before at : Stair) (mid new : List Rect) → IsSomeAnd (first_piece_of mid) (Takes rect before at) → new ≡ dropped mid
+        → HasStepped rules layout limit (checking_with (on_the_way before marks after) mid) stepped.Done (checking_with (on_the_way at marks after) new)
+    HasStepped-way before at [] new takes is = absurd takes
+    HasStepped-way before at (first ∷ rest) new takes is =
+        let checked = checked_marks-way before at (piece_of first) takes in (
+          not_empty first rest,
+          ap (exceeds limit) checked ∙ tile_count-way world limit at marks after takes.up takes.few fits,
+          ap (checking_with (on_the_way at marks after)) is ∙ ap (λ (m : SquareSet). checking_with m (dropped (first ∷ rest))) (sym checked),
+        )
+
+    DropsTo-Steps :
+        (at : Stair) (count : ℕ) (old new : List Rect) → DropsTo rect at count old new
+        → Steps rules layout limit count (checking_with marks old) (checking_with (on_the_way at marks after) new)
+    DropsTo-Steps at zero old new (is, none) = ap (checking_with (on_the_way at marks after)) is ∙ ap (λ (m : SquareSet). checking_with m old) (way-none at none)
+    DropsTo-Steps at (suc count) old new (mid, before, drops, takes, is) =
+        (checking_with (on_the_way before marks after) mid, DropsTo-Steps before count old mid drops, HasStepped-way before at mid new takes is)
+
+-- where the marks before and after have few enough tiles together, check steps over the pieces of a rectangle lead from the ones to the others
+pub carried :
+    (rules : List EdgeRule) (layout : Layout) (limit count : ℕ) (rect : Rect) (marks after : SquareSet) (old new : List Rect) → DropsAll rect count old new
+    → AreRight rules layout after rect → ((x y : ℕ) → holds rect x y ≡ false → after x y ≡ marks x y)
+    → tile_count world (marks_picture marks) + tile_count world (marks_picture after) + 2 * piece_side ≤ limit
+    → Steps rules layout limit count (record { marks = marks; dirty = old }) (record { marks = after; dirty = new })
+carried rules layout limit count rect marks after old new (at, drops, all) right same fits =
+    subst (λ (m : SquareSet). Steps rules layout limit count (checking_with marks old) (checking_with m new)) (way-all rules layout rect marks after right same at all)
+    (DropsTo-Steps rules layout rect marks after right same limit fits at count old new drops)

@@ -1,0 +1,196 @@
+//! Carrying marks from pieces that were checked to others.
+ghost use Rattle.std.specs.Prelude.{◌≡◌, ◌+◌, ◌*◌, ◌≤◌, ◌<◌, false, IfOk, IfSome, IsTrue, OnErr, OnOk, length, map, vec_capacity};
+ghost use Rattle.std.specs.List.{All};
+ghost use Rattle.mls_geom.specs.Pictures.{overlaid};
+ghost use Rattle.mls_geom.specs.Rects.{IsRectangleIn};
+ghost use Rattle.mls_geom.specs.TileCounts.{tile_count};
+ghost use Rattle.mls_geom.specs.World.{world};
+ghost use Rattle.mls_layout.specs.Workspaces.{FitsWorkspace};
+ghost use Rattle.mls_paint.specs.Planes.{HasStrips, picture_in};
+ghost use Rattle.mls_paint.specs.Scratches.{HasRoomFor, KeepsRoom};
+ghost use Rattle.mls_stitch.specs.Tilings.{ChangesOnly, HasPlane};
+ghost use Rattle.mls_tilepool.specs.Pools.{room_of};
+ghost use Rattle.mls_errorplane.specs.DirtyLists.{piece_side};
+ghost use Rattle.mls_errorplane.specs.ErrorPlanes.{ShowsMarks, checking_of, marks_picture};
+ghost use Rattle.mls_errorplane.specs.MarkPlanes.{is_marked, marked_count};
+ghost use Rattle.mls_errorplane.specs.PaintedMarks.{Paints};
+ghost use Rattle.mls_errorplane.specs.Carrying as spec;
+ghost use Rattle.mls_errorplane.specs.Carrying.{AreCarried, piece_like, told};
+
+use crate::checked::Source;
+use crate::dirty::{PIECE_SIDE, lies_in_world};
+use crate::error_plane::recounted;
+use crate::likeness::Likeness;
+use crate::marks::marked_in;
+use crate::{ErrorPlane, Recount};
+use mls_geom::{Piece, Rect};
+use mls_layout::Workspace;
+use mls_paint::{Scratch, TooManyTiles, find_area, overlay, tile_count};
+use mls_stitch::{LaidTile, Plane};
+use mls_tilepool::Pool;
+
+impl ErrorPlane {
+    /// Gives each square of the rectangle the mark of the source's square that shows the same, and returns whether this
+    /// was done. Where the plane's tiles before and after, and two for each row of a piece, are together more than
+    /// `limit`, changes nothing. No memory is taken.
+    pub(crate) fn carry(
+        &mut self,
+        source: Source,
+        rect: Rect,
+        limit: u32,
+        workspace: &mut Workspace,
+    ) -> bool
+        requires marks { ShowsMarks workspace.old.pool self.old }
+        requires marks_fit { FitsWorkspace workspace.old.pool self.old.owner }
+        requires limit { IfSome (room_of workspace.old.pool self.old.owner) (λ room. limit ≤ room) }
+        ensures carried { IsTrue result → AreCarried source.likeness source.rect rect
+            (checking_of workspace.old.pool self.old).marks (checking_of workspace.new.pool self.new).marks }
+        ensures few { IsTrue result → tile_count world (marks_picture (checking_of workspace.old.pool self.old).marks)
+            + tile_count world (marks_picture (checking_of workspace.new.pool self.new).marks)
+            + 2 * piece_side ≤ limit }
+        ensures refused { result ≡ false
+            → (self.new ≡ self.old) × (workspace.new.pool ≡ workspace.old.pool) }
+        ensures marks { ShowsMarks workspace.new.pool self.new }
+        ensures only { ChangesOnly workspace.old.pool workspace.new.pool self.old.owner }
+        ensures owner { self.new.owner ≡ self.old.owner }
+        ensures dirty { self.new.dirty ≡ self.old.dirty }
+    {
+        let Workspace {
+            pool,
+            scratch,
+            pieces,
+            ..
+        } = workspace;
+        let Some(most) = most_after(limit, tile_count(pool, &self.plane)) else {
+            return false;
+        };
+        list_carried(pool, &mut self.plane, source, rect, pieces, scratch);
+        let Ok(recount) = repaint(pool, &mut self.plane, rect, pieces, most, scratch) else {
+            return false;
+        };
+        self.marked = recounted(self.marked, recount);
+        true
+    }
+}
+
+/// Returns how many tiles there may be after marks were carried on a plane that has this many, if any.
+fn most_after(limit: u32, tiles: u32) -> Option<u32>
+    ensures { IfSome result (λ most. tiles + most + 2 * piece_side ≡ limit) }
+{
+    limit.checked_sub(tiles)?.checked_sub(2 * PIECE_SIDE)
+}
+
+/// Makes `pieces` those that give each square of the rectangle the kind of the source's square that shows the same.
+fn list_carried(
+    pool: &Pool,
+    plane: &mut Plane,
+    source: Source,
+    rect: Rect,
+    pieces: &mut Vec<Piece>,
+    scratch: &mut Scratch,
+)
+    requires plane { HasPlane pool.now plane.old }
+    requires room { HasRoomFor pool.now plane.old scratch.old }
+    requires list_fits { IfSome (room_of pool.now plane.old) (λ room. room ≤ vec_capacity pieces.old) }
+    requires kinds { picture_in pool.now plane.old ≡ marks_picture (is_marked (picture_in pool.now plane.old)) }
+    ensures painted { Paints pieces.new.items rect
+        (told source.likeness source.rect (is_marked (picture_in pool.now plane.old))) }
+    ensures few { IfSome (room_of pool.now plane.old) (λ room. length pieces.new.items ≤ room) }
+    ensures room { vec_capacity pieces.new ≡ vec_capacity pieces.old }
+    ensures plane { plane.new ≡ plane.old }
+    ensures rooms { KeepsRoom scratch.old scratch.new }
+{
+    pool.count(plane.owner());
+    let likeness = source.likeness;
+    find_area(pool, plane, edge_of(source, rect), scratch);
+    list_parts(scratch.tiles(), likeness, rect, pieces);
+}
+
+/// Returns the squares of the source that show what those of the rectangle do: its lowest row where they show columns,
+/// its leftmost column where they show rows, and its lower left square where they show one kind.
+fn edge_of(source: Source, rect: Rect) -> Rect
+    ensures { result ≡ spec.edge_of source.likeness source.rect rect }
+{
+    let from = source.rect.area();
+    let lines = rect.area();
+    match source.likeness {
+        Likeness::OneKind => {
+            Rect::between(from.left, from.bottom, from.left + 1, from.bottom + 1)
+        }
+        Likeness::Columns => {
+            Rect::between(lines.left, from.bottom, lines.right, from.bottom + 1)
+        }
+        Likeness::Rows => Rect::between(from.left, lines.bottom, from.left + 1, lines.top),
+    }
+}
+
+/// Makes `pieces` those that give each tile's part of the rectangle its kind.
+fn list_parts(tiles: &[LaidTile], likeness: Likeness, rect: Rect, pieces: &mut Vec<Piece>)
+    requires fits { length tiles.now ≤ vec_capacity pieces.old }
+    requires legal { All (λ tile. IsRectangleIn world (spec.part_like likeness tile.piece.rect rect)) tiles.now }
+    ensures pieces { pieces.new.items ≡ map (piece_like likeness rect) tiles.now }
+    ensures room { vec_capacity pieces.new ≡ vec_capacity pieces.old }
+{
+    pieces.clear();
+    for tile in tiles {
+        pieces.push_reserved(Piece {
+            rect: part_like(tile.piece.rect, likeness, rect),
+            kind: tile.piece.kind,
+        });
+    }
+}
+
+/// Returns the squares of the rectangle that show what a tile's squares do: those of its columns where they show
+/// columns, those of its rows where they show rows, and all where they show one kind.
+fn part_like(tile: Rect, likeness: Likeness, rect: Rect) -> Rect
+    requires { IsRectangleIn world (spec.part_like likeness tile rect) }
+    ensures { result ≡ spec.part_like likeness tile rect }
+{
+    let bar = tile.area();
+    let lines = rect.area();
+    match likeness {
+        Likeness::OneKind => rect,
+        Likeness::Columns => {
+            let left = bar.left.max(lines.left);
+            Rect::between(left, lines.bottom, bar.right.min(lines.right), lines.top)
+        }
+        Likeness::Rows => {
+            let bottom = bar.bottom.max(lines.bottom);
+            Rect::between(lines.left, bottom, lines.right, bar.top.min(lines.top))
+        }
+    }
+}
+
+/// Paints pieces, and returns how many squares of a rectangle were marked and how many are.
+///
+/// Fails if the plane would then have more than `limit` tiles, and leaves it as it was.
+fn repaint(
+    pool: &mut Pool,
+    plane: &mut Plane,
+    rect: Rect,
+    pieces: &[Piece],
+    limit: u32,
+    scratch: &mut Scratch,
+) -> Result<Recount, TooManyTiles>
+    requires strips { HasStrips pool.old plane.old }
+    requires limit { IfSome (room_of pool.old plane.old) (λ room. limit ≤ room) }
+    requires room { HasRoomFor pool.old plane.old scratch.old }
+    requires pieces_fit { length pieces.now ≤ scratch.old.pieces }
+    ensures picture { OnOk result (picture_in pool.new plane.old
+        ≡ overlaid (picture_in pool.old plane.old) pieces.now) }
+    ensures few { OnOk result (tile_count world (picture_in pool.new plane.old) ≤ limit) }
+    ensures before { IfOk result (λ recount. recount.before ≡ marked_count rect (picture_in pool.old plane.old)) }
+    ensures after { IfOk result (λ recount. recount.after ≡ marked_count rect (picture_in pool.new plane.old)) }
+    ensures legal { IsRectangleIn world rect }
+    ensures refused { OnErr result (pool.new ≡ pool.old) }
+    ensures strips { HasStrips pool.new plane.old }
+    ensures only { ChangesOnly pool.old pool.new plane.old }
+    ensures plane { plane.new ≡ plane.old }
+    ensures rooms { KeepsRoom scratch.old scratch.new }
+{
+    lies_in_world(rect);
+    let before = marked_in(pool, plane, rect, scratch);
+    overlay(pool, plane, pieces, limit, scratch)?;
+    let after = marked_in(pool, plane, rect, scratch);
+    Ok(Recount { before, after })
+}

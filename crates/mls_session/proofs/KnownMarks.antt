@@ -1,0 +1,108 @@
+-- Commands that leave the layout and the marks leave marks right where they are known to be so.
+use Rattle.std.proofs.Common.{◌≡◌, ◌==◌, Bool, true, false, ℕ, Option, Some, None, Result, Ok, Err, List, inl, inr, cond, refl, sym, ap, subst, ◌∙◌}
+use Rattle.mls_errorplane.specs.declared.checked.Checked.{Checked}
+use Rattle.mls_geom.specs.Rects.{Rect}
+use Rattle.mls_geom.specs.World.{rect_of}
+use Rattle.mls_geom.specs.declared.rect.RectFault.{RectFault}
+use Rattle.mls_geom.specs.declared.rect.RectFault.TheVariants.{Empty, Outside}
+use Rattle.mls_session.specs.Designs.{KnowsRight, known_after}
+use Rattle.mls_session.specs.Journals.{Commands, Does, Kept, RunsOut, is_journalled, noted}
+use Rattle.mls_session.specs.Own.{Config, Designed, box_step, check_in, edit_step, what_step, why_step}
+use Rattle.mls_session.specs.OwnSteps.{OwnState, Terms, design_step, own_step}
+use Rattle.mls_session.specs.declared.command.Command.{Command}
+use Rattle.mls_session.specs.declared.command.Command.TheVariants.{Box, Paint, Erase, Dump, GetCell, What, Save, Check, CatchUp, Why, Count}
+use Rattle.mls_session.specs.declared.reply.Reply.{Reply}
+
+module _ (config : Config) (own : Designed) (checked : Option Checked) (right : KnowsRight config own checked) where
+  after_box : (rect : Result Rect RectFault) → KnowsRight config (edit_step config own None (box_step own.drawn rect)).0 checked
+  after_box (Ok e) = right
+  after_box (Err Empty) = right
+  after_box (Err Outside) = right
+
+  after_what : (box : Option Rect) → KnowsRight config (edit_step config own None (what_step config own.drawn box)).0 checked
+  after_what None = right
+  after_what (Some e) = right
+
+  after_check : (box : Option Rect) → KnowsRight config (edit_step config own box (check_in own.drawn box)).0 checked
+  after_check None = right
+  after_check (Some e) = right
+
+  after_why : (box : Option Rect) → KnowsRight config (why_step config own box).0 checked
+  after_why None = right
+  after_why (Some e) = right
+
+  design_step-knows : (command : Command) → KnowsRight config (design_step config own command).0 (known_after command checked)
+  unfolding design_step
+  design_step-knows (Box left bottom right' top) = after_box (rect_of left bottom right' top)
+  design_step-knows What = after_what own.drawn.box
+  design_step-knows Save = right
+  design_step-knows Check = after_check own.drawn.box
+  design_step-knows Why = after_why own.drawn.box
+  design_step-knows Count = right
+  design_step-knows (Paint kind) = tt
+  design_step-knows (Erase kinds) = tt
+  design_step-knows (Dump cell dx dy) = tt
+  design_step-knows (GetCell cell dx dy) = tt
+  design_step-knows CatchUp = tt
+
+  -- where nothing changes, what was known is so still, and more than is known after the command
+  kept-knows : (command : Command) → KnowsRight config own (known_after command checked)
+  kept-knows (Box left bottom right' top) = right
+  kept-knows What = right
+  kept-knows Save = right
+  kept-knows Check = right
+  kept-knows Why = right
+  kept-knows Count = right
+  kept-knows (Paint kind) = tt
+  kept-knows (Erase kinds) = tt
+  kept-knows (Dump cell dx dy) = tt
+  kept-knows (GetCell cell dx dy) = tt
+  kept-knows CatchUp = tt
+
+-- either way, the own state is the one that is given
+either_own : (journalled : Bool) (one other : Kept) (own : OwnState) → one.own ≡ own → other.own ≡ own → (cond journalled one other).own ≡ own
+either_own true one other own is is' = is
+either_own false one other own is is' = is'
+
+noted-own : (kept : Kept) (own : OwnState) (command : Command) (reply : Reply) → (noted kept own command reply).own ≡ own
+noted-own kept own command reply = either_own (is_journalled reply) _ _ own refl refl
+
+module _ (terms : Terms) (old : Kept) (checked : Option Checked) (right : KnowsRight terms.config old.own.design checked) (command : Command) where
+  abbrev KnowsAfter : OwnState → Type 0
+  KnowsAfter own = KnowsRight terms.config own.design (known_after command checked)
+
+  either_step : (full : Bool) (one other : OwnState × Reply) → KnowsAfter one.0 → KnowsAfter other.0 → KnowsAfter (cond full one other).0
+  either_step true one other knows knows' = knows
+  either_step false one other knows knows' = knows'
+
+  own_step-knows : KnowsAfter (own_step terms old.own command).0
+  unfolding own_step
+  own_step-knows =
+      either_step (old.own.entries == terms.journal) _ _ (kept-knows terms.config old.own.design checked right command)
+      (design_step-knows terms.config old.own.design checked right command)
+
+  Does-knows : (reply : Reply) (new : Kept) → Does terms old command reply new → KnowsAfter new.own
+  Does-knows reply new (own, step, is) =
+      let reached : new.own ≡ own = ap (λ (kept : Kept). kept.own) is ∙ noted-own old own command reply in
+      subst KnowsAfter (ap (λ (s : OwnState × Reply). s.0) step ∙ sym reached) own_step-knows
+
+  same-knows : (new : Kept) → new ≡ old → KnowsAfter new.own
+  same-knows new same = subst (λ (kept : Kept). KnowsAfter kept.own) (sym same) (kept-knows terms.config old.own.design checked right command)
+
+module _ (terms : Terms) (old new : Kept) (checked : Option Checked) (reply : Reply) (right : KnowsRight terms.config old.own.design checked) where
+  RunsOut-knows : (command : Command) → RunsOut terms old command reply new → KnowsRight terms.config new.own.design (known_after command checked)
+  RunsOut-knows Why (boxed, refused, same) = same-knows terms old checked right Why new same
+  RunsOut-knows What (boxed, placed, refused, same) = same-knows terms old checked right What new same
+  RunsOut-knows (Box left bottom right' top) out = absurd out
+  RunsOut-knows Save out = absurd out
+  RunsOut-knows Check out = absurd out
+  RunsOut-knows Count out = absurd out
+  RunsOut-knows (Paint kind) out = tt
+  RunsOut-knows (Erase kinds) out = tt
+  RunsOut-knows (Dump cell dx dy) out = tt
+  RunsOut-knows (GetCell cell dx dy) out = tt
+  RunsOut-knows CatchUp out = tt
+
+  pub Commands-knows : (command : Command) → Commands terms old command reply new → KnowsRight terms.config new.own.design (known_after command checked)
+  Commands-knows command (inl does) = Does-knows terms old checked right command reply new does
+  Commands-knows command (inr (some, out)) = RunsOut-knows command out
