@@ -1,5 +1,5 @@
 -- Marks that are carried from one rectangle to another one.
-use Rattle.std.proofs.Common.{◌≡◌, ℕ, ◌+◌, ◌*◌, ◌<◌, ◌≤◌, Bool, true, false, inl, inr, if◌then◌else◌, List, All, Any, Option, Some, None, IsSome, IfSome, IsTrue, get_or, length, map, refl, sym, ap, subst, ◌∙◌, arith}
+use Rattle.std.proofs.Common.{◌≡◌, ℕ, ◌+◌, ◌<◌, ◌≤◌, true, false, inl, inr, if◌then◌else◌, List, Any, Option, Some, None, IsSome, IfSome, IsTrue, get_or, length, map, refl, sym, ap, subst, ◌∙◌, arith}
 use Rattle.std.proofs.Math.Path.{fun_ext}
 use Rattle.std.proofs.lemmas.Bool.{both_ways, cases_Bool, cond-false, cond-true, false_from_ne_true}
 use Rattle.std.proofs.lemmas.Bool.Decides.{nat_tests}
@@ -7,7 +7,6 @@ use Rattle.std.proofs.lemmas.List.{get_or-map, length-map}
 use Rattle.std.proofs.lemmas.List.Elements.{All-map}
 use Rattle.mls_geom.specs.Pictures.{Picture, overlaid}
 use Rattle.mls_geom.specs.Rects.{Rect, IsRectangleIn, holds, joined, meets}
-use Rattle.mls_geom.specs.TileCounts.{tile_count}
 use Rattle.mls_geom.specs.World.{world}
 use Rattle.mls_geom.specs.declared.piece.Piece.{Piece}
 use Rattle.mls_geom.proofs.Holds.{between_holds, holds_between}
@@ -22,13 +21,11 @@ use Rattle.mls_stitch.specs.declared.laid_tile.LaidTile.{LaidTile}
 use Rattle.mls_stitch.proofs.ListedTiles.{keys-AreInArea, length-le-AreLaid}
 use Rattle.mls_stitch.proofs.ShownTiles.{KeysDiffer-tiles_of, shown-inside}
 use Rattle.mls_paint.specs.Planes.{picture_in}
-use Rattle.mls_checker.specs.Forbids.{forbidden}
 use Rattle.mls_checker.specs.Marking.{SquareSet}
-use Rattle.mls_errorplane.specs.DirtyLists.{piece_side}
 use Rattle.mls_errorplane.specs.ErrorPlanes.{exceeds, marks_picture}
 use Rattle.mls_errorplane.specs.MarkPlanes.{is_marked, marked_count, remarked}
 use Rattle.mls_errorplane.specs.PaintedMarks.{Paints}
-use Rattle.mls_errorplane.specs.Carrying.{AreCarried, edge_of, part_like, piece_like, told}
+use Rattle.mls_errorplane.specs.Carrying.{AreCarried, AreFew, edge_of, part_like, piece_like, told}
 use Rattle.mls_errorplane.specs.Stretches.{AreRight, AreRightIn, IsAlike, Tells, like_column, like_row}
 use Rattle.mls_errorplane.specs.declared.checked.Checked.{Checked}
 use Rattle.mls_errorplane.specs.declared.likeness.Likeness.{Likeness}
@@ -262,6 +259,6 @@ AreRightIn-kept rules layout old new rect checked right elsewhere before = (
   AreRight-kept rules layout old new rect checked.block right elsewhere before.2,
 )
 
--- few tiles before and after together are few afterwards
-pub fits-after : (limit : ℕ) (old new : SquareSet) → tile_count world (marks_picture old) + tile_count world (marks_picture new) + 2 * piece_side ≤ limit → exceeds limit new ≡ false
-fits-after limit old new few = grind (arith, nat_tests, few)
+-- few tiles on the way are few afterwards
+pub fits-after : (limit : ℕ) (rect : Rect) (old new : SquareSet) → AreFew limit rect old new → exceeds limit new ≡ false
+fits-after limit rect old new few = grind (arith, nat_tests, few.few)

@@ -2,6 +2,7 @@ pub mod AlikeLayouts
 pub mod AlikePlanes
 pub mod AreaCounts
 pub mod AreaSizes
+pub mod CarriedCounts
 pub mod CarriedMarks
 pub mod CarriedSteps
 pub mod CheckedMarks
@@ -20,6 +21,7 @@ pub mod MarkCounts
 pub mod NextStretches
 pub mod PaintedAreas
 pub mod PaintedPieces
+pub mod PartCounts
 pub mod RangeSums
 pub mod Recounts
 pub mod RectCounts

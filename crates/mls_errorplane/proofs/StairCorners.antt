@@ -1,7 +1,7 @@
 -- The corners of pictures that agree in some columns of some rows.
 use Rattle.std.proofs.Common.{◌≡◌, ◌⊎◌, ℕ, zero, suc, ◌+◌, ◌-◌, ◌<◌, ◌≤◌, ◌==◌, ◌&&◌, Bool, true, false, not, cond, [], nat_le, nat_lt, refl, sym, ap, ◌∙◌, inl, inr, le_refl, arith, eq-eqb, ne_eqb, eqb-true, lt-ltb}
 use Rattle.std.specs.List.{prefix_len, range_with_len, sum_by}
-use Rattle.std.proofs.lemmas.Bool.{and_from, and_left, and_parts, both_ways, cases_Bool, cases_lt, cond-false, cond-true, eqb-false, false_from_ne_true, le-leb, le-ltb, leb-true, ltb-true, not-true, not_from_false}
+use Rattle.std.proofs.lemmas.Bool.{and_from, and_left, and_parts, both_ways, cases_Bool, cases_lt, cond-false, cond-true, eqb-false, false_from_ne_true, le-leb, le-ltb, leb-true, ltb-true, not-true, not_from_false, or_left}
 use Rattle.std.proofs.lemmas.List.Sums.{sum_by-cons}
 use Rattle.mls_geom.specs.Rects.{Rect}
 use Rattle.mls_geom.specs.Pictures.{Picture}
@@ -15,11 +15,11 @@ corner extent picture x y = cond (is_corner extent picture x y) 1 0
 
 -- ---- from a column on
 -- tests that agree from a number on have as many numbers in front
-prefix_len-agree : (p q : ℕ → Bool) (low n : ℕ) → ((z : ℕ) → low ≤ z → p z ≡ q z) → prefix_len p (range_with_len low n) ≡ prefix_len q (range_with_len low n)
+prefix_len-agree : (p q : ℕ → Bool) (low n : ℕ) → ((z : ℕ) → low ≤ z → z < low + n → p z ≡ q z) → prefix_len p (range_with_len low n) ≡ prefix_len q (range_with_len low n)
 prefix_len-agree p q low zero same = refl
 prefix_len-agree p q low (suc n) same =
-    let here = same low (le_refl low) in
-    let rest = prefix_len-agree p q (low + 1) n (λ z from. same z (omega (arith, from))) in
+    let here = same low (le_refl low) (omega arith) in
+    let rest = prefix_len-agree p q (low + 1) n (λ z from to. same z (omega (arith, from)) (omega (arith, to))) in
     rw (here, rest) refl
 
 -- two pictures agree in a row from the column before one on
@@ -30,7 +30,7 @@ run_end-agree : (extent : Rect) (p q : Picture) (x y : ℕ) → AgreeFrom p q x 
 run_end-agree extent p q x y same =
     let here = same x (omega arith) in
     ap (λ n. x + n) (prefix_len-agree (λ z. p z y == p x y) (λ z. q z y == q x y) x (extent.right - x)
-    (λ z from. let there = same z (omega (arith, from)) in rw (there, here) refl))
+    (λ z from _. let there = same z (omega (arith, from)) in rw (there, here) refl))
 
 pub starts_run-agree : (extent : Rect) (p q : Picture) (x y : ℕ) → p (x - 1) y ≡ q (x - 1) y → p x y ≡ q x y → starts_run extent p x y ≡ starts_run extent q x y
 starts_run-agree extent p q x y before here = rw (before, here) refl
@@ -46,6 +46,48 @@ is_corner-agree extent p q x y same below =
     let here = same x (omega arith) in
     let under = below x (omega arith) in
     rw (starts, starts_below, ends, ends_below, here, under) refl
+
+-- the extent's rows from one on
+abbrev pub from_row : Rect → ℕ → Rect
+from_row extent base = record extent { bottom = base }
+
+-- a corner above its lowest row is one of the whole extent
+pub is_corner-from_row :
+    (extent : Rect) (picture : Picture) (base x y : ℕ) → extent.bottom ≤ base → base < y → is_corner (from_row extent base) picture x y ≡ is_corner extent picture x y
+is_corner-from_row extent picture base x y from over =
+    let part = lt-ltb base y over in
+    let whole = lt-ltb extent.bottom y (omega (arith, from, over)) in
+    rw (part, whole) refl
+
+-- ---- a row as the one below
+-- a row is as the one below it in the columns of the extent
+abbrev pub IsAsBelow : Rect → Picture → ℕ → Type 0
+IsAsBelow extent picture y = (x : ℕ) → extent.left ≤ x → x < extent.right → picture x y ≡ picture x (y - 1)
+
+starts_run-below :
+    (extent : Rect) (picture : Picture) (x y : ℕ) → extent.left ≤ x → x < extent.right → IsAsBelow extent picture y → starts_run extent picture x y ≡ true
+    → starts_run extent picture x (y - 1) ≡ true
+starts_run-below extent picture x y from within same starts = elim (cases_lt extent.left x) [
+  | inl inside ↦ (let before = same (x - 1) (omega (arith, inside)) (omega (arith, within)) in let here = same x from within in rw (before, here) at starts)
+  | inr first ↦ or_left _ _ (eq-eqb x extent.left (omega (arith, from, first)))
+]
+
+-- it has no corner
+pub corner-IsAsBelow :
+    (extent : Rect) (picture : Picture) (x y : ℕ) → extent.left ≤ x → x < extent.right → extent.bottom < y → IsAsBelow extent picture y → corner extent picture x y ≡ 0
+corner-IsAsBelow extent picture x y from within over same =
+    let goes_on = λ (starts : starts_run extent picture x y ≡ true).
+    let here = same x from within in
+    let ends : run_end extent picture x (y - 1) ≡ run_end extent picture x y =
+    ap (λ n. x + n) (prefix_len-agree (λ z. picture z (y - 1) == picture x (y - 1)) (λ z. picture z y == picture x y) x (extent.right - x)
+    (λ z right to. let there = same z (omega (arith, from, right)) (omega (arith, within, to)) in rw (there, here) refl)) in
+    and_from _ _ (and_from _ _ (and_from _ _ (lt-ltb extent.bottom y over) (starts_run-below extent picture x y from within same starts))
+    (eq-eqb (picture x (y - 1)) (picture x y) (sym here))) (eq-eqb (run_end extent picture x (y - 1)) (run_end extent picture x y) ends) in
+    cond-false {A = ℕ} (is_corner extent picture x y) 1 0
+    (false_from_ne_true (is_corner extent picture x y)
+    (λ is.
+    let tests = and_parts (starts_run extent picture x y) (not (goes_on_below extent picture x y)) is in
+    both_ways (goes_on_below extent picture x y) (not-true _ tests.1) (goes_on tests.0)))
 
 -- ---- left of a column
 -- two pictures agree in a row left of a column
@@ -176,17 +218,17 @@ corner_under extent picture x (suc n) starts =
           omega (arith, last, one, rw next at here)
     ]
 
--- so where two pictures agree whether a square starts a run, a corner of the one is at most the corners of the other up to its row
+-- so where two pictures agree whether a square starts a run, a corner of the one is at most the corners of the other from a row up to its own
 pub corner_above_corners :
-    (extent : Rect) (p q : Picture) (x y : ℕ) → starts_run extent p x y ≡ starts_run extent q x y → extent.bottom ≤ y
-    → corner extent p x y ≤ sum_by (corner extent q x) (range_with_len extent.bottom ((y + 1) - extent.bottom))
-corner_above_corners extent p q x y same from = elim (cases_Bool (is_corner extent p x y)) [
+    (extent : Rect) (p q : Picture) (base x y : ℕ) → starts_run extent p x y ≡ starts_run extent q x y → base ≤ y
+    → corner extent p x y ≤ sum_by (corner (from_row extent base) q x) (range_with_len base ((y + 1) - base))
+corner_above_corners extent p q base x y same from = elim (cases_Bool (is_corner extent p x y)) [
   | inl is ↦
-      let row : extent.bottom + (y - extent.bottom) ≡ y = omega (arith, from) in
-      let rows : (y - extent.bottom) + 1 ≡ (y + 1) - extent.bottom = omega (arith, from) in
+      let row : base + (y - base) ≡ y = omega (arith, from) in
+      let rows : (y - base) + 1 ≡ (y + 1) - base = omega (arith, from) in
       let tests = and_parts (starts_run extent p x y) (not (goes_on_below extent p x y)) is in
-      let starts : starts_run extent q x (extent.bottom + (y - extent.bottom)) ≡ true = rw row (sym same ∙ tests.0) in
-      let some = corner_under extent q x (y - extent.bottom) starts in
+      let starts : starts_run extent q x (base + (y - base)) ≡ true = rw row (sym same ∙ tests.0) in
+      let some = corner_under (from_row extent base) q x (y - base) starts in
       let one = cond-true {A = ℕ} (is_corner extent p x y) 1 0 is in
       omega (arith, one, rw rows at some)
   | inr none ↦ (let nothing = cond-false {A = ℕ} (is_corner extent p x y) 1 0 none in omega (arith, nothing))

@@ -85,50 +85,46 @@ band_rows low high from (suc n) =
 pub sum_by-in_band : (low high from n : ℕ) → sum_by (in_band low high 2) (range_with_len from n) ≤ 2 * (high - low)
 sum_by-in_band low high from n = (band_rows low high from n).0
 
--- the terms of a sum are at most those of one sum below a turn and those of another above it, and the one at the turn is at most all that the other has up to there
-pub record TurnsAt (sum one other more : ℕ → ℕ) (low turn : ℕ) : Type 0 where
-  pub below : (y : ℕ) → low ≤ y → y < turn → sum y ≤ one y + more y
-  pub at : low ≤ turn → sum turn ≤ sum_by other (range_with_len low ((turn + 1) - low))
-  pub above : (y : ℕ) → low ≤ y → turn < y → sum y ≤ other y
+-- the terms of a sum are at most those of one sum below a turn and those of another above it, and the one at the turn is at most all that the other has from a base up to there
+pub record TurnsAt (sum one other more : ℕ → ℕ) (base turn : ℕ) : Type 0 where
+  pub below : (y : ℕ) → y < turn → sum y ≤ one y + more y
+  pub at : sum turn ≤ sum_by other (range_with_len base ((turn + 1) - base))
+  pub above : (y : ℕ) → turn < y → sum y ≤ other y
 
-module _ (sum one other more : ℕ → ℕ) (low turn high : ℕ) (turns : TurnsAt sum one other more low turn) where
+module _
+    (sum one other more : ℕ → ℕ) (low base turn high : ℕ) (from : low ≤ base) (up : base ≤ turn) (turns : TurnsAt sum one other more base turn) where
   part_below :
       (top : ℕ) → low ≤ top → top ≤ turn
       → sum_by sum (range_with_len low (top - low)) ≤ sum_by one (range_with_len low (top - low)) + sum_by more (range_with_len low (top - low))
-  part_below top up under =
+  part_below top over under =
       let both = sum_by-plus one more (λ y. one y + more y) low (top - low) (λ y _ _. refl) in
-      let less = sum_by-le sum (λ y. one y + more y) low (top - low) (λ y from to. turns.below y from (omega (arith, to, up, under))) in
+      let less = sum_by-le sum (λ y. one y + more y) low (top - low) (λ y _ to. turns.below y (omega (arith, to, over, under))) in
       omega (arith, both, less)
 
-  part_above : (from : ℕ) → low ≤ from → turn < from → sum_by sum (range_with_len from (high - from)) ≤ sum_by other (range_with_len from (high - from))
-  part_above from up over = sum_by-le sum other from (high - from) (λ y above _. turns.above y (omega (arith, up, above)) (omega (arith, over, above)))
+  part_above : sum_by sum (range_with_len (turn + 1) (high - (turn + 1))) ≤ sum_by other (range_with_len (turn + 1) (high - (turn + 1)))
+  part_above = sum_by-le sum other (turn + 1) (high - (turn + 1)) (λ y above _. turns.above y (omega (arith, above)))
 
   turn_inside :
-      low ≤ turn → turn < high
+      turn < high
       → sum_by sum (range_with_len low (high - low))
-      ≤ sum_by one (range_with_len low (high - low)) + sum_by other (range_with_len low (high - low)) + sum_by more (range_with_len low (high - low))
-  turn_inside up under =
-      let below = part_below turn up (le_refl turn) in
-      let above = part_above (turn + 1) (omega (arith, up)) (omega arith) in
-      let here = turns.at up in
-      let cut = sum_by-between sum low turn high up (omega (arith, under)) in
+      ≤ sum_by one (range_with_len low (high - low)) + sum_by other (range_with_len base (high - base)) + sum_by more (range_with_len low (high - low))
+  turn_inside under =
+      let below = part_below turn (omega (arith, from, up)) (le_refl turn) in
+      let cut = sum_by-between sum low turn high (omega (arith, from, up)) (omega (arith, under)) in
       let first = sum_by-first sum turn high under in
-      let cut_one = sum_by-between one low turn high up (omega (arith, under)) in
-      let cut_more = sum_by-between more low turn high up (omega (arith, under)) in
-      let cut_other = sum_by-between other low (turn + 1) high (omega (arith, up)) (omega (arith, under)) in
-      omega (arith, below, above, here, cut, first, cut_one, cut_more, cut_other)
+      let cut_one = sum_by-between one low turn high (omega (arith, from, up)) (omega (arith, under)) in
+      let cut_more = sum_by-between more low turn high (omega (arith, from, up)) (omega (arith, under)) in
+      let cut_other = sum_by-between other base (turn + 1) high (omega (arith, up)) (omega (arith, under)) in
+      omega (arith, below, part_above, turns.at, cut, first, cut_one, cut_more, cut_other)
 
   -- then the whole sum is at most those of both
   pub sum_by-TurnsAt :
       sum_by sum (range_with_len low (high - low))
-      ≤ sum_by one (range_with_len low (high - low)) + sum_by other (range_with_len low (high - low)) + sum_by more (range_with_len low (high - low))
-  sum_by-TurnsAt = elim (cases_lt turn low) [
-    | inl before ↦ omega (arith, part_above low (le_refl low) before)
-    | inr from ↦ elim (cases_lt turn high) [
-      | inl under ↦ turn_inside from under
-      | inr over ↦ elim (cases_lt high low) [
-        | inl empty ↦ (let none : high - low ≡ 0 = omega (arith, empty) in rw none (omega arith))
-        | inr up ↦ omega (arith, part_below high up over)
-      ]
+      ≤ sum_by one (range_with_len low (high - low)) + sum_by other (range_with_len base (high - base)) + sum_by more (range_with_len low (high - low))
+  sum_by-TurnsAt = elim (cases_lt turn high) [
+    | inl under ↦ turn_inside under
+    | inr over ↦ elim (cases_lt high low) [
+      | inl empty ↦ (let none : high - low ≡ 0 = omega (arith, empty) in rw none (omega arith))
+      | inr tall ↦ omega (arith, part_below high tall over)
     ]
   ]

@@ -1,5 +1,5 @@
 //! Carrying marks from pieces that were checked to others.
-ghost use Rattle.std.specs.Prelude.{◌≡◌, ◌+◌, ◌*◌, ◌≤◌, ◌<◌, false, IfOk, IfSome, IsTrue, OnErr, OnOk, length, map, vec_capacity};
+ghost use Rattle.std.specs.Prelude.{◌≡◌, ◌+◌, ◌*◌, ◌≤◌, ◌<◌, true, false, IfOk, IfSome, IsTrue, OnErr, OnOk, length, map, vec_capacity};
 ghost use Rattle.std.specs.List.{All};
 ghost use Rattle.mls_geom.specs.Pictures.{overlaid};
 ghost use Rattle.mls_geom.specs.Rects.{IsRectangleIn};
@@ -15,7 +15,7 @@ ghost use Rattle.mls_errorplane.specs.ErrorPlanes.{ShowsMarks, checking_of, mark
 ghost use Rattle.mls_errorplane.specs.MarkPlanes.{is_marked, marked_count};
 ghost use Rattle.mls_errorplane.specs.PaintedMarks.{Paints};
 ghost use Rattle.mls_errorplane.specs.Carrying as spec;
-ghost use Rattle.mls_errorplane.specs.Carrying.{AreCarried, piece_like, told};
+ghost use Rattle.mls_errorplane.specs.Carrying.{AreCarried, AreFew, LeavesRoom, RunsThrough, piece_like, told};
 
 use crate::checked::Source;
 use crate::dirty::{PIECE_SIDE, lies_in_world};
@@ -23,16 +23,17 @@ use crate::error_plane::recounted;
 use crate::likeness::Likeness;
 use crate::marks::marked_in;
 use crate::{ErrorPlane, Recount};
-use mls_geom::{Piece, Rect};
+use mls_geom::{Area, Piece, Rect};
 use mls_layout::Workspace;
-use mls_paint::{Scratch, TooManyTiles, find_area, overlay, tile_count};
+use mls_paint::{Scratch, TooManyTiles, find_area, find_meeting_in, overlay, tile_count};
 use mls_stitch::{LaidTile, Plane};
 use mls_tilepool::Pool;
 
 impl ErrorPlane {
     /// Gives each square of the rectangle the mark of the source's square that shows the same, and returns whether this
-    /// was done. Where the plane's tiles before and after, and two for each row of a piece, are together more than
-    /// `limit`, changes nothing. No memory is taken.
+    /// was done. Where the plane's tiles afterwards, those before in the rows from the rectangle's bottom on, and two for
+    /// each row of a piece, or two where marks go up, are together more than `limit`, or may be, changes nothing. No
+    /// memory is taken.
     pub(crate) fn carry(
         &mut self,
         source: Source,
@@ -45,9 +46,8 @@ impl ErrorPlane {
         requires limit { IfSome (room_of workspace.old.pool self.old.owner) (λ room. limit ≤ room) }
         ensures carried { IsTrue result → AreCarried source.likeness source.rect rect
             (checking_of workspace.old.pool self.old).marks (checking_of workspace.new.pool self.new).marks }
-        ensures few { IsTrue result → tile_count world (marks_picture (checking_of workspace.old.pool self.old).marks)
-            + tile_count world (marks_picture (checking_of workspace.new.pool self.new).marks)
-            + 2 * piece_side ≤ limit }
+        ensures few { IsTrue result → AreFew limit rect (checking_of workspace.old.pool self.old).marks
+            (checking_of workspace.new.pool self.new).marks }
         ensures refused { result ≡ false
             → (self.new ≡ self.old) × (workspace.new.pool ≡ workspace.old.pool) }
         ensures marks { ShowsMarks workspace.new.pool self.new }
@@ -61,7 +61,7 @@ impl ErrorPlane {
             pieces,
             ..
         } = workspace;
-        let Some(most) = most_after(limit, tile_count(pool, &self.plane)) else {
+        let Some(most) = most_after(pool, &self.plane, source.likeness, rect, limit, scratch) else {
             return false;
         };
         list_carried(pool, &mut self.plane, source, rect, pieces, scratch);
@@ -73,11 +73,95 @@ impl ErrorPlane {
     }
 }
 
-/// Returns how many tiles there may be after marks were carried on a plane that has this many, if any.
-fn most_after(limit: u32, tiles: u32) -> Option<u32>
-    ensures { IfSome result (λ most. tiles + most + 2 * piece_side ≡ limit) }
+/// Returns how many tiles the plane may have after marks are carried on to the rectangle, if any.
+///
+/// Where it has few tiles beside the limit, all are counted, and two for each row of a piece. Elsewhere those in the
+/// rows from the rectangle's bottom on are counted, and only two more where marks go up.
+fn most_after(
+    pool: &Pool,
+    plane: &Plane,
+    likeness: Likeness,
+    rect: Rect,
+    limit: u32,
+    scratch: &mut Scratch,
+) -> Option<u32>
+    requires strips { HasStrips pool.now plane.now }
+    requires room { HasRoomFor pool.now plane.now scratch.old }
+    ensures room { IfSome result (LeavesRoom limit likeness rect (picture_in pool.now plane.now)) }
+    ensures rooms { KeepsRoom scratch.old scratch.new }
 {
-    limit.checked_sub(tiles)?.checked_sub(2 * PIECE_SIDE)
+    lies_in_world(rect);
+    let all = tile_count(pool, plane) as usize;
+    let coarse = most_beside(limit, all, PIECE_SIDE);
+    if coarse >= Some(limit / 2) {
+        return coarse;
+    }
+    find_meeting_in(pool, plane, rows_from(rect), scratch);
+    let tiles = scratch.tiles();
+    most_beside(limit, tiles.len(), uneven_rows(tiles, likeness, rect))
+}
+
+/// Returns how many tiles there may be beside these tiles and two for each of the rows, if any.
+fn most_beside(limit: u32, tiles: usize, rows: u32) -> Option<u32>
+    requires { rows ≤ piece_side }
+    ensures { IfSome result (λ most. tiles + most + 2 * rows ≡ limit) }
+{
+    let others = (limit as usize).checked_sub(tiles)?;
+    (others as u32).checked_sub(2 * rows)
+}
+
+/// Returns the squares of the world in the rectangle's rows and above them.
+fn rows_from(rect: Rect) -> Rect
+    ensures { result ≡ record world { bottom = rect.bottom } }
+{
+    lies_in_world(rect);
+    let world = Rect::world().area();
+    Rect::between(world.left, rect.area().bottom, world.right, world.top)
+}
+
+/// Returns how many rows of a piece in the rectangle may have other marks than the row below, before and after they are
+/// carried: one where the tiles run through the rectangle's rows and marks are carried up, and else all.
+fn uneven_rows(tiles: &[LaidTile], likeness: Likeness, rect: Rect) -> u32
+    ensures some { 1 ≤ result }
+    ensures few { result ≤ piece_side }
+    ensures even { result < piece_side
+        → All (λ tile. RunsThrough rect tile.piece.rect) tiles.now × (spec.carries_up likeness ≡ true) }
+{
+    if carries_up(likeness) && all_run_through(tiles, rect) {
+        1
+    } else {
+        PIECE_SIDE
+    }
+}
+
+/// Returns whether what is carried is one mark in each column.
+fn carries_up(likeness: Likeness) -> bool
+    ensures { result ≡ spec.carries_up likeness }
+{
+    match likeness {
+        Likeness::OneKind | Likeness::Columns => true,
+        Likeness::Rows => false,
+    }
+}
+
+/// Returns whether each of the tiles begins above the rectangle's rows or has them all.
+fn all_run_through(tiles: &[LaidTile], rect: Rect) -> bool
+    ensures { IsTrue result → All (λ tile. RunsThrough rect tile.piece.rect) tiles.now }
+{
+    let lines = rect.area();
+    for tile in tiles {
+        if !runs_through(tile.piece.rect.area(), lines) {
+            return false;
+        }
+    }
+    true
+}
+
+/// Returns whether the bar begins above the rows or has them all.
+fn runs_through(bar: Area, rows: Area) -> bool
+    ensures { IsTrue result → RunsThrough rows bar }
+{
+    rows.top <= bar.bottom || (bar.bottom <= rows.bottom && rows.top <= bar.top)
 }
 
 /// Makes `pieces` those that give each square of the rectangle the kind of the source's square that shows the same.

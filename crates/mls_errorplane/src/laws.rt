@@ -5,16 +5,15 @@ ghost use Rattle.mls_checker.specs.Forbids.{forbidden};
 ghost use Rattle.mls_checker.specs.Marking.{SquareSet, squares_of};
 ghost use Rattle.mls_checker.specs.ZoneLayouts.{AgreeOutside};
 ghost use Rattle.mls_edgerule.specs.declared.edge_rule.EdgeRule.{EdgeRule};
+ghost use Rattle.mls_errorplane.specs.Carrying.{AreFew};
 ghost use Rattle.mls_errorplane.specs.CatchingUp.{AfterSteps, Steps};
 ghost use Rattle.mls_errorplane.specs.Checkings.{Checking, IsChecked, check_step, opening_checking, soiled};
-ghost use Rattle.mls_errorplane.specs.DirtyLists.{IsDirtyList, added, area_of, dropped, first_piece_of, piece_of, piece_side, round_all, squares_in};
-ghost use Rattle.mls_errorplane.specs.ErrorPlanes.{marks_picture};
+ghost use Rattle.mls_errorplane.specs.DirtyLists.{IsDirtyList, added, area_of, dropped, first_piece_of, piece_of, round_all, squares_in};
 ghost use Rattle.mls_errorplane.specs.MarkPlanes.{is_marked, remarked};
 ghost use Rattle.mls_errorplane.specs.Stretches.{AreRight, DropsAll};
 ghost use Rattle.mls_geom.specs.Layouts.{Layout};
 ghost use Rattle.mls_geom.specs.Pictures.{Picture, empty_picture};
 ghost use Rattle.mls_geom.specs.Rects.{IsRectangleIn, Rect, holds, size_of};
-ghost use Rattle.mls_geom.specs.TileCounts.{tile_count};
 ghost use Rattle.mls_geom.specs.World.{world};
 
 /// The squares of a list are those of its first piece and those of the list without that piece.
@@ -84,13 +83,14 @@ pub fn catching_up_keeps_marks_right()
         → IsChecked rules layout old → IsChecked rules layout new }
 {}
 
-/// Where the next pieces of a list make up a rectangle, and the tiles of the marks before and after its check are few
-/// enough together, each check step over these pieces is done, and they lead from the ones to the others.
+/// Where the next pieces of a list make up a rectangle, and the tiles of the marks after its check and those of the marks
+/// before in the rows from its bottom on are few enough together, each check step over these pieces is done, and they
+/// lead from the ones to the others.
 pub fn carrying_is_steps()
     ensures { (rules : List EdgeRule) (layout : Layout) (limit count : ℕ) (rect : Rect) (marks after : SquareSet)
-        (old new : List Rect) → DropsAll rect count old new → AreRight rules layout after rect
-        → ((x y : ℕ) → holds rect x y ≡ false → after x y ≡ marks x y)
-        → tile_count world (marks_picture marks) + tile_count world (marks_picture after) + 2 * piece_side ≤ limit
+        (old new : List Rect) → DropsAll rect count old new → IsRectangleIn world rect
+        → AreRight rules layout after rect → ((x y : ℕ) → holds rect x y ≡ false → after x y ≡ marks x y)
+        → AreFew limit rect marks after
         → Steps rules layout limit count (record { marks = marks; dirty = old })
         (record { marks = after; dirty = new }) }
 {}

@@ -1,12 +1,12 @@
-use Rattle.std.proofs.Common.{◌≡◌, ◌≤◌, ◌+◌, ◌*◌, ℕ, refl, sym, ap, subst, ◌∙◌, arith}
+use Rattle.std.proofs.Common.{◌≡◌, ◌≤◌, ℕ, refl, sym, ap, subst, ◌∙◌, arith}
 use Rattle.mls_geom.specs.Pictures.{Picture}
 use Rattle.mls_geom.specs.TileCounts.{tile_count}
 use Rattle.mls_geom.specs.World.{world}
-use Rattle.mls_checker.specs.Marking.{SquareSet}
 use Rattle.mls_paint.specs.Planes.{HasStrips, picture_in}
-use Rattle.mls_errorplane.specs.Carrying.{told}
+use Rattle.mls_errorplane.specs.Carrying.{AreFew, told}
 use Rattle.mls_errorplane.specs.ErrorPlanes.{ErrorPlane, marks_picture}
 use Rattle.mls_errorplane.specs.MarkPlanes.{is_marked, marked_count}
+use Rattle.mls_errorplane.proofs.CarriedCounts.{AreCarried-remarked, AreFew-carried}
 use Rattle.mls_errorplane.proofs.CarriedMarks.{carried-few, carried-recount, painted-as, remarked-shows}
 use Rattle.mls_errorplane.proofs.Recounts.{counted-as, recount-before, recount-few, recount-is}
 use Rattle.mls_errorplane.proofs.error_plane.ErrorPlane.carry.Goals as goal
@@ -51,12 +51,15 @@ returns-clause-few c = λ _.
     let is = painted-as pool c.repaint.new.pool c.list_carried.new.plane owner c.list_carried.new.pieces.items c.deref.result.now c.args.rect set c.list_carried.ensures.plane
     c.in-Ok.ensures.picture c.list_carried.ensures.painted c.deref.ensures.value in
     let shows = subst (λ (e : ErrorPlane). picture_in pool e.owner ≡ marks_picture (is_marked (picture_in pool e.owner))) (sym c.self.view_is) c.requires.marks.marks in
-    let shows' = remarked-shows old new c.args.rect set shows is in
     let count = λ (p : Picture). tile_count world p in
-    let before = ap (λ (e : ErrorPlane). count (marks_picture (is_marked (picture_in pool e.owner)))) (sym c.self.view_is) ∙ ap count (sym shows) in
-    let after = ap (λ (o : ℕ). count (marks_picture (is_marked (picture_in c.repaint.new.pool o)))) (c.repaint.ensures.plane ∙ c.list_carried.ensures.plane) ∙ ap count (sym shows') in
+    let after = ap count (remarked-shows old new c.args.rect set shows is) in
     let few = subst (λ (o : ℕ). count (picture_in c.repaint.new.pool o) ≤ c.in-Some.most) c.list_carried.ensures.plane c.in-Ok.ensures.few in
-    omega (arith, before, after, few, c.tile_count.ensures, c.in-Some.ensures)
+    let carried = AreCarried-remarked c.args.source.likeness c.args.source.rect c.args.rect old new is in
+    let both =
+    AreFew-carried c.args.limit c.args.source.likeness c.args.source.rect c.args.rect old (is_marked new) c.in-Some.most c.repaint.ensures.legal shows c.in-Some.ensures.room carried
+    (omega (arith, after, few)) in
+    subst (λ (e : ErrorPlane). AreFew c.args.limit c.args.rect (is_marked (picture_in pool e.owner)) (is_marked (picture_in c.repaint.new.pool c.repaint.new.plane))) c.self.view_is
+    (subst (λ (o : ℕ). AreFew c.args.limit c.args.rect (is_marked old) (is_marked (picture_in c.repaint.new.pool o))) (sym (c.repaint.ensures.plane ∙ c.list_carried.ensures.plane)) both)
 
 pub returns-clause-marks : goal.returns-clause-marks
 returns-clause-marks c =

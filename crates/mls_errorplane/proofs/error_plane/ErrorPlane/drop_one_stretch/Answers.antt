@@ -1,4 +1,4 @@
-use Rattle.std.proofs.Common.{◌≡◌, ℕ, List, false, refl, sym, ap, subst, ◌∙◌}
+use Rattle.std.proofs.Common.{◌≡◌, ℕ, List, false, refl, sym, ap, subst}
 use Rattle.mls_geom.specs.Rects.{Rect}
 use Rattle.mls_layout.specs.Uses.{flat_layout}
 use Rattle.mls_paint.specs.Planes.{picture_in}

@@ -1,18 +1,16 @@
 -- Marks that the error plane shows already are right; those that it doesn't show are carried.
-use Rattle.std.proofs.Common.{◌+◌, ◌*◌, ◌≤◌, ℕ, inl, inr, refl, sym, ap, subst, ◌∙◌}
+use Rattle.std.proofs.Common.{ℕ, inl, inr, refl, sym, ap, subst, ◌∙◌}
 use Rattle.std.proofs.lemmas.Bool.{cases_Bool}
 use Rattle.mls_geom.specs.Pictures.{Picture}
-use Rattle.mls_geom.specs.Rects.{Rect, joined}
-use Rattle.mls_geom.specs.TileCounts.{tile_count}
-use Rattle.mls_geom.specs.World.{world}
+use Rattle.mls_geom.specs.Rects.{Rect}
 use Rattle.mls_tilepool.specs.Pools.{Pool}
 use Rattle.mls_layout.specs.Uses.{flat_layout}
 use Rattle.mls_paint.specs.Planes.{picture_in}
 use Rattle.mls_checker.specs.Marking.{SquareSet}
 use Rattle.mls_checker.proofs.LentPlanes.{lent-same}
-use Rattle.mls_errorplane.specs.Carrying.{AreCarried}
+use Rattle.mls_errorplane.specs.Carrying.{AreCarried, AreFew}
 use Rattle.mls_errorplane.specs.CatchingUp.{Steps}
-use Rattle.mls_errorplane.specs.ErrorPlanes.{ErrorPlane, marks_picture}
+use Rattle.mls_errorplane.specs.ErrorPlanes.{ErrorPlane}
 use Rattle.mls_errorplane.specs.MarkPlanes.{is_marked}
 use Rattle.mls_errorplane.specs.Stretches.{ShowsAlike}
 use Rattle.mls_errorplane.proofs.CarriedMarks.{AreRight-carried, AreRightIn-kept}
@@ -115,8 +113,8 @@ returns-clause-steps c = λ yes count before after drops.
     let are = subst (λ (m : SquareSet). AreCarried source.likeness source.rect c.args.rect m new) same (c.carry.ensures.carried yes) in
     let right = AreRight-carried rules layout source.likeness source.rect c.args.rect old new c.lies_in_world-2.ensures c.lies_in_world.ensures c.in-Some.ensures.tells c.in-Some.ensures.alike are
     (c.in-Some.ensures.right layout old c.requires.right) in
-    let few = subst (λ (m : SquareSet). tile_count world (marks_picture m) + tile_count world (marks_picture new) + 2 * 256 ≤ c.args.trial.now.limit) same (c.carry.ensures.few yes) in
-    carried rules layout c.args.trial.now.limit count c.args.rect old new before after drops right are.elsewhere few
+    let few = subst (λ (m : SquareSet). AreFew c.args.trial.now.limit c.args.rect m new) same (c.carry.ensures.few yes) in
+    carried rules layout c.args.trial.now.limit count c.args.rect old new before after drops c.lies_in_world.ensures right are.elsewhere few
 
 pub returns-clause-checked : goal.returns-clause-checked
 returns-clause-checked c =
