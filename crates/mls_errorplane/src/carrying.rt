@@ -29,11 +29,14 @@ use mls_paint::{Scratch, TooManyTiles, find_area, find_meeting_in, overlay, tile
 use mls_stitch::{LaidTile, Plane};
 use mls_tilepool::Pool;
 
+/// A rectangle with fewer squares than these, those of 64 pieces, is small.
+const SEARCHED: u64 = 64 * 65_536;
+
 impl ErrorPlane {
     /// Gives each square of the rectangle the mark of the source's square that shows the same, and returns whether this
-    /// was done. Where the plane's tiles afterwards, those before in the rows from the rectangle's bottom on, and two for
-    /// each row of a piece, or two where marks go up, are together more than `limit`, or may be, changes nothing. No
-    /// memory is taken.
+    /// was done. It is only done where the plane's tiles afterwards, those before in the rows from the rectangle's
+    /// bottom on, and two for each row of a piece, or two where marks go up, are together at most `limit`; otherwise
+    /// nothing changes. No memory is taken.
     pub(crate) fn carry(
         &mut self,
         source: Source,
@@ -76,7 +79,8 @@ impl ErrorPlane {
 /// Returns how many tiles the plane may have after marks are carried on to the rectangle, if any.
 ///
 /// Where it has few tiles beside the limit, all are counted, and two for each row of a piece. Elsewhere those in the
-/// rows from the rectangle's bottom on are counted, and only two more where marks go up.
+/// rows from the rectangle's bottom on are counted, and only two more where marks go up; but beside a small rectangle
+/// that would seldom save more time than it takes.
 fn most_after(
     pool: &Pool,
     plane: &Plane,
@@ -96,9 +100,18 @@ fn most_after(
     if coarse >= Some(limit / 2) {
         return coarse;
     }
+    if is_hopeless(all, limit, rect) {
+        return None;
+    }
     find_meeting_in(pool, plane, rows_from(rect), scratch);
     let tiles = scratch.tiles();
     most_beside(limit, tiles.len(), uneven_rows(tiles, likeness, rect))
+}
+
+/// Returns whether a search would hardly find room: where a small rectangle lies beside more tiles than half of the
+/// limit.
+fn is_hopeless(tiles: usize, limit: u32, rect: Rect) -> bool {
+    tiles > (limit / 2) as usize && rect.area().size() < SEARCHED
 }
 
 /// Returns how many tiles there may be beside these tiles and two for each of the rows, if any.
