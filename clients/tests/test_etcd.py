@@ -106,7 +106,7 @@ class SeveralRelays(EtcdCase):
     def test_a_session_is_resumed_anywhere(self):
         one, other = self.machine("one"), self.machine("other")
         client, second = self.client(one), self.client(other)
-        lines = ["%open a", "a box 0 0 1 10", "a nonsense", "a paint poly", "%stat a", "a drc catchup", "a drc count"]
+        lines = ["%open a", "a box 0 0 1 10", "a nonsense", "a paint poly", "a drc catchup", "%stat a", "a drc count"]
         self.assertEqual(client.ask(*lines), alone(lines))
         self.assertEqual(second.ask("%open a"), ["a refused open 1 open already"])
         refused = second.ask("@resume a")[0]
