@@ -5,7 +5,7 @@ use crate::Rules;
 use std::alloc::{AllocError, Global};
 use std::marker::Model;
 
-/// A copy of rules on the heap, so that what carries it is small: [`Rules`] have room for 128 rules, some 4.8 kilobytes.
+/// A copy of rules on the heap, so that what carries it is small: [`Rules`] have room for 128, some 4.8 kilobytes.
 #[derive(Drop)]
 pub struct BoxedRules {
     rules: Box<Rules>,

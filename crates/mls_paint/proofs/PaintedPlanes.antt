@@ -1,6 +1,6 @@
 -- What a plane is once the strips of what the listed tiles and the pieces cover have taken the place of those tiles, where tiles that are such strips
 -- stay.
-use Rattle.std.proofs.Common.{◌≡◌, ℕ, ◌+◌, ◌<◌, ◌≤◌, ◌↔◌, Bool, true, false, not, IsTrue, inl, inr, refl, List, ◌++◌, length, Contains, IsPermutation, Some, sym, ap, ◌∙◌, subst, arith}
+use Rattle.std.proofs.Common.{◌≡◌, ℕ, ◌+◌, ◌<◌, ◌≤◌, ◌↔◌, Bool, true, false, not, IsTrue, inl, inr, refl, List, ◌++◌, length, Contains, IsPermutation, Some, sym, ap, ◌∙◌, subst, subst₂, arith}
 use Rattle.std.specs.Option.{option_map}
 use Rattle.std.proofs.lemmas.Bool.{both_ways, cases_lt}
 use Rattle.std.proofs.lemmas.List.Elements.{All-contains}
@@ -65,6 +65,22 @@ too_many-GivesWay pool owner over list limit gives = (
   λ more. omega (arith, tile_count-GivesWay pool owner over list gives),
 )
 
+-- where what was swept was these tiles, they are to give way, and the sweep was refused just where the plane is over the limit
+pub GivesWay-swept :
+    (pool : Pool) (owner : ℕ) (over : List Piece) (list swept : List LaidTile) → HasStrips pool owner → ListTouched (block_at (tiles_of pool owner)) over list → swept ≡ list
+    → HaveKinds (pieces_of swept ++ over) → AreLegal over → GivesWay pool owner over list
+GivesWay-swept pool owner over list swept strips listed same kinds legal =
+    record { strips = strips; listed = listed; kinds = subst (λ tiles. HaveKinds (pieces_of tiles ++ over)) same kinds; legal = legal }
+
+pub too_many-swept :
+    {Refused : Type 0} (pool : Pool) (owner : ℕ) (over : List Piece) (list swept : List LaidTile) (limit count : ℕ) → GivesWay pool owner over list → swept ≡ list → count ≡ count_of pool owner
+    → (Refused ↔ (limit + length swept < count + covered_count world (laid (pieces_of swept ++ over))))
+    → (Refused ↔ (limit < tile_count world (overlaid (picture_in pool owner) over)))
+too_many-swept pool owner over list swept limit count gives same number refused =
+    let exactly = too_many-GivesWay pool owner over list limit gives in
+    let here = rw (same, number) at refused in
+    (λ is. exactly.0 (here.0 is), λ more. here.1 (exactly.1 more))
+
 -- what is not refused fits
 pub fits_unless : (fits refused : Bool) (tiles limit : ℕ) → refused ≡ not fits → (IsTrue refused ↔ (limit < tiles)) → IsTrue fits ↔ (tiles ≤ limit)
 fits_unless true refused tiles limit is only = (
@@ -76,15 +92,28 @@ fits_unless true refused tiles limit is only = (
 )
 fits_unless false refused tiles limit is only = (λ never. absurd (both_ways false refl never), λ few. absurd (omega (arith, few, only.0 is)))
 
+-- the names of the tiles that go and the strips that come, in any order
+pub record AreChanges (list : List LaidTile) (fresh : List Piece) (names : List ℕ) (put : List Piece) : Type 0 where
+  pub named : IsPermutation (keys_of (gone_of list fresh)) names
+  pub moved : IsPermutation (put_of fresh (pieces_of list)) put
+
+-- where the lists are read elsewhere
+pub AreChanges-read :
+    (list tiles : List LaidTile) (fresh strips : List Piece) (names names_read : List ℕ) (put put_read : List Piece) → tiles ≡ list → strips ≡ fresh → names_read ≡ names → put_read ≡ put
+    → IsPermutation (keys_of (gone_of tiles strips)) names → IsPermutation (put_of strips (pieces_of tiles)) put → AreChanges list fresh names_read put_read
+AreChanges-read list tiles fresh strips names names_read put put_read same_tiles same_strips same_names same_put named moved = record {
+  named = subst₂ IsPermutation (ap (λ l. keys_of (gone_of l strips)) same_tiles ∙ ap (λ f. keys_of (gone_of list f)) same_strips) (sym same_names) named;
+  moved = subst₂ IsPermutation (ap (λ l. put_of strips (pieces_of l)) same_tiles ∙ ap (λ f. put_of f (pieces_of list)) same_strips) (sym same_put) moved;
+}
+
 -- the strips of what the tiles and the pieces cover take their place, other than those that are tiles already, in any order
 pub TakePlace-GivesWay :
     (pool : Pool) (owner : ℕ) (over : List Piece) (list : List LaidTile) (fresh : List Piece) (names : List ℕ) (put : List Piece) → GivesWay pool owner over list
-    → AreCoveredStrips world (laid (pieces_of list ++ over)) fresh → IsPermutation (keys_of (gone_of list fresh)) names → IsPermutation (put_of fresh (pieces_of list)) put
-    → TakePlace (block_at (tiles_of pool owner)) names put
-TakePlace-GivesWay pool owner over list fresh names put gives covered named moved =
+    → AreCoveredStrips world (laid (pieces_of list ++ over)) fresh → AreChanges list fresh names put → TakePlace (block_at (tiles_of pool owner)) names put
+TakePlace-GivesWay pool owner over list fresh names put gives covered changes =
     let blocks = block_at (tiles_of pool owner) in
     let under = AreTouched-GivesWay pool owner over list gives in
-    TakePlace-moved blocks (keys_of (gone_of list fresh)) names (put_of fresh (pieces_of list)) put named moved
+    TakePlace-moved blocks (keys_of (gone_of list fresh)) names (put_of fresh (pieces_of list)) put changes.named changes.moved
     (TakePlace-changes blocks list over fresh gives.strips.plane.plane.tiling under (TakePlace-strips blocks list over fresh under covered))
 
 -- no two of the tiles have one lower-left corner
@@ -96,8 +125,7 @@ CornersDiffer-GivesWay pool owner over list gives =
 pub record IsChanged (old new : List (ℕ × Tile)) (list : List LaidTile) (fresh : List Piece) : Type 0 where
   pub names : List ℕ
   pub put : List Piece
-  pub named : IsPermutation (keys_of (gone_of list fresh)) names
-  pub moved : IsPermutation (put_of fresh (pieces_of list)) put
+  pub changes : AreChanges list fresh names put
   pub replaced : Replaces old new names put
 
 IsPainted-GivesWay :
@@ -115,9 +143,9 @@ IsPainted-GivesWay old new owner over list fresh gives covered changed =
       all = gives.listed.whole;
       legal = gives.legal;
       covered = covered;
-      strips = λ piece found. (Contains-put_of fresh (pieces_of list) piece (Contains-permutation changed.put come piece (IsPermutation-sym come changed.put changed.moved) found)).0;
+      strips = λ piece found. (Contains-put_of fresh (pieces_of list) piece (Contains-permutation changed.put come piece (IsPermutation-sym come changed.put changed.changes.moved) found)).0;
       stays = λ key block listed here remains.
-          stays_among (block_at (tiles_of old owner)) list over fresh key block under listed here (λ held. remains (Contains-permutation gone changed.names key changed.named held));
+          stays_among (block_at (tiles_of old owner)) list over fresh key block under listed here (λ held. remains (Contains-permutation gone changed.names key changed.changes.named held));
       replaced = changed.replaced;
     }
 
@@ -151,7 +179,7 @@ KeepsUntouched-IsChanged old new owner over list fresh gives covered changed key
     let block_here : block_at tiles key ≡ Some (block_of tiles tile) = ap (option_map (block_of tiles)) here in
     let gone = keys_of (gone_of list fresh) in
     let unlisted : ¬ (Contains changed.names key) = λ held.
-    let (entry, away, is_key) = entry-keys_of (gone_of list fresh) key (Contains-permutation changed.names gone key (IsPermutation-sym gone changed.names changed.named) held) in
+    let (entry, away, is_key) = entry-keys_of (gone_of list fresh) key (Contains-permutation changed.names gone key (IsPermutation-sym gone changed.names changed.changes.named) held) in
     let (there, no_strip) = Contains-gone_of list fresh entry away in
     let laid_there = All-contains (λ t. block_at tiles t.id ≡ Some t.piece) list entry gives.listed.each there in
     let same : entry.piece ≡ block_of tiles tile = same_Some entry.piece (block_of tiles tile) (sym laid_there ∙ ap (block_at tiles) is_key ∙ block_here) in

@@ -34,8 +34,8 @@ impl Model for Scratch {
     ghost view = { λ s. record { tiles = s.search.tiles; room = s.room; pieces = s.pieces } };
 
     ghost invariant = { λ s. (s.search.room ≡ s.room) × (s.sweep.room ≡ s.room + s.pieces)
-        × (s.room + s.pieces ≤ vec_capacity s.touched) × (s.room ≤ vec_capacity s.gone) × (s.room ≤ vec_capacity s.names)
-        × (s.room ≤ vec_capacity s.fresh) };
+        × (s.room + s.pieces ≤ vec_capacity s.touched) × (s.room ≤ vec_capacity s.gone)
+        × (s.room ≤ vec_capacity s.names) × (s.room ≤ vec_capacity s.fresh) };
 }
 
 impl Scratch {

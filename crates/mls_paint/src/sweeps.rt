@@ -90,7 +90,7 @@ impl Sweeps {
     }
 
     /// Finds the strips of what these pieces cover, without a sweep where they are kept, and returns how many there
-    /// are.
+    /// are. Those that a sweep finds are kept.
     ///
     /// Fails if there are more than `limit`.
     pub(crate) fn find(&mut self, pieces: &[Piece], limit: usize) -> Result<usize, TooMany>
@@ -105,7 +105,11 @@ impl Sweeps {
         ensures room { self.new.room ≡ self.old.room }
     {
         let Some(place) = find_kept(&self.kept, pieces) else {
-            return self.sweep_anew(pieces, limit);
+            let fresh = fresh_strips(pieces, limit, &mut self.sweep)?;
+            let place = place_after(self.last, self.kept.len());
+            self.kept[place].keep(pieces, self.sweep.strips());
+            self.last = place;
+            return Ok(fresh);
         };
         let strips = self.kept[place].strips().len();
         self.last = place;
@@ -113,26 +117,5 @@ impl Sweeps {
             return Err(TooMany);
         }
         Ok(strips)
-    }
-
-    /// Finds the strips of what these pieces cover by a sweep, keeps them, and returns how many there are.
-    ///
-    /// Fails if there are more than `limit`.
-    fn sweep_anew(&mut self, pieces: &[Piece], limit: usize) -> Result<usize, TooMany>
-        requires pieces_fit { length pieces.now ≤ self.old.room }
-        requires strips_fit { limit ≤ self.old.room }
-        ensures legal { AreLegal pieces.now }
-        ensures kinds { HaveKinds pieces.now }
-        ensures strips { OnOk result (AreCoveredStrips world (laid pieces.now) self.new.strips) }
-        ensures count { IfOk result (λ n. (n ≡ length self.new.strips)
-            × (n ≡ covered_count world (laid pieces.now))) }
-        ensures too_many { IsErr result ↔ (limit < covered_count world (laid pieces.now)) }
-        ensures room { self.new.room ≡ self.old.room }
-    {
-        let fresh = fresh_strips(pieces, limit, &mut self.sweep)?;
-        let place = place_after(self.last, self.kept.len());
-        self.kept[place].keep(pieces, self.sweep.strips());
-        self.last = place;
-        Ok(fresh)
     }
 }

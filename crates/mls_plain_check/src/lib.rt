@@ -1,7 +1,7 @@
 //! What design rules forbid, found by the definition as it stands: a plain program that goes from square to square.
 //!
-//! [`find`] finds the squares of a piece that the rules forbid in a layout of [`Squares`], and by which rules. It is what
-//! `mls_checker` is compared with, in tests.
+//! [`find`] finds the squares of a piece that the rules forbid in a layout of [`Squares`], and by which rules. It is
+//! what `mls_checker` is compared with, in tests.
 #![tactic(auto)]
 
 mod forbidden;

@@ -1,5 +1,5 @@
 -- The strips of a picture, laid as the tiles of an owner and stitched.
-use Rattle.std.proofs.Common.{◌≡◌, ◌≢◌, ℕ, ◌<◌, List, [], length, map, AllPairs, refl, sym, ap, ◌∙◌, subst, arith}
+use Rattle.std.proofs.Common.{◌≡◌, ◌≢◌, ℕ, ◌<◌, List, [], length, map, AllPairs, Option, refl, sym, ap, ◌∙◌, subst, arith}
 use Rattle.mls_geom.specs.Locality.{AreUnorderedStrips}
 use Rattle.mls_geom.specs.Pictures.{picture_of}
 use Rattle.mls_geom.specs.World.{world}
@@ -8,11 +8,12 @@ use Rattle.mls_tilepool.specs.declared.tile.Tile.{Tile}
 use Rattle.mls_stitch.specs.Fresh.{fresh_at}
 use Rattle.mls_stitch.specs.Pending.{AwaitStitches}
 use Rattle.mls_stitch.specs.Placing.{Lays}
-use Rattle.mls_stitch.specs.Tilings.{AreTiledAs, IsMaximal, shown}
+use Rattle.mls_stitch.specs.Tilings.{AreTiledAs, IsMaximal, IsPlane, shown}
 use Rattle.mls_stitch.specs.declared.laid_tile.LaidTile.{LaidTile}
 use Rattle.mls_stitch.proofs.BuiltTiles.{AwaitStitches-strips, IsMaximal-built, shown-built}
 use Rattle.mls_stitch.proofs.ReplacedBlocks.{piece_of}
 use Rattle.mls_stitch.proofs.ShownTiles.{KeysDiffer}
+use Rattle.mls_stitch.proofs.Sides.{IsPlane-AreTiledAs}
 
 -- there is a strip, since the world has a square
 pub some_strip : (pieces : List Piece) → AreUnorderedStrips world (picture_of pieces) pieces → 0 < length pieces
@@ -36,13 +37,19 @@ AwaitStitches-built {mid} pieces after strips a =
     subst (λ list. AwaitStitches mid (fresh_at list) [] list) (sym a.listed)
     (AwaitStitches-strips (picture_of pieces) a.laid (subst (AreUnorderedStrips world (picture_of pieces)) (sym a.pieces) strips) a.ways.once mid a.ways)
 
--- and once they are stitched, they show the picture, and are maximal
-pub shown-strips_laid :
-    {mid new : List (ℕ × Tile)} (pieces : List Piece) (after : List LaidTile) → AreUnorderedStrips world (picture_of pieces) pieces → Lays [] mid [] pieces [] after → AreTiledAs new (fresh_at after)
-    → KeysDiffer new → shown new ≡ picture_of pieces
-shown-strips_laid {new = new} pieces after strips a tiled differ = shown-built new after (strips_all a strips) (once_all a) tiled differ ∙ ap picture_of (listed_all a)
+-- what is built of strips: a plane that shows their picture, and each tile is maximal
+pub record IsBuilt (tiles : List (ℕ × Tile)) (pieces : List Piece) : Type 0 where
+  pub plane : IsPlane tiles
+  pub picture : shown tiles ≡ picture_of pieces
+  pub maximal : IsMaximal tiles
 
-pub IsMaximal-strips_laid :
-    {mid new : List (ℕ × Tile)} (pieces : List Piece) (after : List LaidTile) → AreUnorderedStrips world (picture_of pieces) pieces → Lays [] mid [] pieces [] after → AreTiledAs new (fresh_at after)
-    → KeysDiffer new → IsMaximal new
-IsMaximal-strips_laid {new = new} pieces after strips a tiled differ = IsMaximal-built new after (strips_all a strips) (once_all a) tiled differ
+pub IsBuilt-stitched :
+    {mid new : List (ℕ × Tile)} (pieces : List Piece) (after listed : List LaidTile) → AreUnorderedStrips world (picture_of pieces) pieces → Lays [] mid [] pieces [] after → listed ≡ after
+    → KeysDiffer new → ((blocks : ℕ → Option Piece) → AwaitStitches mid blocks [] listed → AreTiledAs new blocks) → IsBuilt new pieces
+IsBuilt-stitched {new = new} pieces after listed strips laid is differ stitched =
+    let tiled = stitched (fresh_at after) (rw is (AwaitStitches-built pieces after strips laid)) in
+    record {
+      plane = IsPlane-AreTiledAs new (fresh_at after) tiled;
+      picture = shown-built new after (strips_all laid strips) (once_all laid) tiled differ ∙ ap picture_of (listed_all laid);
+      maximal = IsMaximal-built new after (strips_all laid strips) (once_all laid) tiled differ;
+    }

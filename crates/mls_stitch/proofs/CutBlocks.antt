@@ -1,5 +1,5 @@
 -- Blocks cut in two by a line, and two blocks as one: the parts have exactly the squares of the whole.
-use Rattle.std.proofs.Common.{◌≡◌, ◌≢◌, ◌⊎◌, ℕ, ◌<◌, true, IsTrue, List, [], ◌∷◌, Option, Some, IsSome, All, AllPairs, Any, inl, inr, refl, sym, ap, ◌∙◌, subst, arith}
+use Rattle.std.proofs.Common.{◌≡◌, ◌≢◌, ◌⊎◌, ℕ, ◌<◌, ◌≤◌, true, IsTrue, List, [], ◌∷◌, Option, Some, IsSome, All, AllPairs, Any, inl, inr, refl, sym, ap, ◌∙◌, subst, arith}
 use Rattle.std.proofs.lemmas.Bool.{cases_lt}
 use Rattle.std.proofs.lemmas.List.Elements.{All-cons, All-nil}
 use Rattle.std.proofs.lemmas.List.Kept.{AllPairs-cons}
@@ -10,9 +10,11 @@ use Rattle.mls_geom.specs.declared.piece.Piece.{Piece}
 use Rattle.mls_geom.proofs.Ascending.{Contains-first, Contains-rest}
 use Rattle.mls_geom.proofs.Holds.{between_holds, holds_between}
 use Rattle.mls_stitch.specs.Replacements.{AreApart, TakePlace}
-use Rattle.mls_stitch.specs.Splits.{JoinInX, JoinInY, joined_x, joined_y, left_of, lower_of, right_of, upper_of}
+use Rattle.mls_stitch.specs.Splits.{IsCutAt, JoinAlong, JoinInX, JoinInY, first_part, joined_along, joined_x, joined_y, left_of, lower_of, right_of, second_part, upper_of}
 use Rattle.mls_stitch.specs.Stitches.{HoldsAt}
 use Rattle.mls_stitch.specs.Tilings.{AreBlocks}
+use Rattle.mls_stitch.specs.declared.split.Axis.{Axis}
+use Rattle.mls_stitch.specs.declared.split.Axis.TheVariants.{X, Y}
 use Rattle.mls_stitch.proofs.FreshTiles.{Contains-first_or_rest, nothing_in_nil}
 use Rattle.mls_stitch.proofs.ReplacedStitches.{Any-contained}
 use Rattle.mls_stitch.proofs.Sides.{HoldsAt-block, holds-HoldsAt, legal-AreBlocks}
@@ -26,8 +28,21 @@ pub record AreParts (whole first second : Piece) : Type 0 where
   pub first_kind : first.kind ≡ whole.kind
   pub second_kind : second.kind ≡ whole.kind
 
+-- two pieces on either side of a line have no square in common
+apart_x : (a b : Piece) → a.rect.right ≤ b.rect.left → AreApart a b
+apart_x a b before at in_a in_b =
+    let lines = holds_between a.rect at.x at.y in_a in
+    let lines' = holds_between b.rect at.x at.y in_b in
+    omega (arith, lines.1, lines'.0, before)
+
+apart_y : (a b : Piece) → a.rect.top ≤ b.rect.bottom → AreApart a b
+apart_y a b before at in_a in_b =
+    let lines = holds_between a.rect at.x at.y in_a in
+    let lines' = holds_between b.rect at.x at.y in_b in
+    omega (arith, lines.3, lines'.2, before)
+
 -- a line through a block cuts it into two parts
-pub parts_x : (block : Piece) (x : ℕ) → block.rect.left < x → x < block.rect.right → AreParts block (left_of x block) (right_of x block)
+parts_x : (block : Piece) (x : ℕ) → block.rect.left < x → x < block.rect.right → AreParts block (left_of x block) (right_of x block)
 parts_x block x after before = record {
   in_first = λ at inside.
       let lines = holds_between (left_of x block).rect at.x at.y inside in
@@ -41,15 +56,12 @@ parts_x block x after before = record {
         | inl below ↦ inl (between_holds (left_of x block).rect at.x at.y lines.0 below lines.2 lines.3)
         | inr above ↦ inr (between_holds (right_of x block).rect at.x at.y above lines.1 lines.2 lines.3)
       ];
-  apart = λ at in_left in_right.
-      let lines = holds_between (left_of x block).rect at.x at.y in_left in
-      let lines' = holds_between (right_of x block).rect at.x at.y in_right in
-      omega (arith, lines.1, lines'.0);
+  apart = apart_x (left_of x block) (right_of x block) (omega arith);
   first_kind = refl;
   second_kind = refl;
 }
 
-pub parts_y : (block : Piece) (y : ℕ) → block.rect.bottom < y → y < block.rect.top → AreParts block (lower_of y block) (upper_of y block)
+parts_y : (block : Piece) (y : ℕ) → block.rect.bottom < y → y < block.rect.top → AreParts block (lower_of y block) (upper_of y block)
 parts_y block y after before = record {
   in_first = λ at inside.
       let lines = holds_between (lower_of y block).rect at.x at.y inside in
@@ -63,16 +75,13 @@ parts_y block y after before = record {
         | inl below ↦ inl (between_holds (lower_of y block).rect at.x at.y lines.0 lines.1 lines.2 below)
         | inr above ↦ inr (between_holds (upper_of y block).rect at.x at.y lines.0 lines.1 above lines.3)
       ];
-  apart = λ at in_lower in_upper.
-      let lines = holds_between (lower_of y block).rect at.x at.y in_lower in
-      let lines' = holds_between (upper_of y block).rect at.x at.y in_upper in
-      omega (arith, lines.3, lines'.2);
+  apart = apart_y (lower_of y block) (upper_of y block) (omega arith);
   first_kind = refl;
   second_kind = refl;
 }
 
 -- which are rectangles of the world where the block is one
-pub legal-parts_x :
+legal-parts_x :
     (block : Piece) (x : ℕ) → IsRectangleIn world block.rect → block.rect.left < x → x < block.rect.right
     → IsRectangleIn world (left_of x block).rect × IsRectangleIn world (right_of x block).rect
 legal-parts_x block x legal after before = (
@@ -80,7 +89,7 @@ legal-parts_x block x legal after before = (
   record { left_in = omega (arith, legal.left_in, after); wide = before; right_in = legal.right_in; bottom_in = legal.bottom_in; tall = legal.tall; top_in = legal.top_in },
 )
 
-pub legal-parts_y :
+legal-parts_y :
     (block : Piece) (y : ℕ) → IsRectangleIn world block.rect → block.rect.bottom < y → y < block.rect.top
     → IsRectangleIn world (lower_of y block).rect × IsRectangleIn world (upper_of y block).rect
 legal-parts_y block y legal after before = (
@@ -89,7 +98,7 @@ legal-parts_y block y legal after before = (
 )
 
 -- two blocks that share a whole side are the parts of both together
-pub parts-joined_x : (a b : Piece) → IsRectangleIn world a.rect → IsRectangleIn world b.rect → JoinInX a b → AreParts (joined_x a b) a b
+parts-joined_x : (a b : Piece) → IsRectangleIn world a.rect → IsRectangleIn world b.rect → JoinInX a b → AreParts (joined_x a b) a b
 parts-joined_x a b legal_a legal_b join = record {
   in_first = λ at inside.
       let lines = holds_between a.rect at.x at.y inside in
@@ -103,15 +112,12 @@ parts-joined_x a b legal_a legal_b join = record {
         | inl below ↦ inl (between_holds a.rect at.x at.y lines.0 below lines.2 lines.3)
         | inr above ↦ inr (between_holds b.rect at.x at.y (omega (arith, above, join.meet)) lines.1 (omega (arith, lines.2, join.bottoms)) (omega (arith, lines.3, join.tops)))
       ];
-  apart = λ at in_a in_b.
-      let lines = holds_between a.rect at.x at.y in_a in
-      let lines' = holds_between b.rect at.x at.y in_b in
-      omega (arith, lines.1, lines'.0, join.meet);
+  apart = apart_x a b (omega (arith, join.meet));
   first_kind = refl;
   second_kind = join.kinds;
 }
 
-pub parts-joined_y : (a b : Piece) → IsRectangleIn world a.rect → IsRectangleIn world b.rect → JoinInY a b → AreParts (joined_y a b) a b
+parts-joined_y : (a b : Piece) → IsRectangleIn world a.rect → IsRectangleIn world b.rect → JoinInY a b → AreParts (joined_y a b) a b
 parts-joined_y a b legal_a legal_b join = record {
   in_first = λ at inside.
       let lines = holds_between a.rect at.x at.y inside in
@@ -125,10 +131,7 @@ parts-joined_y a b legal_a legal_b join = record {
         | inl below ↦ inl (between_holds a.rect at.x at.y lines.0 lines.1 lines.2 below)
         | inr above ↦ inr (between_holds b.rect at.x at.y (omega (arith, lines.0, join.lefts)) (omega (arith, lines.1, join.rights)) (omega (arith, above, join.meet)) lines.3)
       ];
-  apart = λ at in_a in_b.
-      let lines = holds_between a.rect at.x at.y in_a in
-      let lines' = holds_between b.rect at.x at.y in_b in
-      omega (arith, lines.3, lines'.2, join.meet);
+  apart = apart_y a b (omega (arith, join.meet));
   first_kind = refl;
   second_kind = join.kinds;
 }
@@ -241,48 +244,58 @@ TakePlace-whole blocks a b whole first second is_first is_second differ parts le
   );
 }
 
--- blocks that join are two
-pub differ_x : (blocks : ℕ → Option Piece) (left right : ℕ) (a b : Piece) → AreBlocks blocks → blocks left ≡ Some a → blocks right ≡ Some b → JoinInX a b → left ≢ right
-differ_x blocks left right a b tiling is_a is_b join same =
-    let legal = legal-AreBlocks blocks left a tiling is_a in
-    let one : a ≡ b = same_Some a b (sym is_a ∙ ap blocks same ∙ is_b) in
-    omega (arith, legal.wide, join.meet, ap (λ p. p.rect.left) one)
+-- so it is along either axis, whatever lines a block's parts have
+pub parts_along : (axis : Axis) (block : Piece) (at : ℕ) → IsCutAt axis at block → AreParts block (first_part axis at block) (second_part axis at block)
+parts_along X block x (after, before) = parts_x block x after before
+parts_along Y block y (after, before) = parts_y block y after before
 
-pub differ_y : (blocks : ℕ → Option Piece) (lower upper : ℕ) (a b : Piece) → AreBlocks blocks → blocks lower ≡ Some a → blocks upper ≡ Some b → JoinInY a b → lower ≢ upper
-differ_y blocks lower upper a b tiling is_a is_b join same =
-    let legal = legal-AreBlocks blocks lower a tiling is_a in
-    let one : a ≡ b = same_Some a b (sym is_a ∙ ap blocks same ∙ is_b) in
-    omega (arith, legal.tall, join.meet, ap (λ p. p.rect.bottom) one)
+legal-parts :
+    (axis : Axis) (block : Piece) (at : ℕ) → IsRectangleIn world block.rect → IsCutAt axis at block
+    → IsRectangleIn world (first_part axis at block).rect × IsRectangleIn world (second_part axis at block).rect
+legal-parts X block x legal (after, before) = legal-parts_x block x legal after before
+legal-parts Y block y legal (after, before) = legal-parts_y block y legal after before
+
+parts-joined : (axis : Axis) (a b : Piece) → IsRectangleIn world a.rect → IsRectangleIn world b.rect → JoinAlong axis a b → AreParts (joined_along axis a b) a b
+parts-joined X = parts-joined_x
+parts-joined Y = parts-joined_y
+
+legal-joined : (axis : Axis) (a b : Piece) → IsRectangleIn world a.rect → IsRectangleIn world b.rect → JoinAlong axis a b → IsRectangleIn world (joined_along axis a b).rect
+legal-joined X = legal-joined_x
+legal-joined Y = legal-joined_y
+
+-- a block doesn't begin where it ends
+not_itself : (axis : Axis) (a : Piece) → IsRectangleIn world a.rect → JoinAlong axis a a → ⊥
+not_itself X a legal join = omega (arith, legal.wide, join.meet)
+not_itself Y a legal join = omega (arith, legal.tall, join.meet)
+
+-- what a cut and a join need to know of the blocks
+pub record AreJoined (blocks : ℕ → Option Piece) (axis : Axis) (first second : ℕ) (a b : Piece) : Type 0 where
+  pub is_a : blocks first ≡ Some a
+  pub is_b : blocks second ≡ Some b
+  pub join : JoinAlong axis a b
+
+-- blocks that join are two, and the parts of both as one
+pub differ_joined : (blocks : ℕ → Option Piece) (axis : Axis) (first second : ℕ) (a b : Piece) → AreBlocks blocks → AreJoined blocks axis first second a b → first ≢ second
+differ_joined blocks axis first second a b tiling joins same =
+    let one : a ≡ b = same_Some a b (sym joins.is_a ∙ ap blocks same ∙ joins.is_b) in
+    not_itself axis a (legal-AreBlocks blocks first a tiling joins.is_a) (subst (JoinAlong axis a) (sym one) joins.join)
+
+pub parts_joined : (blocks : ℕ → Option Piece) (axis : Axis) (first second : ℕ) (a b : Piece) → AreBlocks blocks → AreJoined blocks axis first second a b → AreParts (joined_along axis a b) a b
+parts_joined blocks axis first second a b tiling joins =
+    parts-joined axis a b (legal-AreBlocks blocks first a tiling joins.is_a) (legal-AreBlocks blocks second b tiling joins.is_b) joins.join
 
 -- so it is with each cut and each join
-pub TakePlace-cut_x :
-    (blocks : ℕ → Option Piece) (tile : ℕ) (block : Piece) (x : ℕ) → AreBlocks blocks → blocks tile ≡ Some block → block.rect.left < x → x < block.rect.right
-    → TakePlace blocks (tile ∷ []) (left_of x block ∷ right_of x block ∷ [])
-TakePlace-cut_x blocks tile block x tiling is after before =
-    let legal = legal-parts_x block x (legal-AreBlocks blocks tile block tiling is) after before in
-    TakePlace-parts blocks tile block (left_of x block) (right_of x block) is (parts_x block x after before) legal.0 legal.1
+pub TakePlace-cut :
+    (blocks : ℕ → Option Piece) (tile : ℕ) (block : Piece) (axis : Axis) (at : ℕ) → AreBlocks blocks → blocks tile ≡ Some block → IsCutAt axis at block
+    → TakePlace blocks (tile ∷ []) (first_part axis at block ∷ second_part axis at block ∷ [])
+TakePlace-cut blocks tile block axis at tiling is inside =
+    let legal = legal-parts axis block at (legal-AreBlocks blocks tile block tiling is) inside in
+    TakePlace-parts blocks tile block (first_part axis at block) (second_part axis at block) is (parts_along axis block at inside) legal.0 legal.1
 
-pub TakePlace-cut_y :
-    (blocks : ℕ → Option Piece) (tile : ℕ) (block : Piece) (y : ℕ) → AreBlocks blocks → blocks tile ≡ Some block → block.rect.bottom < y → y < block.rect.top
-    → TakePlace blocks (tile ∷ []) (lower_of y block ∷ upper_of y block ∷ [])
-TakePlace-cut_y blocks tile block y tiling is after before =
-    let legal = legal-parts_y block y (legal-AreBlocks blocks tile block tiling is) after before in
-    TakePlace-parts blocks tile block (lower_of y block) (upper_of y block) is (parts_y block y after before) legal.0 legal.1
-
-pub TakePlace-join_x :
-    (blocks : ℕ → Option Piece) (left right : ℕ) (a b : Piece) → AreBlocks blocks → blocks left ≡ Some a → blocks right ≡ Some b → JoinInX a b
-    → TakePlace blocks (left ∷ right ∷ []) (joined_x a b ∷ [])
-TakePlace-join_x blocks left right a b tiling is_a is_b join =
-    let legal_a = legal-AreBlocks blocks left a tiling is_a in
-    let legal_b = legal-AreBlocks blocks right b tiling is_b in
-    TakePlace-whole blocks left right (joined_x a b) a b is_a is_b (differ_x blocks left right a b tiling is_a is_b join) (parts-joined_x a b legal_a legal_b join)
-    (legal-joined_x a b legal_a legal_b join)
-
-pub TakePlace-join_y :
-    (blocks : ℕ → Option Piece) (lower upper : ℕ) (a b : Piece) → AreBlocks blocks → blocks lower ≡ Some a → blocks upper ≡ Some b → JoinInY a b
-    → TakePlace blocks (lower ∷ upper ∷ []) (joined_y a b ∷ [])
-TakePlace-join_y blocks lower upper a b tiling is_a is_b join =
-    let legal_a = legal-AreBlocks blocks lower a tiling is_a in
-    let legal_b = legal-AreBlocks blocks upper b tiling is_b in
-    TakePlace-whole blocks lower upper (joined_y a b) a b is_a is_b (differ_y blocks lower upper a b tiling is_a is_b join) (parts-joined_y a b legal_a legal_b join)
-    (legal-joined_y a b legal_a legal_b join)
+pub TakePlace-join :
+    (blocks : ℕ → Option Piece) (axis : Axis) (first second : ℕ) (a b : Piece) → AreBlocks blocks → AreJoined blocks axis first second a b
+    → TakePlace blocks (first ∷ second ∷ []) (joined_along axis a b ∷ [])
+TakePlace-join blocks axis first second a b tiling joins =
+    TakePlace-whole blocks first second (joined_along axis a b) a b joins.is_a joins.is_b (differ_joined blocks axis first second a b tiling joins)
+    (parts_joined blocks axis first second a b tiling joins)
+    (legal-joined axis a b (legal-AreBlocks blocks first a tiling joins.is_a) (legal-AreBlocks blocks second b tiling joins.is_b) joins.join)

@@ -1,7 +1,8 @@
 -- Bounds, and the tiles that a search or a scan of an area found.
-use Rattle.std.proofs.Common.{◌≡◌, ◌⊎◌, ℕ, Bool, ◌&&◌, true, false, IsTrue, List, [], ◌∷◌, ◌++◌, length, get_or, Option, Some, None, All, Any, Contains, filter, inl, inr, refl, sym, ap, ◌∙◌, subst, arith}
+use Rattle.std.proofs.Common.{◌≡◌, ◌⊎◌, ℕ, ◌+◌, ◌<◌, take, Bool, ◌&&◌, true, false, IsTrue, List, [], ◌∷◌, ◌++◌, length, get_or, Option, Some, None, All, Any, Contains, filter, inl, inr, refl, sym, ap, ◌∙◌, subst, arith}
 use Rattle.std.specs.Option.{IfNone, IfSome, IsSome, option_map_or}
 use Rattle.std.proofs.lemmas.Bool.{both_ways, cases_eq, cond-false, ne_eqb}
+use Rattle.std.proofs.lemmas.List.{take_more}
 use Rattle.std.proofs.lemmas.List.Elements.{All-contains, All-filter, All-push, All-nil, Contains-append_left, Contains-append_right, filter_passes}
 use Rattle.std.proofs.lemmas.Option.{same_Some}
 use Rattle.mls_geom.specs.Locality.{touches}
@@ -28,13 +29,21 @@ use Rattle.mls_stitch.proofs.ReplacedStitches.{Any-contained}
 use Rattle.mls_stitch.proofs.Sides.{HoldsAt-block, there-IsSomeAnd}
 
 -- the smallest rectangle round more and more has more and more within it
-pub within_more : {X : Type 0} (P : Rect → X → Type 0) (bounds : Option Rect) (rect result : Rect) (passed : List X) (x : X) →
+within_more : {X : Type 0} (P : Rect → X → Type 0) (bounds : Option Rect) (rect result : Rect) (passed : List X) (x : X) →
     ((a b : Rect) (y : X) → P a y → P (joined a b) y) → ((a : Rect) → IsWithin a rect → P a x) → IfSome bounds (λ b. All (P b) passed) → IfNone bounds (passed ≡ [])
     → result ≡ option_map_or (λ b. joined b rect) bounds rect → All (P result) (passed ++ x ∷ [])
 within_more P None rect result passed x grows here so_far none is =
     rw (is, none) (All-push (P rect) [] x (All-nil _) (here rect (record { left = omega arith; bottom = omega arith; right = omega arith; top = omega arith })))
 within_more P (Some b) rect result passed x grows here so_far none is =
     rw is (All-push (P (joined b rect)) passed x (λ k d within. grows b rect (get_or passed k d) (so_far k d within)) (here (joined b rect) (IsWithin-joined_itself b rect)))
+
+-- so it is with the next of a list
+pub within_next :
+    {X : Type 0} (P : Rect → X → Type 0) (bounds : Option Rect) (rect result : Rect) (xs : List X) (i : ℕ) (x : X) → i < length xs → x ≡ get_or xs i x
+    → ((a b : Rect) (y : X) → P a y → P (joined a b) y) → ((a : Rect) → IsWithin a rect → P a x) → IfSome bounds (λ b. All (P b) (take i xs)) → IfNone bounds (take i xs ≡ [])
+    → result ≡ option_map_or (λ b. joined b rect) bounds rect → All (P result) (take (i + 1) xs)
+within_next P bounds rect result xs i x within is grows here so_far none enclosed =
+    rw (take_more xs i x within ∙ ap (λ y. take i xs ++ y ∷ []) (sym is)) (within_more P bounds rect result (take i xs) x grows here so_far none enclosed)
 
 pub grows_pieces : (a b : Rect) (piece : Piece) → IsWithin a piece.rect → IsWithin (joined a b) piece.rect
 grows_pieces a b piece inside = IsWithin-joined a b piece.rect inside

@@ -2,7 +2,7 @@
 use Rattle.std.proofs.Common.{◌≡◌, ◌≢◌, ◌⊎◌, ℕ, zero, suc, ◌+◌, ◌-◌, ◌<◌, ◌≤◌, Bool, true, false, ◌&&◌, List, [], ◌∷◌, ◌++◌, length, get_or, Option, All, Any, Contains, inl, inr, refl, sym, ap, ◌∙◌, subst, arith}
 use Rattle.std.proofs.lemmas.Bool.{both_ways, cases_lt}
 use Rattle.std.proofs.lemmas.Bool.Decides.{nat_tests}
-use Rattle.std.proofs.lemmas.List.{get_or_append_left, length_push}
+use Rattle.std.proofs.lemmas.List.{get_or_append_left, get_or_read, length_push}
 use Rattle.std.proofs.lemmas.List.Elements.{All-push, Contains-append_left, Contains-push}
 use Rattle.std.proofs.lemmas.List.Quantifiers.{all_pairs_push}
 use Rattle.std.proofs.lemmas.Option.{same_Some}
@@ -320,11 +320,16 @@ beside_next blocks area list index parent tile next tiling inside old was within
       before_end = was.before_end;
     }
 
--- after its last right neighbour, the parent at the index is passed
-pub listed_past :
+-- what is read at an index within the list is there, whatever stands in for what isn't
+pub read_there : (list : List LaidTile) (index : ℕ) (parent : LaidTile) → index < length list → parent ≡ get_or list index parent → (index < length list) × ((d : LaidTile) → get_or list index d ≡ parent)
+read_there list index parent within is = (within, λ d. sym (get_or_read list index parent within is d))
+
+-- the parent at the index is passed where all its children lie at the line or above it
+listed_after :
     (blocks : ℕ → Option Piece) (area : Rect) (list : List LaidTile) (index line : ℕ) (parent : LaidTile) → AreBlocks blocks → IsRectangleIn world area
-    → IsListedTo blocks area list index line → ((d : LaidTile) → get_or list index d ≡ parent) → line ≤ first_row area parent → IsListedTo blocks area list (index + 1) world.top
-listed_past blocks area list index line parent tiling inside listed here last = record {
+    → IsListedTo blocks area list index line → ((d : LaidTile) → get_or list index d ≡ parent)
+    → ((child : LaidTile) → IsFound blocks area child → IsParent area parent child → line ≤ first_row area child) → IsListedTo blocks area list (index + 1) world.top
+listed_after blocks area list index line parent tiling inside listed here above_line = record {
   each = listed.each;
   once = listed.once;
   on_side = listed.on_side;
@@ -335,9 +340,7 @@ listed_past blocks area list index line parent tiling inside listed here last = 
           | inl earlier ↦ reached_as reached (inl earlier)
           | inr later ↦
               let at : reached.place ≡ index = omega (arith, before, later) in
-              let is_parent = parent_here area list index (index + 1) world.top parent child here reached at in
-              let lines = holds_between parent.piece.rect (child.piece.rect.left - 1) (first_row area child) is_parent in
-              reached_as reached (inr (at, omega (arith, last, lines.2)))
+              reached_as reached (inr (at, above_line child found (parent_here area list index (index + 1) world.top parent child here reached at)))
         ]
     | inr (at, above) ↦
         let rows = first_row_found area child inside (legal-AreBlocks blocks child.id child.piece tiling found.laid) found.met in
@@ -345,34 +348,26 @@ listed_past blocks area list index line parent tiling inside listed here last = 
   ]);
 }
 
--- a parent that reaches the area's right side has no child in the area
+-- so it is after its last right neighbour
+pub listed_past :
+    (blocks : ℕ → Option Piece) (area : Rect) (list : List LaidTile) (index line : ℕ) (parent : LaidTile) → AreBlocks blocks → IsRectangleIn world area
+    → IsListedTo blocks area list index line → ((d : LaidTile) → get_or list index d ≡ parent) → line ≤ first_row area parent → IsListedTo blocks area list (index + 1) world.top
+listed_past blocks area list index line parent tiling inside listed here last =
+    listed_after blocks area list index line parent tiling inside listed here (λ child found is_parent.
+    let lines = holds_between parent.piece.rect (child.piece.rect.left - 1) (first_row area child) is_parent in
+    omega (arith, last, lines.2))
+
+-- and a parent that reaches the area's right side has no child in the area
 pub listed_at_end :
     (blocks : ℕ → Option Piece) (area : Rect) (list : List LaidTile) (index : ℕ) (parent : LaidTile) → AreBlocks blocks → IsRectangleIn world area
     → IsListedTo blocks area list index world.top → index < length list → ((d : LaidTile) → get_or list index d ≡ parent) → area.right ≤ parent.piece.rect.right
     → IsListedTo blocks area list (index + 1) world.top
 listed_at_end blocks area list index parent tiling inside listed within here at_end =
     let laid = found_here blocks area list index parent listed.each within here in
-    record {
-      each = listed.each;
-      once = listed.once;
-      on_side = listed.on_side;
-      listed = λ k d short. ⊎_map (λ e. e) (λ reached. reached_past area list index world.top _ reached) (listed.listed k d short);
-      reached = λ child found beyond reached. listed.reached child found beyond (elim reached.passed [
-        | inl before ↦
-            elim (cases_lt reached.place index) [
-              | inl earlier ↦ reached_as reached (inl earlier)
-              | inr later ↦
-                  let at : reached.place ≡ index = omega (arith, before, later) in
-                  let is_parent = parent_here area list index (index + 1) world.top parent child here reached at in
-                  let at_right = child_beside blocks area parent child tiling inside laid.laid found is_parent in
-                  let lines = meets_lines child.piece.rect area found.met in
-                  absurd (omega (arith, at_end, at_right, lines.0))
-            ]
-        | inr (at, above) ↦
-            let rows = first_row_found area child inside (legal-AreBlocks blocks child.id child.piece tiling found.laid) found.met in
-            absurd (not_above area child inside rows.3 above)
-      ]);
-    }
+    listed_after blocks area list index world.top parent tiling inside listed here (λ child found is_parent.
+    let at_right = child_beside blocks area parent child tiling inside laid.laid found is_parent in
+    let lines = meets_lines child.piece.rect area found.met in
+    absurd (omega (arith, at_end, at_right, lines.0)))
 
 -- the tile that has a square, with its block
 pub tile_with : (blocks : ℕ → Option Piece) (x y : ℕ) → AreBlocks blocks → holds world x y ≡ true → (tile : LaidTile) × IsLaidAt blocks (record { x = x; y = y }) tile

@@ -4,7 +4,7 @@ use Rattle.std.specs.List.{AllWithin}
 use Rattle.std.specs.List.Sorted.{IsPermutation}
 use Rattle.std.proofs.lemmas.Bool.{cases_lt, false≢true}
 use Rattle.std.proofs.lemmas.List.Elements.{All-contains, AllWithin-more, Contains-append_cases, at_read}
-use Rattle.std.proofs.lemmas.List.Sorted.{IsPermutation-refl, IsPermutation-sym, IsPermutation-trans}
+use Rattle.std.proofs.lemmas.List.Sorted.{All-permutation, IsPermutation-refl, IsPermutation-sym, IsPermutation-trans}
 use Rattle.std.proofs.lemmas.Option.{same_Some}
 use Rattle.mls_geom.specs.declared.piece.Piece.{Piece}
 use Rattle.mls_tilepool.specs.declared.tile.Tile.{Tile}
@@ -258,3 +258,20 @@ module _
 
     pub AreTiledAs-sewn : AreTiledAs e blocks
     AreTiledAs-sewn = all_stitched waits (KeepStitches-trans up.keeps after_b) (each_stitch (λ stitch. AreAllLed e blocks stitch around f) by_lb by_bl by_tr by_rt)
+
+-- tiles that lie in place, with the listed ones that are to be stitched
+pub record AreReady (tiles : List (ℕ × Tile)) (blocks : ℕ → Option Piece) (around fresh : List LaidTile) : Type 0 where
+  pub place : AreInPlace tiles blocks
+  pub laid_around : All (IsLaid blocks) around
+  pub laid_fresh : All (IsLaid blocks) fresh
+
+pub ready : {tiles : List (ℕ × Tile)} {blocks : ℕ → Option Piece} {around fresh : List LaidTile} → AwaitStitches tiles blocks around fresh → AreReady tiles blocks around fresh
+ready waits = record { place = waits.place; laid_around = waits.laid_around; laid_fresh = waits.laid_fresh }
+
+-- a round has sewn some, and leaves the tiles ready for the next
+pub round :
+    {S : Type 0} {old new : List (ℕ × Tile)} {blocks : ℕ → Option Piece} {around fresh moved : List LaidTile} → AreReady old blocks around fresh → IsPermutation fresh moved
+    → (AreInPlace old blocks → All (IsLaid blocks) around → All (IsLaid blocks) fresh → S) → (S → KeepStitches old new blocks) → S × AreReady new blocks around moved
+round {blocks = blocks} before permuted sews keeps =
+    let sewn = sews before.place before.laid_around before.laid_fresh in
+    (sewn, record { place = (keeps sewn).place; laid_around = before.laid_around; laid_fresh = All-permutation (IsLaid blocks) _ _ permuted before.laid_fresh })

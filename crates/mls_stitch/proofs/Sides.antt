@@ -142,33 +142,35 @@ pub placed_block : (tiles : List (ℕ × Tile)) (blocks : ℕ → Option Piece) 
     → (block : Piece) × (blocks key ≡ Some block) × IsPlaced tile block
 placed_block tiles blocks key tile = block_there (tile_in tiles key) (blocks key) tile
 
--- the right side of a tile's block is the left side beyond it
-right_side :
-    (tiles : List (ℕ × Tile)) (blocks : ℕ → Option Piece) (key : ℕ) (block : Piece) (stitch : Option ℕ) → AreTiledAs tiles blocks → blocks key ≡ Some block
-    → LeadsTo blocks stitch (beyond Tr block.rect) → left_beyond tiles stitch ≡ block.rect.right
-right_side tiles blocks key block None tiled is leads =
-    let legal = legal-AreBlocks blocks key block tiled.tiling is in
-    sym (right-outside world block.rect (block.rect.top - 1) legal (omega (arith, legal.tall)) (omega (arith, legal.tall)) leads)
-right_side tiles blocks key block (Some other) tiled is leads =
-    let legal = legal-AreBlocks blocks key block tiled.tiling is in
-    let found = there-IsSomeAnd (blocks other) (λ b. holds b.rect block.rect.right (block.rect.top - 1) ≡ true) leads in
-    let beside = placed_tile tiles blocks other found.0 (tiled.placed other) found.1 in
-    rw beside.1 (beside.2.left
-    ∙ right_neighbour blocks key other block found.0 (block.rect.top - 1) tiled.tiling is found.1 (omega (arith, legal.tall)) (omega (arith, legal.tall)) found.2)
+-- what is read beyond a stitch is what it is at the border of the world, or what it is of the tile that has the square there
+read_beyond :
+    (tiles : List (ℕ × Tile)) (blocks : ℕ → Option Piece) (stitch : Option ℕ) (at : Point) (read : Option ℕ → ℕ) (line : ℕ) → AreTiledAs tiles blocks → LeadsTo blocks stitch at
+    → (LeadsTo blocks None at → read None ≡ line)
+    → ((other : ℕ) (tile : Tile) (block : Piece) → tile_in tiles other ≡ Some tile → IsPlaced tile block → blocks other ≡ Some block → holds block.rect at.x at.y ≡ true → read (Some other) ≡ line)
+    → read stitch ≡ line
+read_beyond tiles blocks None at read line tiled leads border beside = border leads
+read_beyond tiles blocks (Some other) at read line tiled leads border beside =
+    let (block, is, held) = there-IsSomeAnd (blocks other) (λ b. holds b.rect at.x at.y ≡ true) leads in
+    let (tile, found, placed) = placed_tile tiles blocks other block (tiled.placed other) is in
+    beside other tile block found placed is held
 
--- and its top is the bottom beyond it
-top_side :
-    (tiles : List (ℕ × Tile)) (blocks : ℕ → Option Piece) (key : ℕ) (block : Piece) (stitch : Option ℕ) → AreTiledAs tiles blocks → blocks key ≡ Some block
-    → LeadsTo blocks stitch (beyond Rt block.rect) → bottom_beyond tiles stitch ≡ block.rect.top
-top_side tiles blocks key block None tiled is leads =
+-- the right side of a tile's block is the left side beyond it, and its top is the bottom beyond it
+sides_beyond :
+    (tiles : List (ℕ × Tile)) (blocks : ℕ → Option Piece) (key : ℕ) (block : Piece) (tr rt : Option ℕ) → AreTiledAs tiles blocks → blocks key ≡ Some block
+    → LeadsTo blocks tr (beyond Tr block.rect) → LeadsTo blocks rt (beyond Rt block.rect) → (left_beyond tiles tr ≡ block.rect.right) × (bottom_beyond tiles rt ≡ block.rect.top)
+sides_beyond tiles blocks key block tr rt tiled is leads_right leads_up =
     let legal = legal-AreBlocks blocks key block tiled.tiling is in
-    sym (top-outside world block.rect (block.rect.right - 1) legal (omega (arith, legal.wide)) (omega (arith, legal.wide)) leads)
-top_side tiles blocks key block (Some other) tiled is leads =
-    let legal = legal-AreBlocks blocks key block tiled.tiling is in
-    let found = there-IsSomeAnd (blocks other) (λ b. holds b.rect (block.rect.right - 1) block.rect.top ≡ true) leads in
-    let beside = placed_tile tiles blocks other found.0 (tiled.placed other) found.1 in
-    rw beside.1 (beside.2.bottom
-    ∙ upper_neighbour blocks key other block found.0 (block.rect.right - 1) tiled.tiling is found.1 (omega (arith, legal.wide)) (omega (arith, legal.wide)) found.2)
+    let right =
+    read_beyond tiles blocks tr (beyond Tr block.rect) (left_beyond tiles) block.rect.right tiled leads_right
+    (λ border. sym (right-outside world block.rect (block.rect.top - 1) legal (omega (arith, legal.tall)) (omega (arith, legal.tall)) border))
+    (λ other tile b found placed there held. rw found (placed.left
+    ∙ right_neighbour blocks key other block b (block.rect.top - 1) tiled.tiling is there (omega (arith, legal.tall)) (omega (arith, legal.tall)) held)) in
+    let up =
+    read_beyond tiles blocks rt (beyond Rt block.rect) (bottom_beyond tiles) block.rect.top tiled leads_up
+    (λ border. sym (top-outside world block.rect (block.rect.right - 1) legal (omega (arith, legal.wide)) (omega (arith, legal.wide)) border))
+    (λ other tile b found placed there held. rw found (placed.bottom
+    ∙ upper_neighbour blocks key other block b (block.rect.right - 1) tiled.tiling is there (omega (arith, legal.wide)) (omega (arith, legal.wide)) held)) in
+    (right, up)
 
 same_block : (tiles : List (ℕ × Tile)) (tile : Tile) (block : Piece) → IsPlaced tile block → left_beyond tiles tile.tr ≡ block.rect.right → bottom_beyond tiles tile.rt ≡ block.rect.top
     → block_of tiles tile ≡ block
@@ -179,10 +181,8 @@ block_at-slot :
     → option_map (block_of tiles) slot ≡ blocks key
 block_at-slot tiles blocks key None tiled is placed = sym placed
 block_at-slot tiles blocks key (Some tile) tiled is (block, is_block, placed) =
-    ap Some (same_block tiles tile block placed
-    (right_side tiles blocks key block tile.tr tiled is_block (tiled.stitched key tile block Tr is is_block))
-    (top_side tiles blocks key block tile.rt tiled is_block (tiled.stitched key tile block Rt is is_block)))
-    ∙ sym is_block
+    let (right, up) = sides_beyond tiles blocks key block tile.tr tile.rt tiled is_block (tiled.stitched key tile block Tr is is_block) (tiled.stitched key tile block Rt is is_block) in
+    ap Some (same_block tiles tile block placed right up) ∙ sym is_block
 
 -- so tiles that are laid as blocks and stitched have these blocks by their stitches
 pub block_at-AreTiledAs : (tiles : List (ℕ × Tile)) (blocks : ℕ → Option Piece) → AreTiledAs tiles blocks → (key : ℕ) → block_at tiles key ≡ blocks key

@@ -1,10 +1,11 @@
 -- Splits and joins are replacements that leave the picture as it was.
-use Rattle.std.proofs.Common.{◌≡◌, ◌≢◌, ◌⊎◌, ℕ, ◌<◌, true, List, [], ◌∷◌, slice_get, Some, None, All, AllPairs, Contains, inl, inr, refl, sym, ap, ◌∙◌, subst, arith}
+use Rattle.std.proofs.Common.{◌≡◌, ◌≢◌, ◌⊎◌, ℕ, true, List, [], ◌∷◌, slice_get, Some, None, All, AllPairs, Contains, inl, inr, refl, sym, ap, ◌∙◌, subst, arith}
 use Rattle.std.specs.List.{AllZip}
 use Rattle.std.proofs.Math.Path.{fun_ext}
 use Rattle.std.proofs.lemmas.List.Elements.{All-cons, All-nil}
 use Rattle.std.proofs.lemmas.Option.{same_Some}
-use Rattle.mls_geom.specs.Rects.{Point, holds}
+use Rattle.mls_geom.specs.Rects.{Point, IsRectangleIn, holds}
+use Rattle.mls_geom.specs.World.{world}
 use Rattle.mls_geom.specs.declared.piece.Piece.{Piece}
 use Rattle.mls_geom.proofs.Ascending.{Contains-first, Contains-rest}
 use Rattle.mls_geom.proofs.Holds.{between_holds}
@@ -12,10 +13,12 @@ use Rattle.mls_geom.proofs.Overlays.{Agrees, overlaid_stays}
 use Rattle.mls_tilepool.specs.Pools.{tile_in}
 use Rattle.mls_tilepool.specs.declared.tile.Tile.{Tile}
 use Rattle.mls_stitch.specs.Replacements.{Replaces}
-use Rattle.mls_stitch.specs.Splits.{JoinInX, JoinInY, Joins, Splits, joined_x, joined_y, left_of, lower_of, right_of, upper_of}
+use Rattle.mls_stitch.specs.Splits.{IsCutAt, Joins, Splits, first_part, joined_along, right_of, second_part, upper_of}
 use Rattle.mls_stitch.specs.Stitches.{HoldsAt}
 use Rattle.mls_stitch.specs.Tilings.{IsPlane, block_at, shown}
-use Rattle.mls_stitch.proofs.CutBlocks.{AreParts, differ_x, differ_y, parts-joined_x, parts-joined_y, parts_x, parts_y}
+use Rattle.mls_stitch.specs.declared.split.Axis.{Axis}
+use Rattle.mls_stitch.specs.declared.split.Axis.TheVariants.{X, Y}
+use Rattle.mls_stitch.proofs.CutBlocks.{AreJoined, AreParts, differ_joined, parts_along, parts_joined}
 use Rattle.mls_stitch.proofs.FreshTiles.{Contains-first_or_rest, nothing_in_nil}
 use Rattle.mls_stitch.proofs.ShownTiles.{KeysDiffer, shown-inside}
 use Rattle.mls_stitch.proofs.Sides.{HoldsAt-block, legal-AreBlocks}
@@ -93,39 +96,25 @@ Joins-Replaces old new a b whole first second plane differ is_first is_second ap
     }
 
 -- so it is with a tile that a line cuts; the new tile is the one that has the second part's lower-left square
-pub Splits-Replaces_x :
-    (old new : List (ℕ × Tile)) (tile id : ℕ) (block : Piece) (x : ℕ) → IsPlane old → KeysDiffer old → block_at old tile ≡ Some block → block.rect.left < x → x < block.rect.right
-    → Replaces old new (tile ∷ []) (left_of x block ∷ right_of x block ∷ []) → HoldsAt (block_at new) id (record { x = x; y = block.rect.bottom })
-    → Splits old new tile id (left_of x block) (right_of x block)
-Splits-Replaces_x old new tile id block x plane differ here after before done held =
-    let legal = legal-AreBlocks (block_at old) tile block plane.tiling here in
-    Splits-Replaces old new tile id block (left_of x block) (right_of x block) (record { x = x; y = block.rect.bottom }) plane differ here (parts_x block x after before)
-    (between_holds (right_of x block).rect x block.rect.bottom (omega arith) before (omega arith) legal.tall) done held
+second_corner : (axis : Axis) (block : Piece) (at : ℕ) → IsRectangleIn world block.rect → IsCutAt axis at block
+    → holds (second_part axis at block).rect (second_part axis at block).rect.left (second_part axis at block).rect.bottom ≡ true
+second_corner X block x legal (after, before) = between_holds (right_of x block).rect x block.rect.bottom (omega arith) before (omega arith) legal.tall
+second_corner Y block y legal (after, before) = between_holds (upper_of y block).rect block.rect.left y (omega arith) legal.wide (omega arith) before
 
-pub Splits-Replaces_y :
-    (old new : List (ℕ × Tile)) (tile id : ℕ) (block : Piece) (y : ℕ) → IsPlane old → KeysDiffer old → block_at old tile ≡ Some block → block.rect.bottom < y → y < block.rect.top
-    → Replaces old new (tile ∷ []) (lower_of y block ∷ upper_of y block ∷ []) → HoldsAt (block_at new) id (record { x = block.rect.left; y = y })
-    → Splits old new tile id (lower_of y block) (upper_of y block)
-Splits-Replaces_y old new tile id block y plane differ here after before done held =
-    let legal = legal-AreBlocks (block_at old) tile block plane.tiling here in
-    Splits-Replaces old new tile id block (lower_of y block) (upper_of y block) (record { x = block.rect.left; y = y }) plane differ here (parts_y block y after before)
-    (between_holds (upper_of y block).rect block.rect.left y (omega arith) legal.wide (omega arith) before) done held
+pub Splits-cut :
+    (old new : List (ℕ × Tile)) (tile id : ℕ) (block : Piece) (axis : Axis) (at : ℕ) → IsPlane old → KeysDiffer old → block_at old tile ≡ Some block → IsCutAt axis at block
+    → Replaces old new (tile ∷ []) (first_part axis at block ∷ second_part axis at block ∷ [])
+    → HoldsAt (block_at new) id (record { x = (second_part axis at block).rect.left; y = (second_part axis at block).rect.bottom })
+    → Splits old new tile id (first_part axis at block) (second_part axis at block)
+Splits-cut old new tile id block axis at plane differ here inside done held =
+    let second = second_part axis at block in
+    Splits-Replaces old new tile id block (first_part axis at block) second (record { x = second.rect.left; y = second.rect.bottom }) plane differ here (parts_along axis block at inside)
+    (second_corner axis block at (legal-AreBlocks (block_at old) tile block plane.tiling here) inside) done held
 
 -- and with two tiles that share a whole side
-pub Joins-Replaces_x :
-    (old new : List (ℕ × Tile)) (left right : ℕ) (a b : Piece) → IsPlane old → KeysDiffer old → block_at old left ≡ Some a → block_at old right ≡ Some b → JoinInX a b
-    → Replaces old new (left ∷ right ∷ []) (joined_x a b ∷ []) → Joins old new left right (joined_x a b)
-Joins-Replaces_x old new left right a b plane differ is_a is_b join done =
-    let legal_a = legal-AreBlocks (block_at old) left a plane.tiling is_a in
-    let legal_b = legal-AreBlocks (block_at old) right b plane.tiling is_b in
-    Joins-Replaces old new left right (joined_x a b) a b plane differ is_a is_b (differ_x (block_at old) left right a b plane.tiling is_a is_b join)
-    (parts-joined_x a b legal_a legal_b join) done
-
-pub Joins-Replaces_y :
-    (old new : List (ℕ × Tile)) (lower upper : ℕ) (a b : Piece) → IsPlane old → KeysDiffer old → block_at old lower ≡ Some a → block_at old upper ≡ Some b → JoinInY a b
-    → Replaces old new (lower ∷ upper ∷ []) (joined_y a b ∷ []) → Joins old new lower upper (joined_y a b)
-Joins-Replaces_y old new lower upper a b plane differ is_a is_b join done =
-    let legal_a = legal-AreBlocks (block_at old) lower a plane.tiling is_a in
-    let legal_b = legal-AreBlocks (block_at old) upper b plane.tiling is_b in
-    Joins-Replaces old new lower upper (joined_y a b) a b plane differ is_a is_b (differ_y (block_at old) lower upper a b plane.tiling is_a is_b join)
-    (parts-joined_y a b legal_a legal_b join) done
+pub Joins-join :
+    (old new : List (ℕ × Tile)) (axis : Axis) (first second : ℕ) (a b : Piece) → IsPlane old → KeysDiffer old → AreJoined (block_at old) axis first second a b
+    → Replaces old new (first ∷ second ∷ []) (joined_along axis a b ∷ []) → Joins old new first second (joined_along axis a b)
+Joins-join old new axis first second a b plane differ joins done =
+    Joins-Replaces old new first second (joined_along axis a b) a b plane differ joins.is_a joins.is_b (differ_joined (block_at old) axis first second a b plane.tiling joins)
+    (parts_joined (block_at old) axis first second a b plane.tiling joins) done

@@ -1,10 +1,12 @@
 -- Split and join (Ousterhout 1984): a line cuts a tile into two of its kind, or two tiles of one kind that share a whole side become one.
-use Rattle.std.specs.Prelude.{◌≡◌, ℕ, List, [], ◌∷◌, Some, None}
+use Rattle.std.specs.Prelude.{◌≡◌, ℕ, ◌<◌, List, [], ◌∷◌, Some, None}
 use Rattle.mls_geom.specs.declared.piece.Piece.{Piece}
 use Rattle.mls_tilepool.specs.Pools.{tile_in}
 use Rattle.mls_tilepool.specs.declared.tile.Tile.{Tile}
 use Rattle.mls_stitch.specs.Replacements.{Replaces}
 use Rattle.mls_stitch.specs.Tilings.{block_at, shown}
+use Rattle.mls_stitch.specs.declared.split.Axis.{Axis}
+use Rattle.mls_stitch.specs.declared.split.Axis.TheVariants.{X, Y}
 
 -- the part of a block to the left of the line x, and the part to its right
 abbrev pub left_of : ℕ → Piece → Piece
@@ -41,6 +43,29 @@ pub record JoinInY (a b : Piece) : Type 0 where
   pub lefts : b.rect.left ≡ a.rect.left
   pub rights : b.rect.right ≡ a.rect.right
   pub kinds : b.kind ≡ a.kind
+
+-- the same of either axis: the line goes through the block
+abbrev pub IsCutAt : Axis → ℕ → Piece → Type 0
+IsCutAt X x block = (block.rect.left < x) × (x < block.rect.right)
+IsCutAt Y y block = (block.rect.bottom < y) × (y < block.rect.top)
+
+-- the part before the line, and the part behind it
+abbrev pub first_part : Axis → ℕ → Piece → Piece
+first_part X = left_of
+first_part Y = lower_of
+
+abbrev pub second_part : Axis → ℕ → Piece → Piece
+second_part X = right_of
+second_part Y = upper_of
+
+-- two blocks that share a whole side, and both as one
+abbrev pub JoinAlong : Axis → Piece → Piece → Type 0
+JoinAlong X = JoinInX
+JoinAlong Y = JoinInY
+
+abbrev pub joined_along : Axis → Piece → Piece → Piece
+joined_along X = joined_x
+joined_along Y = joined_y
 
 -- the tile keeps its name for the first part, a new one has the second, and the picture stays
 pub record Splits (old new : List (ℕ × Tile)) (tile id : ℕ) (first second : Piece) : Type 0 where

@@ -135,7 +135,8 @@ fn list_round_lost(
 ) -> bool
     requires plane { HasPlane pool.now owner.now }
     requires there { All (λ key. IsSome (tile_at pool.now owner.now key)) replacement.now.touched.now }
-    requires searched { AreSearched (block_at (tiles_of pool.now owner.now)) replacement.now.searched replacement.now.around.now }
+    requires searched { AreSearched (block_at (tiles_of pool.now owner.now)) replacement.now.searched
+        replacement.now.around.now }
     requires ascending { IsNonDecreasing keys.now }
     requires found_fit { count_of pool.now owner.now ≤ vec_capacity found.old }
     requires entries_fit { count_of pool.now owner.now + count_of pool.now owner.now
@@ -192,7 +193,8 @@ pub(crate) fn list_around(
 )
     requires plane { HasPlane pool.now owner.now }
     requires there { All (λ key. IsSome (tile_at pool.now owner.now key)) replacement.now.touched.now }
-    requires searched { AreSearched (block_at (tiles_of pool.now owner.now)) replacement.now.searched replacement.now.around.now }
+    requires searched { AreSearched (block_at (tiles_of pool.now owner.now)) replacement.now.searched
+        replacement.now.around.now }
     requires keys_fit { length replacement.now.touched.now ≤ vec_capacity keys.old }
     requires found_fit { count_of pool.now owner.now ≤ vec_capacity found.old }
     requires entries_fit { count_of pool.now owner.now + count_of pool.now owner.now

@@ -6,7 +6,7 @@ ghost use Rattle.mls_stitch.specs.Stitches.{HoldsAt};
 
 use crate::Plane;
 use crate::steps::Steps;
-use crate::walk::find_tile;
+use crate::walk::find_near;
 use mls_geom::Point;
 use mls_tilepool::{Pool, TileId};
 
@@ -22,7 +22,7 @@ impl Plane {
     {
         let mut steps = Steps::up_to(usize::MAX);
         let from = self.hints.start(pool, &self.owner, at);
-        let tile = find_tile(pool, &self.owner, from, at, &mut steps);
+        let tile = find_near(pool, &self.owner, from, from, at, &mut steps);
         self.hints.keep(at, tile.id);
         tile.id
     }

@@ -30,28 +30,23 @@ impl Model for Square {
 }
 
 impl Square {
+    /// Returns the square of a column and a row.
+    fn at(column: u32, row: u32) -> Square
+        ensures { result ≡ record { x = column; y = row } }
+    {
+        Square { column, row }
+    }
+
     /// Returns the square to which the stitch of a tile over the rectangle leads.
     fn beyond(stitch: Stitch, rect: Rect) -> Square
         ensures { result ≡ beyond stitch rect }
     {
         let area = rect.area();
         match stitch {
-            Stitch::Lb => Square {
-                column: area.left,
-                row: area.bottom - 1,
-            },
-            Stitch::Bl => Square {
-                column: area.left - 1,
-                row: area.bottom,
-            },
-            Stitch::Tr => Square {
-                column: area.right,
-                row: area.top - 1,
-            },
-            Stitch::Rt => Square {
-                column: area.right - 1,
-                row: area.top,
-            },
+            Stitch::Lb => Square::at(area.left, area.bottom - 1),
+            Stitch::Bl => Square::at(area.left - 1, area.bottom),
+            Stitch::Tr => Square::at(area.right, area.top - 1),
+            Stitch::Rt => Square::at(area.right - 1, area.top),
         }
     }
 
@@ -61,14 +56,8 @@ impl Square {
     {
         let area = rect.area();
         match stitch {
-            Stitch::Lb | Stitch::Bl => Square {
-                column: area.right - 1,
-                row: area.top - 1,
-            },
-            Stitch::Tr | Stitch::Rt => Square {
-                column: area.left,
-                row: area.bottom,
-            },
+            Stitch::Lb | Stitch::Bl => Square::at(area.right - 1, area.top - 1),
+            Stitch::Tr | Stitch::Rt => Square::at(area.left, area.bottom),
         }
     }
 
@@ -104,27 +93,22 @@ struct Place {
 }
 
 impl Place {
+    /// Returns the place on a line.
+    fn at(line: u32, along: u32) -> Place
+        ensures { result ≡ record { line = line; along = along } }
+    {
+        Place { line, along }
+    }
+
     /// Returns the place of the square.
     fn of(stitch: Stitch, square: Square) -> Place
         ensures { result ≡ place_of stitch square }
     {
         match stitch {
-            Stitch::Lb => Place {
-                line: u32::MAX - square.row,
-                along: u32::MAX - square.column,
-            },
-            Stitch::Bl => Place {
-                line: u32::MAX - square.column,
-                along: u32::MAX - square.row,
-            },
-            Stitch::Tr => Place {
-                line: square.column,
-                along: square.row,
-            },
-            Stitch::Rt => Place {
-                line: square.row,
-                along: square.column,
-            },
+            Stitch::Lb => Place::at(u32::MAX - square.row, u32::MAX - square.column),
+            Stitch::Bl => Place::at(u32::MAX - square.column, u32::MAX - square.row),
+            Stitch::Tr => Place::at(square.column, square.row),
+            Stitch::Rt => Place::at(square.row, square.column),
         }
     }
 

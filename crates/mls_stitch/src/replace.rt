@@ -29,8 +29,9 @@ impl Plane {
     /// Replaces the touched tiles by pieces over exactly their squares.
     ///
     /// All other tiles keep their names, rectangles and kinds, and each stitch that did not lead to a touched tile.
-    /// The names of touched tiles serve again as far as they go. Where the scratch has all tiles of an area, `searched`,
-    /// none is searched there again. Fails if the owner has no room for more tiles, and then leaves all as it was.
+    /// The names of touched tiles serve again as far as they go. Where the scratch has all tiles of an area,
+    /// `searched`, none is searched there again. Fails if the owner has no room for more tiles, and then leaves all as
+    /// it was.
     pub fn replace(
         &mut self,
         pool: &mut Pool,

@@ -2,7 +2,7 @@
 ghost use Rattle.std.specs.Prelude.{◌≡◌, ◌<◌, ◌≤◌, ◌↔◌, [], ◌∷◌, Some, IfOk, IfSome, IsErr, IsSomeAnd, OnErr, OnOk};
 ghost use Rattle.mls_tilepool.specs.Pools.{count_of, room_of, tiles_of};
 ghost use Rattle.mls_stitch.specs.Replacements.{Replaces, TakePlace};
-ghost use Rattle.mls_stitch.specs.Splits.{JoinInX, JoinInY, Joins, Splits, joined_x, joined_y, left_of, lower_of, right_of, upper_of};
+ghost use Rattle.mls_stitch.specs.Splits.{IsCutAt, JoinAlong, JoinInX, JoinInY, Joins, Splits, first_part, joined_along, joined_x, joined_y, left_of, lower_of, right_of, second_part, upper_of};
 ghost use Rattle.mls_stitch.specs.Stitches.{HoldsAt};
 ghost use Rattle.mls_stitch.specs.Tilings.{ChangesOnly, HasPlane, block_at};
 
@@ -11,62 +11,48 @@ use crate::{Plane, Scratch};
 use mls_geom::{Piece, Rect};
 use mls_tilepool::{NoRoom, Pool, TileId};
 
-/// Returns the parts of a piece to the left and to the right of a line.
-fn parts_x(whole: Piece, x: u32) -> (Piece, Piece)
-    requires after { whole.rect.left < x }
-    requires before { x < whole.rect.right }
-    ensures { result ≡ (left_of x whole, right_of x whole) }
-{
-    let area = whole.rect.area();
-    let left = Piece {
-        rect: Rect::between(area.left, area.bottom, x, area.top),
-        kind: whole.kind,
-    };
-    let right = Piece {
-        rect: Rect::between(x, area.bottom, area.right, area.top),
-        kind: whole.kind,
-    };
-    (left, right)
+/// The axis along which two tiles lie beside each other.
+#[derive(Clone, Copy)]
+enum Axis {
+    /// One to the left of the other.
+    X,
+    /// One below the other.
+    Y,
 }
 
-/// Returns the parts of a piece below and above a line.
-fn parts_y(whole: Piece, y: u32) -> (Piece, Piece)
-    requires after { whole.rect.bottom < y }
-    requires before { y < whole.rect.top }
-    ensures { result ≡ (lower_of y whole, upper_of y whole) }
+/// Returns the parts of a piece before a line and behind it.
+fn parts(whole: Piece, axis: Axis, at: u32) -> (Piece, Piece)
+    requires { IsCutAt axis at whole }
+    ensures { result ≡ (first_part axis at whole, second_part axis at whole) }
 {
-    let area = whole.rect.area();
-    let lower = Piece {
-        rect: Rect::between(area.left, area.bottom, area.right, y),
-        kind: whole.kind,
+    let Piece { rect, kind } = whole;
+    let area = rect.area();
+    let (first, second) = match axis {
+        Axis::X => (
+            Rect::between(area.left, area.bottom, at, area.top),
+            Rect::between(at, area.bottom, area.right, area.top),
+        ),
+        Axis::Y => (
+            Rect::between(area.left, area.bottom, area.right, at),
+            Rect::between(area.left, at, area.right, area.top),
+        ),
     };
-    let upper = Piece {
-        rect: Rect::between(area.left, y, area.right, area.top),
-        kind: whole.kind,
-    };
-    (lower, upper)
+    (Piece { rect: first, kind }, Piece { rect: second, kind })
 }
 
-/// Returns a piece and the one to its right as one.
-fn joined_x(first: Piece, second: Piece) -> Piece
-    requires { JoinInX first second }
-    ensures { result ≡ joined_x first second }
+/// Returns a piece and the one behind it as one.
+fn joined(first: Piece, second: Piece, axis: Axis) -> Piece
+    requires { JoinAlong axis first second }
+    ensures { result ≡ joined_along axis first second }
 {
     let area = first.rect.area();
+    let end = second.rect.area();
+    let rect = match axis {
+        Axis::X => Rect::between(area.left, area.bottom, end.right, area.top),
+        Axis::Y => Rect::between(area.left, area.bottom, area.right, end.top),
+    };
     Piece {
-        rect: Rect::between(area.left, area.bottom, second.rect.area().right, area.top),
-        kind: first.kind,
-    }
-}
-
-/// Returns a piece and the one above it as one.
-fn joined_y(first: Piece, second: Piece) -> Piece
-    requires { JoinInY first second }
-    ensures { result ≡ joined_y first second }
-{
-    let area = first.rect.area();
-    Piece {
-        rect: Rect::between(area.left, area.bottom, area.right, second.rect.area().top),
+        rect,
         kind: first.kind,
     }
 }
@@ -131,6 +117,64 @@ impl Plane {
             .unwrap();
     }
 
+    /// Splits a tile at a line across the axis, and returns the name of the second part.
+    ///
+    /// The tile keeps its name for the first part. Fails if the owner has no room for one more tile, and then leaves
+    /// all as it was.
+    fn split(
+        &mut self,
+        pool: &mut Pool,
+        tile: TileId,
+        axis: Axis,
+        at: u32,
+        scratch: &mut Scratch,
+    ) -> Result<TileId, NoRoom>
+        requires plane { HasPlane pool.old self.old }
+        requires inside { IsSomeAnd (block_at (tiles_of pool.old self.old) tile) (IsCutAt axis at) }
+        requires tiles_fit { count_of pool.old self.old ≤ scratch.old.room }
+        requires pieces_fit { 2 ≤ scratch.old.room }
+        ensures no_room { IsErr result ↔ (room_of pool.old self.old ≡ Some (count_of pool.old self.old)) }
+        ensures split { IfOk result (λ id. IfSome (block_at (tiles_of pool.old self.old) tile) (λ block.
+            Splits (tiles_of pool.old self.old) (tiles_of pool.new self.old) tile id (first_part axis at block)
+            (second_part axis at block))) }
+        ensures refused { OnErr result (pool.new ≡ pool.old) }
+        ensures plane { self.new ≡ self.old }
+        ensures home { HasPlane pool.new self.old }
+        ensures only { ChangesOnly pool.old pool.new self.old }
+        ensures scratch_room { scratch.new.room ≡ scratch.old.room }
+    {
+        let whole = laid(pool, &self.owner, tile).unwrap().piece;
+        let (first, second) = parts(whole, axis, at);
+        self.cut(pool, tile, first, second, scratch)
+    }
+
+    /// Joins a tile and the one behind it, which share a whole side and have one kind. The tile keeps its name for
+    /// both.
+    fn join_along(
+        &mut self,
+        pool: &mut Pool,
+        before: TileId,
+        behind: TileId,
+        axis: Axis,
+        scratch: &mut Scratch,
+    )
+        requires plane { HasPlane pool.old self.old }
+        requires whole_side { IsSomeAnd (block_at (tiles_of pool.old self.old) before) (λ a.
+            IsSomeAnd (block_at (tiles_of pool.old self.old) behind) (λ b. JoinAlong axis a b)) }
+        requires tiles_fit { count_of pool.old self.old ≤ scratch.old.room }
+        ensures joined { IfSome (block_at (tiles_of pool.old self.old) before)
+            (λ a. IfSome (block_at (tiles_of pool.old self.old) behind) (λ b.
+            Joins (tiles_of pool.old self.old) (tiles_of pool.new self.old) before behind (joined_along axis a b))) }
+        ensures plane { self.new ≡ self.old }
+        ensures home { HasPlane pool.new self.old }
+        ensures only { ChangesOnly pool.old pool.new self.old }
+        ensures scratch_room { scratch.new.room ≡ scratch.old.room }
+    {
+        let first = laid(pool, &self.owner, before).unwrap().piece;
+        let second = laid(pool, &self.owner, behind).unwrap().piece;
+        self.join(pool, before, behind, joined(first, second, axis), scratch);
+    }
+
     /// Splits a tile at a column's left line, counted as the coordinates of [`Area`](mls_geom::Area) are.
     ///
     /// The tile keeps its name for the left part; returns the name of the right part. Fails if the owner has no room
@@ -157,9 +201,7 @@ impl Plane {
         ensures only { ChangesOnly pool.old pool.new self.old }
         ensures scratch_room { scratch.new.room ≡ scratch.old.room }
     {
-        let whole = laid(pool, &self.owner, tile).unwrap().piece;
-        let (left, right) = parts_x(whole, x);
-        self.cut(pool, tile, left, right, scratch)
+        self.split(pool, tile, Axis::X, x, scratch)
     }
 
     /// Splits a tile at a row's bottom line, counted as the coordinates of [`Area`](mls_geom::Area) are.
@@ -188,9 +230,7 @@ impl Plane {
         ensures only { ChangesOnly pool.old pool.new self.old }
         ensures scratch_room { scratch.new.room ≡ scratch.old.room }
     {
-        let whole = laid(pool, &self.owner, tile).unwrap().piece;
-        let (lower, upper) = parts_y(whole, y);
-        self.cut(pool, tile, lower, upper, scratch)
+        self.split(pool, tile, Axis::Y, y, scratch)
     }
 
     /// Joins a tile and the tile to its right, which share a whole side and have one kind. The tile keeps its name
@@ -208,9 +248,7 @@ impl Plane {
         ensures only { ChangesOnly pool.old pool.new self.old }
         ensures scratch_room { scratch.new.room ≡ scratch.old.room }
     {
-        let first = laid(pool, &self.owner, left).unwrap().piece;
-        let second = laid(pool, &self.owner, right).unwrap().piece;
-        self.join(pool, left, right, joined_x(first, second), scratch);
+        self.join_along(pool, left, right, Axis::X, scratch);
     }
 
     /// Joins a tile and the tile above it, which share a whole side and have one kind. The tile keeps its name for
@@ -228,8 +266,6 @@ impl Plane {
         ensures only { ChangesOnly pool.old pool.new self.old }
         ensures scratch_room { scratch.new.room ≡ scratch.old.room }
     {
-        let first = laid(pool, &self.owner, lower).unwrap().piece;
-        let second = laid(pool, &self.owner, upper).unwrap().piece;
-        self.join(pool, lower, upper, joined_y(first, second), scratch);
+        self.join_along(pool, lower, upper, Axis::Y, scratch);
     }
 }

@@ -85,6 +85,9 @@ fn walk_by_turns(
     requires { HasPlane pool.now owner.now }
     ensures { IfSome result (λ tile. IsLaidAt (block_at (tiles_of pool.now owner.now)) at tile) }
 {
+    if one == other {
+        return walk(pool, owner, one, at, steps);
+    }
     let mut id = one;
     let mut other = other;
     for _ in 0..MOST_STEPS {
@@ -117,24 +120,7 @@ fn scan(pool: &Pool, owner: &Owner, at: Point, steps: &mut Steps) -> LaidTile
     unreachable!()
 }
 
-/// Returns the tile that holds the square. The search starts at the tile `from`, if the owner has it.
-pub(crate) fn find_tile(
-    pool: &Pool,
-    owner: &Owner,
-    from: TileId,
-    at: Point,
-    steps: &mut Steps,
-) -> LaidTile
-    requires { HasPlane pool.now owner.now }
-    ensures { IsLaidAt (block_at (tiles_of pool.now owner.now)) at result }
-{
-    match walk(pool, owner, from, at, steps) {
-        Some(tile) => tile,
-        None => scan(pool, owner, at, steps),
-    }
-}
-
-/// Returns the tile that holds the square. The search goes from both tiles, if the owner has these.
+/// Returns the tile that holds the square. The search goes from both tiles, which may be one, if the owner has these.
 pub(crate) fn find_near(
     pool: &Pool,
     owner: &Owner,
@@ -146,9 +132,6 @@ pub(crate) fn find_near(
     requires { HasPlane pool.now owner.now }
     ensures { IsLaidAt (block_at (tiles_of pool.now owner.now)) at result }
 {
-    if near == from {
-        return find_tile(pool, owner, from, at, steps);
-    }
     match walk_by_turns(pool, owner, near, from, at, steps) {
         Some(tile) => tile,
         None => scan(pool, owner, at, steps),

@@ -45,7 +45,8 @@ impl Model for Pool {
     ghost invariant = { λ p. IsPool p.capacity p.reserved p.places p.rows };
 }
 
-/// Creates a slab with room for `capacity` values, whose keys take 32 bits: memory counts as out where there is room for more.
+/// Creates a slab with room for `capacity` values, whose keys take 32 bits: memory counts as out where there is room
+/// for more.
 fn with_keys<T: Drop>(alloc: Global, capacity: u32) -> Result<Slab<T>, AllocError>
     ensures empty { IfOk result (λ slab. slab.slots ≡ []) }
     ensures capacity { IfOk result (λ slab. capacity ≤ slab.capacity) }

@@ -1,35 +1,29 @@
 -- The right neighbours of the parent are passed from the top down.
-use Rattle.std.proofs.Common.{◌≡◌, ◌<◌, length, refl, sym, ap, ◌∙◌, arith}
-use Rattle.std.proofs.lemmas.List.{get_or_read}
+use Rattle.std.proofs.Common.{◌≡◌, ◌<◌, length, refl, ap, ◌∙◌, arith}
 use Rattle.mls_geom.specs.Rects.{Rect}
 use Rattle.mls_tilepool.specs.Pools.{tiles_of}
 use Rattle.mls_stitch.specs.Tilings.{block_at}
-use Rattle.mls_stitch.specs.declared.laid_tile.LaidTile.{LaidTile}
-use Rattle.mls_stitch.proofs.Listings.{beside_first, beside_next, listed_at_end, listed_past}
+use Rattle.mls_stitch.proofs.Listings.{beside_first, beside_next, listed_at_end, listed_past, read_there}
 use Rattle.mls_stitch.proofs.enumeration.push_children.Goals as goal
 
 pub returns-then-area-sides-clause-listed : goal.returns-then-area-sides-clause-listed
 returns-then-area-sides-clause-listed c =
-    let list = c.args.list.now.items in
     let parent = c.index.result.now in
-    let within : c.args.index < length list = omega (arith, c.requires.within, c.args.list.now.ok.0) in
-    let here = λ (d : LaidTile). sym (get_or_read list c.args.index parent within c.index.ensures d) in
+    let (within, here) = read_there c.args.list.now.items c.args.index parent (omega (arith, c.requires.within, c.args.list.now.ok.0)) c.index.ensures in
     let right : c.area-2.inside.right ≡ c.args.area.right = ap (λ (e : Rect). e.right) (c.area-2.view_is ∙ c.area.ensures.value) in
     let right' : c.sides-2.inside.right ≡ parent.piece.rect.right = ap (λ (e : Rect). e.right) (c.sides-2.view_is ∙ c.sides.ensures.value) in
-    listed_at_end (block_at (tiles_of c.args.pool.now c.args.owner.now)) c.args.area list c.args.index parent c.requires.plane.plane.tiling c.requires.legal c.requires.listed within here
+    listed_at_end (block_at (tiles_of c.args.pool.now c.args.owner.now)) c.args.area c.args.list.now.items c.args.index parent c.requires.plane.plane.tiling c.requires.legal c.requires.listed within here
     (omega (arith, right, right', c.if-area-sides.true))
 
 pub neighbours-init : goal.neighbours-init
 neighbours-init c =
-    let list = c.args.list.now.items in
     let parent = c.index.result.now in
-    let within : c.args.index < length list = omega (arith, c.requires.within, c.args.list.now.ok.0) in
-    let here = λ (d : LaidTile). sym (get_or_read list c.args.index parent within c.index.ensures d) in
+    let (within, here) = read_there c.args.list.now.items c.args.index parent (omega (arith, c.requires.within, c.args.list.now.ok.0)) c.index.ensures in
     let right : c.area-2.inside.right ≡ c.args.area.right = ap (λ (e : Rect). e.right) (c.area-2.view_is ∙ c.area.ensures.value) in
     let right' : c.sides-2.inside.right ≡ parent.piece.rect.right = ap (λ (e : Rect). e.right) (c.sides-2.view_is ∙ c.sides.ensures.value) in
     record {
       beside =
-          beside_first (block_at (tiles_of c.args.pool.now c.args.owner.now)) c.args.area list c.args.index parent c.neighbour-tile.result c.requires.plane.plane.tiling c.requires.legal
+          beside_first (block_at (tiles_of c.args.pool.now c.args.owner.now)) c.args.area c.args.list.now.items c.args.index parent c.neighbour-tile.result c.requires.plane.plane.tiling c.requires.legal
           c.requires.listed within here (omega (arith, right, right', c.if-area-sides.false)) c.neighbour-tile.ensures;
       longer = omega arith;
       room = refl;

@@ -9,21 +9,15 @@ use Rattle.mls_stitch.proofs.plane.Plane.strips_of.Goals as goal
 
 pub returns-clause-picture : goal.returns-clause-picture
 returns-clause-picture c =
-    let tiles = tiles_of c.args.pool.now c.args.self.now in
-    let list = c.area_into.new.list.items in
-    let found = subst₂ (λ owner area. AreInArea (block_at (tiles_of c.args.pool.now owner)) area list) c.self.view_is c.world-world.ensures c.area_into.ensures.found in
-    picture-AreInArea tiles list c.requires.plane.plane (KeysDiffer-tiles_of c.args.pool.now c.args.self.now) found
+    picture-AreInArea (tiles_of c.args.pool.now c.args.self.now) c.area_into.new.list.items c.requires.plane.plane (KeysDiffer-tiles_of c.args.pool.now c.args.self.now)
+    (subst₂ (λ owner area. AreInArea (block_at (tiles_of c.args.pool.now owner)) area c.area_into.new.list.items) c.self.view_is c.world-world.ensures c.area_into.ensures.found)
 
 pub returns-clause-strips : goal.returns-clause-strips
 returns-clause-strips c =
-    let tiles = tiles_of c.args.pool.now c.args.self.now in
-    let list = c.area_into.new.list.items in
-    let found = subst₂ (λ owner area. AreInArea (block_at (tiles_of c.args.pool.now owner)) area list) c.self.view_is c.world-world.ensures c.area_into.ensures.found in
-    strips-AreInArea tiles list c.requires.plane.plane found
+    strips-AreInArea (tiles_of c.args.pool.now c.args.self.now) c.area_into.new.list.items c.requires.plane.plane
+    (subst₂ (λ owner area. AreInArea (block_at (tiles_of c.args.pool.now owner)) area c.area_into.new.list.items) c.self.view_is c.world-world.ensures c.area_into.ensures.found)
 
 pub returns-clause-count : goal.returns-clause-count
 returns-clause-count c =
-    let tiles = tiles_of c.args.pool.now c.args.self.now in
-    let list = c.area_into.new.list.items in
-    let found = subst₂ (λ owner area. AreInArea (block_at (tiles_of c.args.pool.now owner)) area list) c.self.view_is c.world-world.ensures c.area_into.ensures.found in
-    length-AreInArea tiles list c.requires.plane.plane (KeysDiffer-tiles_of c.args.pool.now c.args.self.now) found
+    length-AreInArea (tiles_of c.args.pool.now c.args.self.now) c.area_into.new.list.items c.requires.plane.plane (KeysDiffer-tiles_of c.args.pool.now c.args.self.now)
+    (subst₂ (λ owner area. AreInArea (block_at (tiles_of c.args.pool.now owner)) area c.area_into.new.list.items) c.self.view_is c.world-world.ensures c.area_into.ensures.found)
