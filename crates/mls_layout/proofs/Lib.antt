@@ -1,9 +1,13 @@
+mod AlikePlanes
+mod AlikeUses
 mod CoveredBlocks
 mod CoveredKinds
 mod Covers
 pub mod FlatLayouts
 mod FoundTiles
 mod LaidPieces
+pub mod LentPlanes
+pub mod LikeSquares
 mod ListedTiles
 mod MovedParts
 mod PaintedTiles

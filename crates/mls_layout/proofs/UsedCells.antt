@@ -43,7 +43,7 @@ no_cell None none = refl
 no_cell (Some cell) none = absurd (cc none)
 
 -- ---- a use of a library's cell
-nowhere : (inside : Bool) (kind : ℕ) → kind ≡ 0 → (if inside then kind else 0) ≡ 0
+pub nowhere : (inside : Bool) (kind : ℕ) → kind ≡ 0 → (if inside then kind else 0) ≡ 0
 nowhere true kind none = none
 nowhere false kind none = refl
 
@@ -79,10 +79,14 @@ module _ (pool : Pool) (cells : Library) (cell_use : CellUse) where
         (ap (λ (picture : Picture). moved picture cell_use.dx cell_use.dy x y) (shown plane ∙ ap (picture_at pool) none)
         ∙ moved-space empty_picture cell_use.dx cell_use.dy x y (λ x y. refl))
 
+    -- the cell shows on each plane what the plane does
+    pub cell_shown-owner : (plane owner : ℕ) → slice_get cell.planes plane ≡ Some owner → cell_shown (cell_layouts pool cells) cell_use.cell plane ≡ picture_in pool owner
+    cell_shown-owner plane owner there = shown plane ∙ ap (picture_at pool) there
+
     -- in the world it shows what the cell's plane does, moved
     pub use_layout-plane :
         (plane owner x y : ℕ) → slice_get cell.planes plane ≡ Some owner → holds world x y ≡ true
         → use_layout (cell_layouts pool cells) cell_use plane x y ≡ moved (picture_in pool owner) cell_use.dx cell_use.dy x y
     use_layout-plane plane owner x y there inside =
         cond-true (holds world x y) (moved (cell_shown (cell_layouts pool cells) cell_use.cell plane) cell_use.dx cell_use.dy x y) 0 inside
-        ∙ ap (λ (picture : Picture). moved picture cell_use.dx cell_use.dy x y) (shown plane ∙ ap (picture_at pool) there)
+        ∙ ap (λ (picture : Picture). moved picture cell_use.dx cell_use.dy x y) (cell_shown-owner plane owner there)

@@ -1,8 +1,9 @@
 -- The words of private contracts. A caller needs none of them.
-use Rattle.std.specs.Prelude.{◌≡◌, ◌≢◌, ℕ, ℤ, ◌+◌, ◌-◌, ◌<◌, ◌⊎◌, ◌==◌, ◌&&◌, Bool, false, true, not, Option, Some, None, List, drop}
+use Rattle.std.specs.Prelude.{◌≡◌, ◌≢◌, ℕ, ℤ, ◌+◌, ◌-◌, ◌<◌, ◌⊎◌, ◌==◌, ◌&&◌, Bool, false, true, not, if◌then◌else◌, Option, Some, None, List, drop}
 use Rattle.std.specs.List.{All, Any}
 use Rattle.mls_geom.specs.Pictures.{Picture}
 use Rattle.mls_geom.specs.Rects.{IsRectangleIn, Rect, holds}
+use Rattle.mls_geom.specs.World.{world}
 use Rattle.mls_geom.specs.declared.piece.Piece.{Piece}
 use Rattle.mls_stitch.specs.declared.laid_tile.LaidTile.{LaidTile}
 use Rattle.mls_layout.specs.Grids.{Shows}
@@ -19,6 +20,10 @@ dumps piece dx dy x y = is_moved piece.rect dx dy x y && not (piece.kind == 0)
 abbrev pub bounds_hold : Option Rect → ℤ → ℤ → ℕ → ℕ → Bool
 bounds_hold None dx dy x y = false
 bounds_hold (Some bounds) dx dy x y = is_moved bounds dx dy x y
+
+-- the picture in the world, and space outside
+abbrev pub in_world : Picture → Picture
+in_world picture x y = if holds world x y then picture x y else 0
 
 -- the tiles show what the picture has, and among them, moved, are all squares of the block that show something of the picture, moved
 pub record ShowMoved (picture : Picture) (dx dy : ℤ) (block : Rect) (tiles : List LaidTile) : Type 0 where

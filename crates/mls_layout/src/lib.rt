@@ -1,11 +1,14 @@
 //! Layouts as they are seen and checked: planes of own paint, and cells of a library placed beside it.
 #![tactic(auto)]
 
+mod alike;
+mod alike_uses;
 mod cut;
 mod flattening;
 mod front;
 mod grid_pieces;
 mod kind_grid;
+mod likeness;
 mod listing;
 mod moves;
 mod painting;
@@ -17,8 +20,10 @@ mod used_tiles;
 mod uses;
 mod workspace;
 
+pub use alike::{is_alike, shows_alike};
 pub use flattening::flatten;
 pub use kind_grid::{BLOCK_SIDE, KindGrid};
+pub use likeness::Likeness;
 pub use pieces::push_flat;
 pub use shown_kinds::kinds;
 pub use strips::{FlatStrips, Unlisted, flat_strips};

@@ -82,7 +82,7 @@ fn begin(rect: Rect, most: usize, pieces: &mut Vec<Piece>) -> bool
 }
 
 /// Adds the pieces that the use of this index shows in a rectangle on the plane of this number, unless it is seen
-/// nowhere in it. Returns whether the list still has at most `most` pieces; where it would have more, not all are added.
+/// nowhere in it. Returns whether the list has at most `most` pieces; where it would have more, not all are added.
 fn list_use(
     uses: &Uses<'_>,
     index: usize,
@@ -153,8 +153,8 @@ fn push_tiles(
     true
 }
 
-/// Adds the part of a piece that isn't space and lies in a rectangle, moved to the right by `dx` and up by `dy`, if there
-/// is one. Returns whether the list still has at most `most` pieces; where it would have more, none is added.
+/// Adds the part of a piece that isn't space and lies in a rectangle, moved to the right by `dx` and up by `dy`, if
+/// there is one. Returns whether the list still has at most `most` pieces; where it would have more, none is added.
 fn push_piece(
     piece: &Piece,
     dx: i32,

@@ -6,7 +6,7 @@ ghost use Rattle.mls_layout.specs.Moves.{IsPartOf, is_moved, moves_into};
 
 use mls_geom::{Area, Rect};
 
-/// Returns the squares of the rectangle, moved to the right by `dx` and up by `dy`, that lie in the extent, if there are
+/// Returns the squares of the rectangle, moved to the right by `dx` and up by `dy`, that lie in the extent, if any do.
 /// any.
 pub(crate) fn moved_part(rect: Rect, dx: i32, dy: i32, extent: Rect) -> Option<Rect>
     ensures { IsPartOf extent (is_moved rect dx dy) result }
@@ -83,8 +83,8 @@ fn moved_line(line: u32, by: i32, low: u32, high: u32) -> u32
     }
 }
 
-/// Returns the line that comes to lie on this one once it is moved by this many squares, and none beyond the lines `low`
-/// and `high`.
+/// Returns the line that comes to lie on this one once it is moved by this many squares, and none beyond the lines
+/// `low` and `high`.
 fn line_moved_to(line: u32, by: i32, low: u32, high: u32) -> u32
     requires { low ≤ high }
     ensures from { low ≤ result }

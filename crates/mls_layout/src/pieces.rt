@@ -21,11 +21,11 @@ const MOST_SWEPT: usize = 8192;
 /// How many squares there are to each piece, or more, where a sweep is quicker than a grid.
 const SQUARES_FOR_A_PIECE: u64 = 512;
 
-/// Appends pieces in the zone, each of one kind, that leave no square of it out, of what a plane shows with the uses. The
-/// plane has this number among those of its layout.
+/// Appends pieces in the zone, each of one kind, that leave no square of it out, of what a plane shows with the uses.
+/// The plane has this number among those of its layout.
 ///
-/// The zone is cut until each part is one that no use meets, or has few pieces, or is a block. Out of memory, some pieces
-/// may have been appended.
+/// The zone is cut until each part is one that no use meets, or has few pieces, or is a block. Out of memory, some
+/// pieces may have been appended.
 pub fn push_flat(
     number: usize,
     plane: &mut Plane,

@@ -15,8 +15,8 @@ use mls_kinds::KindSet;
 use mls_stitch::Plane;
 use std::alloc::{AllocError, Global};
 
-/// Returns the kinds below 64 that the squares of the rectangle have on a plane with the uses. The plane has this number
-/// among those of its layout.
+/// Returns the kinds below 64 that the squares of the rectangle have on a plane with the uses. The plane has this
+/// number among those of its layout.
 ///
 /// Takes memory only where there is a use, and fails only if it runs out.
 pub fn kinds(

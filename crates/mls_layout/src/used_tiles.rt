@@ -5,7 +5,7 @@ ghost use Rattle.mls_geom.specs.Pictures.{Picture};
 ghost use Rattle.mls_geom.specs.Rects.{IsRectangleIn, holds};
 ghost use Rattle.mls_geom.specs.World.{world};
 ghost use Rattle.mls_layout.specs.Inner.{FindsUse, ShowMoved, later_uses};
-ghost use Rattle.mls_layout.specs.Moves.{moved};
+ghost use Rattle.mls_layout.specs.Moves.{IsPartOf, moved, moves_into};
 ghost use Rattle.mls_layout.specs.Uses.{over};
 ghost use Rattle.mls_library.specs.Libraries.{IsFrozen, IsHome};
 ghost use Rattle.mls_paint.specs.Planes.{picture_in};
@@ -58,8 +58,8 @@ fn is_among(cell_use: &CellUse, list: &[CellUse]) -> bool
     list.contains(cell_use)
 }
 
-/// Finds the tiles that a cell's plane shows in a rectangle, moved as in the use, and leaves them in the scratch. Returns
-/// whether any of its squares come to lie there.
+/// Finds the tiles that a cell's plane shows in a rectangle, moved as in the use, and leaves them in the scratch.
+/// Returns whether any of its squares come to lie there.
 fn find_moved(plane: &Plane, cell_use: &CellUse, rect: Rect, workspace: &mut Workspace) -> bool
     requires frozen { IsFrozen workspace.old.pool plane.now }
     ensures found { result ≡ true → ShowMoved (picture_in workspace.old.pool plane.now)
@@ -70,10 +70,17 @@ fn find_moved(plane: &Plane, cell_use: &CellUse, rect: Rect, workspace: &mut Wor
     ensures pieces { workspace.new.pieces ≡ workspace.old.pieces }
     ensures grid { workspace.new.grid ≡ workspace.old.grid }
 {
-    let Some(area) = part_moved_into(rect, cell_use.dx, cell_use.dy, Rect::world()) else {
+    let Some(area) = part_in(cell_use, rect) else {
         return false;
     };
     let Workspace { pool, scratch, .. } = workspace;
     find_meeting_in(pool, plane, area, scratch);
     true
+}
+
+/// Returns the squares of a cell that lie in a rectangle once they are moved as in the use, if there are any.
+pub(crate) fn part_in(cell_use: &CellUse, rect: Rect) -> Option<Rect>
+    ensures { IsPartOf world (moves_into rect cell_use.now.dx cell_use.now.dy) result }
+{
+    part_moved_into(rect, cell_use.dx, cell_use.dy, Rect::world())
 }

@@ -10,25 +10,21 @@ use Rattle.mls_paint.specs.Scratches.{HasRoomFor, Scratch}
 use Rattle.mls_library.specs.Bounds.{painted_bounds}
 use Rattle.mls_library.specs.Libraries.{IsCellHome, IsFrozen, IsHome, Library, NamedCell, ShowsWithin, cell_layout, most_tiles}
 
--- the cell of which `Library::get` gives the planes
-found_in : (owners : List ℕ) (found : Option NamedCell) → Some owners ≡ option_map (λ cell. cell.planes) found
-    → (cell : NamedCell) × (found ≡ Some cell) × (cell.planes ≡ owners)
-found_in owners None e = absurd (cc e)
-found_in owners (Some cell) e = (cell, refl, cc)
+-- the cell a part of which is given
+part_in : {T : Type 0} (part : NamedCell → T) (given : T) (found : Option NamedCell) → Some given ≡ option_map part found
+    → (cell : NamedCell) × (found ≡ Some cell) × (part cell ≡ given)
+part_in part given None e = absurd (cc e)
+part_in part given (Some cell) e = (cell, refl, cc)
 
+-- the cell of which `Library::get` gives the planes
 pub cell_found : (cells : Library) (id : ℕ) (owners : List ℕ) → Some owners ≡ option_map (λ cell. cell.planes) (slice_get cells id)
     → (cell : NamedCell) × (slice_get cells id ≡ Some cell) × (cell.planes ≡ owners)
-cell_found cells id owners e = found_in owners (slice_get cells id) e
+cell_found cells id owners e = part_in (λ cell. cell.planes) owners (slice_get cells id) e
 
 -- the same of the cell of which it gives the bounds
-bounds_in : (bounds : Option Rect) (found : Option NamedCell) → Some bounds ≡ option_map (λ cell. cell.bounds) found
-    → (cell : NamedCell) × (found ≡ Some cell) × (cell.bounds ≡ bounds)
-bounds_in bounds None e = absurd (cc e)
-bounds_in bounds (Some cell) e = (cell, refl, cc)
-
 pub bounds_found : (cells : Library) (id : ℕ) (bounds : Option Rect) → Some bounds ≡ option_map (λ cell. cell.bounds) (slice_get cells id)
     → (cell : NamedCell) × (slice_get cells id ≡ Some cell) × (cell.bounds ≡ bounds)
-bounds_found cells id bounds e = bounds_in bounds (slice_get cells id) e
+bounds_found cells id bounds e = part_in (λ cell. cell.bounds) bounds (slice_get cells id) e
 
 -- what holds of each cell holds of one that is found
 pub All-found : (P : NamedCell → Type 0) (cells : Library) (id : ℕ) (cell : NamedCell) → All P cells → slice_get cells id ≡ Some cell → P cell

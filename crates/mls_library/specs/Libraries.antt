@@ -54,11 +54,6 @@ most_tiles = 16384
 abbrev pub default_cell_tiles : ℕ
 default_cell_tiles = 4096
 
--- a plane of a cell may have this number of tiles at most
-pub record IsCellTiles (tiles : ℕ) : Type 0 where
-  pub enough : default_cell_tiles ≤ tiles
-  pub bounded : tiles ≤ most_tiles
-
 -- the owner's plane lies in the pool in maximal strips, no more than a plane of any cell may have, and has reserved just as many tiles as it has
 pub record IsFrozen (pool : Pool) (owner : ℕ) : Type 0 where
   pub strips : HasStrips pool owner

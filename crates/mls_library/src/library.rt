@@ -151,7 +151,7 @@ impl Library {
         }
         let rects = read_cell(alloc, tech, file.bytes)?;
         let strips = find_plane_strips(alloc, tech.planes() as u8, &rects, limit)?;
-        let most = limit.tiles();
+        let most = limit.get();
         if (pool.unreserved() as usize) < count_tiles(&strips) {
             return Err(CellFault::of_cell(CellFaultKind::PoolFull));
         }

@@ -16,7 +16,7 @@ const MARKED: u8 = 1;
 pub fn most_flat_tiles(quota: u32, limit: CellTiles) -> usize
     ensures { result ≡ spec.most_flat_tiles quota limit }
 {
-    quota.max(limit.tiles()) as usize
+    quota.max(limit.get()) as usize
 }
 
 /// Returns how many lines the section of areas that await checking has in a cell file.

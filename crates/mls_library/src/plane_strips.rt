@@ -44,7 +44,7 @@ fn sweep_for(alloc: Global, pieces: usize, limit: CellTiles) -> Result<Sweep, Al
     ensures pieces { IfOk result (λ sweep. pieces ≤ sweep.room) }
     ensures strips { IfOk result (λ sweep. limit ≤ sweep.room) }
 {
-    Sweep::new(alloc, pieces.max(limit.tiles() as usize))
+    Sweep::new(alloc, pieces.max(limit.get() as usize))
 }
 
 /// Finds the strips of each plane of a layout.
@@ -68,7 +68,7 @@ pub(crate) fn find_plane_strips(
     let mut found = Vec::with_capacity(alloc, usize::from(planes))?;
     for plane in 0..planes {
         list_pieces(rects, plane, &mut pieces)?;
-        strips(&[], &pieces, limit.tiles() as usize, &mut sweep)?;
+        strips(&[], &pieces, limit.get() as usize, &mut sweep)?;
         found.push_reserved(Vec::from_slice(alloc, sweep.strips())?);
     }
     Ok(found)

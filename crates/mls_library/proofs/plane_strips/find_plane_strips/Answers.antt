@@ -22,7 +22,7 @@ loop-plane-preserved c =
     let same : list ≡ c.strips.new.scratch.strips = c.in_ok-from_slice.ensures.items ∙ c.strips-in-loop-plane.ensures in
     let count : length list ≡ tile_count world (layout_of rects plane) = rw (same, ← over) (sym c.in_ok-strips.ensures.count.0 ∙ c.in_ok-strips.ensures.count.1) in
     let few : length list ≤ c.args.limit = elim (cases_lt c.args.limit (length list)) [
-      | inl many ↦ absurd (cc (c.in_ok-strips.ensures.too_many.1 (rw (c.tiles.ensures.value, over, ← count) many)))
+      | inl many ↦ absurd (cc (c.in_ok-strips.ensures.too_many.1 (rw (c.get.ensures.value, over, ← count) many)))
       | inr within ↦ within
     ] in
     let strips : ArePlaneStrips (layout_of rects plane) list =
@@ -42,6 +42,6 @@ loop-plane-preserved c =
 pub returns-in_err-strips-clause-fault : goal.returns-in_err-strips-clause-fault
 returns-in_err-strips-clause-fault c =
     let over : c.deref.result.now ≡ pieces_on c.loop-plane.plane c.args.rects.now = c.deref.ensures.value ∙ c.in_ok-list_pieces.ensures.items in
-    let many = rw (c.tiles.ensures.value, over) at (c.in_err-strips.ensures.too_many.0 refl) in
+    let many = rw (c.get.ensures.value, over) at (c.in_err-strips.ensures.too_many.0 refl) in
     let found = tile_counts-any c.args.limit c.args.rects.now c.args.planes c.loop-plane.plane (omega (arith, c.loop-plane-test.true)) many in
     too_many c.from_residual-in_err-strips.result c.from_residual-in_err-strips.ensures.1 found

@@ -58,7 +58,7 @@ returns-in_err-strips-clause-loads c =
 pub count_tiles-requires-clause-limit : goal.count_tiles-requires-clause-limit
 count_tiles-requires-clause-limit c =
     let few = All-unmap (λ list. list.items) (λ list. length list ≤ c.args.limit) c.in_ok-strips.strips.items c.in_ok-strips.ensures.strips.few in
-    rw c.deref-2.ensures.value (few-within (λ list. list.items) c.in_ok-strips.strips.items c.args.limit spec.most_tiles few c.tiles-most.ensures.legal.bounded)
+    rw c.deref-2.ensures.value (few-within (λ list. list.items) c.in_ok-strips.strips.items c.args.limit spec.most_tiles few c.get-most.ensures.legal.bounded)
 
 pub returns-then-unreserved-count_tiles-clause-loads : goal.returns-then-unreserved-count_tiles-clause-loads
 returns-then-unreserved-count_tiles-clause-loads c =
@@ -85,13 +85,13 @@ build_planes-requires-clause-strips c =
     let strips = c.in_ok-strips.strips.items in
     let listed = rw c.deref.ensures.value at c.in_ok-strips.ensures.strips in
     let number : length strips ≡ c.args.tech.now.plane_count = c.in_ok-strips.ensures.count ∙ c.planes.ensures.value in
-    rw c.deref-4.ensures.value (lists_frozen (λ list. list.items) strips rects c.args.tech.now.plane_count c.args.limit listed number c.tiles-most.ensures.legal.bounded)
+    rw c.deref-4.ensures.value (lists_frozen (λ list. list.items) strips rects c.args.tech.now.plane_count c.args.limit listed number c.get-most.ensures.legal.bounded)
 
 pub build_planes-requires-clause-tiles_fit : goal.build_planes-requires-clause-tiles_fit
 build_planes-requires-clause-tiles_fit c =
     let strips = c.in_ok-strips.strips.items in
     let few = All-unmap (λ list. list.items) (λ list. length list ≤ c.args.limit) strips c.in_ok-strips.ensures.strips.few in
-    let room : c.args.limit ≤ c.in_ok-scratch.scratch.room = omega (arith, c.in_ok-scratch.ensures.0, c.tiles-most.ensures.value) in
+    let room : c.args.limit ≤ c.in_ok-scratch.scratch.room = omega (arith, c.in_ok-scratch.ensures.0, c.get-most.ensures.value) in
     rw c.deref-4.ensures.value (few-within (λ list. list.items) strips c.args.limit c.in_ok-scratch.scratch.room few room)
 
 pub returns : goal.returns
@@ -138,7 +138,7 @@ returns c =
     let smallest : bounds ≡ bounds_of (any_painted lists) =
     c.bounds_of-bounds.ensures ∙ ap (λ found. bounds_of (any_painted (map (λ list. list.items) found))) c.deref-3.ensures.value
     in
-    let frozen = lists_frozen (λ list. list.items) strips rects planes c.args.limit listed number c.tiles-most.ensures.legal.bounded in
+    let frozen = lists_frozen (λ list. list.items) strips rects planes c.args.limit listed number c.get-most.ensures.legal.bounded in
     let shown : All (λ list. AreUnorderedStrips world (picture_of list) list) lists = λ k d within. (All-map (λ list. IsFrozenList list) (λ list. list.items) strips frozen k d within).strips in
     let bounded : (plane : ℕ) → ShowsWithin bounds (cell_layout new cell plane) =
     subst (λ found. (plane : ℕ) → ShowsWithin found (cell_layout new cell plane)) (sym smallest)
