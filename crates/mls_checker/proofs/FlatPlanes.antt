@@ -1,41 +1,36 @@
 -- Copies of a zone on all planes of a layout with uses.
-use Rattle.std.proofs.Common.{◌≡◌, ℕ, zero, suc, ◌+◌, ◌<◌, true, inl, inr, Some, List, [], ◌∷◌, ◌++◌, length, slice_get, refl, sym, ap, ◌∙◌, arith}
+use Rattle.std.proofs.Common.{◌≡◌, ◌↔◌, ℕ, zero, suc, ◌+◌, ◌<◌, inl, inr, Some, List, [], ◌∷◌, ◌++◌, get_or, length, slice_get, All, refl, sym, ap, ◌∙◌, arith}
 use Rattle.std.specs.Option.{unwrap_or}
 use Rattle.std.proofs.Math.Path.{fun_ext}
 use Rattle.std.proofs.lemmas.Bool.{cases_Bool, cases_lt, cond-false, cond-true}
-use Rattle.std.proofs.lemmas.Option.{slice_get_past}
+use Rattle.std.proofs.lemmas.Option.{slice_get_past, slice_get_read}
 use Rattle.mls_geom.specs.Layouts.{Layout}
 use Rattle.mls_geom.specs.Pictures.{Picture}
 use Rattle.mls_geom.specs.Rects.{Rect, holds}
 use Rattle.mls_tilepool.specs.Pools.{Pool}
-use Rattle.mls_paint.specs.Planes.{layout_in}
-use Rattle.mls_layout.specs.Uses.{HasCells, cell_layouts, flat_layout, flat_plane, uses_layout}
+use Rattle.mls_library.specs.Libraries.{Library}
+use Rattle.mls_layout.specs.Uses.{HasCells, flat_layout, flat_plane}
 use Rattle.mls_layout.specs.declared.uses.Uses.{Uses}
-use Rattle.mls_layout.proofs.FlatLayouts.{flat_layout-apart, flat_layout-beyond, flat_layout-plane}
+use Rattle.mls_layout.proofs.FlatLayouts.{flat_layout-beyond, flat_layout-plane}
 use Rattle.mls_checker.specs.Copies.{IsOfZone, PlaneTiles, no_plane, picture_of}
-use Rattle.mls_checker.specs.FlatZones.{planes_layout}
+use Rattle.mls_checker.specs.FlatZones.{AreReadable, CanBeRead, planes_layout}
 use Rattle.mls_checker.specs.ZoneLayouts.{within}
 use Rattle.mls_checker.proofs.Copying.{cut}
 use Rattle.mls_checker.proofs.NoPlane.{no_plane-space}
 
--- ---- where no use shows anything
--- the layout with uses has in the zone what its own paint has
-pub within-apart :
-    (pool : Pool) (uses : Uses) (planes : List ℕ) (zone : Rect)
-    → ((plane x y : ℕ) → holds zone x y ≡ true → uses_layout (cell_layouts pool uses.library.now) uses.list.now plane x y ≡ 0)
-    → within zone (layout_in pool planes) ≡ within zone (flat_layout pool uses planes)
-within-apart pool uses planes zone apart = fun_ext (λ plane. fun_ext (λ x. fun_ext (λ y. elim (cases_Bool (holds zone x y)) [
-  | inl here ↦ cond-true (holds zone x y) (layout_in pool planes plane x y) 0 here ∙ sym (flat_layout-apart pool uses planes plane x y (apart plane x y here))
-      ∙ sym (cond-true (holds zone x y) (flat_layout pool uses planes plane x y) 0 here)
-  | inr outside ↦ cond-false (holds zone x y) (layout_in pool planes plane x y) 0 outside ∙ sym (cond-false (holds zone x y) (flat_layout pool uses planes plane x y) 0 outside)
-])))
-
 -- ---- plane by plane
--- a copy of a plane shows what the layout has on it in the zone
+-- planes that can be read together can each be read
+pub each-CanBeRead : (pool : Pool) (library : Library) (owners : List ℕ) → AreReadable pool library owners → All (CanBeRead pool library) owners
+each-CanBeRead pool library owners are k d within = record { plane = are.planes k d within; fits = are.fit k d within; cells = are.cells.home }
+
+-- what the layout has on a plane in the zone, where neither the pool nor the owners have changed
 pub flat-at :
-    (pool : Pool) (uses : Uses) (owners : List ℕ) (zone : Rect) (copied : PlaneTiles) (plane owner : ℕ) → slice_get owners plane ≡ Some owner
-    → picture_of copied ≡ cut (flat_plane pool uses plane owner) zone → picture_of copied ≡ within zone (flat_layout pool uses owners) plane
-flat-at pool uses owners zone copied plane owner is same = same ∙ ap (λ (p : Picture). cut p zone) (sym (flat_layout-plane pool uses owners plane owner is))
+    (pool now : Pool) (uses : Uses) (owners given : List ℕ) (zone : Rect) (plane owner : ℕ) → now ≡ pool → given ≡ owners → plane < length owners
+    → owner ≡ get_or given plane owner → cut (flat_plane now uses plane owner) zone ≡ within zone (flat_layout pool uses owners) plane
+flat-at pool now uses owners given zone plane owner same_pool same below is =
+    let is_owner : slice_get owners plane ≡ Some owner =
+    slice_get_read owners (length owners) plane owner refl below (is ∙ ap (λ (list : List ℕ). get_or list plane owner) same) in
+    ap (λ (p : Pool). cut (flat_plane p uses plane owner) zone) same_pool ∙ ap (λ (p : Picture). cut p zone) (sym (flat_layout-plane pool uses owners plane owner is_owner))
 
 -- copies of all planes show what the layout has in the zone, where no cell has more planes
 pub flat-by_copies :
@@ -56,13 +51,15 @@ flat-by_copies pool uses owners zone copies cells as_many each = fun_ext (λ pla
 pub planes_layout-at : (copies : List PlaneTiles) (plane : ℕ) (copied : PlaneTiles) → slice_get copies plane ≡ Some copied → planes_layout copies plane ≡ picture_of copied
 planes_layout-at copies plane copied is = ap (λ slot. picture_of (unwrap_or slot no_plane)) is
 
--- so each copy is one where all show what the layout has
-pub flat-from_copies :
-    (pool : Pool) (uses : Uses) (owners : List ℕ) (zone : Rect) (copies : List PlaneTiles) (plane : ℕ) (copied : PlaneTiles) (owner : ℕ) → slice_get copies plane ≡ Some copied
-    → slice_get owners plane ≡ Some owner → planes_layout copies ≡ within zone (flat_layout pool uses owners) → picture_of copied ≡ cut (flat_plane pool uses plane owner) zone
-flat-from_copies pool uses owners zone copies plane copied owner is_copied is_owner same =
-    sym (planes_layout-at copies plane copied is_copied) ∙ ap (λ (layout : Layout). layout plane) same
-    ∙ ap (λ (p : Picture). cut p zone) (flat_layout-plane pool uses owners plane owner is_owner)
+-- so a copy shows what its plane has exactly if the copies show there what the layout has
+pub copy-at :
+    (pool now : Pool) (uses : Uses) (owners given : List ℕ) (zone : Rect) (copies : List PlaneTiles) (plane : ℕ) (copied : PlaneTiles) (owner : ℕ) → now ≡ pool
+    → given ≡ owners → length copies ≡ length owners → plane < length copies → copied ≡ get_or copies plane copied → owner ≡ get_or given plane owner
+    → (picture_of copied ≡ cut (flat_plane now uses plane owner) zone) ↔ (planes_layout copies plane ≡ within zone (flat_layout pool uses owners) plane)
+copy-at pool now uses owners given zone copies plane copied owner same_pool same as_many below is_copied is_owner =
+    let copy = planes_layout-at copies plane copied (slice_get_read copies (length copies) plane copied refl below is_copied) in
+    let flat = flat-at pool now uses owners given zone plane owner same_pool same (omega (arith, below, as_many)) is_owner in
+    (λ shown. copy ∙ shown ∙ flat, λ shown. sym copy ∙ shown ∙ sym flat)
 
 -- a copy of what a picture has in the zone shows space outside it
 pub cut-IsOfZone : (zone : Rect) (copied : PlaneTiles) (picture : Picture) → picture_of copied ≡ cut picture zone → IsOfZone zone copied

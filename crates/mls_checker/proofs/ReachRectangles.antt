@@ -1,9 +1,10 @@
 -- The rectangle round what the edges along a side reach.
-use Rattle.std.proofs.Common.{◌≡◌, ℕ, ◌-◌, ◌<◌, ◌≤◌, true, true≢false, ◌&&◌, nat_lt, max, inl, inr, List, sym, arith}
+use Rattle.std.proofs.Common.{◌≡◌, ℕ, ◌-◌, ◌<◌, ◌≤◌, true, ◌&&◌, nat_lt, max, inl, inr, List, arith}
 use Rattle.std.specs.List.{list_any}
 use Rattle.std.proofs.lemmas.Bool.{and_parts, or_cases}
 use Rattle.std.proofs.lemmas.List.Folds.{Any-from_list_any}
 use Rattle.mls_edgerule.specs.declared.edge_rule.EdgeRule.{EdgeRule}
+use Rattle.std.proofs.lemmas.Bool.Decides.{nat_tests}
 use Rattle.mls_geom.specs.Directions.{across, deepened}
 use Rattle.mls_geom.specs.Rects.{Rect, common, has_squares, holds}
 use Rattle.mls_geom.specs.declared.direction.Direction.{Direction}
@@ -12,6 +13,7 @@ use Rattle.mls_geom.proofs.Across.{crosses, found_across}
 use Rattle.mls_geom.proofs.Holds.{between_holds, has_squares_lines, holds_between}
 use Rattle.mls_geom.proofs.ShiftedSquares.{positive_lt}
 use Rattle.mls_kinds.specs.KindSets.{holds as has_type}
+use Rattle.mls_checker.proofs.BlockSquares.{HasSquares, LinesHold}
 use Rattle.mls_checker.specs.Sides.{blocks_hold, blocks_of, flank_blocks, flank_of, reach_of, rows_hold, side_reaches, tile_blocks, widened}
 use Rattle.mls_checker.specs.Tiles.{Tile}
 
@@ -23,66 +25,17 @@ Round direction far c side = deepened direction far (widened direction c side)
 rows_round :
     (direction : Direction) (d c far : ℕ) (side : Rect) (x y : ℕ) → d - 1 ≤ far → holds (deepened direction (d - 1) side) x y ≡ true
     → holds (Round direction far c side) x y ≡ true
-rows_round Right d c far side x y few here =
-    let lines = holds_between (deepened Right (d - 1) side) x y here in
-    between_holds (Round Right far c side) x y (omega arith) (omega arith) (omega arith) (omega arith)
-rows_round Up d c far side x y few here =
-    let lines = holds_between (deepened Up (d - 1) side) x y here in
-    between_holds (Round Up far c side) x y (omega arith) (omega arith) (omega arith) (omega arith)
-rows_round Left d c far side x y few here =
-    let lines = holds_between (deepened Left (d - 1) side) x y here in
-    between_holds (Round Left far c side) x y (omega arith) (omega arith) (omega arith) (omega arith)
-rows_round Down d c far side x y few here =
-    let lines = holds_between (deepened Down (d - 1) side) x y here in
-    between_holds (Round Down far c side) x y (omega arith) (omega arith) (omega arith) (omega arith)
+rows_round direction d c far side x y few here = grind (arith, nat_tests)
 
 -- and corner blocks
-blocks_round :
+blocks_lines :
     (direction flank : Direction) (c far : ℕ) (side area : Rect) (x y : ℕ) → crosses direction flank ≡ true → c - 1 ≤ far → 0 < c
-    → has_squares (common (flank_of direction flank side) area) ≡ true
-    → holds (blocks_of direction flank c (common (flank_of direction flank side) area)) x y ≡ true
-    → holds (Round direction far c side) x y ≡ true
-blocks_round Right Up c far side area x y cross few some squares here =
-    let part = common (flank_of Right Up side) area in
-    let (wide, tall) = has_squares_lines part squares in
-    let lines = holds_between (blocks_of Right Up c part) x y here in
-    between_holds (Round Right far c side) x y (omega arith) (omega arith) (omega arith) (omega arith)
-blocks_round Right Down c far side area x y cross few some squares here =
-    let part = common (flank_of Right Down side) area in
-    let (wide, tall) = has_squares_lines part squares in
-    let lines = holds_between (blocks_of Right Down c part) x y here in
-    between_holds (Round Right far c side) x y (omega arith) (omega arith) (omega arith) (omega arith)
-blocks_round Left Up c far side area x y cross few some squares here =
-    let part = common (flank_of Left Up side) area in
-    let (wide, tall) = has_squares_lines part squares in
-    let lines = holds_between (blocks_of Left Up c part) x y here in
-    between_holds (Round Left far c side) x y (omega arith) (omega arith) (omega arith) (omega arith)
-blocks_round Left Down c far side area x y cross few some squares here =
-    let part = common (flank_of Left Down side) area in
-    let (wide, tall) = has_squares_lines part squares in
-    let lines = holds_between (blocks_of Left Down c part) x y here in
-    between_holds (Round Left far c side) x y (omega arith) (omega arith) (omega arith) (omega arith)
-blocks_round Up Right c far side area x y cross few some squares here =
-    let part = common (flank_of Up Right side) area in
-    let (wide, tall) = has_squares_lines part squares in
-    let lines = holds_between (blocks_of Up Right c part) x y here in
-    between_holds (Round Up far c side) x y (omega arith) (omega arith) (omega arith) (omega arith)
-blocks_round Up Left c far side area x y cross few some squares here =
-    let part = common (flank_of Up Left side) area in
-    let (wide, tall) = has_squares_lines part squares in
-    let lines = holds_between (blocks_of Up Left c part) x y here in
-    between_holds (Round Up far c side) x y (omega arith) (omega arith) (omega arith) (omega arith)
-blocks_round Down Right c far side area x y cross few some squares here =
-    let part = common (flank_of Down Right side) area in
-    let (wide, tall) = has_squares_lines part squares in
-    let lines = holds_between (blocks_of Down Right c part) x y here in
-    between_holds (Round Down far c side) x y (omega arith) (omega arith) (omega arith) (omega arith)
-blocks_round Down Left c far side area x y cross few some squares here =
-    let part = common (flank_of Down Left side) area in
-    let (wide, tall) = has_squares_lines part squares in
-    let lines = holds_between (blocks_of Down Left c part) x y here in
-    between_holds (Round Down far c side) x y (omega arith) (omega arith) (omega arith) (omega arith)
-blocks_round direction flank c far side area x y cross few some squares here = absurd (true≢false (sym cross))
+    → HasSquares (common (flank_of direction flank side) area) → LinesHold (blocks_of direction flank c (common (flank_of direction flank side) area)) x y
+    → LinesHold (Round direction far c side) x y
+blocks_lines Right flank c far side area x y cross few some squares here = grind arith
+blocks_lines Up flank c far side area x y cross few some squares here = grind arith
+blocks_lines Left flank c far side area x y cross few some squares here = grind arith
+blocks_lines Down flank c far side area x y cross few some squares here = grind arith
 
 -- what the edges along a side reach lies in the rectangle
 pub reached_in :
@@ -103,5 +56,7 @@ reached_in rule tiles direction side x y reaching =
           let parts = and_parts (has_type rule.corner_types tile.kind) (blocks_hold direction flank.0 c part x y) held in
           let squares = and_parts (has_squares part) (nat_lt 0 c && holds (blocks_of direction flank.0 c part) x y) parts.1 in
           let blocks = and_parts (nat_lt 0 c) (holds (blocks_of direction flank.0 c part) x y) squares.1 in
-          blocks_round direction flank.0 c (max d c - 1) side tile.area x y flank.1 (omega arith) (positive_lt c blocks.0) squares.0 blocks.1)
+          let round = blocks_lines direction flank.0 c (max d c - 1) side tile.area x y flank.1 (omega arith) (positive_lt c blocks.0)
+          (has_squares_lines part squares.0) (holds_between (blocks_of direction flank.0 c part) x y blocks.1) in
+          between_holds (reach_of rule direction side) x y round.0 round.1 round.2 round.3)
     ]

@@ -8,6 +8,7 @@ use Rattle.std.proofs.lemmas.List.{append-nil, drop_all, get_or-replicate, get_o
 use Rattle.mls_kinds.specs.KindSets.{holds as has_bit}
 use Rattle.mls_kinds.proofs.BitLemmas.{holds-zero}
 use Rattle.mls_checker.specs.Grids.{RowWords, has_column, has_lifted, has_square, is_between, stacked}
+use Rattle.mls_checker.proofs.Gathering.{two_gains}
 use Rattle.mls_checker.proofs.WordRows.{fill-row, past-end}
 
 -- ---- one word
@@ -51,14 +52,6 @@ stack-row (suc n) words row columns v r c within is =
 between-join : (from row on to r : ℕ) → from ≤ on → on ≤ row → row ≤ to → (is_between from row r || is_between on to r) ≡ is_between from to r
 between-join from row on to r above below within = grind (arith, nat_tests)
 
-regain : (s a b m : Bool) → ((s || (a && m)) || (b && m)) ≡ (s || ((a || b) && m))
-regain true a b m = refl
-regain false true true true = refl
-regain false true true false = refl
-regain false true false true = refl
-regain false true false false = refl
-regain false false b m = refl
-
 -- one more stack, which goes on from those before it or overlaps them
 pub stack-more :
     (old words : List ℕ) (from row on to columns v r c : ℕ) → on < length words → v ≡ bit_or (slice_index words on) columns → from ≤ on → on ≤ row → row ≤ to → on + 16 ≡ to
@@ -68,7 +61,7 @@ stack-more old words from row on to columns v r c within is above below short he
     stack-row 16 words on columns v r c within is
     ∙ ap (λ b. b || (is_between on (on + 16) r && has_bit columns c)) before
     ∙ ap (λ n. (stacked 16 old r c || (is_between from row r && has_bit columns c)) || (is_between on n r && has_bit columns c)) height
-    ∙ regain (stacked 16 old r c) (is_between from row r) (is_between on to r) (has_bit columns c)
+    ∙ two_gains (stacked 16 old r c) (is_between from row r) (is_between on to r) (has_bit columns c)
     ∙ ap (λ b. stacked 16 old r c || (b && has_bit columns c)) (between-join from row on to r above below short)
 
 pub no-stack : (s m : Bool) (from r : ℕ) → s ≡ (s || (is_between from from r && m))

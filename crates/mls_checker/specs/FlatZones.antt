@@ -1,10 +1,16 @@
 -- Zones of layouts that show uses: their tiles, copies of their planes, and what is compared in them.
-use Rattle.std.specs.Prelude.{◌≡◌, ℕ, true, List, ◌++◌, length, map, slice_get}
+use Rattle.std.specs.Prelude.{◌≡◌, ℕ, ◌+◌, min, nat_lt, true, if◌then◌else◌, List, ◌++◌, length, map, slice_get}
+use Rattle.std.specs.List.{All}
 use Rattle.std.specs.Option.{unwrap_or}
 use Rattle.mls_geom.specs.Layouts.{Layout}
 use Rattle.mls_geom.specs.Pictures.{Picture}
 use Rattle.mls_geom.specs.Rects.{Rect, common, holds}
 use Rattle.mls_geom.specs.declared.piece.Piece.{Piece}
+use Rattle.mls_layout.specs.Uses.{HasCells}
+use Rattle.mls_layout.specs.Workspaces.{FitsWorkspace}
+use Rattle.mls_library.specs.Libraries.{IsHome, Library}
+use Rattle.mls_stitch.specs.Tilings.{HasPlane}
+use Rattle.mls_tilepool.specs.Pools.{Pool}
 use Rattle.mls_checker.specs.Copies.{AreOfZone, PlaneTiles, no_plane, picture_of}
 use Rattle.mls_checker.specs.Tiles.{Tile, clipped_tile, space_round}
 
@@ -22,6 +28,18 @@ pub record AreCopies (zone : Rect) (count : ℕ) (layout : Layout) (planes : Lis
   pub as_many : length planes ≡ count
   pub shown : planes_layout planes ≡ layout
 
+-- a plane of the pool that a workspace has room for, and a library whose cells are in the pool
+pub record CanBeRead (pool : Pool) (library : Library) (owner : ℕ) : Type 0 where
+  pub plane : HasPlane pool owner
+  pub fits : FitsWorkspace pool owner
+  pub cells : IsHome pool library
+
+-- planes of the pool that a workspace has room for, and a library whose cells are in the pool and have no more planes
+pub record AreReadable (pool : Pool) (library : Library) (owners : List ℕ) : Type 0 where
+  pub planes : All (HasPlane pool) owners
+  pub fit : All (FitsWorkspace pool) owners
+  pub cells : HasCells pool (length owners) library
+
 -- the pictures are the same in the area
 abbrev pub SameIn : Rect → Picture → Picture → Type 0
 SameIn area picture other = (x y : ℕ) → holds area x y ≡ true → picture x y ≡ other x y
@@ -29,3 +47,12 @@ SameIn area picture other = (x y : ℕ) → holds area x y ≡ true → picture 
 -- the picture has the tile's kind in each square of the tile that lies in the area
 abbrev pub HasTileIn : Rect → Picture → Tile → Type 0
 HasTileIn area picture tile = (x y : ℕ) → holds (common tile.area area) x y ≡ true → picture x y ≡ tile.kind
+
+-- ---- blocks of a zone, row after row
+-- the block that begins at these lines, as far as it lies in the zone
+abbrev pub block_from : Rect → ℕ → ℕ → Rect
+block_from zone left bottom = record { left = left; bottom = bottom; right = min zone.right (left + 512); top = min zone.top (bottom + 512) }
+
+-- the left line and the bottom line of the block after this one; the bottom line is the zone's top after the last one
+abbrev pub lines_after : Rect → Rect → ℕ × ℕ
+lines_after zone block = if nat_lt block.right zone.right then (block.right, block.bottom) else (zone.left, block.top)

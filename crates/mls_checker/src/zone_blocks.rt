@@ -1,13 +1,10 @@
 //! Whether tiles show what a plane does with uses, block by block.
-ghost use Rattle.std.specs.Prelude.{◌≡◌, ◌↔◌, ◌+◌, ◌≤◌, IsTrue};
+ghost use Rattle.std.specs.Prelude.{◌≡◌, ◌↔◌, ◌<◌, ◌≤◌, IsTrue};
 ghost use Rattle.std.specs.List.{All};
-ghost use Rattle.mls_checker.specs.FlatZones.{HasTileIn, SameIn};
+ghost use Rattle.mls_checker.specs.FlatZones.{CanBeRead, HasTileIn, SameIn, block_from, lines_after};
 ghost use Rattle.mls_checker.specs.Tiles.{AreTiles, outer, tiles_picture};
 ghost use Rattle.mls_layout.specs.Grids.{IsBlock, grid_picture};
 ghost use Rattle.mls_layout.specs.Uses.{flat_plane};
-ghost use Rattle.mls_layout.specs.Workspaces.{FitsWorkspace};
-ghost use Rattle.mls_library.specs.Libraries.{IsHome};
-ghost use Rattle.mls_stitch.specs.Tilings.{HasPlane};
 
 use crate::tiles::Tile;
 use mls_geom::Rect;
@@ -24,80 +21,54 @@ pub(crate) fn show_flat(
     workspace: &mut Workspace,
 ) -> bool
     requires tiles { AreTiles outer (tiles_picture tiles.now) tiles.now }
-    requires plane { HasPlane workspace.old.pool plane.old }
-    requires plane_fits { FitsWorkspace workspace.old.pool plane.old }
-    requires cells { IsHome workspace.old.pool uses.now.library.now }
+    requires readable { CanBeRead workspace.old.pool uses.now.library.now plane.old }
     ensures same { IsTrue result ↔ SameIn zone (tiles_picture tiles.now)
         (flat_plane workspace.old.pool uses.now number plane.old) }
     ensures owner { plane.new ≡ plane.old }
     ensures pool { workspace.new.pool ≡ workspace.old.pool }
 {
     let lines = zone.area();
+    let mut left = lines.left;
     let mut bottom = lines.bottom;
     'rows: while bottom < lines.top {
-        let top = lines.top.min(bottom + BLOCK_SIDE);
-        let row = Rect::between(lines.left, bottom, lines.right, top);
-        if !show_flat_row(tiles, number, plane, uses, row, workspace) {
+        let block = block_from(zone, left, bottom);
+        flatten(number, plane, uses, block, workspace);
+        if !has_tiles(&workspace.grid, block, tiles) {
             return false;
         }
-        bottom = top;
+        let next = lines_after(zone, block);
+        left = next.0;
+        bottom = next.1;
     }
     true
 }
 
-/// Whether the tiles show what the plane does with the uses, in a rectangle no higher than a block.
-fn show_flat_row(
-    tiles: &[Tile],
-    number: usize,
-    plane: &mut Plane,
-    uses: &Uses<'_>,
-    row: Rect,
-    workspace: &mut Workspace,
-) -> bool
-    requires low { row.top ≤ row.bottom + 512 }
-    requires tiles { AreTiles outer (tiles_picture tiles.now) tiles.now }
-    requires plane { HasPlane workspace.old.pool plane.old }
-    requires plane_fits { FitsWorkspace workspace.old.pool plane.old }
-    requires cells { IsHome workspace.old.pool uses.now.library.now }
-    ensures same { IsTrue result ↔ SameIn row (tiles_picture tiles.now)
-        (flat_plane workspace.old.pool uses.now number plane.old) }
-    ensures owner { plane.new ≡ plane.old }
-    ensures pool { workspace.new.pool ≡ workspace.old.pool }
+/// Returns the block that begins at these lines, as far as it lies in the zone.
+fn block_from(zone: Rect, left: u32, bottom: u32) -> Rect
+    requires column { zone.left ≤ left }
+    requires wide { left < zone.right }
+    requires row { zone.bottom ≤ bottom }
+    requires tall { bottom < zone.top }
+    ensures { result ≡ block_from zone left bottom }
 {
-    let lines = row.area();
-    let mut left = lines.left;
-    'columns: while left < lines.right {
-        let right = lines.right.min(left + BLOCK_SIDE);
-        let block = Rect::between(left, lines.bottom, right, lines.top);
-        if !show_flat_block(tiles, number, plane, uses, block, workspace) {
-            return false;
-        }
-        left = right;
-    }
-    true
+    let lines = zone.area();
+    let right = lines.right.min(left + BLOCK_SIDE);
+    let top = lines.top.min(bottom + BLOCK_SIDE);
+    Rect::between(left, bottom, right, top)
 }
 
-/// Whether the tiles show in a block what the plane does with the uses.
-fn show_flat_block(
-    tiles: &[Tile],
-    number: usize,
-    plane: &mut Plane,
-    uses: &Uses<'_>,
-    block: Rect,
-    workspace: &mut Workspace,
-) -> bool
-    requires block { IsBlock block }
-    requires tiles { AreTiles outer (tiles_picture tiles.now) tiles.now }
-    requires plane { HasPlane workspace.old.pool plane.old }
-    requires plane_fits { FitsWorkspace workspace.old.pool plane.old }
-    requires cells { IsHome workspace.old.pool uses.now.library.now }
-    ensures same { IsTrue result ↔ SameIn block (tiles_picture tiles.now)
-        (flat_plane workspace.old.pool uses.now number plane.old) }
-    ensures owner { plane.new ≡ plane.old }
-    ensures pool { workspace.new.pool ≡ workspace.old.pool }
+/// Returns the left line and the bottom line of the block after this one, row after row. After the last one the bottom
+/// line is the zone's top.
+fn lines_after(zone: Rect, block: Rect) -> (u32, u32)
+    ensures { result ≡ lines_after zone block }
 {
-    flatten(number, plane, uses, block, workspace);
-    has_tiles(&workspace.grid, block, tiles)
+    let lines = zone.area();
+    let done = block.area();
+    if done.right < lines.right {
+        (done.right, done.bottom)
+    } else {
+        (lines.left, done.top)
+    }
 }
 
 /// Whether the grid has, in each square of a block, the kinds of the tiles that have it.

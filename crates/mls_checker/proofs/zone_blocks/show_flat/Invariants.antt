@@ -1,19 +1,18 @@
 -- The tiles show in the blocks so far what the plane does with the uses.
-use Rattle.std.proofs.Common.{◌≡◌, ◌-◌, ◌≤◌}
+use Rattle.std.proofs.Common.{◌≡◌, ℕ}
 use Rattle.mls_layout.specs.Uses.{flat_plane}
-use Rattle.mls_checker.specs.FlatZones.{SameIn}
+use Rattle.mls_checker.specs.FlatZones.{CanBeRead}
 use Rattle.mls_checker.specs.Tiles.{tiles_picture}
-use Rattle.mls_checker.proofs.FlatBlocks.{to_row}
+use Rattle.mls_checker.proofs.FlatBlocks.{BlocksSame, lines_left}
 use Rattle.mls_checker.proofs.zone_blocks.show_flat.Given as goal
 
 abbrev pub invariant-rows : goal.invariant-rows
 invariant-rows l = record {
-  from : l.fn.zone.bottom ≤ l.bottom;
-  to : l.bottom ≤ l.fn.zone.top;
-  same : SameIn (to_row l.bottom l.fn.zone) (tiles_picture l.fn.tiles) (flat_plane l.fn.workspace.pool l.fn.uses l.fn.number l.fn.plane);
+  same : BlocksSame l.fn.zone (tiles_picture l.fn.tiles) (flat_plane l.fn.workspace.pool l.fn.uses l.fn.number l.fn.plane) l.left l.bottom;
+  readable : CanBeRead l.workspace.pool l.fn.uses.library.now l.plane;
   owner : l.plane ≡ l.fn.plane;
   pool : l.workspace.pool ≡ l.fn.workspace.pool;
 }
 
 abbrev pub decreases-rows : goal.decreases-rows
-decreases-rows l = l.fn.zone.top - l.bottom
+decreases-rows l = lines_left l.fn.zone l.left l.bottom

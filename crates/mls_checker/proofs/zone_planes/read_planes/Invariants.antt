@@ -4,7 +4,7 @@ use Rattle.mls_layout.specs.Uses.{flat_layout}
 use Rattle.mls_checker.specs.Copies.{AreOfZone}
 use Rattle.mls_checker.specs.FlatZones.{planes_layout}
 use Rattle.mls_checker.specs.ZoneLayouts.{within}
-use Rattle.mls_checker.proofs.zone_planes.read_flattened.Given as goal
+use Rattle.mls_checker.proofs.zone_planes.read_planes.Given as goal
 
 abbrev pub invariant-loop-index : goal.invariant-loop-index
 invariant-loop-index l = record {
