@@ -13,10 +13,11 @@ use Rattle.mls_checker.specs.Forbids.{forbidden, forbids, in_block, in_row, is_d
 use Rattle.mls_checker.proofs.ListTests.{list_any_same}
 use Rattle.mls_checker.proofs.Locality.{forbidden_same_in}
 use Rattle.mls_kinds.specs.KindSets.{holds as has_type}
-use Rattle.mls_errorplane.specs.Stretches.{IsAlike, like_column, like_row}
-use Rattle.mls_errorplane.specs.declared.likeness.Likeness.{Likeness}
-use Rattle.mls_errorplane.specs.declared.likeness.Likeness.TheVariants.{OneKind, Columns, Rows}
-use Rattle.mls_errorplane.proofs.LikeSquares.{like_column-again, like_row-again}
+use Rattle.mls_layout.specs.Likenesses.{like_column, like_row}
+use Rattle.mls_errorplane.specs.Stretches.{IsAlike}
+use Rattle.mls_layout.specs.declared.likeness.Likeness.{Likeness}
+use Rattle.mls_layout.specs.declared.likeness.Likeness.TheVariants.{OneKind, Columns, Rows}
+use Rattle.mls_layout.proofs.LikeSquares.{like_column-again, like_row-again}
 
 -- where the rules forbid both squares or none, and both are of the world, both are forbidden or none
 forbidden-both :

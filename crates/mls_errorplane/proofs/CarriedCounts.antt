@@ -18,8 +18,8 @@ use Rattle.mls_errorplane.specs.Carrying.{AreCarried, AreFew, GoUp, LeavesRoom, 
 use Rattle.mls_errorplane.specs.DirtyLists.{piece_side}
 use Rattle.mls_errorplane.specs.ErrorPlanes.{marks_picture}
 use Rattle.mls_errorplane.specs.MarkPlanes.{is_marked, remarked}
-use Rattle.mls_errorplane.specs.declared.likeness.Likeness.{Likeness}
-use Rattle.mls_errorplane.specs.declared.likeness.Likeness.TheVariants.{OneKind, Columns, Rows}
+use Rattle.mls_layout.specs.declared.likeness.Likeness.{Likeness}
+use Rattle.mls_layout.specs.declared.likeness.Likeness.TheVariants.{OneKind, Columns, Rows}
 use Rattle.mls_errorplane.proofs.PartCounts.{tile_count-above, tile_count-found}
 
 -- what holds of a number, if there is one, leads to what follows from it

@@ -26,13 +26,14 @@ use Rattle.mls_errorplane.specs.ErrorPlanes.{exceeds, marks_picture}
 use Rattle.mls_errorplane.specs.MarkPlanes.{is_marked, marked_count, remarked}
 use Rattle.mls_errorplane.specs.PaintedMarks.{Paints}
 use Rattle.mls_errorplane.specs.Carrying.{AreCarried, AreFew, edge_of, part_like, piece_like, told}
-use Rattle.mls_errorplane.specs.Stretches.{AreRight, AreRightIn, IsAlike, Tells, like_column, like_row}
+use Rattle.mls_layout.specs.Likenesses.{like_column, like_row}
+use Rattle.mls_errorplane.specs.Stretches.{AreRight, AreRightIn, IsAlike, Tells}
 use Rattle.mls_errorplane.specs.declared.checked.Checked.{Checked}
-use Rattle.mls_errorplane.specs.declared.likeness.Likeness.{Likeness}
-use Rattle.mls_errorplane.specs.declared.likeness.Likeness.TheVariants.{OneKind, Columns, Rows}
+use Rattle.mls_layout.specs.declared.likeness.Likeness.{Likeness}
+use Rattle.mls_layout.specs.declared.likeness.Likeness.TheVariants.{OneKind, Columns, Rows}
 use Rattle.mls_errorplane.proofs.AlikeLayouts.{forbidden-alike}
 use Rattle.mls_errorplane.proofs.CheckedMarks.{marked_either, marks_picture-alone}
-use Rattle.mls_errorplane.proofs.LikeSquares.{like_column-again, like_row-again}
+use Rattle.mls_layout.proofs.LikeSquares.{like_column-again, like_row-again}
 use Rattle.mls_errorplane.proofs.PaintedPieces.{holds_inside, overlaid-part}
 use Rattle.mls_errorplane.proofs.RectCounts.{marked_count-part, marked_count-remarked}
 

@@ -1,5 +1,4 @@
 pub mod AlikeLayouts
-pub mod AlikePlanes
 pub mod AreaCounts
 pub mod AreaSizes
 pub mod CarriedCounts
@@ -16,7 +15,6 @@ pub mod FoundCounts
 pub mod FoundTotals
 pub mod KeptLists
 pub mod KeptRooms
-pub mod LikeSquares
 pub mod MarkCounts
 pub mod NextStretches
 pub mod PaintedAreas
@@ -33,5 +31,6 @@ pub mod StairCounts
 pub mod StairSums
 pub mod StepsDone
 pub mod StretchSteps
+pub mod ToldSquares
 pub mod ViolatedNear
 pub mod ViolatedParts

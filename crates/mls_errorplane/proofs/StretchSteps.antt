@@ -15,23 +15,24 @@ use Rattle.mls_paint.specs.Planes.{HasStrips, picture_in}
 use Rattle.mls_checker.specs.Forbids.{forbidden}
 use Rattle.mls_checker.specs.Findings.{Finding}
 use Rattle.mls_checker.specs.Marking.{SquareSet}
-use Rattle.mls_checker.proofs.LentPlanes.{lent, lent-same}
+use Rattle.mls_layout.proofs.LentPlanes.{lent, lent-same}
 use Rattle.mls_errorplane.specs.CatchingUp.{Steps}
 use Rattle.mls_errorplane.specs.Checkings.{Checking, check_step, checked_marks}
 use Rattle.mls_errorplane.specs.DirtyLists.{IsDirtyList, area_of, dropped, first_piece_of, piece_of}
 use Rattle.mls_errorplane.specs.ErrorPlanes.{ErrorPlane, HasStepped, ShowsMarks, exceeds, marks_picture}
 use Rattle.mls_errorplane.specs.MarkPlanes.{is_marked, marked_count}
 use Rattle.mls_errorplane.specs.Outcomes.{HasFinished}
-use Rattle.mls_errorplane.specs.Stretches.{AreRight, AreRightIn, DropsIn, IsAlike, ShowsAlike, Tells, like_column, like_row}
+use Rattle.mls_layout.specs.Likenesses.{ShowsAlike, like_column, like_row}
+use Rattle.mls_errorplane.specs.Stretches.{AreRight, AreRightIn, DropsIn, IsAlike, Tells}
 use Rattle.mls_errorplane.specs.declared.checked.Checked.{Checked}
 use Rattle.mls_errorplane.specs.declared.error_plane.Stepped.TheVariants as stepped
 use Rattle.mls_errorplane.specs.declared.error_plane.Outcome.{Outcome}
 use Rattle.mls_errorplane.specs.declared.error_plane.Outcome.TheVariants.{Finished, Full, Stale}
-use Rattle.mls_errorplane.specs.declared.likeness.Likeness.{Likeness}
+use Rattle.mls_layout.specs.declared.likeness.Likeness.{Likeness}
 use Rattle.mls_errorplane.proofs.AlikeLayouts.{forbidden-alike}
 use Rattle.mls_errorplane.proofs.AreaSizes.{area_of-dropped-less}
 use Rattle.mls_errorplane.proofs.KeptLists.{IsDirtyList-dropped}
-use Rattle.mls_errorplane.proofs.LikeSquares.{alike-same, grown-holds, like_column-again, like_row-again}
+use Rattle.mls_layout.proofs.LikeSquares.{alike-same, grown-holds, like_column-again, like_row-again}
 
 -- a square of a rectangle in another one is one of that
 pub inner_holds : (outer e : Rect) (x y : ℕ) → IsRectangleIn outer e → holds e x y ≡ true → holds outer x y ≡ true

@@ -10,9 +10,9 @@ use Rattle.mls_checker.specs.Marking.{SquareSet}
 use Rattle.mls_errorplane.specs.DirtyLists.{piece_side}
 use Rattle.mls_errorplane.specs.ErrorPlanes.{marks_picture}
 use Rattle.mls_errorplane.specs.MarkPlanes.{is_marked}
-use Rattle.mls_errorplane.specs.Stretches.{Spans, like_column, like_row}
-use Rattle.mls_errorplane.specs.declared.likeness.Likeness.{Likeness}
-use Rattle.mls_errorplane.specs.declared.likeness.Likeness.TheVariants.{OneKind, Columns, Rows}
+use Rattle.mls_layout.specs.Likenesses.{Spans, like_column, like_row}
+use Rattle.mls_layout.specs.declared.likeness.Likeness.{Likeness}
+use Rattle.mls_layout.specs.declared.likeness.Likeness.TheVariants.{OneKind, Columns, Rows}
 
 -- the set that has a square where another one has the square in which a rectangle shows what it shows in this one
 abbrev pub told : Likeness → Rect → SquareSet → SquareSet

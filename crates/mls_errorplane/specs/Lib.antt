@@ -5,6 +5,7 @@ pub mod Checkings
 pub mod DirtyLists
 pub mod EmptyLayouts
 pub mod ErrorPlanes
+pub mod Halves
 pub mod Jobs
 pub mod MarkPlanes
 pub mod Outcomes

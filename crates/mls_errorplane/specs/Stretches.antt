@@ -4,14 +4,13 @@ use Rattle.std.specs.Option.{IsSomeAnd, option_to_list}
 use Rattle.mls_edgerule.specs.Halos.{halo_of}
 use Rattle.mls_edgerule.specs.declared.edge_rule.EdgeRule.{EdgeRule}
 use Rattle.mls_geom.specs.Layouts.{Layout}
-use Rattle.mls_geom.specs.Pictures.{Picture}
-use Rattle.mls_geom.specs.Rects.{Rect, IsRectangleIn, IsWithin, grown, holds}
+use Rattle.mls_geom.specs.Rects.{Rect, IsRectangleIn, holds}
+use Rattle.mls_layout.specs.Likenesses.{ShowsAlike, like_column, like_row}
+use Rattle.mls_layout.specs.declared.likeness.Likeness.{Likeness}
 use Rattle.mls_checker.specs.Forbids.{forbidden}
 use Rattle.mls_checker.specs.Marking.{SquareSet}
 use Rattle.mls_errorplane.specs.DirtyLists.{dropped, first_piece_of, piece_side}
 use Rattle.mls_errorplane.specs.declared.checked.Checked.{Checked}
-use Rattle.mls_errorplane.specs.declared.likeness.Likeness.{Likeness}
-use Rattle.mls_errorplane.specs.declared.likeness.Likeness.TheVariants.{OneKind, Columns, Rows}
 use Rattle.mls_errorplane.specs.declared.stretch.Stretch.{Stretch}
 
 -- the list without its next pieces, this many of them and all in the rectangle, is the other list
@@ -54,30 +53,9 @@ with_rest rest (first ∷ others) = option_to_list rest ++ others
 abbrev pub IsNext : List Rect → Stretch → Type 0
 IsNext areas stretch = (0 < stretch.pieces) × DropsAll stretch.rect stretch.pieces areas (with_rest stretch.rest areas)
 
--- the square in which a rectangle shows what it shows in this one, by its column and its row: its corner where it shows one kind, the lowest square of the column where it shows columns, and the leftmost one of the row where it shows rows
-abbrev pub like_column : Likeness → Rect → ℕ → ℕ
-like_column OneKind rect x = rect.left
-like_column Columns rect x = x
-like_column Rows rect x = rect.left
-
-abbrev pub like_row : Likeness → Rect → ℕ → ℕ
-like_row OneKind rect y = rect.bottom
-like_row Columns rect y = rect.bottom
-like_row Rows rect y = y
-
--- in the rectangle, and at most h squares away from it, the picture shows one kind, or one kind in each column, or one in each row
-abbrev pub ShowsAlike : Likeness → ℕ → Rect → Picture → Type 0
-ShowsAlike likeness h rect picture = (x y : ℕ) → holds (grown h rect) x y ≡ true → picture x y ≡ picture (like_column likeness rect x) (like_row likeness rect y)
-
 -- as far as the rules reach round the rectangle each plane shows one kind, or columns, or rows
 abbrev pub IsAlike : Likeness → List EdgeRule → Layout → Rect → Type 0
 IsAlike likeness rules layout rect = (plane : ℕ) → ShowsAlike likeness (halo_of rules) rect (layout plane)
-
--- a rectangle spans another one: for columns from its bottom to its top, for rows from its left to its right, and for one kind both
-abbrev pub Spans : Likeness → Rect → Rect → Type 0
-Spans OneKind outer rect = IsWithin outer rect
-Spans Columns outer rect = (outer.bottom ≤ rect.bottom) × (rect.top ≤ outer.top)
-Spans Rows outer rect = (outer.left ≤ rect.left) × (rect.right ≤ outer.right)
 
 -- a rectangle has the squares that show what those of another one show
 abbrev pub Tells : Likeness → Rect → Rect → Type 0

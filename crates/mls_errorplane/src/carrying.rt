@@ -20,11 +20,10 @@ ghost use Rattle.mls_errorplane.specs.Carrying.{AreCarried, AreFew, LeavesRoom, 
 use crate::checked::Source;
 use crate::dirty::{PIECE_SIDE, lies_in_world};
 use crate::error_plane::recounted;
-use crate::likeness::Likeness;
 use crate::marks::marked_in;
 use crate::{ErrorPlane, Recount};
 use mls_geom::{Area, Piece, Rect};
-use mls_layout::Workspace;
+use mls_layout::{Likeness, Workspace};
 use mls_paint::{Scratch, TooManyTiles, find_area, find_meeting_in, overlay, tile_count};
 use mls_stitch::{LaidTile, Plane};
 use mls_tilepool::Pool;

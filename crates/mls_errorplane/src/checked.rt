@@ -9,9 +9,9 @@ ghost use Rattle.mls_errorplane.specs.Stretches.{AreRight, AreRightIn, Tells};
 
 use crate::Outcome;
 use crate::dirty::lies_in_world;
-use crate::likeness::Likeness;
 use mls_checker::Finding;
 use mls_geom::Rect;
+use mls_layout::Likeness;
 
 /// Which pieces were checked last, in whose rectangles the marks are right.
 #[derive(Clone, Copy, Debug, PartialEq, Eq)]

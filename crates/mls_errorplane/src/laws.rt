@@ -83,9 +83,9 @@ pub fn catching_up_keeps_marks_right()
         → IsChecked rules layout old → IsChecked rules layout new }
 {}
 
-/// Where the next pieces of a list make up a rectangle, and the tiles of the marks after its check and those of the marks
-/// before in the rows from its bottom on are few enough together, each check step over these pieces is done, and they
-/// lead from the ones to the others.
+/// Where the next pieces of a list make up a rectangle, and the tiles of the marks after its check and those of the
+/// marks before in the rows from its bottom on are few enough together, each check step over these pieces is done, and
+/// they lead from the ones to the others.
 pub fn carrying_is_steps()
     ensures { (rules : List EdgeRule) (layout : Layout) (limit count : ℕ) (rect : Rect) (marks after : SquareSet)
         (old new : List Rect) → DropsAll rect count old new → IsRectangleIn world rect

@@ -1,7 +1,6 @@
 //! Areas of a layout that await checking, and the marks that checks leave (Taylor and Ousterhout 1984).
 #![tactic(auto)]
 
-mod alike;
 mod area_counts;
 mod basis;
 mod carrying;
@@ -10,9 +9,9 @@ mod checked;
 mod differing;
 mod dirty;
 mod error_plane;
+mod halving;
 mod job;
 pub mod laws;
-mod likeness;
 mod mark_pieces;
 mod marks;
 mod opening;

@@ -13,14 +13,12 @@ ghost use Rattle.mls_errorplane.specs.DirtyLists.{area_of};
 ghost use Rattle.mls_errorplane.specs.ErrorPlanes.{ShowsMarks, checking_of, exceeds};
 ghost use Rattle.mls_errorplane.specs.Stretches.{AreRight, AreRightIn, DropsAll, IsAlike, Tells};
 
-use crate::alike::{is_alike, shows_alike};
 use crate::checked::{Checked, Source};
 use crate::dirty::lies_in_world;
-use crate::likeness::Likeness;
 use crate::stretch::Stretch;
 use crate::{Basis, ErrorPlane};
 use mls_geom::Rect;
-use mls_layout::Workspace;
+use mls_layout::{Likeness, Workspace, shows_alike};
 use mls_stitch::Plane;
 
 /// With what the next stretch is tried.
@@ -88,6 +86,27 @@ fn alike_source(
         return None;
     }
     Some(source)
+}
+
+/// Returns whether the tiles of each plane and of each use show the likeness in the rectangle and as far round it as
+/// the rules reach, so that each plane of the layout with the uses has it there.
+fn is_alike(
+    planes: &mut [Plane],
+    basis: &Basis<'_>,
+    likeness: Likeness,
+    rect: Rect,
+    workspace: &mut Workspace,
+) -> bool
+    requires planes { All (HasPlane workspace.old.pool) planes.old }
+    requires planes_fit { All (FitsWorkspace workspace.old.pool) planes.old }
+    requires cells { HasCells workspace.old.pool (length planes.old) basis.now.uses.library.now }
+    ensures alike { IsTrue result → IsAlike likeness basis.now.rules.now
+        (flat_layout workspace.old.pool basis.now.uses planes.old) rect }
+    ensures owners { planes.new ≡ planes.old }
+    ensures pool { workspace.new.pool ≡ workspace.old.pool }
+{
+    let halo = basis.rules.halo();
+    mls_layout::is_alike(planes, &basis.uses, likeness, rect, halo, workspace)
 }
 
 impl ErrorPlane {

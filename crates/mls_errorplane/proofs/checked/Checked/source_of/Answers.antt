@@ -1,6 +1,6 @@
 use Rattle.std.proofs.Common.{refl}
 use Rattle.mls_geom.specs.World.{world}
-use Rattle.mls_errorplane.proofs.LikeSquares.{Tells-columns, Tells-rows}
+use Rattle.mls_errorplane.proofs.ToldSquares.{Tells-columns, Tells-rows}
 use Rattle.mls_errorplane.proofs.checked.Checked.source_of.Goals as goal
 
 pub returns-then-is_beside-clause-tells : goal.returns-then-is_beside-clause-tells

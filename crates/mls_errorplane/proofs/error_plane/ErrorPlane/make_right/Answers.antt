@@ -7,12 +7,12 @@ use Rattle.mls_tilepool.specs.Pools.{Pool}
 use Rattle.mls_layout.specs.Uses.{flat_layout}
 use Rattle.mls_paint.specs.Planes.{picture_in}
 use Rattle.mls_checker.specs.Marking.{SquareSet}
-use Rattle.mls_checker.proofs.LentPlanes.{lent-same}
+use Rattle.mls_layout.proofs.LentPlanes.{lent-same}
 use Rattle.mls_errorplane.specs.Carrying.{AreCarried, AreFew}
 use Rattle.mls_errorplane.specs.CatchingUp.{Steps}
 use Rattle.mls_errorplane.specs.ErrorPlanes.{ErrorPlane}
 use Rattle.mls_errorplane.specs.MarkPlanes.{is_marked}
-use Rattle.mls_errorplane.specs.Stretches.{ShowsAlike}
+use Rattle.mls_layout.specs.Likenesses.{ShowsAlike}
 use Rattle.mls_errorplane.proofs.CarriedMarks.{AreRight-carried, AreRightIn-kept}
 use Rattle.mls_errorplane.proofs.CarriedSteps.{carried}
 use Rattle.mls_errorplane.proofs.DroppedRows.{DropsAll-DropsIn}

@@ -1,0 +1,22 @@
+-- Rectangles that have the squares which show what those of another one show.
+use Rattle.std.proofs.Common.{◌≡◌, arith}
+use Rattle.mls_geom.specs.Rects.{Rect, IsRectangleIn}
+use Rattle.mls_geom.proofs.Holds.{between_holds, holds_between}
+use Rattle.mls_layout.specs.declared.likeness.Likeness.TheVariants.{OneKind, Columns, Rows}
+use Rattle.mls_errorplane.specs.Stretches.{Tells}
+
+-- for one kind each one
+pub Tells-one_kind : (extent last rect : Rect) → IsRectangleIn extent last → Tells OneKind last rect
+Tells-one_kind extent last rect legal x y here = between_holds last last.left last.bottom (omega arith) legal.wide (omega arith) legal.tall
+
+-- for columns one of the same columns
+pub Tells-columns : (extent row rect : Rect) → IsRectangleIn extent row → (rect.left ≡ row.left) × (rect.right ≡ row.right) → Tells Columns row rect
+Tells-columns extent row rect legal (left, right) x y here =
+    let lines = holds_between rect x y here in
+    between_holds row x row.bottom (omega (arith, left, lines.0)) (omega (arith, right, lines.1)) (omega arith) legal.tall
+
+-- for rows one of the same rows
+pub Tells-rows : (extent last rect : Rect) → IsRectangleIn extent last → (rect.bottom ≡ last.bottom) × (rect.top ≡ last.top) → Tells Rows last rect
+Tells-rows extent last rect legal (bottom, top) x y here =
+    let lines = holds_between rect x y here in
+    between_holds last last.left y (omega arith) legal.wide (omega (arith, bottom, lines.2)) (omega (arith, top, lines.3))

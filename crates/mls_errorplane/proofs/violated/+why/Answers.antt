@@ -1,0 +1,24 @@
+use Rattle.std.proofs.Common.{ℕ, List, ap, sym, ◌∙◌}
+use Rattle.mls_edgerule.specs.RuleSets.{union}
+use Rattle.mls_tilepool.specs.Pools.{Pool}
+use Rattle.mls_layout.specs.Uses.{flat_layout}
+use Rattle.mls_checker.specs.Findings.{violated_rules}
+use Rattle.mls_layout.proofs.LentPlanes.{lent-same}
+use Rattle.mls_errorplane.proofs.ViolatedParts.{violated_rules-parts}
+use Rattle.mls_errorplane.proofs.violated.+why.Goals as goal
+
+pub returns-clause-value : goal.returns-clause-value
+returns-clause-value t c =
+    let rules = c.args.basis.now.rules.now in
+    let shown = λ (pool : Pool) (planes : List ℕ). flat_layout pool c.args.basis.now.uses planes in
+    let pool = c.args.workspace.now.pool in
+    let planes = c.args.planes.now in
+    let one = c.in-Some.parts.0 in
+    let other = c.in-Some.parts.1 in
+    let first = lent-same shown pool c.halves.new.workspace.pool planes c.halves.new.planes c.halves.ensures.pool c.halves.ensures.owners in
+    let second = lent-same shown pool c.why.new.workspace.pool planes c.why.new.planes
+    (c.in_ok-violated.ensures.pool ∙ c.halves.ensures.pool) (c.in_ok-violated.ensures.owners ∙ c.halves.ensures.owners) in
+    c.union.ensures
+    ∙ ap (λ set. union set c.in_ok-more.more) (c.in_ok-violated.ensures.value ∙ ap (violated_rules rules one) first)
+    ∙ ap (union (violated_rules rules one (shown pool planes))) (c.in_ok-more.ensures.value ∙ ap (violated_rules rules other) second)
+    ∙ sym (violated_rules-parts rules c.args.rect one other (shown pool planes) c.in-Some.ensures.halves.squares)
