@@ -1,7 +1,8 @@
 -- Erasing some types of a rectangle: the pieces are the parts in the rectangle of the tiles that an area search finds there.
-use Rattle.std.proofs.Common.{◌≡◌, Bool, true, false, ℕ, ◌<◌, ◌&&◌, if◌then◌else◌, Option, Some, None, is_some, IsSome, IfSome, List, length, get_or, refl, sym, ap, ◌∙◌}
+use Rattle.std.proofs.Common.{◌≡◌, Bool, true, false, ℕ, ◌<◌, ◌&&◌, if◌then◌else◌, Option, Some, None, is_some, IsSome, IfSome, List, length, get_or, sym, ap, ◌∙◌}
 use Rattle.std.proofs.Math.Bool.{and-false, and-true}
 use Rattle.std.proofs.Math.Path.{fun_ext}
+use Rattle.std.proofs.lemmas.Bool.{and_from, and_parts}
 use Rattle.std.proofs.lemmas.Bool.Decides.{same_from_decides}
 use Rattle.std.proofs.lemmas.List.Elements.{All-contains}
 use Rattle.std.proofs.lemmas.List.Folds.{Any-from_list_any, list_any-from_Any}
@@ -20,14 +21,6 @@ use Rattle.mls_session.proofs.TilePieces.{ArePatches, is_covered}
 -- the square is the tile's, in the rectangle, and of these types
 abbrev pub erases : Rect → ℕ → LaidTile → ℕ → ℕ → Bool
 erases e kinds tile x y = holds tile.piece.rect x y && holds e x y && has_kind kinds tile.piece.kind
-
-both : (a b : Bool) → a ≡ true → b ≡ true → (a && b) ≡ true
-both a b first second = rw (first, second) refl
-
-parts : (a b : Bool) → (a && b) ≡ true → (a ≡ true) × (b ≡ true)
-parts true true h = (refl, refl)
-parts true false h = absurd (cc h)
-parts false b h = absurd (cc h)
 
 -- ---- a piece for a tile of these types
 pub holds-clipped :
@@ -54,15 +47,15 @@ module _ (tiles : List (ℕ × Tile)) (e : Rect) (kinds : ℕ) (list : List Laid
   erased_there h =
       let (k, tile, within, is, covered) = Any-from_list_any (λ t. erases e kinds t x y) list h in
       let there = All-contains (IsFound (block_at tiles) e) list tile found.each (k, within, is) in
-      let outer = parts (holds tile.piece.rect x y && holds e x y) (has_kind kinds tile.piece.kind) covered in
-      let inner = parts (holds tile.piece.rect x y) (holds e x y) outer.0 in
+      let outer = and_parts (holds tile.piece.rect x y && holds e x y) (has_kind kinds tile.piece.kind) covered in
+      let inner = and_parts (holds tile.piece.rect x y) (holds e x y) outer.0 in
       let shows = shown-inside tiles tile.id tile.piece x y plane differ there.laid inner.0 in
-      both (holds e x y) (has_kind kinds (shown tiles x y)) inner.1 (ap (has_kind kinds) shows ∙ outer.1)
+      and_from (holds e x y) (has_kind kinds (shown tiles x y)) inner.1 (ap (has_kind kinds) shows ∙ outer.1)
 
   -- and each square of the rectangle is in a tile that was found
   there_erased : (holds e x y && has_kind kinds (shown tiles x y)) ≡ true → is_covered (erases e kinds) list x y ≡ true
   there_erased h =
-      let outer = parts (holds e x y) (has_kind kinds (shown tiles x y)) h in
+      let outer = and_parts (holds e x y) (has_kind kinds (shown tiles x y)) h in
       let (k, tile, within, is, inside) = found.whole x y outer.0 in
       let there = All-contains (IsFound (block_at tiles) e) list tile found.each (k, within, is) in
       let shows = shown-inside tiles tile.id tile.piece x y plane differ there.laid inside in
@@ -71,7 +64,7 @@ module _ (tiles : List (ℕ × Tile)) (e : Rect) (kinds : ℕ) (list : List Laid
         tile,
         within,
         is,
-        both (holds tile.piece.rect x y && holds e x y) (has_kind kinds tile.piece.kind) (both (holds tile.piece.rect x y) (holds e x y) inside outer.0)
+        and_from (holds tile.piece.rect x y && holds e x y) (has_kind kinds tile.piece.kind) (and_from (holds tile.piece.rect x y) (holds e x y) inside outer.0)
             (ap (has_kind kinds) (sym shows) ∙ outer.1),
       )
 

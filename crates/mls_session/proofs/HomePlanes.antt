@@ -31,6 +31,12 @@ pub HasStrips-at :
     → HasStrips pool owner
 HasStrips-at pool design i owner home within is = subst (HasStrips pool) (sym is) (home.strips i owner within)
 
+-- also in a pool that is the same
+pub HasStrips-lent :
+    (pool mid : Pool) (design : Design) (i owner : ℕ) → mid ≡ pool → AreAtHome pool design.quota design.planes → i < length design.planes → owner ≡ get_or design.planes i owner
+    → HasStrips mid owner
+HasStrips-lent pool mid design i owner same home within is = subst (λ (now : Pool). HasStrips now owner) (sym same) (HasStrips-at pool design i owner home within is)
+
 -- its reserve fits where reserves of this quota do, and the quota fits the reserve
 pub room-at :
     (pool : Pool) (design : Design) (i owner capacity : ℕ) → AreAtHome pool design.quota design.planes → i < length design.planes → owner ≡ get_or design.planes i owner

@@ -1,10 +1,14 @@
 -- What a session keeps after a command of its design.
-use Rattle.std.proofs.Common.{◌≡◌, ◌≢◌, inl, inr, ◌+◌, ◌++◌, ◌∷◌, [], ℕ, true, false, Some, List, length, length-append, refl, sym, ap, ◌∙◌, arith}
+use Rattle.std.proofs.Common.{◌≡◌, ◌≢◌, inl, inr, ◌+◌, ◌++◌, ◌∷◌, [], ℕ, true, false, Some, List, length, length-append, refl, sym, ap, ◌∙◌, subst, arith}
 use Rattle.std.proofs.lemmas.Bool.{cond-false, cond-true}
+use Rattle.mls_tilepool.specs.Pools.{Pool}
+use Rattle.mls_session.specs.Designs.{Design, designed_of}
 use Rattle.mls_session.specs.Inner.{Counts, Journal, after_command, after_note, after_steps}
 use Rattle.mls_session.specs.Journals.{Commands, Does, Kept, RunsOut, is_journalled, is_memory, is_refusal, noted, said_of}
 use Rattle.mls_session.specs.Own.{Designed}
 use Rattle.mls_session.specs.OwnSteps.{DesignRunsOut, DesignSteps, OwnState, Terms, checks, design_step, own_step}
+use Rattle.mls_session.specs.Sessions.{Session, kept_of}
+use Rattle.mls_session.specs.Setups.{config_of, terms_of}
 use Rattle.mls_session.specs.declared.command.Command.{Command}
 use Rattle.mls_session.specs.declared.command.Command.TheVariants.{CatchUp, What, Why}
 use Rattle.mls_session.specs.declared.executed.Executed.{Executed}
@@ -12,6 +16,7 @@ use Rattle.mls_session.specs.declared.journal.Entry.{Entry}
 use Rattle.mls_session.specs.declared.refusal.Refusal.TheVariants.{JournalFull}
 use Rattle.mls_session.specs.declared.reply.Reply.{Reply}
 use Rattle.mls_session.specs.declared.reply.Reply.TheVariants.{Refused}
+use Rattle.mls_session.specs.declared.setup.Setup.{Setup}
 use Rattle.mls_session.proofs.CheckedDesigns.{checks-Some}
 use Rattle.mls_session.proofs.OwnReplies.{design_step-is_journalled, design_step-not_memory, own_step-full, own_step-room}
 
@@ -19,6 +24,10 @@ use Rattle.mls_session.proofs.OwnReplies.{design_step-is_journalled, design_step
 abbrev pub kept_with : Designed → Journal → Kept
 kept_with own journal =
     record { own = record { design = own; entries = length journal.entries }; journal = journal.entries; checks = journal.checks }
+
+-- a session with this design and this journal
+abbrev pub seen : Design → Journal → Session
+seen design journal = record { design = design; journal = journal.entries; limit = journal.limit; checks = journal.checks }
 
 -- a full journal refuses, and nothing changes
 pub Does-full :
@@ -97,3 +106,26 @@ module _ (terms : Terms) (old new : Designed) (journal : Journal) (executed : Ex
       → Commands terms (kept_with old journal) command executed.reply (kept_with new (after_command journal command executed))
   Commands-executed command (inl taken) counts = inl (Does-executed terms old new journal command executed room taken)
   Commands-executed command (inr out) counts = inr (room, RunsOut-executed command out counts)
+
+-- ---- a session's journal
+module _ (session : Session) (design : Design) (journal : Journal) (limit : ℕ) (view : seen design journal ≡ session) (as_made : session.limit ≡ limit) where
+  -- it is full
+  pub entries-full : length journal.entries ≡ journal.limit → length session.journal ≡ limit
+  entries-full full = subst (λ (s : Session). s.limit ≡ limit → length s.journal ≡ limit) view (λ is. full ∙ is) as_made
+
+  -- or has room
+  pub entries-room : length journal.entries ≢ journal.limit → length journal.entries ≢ limit
+  entries-room room full = room (full ∙ sym (subst (λ (s : Session). s.limit ≡ limit) (sym view) as_made))
+
+-- the command of a session is that of its design, and goes into the journal
+pub Commands-session :
+    (setup : Setup) (pool new : Pool) (session : Session) (design after : Design) (journal kept : Journal) (command : Command) (executed : Executed)
+    → seen design journal ≡ session → session.limit ≡ setup.limit → length journal.entries ≢ journal.limit
+    → DesignSteps (config_of setup pool) (designed_of pool design) command executed.reply (designed_of new after)
+    → Counts (config_of setup pool) (designed_of pool design) command executed (designed_of new after) → kept ≡ after_command journal command executed
+    → Commands (terms_of setup pool) (kept_of pool session) command executed.reply (kept_of new (seen after kept))
+Commands-session setup pool new session design after journal kept command executed view limit room step counts is =
+    let terms = terms_of setup pool in
+    subst (λ (s : Session). Commands terms (kept_of pool s) command executed.reply (kept_of new (seen after kept))) view
+    (subst (λ (j : Journal). Commands terms (kept_with (designed_of pool design) journal) command executed.reply (kept_with (designed_of new after) j)) (sym is)
+    (Commands-executed terms (designed_of pool design) (designed_of new after) journal executed (entries-room session design journal setup.limit view limit room) command step counts))

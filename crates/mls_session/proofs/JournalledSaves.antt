@@ -2,19 +2,24 @@
 use Rattle.std.proofs.Common.{◌≡◌, ◌≢◌, inl, inr, ◌+◌, ◌++◌, [], ℕ, List, length, refl, sym, ap, ◌∙◌, subst, arith}
 use Rattle.std.proofs.lemmas.List.{append-nil}
 use Rattle.mls_library.specs.SavedCells.{saved_text}
-use Rattle.mls_tech.specs.Readings.{Tech}
+use Rattle.mls_tilepool.specs.Pools.{Pool}
+use Rattle.mls_paint.specs.Planes.{layout_in}
+use Rattle.mls_session.specs.Designs.{Design, designed_of}
 use Rattle.mls_session.specs.Inner.{Journal, after_command}
 use Rattle.mls_session.specs.Journals.{Kept, Saves, is_memory}
 use Rattle.mls_session.specs.Own.{Designed, save_step}
 use Rattle.mls_session.specs.OwnSteps.{Terms, design_step}
 use Rattle.mls_session.specs.Saving.{SavesText}
+use Rattle.mls_session.specs.Sessions.{Session, kept_of}
+use Rattle.mls_session.specs.Setups.{terms_of}
 use Rattle.mls_session.specs.declared.command.Command.TheVariants.{Save}
 use Rattle.mls_session.specs.declared.executed.Executed.{Executed}
 use Rattle.mls_session.specs.declared.refusal.Refusal.{Refusal}
 use Rattle.mls_session.specs.declared.refusal.Refusal.TheVariants.{JournalFull}
 use Rattle.mls_session.specs.declared.reply.Reply.{Reply}
 use Rattle.mls_session.specs.declared.reply.Reply.TheVariants.{Done, Kinds, Saved, Count as Counted, Why as WhyRules, Refused, Stopped}
-use Rattle.mls_session.proofs.JournalledCommands.{Does-executed, Does-full, counted, kept_with}
+use Rattle.mls_session.specs.declared.setup.Setup.{Setup}
+use Rattle.mls_session.proofs.JournalledCommands.{Does-executed, Does-full, counted, entries-room, kept_with, seen}
 
 -- the text that was appended, and what is kept
 abbrev pub SavesMore : Terms → Kept → Reply → List ℕ → List ℕ → Kept → Type 0
@@ -59,10 +64,13 @@ module _ (terms : Terms) (own : Designed) (journal : Journal) (steps : ℕ) (out
 
 -- where the journal has room
 pub Saves-saved :
-    (terms : Terms) (tech : Tech) (own : Designed) (journal after : Journal) (executed : Executed) (out longer : List ℕ) → terms.config.tech ≡ tech
-    → length journal.entries ≢ terms.journal → SavesText tech own.drawn.paint executed.reply out longer → executed.steps ≡ 0
-    → after ≡ after_command journal Save executed → SavesMore terms (kept_with own journal) executed.reply out longer (kept_with own after)
-Saves-saved terms tech own journal after executed out longer by room text none is =
-    let here = subst (λ (t : Tech). SavesText t own.drawn.paint executed.reply out longer) (sym by) text in
-    subst (λ (j : Journal). SavesMore terms (kept_with own journal) executed.reply out longer (kept_with own j)) (sym is)
-    (saves terms own journal executed.steps out longer room none executed.reply here)
+    (setup : Setup) (pool : Pool) (session : Session) (design : Design) (journal kept : Journal) (executed : Executed) (out longer : List ℕ)
+    → seen design journal ≡ session → session.limit ≡ setup.limit → length journal.entries ≢ journal.limit
+    → SavesText setup.tech (layout_in pool design.planes) executed.reply out longer → executed.steps ≡ 0 → kept ≡ after_command journal Save executed
+    → SavesMore (terms_of setup pool) (kept_of pool session) executed.reply out longer (kept_of pool (seen design kept))
+Saves-saved setup pool session design journal kept executed out longer view limit room text none is =
+    let terms = terms_of setup pool in
+    let own = designed_of pool design in
+    subst (λ (s : Session). SavesMore terms (kept_of pool s) executed.reply out longer (kept_of pool (seen design kept))) view
+    (subst (λ (j : Journal). SavesMore terms (kept_with own journal) executed.reply out longer (kept_with own j)) (sym is)
+    (saves terms own journal executed.steps out longer (entries-room session design journal setup.limit view limit room) none executed.reply text))

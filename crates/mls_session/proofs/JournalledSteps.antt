@@ -1,23 +1,28 @@
 -- What a session keeps after a check step of its design.
-use Rattle.std.proofs.Common.{◌≡◌, ℕ, ◌+◌, true, List, Some, None, length, refl, sym, ap, ◌∙◌, subst, arith}
+use Rattle.std.proofs.Common.{◌≡◌, ℕ, ◌+◌, true, Some, None, length, refl, sym, ap, ◌∙◌, subst, arith}
 use Rattle.std.specs.Option.{option_map}
 use Rattle.mls_checker.specs.Findings.{Finding}
-use Rattle.mls_edgerule.specs.declared.edge_rule.EdgeRule.{EdgeRule}
 use Rattle.mls_errorplane.specs.CatchingUp.{Steps}
-use Rattle.mls_errorplane.specs.Checkings.{Checking, check_step}
-use Rattle.mls_errorplane.specs.ErrorPlanes.{HasStepped, exceeds}
+use Rattle.mls_errorplane.specs.Checkings.{Checking, IsChecked, check_step}
+use Rattle.mls_errorplane.specs.ErrorPlanes.{HasStepped, checking_of, exceeds}
 use Rattle.mls_errorplane.specs.Outcomes.{HasFinished}
 use Rattle.mls_errorplane.specs.declared.error_plane.Outcome.{Outcome}
 use Rattle.mls_errorplane.specs.declared.error_plane.Outcome.TheVariants as outcome
 use Rattle.mls_errorplane.specs.declared.error_plane.Stepped.{Stepped}
 use Rattle.mls_errorplane.specs.declared.error_plane.Stepped.TheVariants as stepped
+use Rattle.mls_geom.specs.Layouts.{Layout}
+use Rattle.mls_tilepool.specs.Pools.{Pool}
+use Rattle.mls_session.specs.Designs.{Design, HasRightMarks, designed_of, drawn_of}
 use Rattle.mls_session.specs.Inner.{Journal, after_steps, done_steps, finished_steps}
 use Rattle.mls_session.specs.Journals.{ChecksOnce, ChecksTimes, Finishes, Kept, StepsOnce}
 use Rattle.mls_session.specs.Own.{Designed, Drawn, layout_of}
 use Rattle.mls_session.specs.OwnSteps.{Terms, checked, checked_times, own_check}
+use Rattle.mls_session.specs.Sessions.{IsMadeFor, Session, kept_of, state_of}
+use Rattle.mls_session.specs.Setups.{config_of, terms_of}
+use Rattle.mls_session.specs.declared.setup.Setup.{Setup}
 use Rattle.mls_session.proofs.CheckedDesigns.{checked-done, checked-full, checked_times-Steps, checks-Some}
 use Rattle.mls_session.proofs.CountedSteps.{HasStepped-Finished}
-use Rattle.mls_session.proofs.JournalledCommands.{kept_with}
+use Rattle.mls_session.proofs.JournalledCommands.{kept_with, seen}
 
 module _ (terms : Terms) (old new : Designed) (journal : Journal) (drawn : new.drawn ≡ old.drawn) where
   -- what is drawn is as before, and so the design is where its checking is
@@ -75,35 +80,57 @@ module _ (terms : Terms) (old new : Designed) (journal : Journal) (drawn : new.d
       checked_times-Steps terms.config old count new.checking steps ∙ ap Some (sym (design_of new.checking refl)) in
       (record { design = new; entries = length journal.entries }, checks-Some terms count (kept_with old journal).own new done, refl)
 
--- ---- steps of a design
--- a check step of the design is one of the session
-pub StepsOnce-stepped :
-    (terms : Terms) (rules : List EdgeRule) (quota : ℕ) (old new : Designed) (journal after : Journal) (ended : Stepped)
-    → terms.config.rules ≡ rules → terms.config.quota ≡ quota → HasStepped rules (layout_of terms.config old.drawn) quota old.checking ended new.checking
-    → new.drawn ≡ old.drawn → after ≡ after_steps journal (done_steps ended) → StepsOnce terms (kept_with old journal) ended (kept_with new after)
-StepsOnce-stepped terms rules quota old new journal after ended by limit step drawn is =
-    let here = subst (λ (r : List EdgeRule). HasStepped r (layout_of terms.config old.drawn) terms.config.quota old.checking ended new.checking) (sym by)
-    (subst (λ (q : ℕ). HasStepped rules (layout_of terms.config old.drawn) q old.checking ended new.checking) (sym limit) step) in
-    subst (λ (j : Journal). StepsOnce terms (kept_with old journal) ended (kept_with new j)) (sym is) (steps_once terms old new journal drawn ended here)
+-- ---- steps of a session's design
+module _ (setup : Setup) (pool new : Pool) (session : Session) (design after : Design) (journal counted : Journal) (view : seen design journal ≡ session) (drawn : drawn_of new after ≡ drawn_of pool design) where
+  abbrev layout : Layout
+  layout = layout_of (config_of setup pool) (drawn_of pool design)
 
--- and so is a finding that it finishes
-pub Finishes-finished :
-    (terms : Terms) (rules : List EdgeRule) (planes quota : ℕ) (old new : Designed) (journal after : Journal) (finding : Finding) (ended : Outcome)
-    → terms.config.tech.plane_count ≡ planes → terms.config.rules ≡ rules → terms.config.quota ≡ quota
-    → HasFinished rules planes (layout_of terms.config old.drawn) quota old.checking finding ended new.checking → new.drawn ≡ old.drawn
-    → after ≡ after_steps journal (finished_steps ended) → Finishes terms (kept_with old journal) finding ended (kept_with new after)
-Finishes-finished terms rules planes quota old new journal after finding ended count by limit done drawn is =
-    let here = subst (λ (r : List EdgeRule). HasFinished r terms.config.tech.plane_count (layout_of terms.config old.drawn) terms.config.quota old.checking finding ended new.checking) (sym by)
-    (subst (λ (p : ℕ). HasFinished rules p (layout_of terms.config old.drawn) terms.config.quota old.checking finding ended new.checking) (sym count)
-    (subst (λ (q : ℕ). HasFinished rules planes (layout_of terms.config old.drawn) q old.checking finding ended new.checking) (sym limit) done)) in
-    subst (λ (j : Journal). Finishes terms (kept_with old journal) finding ended (kept_with new j)) (sym is) (finishes terms old new journal drawn finding ended here)
+  -- what is said of the design and the journal is said of the session
+  of_session :
+      (Says : Kept → Kept → Type 0) (steps : ℕ) → counted ≡ after_steps journal steps
+      → Says (kept_with (designed_of pool design) journal) (kept_with (designed_of new after) (after_steps journal steps)) → Says (kept_of pool session) (kept_of new (seen after counted))
+  of_session Says steps is said =
+      subst (λ (s : Session). Says (kept_of pool s) (kept_of new (seen after counted))) view
+      (subst (λ (j : Journal). Says (kept_with (designed_of pool design) journal) (kept_with (designed_of new after) j)) (sym is) said)
 
--- so are steps one after another
-pub ChecksTimes-Steps :
-    (terms : Terms) (rules : List EdgeRule) (quota count : ℕ) (old new : Designed) (journal after : Journal)
-    → terms.config.rules ≡ rules → terms.config.quota ≡ quota → Steps rules (layout_of terms.config old.drawn) quota count old.checking new.checking
-    → new.drawn ≡ old.drawn → after ≡ after_steps journal count → ChecksTimes terms count (kept_with old journal) (kept_with new after)
-ChecksTimes-Steps terms rules quota count old new journal after by limit steps drawn is =
-    let here = subst (λ (r : List EdgeRule). Steps r (layout_of terms.config old.drawn) terms.config.quota count old.checking new.checking) (sym by)
-    (subst (λ (q : ℕ). Steps rules (layout_of terms.config old.drawn) q count old.checking new.checking) (sym limit) steps) in
-    subst (λ (j : Journal). ChecksTimes terms count (kept_with old journal) (kept_with new j)) (sym is) (checks_times terms old new journal drawn count here)
+  quota : IsMadeFor setup session → design.quota ≡ setup.quota
+  quota made_for = subst (λ (s : Session). s.design.quota ≡ setup.quota) (sym view) made_for.design.quota
+
+  -- a check step of the design is one of the session
+  pub StepsOnce-stepped :
+      IsMadeFor setup session → (ended : Stepped) → counted ≡ after_steps journal (done_steps ended)
+      → HasStepped setup.rules (layout_of (config_of setup pool) (drawn_of pool design)) design.quota (checking_of pool design.errors) ended (checking_of new after.errors)
+      → StepsOnce (terms_of setup pool) (kept_of pool session) ended (kept_of new (seen after counted))
+  StepsOnce-stepped made_for ended is step =
+      let here = subst (λ (q : ℕ). HasStepped setup.rules layout q (checking_of pool design.errors) ended (checking_of new after.errors)) (quota made_for) step in
+      of_session (λ k l. StepsOnce (terms_of setup pool) k ended l) (done_steps ended) is (steps_once (terms_of setup pool) (designed_of pool design) (designed_of new after) journal drawn ended here)
+
+  -- and so is a finding that it finishes
+  pub Finishes-finished :
+      IsMadeFor setup session → (finding : Finding) (ended : Outcome) → counted ≡ after_steps journal (finished_steps ended)
+      → HasFinished setup.rules (length design.planes) (layout_of (config_of setup pool) (drawn_of pool design)) design.quota (checking_of pool design.errors) finding ended (checking_of new after.errors)
+      → Finishes (terms_of setup pool) (kept_of pool session) finding ended (kept_of new (seen after counted))
+  Finishes-finished made_for finding ended is done =
+      let planes : length design.planes ≡ setup.tech.plane_count = subst (λ (s : Session). length s.design.planes ≡ setup.tech.plane_count) (sym view) made_for.design.planes in
+      let here = subst (λ (p : ℕ). HasFinished setup.rules p layout setup.quota (checking_of pool design.errors) finding ended (checking_of new after.errors)) planes
+      (subst (λ (q : ℕ). HasFinished setup.rules (length design.planes) layout q (checking_of pool design.errors) finding ended (checking_of new after.errors)) (quota made_for) done) in
+      of_session (λ k l. Finishes (terms_of setup pool) k finding ended l) (finished_steps ended) is (finishes (terms_of setup pool) (designed_of pool design) (designed_of new after) journal drawn finding ended here)
+
+  -- so are steps one after another
+  pub ChecksTimes-Steps :
+      IsMadeFor setup session → (count : ℕ) → counted ≡ after_steps journal count
+      → Steps setup.rules (layout_of (config_of setup pool) (drawn_of pool design)) design.quota count (checking_of pool design.errors) (checking_of new after.errors)
+      → ChecksTimes (terms_of setup pool) count (kept_of pool session) (kept_of new (seen after counted))
+  ChecksTimes-Steps made_for count is steps =
+      let here = subst (λ (q : ℕ). Steps setup.rules layout q count (checking_of pool design.errors) (checking_of new after.errors)) (quota made_for) steps in
+      of_session (ChecksTimes (terms_of setup pool) count) count is (checks_times (terms_of setup pool) (designed_of pool design) (designed_of new after) journal drawn count here)
+
+  -- marks that stay right in the layout stay right in the session
+  pub right_after :
+      (IsChecked setup.rules (layout_of (config_of setup pool) (drawn_of pool design)) (checking_of pool design.errors)
+      → IsChecked setup.rules (layout_of (config_of setup pool) (drawn_of pool design)) (checking_of new after.errors))
+      → HasRightMarks (config_of setup pool) (state_of pool session).design → HasRightMarks (config_of setup pool) (designed_of new after)
+  right_after keeps right =
+      let config = config_of setup pool in
+      subst (λ (d : Drawn). IsChecked config.rules (layout_of config d) (checking_of new after.errors)) (sym drawn)
+      (keeps (subst (λ (s : Session). HasRightMarks config (designed_of pool s.design)) (sym view) right))

@@ -1,5 +1,5 @@
 -- Commands that leave the layout and the marks leave marks right where they are known to be so.
-use Rattle.std.proofs.Common.{◌≡◌, ◌==◌, Bool, true, false, ℕ, Option, Some, None, Result, Ok, Err, List, inl, inr, cond, refl, sym, ap, subst, ◌∙◌}
+use Rattle.std.proofs.Common.{◌≡◌, ◌==◌, Bool, true, false, Option, Some, None, Result, Ok, Err, inl, inr, cond, refl, sym, ap, subst, ◌∙◌}
 use Rattle.mls_errorplane.specs.declared.checked.Checked.{Checked}
 use Rattle.mls_geom.specs.Rects.{Rect}
 use Rattle.mls_geom.specs.World.{rect_of}
@@ -10,7 +10,7 @@ use Rattle.mls_session.specs.Journals.{Commands, Does, Kept, RunsOut, is_journal
 use Rattle.mls_session.specs.Own.{Config, Designed, box_step, check_in, edit_step, what_step, why_step}
 use Rattle.mls_session.specs.OwnSteps.{OwnState, Terms, design_step, own_step}
 use Rattle.mls_session.specs.declared.command.Command.{Command}
-use Rattle.mls_session.specs.declared.command.Command.TheVariants.{Box, Paint, Erase, Dump, GetCell, What, Save, Check, CatchUp, Why, Count}
+use Rattle.mls_session.specs.declared.command.Command.TheVariants.{Box, What, Save, Check, CatchUp, Why, Count}
 use Rattle.mls_session.specs.declared.reply.Reply.{Reply}
 
 module _ (config : Config) (own : Designed) (checked : Option Checked) (right : KnowsRight config own checked) where
@@ -39,11 +39,7 @@ module _ (config : Config) (own : Designed) (checked : Option Checked) (right : 
   design_step-knows Check = after_check own.drawn.box
   design_step-knows Why = after_why own.drawn.box
   design_step-knows Count = right
-  design_step-knows (Paint kind) = tt
-  design_step-knows (Erase kinds) = tt
-  design_step-knows (Dump cell dx dy) = tt
-  design_step-knows (GetCell cell dx dy) = tt
-  design_step-knows CatchUp = tt
+  design_step-knows _ = tt
 
   -- where nothing changes, what was known is so still, and more than is known after the command
   kept-knows : (command : Command) → KnowsRight config own (known_after command checked)
@@ -53,11 +49,7 @@ module _ (config : Config) (own : Designed) (checked : Option Checked) (right : 
   kept-knows Check = right
   kept-knows Why = right
   kept-knows Count = right
-  kept-knows (Paint kind) = tt
-  kept-knows (Erase kinds) = tt
-  kept-knows (Dump cell dx dy) = tt
-  kept-knows (GetCell cell dx dy) = tt
-  kept-knows CatchUp = tt
+  kept-knows _ = tt
 
 -- either way, the own state is the one that is given
 either_own : (journalled : Bool) (one other : Kept) (own : OwnState) → one.own ≡ own → other.own ≡ own → (cond journalled one other).own ≡ own
@@ -93,15 +85,8 @@ module _ (terms : Terms) (old new : Kept) (checked : Option Checked) (reply : Re
   RunsOut-knows : (command : Command) → RunsOut terms old command reply new → KnowsRight terms.config new.own.design (known_after command checked)
   RunsOut-knows Why (boxed, refused, same) = same-knows terms old checked right Why new same
   RunsOut-knows What (boxed, placed, refused, same) = same-knows terms old checked right What new same
-  RunsOut-knows (Box left bottom right' top) out = absurd out
-  RunsOut-knows Save out = absurd out
-  RunsOut-knows Check out = absurd out
-  RunsOut-knows Count out = absurd out
-  RunsOut-knows (Paint kind) out = tt
-  RunsOut-knows (Erase kinds) out = tt
-  RunsOut-knows (Dump cell dx dy) out = tt
-  RunsOut-knows (GetCell cell dx dy) out = tt
   RunsOut-knows CatchUp out = tt
+  RunsOut-knows _ out = absurd out
 
   pub Commands-knows : (command : Command) → Commands terms old command reply new → KnowsRight terms.config new.own.design (known_after command checked)
   Commands-knows command (inl does) = Does-knows terms old checked right command reply new does

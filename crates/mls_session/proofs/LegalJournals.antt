@@ -12,7 +12,7 @@ use Rattle.mls_errorplane.specs.declared.error_plane.Stepped.TheVariants as step
 use Rattle.mls_session.specs.Journals.{ChecksOnce, Commands, Does, Finishes, IsLegal, Kept, RunsOut, Saves, StepsOnce, is_journalled, kept_at_opening, noted, said_of}
 use Rattle.mls_session.specs.OwnSteps.{OwnState, Terms, checks, own_step}
 use Rattle.mls_session.specs.declared.command.Command.{Command}
-use Rattle.mls_session.specs.declared.command.Command.TheVariants.{Box, Paint, Erase, Dump, GetCell, What, Save, Check, CatchUp, Why, Count}
+use Rattle.mls_session.specs.declared.command.Command.TheVariants.{What, Save, CatchUp, Why}
 use Rattle.mls_session.specs.declared.journal.Entry.{Entry}
 use Rattle.mls_session.specs.declared.refusal.Refusal.TheVariants.{JournalFull}
 use Rattle.mls_session.specs.declared.reply.Reply.{Reply}
@@ -101,15 +101,8 @@ module _ (terms : Terms) where
     RunsOut-legal : (command : Command) (reply : Reply) → RunsOut terms old command reply new → IsLegal terms old → IsLegal terms new
     RunsOut-legal CatchUp reply (count, own, is, some, refused, same) legal = subst (IsLegal terms) (sym same) (with_checks-legal old count own is legal)
     RunsOut-legal Why reply (some, refused, same) legal = unchanged same legal
-    RunsOut-legal (Box left bottom right top) reply none legal = absurd none
-    RunsOut-legal (Paint kind) reply none legal = absurd none
-    RunsOut-legal (Erase kinds) reply none legal = absurd none
-    RunsOut-legal (Dump cell dx dy) reply none legal = absurd none
-    RunsOut-legal (GetCell cell dx dy) reply none legal = absurd none
     RunsOut-legal What reply (some, placed, refused, same) legal = unchanged same legal
-    RunsOut-legal Save reply none legal = absurd none
-    RunsOut-legal Check reply none legal = absurd none
-    RunsOut-legal Count reply none legal = absurd none
+    RunsOut-legal _ reply none legal = absurd none
 
     pub Commands-legal : (command : Command) (reply : Reply) → Commands terms old command reply new → IsLegal terms old → IsLegal terms new
     Commands-legal command reply (inl does) legal = Does-legal command reply does legal
@@ -154,15 +147,8 @@ module _ (terms : Terms) where
     RunsOut-entries : (command : Command) (reply : Reply) → RunsOut terms old command reply new → CountsEntries old → CountsEntries new
     RunsOut-entries CatchUp reply (count, own, is, some, refused, same) counts = stepped_entries count own is same counts
     RunsOut-entries Why reply (some, refused, same) counts = uncounted same counts
-    RunsOut-entries (Box left bottom right top) reply none counts = absurd none
-    RunsOut-entries (Paint kind) reply none counts = absurd none
-    RunsOut-entries (Erase kinds) reply none counts = absurd none
-    RunsOut-entries (Dump cell dx dy) reply none counts = absurd none
-    RunsOut-entries (GetCell cell dx dy) reply none counts = absurd none
     RunsOut-entries What reply (some, placed, refused, same) counts = uncounted same counts
-    RunsOut-entries Save reply none counts = absurd none
-    RunsOut-entries Check reply none counts = absurd none
-    RunsOut-entries Count reply none counts = absurd none
+    RunsOut-entries _ reply none counts = absurd none
 
     pub Commands-entries : (command : Command) (reply : Reply) → Commands terms old command reply new → CountsEntries old → CountsEntries new
     Commands-entries command reply (inl does) counts = Does-entries command reply does counts

@@ -1,6 +1,7 @@
 pub mod BoxTypes
 pub mod CaughtUpDesigns
 pub mod CellFrames
+pub mod CellPlaces
 pub mod ChangedPlanes
 pub mod ChangedQuotas
 pub mod CheckedDesigns
@@ -29,6 +30,7 @@ pub mod KeptPlanes
 pub mod KeptRooms
 pub mod KnownMarks
 pub mod LegalJournals
+pub mod LentDesigns
 pub mod ListedLayers
 pub mod ListedPieces
 pub mod MarkedTexts

@@ -1,11 +1,12 @@
 -- Moved rectangles, and their squares.
-use Rattle.std.proofs.Common.{◌≡◌, Bool, true, false, ℕ, ℤ, pos, negsuc, ◌-◌, ◌<◌, ◌≤◌, ◌+ℤ◌, ◌-ℤ◌, ◌≤ℤ◌, ◌<ℤ◌, ◌&&◌, ◌||◌, if◌then◌else◌, nat_le, nat_lt, Option, Some, None, Result, Ok, Err, inl, inr, ◌⊎◌, refl, sym, ap, ◌∙◌, subst, arith}
+use Rattle.std.proofs.Common.{◌≡◌, Bool, true, false, ℕ, ℤ, to_z, of_z, pos, negsuc, ◌-◌, ◌<◌, ◌≤◌, ◌+ℤ◌, ◌-ℤ◌, ◌≤ℤ◌, ◌<ℤ◌, ◌&&◌, ◌||◌, if◌then◌else◌, nat_le, nat_lt, Option, Some, None, Result, Ok, Err, inl, inr, ◌⊎◌, refl, sym, ap, ◌∙◌, subst, arith}
 use Rattle.std.specs.Int.{w32}
 use Rattle.std.specs.Prelude.{FitsSigned, int_le, int_lt, nat_abs}
 use Rattle.std.specs.Result.{result_ok}
+use Rattle.std.proofs.Math.Bool.{and-false}
 use Rattle.std.proofs.lemmas.Bool.{cases_Bool}
 use Rattle.std.proofs.lemmas.Bool.Decides.{nat_tests}
-use Rattle.std.proofs.lemmas.Int.{fits_signed_from_abs, ints}
+use Rattle.std.proofs.lemmas.Int.{fits_signed_from_abs, ints, to_z-of_z}
 use Rattle.std.proofs.lemmas.Option.{same_Some}
 use Rattle.mls_geom.specs.Rects.{IsRectangleIn, Rect, holds}
 use Rattle.mls_geom.specs.World.{coordinate_of, is_outside, origin, rect_of, world}
@@ -34,6 +35,12 @@ coordinate_of-moved_line line z =
 
 in_order : (low high : ℕ) (z : ℤ) → low < high → int_le (moved_line high z) (moved_line low z) ≡ false
 in_order low high z below = grind (arith, ints)
+
+-- lines that fit their type are those that are passed
+pub rect_of-fits :
+    (left bottom right top : ℤ) → FitsSigned w32 left → FitsSigned w32 bottom → FitsSigned w32 right → FitsSigned w32 top
+    → rect_of (to_z w32 (of_z w32 left)) (to_z w32 (of_z w32 bottom)) (to_z w32 (of_z w32 right)) (to_z w32 (of_z w32 top)) ≡ rect_of left bottom right top
+rect_of-fits left bottom right top l b r t = rw (to_z-of_z w32 left l, to_z-of_z w32 bottom b, to_z-of_z w32 right r, to_z-of_z w32 top t) refl
 
 -- ---- what moving a rectangle returns
 -- the lines of the rectangle, moved
@@ -201,22 +208,15 @@ to_high r r' x a d line at = grind (arith, ints, nat_tests)
 below_low : (l l' x a : ℕ) (d : ℤ) → pos l' ≡ pos l +ℤ d → pos x -ℤ d ≡ negsuc a → nat_le l' x ≡ false
 below_low l l' x a d line at = grind (arith, ints, nat_tests)
 
-no_column : (a b c d : Bool) → a ≡ false → (a && b && c && d) ≡ false
-no_column true b c d h = absurd (cc h)
-no_column false b c d h = refl
-
-no_row : (a b c d : Bool) → c ≡ false → (a && b && c && d) ≡ false
-no_row a b true d h = absurd (cc h)
-no_row true true false d h = refl
-no_row true false false d h = refl
-no_row false b false d h = refl
-
 module _ (e r : Rect) (dx dy : ℤ) (x y : ℕ) (moved : IsMoved e r dx dy) where
   holds-at : (zx zy : ℤ) → pos x -ℤ dx ≡ zx → pos y -ℤ dy ≡ zy → holds r x y ≡ holds_at e zx zy
   holds-at (pos a) (pos b) column row =
       rw (from_low e.left r.left x a dx moved.left column, to_high e.right r.right x a dx moved.right column, from_low e.bottom r.bottom y b dy moved.bottom row, to_high e.top r.top y b dy moved.top row) refl
-  holds-at (pos a) (negsuc b) column row = no_row (nat_le r.left x) (nat_lt x r.right) (nat_le r.bottom y) (nat_lt y r.top) (below_low e.bottom r.bottom y b dy moved.bottom row)
-  holds-at (negsuc a) zy column row = no_column (nat_le r.left x) (nat_lt x r.right) (nat_le r.bottom y) (nat_lt y r.top) (below_low e.left r.left x a dx moved.left column)
+  holds-at (pos a) (negsuc b) column row =
+      ap (λ over. nat_le r.left x && nat_lt x r.right && over && nat_lt y r.top) (below_low e.bottom r.bottom y b dy moved.bottom row)
+      ∙ ap (λ none. none && nat_lt y r.top) (and-false (nat_le r.left x && nat_lt x r.right))
+  holds-at (negsuc a) zy column row =
+      ap (λ right_of. right_of && nat_lt x r.right && nat_le r.bottom y && nat_lt y r.top) (below_low e.left r.left x a dx moved.left column)
 
   -- they are the squares of the rectangle, moved
   pub holds-IsMoved : holds r x y ≡ holds_at e (pos x -ℤ dx) (pos y -ℤ dy)

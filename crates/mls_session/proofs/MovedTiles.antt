@@ -1,9 +1,9 @@
 -- Dumping a cell's plane: the pieces are its tiles that aren't space, moved, and none leaves the world where no square does.
-use Rattle.std.proofs.Common.{◌≡◌, ◌≢◌, Bool, true, false, ℕ, ℤ, pos, negsuc, ◌+ℤ◌, ◌-ℤ◌, ◌==◌, ◌&&◌, not, if◌then◌else◌, Option, Some, None, IsSome, List, Contains, inl, inr, ne_eqb, refl, sym, ap, ◌∙◌}
+use Rattle.std.proofs.Common.{◌≡◌, ◌≢◌, Bool, true, false, ℕ, ℤ, pos, negsuc, ◌+ℤ◌, ◌-ℤ◌, ◌==◌, ◌&&◌, not, if◌then◌else◌, Option, Some, None, IsSome, List, length, map, take, min, ◌≤◌, Contains, inl, inr, ne_eqb, refl, sym, ap, ◌∙◌}
 use Rattle.std.specs.List.{list_any}
 use Rattle.std.proofs.Math.Bool.{and-false, and-true}
 use Rattle.std.proofs.Math.Path.{fun_ext}
-use Rattle.std.proofs.lemmas.Bool.{cases_Bool}
+use Rattle.std.proofs.lemmas.Bool.{and_from, and_parts, cases_Bool}
 use Rattle.std.proofs.lemmas.Bool.Decides.{same_from_decides}
 use Rattle.std.proofs.lemmas.List.Elements.{All-contains}
 use Rattle.std.proofs.lemmas.List.Folds.{Any-from_list_any, list_any-from_Any}
@@ -14,6 +14,10 @@ use Rattle.mls_geom.specs.declared.piece.Piece.{Piece}
 use Rattle.mls_geom.proofs.Holds.{between_holds, holds_between}
 use Rattle.mls_geom.proofs.PiecePictures.{holds_outer}
 use Rattle.mls_geom.proofs.Squares.{Contains-range_with_len, range_with_len-Contains}
+use Rattle.mls_geom.specs.Strips.{AreStrips}
+use Rattle.mls_geom.specs.TileCounts.{tile_count}
+use Rattle.mls_paint.specs.Planes.{picture_in}
+use Rattle.mls_tilepool.specs.Pools.{Pool, tiles_of}
 use Rattle.mls_tilepool.specs.declared.tile.Tile.{Tile}
 use Rattle.mls_stitch.specs.Areas.{AreInArea, IsFound}
 use Rattle.mls_stitch.specs.Tilings.{IsPlane, block_at, shown}
@@ -24,19 +28,12 @@ use Rattle.mls_layout.specs.Moves.{kind_at, moved}
 use Rattle.mls_session.specs.Changes.{dumped, has_square, leaves_world}
 use Rattle.mls_session.specs.Bounds.{moved_rect}
 use Rattle.mls_session.proofs.MovedRects.{IsMoved-moved_rect, holds-IsMoved, holds_at, square-leaves}
-use Rattle.mls_session.proofs.TilePieces.{ArePatches, is_covered}
+use Rattle.mls_session.proofs.FoundTiles.{length-strips}
+use Rattle.mls_session.proofs.TilePieces.{ArePatches, few-ArePatches, is_covered}
 
 -- the square is one of the tile's, moved, and isn't space
 abbrev pub dumps : ℤ → ℤ → LaidTile → ℕ → ℕ → Bool
 dumps dx dy tile x y = holds_at tile.piece.rect (pos x -ℤ dx) (pos y -ℤ dy) && not (tile.piece.kind == 0)
-
-both : (a b : Bool) → a ≡ true → b ≡ true → (a && b) ≡ true
-both a b first second = rw (first, second) refl
-
-parts : (a b : Bool) → (a && b) ≡ true → (a ≡ true) × (b ≡ true)
-parts true true h = (refl, refl)
-parts true false h = absurd (cc h)
-parts false b h = absurd (cc h)
 
 either_way : (b : Bool) (more less : ℕ) → (if not b then more else less) ≡ (if b then less else more)
 either_way true more less = refl
@@ -55,6 +52,16 @@ pub dumps-space : (dx dy : ℤ) (tile : LaidTile) → tile.piece.kind ≡ 0 → 
 dumps-space dx dy tile space x y =
     let there = holds_at tile.piece.rect (pos x -ℤ dx) (pos y -ℤ dy) in
     ap (λ kind. there && not (kind == 0)) space ∙ and-false there
+
+-- ---- how many pieces
+pub few-dumped :
+    (pool : Pool) (owner : ℕ) (list items : List LaidTile) (dx dy : ℤ) (i : ℕ) (pieces : List Piece) → AreStrips world (picture_in pool owner) (map (λ tile. tile.piece) list) → items ≡ list
+    → ArePatches (dumps dx dy) (moved (shown (tiles_of pool owner)) dx dy) (take i items) pieces
+    → (length pieces ≤ min i (length items)) × (length items ≡ tile_count world (picture_in pool owner))
+few-dumped pool owner list items dx dy i pieces strips same patches = (
+  few-ArePatches (dumps dx dy) (moved (shown (tiles_of pool owner)) dx dy) items i pieces patches,
+  ap length same ∙ length-strips pool owner list strips,
+)
 
 -- ---- the test for squares that leave the world
 -- a square of the world passes it
@@ -106,7 +113,7 @@ module _ (tiles : List (ℕ × Tile)) (list : List LaidTile) (plane : IsPlane ti
   pub kind-dumps : (dx dy : ℤ) (tile : LaidTile) (x y : ℕ) → Contains list tile → dumps dx dy tile x y ≡ true → tile.piece.kind ≡ moved (shown tiles) dx dy x y
   unfolding moved
   kind-dumps dx dy tile x y there covered =
-      at (pos x -ℤ dx) (pos y -ℤ dy) (parts (holds_at tile.piece.rect (pos x -ℤ dx) (pos y -ℤ dy)) (not (tile.piece.kind == 0)) covered).0
+      at (pos x -ℤ dx) (pos y -ℤ dy) (and_parts (holds_at tile.piece.rect (pos x -ℤ dx) (pos y -ℤ dy)) (not (tile.piece.kind == 0)) covered).0
     where
       at : (zx zy : ℤ) → holds_at tile.piece.rect zx zy ≡ true → tile.piece.kind ≡ kind_at (shown tiles) zx zy
       at (pos a) (pos b) inside = sym (shows_there tile a b there inside)
@@ -117,7 +124,7 @@ module _ (tiles : List (ℕ × Tile)) (list : List LaidTile) (plane : IsPlane ti
   some_there : (zx zy : ℤ) → list_any (λ tile. holds_at tile.piece.rect zx zy && not (tile.piece.kind == 0)) list ≡ true → not (kind_at (shown tiles) zx zy == 0) ≡ true
   some_there (pos a) (pos b) h =
       let (k, tile, within, is, covered) = Any-from_list_any (λ t. holds t.piece.rect a b && not (t.piece.kind == 0)) list h in
-      let at = parts (holds tile.piece.rect a b) (not (tile.piece.kind == 0)) covered in
+      let at = and_parts (holds tile.piece.rect a b) (not (tile.piece.kind == 0)) covered in
       ap (λ kind. not (kind == 0)) (shows_there tile a b (k, within, is) at.0) ∙ at.1
   some_there (pos a) (negsuc b) h =
       let (k, tile, within, is, covered) = Any-from_list_any (λ (t : LaidTile). false) list h in
@@ -130,7 +137,7 @@ module _ (tiles : List (ℕ × Tile)) (list : List LaidTile) (plane : IsPlane ti
   there_some (pos a) (pos b) some =
       let (tile, there, inside) = tile_there a b some in
       list_any-from_Any (λ t. holds t.piece.rect a b && not (t.piece.kind == 0)) list
-      (there.0, tile, there.1, there.2, both (holds tile.piece.rect a b) (not (tile.piece.kind == 0)) inside (ap (λ kind. not (kind == 0)) (sym (shows_there tile a b there inside)) ∙ some))
+      (there.0, tile, there.1, there.2, and_from (holds tile.piece.rect a b) (not (tile.piece.kind == 0)) inside (ap (λ kind. not (kind == 0)) (sym (shows_there tile a b there inside)) ∙ some))
   there_some (pos a) (negsuc b) some = absurd (cc some)
   there_some (negsuc a) zy some = absurd (cc some)
 
@@ -159,7 +166,7 @@ module _ (tiles : List (ℕ × Tile)) (list : List LaidTile) (plane : IsPlane ti
       let (x, y, inside, out) = square-leaves tile.piece.rect dx dy legal.wide legal.tall none in
       let kind = shows_there tile x y there inside in
       let is_some : not (shown tiles x y == 0) ≡ true = ap (λ k. not (k == 0)) kind ∙ ap not (ne_eqb tile.piece.kind 0 some) in
-      leaves_world-at (shown tiles) dx dy x y (holds_outer world tile.piece.rect x y legal inside) (both _ _ is_some (ap not out))
+      leaves_world-at (shown tiles) dx dy x y (holds_outer world tile.piece.rect x y legal inside) (and_from _ _ is_some (ap not out))
 
   pub moved_rect-some :
       (dx dy : ℤ) (tile : LaidTile) → Contains list tile → tile.piece.kind ≢ 0 → leaves_world (shown tiles) dx dy ≡ false → IsSome (moved_rect tile.piece.rect dx dy)

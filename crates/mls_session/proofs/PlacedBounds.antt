@@ -1,8 +1,11 @@
 -- A cell's bounds leave the world as they are moved just where a square of it does.
-use Rattle.std.proofs.Common.{◌≡◌, Bool, true, false, ℕ, ℤ, pos, ◌-◌, ◌+ℤ◌, ◌==◌, not, if◌then◌else◌, Option, Some, None, Result, Ok, Err, Contains, inl, inr, refl, sym, ap, subst, ◌∙◌, arith}
+use Rattle.std.proofs.Common.{◌≡◌, Bool, true, false, ℕ, ℤ, to_z, of_z, pos, ◌-◌, ◌+ℤ◌, ◌==◌, not, if◌then◌else◌, Option, Some, None, Result, Ok, Err, Contains, inl, inr, refl, sym, ap, subst, ◌∙◌, arith}
+use Rattle.std.specs.Int.{w32}
 use Rattle.std.specs.List.{range_with_len}
 use Rattle.std.specs.Option.{option_and_then}
+use Rattle.std.specs.Prelude.{FitsSigned}
 use Rattle.std.proofs.lemmas.Bool.{and_parts, cases_Bool, false_from_ne_true}
+use Rattle.std.proofs.lemmas.Int.{to_z-of_z}
 use Rattle.std.proofs.lemmas.List.Folds.{Any-from_list_any}
 use Rattle.mls_geom.specs.Layouts.{Layout}
 use Rattle.mls_geom.specs.Rects.{Rect, holds}
@@ -89,3 +92,9 @@ module _ (planes : ℕ) (cell : Layout) (dx dy : ℤ) where
       (bounds rect : Option Rect) → bounds ≡ painted_bounds planes cell → Ok rect ≡ placed_bounds bounds dx dy
       → (layout_leaves_world planes cell dx dy ≡ false) × (rect ≡ dumped_rect planes cell dx dy)
   placed-Ok bounds rect is h = accepted (layout_leaves_world planes cell dx dy) rect (h ∙ placed_bounds-is bounds (sym is))
+
+-- moves that fit their type are those that are passed
+pub placed_bounds-fits :
+    (bounds : Option Rect) (dx dy : ℤ) → FitsSigned w32 dx → FitsSigned w32 dy
+    → placed_bounds bounds (to_z w32 (of_z w32 dx)) (to_z w32 (of_z w32 dy)) ≡ placed_bounds bounds dx dy
+placed_bounds-fits bounds dx dy along up = rw (to_z-of_z w32 dx along, to_z-of_z w32 dy up) refl

@@ -13,6 +13,7 @@ use Rattle.mls_paint.specs.Planes.{layout_in, picture_in}
 use Rattle.mls_tilepool.specs.Pools.{Pool, room_of}
 use Rattle.mls_session.specs.Bounds.{moved_rect}
 use Rattle.mls_session.specs.Changes.{dumped, erased, leaves_world}
+use Rattle.mls_session.specs.Designs.{Design, KeepsPlanes, drawn_of}
 use Rattle.mls_errorplane.specs.DirtyLists.{IsDirtyList, area_of}
 use Rattle.mls_errorplane.specs.declared.catching_up.CaughtUp.{CaughtUp}
 use Rattle.mls_errorplane.specs.declared.catching_up.CaughtUp.TheVariants.{Done as AllChecked, Full as MarksFull, Memory as OutOfMemory}
@@ -117,6 +118,11 @@ pub record IsCounted (dirty : List Rect) (checks : ℕ) : Type 0 where
   pub few : checks + area_of dirty ≤ most_checks
 
 -- ---- check steps
+-- what they keep of a design: what is drawn, and its planes
+pub record KeepsDrawn (old new : Pool) (before after : Design) : Type 0 where
+  pub drawn : drawn_of new after ≡ drawn_of old before
+  pub planes : KeepsPlanes old new before after
+
 -- how many were done
 abbrev pub done_steps : Stepped → ℕ
 done_steps StepDone = 1

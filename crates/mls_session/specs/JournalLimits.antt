@@ -1,13 +1,8 @@
 -- How many entries a journal may have. This project's own.
-use Rattle.std.specs.Prelude.{ℕ, ◌≤◌}
+use Rattle.std.specs.Prelude.{ℕ}
 
 abbrev pub most_entries : ℕ
 most_entries = 65536
 
 abbrev pub default_journal_limit : ℕ
 default_journal_limit = 4096
-
--- a journal may have this number of entries at most
-pub record IsJournalLimit (entries : ℕ) : Type 0 where
-  pub enough : 1 ≤ entries
-  pub bounded : entries ≤ most_entries

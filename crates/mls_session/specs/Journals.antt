@@ -20,7 +20,7 @@ use Rattle.mls_session.specs.declared.command.Command.TheVariants.{Box, Paint, E
 use Rattle.mls_session.specs.declared.journal.Entry.{Entry}
 use Rattle.mls_session.specs.declared.journal.Said.{Said}
 use Rattle.mls_session.specs.declared.refusal.Refusal.{Refusal}
-use Rattle.mls_session.specs.declared.refusal.Refusal.TheVariants.{EmptyBox, OutsideWorld, NoBox, UnknownType, Quota, JournalFull, UnknownCell, CellOutside, Memory, TooManyUses}
+use Rattle.mls_session.specs.declared.refusal.Refusal.TheVariants.{JournalFull, Memory}
 use Rattle.mls_session.specs.declared.reply.Reply.{Reply}
 use Rattle.mls_session.specs.declared.step_run.StepRun.{StepRun}
 use Rattle.mls_session.specs.declared.reply.Reply.TheVariants.{Done, Kinds, Saved, Count as Counted, Why as WhyRules, Refused, Stopped}
@@ -39,28 +39,12 @@ kept_at_opening rules = record { own = beginning rules; journal = []; checks = 0
 -- memory ran out
 abbrev pub is_memory : Refusal → Bool
 is_memory Memory = true
-is_memory EmptyBox = false
-is_memory OutsideWorld = false
-is_memory NoBox = false
-is_memory UnknownType = false
-is_memory Quota = false
-is_memory JournalFull = false
-is_memory UnknownCell = false
-is_memory CellOutside = false
-is_memory TooManyUses = false
+is_memory _ = false
 
 -- the journal was full
 abbrev pub is_full : Refusal → Bool
 is_full JournalFull = true
-is_full Memory = false
-is_full EmptyBox = false
-is_full OutsideWorld = false
-is_full NoBox = false
-is_full UnknownType = false
-is_full Quota = false
-is_full UnknownCell = false
-is_full CellOutside = false
-is_full TooManyUses = false
+is_full _ = false
 
 -- the reply is a refusal of this kind
 abbrev pub is_refusal : (Refusal → Bool) → Reply → Bool

@@ -49,8 +49,8 @@ pub enum Command {
 }
 
 impl Command {
-    /// Returns where marks are known to be right after the command, if they were so here before: there, if it leaves the
-    /// layout and the marks as they are, whatever its reply, and else nowhere.
+    /// Returns where marks are known to be right after the command, if they were so here before: there, if it leaves
+    /// the layout and the marks as they are, whatever its reply, and else nowhere.
     pub fn known_after(&self, checked: &Option<Checked>) -> Option<Checked>
         ensures { result ≡ spec.known_after self.now checked.now }
     {

@@ -86,7 +86,7 @@ impl Design {
         let dirty = opening_areas(alloc, &setup.rules)?;
         let uses = Vec::with_capacity(alloc, MOST_USES)?;
         let planes = space_planes(alloc, setup, workspace)?;
-        let errors = ErrorPlane::new(dirty, setup.quota.reserve(), workspace);
+        let errors = ErrorPlane::new(dirty, setup.plane_reserve(), workspace);
         // For its contract alone: the areas lie in the world, and are few.
         errors.areas();
         Ok(Design {
@@ -178,7 +178,7 @@ fn space_planes(
     ensures refused { OnErr result (workspace.new.pool ≡ workspace.old.pool) }
 {
     let mut planes = Vec::with_capacity(alloc, setup.tech.planes())?;
-    let reserve = setup.quota.reserve();
+    let reserve = setup.plane_reserve();
     for _plane in 0..setup.tech.planes() {
         let Workspace { pool, scratch, .. } = workspace;
         planes.push_reserved(space_plane(pool, reserve, scratch).unwrap());

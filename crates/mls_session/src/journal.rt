@@ -51,7 +51,7 @@ impl Journal {
         ensures checks { IfOk result (λ journal. journal.checks ≡ 0) }
     {
         Ok(Journal {
-            entries: Vec::with_capacity(alloc, limit.entries())?,
+            entries: Vec::with_capacity(alloc, limit.get() as usize)?,
             limit,
             checks: 0,
         })
@@ -61,7 +61,7 @@ impl Journal {
     pub fn is_full(&self) -> bool
         ensures { result ≡ (length self.now.entries == self.now.limit) }
     {
-        self.entries.len() == self.limit.entries()
+        self.entries.len() == self.limit.get() as usize
     }
 
     /// Adds a command and the reply to it, unless memory ran out, and else counts the check steps that were done.

@@ -1,6 +1,6 @@
 //! What sessions are opened with.
 ghost use Rattle.std.specs.Prelude.{◌≡◌, ◌*◌, ◌+◌};
-ghost use Rattle.mls_session.specs.Quotas.{plane_reserve};
+ghost use Rattle.mls_session.specs.Quotas.{IsQuota, plane_reserve};
 
 use crate::{JournalLimit, Quota};
 use mls_edgerule::Rules;
@@ -8,6 +8,9 @@ use mls_errorplane::Basis;
 use mls_layout::{CellUse, Uses};
 use mls_library::{CellTiles, Library};
 use mls_tech::Tech;
+
+/// How many tiles a plane reserves beyond those that it may have.
+const SPARE: u32 = 64;
 
 /// What a session is opened with, and no command of it changes.
 #[derive(Drop)]
@@ -27,11 +30,19 @@ pub struct Setup {
 }
 
 impl Setup {
+    /// Returns how many tiles each plane of a session reserves: 64 more than it may have.
+    pub(crate) fn plane_reserve(&self) -> u32
+        ensures value { result ≡ plane_reserve self.now.quota }
+        ensures legal { IsQuota self.now.quota }
+    {
+        self.quota.get() + SPARE
+    }
+
     /// Returns how many tiles the planes of a session reserve, its error plane among them.
     pub fn reserve(&self) -> u32
         ensures { result ≡ (self.now.tech.plane_count + 1) * plane_reserve self.now.quota }
     {
-        (self.tech.planes() as u32 + 1) * self.quota.reserve()
+        (self.tech.planes() as u32 + 1) * self.plane_reserve()
     }
 
     /// Returns what a layout with these uses is checked by.

@@ -165,7 +165,7 @@ impl Design {
         ensures same { self.new ≡ self.old }
         ensures pool { workspace.new.pool ≡ workspace.old.pool }
     {
-        let limit = self.quota.tiles();
+        let limit = self.quota.get();
         for i in 0..self.planes.len() {
             let Workspace {
                 pool,
@@ -198,7 +198,7 @@ impl Design {
         ensures only { ChangesAmong workspace.old.pool workspace.new.pool self.old.planes }
         ensures same { self.new ≡ self.old }
     {
-        let limit = self.quota.tiles();
+        let limit = self.quota.get();
         for i in 0..self.planes.len() {
             let Workspace {
                 pool,

@@ -7,7 +7,7 @@ ghost use Rattle.mls_errorplane.specs.ErrorPlanes.{HasStepped, UnlessDone, check
 ghost use Rattle.mls_errorplane.specs.Jobs.{HasGrabbed};
 ghost use Rattle.mls_errorplane.specs.Outcomes.{HasFinished, UnlessFinished};
 ghost use Rattle.mls_errorplane.specs.Stretches.{AreRightIn};
-ghost use Rattle.mls_session.specs.Inner.{Counts, caught_up_reply, steps_of};
+ghost use Rattle.mls_session.specs.Inner.{Counts, KeepsDrawn, caught_up_reply, steps_of};
 ghost use Rattle.mls_session.specs.Own.{count_step, layout_of, soiled_after};
 ghost use Rattle.mls_session.specs.OwnSteps.{DesignSteps, design_step};
 ghost use Rattle.mls_session.specs.Setups.{config_of};
@@ -96,11 +96,10 @@ impl Design {
             (layout_of (config_of setup.now workspace.old.pool) (drawn_of workspace.old.pool self.old))
             self.old.quota (checking_of workspace.old.pool self.old.errors) result
             (checking_of workspace.new.pool self.new.errors) }
-        ensures drawn { drawn_of workspace.new.pool self.new ≡ drawn_of workspace.old.pool self.old }
         ensures unless_done { UnlessDone result (workspace.new.pool ≡ workspace.old.pool) }
-        ensures keeps { KeepsPlanes workspace.old.pool workspace.new.pool self.old self.new }
+        ensures keeps { KeepsDrawn workspace.old.pool workspace.new.pool self.old self.new }
     {
-        let limit = self.quota.tiles();
+        let limit = self.quota.get();
         let basis = setup.basis(&self.uses);
         let planes = &mut self.planes;
         self.errors.step(alloc, planes, &basis, limit, workspace)
@@ -117,11 +116,10 @@ impl Design {
             (layout_of (config_of setup.now workspace.old.pool) (drawn_of workspace.old.pool self.old))
             self.old.quota (checking_of workspace.old.pool self.old.errors) finding.now result
             (checking_of workspace.new.pool self.new.errors) }
-        ensures drawn { drawn_of workspace.new.pool self.new ≡ drawn_of workspace.old.pool self.old }
         ensures unless_finished { UnlessFinished result (workspace.new.pool ≡ workspace.old.pool) }
-        ensures keeps { KeepsPlanes workspace.old.pool workspace.new.pool self.old self.new }
+        ensures keeps { KeepsDrawn workspace.old.pool workspace.new.pool self.old self.new }
     {
-        let limit = self.quota.tiles();
+        let limit = self.quota.get();
         let basis = setup.basis(&self.uses);
         let planes = &mut self.planes;
         self.errors
@@ -147,10 +145,9 @@ impl Design {
         ensures right { AreRightIn setup.now.rules
             (layout_of (config_of setup.now workspace.old.pool) (drawn_of workspace.old.pool self.old))
             (checking_of workspace.new.pool self.new.errors).marks checked.new }
-        ensures drawn { drawn_of workspace.new.pool self.new ≡ drawn_of workspace.old.pool self.old }
-        ensures keeps { KeepsPlanes workspace.old.pool workspace.new.pool self.old self.new }
+        ensures keeps { KeepsDrawn workspace.old.pool workspace.new.pool self.old self.new }
     {
-        let limit = self.quota.tiles();
+        let limit = self.quota.get();
         let basis = setup.basis(&self.uses);
         let planes = &mut self.planes;
         self.errors
@@ -173,7 +170,7 @@ impl Design {
         ensures not_refused { OnRefused result.reply ((self.new ≡ self.old)
             × (workspace.new.pool ≡ workspace.old.pool)) }
     {
-        let limit = self.quota.tiles();
+        let limit = self.quota.get();
         let basis = setup.basis(&self.uses);
         let planes = &mut self.planes;
         let ended = self

@@ -71,7 +71,7 @@ impl Design {
         } = workspace;
         pieces.clear();
         pieces.push_reserved(Piece { rect, kind });
-        let limit = self.quota.tiles();
+        let limit = self.quota.get();
         let plane = &mut self.planes[usize::from(plane)];
         let Ok(_) = overlay(pool, plane, pieces, limit, scratch) else {
             return Reply::Refused(Refusal::Quota);

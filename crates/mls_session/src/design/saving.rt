@@ -89,7 +89,7 @@ impl Design {
         lines
     }
 
-    /// Appends the text of the own paint, and returns the number of its lines. Out of memory, leaves the beginning of it.
+    /// Appends the text of the own paint, and returns the number of its lines. Out of memory, leaves its beginning.
     fn push_text(
         &self,
         tech: &Tech,

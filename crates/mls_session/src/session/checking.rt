@@ -102,8 +102,8 @@ impl Session {
     ///
     /// Unless this is finished, nothing changes. No memory is taken.
     ///
-    /// The marks must be right in the rectangles of `checked`, and are so in those that it has afterwards, where that of
-    /// a finished piece is one.
+    /// The marks must be right in the rectangles of `checked`, and are so in those that it has afterwards, where that
+    /// of a finished piece is one.
     pub fn finish(
         &mut self,
         setup: &Setup,

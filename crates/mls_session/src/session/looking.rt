@@ -128,11 +128,11 @@ impl Session {
         let errors = &self.design.errors;
         Ok(Status {
             entries: self.journal.entries().len(),
-            limit: setup.limit.entries(),
+            limit: setup.limit.get() as usize,
             steps: self.journal.checks(),
             areas: errors.areas(),
             tiles,
-            quota: setup.quota.tiles(),
+            quota: setup.quota.get(),
             mark_tiles: errors.tiles(pool),
         })
     }

@@ -1,5 +1,5 @@
 -- Each turn makes a piece for a tile that isn't space.
-use Rattle.std.proofs.Common.{to_z, of_z, w32, length, ap, subst, sym, ◌∙◌, arith}
+use Rattle.std.proofs.Common.{to_z, of_z, w32, ap, subst, sym, ◌∙◌, arith}
 use Rattle.std.proofs.lemmas.Int.{to_z-of_z}
 use Rattle.std.proofs.lemmas.List.{take_all}
 use Rattle.mls_geom.specs.World.{world}
@@ -8,45 +8,26 @@ use Rattle.mls_stitch.specs.Areas.{AreInArea}
 use Rattle.mls_stitch.specs.Tilings.{block_at, shown}
 use Rattle.mls_stitch.proofs.ShownTiles.{KeysDiffer-tiles_of}
 use Rattle.mls_layout.specs.Moves.{moved}
-use Rattle.mls_session.proofs.FoundTiles.{length-strips}
-use Rattle.mls_session.proofs.MovedTiles.{dumps, dumps-space, holds-moved, kind-dumps, legal_there, moved_rect-some, overlaid-dumps}
-use Rattle.mls_session.proofs.TilePieces.{ArePatches, ArePatches-left, ArePatches-made, few-ArePatches}
+use Rattle.mls_session.proofs.MovedTiles.{dumps, dumps-space, few-dumped, holds-moved, kind-dumps, legal_there, moved_rect-some, overlaid-dumps}
+use Rattle.mls_session.proofs.TilePieces.{ArePatches, ArePatches-left, ArePatches-made}
 use Rattle.mls_session.proofs.change.list_dumped.Goals as goal
 use Rattle.mls_session.proofs.change.list_dumped.Goals.{then-tile-ne0, else-tile-ne0}
 
 pub unwrap-rect-requires : goal.unwrap-rect-requires
 unwrap-rect-requires c =
-    let pool = c.args.pool.now in
-    let owner = c.args.cell.now in
-    let tiles = tiles_of pool owner in
+    let tiles = tiles_of c.args.pool.now c.args.cell.now in
     let items = c.tiles-tile-items.result.now in
     let found = subst (AreInArea (block_at tiles) world) (sym c.tiles-tile-items.ensures) c.strips_of.ensures.found in
     let along = c.ranges.dx in
     let up = c.ranges.dy in
     let moved = simp to_z-of_z at c.moved_rect.ensures in
-    rw moved (moved_rect-some tiles items c.requires.cell.strips.plane.plane (KeysDiffer-tiles_of pool owner) found c.args.dx c.args.dy c.tile-item.result
+    rw moved (moved_rect-some tiles items c.requires.cell.strips.plane.plane (KeysDiffer-tiles_of c.args.pool.now c.args.cell.now) found c.args.dx c.args.dy c.tile-item.result
     (c.loop-tile.tile-index, c.loop-tile-test.true, sym c.tile-item.is) c.if-tile-ne0.true c.requires.stays)
 
 pub push_reserved-requires : goal.push_reserved-requires
 push_reserved-requires c =
-    let pool = c.args.pool.now in
-    let owner = c.args.cell.now in
-    let dx = to_z w32 (of_z w32 c.args.dx) in
-    let dy = to_z w32 (of_z w32 c.args.dy) in
-    let items = c.tiles-tile-items.result.now in
-    let few = few-ArePatches (dumps dx dy) (moved (shown (tiles_of pool owner)) dx dy) items c.loop-tile.tile-index c.loop-tile.pieces.items c.loop-tile.invariant.patches in
-    let all = length-strips pool owner c.strips_of.new.scratch.tiles c.strips_of.ensures.strips in
-    omega (
-      arith,
-      few,
-      all,
-      ap length c.tiles-tile-items.ensures,
-      c.requires.cell.few,
-      c.requires.cell_pieces_fit,
-      c.loop-tile-test.true,
-      c.loop-tile.invariant.room,
-      c.loop-tile.pieces.ok.0,
-    )
+    let (few, all) = few-dumped c.args.pool.now c.args.cell.now c.strips_of.new.scratch.tiles c.tiles-tile-items.result.now (to_z w32 (of_z w32 c.args.dx)) (to_z w32 (of_z w32 c.args.dy)) c.loop-tile.tile-index c.loop-tile.pieces.items c.strips_of.ensures.strips c.tiles-tile-items.ensures c.loop-tile.invariant.patches in
+    omega (arith, few, all, c.requires.cell.few, c.requires.cell_pieces_fit, c.loop-tile-test.true, c.loop-tile.invariant.room, c.loop-tile.pieces.ok.0)
 
 pub loop-tile-preserved : goal.loop-tile-preserved
 loop-tile-preserved c =
@@ -100,11 +81,5 @@ returns-clause-picture c = λ below.
 
 pub returns-clause-few : goal.returns-clause-few
 returns-clause-few c =
-    let pool = c.args.pool.now in
-    let owner = c.args.cell.now in
-    let dx = to_z w32 (of_z w32 c.args.dx) in
-    let dy = to_z w32 (of_z w32 c.args.dy) in
-    let items = c.tiles-tile-items.result.now in
-    let few = few-ArePatches (dumps dx dy) (moved (shown (tiles_of pool owner)) dx dy) items c.loop-tile.tile-index c.loop-tile.pieces.items c.loop-tile.invariant.patches in
-    let all = length-strips pool owner c.strips_of.new.scratch.tiles c.strips_of.ensures.strips in
-    omega (arith, few, all, ap length c.tiles-tile-items.ensures, c.requires.cell.few)
+    let (few, all) = few-dumped c.args.pool.now c.args.cell.now c.strips_of.new.scratch.tiles c.tiles-tile-items.result.now (to_z w32 (of_z w32 c.args.dx)) (to_z w32 (of_z w32 c.args.dy)) c.loop-tile.tile-index c.loop-tile.pieces.items c.strips_of.ensures.strips c.tiles-tile-items.ensures c.loop-tile.invariant.patches in
+    omega (arith, few, all, c.requires.cell.few)

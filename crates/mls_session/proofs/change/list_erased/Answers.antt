@@ -6,8 +6,8 @@ use Rattle.mls_tilepool.specs.Pools.{room_of, tiles_of}
 use Rattle.mls_stitch.specs.Areas.{AreInArea}
 use Rattle.mls_stitch.specs.Tilings.{block_at}
 use Rattle.mls_stitch.proofs.ShownTiles.{KeysDiffer-tiles_of}
+use Rattle.mls_errorplane.proofs.CarriedMarks.{fewer_than_room, length-found, within_room}
 use Rattle.mls_session.proofs.ErasedTiles.{clipped-there, erases, erases-other, holds-clipped, overlaid-erases}
-use Rattle.mls_session.proofs.FoundTiles.{fewer_than_room, length-found, within_room}
 use Rattle.mls_session.proofs.TilePieces.{ArePatches, ArePatches-left, ArePatches-made, few-ArePatches}
 use Rattle.mls_session.proofs.change.list_erased.Goals as goal
 use Rattle.mls_session.proofs.change.list_erased.Goals.{then-contains, else-contains}

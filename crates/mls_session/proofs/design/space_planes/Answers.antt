@@ -21,8 +21,8 @@ loop-plane-preserved c =
     let made = c.space_plane.ensures in
     let strips = rw c.unwrap.ensures at made.strips in
     let shows = rw c.unwrap.ensures at made.space in
-    let added : AddsOwner old new owner reserve = rw (← c.reserve-reserve.ensures.value) (rw c.unwrap.ensures at made.added) in
-    let taken : unreserved new + reserve ≡ unreserved old = rw (← c.reserve-reserve.ensures.value) (rw c.unwrap.ensures at made.taken) in
+    let added : AddsOwner old new owner reserve = rw (← c.plane_reserve-reserve.ensures.value) (rw c.unwrap.ensures at made.added) in
+    let taken : unreserved new + reserve ≡ unreserved old = rw (← c.plane_reserve-reserve.ensures.value) (rw c.unwrap.ensures at made.taken) in
     let differ = differ_from_new old new quota planes owner reserve so_far.home added in
     let items = c.push_reserved.ensures.items in
     record {

@@ -60,7 +60,7 @@ caught c =
     let design = c.args.self.now in
     let config = config_of c.args.setup.now pool in
     let ended = c.catch_up-ended.result in
-    let limit = c.tiles-limit.result in
+    let limit = c.get-limit.result in
     let now = checking_of new c.catch_up-ended.new.self in
     let lent = c.deref_mut.ensures.value ∙ ap (λ (d : Design). d.planes) c.self.view_is in
     let list = c.basis-basis.ensures.list ∙ c.deref.ensures.value ∙ ap (λ (d : Design). d.uses) c.self.view_is in
@@ -69,7 +69,7 @@ caught c =
     let steps : HasCaughtUp config.rules (layout_of config (drawn_of pool design)) limit (checking_of pool design.errors) ended now =
     subst (λ (e : ErrorPlane). HasCaughtUp config.rules (layout_of config (drawn_of pool design)) limit (checking_of pool e) ended now) (ap (λ (d : Design). d.errors) c.self.view_is) all in
     caught_up-errors config pool new design (after c) limit ended c.areas-pending.result (executed c) (sym c.requires.made_for.quota)
-    (c.tiles-limit.ensures.value ∙ ap (λ (d : Design). d.quota) c.self.view_is) c.requires.home c.requires.areas (only c) (ap (λ (d : Design). d.box) c.self.view_is) (planes c) (ap (λ (d : Design). d.uses) c.self.view_is) steps
+    (c.get-limit.ensures.value ∙ ap (λ (d : Design). d.quota) c.self.view_is) c.requires.home c.requires.areas (only c) (ap (λ (d : Design). d.box) c.self.view_is) (planes c) (ap (λ (d : Design). d.uses) c.self.view_is) steps
     c.areas-pending.ensures.value c.caught_up_reply.ensures c.steps_of.ensures
 
 pub returns-clause-caught : goal.returns-clause-caught

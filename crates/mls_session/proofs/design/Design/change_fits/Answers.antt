@@ -2,36 +2,30 @@
 use Rattle.std.proofs.Common.{◌≡◌, ◌||◌, ℕ, ◌<◌, List, get_or, length, map, sym, ap, subst, ◌∙◌, arith}
 use Rattle.mls_geom.specs.Pictures.{overlaid}
 use Rattle.mls_tilepool.specs.Pools.{Pool}
-use Rattle.mls_paint.specs.Planes.{HasStrips, layout_in, picture_in}
+use Rattle.mls_paint.specs.Planes.{layout_in, picture_in}
 use Rattle.mls_session.specs.Inner.{CanChange, ListsChange, changed_layout}
 use Rattle.mls_session.specs.Designs.{Design}
 use Rattle.mls_session.proofs.ChangedQuotas.{exceeds, exceeds-fits, exceeds-more, exceeds_quota-more, exceeds_quota-none}
 use Rattle.mls_library.proofs.FirstPlanes.{any_more}
-use Rattle.mls_session.proofs.HomePlanes.{HasStrips-at, planes_kept}
+use Rattle.mls_session.proofs.HomePlanes.{HasStrips-lent, planes_kept}
 use Rattle.mls_session.proofs.ListedPieces.{ListsChange-more, lent-changed, listed-changed}
 use Rattle.mls_session.proofs.design.Design.change_fits.Goals as goal
 
 pub list_pieces-requires-clause-strips : goal.list_pieces-requires-clause-strips
 list_pieces-requires-clause-strips c =
-    let i = c.loop-i.i in
     let owner = c.index_mut-plane.result.now in
-    let is = c.index_mut-plane.ensures.value ∙ ap (λ (kept : Design). get_or kept.planes i owner) c.loop-i.invariant.same in
-    let whole = ap (λ (kept : Design). length kept.planes) c.self.view_is in
-    subst (λ (pool : Pool). HasStrips pool owner) (sym c.loop-i.invariant.pool)
-    (HasStrips-at c.args.workspace.now.pool c.args.self.now i owner c.requires.home.layout (omega (arith, whole)) is)
+    HasStrips-lent c.args.workspace.now.pool c.loop-i.workspace.pool c.args.self.now c.loop-i.i owner c.loop-i.invariant.pool c.requires.home.layout (omega (arith, ap (λ (kept : Design). length kept.planes) c.self.view_is))
+    (c.index_mut-plane.ensures.value ∙ ap (λ (kept : Design). get_or kept.planes c.loop-i.i owner) c.loop-i.invariant.same)
 
 pub list_pieces-requires-clause-can_change : goal.list_pieces-requires-clause-can_change
 list_pieces-requires-clause-can_change c = subst (λ (pool : Pool). CanChange pool c.args.change.now) (sym c.loop-i.invariant.pool) c.requires.can_change
 
 pub fits-requires-clause-strips : goal.fits-requires-clause-strips
 fits-requires-clause-strips c =
-    let i = c.loop-i.i in
     let owner = c.index_mut-plane.result.now in
-    let is = c.index_mut-plane.ensures.value ∙ ap (λ (kept : Design). get_or kept.planes i owner) c.loop-i.invariant.same in
-    let whole = ap (λ (kept : Design). length kept.planes) c.self.view_is in
     rw c.list_pieces.ensures.plane
-    (subst (λ (pool : Pool). HasStrips pool owner) (sym c.loop-i.invariant.pool)
-    (HasStrips-at c.args.workspace.now.pool c.args.self.now i owner c.requires.home.layout (omega (arith, whole)) is))
+    (HasStrips-lent c.args.workspace.now.pool c.loop-i.workspace.pool c.args.self.now c.loop-i.i owner c.loop-i.invariant.pool c.requires.home.layout (omega (arith, ap (λ (kept : Design). length kept.planes) c.self.view_is))
+    (c.index_mut-plane.ensures.value ∙ ap (λ (kept : Design). get_or kept.planes c.loop-i.i owner) c.loop-i.invariant.same))
 
 pub returns-then-not-fits-clause-fits : goal.returns-then-not-fits-clause-fits
 returns-then-not-fits-clause-fits c = λ config count same.
@@ -43,7 +37,7 @@ returns-then-not-fits-clause-fits c = λ config count same.
     let is : owner ≡ get_or design.planes i owner = c.index_mut-plane.ensures.value ∙ ap (λ (kept : Design). get_or kept.planes i owner) c.loop-i.invariant.same in
     let whole = ap (λ (kept : Design). length kept.planes) c.self.view_is in
     let within : i < length design.planes = omega (arith, whole) in
-    let limit = c.tiles-limit.ensures.value ∙ ap (λ (kept : Design). kept.quota) c.self.view_is in
+    let limit = c.get-limit.ensures.value ∙ ap (λ (kept : Design). kept.quota) c.self.view_is in
     let mid = c.loop-i.workspace.pool in
     let plane = c.list_pieces.new.plane in
     let over = c.deref.result.now in
@@ -52,7 +46,7 @@ returns-then-not-fits-clause-fits c = λ config count same.
     lent-changed pool mid design change i owner c.list_pieces.new.pieces.items within is c.loop-i.invariant.pool c.list_pieces.ensures.picture plane over
     c.list_pieces.ensures.plane c.deref.ensures.value in
     exceeds_quota-more config layout (length design.planes) design.quota i count same within
-    (exceeds-more layout design.quota i c.tiles-limit.result (overlaid (picture_in mid plane) over) limit made
+    (exceeds-more layout design.quota i c.get-limit.result (overlaid (picture_in mid plane) over) limit made
     (λ few. absurd (cc (sym c.if-not-fits.true ∙ c.fits.ensures.fits.1 few))))
 
 pub loop-i-preserved : goal.loop-i-preserved
@@ -66,7 +60,7 @@ loop-i-preserved c =
     let is : owner ≡ get_or design.planes i owner = c.index_mut-plane.ensures.value ∙ ap (λ (kept : Design). get_or kept.planes i owner) turn.invariant.same in
     let whole = ap (λ (kept : Design). length kept.planes) c.self.view_is in
     let within : i < length design.planes = omega (arith, whole) in
-    let limit = c.tiles-limit.ensures.value ∙ ap (λ (kept : Design). kept.quota) c.self.view_is in
+    let limit = c.get-limit.ensures.value ∙ ap (λ (kept : Design). kept.quota) c.self.view_is in
     let mid = turn.workspace.pool in
     let plane = c.list_pieces.new.plane in
     let over = c.deref.result.now in
@@ -82,7 +76,7 @@ loop-i-preserved c =
       room = turn.invariant.room;
       few =
           any_more (exceeds design.quota layout) i ∙ ap (λ before. before || exceeds design.quota layout i) turn.invariant.few
-          ∙ exceeds-fits layout design.quota i c.tiles-limit.result (overlaid (picture_in mid plane) over) limit made (c.fits.ensures.fits.0 c.if-not-fits.false);
+          ∙ exceeds-fits layout design.quota i c.get-limit.result (overlaid (picture_in mid plane) over) limit made (c.fits.ensures.fits.0 c.if-not-fits.false);
       lists =
           ListsChange-more (λ list. list.items) turn.workspace.plane_pieces.items i pool change (layout_in pool design.planes) list (omega (arith, whole))
           (listed-changed pool mid design change i owner list.items within is turn.invariant.pool c.list_pieces.ensures.picture) turn.invariant.lists;

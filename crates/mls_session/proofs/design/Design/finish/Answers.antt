@@ -1,65 +1,19 @@
-use Rattle.std.proofs.Common.{◌≡◌, length, ap, ◌∙◌, subst, sym}
-use Rattle.std.specs.Vec.{with_items}
-use Rattle.std.proofs.lemmas.List.{with_items_is}
-use Rattle.mls_errorplane.specs.ErrorPlanes.{ErrorPlane, checking_of}
+use Rattle.std.proofs.Common.{length, ◌∙◌}
+use Rattle.mls_errorplane.specs.ErrorPlanes.{checking_of}
 use Rattle.mls_errorplane.specs.Outcomes.{HasFinished}
-use Rattle.mls_stitch.specs.Tilings.{ChangesOnly}
-use Rattle.mls_session.specs.Designs.{Design, drawn_of}
-use Rattle.mls_session.specs.Own.{layout_of}
-use Rattle.mls_session.specs.Setups.{config_of}
-use Rattle.mls_session.proofs.ErrorPlanes.{KeepsPlanes-errors, drawn-errors}
-use Rattle.mls_session.proofs.FlatDesigns.{HasCells-CanDump, flat_layout-design}
+use Rattle.mls_session.proofs.LentDesigns.{HasCells-lent, KeepsDrawn-returned, said_of-lent}
 use Rattle.mls_session.proofs.design.Design.finish.Goals as goal
 
 pub finish-requires-clause-cells : goal.finish-requires-clause-cells
 finish-requires-clause-cells c =
-    let lent = c.deref_mut.ensures.value ∙ ap (λ (d : Design). d.planes) c.self.view_is in
-    HasCells-CanDump c.args.setup.now c.args.workspace.now.pool c.args.self.now c.requires.can_dump c.basis-basis.result.uses.library.now c.basis-basis.ensures.library
-    c.deref_mut.result.now c.requires.made_for lent
-
-abbrev after : goal.After-self-1 → Design
-after c = record {
-  box = c.self.inside.box_rect;
-  planes = (with_items c.self.inside.planes c.finish.new.planes).items;
-  uses = c.self.inside.uses.items;
-  quota = c.self.inside.quota;
-  errors = c.finish.new.self;
-}
-
--- the planes that were lent come back
-planes : (c : goal.After-self-1) → (after c).planes ≡ c.args.self.now.planes
-planes c =
-    let same = c.finish.ensures.owners ∙ c.deref_mut.ensures.value in
-    with_items_is c.self.inside.planes c.finish.new.planes (ap length same ∙ sym c.self.inside.planes.ok.0) ∙ same ∙ ap (λ (d : Design). d.planes) c.self.view_is
-
--- only tiles of the error plane have changed
-only : (c : goal.After-self-1) → ChangesOnly c.args.workspace.now.pool c.finish.new.workspace.pool c.args.self.now.errors.owner
-only c = subst (λ (e : ErrorPlane). ChangesOnly c.args.workspace.now.pool c.finish.new.workspace.pool e.owner) (ap (λ (d : Design). d.errors) c.self.view_is) c.finish.ensures.only
+    HasCells-lent c.args.setup.now c.args.workspace.now.pool c.self.inside c.args.self.now c.self.view_is c.basis-basis.result.uses.library.now c.basis-basis.ensures.library c.deref_mut.result.now c.deref_mut.ensures.value c.requires.can_dump c.requires.made_for
 
 pub returns-clause-finished : goal.returns-clause-finished
 returns-clause-finished c =
-    let pool = c.args.workspace.now.pool in
-    let setup = c.args.setup.now in
-    let design = c.args.self.now in
-    let basis = c.basis-basis in
-    let now = checking_of c.finish.new.workspace.pool c.finish.new.self in
-    let lent = c.deref_mut.ensures.value ∙ ap (λ (d : Design). d.planes) c.self.view_is in
-    let list = basis.ensures.list ∙ c.deref.ensures.value ∙ ap (λ (d : Design). d.uses) c.self.view_is in
-    let shown = flat_layout-design setup pool design basis.result.uses basis.ensures.library list c.deref_mut.result.now lent in
-    let limit = c.tiles-limit.ensures.value ∙ ap (λ (d : Design). d.quota) c.self.view_is in
-    let count = ap length lent in
-    let finished = rw (basis.ensures.rules, shown, limit, count) at c.finish.ensures.finished in
-    subst (λ (e : ErrorPlane). HasFinished setup.rules (length design.planes) (layout_of (config_of setup pool) (drawn_of pool design)) design.quota (checking_of pool e) c.args.finding.now c.finish.result now)
-    (ap (λ (d : Design). d.errors) c.self.view_is) finished
-
-pub returns-clause-drawn : goal.returns-clause-drawn
-returns-clause-drawn c =
-    drawn-errors c.args.workspace.now.pool c.finish.new.workspace.pool c.args.self.now (after c) c.requires.home (only c) (ap (λ (d : Design). d.box) c.self.view_is) (planes c)
-    (ap (λ (d : Design). d.uses) c.self.view_is)
+    said_of-lent (λ rules layout planes limit before. HasFinished rules (length planes) layout limit before c.args.finding.now c.finish.result (checking_of c.finish.new.workspace.pool c.finish.new.self))
+    c.args.setup.now c.args.workspace.now.pool c.self.inside c.args.self.now c.self.view_is c.basis-basis.result c.deref_mut.result.now c.get-limit.result
+    (record { rules = c.basis-basis.ensures.rules; library = c.basis-basis.ensures.library; list = c.basis-basis.ensures.list ∙ c.deref.ensures.value; planes = c.deref_mut.ensures.value; limit = c.get-limit.ensures.value }) c.finish.ensures.finished
 
 pub returns-clause-keeps : goal.returns-clause-keeps
 returns-clause-keeps c =
-    let new = c.finish.new.workspace.pool in
-    let owner = c.finish.ensures.owner ∙ ap (λ (d : Design). d.errors.owner) c.self.view_is in
-    KeepsPlanes-errors c.args.workspace.now.pool new c.args.self.now (after c) c.requires.home (only c) c.finish.ensures.marks (planes c)
-    (ap (λ (d : Design). d.quota) c.self.view_is) owner
+    KeepsDrawn-returned c.args.workspace.now.pool c.finish.new.workspace.pool c.self.inside c.args.self.now c.self.view_is c.finish.new.planes c.finish.new.self (c.finish.ensures.owners ∙ c.deref_mut.ensures.value) c.requires.home c.finish.ensures.only c.finish.ensures.marks c.finish.ensures.owner

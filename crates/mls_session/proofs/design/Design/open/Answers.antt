@@ -17,7 +17,7 @@ use Rattle.mls_session.proofs.design.Design.open.Goals as goal
 
 -- the error plane has as many tiles as each other plane
 reserved : (c : goal.After-result-1) → AddsOwner c.space_planes.new.workspace.pool c.new-errors.new.workspace.pool c.new-errors.result.owner (plane_reserve c.args.setup.now.quota)
-reserved c = subst (AddsOwner c.space_planes.new.workspace.pool c.new-errors.new.workspace.pool c.new-errors.result.owner) c.reserve.ensures.value c.new-errors.ensures.added
+reserved c = subst (AddsOwner c.space_planes.new.workspace.pool c.new-errors.new.workspace.pool c.new-errors.result.owner) c.plane_reserve.ensures.value c.new-errors.ensures.added
 
 abbrev opened : goal.After-result-1 → Design
 opened c = record { box = None; planes = c.in_ok-planes.planes.items; uses = c.in_ok-uses.uses.items; quota = c.args.setup.now.quota; errors = c.new-errors.result }
@@ -56,8 +56,8 @@ returns-clause-added c =
     let new = c.new-errors.new.workspace.pool in
     let owner = c.new-errors.result.owner in
     let apart = differs mid new quota planes owner c.in_ok-planes.ensures.home (reserved c) in
-    let taken : unreserved new + plane_reserve quota ≡ unreserved mid = ap (λ (n : ℕ). unreserved new + n) (sym c.reserve.ensures.value) ∙ c.new-errors.ensures.taken in
+    let taken : unreserved new + plane_reserve quota ≡ unreserved mid = ap (λ (n : ℕ). unreserved new + n) (sym c.plane_reserve.ensures.value) ∙ c.new-errors.ensures.taken in
     AddsOwners-plane c.args.workspace.now.pool mid new planes owner (plane_reserve quota) c.in_ok-planes.ensures.added apart (reserved c) taken
 
 pub invariant_of-result : goal.invariant_of-result
-invariant_of-result c = (c.reserve.ensures.legal, omega (arith, c.in_ok-uses.ensures.exact))
+invariant_of-result c = (c.plane_reserve.ensures.legal, omega (arith, c.in_ok-uses.ensures.exact))

@@ -43,8 +43,8 @@ returns-in_default-overlay-clause-step c =
     let done = c.in_default-overlay.ensures in
     let back = planes_kept c.self.inside.planes.items plane owner c.overlay.new.plane c.index_mut-plane.ensures.value done.plane in
     let quota = ap (λ (d : Design). d.quota) view in
-    let over : c.tiles-limit.result < tile_count world (overlaid (picture_in pool owner) c.deref.result.now) = done.too_many.0 refl in
-    let many : design.quota < tile_count world (overlaid (picture_in pool owner) c.deref.result.now) = omega (arith, over, quota, c.tiles-limit.ensures.value) in
+    let over : c.get-limit.result < tile_count world (overlaid (picture_in pool owner) c.deref.result.now) = done.too_many.0 refl in
+    let many : design.quota < tile_count world (overlaid (picture_in pool owner) c.deref.result.now) = omega (arith, over, quota, c.get-limit.ensures.value) in
     edit_step-Refused config (designed_of pool design) design.box (paint_step config (drawn_of pool design) design.box c.args.kind) Quota
     (paint_step-Refused config pool design c.args.kind rect kind plane owner c.deref.result.now is_set c.in-Some-kind.is lies_on one (sym c.requires.made_for.quota) within is many)
     ∙ ap (λ (d : Design). (designed_of pool d, Refused Quota)) (sym view)
@@ -72,7 +72,7 @@ returns-clause-step c =
     let done = c.in-Ok.ensures in
     let planes = planes_kept c.self.inside.planes.items plane owner c.overlay.new.plane c.index_mut-plane.ensures.value done.plane ∙ ap (λ (d : Design). d.planes) view in
     let quota = ap (λ (d : Design). d.quota) view in
-    let few = λ (over : design.quota < _). absurd (false≢true (done.too_many.1 (omega (arith, over, quota, c.tiles-limit.ensures.value)))) in
+    let few = λ (over : design.quota < _). absurd (false≢true (done.too_many.1 (omega (arith, over, quota, c.get-limit.ensures.value)))) in
     let soiled = c.add.ensures.added new ∙ ap (λ (d : Design). soiled_after config.rules (Some rect) Done (checking_of new d.errors)) view in
     let after : Design =
     record { box = c.self.inside.box_rect; planes = set c.self.inside.planes.items plane c.overlay.new.plane; uses = c.self.inside.uses.items; quota = c.self.inside.quota; errors = c.add.new.self } in

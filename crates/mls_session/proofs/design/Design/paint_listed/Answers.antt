@@ -21,7 +21,7 @@ unwrap-requires c =
     let is : owner ≡ get_or design.planes i owner = c.index_mut-plane.ensures.value ∙ ap (λ (kept : Design). get_or kept.planes i owner) so_far.same in
     let whole = ap (λ (kept : Design). length kept.planes) c.self.view_is in
     let within : i < length design.planes = omega (arith, whole) in
-    let limit = c.tiles-limit.ensures.value ∙ ap (λ (kept : Design). kept.quota) c.self.view_is in
+    let limit = c.get-limit.ensures.value ∙ ap (λ (kept : Design). kept.quota) c.self.view_is in
     let lists = c.args.workspace.now.plane_pieces.items in
     let layout = layout_in old design.planes in
     let wanted = painted_over (map (λ list. list.items) lists) layout in
@@ -30,7 +30,7 @@ unwrap-requires c =
     painted-listed (λ list. list.items) lists i c.loop-i.workspace.plane_pieces.items c.index-pieces.result.now layout (picture_in mid owner) over
     (omega (arith, within, c.requires.few_planes, c.args.workspace.now.planes)) so_far.lists c.index-pieces.ensures c.deref.ensures.value
     (picture_in-IsMade old mid design wanted i owner so_far.made within is) in
-    ok_where_fits wanted design.quota i c.tiles-limit.result (overlaid (picture_in mid owner) over) limit painted c.overlay.result (length design.planes) within c.requires.fits
+    ok_where_fits wanted design.quota i c.get-limit.result (overlaid (picture_in mid owner) over) limit painted c.overlay.result (length design.planes) within c.requires.fits
     (λ err. c.overlay.ensures.too_many.0 err)
 
 pub loop-i-preserved : goal.loop-i-preserved

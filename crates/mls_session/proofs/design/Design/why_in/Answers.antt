@@ -1,18 +1,14 @@
-use Rattle.std.proofs.Common.{ap, ◌∙◌}
-use Rattle.mls_session.specs.Designs.{Design}
-use Rattle.mls_session.proofs.FlatDesigns.{HasCells-CanDump, flat_layout-design}
+use Rattle.std.proofs.Common.{IfOk, ◌≡◌, refl, ◌∙◌}
+use Rattle.mls_checker.specs.Findings.{violated_rules}
+use Rattle.mls_session.proofs.LentDesigns.{HasCells-lent, said_of-lent}
 use Rattle.mls_session.proofs.design.Design.why_in.Goals as goal
 
 pub why-requires-clause-cells : goal.why-requires-clause-cells
 why-requires-clause-cells c =
-    let lent = c.deref_mut.ensures.value ∙ ap (λ (d : Design). d.planes) c.self.view_is in
-    HasCells-CanDump c.args.setup.now c.args.workspace.now.pool c.args.self.now c.requires.can_dump c.basis-basis.result.uses.library.now c.basis-basis.ensures.library
-    c.deref_mut.result.now c.requires.made_for lent
+    HasCells-lent c.args.setup.now c.args.workspace.now.pool c.self.inside c.args.self.now c.self.view_is c.basis-basis.result.uses.library.now c.basis-basis.ensures.library c.deref_mut.result.now c.deref_mut.ensures.value c.requires.can_dump c.requires.made_for
 
 pub returns-clause-value : goal.returns-clause-value
 returns-clause-value c =
-    let basis = c.basis-basis in
-    let lent = c.deref_mut.ensures.value ∙ ap (λ (d : Design). d.planes) c.self.view_is in
-    let list = basis.ensures.list ∙ c.deref.ensures.value ∙ ap (λ (d : Design). d.uses) c.self.view_is in
-    let shown = flat_layout-design c.args.setup.now c.args.workspace.now.pool c.args.self.now basis.result.uses basis.ensures.library list c.deref_mut.result.now lent in
-    rw (basis.ensures.rules, shown) at c.why.ensures.value
+    said_of-lent (λ rules layout planes limit before. IfOk c.why.result (λ violated. violated ≡ violated_rules rules c.args.rect layout))
+    c.args.setup.now c.args.workspace.now.pool c.self.inside c.args.self.now c.self.view_is c.basis-basis.result c.deref_mut.result.now c.self.inside.quota
+    (record { rules = c.basis-basis.ensures.rules; library = c.basis-basis.ensures.library; list = c.basis-basis.ensures.list ∙ c.deref.ensures.value; planes = c.deref_mut.ensures.value; limit = refl }) c.why.ensures.value

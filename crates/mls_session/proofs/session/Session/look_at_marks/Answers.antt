@@ -4,6 +4,7 @@ use Rattle.mls_session.specs.Sessions.{Session, kept_of}
 use Rattle.mls_session.specs.Setups.{terms_of}
 use Rattle.mls_session.specs.declared.look.Look.TheVariants.{Marks}
 use Rattle.mls_session.specs.declared.look.Looked.{Looked}
+use Rattle.mls_session.proofs.JournalledCommands.{seen}
 use Rattle.mls_session.proofs.SessionLooks.{Looks-marks, Looks-marks-Memory, Looks-marks-Quota, LooksMore}
 use Rattle.mls_session.proofs.session.Session.look_at_marks.Goals as goal
 use Rattle.mls_session.proofs.session.Session.look_at_marks.Goals.{in-Ok, in-Err-TooMany, in-Err-Memory}
@@ -11,8 +12,7 @@ use Rattle.mls_session.proofs.session.Session.look_at_marks.Goals.{in-Ok, in-Err
 pub returns-clause-looks : goal.returns-clause-looks
 returns-clause-looks c =
     let pool = c.args.workspace.now.pool in
-    let inside = c.self.inside in
-    let before : Session = record { design = inside.design; journal = inside.journal.entries; limit = inside.journal.limit; checks = inside.journal.checks } in
+    let before = seen c.self.inside.design c.self.inside.journal in
     let terms = terms_of c.args.setup.now pool in
     let out = c.args.out.now.items in
     let longer = c.mark_text.new.out.items in
@@ -31,7 +31,4 @@ returns-clause-looks c =
 
 pub returns-clause-reads_back : goal.returns-clause-reads_back
 returns-clause-reads_back c =
-    let pool = c.args.workspace.now.pool in
-    let inside = c.self.inside in
-    let before : Session = record { design = inside.design; journal = inside.journal.entries; limit = inside.journal.limit; checks = inside.journal.checks } in
-    subst (λ (s : Session). MarksReadBack (terms_of c.args.setup.now pool) (kept_of pool s)) c.self.view_is (c.reads_back.ensures _ _)
+    subst (λ (s : Session). MarksReadBack (terms_of c.args.setup.now c.args.workspace.now.pool) (kept_of c.args.workspace.now.pool s)) c.self.view_is (c.reads_back.ensures _ _)

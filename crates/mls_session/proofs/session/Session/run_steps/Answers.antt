@@ -21,38 +21,31 @@ step-requires-clause-can_dump c =
 
 pub loop-done-preserved : goal.loop-done-preserved
 loop-done-preserved c =
-    let setup = c.args.setup.now in
-    let old = c.args.workspace.now.pool in
-    let mid = c.loop-done.workspace.pool in
-    let new = c.step.new.workspace.pool in
-    let before = c.args.self.now in
-    let during = c.loop-done.self in
-    let after = c.step.new.self in
     let so_far = c.loop-done.invariant in
-    let same = terms_of-kept setup old mid before during so_far.keeps c.requires.can_dump in
-    let once = subst (λ (terms : Terms). ChecksOnce terms (kept_of mid during) (kept_of new after)) same c.in-Done.ensures.stepped in
+    let same = terms_of-kept c.args.setup.now c.args.workspace.now.pool c.loop-done.workspace.pool c.args.self.now c.loop-done.self so_far.keeps c.requires.can_dump in
+    let during = kept_of c.loop-done.workspace.pool c.loop-done.self in
+    let after = kept_of c.step.new.workspace.pool c.step.new.self in
     record {
-      times = ChecksTimes-last (terms_of setup old) c.loop-done.done (kept_of old before) (kept_of mid during) (kept_of new after) so_far.times once;
+      times =
+          ChecksTimes-last (terms_of c.args.setup.now c.args.workspace.now.pool) c.loop-done.done (kept_of c.args.workspace.now.pool c.args.self.now) during after so_far.times
+          (subst (λ (terms : Terms). ChecksOnce terms during after) same c.in-Done.ensures.stepped);
       right = λ right.
-          subst (λ (terms : Terms). HasRightMarks terms.config (state_of mid during).design → HasRightMarks terms.config (state_of new after).design) same
+          subst (λ (terms : Terms). HasRightMarks terms.config during.own.design → HasRightMarks terms.config after.own.design) same
           c.step.ensures.marks_right (so_far.right right);
-      keeps = KeepsPlanes-trans setup old mid new before during after so_far.keeps c.step.ensures.keeps;
+      keeps =
+          KeepsPlanes-trans c.args.setup.now c.args.workspace.now.pool c.loop-done.workspace.pool c.step.new.workspace.pool c.args.self.now c.loop-done.self c.step.new.self
+          so_far.keeps c.step.ensures.keeps;
     }
 
 pub returns-in_default-clause-stepped : goal.returns-in_default-clause-stepped
 returns-in_default-clause-stepped c =
-    let setup = c.args.setup.now in
-    let old = c.args.workspace.now.pool in
-    let mid = c.loop-done.workspace.pool in
-    let new = c.step.new.workspace.pool in
-    let before = c.args.self.now in
-    let during = c.loop-done.self in
-    let after = c.step.new.self in
     let so_far = c.loop-done.invariant in
-    let same = terms_of-kept setup old mid before during so_far.keeps c.requires.can_dump in
-    let once = subst (λ (terms : Terms). StepsOnce terms (kept_of mid during) c.step.result (kept_of new after)) same c.step.ensures.stepped in
+    let same = terms_of-kept c.args.setup.now c.args.workspace.now.pool c.loop-done.workspace.pool c.args.self.now c.loop-done.self so_far.keeps c.requires.can_dump in
     let less : c.loop-done.done < c.args.most = omega arith in
-    StepsUpTo-ended (terms_of setup old) c.args.most c.loop-done.done (kept_of old before) (kept_of mid during) (kept_of new after) c.step.result less so_far.times c.in_default.not-Done once
+    let during = kept_of c.loop-done.workspace.pool c.loop-done.self in
+    let after = kept_of c.step.new.workspace.pool c.step.new.self in
+    StepsUpTo-ended (terms_of c.args.setup.now c.args.workspace.now.pool) c.args.most c.loop-done.done (kept_of c.args.workspace.now.pool c.args.self.now) during after c.step.result less
+    so_far.times c.in_default.not-Done (subst (λ (terms : Terms). StepsOnce terms during c.step.result after) same c.step.ensures.stepped)
 
 pub returns-in_default-clause-legal : goal.returns-in_default-clause-legal
 returns-in_default-clause-legal c =

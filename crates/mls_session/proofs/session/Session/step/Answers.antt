@@ -1,70 +1,40 @@
-use Rattle.std.proofs.Common.{◌≡◌, ◌+◌, refl, ap, ◌∙◌, subst, sym}
-use Rattle.mls_errorplane.specs.Checkings.{IsChecked}
+use Rattle.std.proofs.Common.{◌≡◌, ap, ◌∙◌, subst, sym}
 use Rattle.mls_errorplane.specs.ErrorPlanes.{checking_of}
-use Rattle.mls_geom.specs.Layouts.{Layout}
-use Rattle.mls_session.specs.Designs.{HasRightMarks, IsMadeFor, designed_of, drawn_of}
+use Rattle.mls_session.specs.Designs.{drawn_of}
 use Rattle.mls_session.specs.Inner.{IsCounted, Journal, after_steps, done_steps}
-use Rattle.mls_session.specs.Journals.{StepsOnce}
-use Rattle.mls_session.specs.Own.{Drawn, layout_of}
+use Rattle.mls_session.specs.Own.{layout_of}
 use Rattle.mls_session.specs.Sessions.{KeepsPlanes, Session, kept_of}
 use Rattle.mls_session.specs.Setups.{config_of, terms_of}
 use Rattle.mls_session.proofs.CountedSteps.{IsCounted-stepped}
-use Rattle.mls_session.proofs.JournalledSteps.{StepsOnce-stepped}
+use Rattle.mls_session.proofs.JournalledCommands.{seen}
+use Rattle.mls_session.proofs.JournalledSteps.{StepsOnce-stepped, right_after}
 use Rattle.mls_session.proofs.LegalJournals.{StepsOnce-legal}
 use Rattle.mls_session.proofs.RightMarks.{HasStepped-IsChecked}
 use Rattle.mls_session.proofs.session.Session.step.Goals as goal
-
--- the session as it was, and as it is
-abbrev before : goal.After-count → Session
-before c = record { design = c.self.inside.design; journal = c.self.inside.journal.entries; limit = c.self.inside.journal.limit; checks = c.self.inside.journal.checks }
-
-abbrev later : goal.After-count → Session
-later c = record { design = c.step-stepped.new.self; journal = c.count.new.self.entries; limit = c.count.new.self.limit; checks = c.count.new.self.checks }
-
-abbrev layout : goal.After-count → Layout
-layout c = layout_of (config_of c.args.setup.now c.args.workspace.now.pool) (drawn_of c.args.workspace.now.pool c.self.inside.design)
-
-counted : (c : goal.After-count) → IsCounted c.step-stepped.new.self.errors.dirty (c.self.inside.journal.checks + done_steps c.step-stepped.result)
-counted c =
-    let design = c.self.inside.design in
-    IsCounted-stepped c.args.setup.now.rules (layout c) design.quota c.self.inside.journal.checks (checking_of c.args.workspace.now.pool design.errors)
-    (checking_of c.step-stepped.new.workspace.pool c.step-stepped.new.self.errors) c.step-stepped.result c.self.invariant c.step-stepped.ensures.stepped
 
 journal : (c : goal.After-count) → c.count.new.self ≡ after_steps c.self.inside.journal (done_steps c.step-stepped.result)
 journal c = c.count.ensures ∙ ap (after_steps c.self.inside.journal) c.done_steps.ensures
 
 pub invariant_of-self : goal.invariant_of-self
-invariant_of-self c = subst (λ (j : Journal). IsCounted c.step-stepped.new.self.errors.dirty j.checks) (sym (journal c)) (counted c)
+invariant_of-self c =
+    subst (λ (j : Journal). IsCounted c.step-stepped.new.self.errors.dirty j.checks) (sym (journal c))
+    (IsCounted-stepped c.args.setup.now.rules (layout_of (config_of c.args.setup.now c.args.workspace.now.pool) (drawn_of c.args.workspace.now.pool c.self.inside.design)) c.self.inside.design.quota c.self.inside.journal.checks (checking_of c.args.workspace.now.pool c.self.inside.design.errors) (checking_of c.step-stepped.new.workspace.pool c.step-stepped.new.self.errors) c.step-stepped.result c.self.invariant c.step-stepped.ensures.stepped)
 
 pub returns-clause-stepped : goal.returns-clause-stepped
 returns-clause-stepped c =
-    let pool = c.args.workspace.now.pool in
-    let new = c.step-stepped.new.workspace.pool in
-    let design = c.self.inside.design in
-    let terms = terms_of c.args.setup.now pool in
-    let made_for = subst (λ (s : Session). IsMadeFor c.args.setup.now s.design) (sym c.self.view_is) c.requires.made_for.design in
-    subst (λ (s : Session). StepsOnce terms (kept_of pool s) c.step-stepped.result (kept_of new (later c))) c.self.view_is
-    (StepsOnce-stepped terms c.args.setup.now.rules design.quota (designed_of pool design) (designed_of new c.step-stepped.new.self) c.self.inside.journal c.count.new.self c.step-stepped.result refl
-    (sym made_for.quota) c.step-stepped.ensures.stepped c.step-stepped.ensures.drawn (journal c))
+    StepsOnce-stepped c.args.setup.now c.args.workspace.now.pool c.step-stepped.new.workspace.pool c.args.self.now c.self.inside.design c.step-stepped.new.self c.self.inside.journal c.count.new.self c.self.view_is c.step-stepped.ensures.keeps.drawn
+    c.requires.made_for c.step-stepped.result (journal c) c.step-stepped.ensures.stepped
 
 pub returns-clause-legal : goal.returns-clause-legal
 returns-clause-legal c =
-    StepsOnce-legal (terms_of c.args.setup.now c.args.workspace.now.pool) (kept_of c.args.workspace.now.pool c.args.self.now) (kept_of c.step-stepped.new.workspace.pool (later c)) c.step-stepped.result
-    (returns-clause-stepped c)
+    StepsOnce-legal (terms_of c.args.setup.now c.args.workspace.now.pool) (kept_of c.args.workspace.now.pool c.args.self.now) (kept_of c.step-stepped.new.workspace.pool (seen c.step-stepped.new.self c.count.new.self)) c.step-stepped.result (returns-clause-stepped c)
 
 pub returns-clause-marks_right : goal.returns-clause-marks_right
 returns-clause-marks_right c =
-    let pool = c.args.workspace.now.pool in
-    let new = c.step-stepped.new.workspace.pool in
-    let config = config_of c.args.setup.now pool in
-    let design = c.self.inside.design in
-    let checking = checking_of new c.step-stepped.new.self.errors in
-    subst (λ (s : Session). HasRightMarks config (designed_of pool s.design) → HasRightMarks config (designed_of new c.step-stepped.new.self)) c.self.view_is
-    (λ right.
-    subst (λ (d : Drawn). IsChecked config.rules (layout_of config d) checking) (sym c.step-stepped.ensures.drawn)
-    (HasStepped-IsChecked config.rules (layout c) design.quota (checking_of pool design.errors) checking c.step-stepped.result c.step-stepped.ensures.stepped right))
+    right_after c.args.setup.now c.args.workspace.now.pool c.step-stepped.new.workspace.pool c.args.self.now c.self.inside.design c.step-stepped.new.self c.self.inside.journal c.count.new.self c.self.view_is c.step-stepped.ensures.keeps.drawn
+    (HasStepped-IsChecked c.args.setup.now.rules (layout_of (config_of c.args.setup.now c.args.workspace.now.pool) (drawn_of c.args.workspace.now.pool c.self.inside.design)) c.self.inside.design.quota (checking_of c.args.workspace.now.pool c.self.inside.design.errors) (checking_of c.step-stepped.new.workspace.pool c.step-stepped.new.self.errors) c.step-stepped.result c.step-stepped.ensures.stepped)
 
 pub returns-clause-keeps : goal.returns-clause-keeps
 returns-clause-keeps c =
-    subst (λ (s : Session). KeepsPlanes c.args.workspace.now.pool c.step-stepped.new.workspace.pool s (later c)) c.self.view_is
-    (record { planes = c.step-stepped.ensures.keeps; limit = ap (λ (j : Journal). j.limit) (journal c) })
+    subst (λ (s : Session). KeepsPlanes c.args.workspace.now.pool c.step-stepped.new.workspace.pool s (seen c.step-stepped.new.self c.count.new.self)) c.self.view_is
+    (record { planes = c.step-stepped.ensures.keeps.planes; limit = ap (λ (j : Journal). j.limit) (journal c) })

@@ -1,0 +1,95 @@
+-- What a design lends to a call of its error plane, its planes and what its layout is checked by, and the design that comes back.
+use Rattle.std.proofs.Common.{◌≡◌, ℕ, List, [], ◌∷◌, length, All, Contains, sym, ap, ◌∙◌, subst}
+use Rattle.std.specs.Vec.{with_items}
+use Rattle.std.proofs.lemmas.List.{with_items_is}
+use Rattle.mls_edgerule.specs.declared.edge_rule.EdgeRule.{EdgeRule}
+use Rattle.mls_geom.specs.Layouts.{Layout}
+use Rattle.mls_tilepool.specs.Pools.{Pool}
+use Rattle.mls_stitch.specs.Tilings.{ChangesOnly}
+use Rattle.mls_layout.specs.Uses.{HasCells, flat_layout}
+use Rattle.mls_library.specs.Libraries.{Library}
+use Rattle.mls_errorplane.specs.Checkings.{Checking}
+use Rattle.mls_errorplane.specs.ErrorPlanes.{ErrorPlane, ShowsMarks, checking_of}
+use Rattle.mls_errorplane.specs.declared.basis.Basis.{Basis}
+use Rattle.mls_session.specs.Designs.{CanDump, Design, IsHome, IsMadeFor, drawn_of, owners_of}
+use Rattle.mls_session.specs.Inner.{KeepsDrawn}
+use Rattle.mls_session.specs.Own.{layout_of}
+use Rattle.mls_session.specs.Setups.{config_of}
+use Rattle.mls_session.specs.declared.design.Design.TheInside.{Inside}
+use Rattle.mls_session.specs.declared.setup.Setup.{Setup}
+use Rattle.mls_session.proofs.ErrorPlanes.{KeepsPlanes-errors, drawn-errors}
+use Rattle.mls_session.proofs.FlatDesigns.{HasCells-CanDump, cells_apart-CanDump, flat_layout-design}
+
+-- the design as its fields have it
+abbrev pub seen : Inside → Design
+seen inside = record {
+  box = inside.box_rect;
+  planes = inside.planes.items;
+  uses = inside.uses.items;
+  quota = inside.quota;
+  errors = inside.errors;
+}
+
+-- with the planes and the error plane that come back
+abbrev pub returned : Inside → List ℕ → ErrorPlane → Design
+returned inside owners errors = record (seen inside) { planes = (with_items inside.planes owners).items; errors = errors }
+
+-- these planes, this basis and this limit are what is lent
+pub record IsLent (setup : Setup) (inside : Inside) (basis : Basis) (owners : List ℕ) (most : ℕ) : Type 0 where
+  pub rules : basis.rules.now ≡ setup.rules
+  pub library : basis.uses.library.now ≡ setup.library
+  pub list : basis.uses.list.now ≡ inside.uses.items
+  pub planes : owners ≡ inside.planes.items
+  pub limit : most ≡ inside.quota
+
+-- ---- what is lent
+-- the cells lie in the pool
+pub HasCells-lent :
+    (setup : Setup) (pool : Pool) (inside : Inside) (design : Design) → seen inside ≡ design → (library : Library) → library ≡ setup.library
+    → (owners : List ℕ) → owners ≡ inside.planes.items → CanDump setup pool (owners_of design) → IsMadeFor setup design → HasCells pool (length owners) library
+HasCells-lent setup pool inside design view library same owners lent can made_for =
+    HasCells-CanDump setup pool design can library same owners made_for (lent ∙ ap (λ (d : Design). d.planes) view)
+
+-- none of their planes is the error plane
+pub cells_apart-lent :
+    (setup : Setup) (pool : Pool) (inside : Inside) (design : Design) → seen inside ≡ design → (library : Library) → library ≡ setup.library
+    → CanDump setup pool (owners_of design) → All (λ cell. All (λ other. ¬ (Contains (inside.errors.owner ∷ []) other)) cell.planes) library
+cells_apart-lent setup pool inside design view library same can =
+    cells_apart-CanDump setup pool design can library same inside.errors.owner (ap (λ (d : Design). d.errors.owner) view)
+
+-- what is said of the rules, the layout, the planes, the limit and the error plane that are lent is said of the design's own
+pub said_of-lent :
+    (Says : List EdgeRule → Layout → List ℕ → ℕ → Checking → Type 0) (setup : Setup) (pool : Pool) (inside : Inside) (design : Design) → seen inside ≡ design
+    → (basis : Basis) (owners : List ℕ) (limit : ℕ) → IsLent setup inside basis owners limit
+    → Says basis.rules.now (flat_layout pool basis.uses owners) owners limit (checking_of pool inside.errors)
+    → Says setup.rules (layout_of (config_of setup pool) (drawn_of pool design)) design.planes design.quota (checking_of pool design.errors)
+said_of-lent Says setup pool inside design view basis owners limit lent said =
+    let own : Design = seen inside in
+    let shown = flat_layout-design setup pool own basis.uses lent.library lent.list owners lent.planes in
+    subst (λ (d : Design). Says setup.rules (layout_of (config_of setup pool) (drawn_of pool d)) d.planes d.quota (checking_of pool d.errors)) view
+    (subst (λ (q : ℕ). Says setup.rules (layout_of (config_of setup pool) (drawn_of pool own)) own.planes q (checking_of pool own.errors)) lent.limit
+    (subst (λ (planes : List ℕ). Says setup.rules (layout_of (config_of setup pool) (drawn_of pool own)) planes limit (checking_of pool own.errors)) lent.planes
+    (subst (λ (layout : Layout). Says setup.rules layout owners limit (checking_of pool own.errors)) shown
+    (subst (λ (rules : List EdgeRule). Says rules (flat_layout pool basis.uses owners) owners limit (checking_of pool own.errors)) lent.rules said))))
+
+-- ---- what comes back
+module _ (old new : Pool) (inside : Inside) (design : Design) (view : seen inside ≡ design) (owners : List ℕ) (errors : ErrorPlane) (same : owners ≡ inside.planes.items) where
+  -- the planes
+  pub planes-returned : (returned inside owners errors).planes ≡ design.planes
+  planes-returned =
+      with_items_is inside.planes owners (ap length same ∙ sym inside.planes.ok.0) ∙ same ∙ ap (λ (d : Design). d.planes) view
+
+  -- where only tiles of the error plane have changed
+  pub only-returned : ChangesOnly old new inside.errors.owner → ChangesOnly old new design.errors.owner
+  only-returned only = subst (λ (e : ErrorPlane). ChangesOnly old new e.owner) (ap (λ (d : Design). d.errors) view) only
+
+  pub KeepsDrawn-returned :
+      IsHome old design → ChangesOnly old new inside.errors.owner → ShowsMarks new errors → errors.owner ≡ inside.errors.owner
+      → KeepsDrawn old new design (returned inside owners errors)
+  KeepsDrawn-returned home only shows owner =
+      let after : Design = returned inside owners errors in
+      let changed = only-returned only in
+      record {
+        drawn = drawn-errors old new design after home changed (ap (λ (d : Design). d.box) view) planes-returned (ap (λ (d : Design). d.uses) view);
+        planes = KeepsPlanes-errors old new design after home changed shows planes-returned (ap (λ (d : Design). d.quota) view) (owner ∙ ap (λ (d : Design). d.errors.owner) view);
+      }
