@@ -12,7 +12,8 @@ use Rattle.mls_session.specs.Quotas.{plane_reserve}
 use Rattle.mls_session.specs.Sessions.{IsHome, IsMadeFor, Session, kept_of, owners_of, state_of}
 use Rattle.mls_session.specs.Setups.{config_of, terms_of}
 use Rattle.mls_tilepool.specs.Pools.{Pool, unreserved}
-use Rattle.mls_server.specs.Servers.{AreApart, IsOpenIn, OpenSession, Server, seat_for, setting_of, world_of}
+use Rattle.mls_server.specs.Servers.{AreApart, IsOpenIn, Server, seat_for, setting_of, world_of}
+use Rattle.mls_server.specs.declared.server.OpenSession.{OpenSession}
 use Rattle.mls_server.specs.Settings.{session_reserve}
 use Rattle.mls_server.specs.Worlds.{Seat, with_session}
 use Rattle.mls_server.proofs.OtherSessions.{AreOpenIn, CanDump-apart, IsOpenIn-apart, KeepsOthers, apart-AddsOwners, cells_apart-AddsOwners, others-AddsOwners, seat_for-apart, world_of-apart}

@@ -1,36 +1,50 @@
 -- One open session is asked for something: what it keeps, and what the server and its world are afterwards.
-use Rattle.std.proofs.Common.{◌≡◌, ℕ, ◌<◌, ◌≤◌, ◌==◌, Bool, true, false, cond, List, [], ◌∷◌, length, map, get_or, slice_get, Option, Some, None, Ok, inl, inr, refl, sym, ap, subst, subst₂, ◌∙◌, arith}
-use Rattle.std.specs.Option.{option_map}
+use Rattle.std.proofs.Common.{◌≡◌, ℕ, ◌<◌, ◌≤◌, ◌==◌, Bool, true, false, cond, List, [], ◌∷◌, length, map, get_or, position, slice_get, Option, Some, None, Result, Ok, Err, IfOk, OnErr, inl, inr, refl, sym, ap, subst, subst₂, ◌∙◌, arith}
+use Rattle.std.specs.Option.{ok_or, option_map, option_map_or}
+use Rattle.std.specs.Result.{IsErr}
 use Rattle.std.proofs.lemmas.Bool.{cases_lt}
+use Rattle.std.proofs.lemmas.Option.{slice_get-map}
 use Rattle.indexmap.specs.Layout.{length-set_value_at, set_value_at}
 use Rattle.mls_paint.specs.Owners.{ChangesAmong}
 use Rattle.mls_paint.proofs.OwnerFrames.{unreserved-ChangesAmong}
 use Rattle.mls_errorplane.specs.declared.checked.Checked.{Checked}
+use Rattle.mls_library.specs.SavedCells.{saved_text}
 use Rattle.mls_session.specs.Designs.{CanDump, HasRightMarks, KnowsRight}
 use Rattle.mls_session.specs.Journals.{IsLegal, Kept}
 use Rattle.mls_session.specs.OwnSteps.{Terms}
 use Rattle.mls_session.specs.declared.journal.Entry.{Entry as JournalEntry}
-use Rattle.mls_session.specs.Sessions.{KeepsPlanes, Session, kept_of, owners_of, state_of}
+use Rattle.mls_session.specs.declared.look.Look.{Look}
+use Rattle.mls_session.specs.declared.look.Looked.{Looked}
+use Rattle.mls_session.specs.declared.reply.Reply.{Reply}
+use Rattle.mls_session.specs.Sessions.{IsHome, IsMadeFor, KeepsPlanes, Session, kept_of, owners_of, state_of}
 use Rattle.mls_session.specs.Setups.{terms_of}
 use Rattle.mls_tilepool.specs.Pools.{Pool}
-use Rattle.mls_server.specs.Events.{OnSeat}
-use Rattle.mls_server.specs.Servers.{AreApart, IsOpenIn, OpenSession, Server, owners_under, place_in, seat_for, setting_of, world_of}
+use Rattle.mls_server.specs.Events.{LooksAt, OnSeat, SavesText, own_text}
+use Rattle.mls_server.specs.Servers.{AreApart, IsOpenIn, IsPlaceOf, Server, owners_under, place_in, seat_for, setting_of, world_of}
+use Rattle.mls_server.specs.declared.fault.NotOpen.{NotOpen}
+use Rattle.mls_server.specs.declared.server.OpenSession.{OpenSession}
 use Rattle.mls_server.specs.Settings.{terms_for}
-use Rattle.mls_server.specs.Worlds.{Seat, kept_in, seat_in, with_kept}
+use Rattle.mls_server.specs.Worlds.{Seat, World, kept_in, seat_in, with_kept}
 use Rattle.mls_server.proofs.KeptSessions.{IsOpenIn-kept, KeepsPlanes-same, others-kept, owners_of-kept}
 use Rattle.mls_server.proofs.OtherSessions.{AreOpenIn, CanDump-apart, IsOpenIn-apart, KeepsOthers, seat_for-apart, world_of-apart}
-use Rattle.mls_server.proofs.ReplacedSessions.{All-at, All-replaced, AllBut, AllPairs-replaced, Entry, HasOtherId, IsAt, IsAt-values, StaysApart, at-get_or, at-within, found-id, missing-id, others-differ, owners_in-at, same-replaced, seat_in-at, seat_in-none, seats-replaced}
+use Rattle.mls_server.proofs.ReplacedSessions.{All-at, All-replaced, AllBut, AllPairs-replaced, Entry, HasOtherId, IsAt, IsAt-values, StaysApart, at-get_or, at-within, found-id, others-differ, owners_in-at, place-found, place-missing, same-replaced, seat_in-at, seat_in-none, seats-replaced}
 use Rattle.mls_server.proofs.SessionTerms.{terms_of-setting}
 
--- where the scan finds no session of the id, none is open, and nothing changes
-pub not_open :
-    {now server : Server} → server ≡ now → (id place : ℕ) → place ≡ place_in now.sessions id → slice_get (map (λ entry. entry.1) server.sessions) place ≡ None
-    → (kept_in (world_of now) id ≡ None) × (world_of server ≡ world_of now)
-not_open {now} {server} shows id place first none =
-    let missing = missing-id server.sessions id (ap (slice_get (map (λ entry. entry.1) server.sessions)) (sym (first ∙ ap (λ (on : Server). place_in on.sessions id) (sym shows))) ∙ none) in (
-      subst (λ (on : Server). kept_in (world_of on) id ≡ None) shows (ap (option_map (λ seat. seat.kept)) (seat_in-none id server.pool server.sessions missing)),
-      ap world_of shows,
-    )
+-- where the scan of the sessions finds one of the id, that is the place, and else none is open
+pub place_found :
+    (on : Server) (id : ℕ) (found : Option ℕ) (fault : NotOpen) → found ≡ position (λ asked. asked.id == id) (map (λ entry. entry.1) on.sessions)
+    → IfOk (ok_or found fault) (λ place. IsPlaceOf on id place) × OnErr (ok_or found fault) (kept_in (world_of on) id ≡ None)
+place_found on id (Some place) fault scan = let (first, within) = place-found on.sessions id place (sym scan) in (record { first = first; within = within }, tt)
+place_found on id None fault scan = (tt, ap (option_map (λ seat. seat.kept)) (seat_in-none id on.pool on.sessions (place-missing on.sessions id (sym scan))))
+
+-- where none is open, nothing is saved, and nothing is shown
+pub saves-none : (on : World) (id : ℕ) (result : Result Reply NotOpen) → IsErr result → kept_in on id ≡ None → SavesText on id result [] on
+saves-none on id (Ok reply) is none = absurd cc
+saves-none on id (Err fault) is none = (none, refl, refl)
+
+pub looks-none : (on : World) (id : ℕ) (look : Look) (result : Result Looked NotOpen) → IsErr result → kept_in on id ≡ None → LooksAt on id look result []
+looks-none on id look (Ok looked) is none = absurd cc
+looks-none on id look (Err fault) is none = (none, refl)
 
 -- what no call of a session changes
 abbrev pub own_terms : Server → Terms
@@ -49,11 +63,11 @@ pub record IsAsked (now server : Server) (id place : ℕ) (before : OpenSession)
   pub others : AllBut (HasOtherId id) server.sessions place
   pub apart : AllBut (λ entry. AreApart (owners_of entry.1.session) (owners_of before.session)) server.sessions place
 
--- where the scan finds one, it is so
+-- it is so of a place that is that of the id
 pub is_asked :
-    {now server : Server} → server ≡ now → AreOpenIn server → (id place : ℕ) → place ≡ place_in now.sessions id → (before : OpenSession)
+    {now server : Server} → server ≡ now → AreOpenIn server → {id place : ℕ} → IsPlaceOf now id place → {before : OpenSession}
     → slice_get (map (λ entry. entry.1) server.sessions) place ≡ Some before → IsAsked now server id place before
-is_asked {now} {server} shows are id place first before scanned = record {
+is_asked {now} {server} shows are {id} {place} is_place {before} scanned = record {
   shows = shows;
   are = are;
   found = at;
@@ -76,13 +90,20 @@ is_asked {now} {server} shows are id place first before scanned = record {
     at = IsAt-values server.sessions place before scanned
 
     is : before.id ≡ id
-    is = found-id server.sessions id before (subst (λ (n : ℕ). IsAt server.sessions n before) (first ∙ ap (λ (on : Server). place_in on.sessions id) (sym shows)) at)
+    is = found-id server.sessions id before (subst (λ (n : ℕ). IsAt server.sessions n before) (is_place.first ∙ ap (λ (on : Server). place_in on.sessions id) (sym shows)) at)
 
     differ : AllBut (HasOtherId id) server.sessions place
     differ = others-differ server.sessions place id before are.rising at is
 
     made : IsOpenIn server.setup server.pool before
     made = All-at (λ (member : OpenSession). IsOpenIn server.setup server.pool member) server.sessions place before are.made at
+
+-- the same by its entry
+pub is_asked-entry :
+    {now server : Server} → server ≡ now → AreOpenIn server → {id place : ℕ} → IsPlaceOf now id place → {entry : Entry} → slice_get server.sessions place ≡ Some entry
+    → IsAsked now server id place entry.1
+is_asked-entry {now} {server} shows are {id} {place} is_place scanned =
+    is_asked shows are is_place (slice_get-map (λ (entry : Entry). entry.1) server.sessions place ∙ ap (option_map (λ (entry : Entry). entry.1)) scanned)
 
 module _ {now server : Server} {id place : ℕ} {before : OpenSession} (asked : IsAsked now server id place before) where
   -- ---- what stays beside it, as only its own owners change
@@ -97,14 +118,36 @@ module _ {now server : Server} {id place : ℕ} {before : OpenSession} (asked : 
     pub stays-beside : AllBut (StaysApart id server.pool new) server.sessions place
     stays-beside k d within differ = (asked.others k d within differ, seat_for-apart others (get_or server.sessions k d) (asked.apart k d within differ))
 
-  -- ---- it stays
-  pub sessions-same : (after : Session) → after ≡ before.session → set_value_at server.sessions place (record before { session = after }) ≡ server.sessions
-  sessions-same after same =
-      same-replaced server.sessions place before (record before { session = after }) asked.found (ap (λ (session : Session). record before { session = session }) same)
+  -- ---- what each call of it requires
+  pub callable : record { home : IsHome server.pool before.session; made_for : IsMadeFor server.setup before.session; can_dump : CanDump server.setup server.pool (owners_of before.session) }
+  callable = record { home = asked.made.home; made_for = asked.made.made_for; can_dump = asked.made.can_dump }
 
-  pub keeps-same :
-      (after : Session) → after.design ≡ before.session.design → after.limit ≡ before.session.limit → KeepsPlanes server.pool server.pool before.session after
-  keeps-same after same limit = KeepsPlanes-same server.pool before.session after asked.made.home same limit
+  pub own_text-asked : own_text (world_of now) id ≡ saved_text server.setup.tech (kept_of server.pool before.session).own.design.drawn.paint
+  own_text-asked =
+      ap (λ found. option_map_or (λ keeps. saved_text (setting_of now).tech keeps.own.design.drawn.paint) found []) asked.kept
+      ∙ ap (λ (terms : Terms). saved_text terms.config.tech (kept_of server.pool before.session).own.design.drawn.paint) (sym asked.terms)
+
+  -- the server with another pool, and with this of the session
+  abbrev pub with_asked : Pool → Session → Server
+  with_asked new after = record server { pool = new; sessions = set_value_at server.sessions place (record before { session = after }) }
+
+  -- ---- it stays, and the pool
+  module _ {new : Pool} {after : Session} (pool : new ≡ server.pool) where
+    shows-same : after ≡ before.session → with_asked new after ≡ server
+    shows-same stays =
+        ap (λ (at : Pool). with_asked at after) pool
+        ∙ ap (λ (sessions : List Entry). record server { sessions = sessions })
+        (same-replaced server.sessions place before (record before { session = after }) asked.found (ap (λ (session : Session). record before { session = session }) stays))
+
+    pub AreOpen-same : after ≡ before.session → AreOpenIn (with_asked new after)
+    AreOpen-same stays = subst AreOpenIn (sym (shows-same stays)) asked.are
+
+    pub world_of-same : after ≡ before.session → world_of (with_asked new after) ≡ world_of now
+    world_of-same stays = ap world_of (shows-same stays ∙ asked.shows)
+
+    pub keeps-same : after.design ≡ before.session.design → after.limit ≡ before.session.limit → KeepsPlanes server.pool new before.session after
+    keeps-same design limit =
+        subst (λ (at : Pool). KeepsPlanes server.pool at before.session after) (sym pool) (KeepsPlanes-same server.pool before.session after asked.made.home design limit)
 
   -- ---- it changes tiles of its own owners alone
   module _ {new : Pool} {after : Session} (keeps : KeepsPlanes server.pool new before.session after) where

@@ -7,7 +7,8 @@ use Rattle.mls_paint.specs.Owners.{RemovesOwners}
 use Rattle.mls_session.specs.Quotas.{plane_reserve}
 use Rattle.mls_session.specs.Sessions.{owners_of}
 use Rattle.mls_tilepool.specs.Pools.{Pool, tiles_of, unreserved}
-use Rattle.mls_server.specs.Servers.{AreApart, IsOpenIn, OpenSession, Server, owners_under, setting_of, world_of}
+use Rattle.mls_server.specs.Servers.{AreApart, IsOpenIn, Server, owners_under, setting_of, world_of}
+use Rattle.mls_server.specs.declared.server.OpenSession.{OpenSession}
 use Rattle.mls_server.specs.Settings.{session_reserve}
 use Rattle.mls_server.specs.Worlds.{without_session}
 use Rattle.mls_server.proofs.AddedSessions.{length-owners_of}

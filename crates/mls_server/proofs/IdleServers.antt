@@ -14,7 +14,8 @@ use Rattle.mls_session.specs.declared.setup.Setup.{Setup}
 use Rattle.mls_text.specs.Words.{same_word}
 use Rattle.mls_tilepool.specs.Pools.{Pool, unreserved}
 use Rattle.mls_server.specs.Events.{LoadsCell, with_cell}
-use Rattle.mls_server.specs.Servers.{AreOpen, OpenSession, Server, seat_for, world_of}
+use Rattle.mls_server.specs.Servers.{AreOpen, Server, seat_for, world_of}
+use Rattle.mls_server.specs.declared.server.OpenSession.{OpenSession}
 use Rattle.mls_server.specs.Settings.{NamedLayout, cell_names, named_layout, named_layouts}
 use Rattle.mls_server.specs.Worlds.{Seat}
 use Rattle.mls_server.proofs.OtherSessions.{AreOpenIn, cells_apart-AddsOwners, named_layouts-apart, others-AddsOwners}

@@ -8,7 +8,8 @@ use Rattle.mls_session.specs.Sessions.{IsHome, KeepsPlanes, Session, kept_of, ow
 use Rattle.mls_session.specs.Setups.{config_of, terms_of}
 use Rattle.mls_session.specs.declared.setup.Setup.{Setup}
 use Rattle.mls_tilepool.specs.Pools.{Pool}
-use Rattle.mls_server.specs.Servers.{IsOpenIn, OpenSession}
+use Rattle.mls_server.specs.Servers.{IsOpenIn}
+use Rattle.mls_server.specs.declared.server.OpenSession.{OpenSession}
 use Rattle.mls_server.proofs.OtherSessions.{CanDump-apart, KeepsOthers, cell_layouts-apart, others-ChangesAmong}
 use Rattle.mls_server.proofs.SessionTerms.{terms-same}
 

@@ -6,7 +6,8 @@ use Rattle.std.proofs.lemmas.Cmp.{nat_list_eq_equiv}
 use Rattle.indexmap.specs.IndexMap.{insert_entry}
 use Rattle.mls_text.specs.Words.{same_word}
 use Rattle.mls_tilepool.specs.Pools.{Pool}
-use Rattle.mls_server.specs.Servers.{OpenSession, seat_for}
+use Rattle.mls_server.specs.Servers.{seat_for}
+use Rattle.mls_server.specs.declared.server.OpenSession.{OpenSession}
 use Rattle.mls_server.specs.Worlds.{named_in}
 
 module _ (pool : Pool) (name : List ℕ) where

@@ -20,7 +20,8 @@ use Rattle.mls_session.specs.Sessions.{IsHome, Session, kept_of, owners_of}
 use Rattle.mls_session.specs.Setups.{terms_of}
 use Rattle.mls_session.specs.declared.setup.Setup.{Setup}
 use Rattle.mls_tilepool.specs.Pools.{Pool, room_of, unreserved}
-use Rattle.mls_server.specs.Servers.{AreApart, AreOpen, IsOpenIn, OpenSession, Server, seat_for, setting_of, world_of}
+use Rattle.mls_server.specs.Servers.{AreApart, AreOpen, IsOpenIn, Server, seat_for, setting_of, world_of}
+use Rattle.mls_server.specs.declared.server.OpenSession.{OpenSession}
 use Rattle.mls_server.specs.Settings.{NamedLayout, named_layout, named_layouts}
 use Rattle.mls_server.specs.Worlds.{Seat}
 use Rattle.mls_server.proofs.ReplacedSessions.{Entry, map_same}

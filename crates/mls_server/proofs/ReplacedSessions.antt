@@ -1,5 +1,5 @@
 -- The open sessions in a list, and their seats: one of them, that of an id, and what the list is where one is replaced or removed.
-use Rattle.std.proofs.Common.{◌≡◌, ◌≢◌, ℕ, zero, suc, ◌+◌, ◌<◌, ◌≤◌, ◌==◌, Bool, true, false, not, cond, filter, List, [], ◌∷◌, length, map, get_or, nat_lt, Option, slice_get, position, Some, None, All, AllPairs, inl, inr, refl, sym, ap, subst, subst₂, ◌∙◌, arith}
+use Rattle.std.proofs.Common.{◌≡◌, ◌≢◌, ℕ, zero, suc, ◌+◌, ◌<◌, ◌≤◌, ◌==◌, Bool, true, false, not, cond, filter, List, [], ◌∷◌, length, map, get_or, nat_lt, slice_get, position, Some, None, All, AllPairs, inl, inr, refl, sym, ap, subst, subst₂, ◌∙◌, arith}
 use Rattle.std.specs.List.{position_or_len, remove}
 use Rattle.std.specs.Option.{option_map, unwrap_or}
 use Rattle.std.proofs.lemmas.Bool.{cases_lt, eq-eqb, eqb-true, ne_eqb}
@@ -7,12 +7,12 @@ use Rattle.std.proofs.lemmas.Bool.Decides.{nat_tests}
 use Rattle.std.proofs.lemmas.List.{length-map}
 use Rattle.std.proofs.lemmas.List.Edits.{get_or-remove_above, get_or-remove_below, length-remove}
 use Rattle.std.proofs.lemmas.List.Sums.{fails_before_first, passes_at_first}
-use Rattle.std.proofs.lemmas.Option.{slice_get-get_or}
 use Rattle.std.proofs.lemmas.Simd.{map-map}
 use Rattle.indexmap.specs.Layout.{length-set_value_at, set_value_at}
 use Rattle.mls_session.specs.Sessions.{kept_of, owners_of}
 use Rattle.mls_tilepool.specs.Pools.{Pool}
-use Rattle.mls_server.specs.Servers.{OpenSession, owners_in, place_in, seat_for}
+use Rattle.mls_server.specs.Servers.{owners_in, place_in, seat_for}
+use Rattle.mls_server.specs.declared.server.OpenSession.{OpenSession}
 use Rattle.mls_server.specs.Worlds.{Seat, keeping, seat_in}
 
 -- a session's name, and the session with its id
@@ -127,16 +127,11 @@ found-id entries id member at =
     sym (ap (λ (found : OpenSession). found.id) (at-get_or entries _ member d at))
     ∙ eqb-true _ id (passes_at_first (λ entry. entry.1.id == id) entries d (at-within entries _ member at))
 
-pub missing-id : (entries : List Entry) (id : ℕ) → slice_get (map (λ entry. entry.1) entries) (place_in entries id) ≡ None → All (HasOtherId id) entries
-missing-id entries id none k d within same = elim (cases_lt (place_in entries id) (length entries)) [
-  | inl inside ↦
-      let found = slice_get-get_or (map (λ entry. entry.1) entries) (place_in entries id) d.1 (subst (λ (count : ℕ). place_in entries id < count) (sym (length-map entries (λ entry. entry.1))) inside) in
-      absurd cc
-  | inr past ↦
-      let fails = fails_before_first (λ entry. entry.1.id == id) entries k d (omega (arith, within, past)) in
-      let passes = eq-eqb (get_or entries k d).1.id id same in
-      absurd cc
-]
+pub missing-id : (entries : List Entry) (id : ℕ) → length entries ≤ place_in entries id → All (HasOtherId id) entries
+missing-id entries id past k d within same =
+    let fails = fails_before_first (λ entry. entry.1.id == id) entries k d (omega (arith, within, past)) in
+    let passes = eq-eqb (get_or entries k d).1.id id same in
+    absurd cc
 
 -- ids rise, so no other has it
 pub others-differ :
@@ -220,8 +215,8 @@ module _ (id : ℕ) (old new : Pool) (entries : List Entry) (i : ℕ) (before : 
       ∙ others_left entries i at (λ k d within differ. (others k d within differ).0)
 
 -- ---- where a scan of the sessions ends
-scan-found : (within : Bool) (n place : ℕ) → cond within (Some n) None ≡ Some place → n ≡ place
-scan-found true n place found = ap (λ end. unwrap_or end n) found
+scan-found : (within : Bool) (n place : ℕ) → cond within (Some n) None ≡ Some place → (within ≡ true) × (n ≡ place)
+scan-found true n place found = (refl, ap (λ end. unwrap_or end n) found)
 scan-found false n place found = absurd cc
 
 scan-missing : (within : Bool) (n : ℕ) → cond within (Some n) None ≡ None → within ≡ false
@@ -235,25 +230,14 @@ module _ (entries : List Entry) (id : ℕ) where
   abbrev first : ℕ
   first = position_or_len (λ member. member.id == id) members
 
-  place-found : (place : ℕ) → position (λ member. member.id == id) members ≡ Some place → place ≡ place_in entries id
-  place-found place found = sym (scan-found (nat_lt first (length members)) first place found) ∙ place-values entries id
+  pub place-found : (place : ℕ) → position (λ member. member.id == id) members ≡ Some place → (place ≡ place_in entries id) × (place < length entries)
+  place-found place found =
+      let (passes, is) = scan-found (nat_lt first (length members)) first place found in
+      let below : first < length members = grind (arith, nat_tests) in
+      (sym is ∙ place-values entries id, omega (arith, below, is, length-map entries (λ entry. entry.1)))
 
-  place-missing : position (λ member. member.id == id) members ≡ None → length entries ≡ place_in entries id
+  pub place-missing : position (λ member. member.id == id) members ≡ None → All (HasOtherId id) entries
   place-missing none =
       let fails : nat_lt first (length members) ≡ false = scan-missing (nat_lt first (length members)) first none in
       let past : length members ≤ first = grind (arith, nat_tests) in
-      let last : first ≤ length members = first-within members in
-      let all : first ≡ length members = omega (arith, past, last) in
-      sym (length-map entries (λ entry. entry.1)) ∙ sym all ∙ place-values entries id
-    where
-      first-within : (list : List OpenSession) → position_or_len (λ member. member.id == id) list ≤ length list
-      first-within [] = omega arith
-      first-within (member ∷ list) = next (member.id == id) (position_or_len (λ member. member.id == id) list) (length list) (first-within list)
-        where
-          next : (passes : Bool) (n count : ℕ) → n ≤ count → cond (not passes) (1 + n) 0 ≤ suc count
-          next true n count within = omega arith
-          next false n count within = omega (arith, within)
-
-  pub place-or : (found : Option ℕ) → position (λ member. member.id == id) members ≡ found → unwrap_or found (length entries) ≡ place_in entries id
-  place-or None none = place-missing none
-  place-or (Some place) found = place-found place found
+      missing-id entries id (subst₂ (λ (count place : ℕ). count ≤ place) (length-map entries (λ entry. entry.1)) (place-values entries id) past)

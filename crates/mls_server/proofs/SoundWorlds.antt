@@ -7,7 +7,8 @@ use Rattle.mls_session.specs.Journals.{IsLegal}
 use Rattle.mls_session.specs.OwnSteps.{Terms}
 use Rattle.mls_session.specs.Sessions.{Session, kept_of}
 use Rattle.mls_session.specs.Setups.{terms_of}
-use Rattle.mls_server.specs.Servers.{IsOpenIn, OpenSession, Server, seat_for, setting_of, world_of}
+use Rattle.mls_server.specs.Servers.{IsOpenIn, Server, seat_for, setting_of, world_of}
+use Rattle.mls_server.specs.declared.server.OpenSession.{OpenSession}
 use Rattle.mls_server.specs.Settings.{config_for, terms_for}
 use Rattle.mls_server.specs.Worlds.{IsNumbered, JournalsAreLegal, JournalsHaveRoom, MarksAreRight, Seat}
 use Rattle.mls_session.proofs.JournalRooms.{IsLegal-within}

@@ -1,13 +1,8 @@
 -- How many tiles the pool may have. This project's own.
-use Rattle.std.specs.Prelude.{ℕ, ◌≤◌}
+use Rattle.std.specs.Prelude.{ℕ}
 
 abbrev pub most_tiles : ℕ
 most_tiles = 8388608
 
 abbrev pub default_capacity : ℕ
 default_capacity = 262144
-
--- the pool may have this number of tiles
-pub record IsCapacity (tiles : ℕ) : Type 0 where
-  pub enough : 1 ≤ tiles
-  pub bounded : tiles ≤ most_tiles

@@ -1,21 +1,15 @@
 -- What a server keeps, and the world that it shows. This project's own.
-use Rattle.std.specs.Prelude.{ℕ, ◌<◌, ◌≤◌, ◌==◌, if◌then◌else◌, List, [], ◌∷◌, length, map, Option}
+use Rattle.std.specs.Prelude.{◌≡◌, ℕ, ◌<◌, ◌≤◌, ◌==◌, if◌then◌else◌, List, [], ◌∷◌, length, map}
 use Rattle.std.specs.List.{All, AllPairs, Contains, position_or_len}
-use Rattle.mls_errorplane.specs.declared.checked.Checked.{Checked}
 use Rattle.mls_session.specs.Designs.{CanDump, HasRightMarks, KnowsRight}
 use Rattle.mls_session.specs.Journals.{IsLegal}
-use Rattle.mls_session.specs.Sessions.{IsHome, IsMadeFor, Session, kept_of, owners_of, state_of}
+use Rattle.mls_session.specs.Sessions.{IsHome, IsMadeFor, kept_of, owners_of, state_of}
 use Rattle.mls_session.specs.Setups.{config_of, terms_of}
 use Rattle.mls_session.specs.declared.setup.Setup.{Setup}
 use Rattle.mls_tilepool.specs.Pools.{Pool, unreserved}
 use Rattle.mls_server.specs.Settings.{Setting, named_layouts}
+use Rattle.mls_server.specs.declared.server.OpenSession.{OpenSession}
 use Rattle.mls_server.specs.Worlds.{Seat, World}
-
--- an open session, its id, and where earlier checks are known to have left right marks
-pub record OpenSession : Type 0 where
-  pub id : ℕ
-  pub session : Session
-  pub checked : Option Checked
 
 -- the setup of each session, the pool of all tiles, how many ids were given, and the open sessions by name, in the order in which they were opened
 pub record Server : Type 0 where
@@ -52,6 +46,11 @@ owners_under server id = owners_in server.sessions id
 -- the place of the first open session of this id, or their number where there is none
 abbrev pub place_in : List (List ℕ × OpenSession) → ℕ → ℕ
 place_in entries id = position_or_len (λ entry. entry.1.id == id) entries
+
+-- it is this place
+pub record IsPlaceOf (server : Server) (id place : ℕ) : Type 0 where
+  pub first : place ≡ place_in server.sessions id
+  pub within : place < length server.sessions
 
 -- ---- what every server keeps
 -- the session was opened with this setup, its planes lie in the pool beside those of the cells, its marks are right by the rules, and where earlier checks

@@ -2,7 +2,6 @@
 #![tactic(auto)]
 
 mod answer;
-mod capacity;
 mod event;
 mod fault;
 mod limits;
@@ -12,10 +11,9 @@ mod server;
 mod session_id;
 
 pub use answer::Answer;
-pub use capacity::Capacity;
 pub use event::Event;
 pub use fault::{GrabFault, NotOpen, OpenFault};
-pub use limits::Limits;
+pub use limits::{Capacity, Limits};
 pub use name::Name;
 pub use reply_text::ReplyText;
 pub use server::Server;

@@ -1,6 +1,10 @@
-//! What a server's sessions and cells may have.
+//! What a server's pool, sessions and cells may have.
+use mls_bounded::Bounded;
 use mls_library::CellTiles;
 use mls_session::{JournalLimit, Quota};
+
+/// How many tiles the pool of a server has, from 1 to 8388608, 262144 by default.
+pub type Capacity = Bounded<1, 8_388_608, 262_144>;
 
 /// The limits of a server.
 #[derive(Clone, Copy, Debug, Default, PartialEq, Eq)]

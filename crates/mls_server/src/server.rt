@@ -43,14 +43,6 @@ pub struct Server {
     sessions: IndexMap<Name, OpenSession>,
 }
 
-impl Model for OpenSession {
-    ghost use Rattle.mls_server.specs.Servers.{OpenSession};
-
-    ghost Value = { OpenSession };
-
-    ghost view = { λ s. record { id = s.id; session = s.session; checked = s.checked } };
-}
-
 impl Model for Server {
     ghost use Rattle.mls_server.specs.Servers.{AreOpen, Server};
 
@@ -94,7 +86,7 @@ impl Server {
           room = capacity;
         }) }
     {
-        let workspace = Workspace::new(alloc, capacity.tiles())?;
+        let workspace = Workspace::new(alloc, capacity.get())?;
         let library = Library::new(alloc);
         let setup = Setup {
             tech,

@@ -76,16 +76,10 @@ impl Server {
         ensures frame { (other : ℕ) → ¬ (Contains (owners_under self.old id) other)
             → tiles_of self.new.pool other ≡ tiles_of self.old.pool other }
     {
-        let place = self.place_of(id);
-        let Server {
-            workspace,
-            sessions,
-            ..
-        } = self;
-        let Some((_, closed)) = sessions.shift_remove_index(place) else {
-            return Err(NotOpen);
-        };
-        closed.session.close(&mut workspace.pool);
+        let place = self.place_of(id)?;
+        // There is an entry at the place.
+        let (_, closed) = self.sessions.shift_remove_index(place).unwrap();
+        closed.session.close(&mut self.workspace.pool);
         Ok(())
     }
 }

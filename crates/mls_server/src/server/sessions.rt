@@ -1,10 +1,10 @@
 //! What an open session is asked.
-ghost use Rattle.std.specs.Prelude.{◌≡◌, ◌+◌, ◌++◌, ◌==◌, ◌<◌, ℕ, IfOk, List, length, map, vec_capacity, vec_len};
+ghost use Rattle.std.specs.Prelude.{◌≡◌, ◌+◌, ◌++◌, ◌==◌, ◌<◌, ℕ, IfOk, List, None, OnErr, length, map, vec_capacity, vec_len};
 ghost use Rattle.std.specs.List.{position};
 ghost use Rattle.std.specs.Option.{option_map};
 ghost use Rattle.mls_paint.specs.Owners.{ChangesAmong};
 ghost use Rattle.mls_server.specs.Events.{DoesCommand, DoesFinish, DoesGrab, DoesSettle, DoesStep, DoesSteps, LooksAt, SavesText, own_text};
-ghost use Rattle.mls_server.specs.Servers.{owners_under, place_in, world_of};
+ghost use Rattle.mls_server.specs.Servers.{IsPlaceOf, owners_under, world_of};
 ghost use Rattle.mls_server.specs.Worlds.{kept_in};
 ghost use Rattle.mls_session.specs.declared.refusal.Refusal.TheVariants.{Memory};
 ghost use Rattle.mls_session.specs.declared.reply.Reply.TheVariants.{Refused};
@@ -27,18 +27,11 @@ impl Server {
         ensures does { DoesCommand (world_of self.old) id command result (world_of self.new) }
         ensures frame { ChangesAmong self.old.pool self.new.pool (owners_under self.old id) }
     {
-        let place = self.place_of(id);
-        let Server {
-            setup,
-            workspace,
-            sessions,
-            ..
-        } = self;
-        let Some(asked) = sessions.get_index_mut(place) else {
-            return Err(NotOpen);
-        };
+        let place = self.place_of(id)?;
+        let asked = &mut self.sessions[place];
         asked.checked = command.known_after(&asked.checked);
-        Ok(asked.session.command(alloc, setup, command, workspace))
+        let session = &mut asked.session;
+        Ok(session.command(alloc, &self.setup, command, &mut self.workspace))
     }
 
     /// Saves the own paint of a session: appends its text, as a cell file, and returns the number of its lines. Nothing
@@ -50,17 +43,9 @@ impl Server {
             → vec_capacity out.old < vec_len out.old + length (own_text (world_of self.old) id)) }
         ensures frame { self.new.pool ≡ self.old.pool }
     {
-        let place = self.place_of(id);
-        let Server {
-            setup,
-            workspace,
-            sessions,
-            ..
-        } = self;
-        let Some(asked) = sessions.get_index_mut(place) else {
-            return Err(NotOpen);
-        };
-        Ok(asked.session.save(setup, out, workspace))
+        let place = self.place_of(id)?;
+        let asked = &mut self.sessions[place];
+        Ok(asked.session.save(&self.setup, out, &mut self.workspace))
     }
 
     /// Looks at a session as it is: appends the text that a look asks for, and returns what goes before it. Nothing
@@ -80,17 +65,10 @@ impl Server {
         ensures same { world_of self.new ≡ world_of self.old }
         ensures frame { self.new.pool ≡ self.old.pool }
     {
-        let place = self.place_of(id);
-        let Server {
-            setup,
-            workspace,
-            sessions,
-            ..
-        } = self;
-        let Some(asked) = sessions.get_index_mut(place) else {
-            return Err(NotOpen);
-        };
-        Ok(asked.session.look(alloc, setup, look, out, workspace))
+        let place = self.place_of(id)?;
+        let asked = &mut self.sessions[place];
+        let session = &mut asked.session;
+        Ok(session.look(alloc, &self.setup, look, out, &mut self.workspace))
     }
 
     /// Returns what a check of a session's first piece needs, if an area awaits checking. Nothing changes.
@@ -98,17 +76,11 @@ impl Server {
         ensures grabs { DoesGrab (world_of self.old) id result (world_of self.new) }
         ensures frame { self.new.pool ≡ self.old.pool }
     {
-        let place = self.place_of(id);
-        let Server {
-            setup,
-            workspace,
-            sessions,
-            ..
-        } = self;
-        let Some(asked) = sessions.get_index_mut(place) else {
+        let Ok(place) = self.place_of(id) else {
             return Err(GrabFault::NotOpen);
         };
-        match asked.session.grab(alloc, setup, workspace) {
+        let asked = &mut self.sessions[place];
+        match asked.session.grab(alloc, &self.setup, &mut self.workspace) {
             Ok(job) => Ok(job),
             Err(_) => Err(GrabFault::Memory),
         }
@@ -119,18 +91,10 @@ impl Server {
         ensures steps { DoesStep (world_of self.old) id result (world_of self.new) }
         ensures frame { ChangesAmong self.old.pool self.new.pool (owners_under self.old id) }
     {
-        let place = self.place_of(id);
-        let Server {
-            setup,
-            workspace,
-            sessions,
-            ..
-        } = self;
-        let Some(asked) = sessions.get_index_mut(place) else {
-            return Err(NotOpen);
-        };
+        let place = self.place_of(id)?;
+        let asked = &mut self.sessions[place];
         asked.checked = None;
-        Ok(asked.session.step(alloc, setup, workspace))
+        Ok(asked.session.step(alloc, &self.setup, &mut self.workspace))
     }
 
     /// Does check steps in a session one after another, until so many are done or one isn't.
@@ -138,18 +102,11 @@ impl Server {
         ensures steps { DoesSteps (world_of self.old) id most result (world_of self.new) }
         ensures frame { ChangesAmong self.old.pool self.new.pool (owners_under self.old id) }
     {
-        let place = self.place_of(id);
-        let Server {
-            setup,
-            workspace,
-            sessions,
-            ..
-        } = self;
-        let Some(asked) = sessions.get_index_mut(place) else {
-            return Err(NotOpen);
-        };
+        let place = self.place_of(id)?;
+        let asked = &mut self.sessions[place];
         asked.checked = None;
-        Ok(asked.session.run_steps(alloc, setup, most, workspace))
+        let session = &mut asked.session;
+        Ok(session.run_steps(alloc, &self.setup, most, &mut self.workspace))
     }
 
     /// Marks what a check found in a session. No memory is taken.
@@ -165,18 +122,11 @@ impl Server {
         ensures finishes { DoesFinish (world_of self.old) id finding.now result (world_of self.new) }
         ensures frame { ChangesAmong self.old.pool self.new.pool (owners_under self.old id) }
     {
-        let place = self.place_of(id);
-        let Server {
-            setup,
-            workspace,
-            sessions,
-            ..
-        } = self;
-        let Some(asked) = sessions.get_index_mut(place) else {
-            return Err(NotOpen);
-        };
+        let place = self.place_of(id)?;
+        let asked = &mut self.sessions[place];
         let checked = &mut asked.checked;
-        Ok(asked.session.finish(setup, finding, checked, workspace))
+        let session = &mut asked.session;
+        Ok(session.finish(&self.setup, finding, checked, &mut self.workspace))
     }
 
     /// Takes pieces out of a session's areas whose marks are known to be right since an earlier check, and returns how
@@ -188,17 +138,10 @@ impl Server {
         ensures settles { DoesSettle (world_of self.old) id result (world_of self.new) }
         ensures frame { ChangesAmong self.old.pool self.new.pool (owners_under self.old id) }
     {
-        let place = self.place_of(id);
-        let Server {
-            setup,
-            workspace,
-            sessions,
-            ..
-        } = self;
-        let Some(asked) = sessions.get_index_mut(place) else {
-            return Err(NotOpen);
-        };
-        Ok(asked.session.settle(setup, &mut asked.checked, workspace))
+        let place = self.place_of(id)?;
+        let asked = &mut self.sessions[place];
+        let session = &mut asked.session;
+        Ok(session.settle(&self.setup, &mut asked.checked, &mut self.workspace))
     }
 
     /// Returns the journal of a session, if it is open.
@@ -206,8 +149,10 @@ impl Server {
         ensures value { option_map (λ entries. entries.now) result
             ≡ option_map (λ kept. kept.journal) (kept_in (world_of self.now) id) }
     {
-        let (_, asked) = self.sessions.get_index(self.place_of(id))?;
-        Some(asked.session.journal())
+        let Ok(place) = self.place_of(id) else {
+            return None;
+        };
+        Some(self.sessions[place].session.journal())
     }
 
     /// Returns how many entries the journal of a session has, if it is open.
@@ -218,11 +163,12 @@ impl Server {
         Some(journal.len())
     }
 
-    /// Returns the place of the session among the open ones, or their number if it is not open.
-    pub(super) fn place_of(&self, id: SessionId) -> usize
-        ensures { result ≡ place_in self.now.sessions id }
+    /// Returns the place of the session among the open ones.
+    pub(super) fn place_of(&self, id: SessionId) -> Result<usize, NotOpen>
+        ensures place { IfOk result (λ place. IsPlaceOf self.now id place) }
+        ensures missing { OnErr result (kept_in (world_of self.now) id ≡ None) }
     {
-        self.index_of(id).unwrap_or(self.sessions.len())
+        self.index_of(id).ok_or(NotOpen)
     }
 
     /// Returns the place of the session among the open ones, if it is open.

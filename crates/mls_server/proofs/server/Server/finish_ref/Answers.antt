@@ -1,38 +1,15 @@
-use Rattle.std.proofs.Common.{Some, sym, ap, ◌∙◌}
-use Rattle.std.specs.Option.{option_copied_mut}
 use Rattle.mls_session.specs.Journals.{Finishes}
-use Rattle.mls_server.specs.contracts.server.OpenSession.{the_view as session_view}
-use Rattle.mls_server.specs.contracts.server.Server.{the_view}
-use Rattle.mls_server.proofs.AskedSessions.{AreOpen-changed, IsAsked, OnSeat-changed, frame-changed, is_asked, not_open}
+use Rattle.mls_server.proofs.AskedSessions.{AreOpen-changed, OnSeat-changed, frame-changed, is_asked}
 use Rattle.mls_server.proofs.server.Server.finish_ref.Goals as goal
-use Rattle.mls_server.proofs.server.Server.finish_ref.Goals.{After-asked}
-
--- the session that is asked
-asked : (c : After-asked) → IsAsked c.args.self.now (the_view c.self.inside) c.args.id c.place_of-place.result (session_view c.asked.inside)
-asked c =
-    is_asked c.self.view_is c.self.invariant c.args.id c.place_of-place.result c.place_of-place.ensures (session_view c.asked.inside)
-    (sym c.get_index_mut.ensures.value ∙ ap option_copied_mut c.in-Some.is ∙ ap Some (sym c.asked.view_is))
-
-pub returns-in_default-clause-finishes : goal.returns-in_default-clause-finishes
-returns-in_default-clause-finishes c =
-    not_open c.self.view_is c.args.id c.place_of-place.result c.place_of-place.ensures (sym c.get_index_mut.ensures.value ∙ ap option_copied_mut c.in_default.is)
 
 pub finish-requires : goal.finish-requires
-finish-requires c =
-    let is = asked (goal.at.finish-requires c).After-asked in
-    record { home = is.made.home; made_for = is.made.made_for; can_dump = is.made.can_dump; knows = is.made.knows_right }
+finish-requires c = let is = is_asked c.self.view_is c.self.invariant c.in_ok-place.ensures.place c.index_mut-asked.ensures.value in record { home = is.made.home; made_for = is.made.made_for; can_dump = is.made.can_dump; knows = is.made.knows_right }
 
-pub invariant_of-self-2 : goal.invariant_of-self-2
-invariant_of-self-2 c =
-    let is = asked (goal.at.invariant_of-self-2 c).After-asked in
-    let done = c.finish.ensures in
-    AreOpen-changed is done.keeps c.finish.new.checked done.marks_right done.knows done.legal
+pub invariant_of-self : goal.invariant_of-self
+invariant_of-self c = AreOpen-changed (is_asked c.self.view_is c.self.invariant c.in_ok-place.ensures.place c.index_mut-asked.ensures.value) c.finish.ensures.keeps c.finish.new.checked c.finish.ensures.marks_right c.finish.ensures.knows c.finish.ensures.legal
 
-pub returns : goal.returns
-returns c =
-    let is = asked (goal.at.returns c).After-asked in
-    let done = c.finish.ensures in
-    record {
-      finishes = OnSeat-changed is done.keeps c.finish.new.checked (λ terms before outcome after. Finishes terms before c.args.finding.now outcome after) c.finish.result done.finished;
-      frame = frame-changed is done.keeps;
-    }
+pub returns-clause-finishes : goal.returns-clause-finishes
+returns-clause-finishes c = OnSeat-changed (is_asked c.self.view_is c.self.invariant c.in_ok-place.ensures.place c.index_mut-asked.ensures.value) c.finish.ensures.keeps c.finish.new.checked (λ terms before outcome after. Finishes terms before c.args.finding.now outcome after) c.finish.result c.finish.ensures.finished
+
+pub returns-clause-frame : goal.returns-clause-frame
+returns-clause-frame c = frame-changed (is_asked c.self.view_is c.self.invariant c.in_ok-place.ensures.place c.index_mut-asked.ensures.value) c.finish.ensures.keeps

@@ -1,7 +1,8 @@
 use Rattle.std.proofs.Common.{[], ℕ, List, sym, subst₂, arith}
 use Rattle.mls_library.specs.Libraries.{Library}
 use Rattle.mls_session.specs.declared.setup.Setup.{Setup}
-use Rattle.mls_server.specs.Servers.{AreOpen, OpenSession}
+use Rattle.mls_server.specs.Servers.{AreOpen}
+use Rattle.mls_server.specs.declared.server.OpenSession.{OpenSession}
 use Rattle.mls_server.proofs.IdleServers.{AreOpen-none, home-none}
 use Rattle.mls_server.proofs.server.Server.new.Goals as goal
 

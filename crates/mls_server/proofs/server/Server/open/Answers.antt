@@ -7,7 +7,8 @@ use Rattle.mls_server.proofs.NamedSessions.{insert_entry-unnamed, lookup-unnamed
 use Rattle.mls_server.proofs.OpenFaults.{Opens-fault, few-none, left-none, room-none, unnamed-none}
 use Rattle.mls_server.specs.contracts.server.Server.{the_view}
 use Rattle.mls_server.specs.Events.{open_fault}
-use Rattle.mls_server.specs.Servers.{AreOpen, OpenSession, Server, world_of}
+use Rattle.mls_server.specs.Servers.{AreOpen, Server, world_of}
+use Rattle.mls_server.specs.declared.server.OpenSession.{OpenSession}
 use Rattle.mls_server.specs.Worlds.{with_session}
 use Rattle.mls_server.proofs.server.Server.open.Goals as goal
 

@@ -1,9 +1,15 @@
-use Rattle.std.proofs.Common.{length, sym, ap, ◌∙◌}
-use Rattle.std.specs.Option.{unwrap_or}
-use Rattle.mls_server.proofs.ReplacedSessions.{place-or}
+use Rattle.std.proofs.Common.{IfOk, OnErr, Result, ℕ, sym, subst, ◌≡◌, None}
+use Rattle.mls_server.specs.Servers.{IsPlaceOf, world_of}
+use Rattle.mls_server.specs.Worlds.{kept_in}
+use Rattle.mls_server.specs.declared.fault.NotOpen.{NotOpen}
+use Rattle.mls_server.proofs.AskedSessions.{place_found}
 use Rattle.mls_server.proofs.server.Server.place_of.Goals as goal
 
 pub returns : goal.returns
 returns c =
-    c.unwrap_or.ensures ∙ ap (unwrap_or c.index_of.result) (c.len.ensures.len ∙ ap (λ server. length server.sessions) c.self.view_is)
-    ∙ place-or c.args.self.now.sessions c.args.id c.index_of.result (sym c.index_of.ensures)
+    let now = c.args.self.now in
+    let (place, missing) =
+    subst (λ (result : Result ℕ NotOpen). IfOk result (λ place. IsPlaceOf now c.args.id place) × OnErr result (kept_in (world_of now) c.args.id ≡ None)) (sym c.ok_or.ensures.value)
+    (place_found now c.args.id c.index_of.result _ c.index_of.ensures)
+    in
+    record { place = place; missing = missing }

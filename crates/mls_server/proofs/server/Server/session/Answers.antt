@@ -1,6 +1,7 @@
-use Rattle.std.proofs.Common.{Some, ap, ◌∙◌}
+use Rattle.std.proofs.Common.{ap, ◌∙◌}
 use Rattle.std.specs.Option.{option_map}
-use Rattle.mls_server.specs.Servers.{OpenSession, Server, world_of}
+use Rattle.mls_server.specs.Servers.{Server, world_of}
+use Rattle.mls_server.specs.declared.server.OpenSession.{OpenSession}
 use Rattle.mls_server.specs.Worlds.{session_named}
 use Rattle.mls_server.proofs.NamedSessions.{named_in-entries}
 use Rattle.mls_server.proofs.server.Server.session.Goals as goal
@@ -19,6 +20,6 @@ returns c =
     let own = c.self.inside in
     record {
       value =
-          ap (λ (found : OpenSession). Some found.id) c.open.view_is ∙ ap (option_map (λ (found : OpenSession). found.id)) c.in_ok-open.ensures.value
+          ap (option_map (λ (found : OpenSession). found.id)) c.in_ok-open.ensures.value
           ∙ named_in-entries own.workspace.pool c.args.name.now own.sessions.entries ∙ ap (λ (server : Server). session_named (world_of server) c.args.name.now) c.self.view_is;
     }
