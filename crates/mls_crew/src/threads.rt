@@ -153,7 +153,8 @@ fn start_speakers<'s, 'l: 's, E, N: Naming + Send + Sync + 's, R: Threads + Wait
     ensures all { OnOk result (vec_len speakers.new ≡ length part.entry.sorting.now.opened) }
     ensures within { vec_len speakers.new ≤ length part.entry.sorting.now.opened }
     ensures wanted { vec_len speakers.new ≡ length part.entry.sorting.now.opened
-        → CountsDown (λ session speaker. speaker.promise ≡ record part.entry { session = session }) 0 speakers.new.items }
+        → CountsDown (λ session speaker. speaker.promise ≡ record part.entry { session = session }) 0
+        speakers.new.items }
 {
     while let Some(seat) = fresh.pop() {
         let mine = part.of(fresh.len());
@@ -177,7 +178,8 @@ fn joined<'s, 'l, N: Naming, R: Threads>(
     requires seats { (vec_len spoken.seats ≡ 0) × (vec_len speakers ≤ vec_capacity spoken.seats) }
     requires groups { (vec_len spoken.groups ≡ 0) × (vec_len speakers ≤ vec_capacity spoken.groups) }
     ensures { vec_len speakers.entry ≡ length spoken.entry.part.sorting.now.opened → result.failed ≡ false
-        → GivesGroups N.terms (labels_of spoken.entry.part.labels.now) spoken.entry.part.sorting.now result.groups.items }
+        → GivesGroups N.terms (labels_of spoken.entry.part.labels.now) spoken.entry.part.sorting.now
+        result.groups.items }
 {
     while let Some(speaker) = speakers.pop() {
         let Spoken { seat, group } = speaker.join(rt);

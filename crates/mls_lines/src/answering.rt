@@ -224,7 +224,8 @@ impl<'l, N: Scripted> Clerk<'l, N> {
         ensures ok { OnOk result (out.new.items ≡ out.old.items
             ++ response_text (book_in N.glossary) n (Response.Fault LineFault.UnknownCommand)) }
         ensures room { OnErr result (vec_capacity out.old
-            < vec_len out.old + length (response_text (book_in N.glossary) n (Response.Fault LineFault.UnknownCommand))) }
+            < vec_len out.old
+            + length (response_text (book_in N.glossary) n (Response.Fault LineFault.UnknownCommand))) }
     {
         push_fault::<N>(self.hall, n, LineFault::UnknownCommand, out)
     }

@@ -27,7 +27,7 @@ impl Scripted for Brand {
     ghost script = { None };
 }
 
-/// What all threads share beside the server: what names mean, which name has which thread, and whether something failed.
+/// What all threads share beside the server: what names mean, which thread a name has, and whether something failed.
 #[derive(Drop)]
 pub struct Hall {
     pub alloc: Global,

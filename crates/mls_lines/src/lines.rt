@@ -180,8 +180,8 @@ fn run<N: Scripted + Send + Sync, I: Read, W: Write + Send, T: Threads + Wait + 
             join_mut(
                 rt,
                 &mut || -> Result<(), WriteFault>
-                    ensures { OnOk result (Gains (W.contents output.entry.now.device) (W.contents output.exit.now.device)
-                        (AreReplies N.terms (book_in N.glossary) N.script))
+                    ensures { OnOk result (Gains (W.contents output.entry.now.device)
+                        (W.contents output.exit.now.device) (AreReplies N.terms (book_in N.glossary) N.script))
                         × OnErr result ((out : List ℕ) × AreReplies N.terms (book_in N.glossary) N.script out
                         × AppendsFront (W.contents output.entry.now.device) (W.contents output.exit.now.device) out)
                         × OnErr result (HasCause output.exit.now) }

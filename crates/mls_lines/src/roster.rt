@@ -44,8 +44,8 @@ impl Roster {
         }
     }
 
-    /// Returns the number of the thread for a line of this name, and counts the line. A name that has none gets one that
-    /// is free, if the line opens a session.
+    /// Returns the number of the thread for a line of this name, and counts the line. A name that has none gets one
+    /// that is free, if the line opens a session.
     pub fn place(&mut self, name: &Name, opens: bool) -> Option<usize>
         ensures place { result ≡ spec.thread_for name.now opens self.old }
         ensures some { IfSome result (λ thread. self.new ≡ spec.with_line name.now thread self.old) }

@@ -3,7 +3,7 @@ use Rattle.std.proofs.Common.{◌≡◌, ◌∙◌, ℕ, Bool, ◌||◌, List, [
 use Rattle.std.specs.List.{All}
 use Rattle.std.proofs.lemmas.List.Elements.{All-nil, All-push}
 use Rattle.clap.proofs.WalkLemmas.{first_value-rows, one_text-rows, raw_values-rows}
-use Rattle.clap.specs.Words.{App, Text, AddsArg, IsPlain, IsPlainArg, all_of, args_of, groups_of, HasKind, HasMatchesOf, IsAmong, Kinds, Rule, app_of, fault_of, first_of, first_value, found_of, is_simple, is_simple_and_free, kind_of, matches_of, new_app, one_of, one_text, rows_of, rule_of, with_rule}
+use Rattle.clap.specs.Words.{App, Text, AddsArg, IsPlain, IsPlainArg, all_of, args_of, groups_of, HasKind, HasMatchesOf, IsAmong, Kinds, Rule, app_of, fault_of, first_of, first_value, found_of, is_simple, is_simple_and_free, kind_of, matches_of, one_of, one_text, rows_of, rule_of, with_rule}
 use Rattle.clap.specs.Built.{IsParsedFrom}
 use Rattle.clap.specs.declared.builder.arg.Arg.{Arg}
 use Rattle.clap.specs.declared.builder.command.Command.{Command}
@@ -13,7 +13,7 @@ use Rattle.clap.specs.declared.error.kind.ErrorKind.TheVariants.{OutOfMemory}
 use Rattle.clap.specs.declared.parser.matches.ArgMatches.{ArgMatches}
 use Rattle.mls_magicd.proofs.NumberLemmas.{IsFoundNumber, IsNumberText}
 use Rattle.mls_magicd.proofs.NumberTexts.{StandsAt, number-text}
-use Rattle.mls_magicd.specs.CommandLines.{NumberOption, magicd, tech_rule, number_rule, live_rule, cells_rule, quota_option, pool_option, journal_option, cell_tiles_option, workers_option, cell_words, bad_word, faults_in, words_found, IsBadWord, IsNumberFor, IsNumberOf, file_named, live_named, number_named, IsParserFault, IsRefusedBy}
+use Rattle.mls_magicd.specs.CommandLines.{IsOwnArg, IsOwnCommand, NumberOption, magicd, cell_words, bad_word, faults_in, words_found, IsBadWord, IsNumberFor, IsNumberOf, file_named, live_named, number_named, IsParserFault, IsRefusedBy}
 use Rattle.mls_magicd.specs.declared.options.OptionsFault.{OptionsFault}
 use Rattle.mls_magicd.specs.declared.options.OptionsFault.TheVariants.{Memory, Refused, BadCell}
 
@@ -21,31 +21,6 @@ use Rattle.mls_magicd.specs.declared.options.OptionsFault.TheVariants.{Memory, R
 adds-rule : (old new : Command) (a : Arg) (app : App) (rule : Rule) → app_of old ≡ app → AddsArg old a new → rule_of a ≡ rule → a.global ≡ false
     → app_of new ≡ with_rule app rule
 adds-rule old new a app rule before added is local = added.shape local ∙ ap₂ with_rule before is
-
--- the command that is built is the one that the definitions speak of
-pub magicd-built : (bare named with_tech with_quota with_pool with_journal with_cell_tiles with_workers with_live whole : Command) (tech quota pool journal cell_tiles workers live cells : Arg)
-    → app_of bare ≡ new_app (codes "magicd") → app_of named ≡ app_of bare
-    → AddsArg named tech with_tech → rule_of tech ≡ tech_rule → tech.global ≡ false
-    → AddsArg with_tech quota with_quota → rule_of quota ≡ number_rule quota_option → quota.global ≡ false
-    → AddsArg with_quota pool with_pool → rule_of pool ≡ number_rule pool_option → pool.global ≡ false
-    → AddsArg with_pool journal with_journal → rule_of journal ≡ number_rule journal_option → journal.global ≡ false
-    → AddsArg with_journal cell_tiles with_cell_tiles → rule_of cell_tiles ≡ number_rule cell_tiles_option → cell_tiles.global ≡ false
-    → AddsArg with_cell_tiles workers with_workers → rule_of workers ≡ number_rule workers_option → workers.global ≡ false
-    → AddsArg with_workers live with_live → rule_of live ≡ live_rule → live.global ≡ false
-    → AddsArg with_live cells whole → rule_of cells ≡ cells_rule → cells.global ≡ false
-    → app_of whole ≡ magicd
-unfolding magicd
-magicd-built bare named with_tech with_quota with_pool with_journal with_cell_tiles with_workers with_live whole tech quota pool journal cell_tiles workers live cells new same tech_added tech_is tech_local
-    quota_added quota_is quota_local pool_added pool_is pool_local journal_added journal_is journal_local
-    cell_tiles_added cell_tiles_is cell_tiles_local workers_added workers_is workers_local live_added live_is live_local cells_added cells_is cells_local =
-    let first = adds-rule named with_tech tech _ tech_rule (same ∙ new) tech_added tech_is tech_local in
-    let second = adds-rule with_tech with_quota quota _ (number_rule quota_option) first quota_added quota_is quota_local in
-    let third = adds-rule with_quota with_pool pool _ (number_rule pool_option) second pool_added pool_is pool_local in
-    let fourth = adds-rule with_pool with_journal journal _ (number_rule journal_option) third journal_added journal_is journal_local in
-    let fifth = adds-rule with_journal with_cell_tiles cell_tiles _ (number_rule cell_tiles_option) fourth cell_tiles_added cell_tiles_is cell_tiles_local in
-    let sixth = adds-rule with_cell_tiles with_workers workers _ (number_rule workers_option) fifth workers_added workers_is workers_local in
-    let seventh = adds-rule with_workers with_live live _ live_rule sixth live_added live_is live_local in
-    adds-rule with_live whole cells _ cells_rule seventh cells_added cells_is cells_local
 
 pub magicd-simple : is_simple magicd ≡ true
 unfolding magicd
@@ -130,15 +105,23 @@ pub empty-plain : (command : Command) → args_of command ≡ [] → groups_of c
 empty-plain command args groups = (subst (λ (list : List Arg). All IsPlainArg list) (sym args) (All-nil IsPlainArg), groups)
 
 -- with one argument more the command is still plain, if the argument is
-pub adds-plain : (old : Command) (a : Arg) (new : Command) → AddsArg old a new → IsPlain old → IsPlainArg a → IsPlain new
+adds-plain : (old : Command) (a : Arg) (new : Command) → AddsArg old a new → IsPlain old → IsPlainArg a → IsPlain new
 adds-plain old a new added plain is =
     let same = added.rules in
     let one : IsPlainArg added.arg = (same.exclusive ∙ is.0, same.conflicts ∙ is.1, same.overrides ∙ is.2, same.groups ∙ is.3) in
     (subst (λ (args : List Arg). All IsPlainArg args) (sym added.args) (All-push IsPlainArg (args_of old) added.arg plain.0 one), added.groups ∙ plain.1)
 
 -- nor has it global arguments
-pub adds-local : (old : Command) (a : Arg) (new : Command) → AddsArg old a new → (out-Command old).has_globals ≡ false → a.global ≡ false → (out-Command new).has_globals ≡ false
+adds-local : (old : Command) (a : Arg) (new : Command) → AddsArg old a new → (out-Command old).has_globals ≡ false → a.global ≡ false → (out-Command new).has_globals ≡ false
 adds-local old a new added local a_local = added.globals ∙ ap₂ (λ (x y : Bool). x || y) local a_local
+
+-- an argument more that is the command's own
+pub adds-own : (old new : Command) (a : Arg) (app : App) (rule : Rule) → IsOwnCommand app old → IsOwnArg rule a → AddsArg old a new → IsOwnCommand (with_rule app rule) new
+adds-own old new a app rule before own added = record {
+  app = adds-rule old new a app rule before.app added own.rule own.local;
+  plain = adds-plain old a new added before.plain own.plain;
+  local = adds-local old a new added before.local own.local;
+}
 
 -- words that are refused for one that names no cell have no other fault
 pub refused-for_word : (words : List Text) (command : Command) (m : ArgMatches) (fault : OptionsFault) → app_of command ≡ magicd → faults_in words ≡ []

@@ -1,7 +1,10 @@
 -- The command line of `magicd`, and what its words mean. This project's own.
 use Rattle.std.specs.Prelude.{◌≡◌, ◌≢◌, ◌⊎◌, ℕ, ◌==◌, not, true, false, Option, Some, None, is_some, List, [], ◌∷◌, Result, Ok, Err, pos, codes, find, if◌then◌else◌, map, option_map, unwrap_or, ⊤}
 use Rattle.std.specs.Str.Parse.{digits_value, without_leading_plus}
-use Rattle.clap.specs.Words.{App, Kinds, Rule, Text, all_of, fault_of, first_of, matched_of, matches_of, new_app, new_rule, one_of, raw_values, with_rule}
+use Rattle.clap.specs.Words.{App, IsPlain, IsPlainArg, Kinds, Rule, Text, all_of, app_of, fault_of, first_of, matched_of, matches_of, new_app, new_rule, one_of, raw_values, rule_of, with_rule}
+use Rattle.clap.specs.declared.builder.arg.Arg.{Arg}
+use Rattle.clap.specs.declared.builder.command.Command.{Command}
+use Rattle.clap.specs.declared.builder.command.Command.TheViews.{out-Command}
 use Rattle.clap.specs.declared.builder.action.ArgAction.TheVariants.{Append, SetTrue}
 use Rattle.clap.specs.declared.builder.value_parser.ValueParser.TheVariants.{Signed}
 use Rattle.clap.specs.declared.parser.matches.Found.{Found}
@@ -51,6 +54,18 @@ live_rule = record (new_rule (codes "live")) { long = Some (codes "live"); actio
 -- any number of `NAME=FILE`
 abbrev pub cells_rule : Rule
 cells_rule = record (new_rule (codes "cells")) { value_names = 1; action = Some Append }
+
+-- the argument has this rule, asks for no more than that, and is one of this command alone
+pub record IsOwnArg (stated : Rule) (arg : Arg) : Type 0 where
+  pub rule : rule_of arg ≡ stated
+  pub plain : IsPlainArg arg
+  pub local : arg.global ≡ false
+
+-- so it is of the command, whose arguments ask for no more and are its own
+pub record IsOwnCommand (stated : App) (command : Command) : Type 0 where
+  pub app : app_of command ≡ stated
+  pub plain : IsPlain command
+  pub local : (out-Command command).has_globals ≡ false
 
 -- the options, the cells, and the parser's own `--help`
 unfoldable pub magicd : App

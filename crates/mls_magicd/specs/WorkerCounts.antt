@@ -1,12 +1,8 @@
 -- How many workers there may be. This project's own.
-use Rattle.std.specs.Prelude.{ℕ, ◌≤◌}
+use Rattle.std.specs.Prelude.{ℕ}
 
 abbrev pub most_workers : ℕ
 most_workers = 16
 
 abbrev pub default_workers : ℕ
 default_workers = 0
-
--- there may be this number of workers
-abbrev pub IsWorkerCount : ℕ → Type 0
-IsWorkerCount count = count ≤ most_workers

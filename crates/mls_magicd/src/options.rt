@@ -1,10 +1,9 @@
 //! The options of the command line.
-ghost use Rattle.std.specs.Prelude.{◌≡◌, IfOk, IfErr, map, false};
+ghost use Rattle.std.specs.Prelude.{◌≡◌, IfOk, IfErr, map};
 ghost use Rattle.std.specs.Range.{range_inclusive_start, range_inclusive_end};
-ghost use Rattle.clap.specs.declared.builder.command.Command.TheViews.{out-Command as fields_of};
-ghost use Rattle.clap.specs.Words.{app_of, found_of, kind_of, rule_of, IsPlain, IsPlainArg};
+ghost use Rattle.clap.specs.Words.{found_of, kind_of};
 ghost use Rattle.clap.specs.declared.error.kind.ErrorKind.TheVariants.{OutOfMemory};
-ghost use Rattle.mls_magicd.specs.CommandLines.{NumberOption, magicd, tech_rule, number_rule, live_rule, cells_rule, file_of, words_found, IsBadWord, IsParserFault, NamesFiles, ParsesWords};
+ghost use Rattle.mls_magicd.specs.CommandLines.{NumberOption, magicd, tech_rule, number_rule, live_rule, cells_rule, file_of, words_found, IsBadWord, IsOwnArg, IsOwnCommand, IsParserFault, NamesFiles, ParsesWords};
 
 use crate::cell_argument::CellArgument;
 use crate::workers::Workers;
@@ -113,9 +112,7 @@ impl<'a> Options<'a> {
 
 /// The command line that `magicd` takes.
 fn command<'a>(alloc: Global) -> Result<Command<'a>, AllocError>
-    ensures app { IfOk result (λ c. app_of c ≡ magicd) }
-    ensures plain { IfOk result IsPlain }
-    ensures local { IfOk result (λ c. (fields_of c).has_globals ≡ false) }
+    ensures { IfOk result (IsOwnCommand magicd) }
 {
     Command::new(alloc, "magicd")
         .about("Serves layout scripts from standard input to standard output")
@@ -123,31 +120,31 @@ fn command<'a>(alloc: Global) -> Result<Command<'a>, AllocError>
         .arg(number_option(
             alloc,
             "quota",
-            Quota::LEAST..=Quota::MOST,
+            Quota::range(),
             "Gives each plane N tiles, from 5 to 16384 [default: 1024]",
         ))?
         .arg(number_option(
             alloc,
             "pool",
-            Capacity::LEAST..=Capacity::MOST,
+            Capacity::range(),
             "Gives all planes together N tiles, from 1 to 8388608 [default: 262144]",
         ))?
         .arg(number_option(
             alloc,
             "journal",
-            JournalLimit::LEAST..=JournalLimit::MOST,
+            JournalLimit::range(),
             "Gives each journal N entries, from 1 to 65536 [default: 4096]",
         ))?
         .arg(number_option(
             alloc,
             "cell-tiles",
-            CellTiles::LEAST..=CellTiles::MOST,
+            CellTiles::range(),
             "Gives each plane of a cell N tiles, from 4096 to 16384 [default: 4096]",
         ))?
         .arg(number_option(
             alloc,
             "workers",
-            0..=16,
+            Workers::range(),
             "Checks behind the sessions with N workers, from 0 to 16 [default: 0]",
         ))?
         .arg(live_option(alloc))?
@@ -155,9 +152,7 @@ fn command<'a>(alloc: Global) -> Result<Command<'a>, AllocError>
 }
 
 fn tech_option<'a>(alloc: Global) -> Arg<'a>
-    ensures rule { rule_of result ≡ tech_rule }
-    ensures plain { IsPlainArg result }
-    ensures local { result.global ≡ false }
+    ensures { IsOwnArg tech_rule result }
 {
     Arg::new(alloc, "tech")
         .long("tech")
@@ -172,11 +167,8 @@ fn number_option<'a>(
     range: RangeInclusive<u32>,
     help: &'a str,
 ) -> Arg<'a>
-    ensures rule { (option : NumberOption) → name.entry.now ≡ option.name → range_inclusive_start range ≡ option.least
-        → range_inclusive_end range ≡ option.most
-        → rule_of result ≡ number_rule option }
-    ensures plain { IsPlainArg result }
-    ensures local { result.global ≡ false }
+    ensures { (option : NumberOption) → name.entry.now ≡ option.name → range_inclusive_start range ≡ option.least
+        → range_inclusive_end range ≡ option.most → IsOwnArg (number_rule option) result }
 {
     let numbers = i64::from(*range.start())..=i64::from(*range.end());
     Arg::new(alloc, name)
@@ -187,9 +179,7 @@ fn number_option<'a>(
 }
 
 fn live_option<'a>(alloc: Global) -> Arg<'a>
-    ensures rule { rule_of result ≡ live_rule }
-    ensures plain { IsPlainArg result }
-    ensures local { result.global ≡ false }
+    ensures { IsOwnArg live_rule result }
 {
     Arg::new(alloc, "live")
         .long("live")
@@ -198,9 +188,7 @@ fn live_option<'a>(alloc: Global) -> Arg<'a>
 }
 
 fn cells_argument<'a>(alloc: Global) -> Arg<'a>
-    ensures rule { rule_of result ≡ cells_rule }
-    ensures plain { IsPlainArg result }
-    ensures local { result.global ≡ false }
+    ensures { IsOwnArg cells_rule result }
 {
     Arg::new(alloc, "cells")
         .action(ArgAction::Append)

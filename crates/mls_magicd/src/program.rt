@@ -52,7 +52,8 @@ pub fn run<T: Threads + Wait + Sync, S: AsStr, F: Files, R: Read, W: Write + Sen
 
     // Without workers, the output is the reply text of the script's run over the technology, the cells and the limits
     // that the words name, and the skipped lines of the technology were reported.
-    ensures served { AskForBatch (map S.text words.now) → IsNumberFor workers_option (map S.text words.now) 0 → result ≡ spec.done
+    ensures served { AskForBatch (map S.text words.now) → IsNumberFor workers_option (map S.text words.now) 0
+        → result ≡ spec.done
         → (on : World) × spec.IsConfiguredBy (F.reads_as files.now) (map S.text words.now) on
         × spec.ServesScript on (R.remaining streams.old.input.device) (W.contents streams.old.output.device)
         (W.contents streams.new.output.device)
@@ -60,7 +61,8 @@ pub fn run<T: Threads + Wait + Sync, S: AsStr, F: Files, R: Read, W: Write + Sen
 
     // Either the start failed, for a reason that was reported, and no line of the script was read; or the script
     // was left before its end, for a reason that was reported, and the output is that of a run that was cut.
-    ensures failed { AskForBatch (map S.text words.now) → IsNumberFor workers_option (map S.text words.now) 0 → result ≡ spec.failed →
+    ensures failed { AskForBatch (map S.text words.now) → IsNumberFor workers_option (map S.text words.now) 0
+        → result ≡ spec.failed →
         (spec.EndsAtStart (F.reads_as files.now) (F.may_fail files.now)
         (map S.text words.now) E.contents streams.old.faults streams.new.faults
         × (streams.new.input ≡ streams.old.input) × (streams.new.output ≡ streams.old.output))
@@ -71,7 +73,8 @@ pub fn run<T: Threads + Wait + Sync, S: AsStr, F: Files, R: Read, W: Write + Sen
 
     // With workers, the output is what the lines of each session give at its seat over that technology, those cells
     // and limits, and the whole of it was audited.
-    ensures served_by_crew { AskForBatch (map S.text words.now) → (workers : ℕ) → IsNumberFor workers_option (map S.text words.now) workers → workers ≢ 0
+    ensures served_by_crew { AskForBatch (map S.text words.now) → (workers : ℕ)
+        → IsNumberFor workers_option (map S.text words.now) workers → workers ≢ 0
         → result ≡ spec.done
         → (on : World) × spec.IsConfiguredBy (F.reads_as files.now) (map S.text words.now) on
         × WritesCrew on (R.remaining streams.old.input.device) (W.contents streams.old.output.device)
@@ -79,7 +82,8 @@ pub fn run<T: Threads + Wait + Sync, S: AsStr, F: Files, R: Read, W: Write + Sen
         × ReportsAll E.contents streams.old.faults streams.new.faults (spec.skipped_lines on.setting.tech) }
 
     // Either the start failed, as above; or the script failed, for a reason that was reported.
-    ensures failed_by_crew { AskForBatch (map S.text words.now) → (workers : ℕ) → IsNumberFor workers_option (map S.text words.now) workers → workers ≢ 0
+    ensures failed_by_crew { AskForBatch (map S.text words.now) → (workers : ℕ)
+        → IsNumberFor workers_option (map S.text words.now) workers → workers ≢ 0
         → result ≡ spec.failed →
         (spec.EndsAtStart (F.reads_as files.now) (F.may_fail files.now)
         (map S.text words.now) E.contents streams.old.faults streams.new.faults
@@ -113,7 +117,7 @@ pub fn run<T: Threads + Wait + Sync, S: AsStr, F: Files, R: Read, W: Write + Sen
     if options.live {
         return run_live(rt, alloc, files, &options, streams);
     }
-    match options.workers.count() {
+    match options.workers.get() {
         0 => run_script(alloc, files, &options, streams),
         _ => run_crew(rt, alloc, files, &options, streams),
     }
@@ -313,7 +317,8 @@ fn serve_live<'a, T: Threads + Wait + Sync, F: Files, R: Read, W: Write + Send, 
     Ok(())
 }
 
-/// Does what comes before lines that are carried out as they come: makes the server, loads the cells, and notes what names
+/// Does what comes before lines that are carried out as they come: makes the server, loads cells, and notes what
+/// names mean.
 /// mean.
 fn start_lines<'a, F: Files, E: Write>(
     alloc: Global,
@@ -372,7 +377,7 @@ fn start_crew<'a, F: Files, E: Write>(
     Ok(Crew {
         server,
         tech,
-        workers: options.workers.count(),
+        workers: options.workers.get() as usize,
     })
 }
 

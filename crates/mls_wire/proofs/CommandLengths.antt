@@ -20,6 +20,7 @@ use Rattle.mls_wire.specs.Says.{box_of, cell_edit_of, command_of, drc_of, drc_sa
 use Rattle.mls_wire.specs.declared.line.LineFault.{LineFault}
 use Rattle.mls_wire.specs.declared.line.LineFault.TheVariants.{UnknownCommand}
 use Rattle.mls_wire.specs.declared.parse.MovedCell.{MovedCell}
+use Rattle.mls_wire.proofs.SaidSides.{sides_of-by, sides_say-by}
 use Rattle.mls_wire.proofs.SpelledCommands.{HasTypes, HasTypesIfAny, fields_of-field, types_named-any, types_named-spelled}
 use Rattle.mls_wire.proofs.WrittenLengths.{IsNoLonger, length-joined, number_of-length, width, width-fields_of, width-named}
 
@@ -34,22 +35,15 @@ module _ (book : Names) (names : NamesReadBack book) where
   -- ---- box
   box-within : (lw bw rw tw : List ℕ) (l b r t : Option ℤ) → IfSome l (IsNoLonger lw) → IfSome b (IsNoLonger bw) → IfSome r (IsNoLonger rw) → IfSome t (IsNoLonger tw)
       → AreWithin (codes "box" ∷ lw ∷ bw ∷ rw ∷ tw ∷ []) (box_of (sides_of l b r t))
-  unfolding sides_of command_words
-  box-within lw bw rw tw None b r t hl hb hr ht = tt
-  box-within lw bw rw tw (Some l) None r t hl hb hr ht = tt
-  box-within lw bw rw tw (Some l) (Some b) None t hl hb hr ht = tt
-  box-within lw bw rw tw (Some l) (Some b) (Some r) None hl hb hr ht = tt
-  box-within lw bw rw tw (Some l) (Some b) (Some r) (Some t) hl hb hr ht = omega (arith, hl, hb, hr, ht)
+  unfolding command_words
+  box-within lw bw right_word tw l b r t hl hb hr ht =
+      sides_of-by (λ said. AreWithin (codes "box" ∷ lw ∷ bw ∷ right_word ∷ tw ∷ []) (box_of said)) l b r t tt
+      (λ left bottom right top l_is b_is r_is t_is. omega (arith, rw l_is at hl, rw b_is at hb, rw r_is at hr, rw t_is at ht))
 
   box_says-within : (words : List (List ℕ)) → AreWithin (codes "box" ∷ words) (box_of (sides_say words))
-  unfolding sides_say
-  box_says-within [] = tt
-  box_says-within (l ∷ []) = tt
-  box_says-within (l ∷ b ∷ []) = tt
-  box_says-within (l ∷ b ∷ r ∷ []) = tt
-  box_says-within (l ∷ b ∷ r ∷ t ∷ []) =
-      box-within l b r t (number_of l) (number_of b) (number_of r) (number_of t) (number_of-length l) (number_of-length b) (number_of-length r) (number_of-length t)
-  box_says-within (l ∷ b ∷ r ∷ t ∷ more ∷ words) = tt
+  box_says-within =
+      sides_say-by (λ words said. AreWithin (codes "box" ∷ words) (box_of said)) (λ words. tt)
+      (λ l b r t. box-within l b r t (number_of l) (number_of b) (number_of r) (number_of t) (number_of-length l) (number_of-length b) (number_of-length r) (number_of-length t))
 
   -- ---- types
   type-within : (word : List ℕ) → IsWord word → (found : Option ℕ) → IfSome found (λ kind. length (type_word book (Some kind)) ≤ length word)
@@ -124,25 +118,24 @@ module _ (book : Names) (names : NamesReadBack book) where
         (cell-within name (All-head IsWord name (dx ∷ dy ∷ []) are) (book.cell_of name) (names.cells name)) (number_of-length dx) (number_of-length dy)
     moved_cell-within (name ∷ dx ∷ dy ∷ more ∷ words) are = tt
 
+    -- it makes no difference how the command is made of the cell
+    edit-within : (edit : Result MovedCell LineFault → Result Command LineFault) → ((moved : MovedCell) → edit (Ok moved) ≡ Ok (make moved))
+        → ((fault : LineFault) → edit (Err fault) ≡ Err fault) → (words : List (List ℕ)) → All IsWord words → AreWithin (verb ∷ words) (edit (moved_cell_says book words))
+    edit-within edit is_made is_fault words are = by (moved_cell_says book words) (moved_cell-within words are)
+      where
+        by : (said : Result MovedCell LineFault) → AreWithin (verb ∷ words) (made_of said) → AreWithin (verb ∷ words) (edit said)
+        by (Ok moved) within = subst (AreWithin (verb ∷ words)) (sym (is_made moved)) within
+        by (Err fault) within = subst (AreWithin (verb ∷ words)) (sym (is_fault fault)) tt
+
   dump-within : (words : List (List ℕ)) → All IsWord words → AreWithin (codes "dump" ∷ words) (dump_of (moved_cell_says book words))
   unfolding command_words
-  dump-within words are =
-      by (moved_cell_says book words) (moved_cell-within (codes "dump") (λ moved. Dump moved.cell moved.dx moved.dy) (λ moved. refl) words are)
-    where
-      by : (r : Result MovedCell LineFault) → AreWithin (codes "dump" ∷ words) (made_of (codes "dump") (λ moved. Dump moved.cell moved.dx moved.dy) (λ moved. refl) r)
-          → AreWithin (codes "dump" ∷ words) (dump_of r)
-      by (Ok moved) within = within
-      by (Err fault) within = tt
+  dump-within =
+      edit-within (codes "dump") (λ moved. Dump moved.cell moved.dx moved.dy) (λ moved. refl) dump_of (λ moved. refl) (λ fault. refl)
 
   getcell-within : (words : List (List ℕ)) → All IsWord words → AreWithin (codes "getcell" ∷ words) (getcell_of (moved_cell_says book words))
   unfolding command_words
-  getcell-within words are =
-      by (moved_cell_says book words) (moved_cell-within (codes "getcell") (λ moved. GetCell moved.cell moved.dx moved.dy) (λ moved. refl) words are)
-    where
-      by : (r : Result MovedCell LineFault) → AreWithin (codes "getcell" ∷ words) (made_of (codes "getcell") (λ moved. GetCell moved.cell moved.dx moved.dy) (λ moved. refl) r)
-          → AreWithin (codes "getcell" ∷ words) (getcell_of r)
-      by (Ok moved) within = within
-      by (Err fault) within = tt
+  getcell-within =
+      edit-within (codes "getcell") (λ moved. GetCell moved.cell moved.dx moved.dy) (λ moved. refl) getcell_of (λ moved. refl) (λ fault. refl)
 
   -- ---- others
   save-within : (words : List (List ℕ)) → AreWithin (codes "save" ∷ words) (save_says words)

@@ -11,6 +11,7 @@ pub mod PlayedJournals
 pub mod Results
 pub mod RunLemmas
 pub mod RunLines
+pub mod SaidSides
 pub mod ScriptTexts
 pub mod ServingLemmas
 pub mod ShieldedLines

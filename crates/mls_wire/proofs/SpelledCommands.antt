@@ -22,6 +22,7 @@ use Rattle.mls_wire.specs.declared.line.LineFault.{LineFault}
 use Rattle.mls_wire.specs.declared.line.LineFault.TheVariants.{UnknownCommand}
 use Rattle.mls_wire.specs.declared.parse.MovedCell.{MovedCell}
 use Rattle.mls_wire.specs.declared.parse.Sides.{Sides}
+use Rattle.mls_wire.proofs.SaidSides.{sides_of-by, sides_say-by}
 use Rattle.mls_wire.proofs.WrittenNumbers.{IsShort, number_of-short}
 
 -- ---- what a command has that some line says
@@ -70,22 +71,13 @@ choice P false x y h k = k
 
 -- ---- sides and moved cells
 sides_of-short : (l b r t : Option ℤ) → IfSome l IsShort → IfSome b IsShort → IfSome r IsShort → IfSome t IsShort → IfOk (sides_of l b r t) AreShort
-unfolding sides_of
-sides_of-short None b r t hl hb hr ht = tt
-sides_of-short (Some l) None r t hl hb hr ht = tt
-sides_of-short (Some l) (Some b) None t hl hb hr ht = tt
-sides_of-short (Some l) (Some b) (Some r) None hl hb hr ht = tt
-sides_of-short (Some l) (Some b) (Some r) (Some t) hl hb hr ht = (hl, hb, hr, ht)
+sides_of-short l b r t hl hb hr ht =
+    sides_of-by (λ said. IfOk said AreShort) l b r t tt (λ left bottom right top l_is b_is r_is t_is. (rw l_is at hl, rw b_is at hb, rw r_is at hr, rw t_is at ht))
 
 sides_say-short : (words : List (List ℕ)) → IfOk (sides_say words) AreShort
-unfolding sides_say
-sides_say-short [] = tt
-sides_say-short (l ∷ []) = tt
-sides_say-short (l ∷ b ∷ []) = tt
-sides_say-short (l ∷ b ∷ r ∷ []) = tt
-sides_say-short (l ∷ b ∷ r ∷ t ∷ []) =
-    sides_of-short (number_of l) (number_of b) (number_of r) (number_of t) (number_of-short l) (number_of-short b) (number_of-short r) (number_of-short t)
-sides_say-short (l ∷ b ∷ r ∷ t ∷ more ∷ words) = tt
+sides_say-short =
+    sides_say-by (λ words said. IfOk said AreShort) (λ words. tt)
+    (λ l b r t. sides_of-short (number_of l) (number_of b) (number_of r) (number_of t) (number_of-short l) (number_of-short b) (number_of-short r) (number_of-short t))
 
 -- a text has a field
 abbrev pub HasField : List (List ℕ) → Type 0

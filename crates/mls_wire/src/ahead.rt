@@ -54,8 +54,8 @@ impl<N: Names> Names for Ahead<'_, N> {
 
 /// Reads a script to its end, and returns what each of its lines says before any session is open.
 ///
-/// `%close`, `%step` and `%steps` are no commands of such a script. A line's session has the id 0, whether it is opened later
-/// or not.
+/// `%close`, `%step` and `%steps` are no commands of such a script. A line's session has the id 0, whether it is opened
+/// later or not.
 ///
 /// # Errors
 ///

@@ -5,11 +5,6 @@ use Rattle.mls_magicd.proofs.CellWords.{named-not_bad}
 use Rattle.mls_magicd.proofs.OptionLemmas.{cells-named, file-named, live-named, number-parsed, refused-for_fault, refused-for_word, taken-no_fault}
 use Rattle.mls_magicd.proofs.NumberLemmas.{IsFoundNumber, found-number}
 use Rattle.mls_magicd.proofs.NumberTexts.{StandsAt, cell_tiles_stands, journal_stands, pool_stands, quota_stands, workers_stands}
-use Rattle.mls_library.specs.Libraries.{IsCellTiles}
-use Rattle.mls_session.specs.JournalLimits.{IsJournalLimit}
-use Rattle.mls_session.specs.Quotas.{IsQuota}
-use Rattle.mls_server.specs.Capacities.{IsCapacity}
-use Rattle.mls_magicd.specs.WorkerCounts.{IsWorkerCount}
 use Rattle.mls_magicd.specs.CommandLines.{NamesFiles, NumberOption, cell_tiles_option, file_of, journal_option, pool_option, quota_option, workers_option}
 use Rattle.mls_magicd.proofs.options.Options.parse.Goals as goal
 
@@ -28,20 +23,20 @@ returns-in_ok-cells-in-Ok g c =
       taken = (taken-no_fault _ command built taken.kinds, named-not_bad _ files named);
       tech = c.get_str.ensures ∙ file-named _ command m built taken.matches;
       quota = number quota_option 1 c.unwrap_or_default.result quota_stands
-          (found-number quota_option IsQuota c.get_one.result c.and_then.result _ c.and_then.ensures c.unwrap_or_default.ensures (found_of m)
-          c.get_one.ensures.none c.get_one.ensures.value (omega arith) (λ n enough bounded. record { enough = enough; bounded = bounded }));
+          (found-number quota_option c.get_one.result c.and_then.result _ c.and_then.ensures c.unwrap_or_default.ensures (found_of m)
+          c.get_one.ensures.none c.get_one.ensures.value (omega arith));
       pool = number pool_option 2 c.unwrap_or_default-in-Ok.result pool_stands
-          (found-number pool_option IsCapacity c.get_one-in-Ok.result c.and_then-in-Ok.result _ c.and_then-in-Ok.ensures c.unwrap_or_default-in-Ok.ensures (found_of m)
-          c.get_one-in-Ok.ensures.none c.get_one-in-Ok.ensures.value (omega arith) (λ n enough bounded. record { enough = enough; bounded = bounded }));
+          (found-number pool_option c.get_one-in-Ok.result c.and_then-in-Ok.result _ c.and_then-in-Ok.ensures c.unwrap_or_default-in-Ok.ensures (found_of m)
+          c.get_one-in-Ok.ensures.none c.get_one-in-Ok.ensures.value (omega arith));
       journal = number journal_option 3 c.unwrap_or_default-in-Ok-2.result journal_stands
-          (found-number journal_option IsJournalLimit c.get_one-in-Ok-2.result c.and_then-in-Ok-2.result _ c.and_then-in-Ok-2.ensures c.unwrap_or_default-in-Ok-2.ensures (found_of m)
-          c.get_one-in-Ok-2.ensures.none c.get_one-in-Ok-2.ensures.value (omega arith) (λ n enough bounded. record { enough = enough; bounded = bounded }));
+          (found-number journal_option c.get_one-in-Ok-2.result c.and_then-in-Ok-2.result _ c.and_then-in-Ok-2.ensures c.unwrap_or_default-in-Ok-2.ensures (found_of m)
+          c.get_one-in-Ok-2.ensures.none c.get_one-in-Ok-2.ensures.value (omega arith));
       cell_tiles = number cell_tiles_option 4 c.unwrap_or_default-in-Ok-3.result cell_tiles_stands
-          (found-number cell_tiles_option IsCellTiles c.get_one-in-Ok-3.result c.and_then-in-Ok-3.result _ c.and_then-in-Ok-3.ensures c.unwrap_or_default-in-Ok-3.ensures (found_of m)
-          c.get_one-in-Ok-3.ensures.none c.get_one-in-Ok-3.ensures.value (omega arith) (λ n enough bounded. record { enough = enough; bounded = bounded }));
+          (found-number cell_tiles_option c.get_one-in-Ok-3.result c.and_then-in-Ok-3.result _ c.and_then-in-Ok-3.ensures c.unwrap_or_default-in-Ok-3.ensures (found_of m)
+          c.get_one-in-Ok-3.ensures.none c.get_one-in-Ok-3.ensures.value (omega arith));
       workers = number workers_option 5 c.unwrap_or_default-in-Ok-4.result workers_stands
-          (found-number workers_option IsWorkerCount c.get_one-in-Ok-4.result c.and_then-in-Ok-4.result _ c.and_then-in-Ok-4.ensures c.unwrap_or_default-in-Ok-4.ensures (found_of m)
-          c.get_one-in-Ok-4.ensures.none c.get_one-in-Ok-4.ensures.value (omega arith) (λ n enough bounded. bounded));
+          (found-number workers_option c.get_one-in-Ok-4.result c.and_then-in-Ok-4.result _ c.and_then-in-Ok-4.ensures c.unwrap_or_default-in-Ok-4.ensures (found_of m)
+          c.get_one-in-Ok-4.ensures.none c.get_one-in-Ok-4.ensures.value (omega arith));
       live = λ asks. c.get_flag.ensures.value (live-named _ command m built taken.matches ∙ asks);
       batch = λ asks. elim asks [
         | inl none ↦ c.get_flag.ensures.none (live-named _ command m built taken.matches ∙ none)
