@@ -1,6 +1,7 @@
 //! A library over a pool in which the plane of somebody else lies.
-ghost use Rattle.std.specs.Prelude.{◌≡◌, IfOk, []};
+ghost use Rattle.std.specs.Prelude.{IfOk};
 ghost use Rattle.mls_library.specs.Libraries.{IsHome};
+ghost use Rattle.mls_tilepool.specs.Pools.{Pool};
 
 use crate::scene::Scene;
 use crate::servers::{CELL, CELL_NAME};
@@ -74,9 +75,6 @@ pub struct LibraryScene {
 }
 
 impl Model for LibraryScene {
-    ghost use Rattle.mls_library.specs.Libraries.{IsHome};
-    ghost use Rattle.mls_tilepool.specs.Pools.{Pool};
-
     ghost Value = { Pool };
 
     ghost view = { λ s. s.pool };

@@ -3,9 +3,8 @@ ghost use Rattle.std.specs.Prelude.{◌≡◌};
 ghost use Rattle.mls_checker.specs.Halos.{zone_of};
 
 use crate::servers::id_a;
-use mls_checker::{Finding, Snapshot, check};
-use mls_edgerule::BoxedRules;
-use mls_geom::Rect;
+use mls_checker::Finding;
+use mls_live::{Gate, Plain};
 use mls_server::Server;
 use mls_session::Job;
 use std::alloc::{AllocError, Global};
@@ -13,10 +12,8 @@ use std::alloc::{AllocError, Global};
 /// A job whose snapshot is of the zone round its piece.
 #[derive(Drop)]
 pub struct Ready {
-    piece: Rect,
-    snapshot: Snapshot,
-    rules: BoxedRules,
-    ghost zone: { snapshot.zone ≡ zone_of rules piece },
+    job: Job,
+    ghost zone: { job.snapshot.zone ≡ zone_of job.rules job.piece },
 }
 
 impl Ready {
@@ -25,25 +22,12 @@ impl Ready {
         let Ok(Some(job)) = server.grab(alloc, id_a()) else {
             return None;
         };
-        let Job {
-            piece,
-            snapshot,
-            rules,
-        } = job;
-        Some(Ready {
-            piece,
-            snapshot,
-            rules,
-        })
+        Some(Ready { job })
     }
 
     /// Checks it.
     pub fn check(self, alloc: Global) -> Result<Finding, AllocError> {
-        let Ready {
-            piece,
-            snapshot,
-            rules,
-        } = self;
-        check(alloc, rules.as_rules(), snapshot, piece)
+        let Ready { job } = self;
+        Plain.check(alloc, id_a(), job)
     }
 }

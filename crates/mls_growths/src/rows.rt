@@ -209,24 +209,17 @@ fn row_named(name: &str, number: Option<u8>) -> Option<Row> {
         "work" => Row::Seat(SeatCall::Work { left_out: number }),
         "retire" => Row::Seat(SeatCall::Retire),
         "serve" => Row::Serve(number.map_or(usize::MAX, usize::from)),
-        "smallest_quota" => Row::Frugal {
-            script: OPENED,
-            calls: &SMALLEST_QUOTA,
-        },
-        "whole_world" => Row::Frugal {
-            script: OPENED,
-            calls: &WHOLE_WORLD,
-        },
-        "other_calls" => Row::Frugal {
-            script: BAR,
-            calls: &OTHERS,
-        },
-        "placed_cells" => Row::Frugal {
-            script: PLACED_ALONE,
-            calls: &PLACED_CELLS,
-        },
+        "smallest_quota" => takes_no_memory(OPENED, &SMALLEST_QUOTA),
+        "whole_world" => takes_no_memory(OPENED, &WHOLE_WORLD),
+        "other_calls" => takes_no_memory(BAR, &OTHERS),
+        "placed_cells" => takes_no_memory(PLACED_ALONE, &PLACED_CELLS),
         _ => return None,
     })
+}
+
+/// The row of calls that take no memory, after a script.
+fn takes_no_memory(script: &'static [u8], calls: &'static [FrugalCall]) -> Row {
+    Row::Frugal { script, calls }
 }
 
 /// The row of a call of a server after a script.

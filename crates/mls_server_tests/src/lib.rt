@@ -2,14 +2,4 @@
 #![tactic(auto)]
 
 #[cfg(test)]
-mod devices;
-#[cfg(test)]
-mod findings;
-#[cfg(test)]
-mod scripts;
-#[cfg(test)]
-mod servers;
-#[cfg(test)]
-mod streams;
-#[cfg(test)]
-mod words;
+mod tests;

@@ -1,0 +1,47 @@
+//! Pieces that are settled, since their marks are known to be right.
+ghost use Rattle.std.specs.Prelude.{◌≡◌};
+
+use crate::tests::stages::Stage;
+use mls_live::{Naming, Plain, Seat};
+use mls_session::Command;
+use std::process::Abort;
+use std::sync::Wait;
+use std::test::Fail;
+use std::thread::Threads;
+use std::time::Clock;
+
+/// Sets the box to the whole world.
+const WORLD: Command = Command::Box {
+    left: -1_048_576,
+    bottom: -1_048_576,
+    right: 1_048_576,
+    top: 1_048_576,
+};
+
+/// How many pieces the world has: rows of 8192 pieces, each of which has 256 rows of 256 squares.
+const PIECES: u64 = 8192 * 8192;
+
+/// An empty world is done after its first piece, by a worker in one turn, and then by the seat.
+pub fn settle<N: Naming + Send + Sync, R: Threads + Wait + Clock + Abort + Sync>(
+    stage: &Stage<'_, N, R>,
+) -> Result<(), Fail>
+    requires { N.parts ≡ 65 }
+{
+    let mut a = stage.seat(b"a")?;
+    stage.expect_done(&mut a, WORLD);
+    let notices = stage.notices_of(&mut a)?;
+    stage.expect_done(&mut a, Command::Check);
+    stage.expect_count(&mut a, 0, 1);
+    assert_eq!(stage.rt; stage.work(notices, &Plain, 1).finished, PIECES);
+    stage.expect_count(&mut a, 0, 0);
+    stage.expect_done(&mut a, Command::Check);
+    stage.expect_count(&mut a, 0, 1);
+    work_off(stage, &a);
+    stage.expect_count(&mut a, 0, 0);
+    stage.expect_ended(a, 7)
+}
+
+/// Has a seat work its session off.
+fn work_off<N: Naming, R: Wait>(stage: &Stage<'_, N, R>, seat: &Seat<'_, N>) {
+    seat.work_off(stage.rt, stage.alloc);
+}

@@ -1,0 +1,7 @@
+//! The tests, and what they share.
+mod devices;
+mod findings;
+mod scripts;
+mod servers;
+mod streams;
+mod words;

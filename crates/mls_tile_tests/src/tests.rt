@@ -1,0 +1,7 @@
+//! The tests, and what they share.
+mod painting;
+mod pieces;
+mod pools;
+mod replacements;
+mod sheet;
+mod tiles;
