@@ -1,4 +1,5 @@
 """Times checks of the whole world. Called by bench/world.sh, which says what the rows are."""
+import dataclasses
 import os
 import pathlib
 import random
@@ -48,16 +49,33 @@ ROWS = flat(paint(WORLD[0], 64 * n - 32000, WORLD[2], 64 * n - 31998) for n in r
 STREWN = flat([*strewn("poly", 71), *strewn("m1", 71)])
 STREWN_BOX = 0, 0, 1136, 1136
 
-# The layouts, each with its technology, if that isn't M, and with the box that is checked.
+
+
+@dataclasses.dataclass
+class Layout:
+    """A layout as lines, the technology if that isn't M, the box that is checked, and a cell's rectangles of poly."""
+
+    lines: list
+    technology: str = None
+    box: tuple = WORLD
+    cell: list = ()
+
+
+USE = ["getcell c 0 0"]
+FAR = [(WORLD[0], WORLD[1], WORLD[0] + 4, WORLD[1] + 4), (WORLD[2] - 4, WORLD[3] - 4, WORLD[2], WORLD[3])]
+
 LAYOUTS = {
-    "empty": ([], None, WORLD),
-    "painted": (paint(*WORLD), None, WORLD),
-    "corner": (CORNER, None, WORLD),
-    "bars": (BARS, None, WORLD),
-    "rows": (ROWS, None, WORLD),
-    "marked": ([], SPACE_FORBIDDEN, WORLD),
-    "strewn": (STREWN, None, WORLD),
-    "alone": (STREWN, None, STREWN_BOX),
+    "empty": Layout([]),
+    "painted": Layout(paint(*WORLD)),
+    "corner": Layout(CORNER),
+    "bars": Layout(BARS),
+    "rows": Layout(ROWS),
+    "marked": Layout([], SPACE_FORBIDDEN),
+    "strewn": Layout(STREWN),
+    "alone": Layout(STREWN, box=STREWN_BOX),
+    "far": Layout(USE, cell=FAR),
+    "filled": Layout(USE, cell=[WORLD]),
+    "barred": Layout(USE, cell=[(64 * n - 32000, WORLD[1], 64 * n - 31998, WORLD[3]) for n in range(1000)]),
 }
 
 
@@ -118,17 +136,27 @@ def shown(seconds):
     return "-" if seconds is None else f"{seconds * 1e3:.0f}"
 
 
+def files(folder, layout):
+    """Writes the layout's technology and cell, and returns the words that name them."""
+    words = []
+    if layout.technology:
+        path = folder / "t.tech"
+        path.write_text(layout.technology)
+        words += ["--tech", str(path)]
+    if layout.cell:
+        path = folder / "c.mag"
+        path.write_text("\n".join(["magic", "<< poly >>", *("rect {} {} {} {}".format(*e) for e in layout.cell), "<< end >>", ""]))
+        words += ["--cell-tiles", "16384", f"c={path}"]
+    return words
+
+
 def main(program, asked):
     with tempfile.TemporaryDirectory() as folder:
         print("layout", *(f"catchup {n}" for n in asked), *(f"worker {n}" for n in asked), sep="\t", flush=True)
-        for name, (layout, technology, sides) in LAYOUTS.items():
-            words = list(OPTIONS)
-            if technology:
-                path = pathlib.Path(folder, "t.tech")
-                path.write_text(technology)
-                words += ["--tech", str(path)]
+        for name, layout in LAYOUTS.items():
+            words = [*OPTIONS, *files(pathlib.Path(folder), layout)]
             each = [(timed, times) for timed in (catching_up, by_workers) for times in asked]
-            row = [shown(timed(program, words, layout, sides, times)) for timed, times in each]
+            row = [shown(timed(program, words, layout.lines, layout.box, times)) for timed, times in each]
             print(name, *row, sep="\t", flush=True)
 
 

@@ -12,6 +12,9 @@
 #   marked    a technology whose rule forbids every square of the empty layout, which is all marked
 #   strewn    10,082 rectangles of poly and metal, with sides of 1 to 8, over 1,136 by 1,136 squares
 #   alone     the same, but their box alone is checked
+#   far       one use of a cell with squares in two opposite corners of the world
+#   filled    one use of a cell that is poly in the whole world
+#   barred    one use of a cell with the thousand bars
 #
 # Columns: milliseconds of the processor that a script with the checks and `drc catchup` takes more than one without
 # them, for one check and for 64, the least of three runs; then, with `--live`, milliseconds by the clock from the first
@@ -19,8 +22,8 @@
 # A dash stands for more than ten seconds. With numbers as arguments as many checks are asked for. It fails where other
 # squares are marked at the end.
 #
-# Aims: 20 for empty; 100 for painted, bars, rows and marked; for strewn 1.2 of alone and empty together; 64 checks as
-# long as one. It runs the program that it builds, or PROGRAM. It needs Python 3. Nothing of it runs in the gate.
+# Aims: 20 for empty; for strewn 1.2 of alone and empty together; 100 for the others; 64 checks as long as one. It runs the
+# program that it builds, or PROGRAM. It needs Python 3. Nothing of it runs in the gate.
 set -eu
 here=$(cd "$(dirname "${BASH_SOURCE[0]}")/.." && pwd)
 program=${PROGRAM:-}
