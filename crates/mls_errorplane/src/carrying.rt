@@ -176,7 +176,8 @@ fn runs_through(bar: Area, rows: Area) -> bool
     rows.top <= bar.bottom || (bar.bottom <= rows.bottom && rows.top <= bar.top)
 }
 
-/// Makes `pieces` those that give each square of the rectangle the kind of the source's square that shows the same.
+/// Fills `pieces` with those that give each square of the rectangle the kind of the source's square that shows the
+/// same.
 fn list_carried(
     pool: &Pool,
     plane: &mut Plane,
@@ -220,7 +221,7 @@ fn edge_of(source: Source, rect: Rect) -> Rect
     }
 }
 
-/// Makes `pieces` those that give each tile's part of the rectangle its kind.
+/// Fills `pieces` with those that give each tile's part of the rectangle its kind.
 fn list_parts(tiles: &[LaidTile], likeness: Likeness, rect: Rect, pieces: &mut Vec<Piece>)
     requires fits { length tiles.now ≤ vec_capacity pieces.old }
     requires legal { All (λ tile. IsRectangleIn world (spec.part_like likeness tile.piece.rect rect)) tiles.now }

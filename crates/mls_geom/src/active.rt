@@ -66,7 +66,7 @@ fn add_started<'a>(waiting: &'a [Start], line: u32, active: &mut Vec<usize>) -> 
     rest
 }
 
-/// Makes `active` the indices of the pieces that have squares in the row above the line, in order, and
+/// Fills `active` with the indices of the pieces that have squares in the row above the line, in order, and
 /// returns the starts further up.
 pub(crate) fn activate<'a>(
     pieces: &[Piece],

@@ -72,7 +72,7 @@ fn are_between(lines: &[u32], pieces: &[Piece], active: &[usize]) -> bool
     true
 }
 
-/// Returns whether the lines of the row below serve for these active pieces too, and not many of them are of no use.
+/// Returns whether the lines of the row below serve for these active pieces too, and few of them are unused.
 fn serve(lines: &[u32], pieces: &[Piece], active: &[usize]) -> bool
     requires { All (λ i. i < length pieces.now) active.now }
     ensures cuts { IsTrue result → AreCuts world lines.now }

@@ -12,7 +12,7 @@ use crate::{CellFault, CellTiles};
 use mls_geom::{Piece, Scratch as Sweep, strips};
 use std::alloc::{AllocError, Global};
 
-/// Makes `pieces` those that are painted on a plane, in order.
+/// Fills `pieces` with those that are painted on a plane, in order.
 fn list_pieces(rects: &[CellRect], plane: u8, pieces: &mut Vec<Piece>) -> Result<(), AllocError>
     ensures items { OnOk result (pieces.new.items ≡ pieces_on plane rects.now) }
     ensures few { OnOk result (length pieces.new.items ≤ length rects.now) }

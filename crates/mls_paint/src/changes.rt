@@ -67,7 +67,7 @@ fn is_among(pieces: &[Piece], piece: &Piece, near: &mut usize) -> bool
     pieces.get(before) == Some(piece)
 }
 
-/// Makes `gone` the tiles that are none of the strips.
+/// Fills `gone` with the tiles that are none of the strips.
 fn list_gone(tiles: &[LaidTile], strips: &[Piece], gone: &mut Vec<LaidTile>)
     requires order { AreInOrder strips.now }
     requires room { length tiles.now ≤ vec_capacity gone.old }
@@ -84,7 +84,7 @@ fn list_gone(tiles: &[LaidTile], strips: &[Piece], gone: &mut Vec<LaidTile>)
     }
 }
 
-/// Makes `names` the names of the tiles.
+/// Fills `names` with the names of the tiles.
 fn list_names(tiles: &[LaidTile], names: &mut Vec<TileId>)
     requires room { length tiles.now ≤ vec_capacity names.old }
     ensures items { names.new.items ≡ map (λ tile. tile.id) tiles.now }
@@ -96,7 +96,7 @@ fn list_names(tiles: &[LaidTile], names: &mut Vec<TileId>)
     }
 }
 
-/// Makes `fresh` the strips that are none of the touched pieces.
+/// Fills `fresh` with the strips that are none of the touched pieces.
 fn list_fresh(strips: &[Piece], touched: &[Piece], fresh: &mut Vec<Piece>)
     requires order { AreInOrder touched.now }
     requires room { length strips.now ≤ vec_capacity fresh.old }

@@ -166,7 +166,7 @@ fn find_touched(
     }
 }
 
-/// Makes `pieces` the rectangles and kinds of the tiles, and after them the pieces that are painted over them.
+/// Fills `pieces` with the rectangles and kinds of the tiles, and after them the pieces that are painted over them.
 fn list_pieces(tiles: &[LaidTile], over: &[Piece], pieces: &mut Vec<Piece>)
     requires { length tiles.now + length over.now ≤ vec_capacity pieces.old }
     ensures items { pieces.new.items ≡ map (λ tile. tile.piece) tiles.now ++ over.now }
@@ -181,7 +181,7 @@ fn list_pieces(tiles: &[LaidTile], over: &[Piece], pieces: &mut Vec<Piece>)
 }
 
 /// Finds the strips that take the place of the tiles when pieces are painted over their plane, which has `count` tiles.
-/// Makes `touched` the tiles' rectangles and kinds.
+/// Fills `touched` with the tiles' rectangles and kinds.
 ///
 /// Fails if the plane would then have more than `limit` tiles.
 fn find_fresh(

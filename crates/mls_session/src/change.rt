@@ -65,7 +65,7 @@ impl Change<'_> {
     }
 }
 
-/// Makes `pieces` pieces of space in the squares of a rectangle of a plane that have one of these types.
+/// Fills `pieces` with pieces of space in the squares of a rectangle of a plane that have one of these types.
 fn list_erased(
     pool: &Pool,
     plane: &mut Plane,

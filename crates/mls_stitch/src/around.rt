@@ -107,7 +107,7 @@ fn list_round_all(
     }
 }
 
-/// Makes `found` those of the tiles that have a square of the area.
+/// Fills `found` with those of the tiles that have a square of the area.
 fn list_meeting(tiles: &[LaidTile], area: Rect, found: &mut Vec<LaidTile>)
     requires room { length tiles.now ≤ vec_capacity found.old }
     ensures found { found.new.items ≡ filter (λ tile. meets tile.piece.rect area) tiles.now }

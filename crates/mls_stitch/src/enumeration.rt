@@ -112,7 +112,7 @@ fn next_start(area: Rect, from: TileId, tile: &LaidTile) -> TileId
     }
 }
 
-/// Makes `list` the tiles on the area's left side, from the bottom up.
+/// Fills `list` with the tiles on the area's left side, from the bottom up.
 fn list_left_side(
     pool: &Pool,
     owner: &Owner,
@@ -141,7 +141,7 @@ fn list_left_side(
     }
 }
 
-/// Makes `list` the tiles that have a square of the area, each once, in any order.
+/// Fills `list` with the tiles that have a square of the area, each once, in any order.
 pub(crate) fn list_tiles(
     pool: &Pool,
     owner: &Owner,

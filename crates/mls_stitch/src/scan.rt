@@ -23,7 +23,7 @@ fn laid_in(pool: &Pool, owner: &Owner, id: TileId, area: Rect) -> Option<LaidTil
     if tile.meets(area) { Some(tile) } else { None }
 }
 
-/// Makes `list` the tiles that have a square of the area, in any order, by a look at each tile of the owner.
+/// Fills `list` with the tiles that have a square of the area, in any order, by a look at each tile of the owner.
 pub(crate) fn scan_area(pool: &Pool, owner: &Owner, area: Rect, list: &mut Vec<LaidTile>)
     requires plane { HasPlane pool.now owner.now }
     requires room { count_of pool.now owner.now ≤ vec_capacity list.old }

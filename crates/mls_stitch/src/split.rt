@@ -60,7 +60,7 @@ fn joined(first: Piece, second: Piece, axis: Axis) -> Piece
 impl Plane {
     /// Replaces a tile by two parts of it, and returns the name of the second part.
     ///
-    /// Fails if the owner has no room for one more tile, and then leaves all as it was.
+    /// Fails if the owner has no room for one more tile, and then changes nothing.
     fn cut(
         &mut self,
         pool: &mut Pool,
@@ -178,7 +178,7 @@ impl Plane {
     /// Splits a tile at a column's left line, counted as the coordinates of [`Area`](mls_geom::Area) are.
     ///
     /// The tile keeps its name for the left part; returns the name of the right part. Fails if the owner has no room
-    /// for one more tile, and then leaves all as it was.
+    /// for one more tile, and then changes nothing.
     pub fn split_x(
         &mut self,
         pool: &mut Pool,
@@ -207,7 +207,7 @@ impl Plane {
     /// Splits a tile at a row's bottom line, counted as the coordinates of [`Area`](mls_geom::Area) are.
     ///
     /// The tile keeps its name for the lower part; returns the name of the upper part. Fails if the owner has no room
-    /// for one more tile, and then leaves all as it was.
+    /// for one more tile, and then changes nothing.
     pub fn split_y(
         &mut self,
         pool: &mut Pool,

@@ -1,4 +1,4 @@
-//! What the lines of each section add to a technology. After a fault it is of no more use.
+//! What the lines of each section add to a technology. A technology with a fault isn't read further.
 ghost use Rattle.std.specs.Prelude.{◌≡◌, Ok, OnOk};
 ghost use Rattle.mls_tech.specs.Inner.Gives.{GivesUnlessMemory};
 ghost use Rattle.mls_tech.specs.Readings as spec;
