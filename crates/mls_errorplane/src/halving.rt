@@ -10,13 +10,13 @@ use mls_layout::{Uses, Workspace};
 use mls_paint::find_meeting;
 use mls_stitch::{LaidTile, Plane};
 
-/// A rectangle that is at most this wide and this high isn't cut,
+/// A rectangle that is at most this wide and this high isn't cut.
 const SMALL: u32 = 65_536;
 
-/// nor one in which at most this many tiles lie,
+/// A rectangle in which at most this many tiles lie, and uses show nothing, isn't cut.
 const FEW_TILES: usize = 1024;
 
-/// nor a side of at most so many squares.
+/// A side of at most this many squares isn't cut.
 const SHORT: u32 = 256;
 
 /// How many tiles lie in a rectangle, and how many of them across the line in the middle of its columns, and of its rows.
