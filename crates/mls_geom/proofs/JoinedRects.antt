@@ -2,34 +2,24 @@
 use Rattle.std.proofs.Common.{◌≡◌, ℕ, true, arith}
 use Rattle.std.proofs.lemmas.Bool.Decides.{nat_tests}
 use Rattle.mls_geom.specs.Rects.{Rect, IsRectangleIn, IsWithin, holds, joined}
+use Rattle.mls_geom.proofs.InnerRects.{IsRectangleIn-through, IsRectangleIn-within}
 
 -- what lies within the first lies within it, and so does the second
 pub IsWithin-joined : (a b e : Rect) → IsWithin a e → IsWithin (joined a b) e
 IsWithin-joined a b e inside = record { left = omega (arith, inside.left); bottom = omega (arith, inside.bottom); right = omega (arith, inside.right); top = omega (arith, inside.top) }
+
+IsWithin-joined_first : (a b : Rect) → IsWithin (joined a b) a
+IsWithin-joined_first a b = record { left = omega arith; bottom = omega arith; right = omega arith; top = omega arith }
 
 pub IsWithin-joined_itself : (a b : Rect) → IsWithin (joined a b) b
 IsWithin-joined_itself a b = record { left = omega arith; bottom = omega arith; right = omega arith; top = omega arith }
 
 -- the same of rectangles with squares
 pub IsRectangleIn-joined : (a b e : Rect) → IsRectangleIn a e → IsRectangleIn (joined a b) e
-IsRectangleIn-joined a b e inside = record {
-  left_in = grind (arith, inside.left_in);
-  wide = inside.wide;
-  right_in = grind (arith, inside.right_in);
-  bottom_in = grind (arith, inside.bottom_in);
-  tall = inside.tall;
-  top_in = grind (arith, inside.top_in);
-}
+IsRectangleIn-joined a b e inside = IsRectangleIn-through (joined a b) a e (IsWithin-joined_first a b) inside
 
 pub IsRectangleIn-joined_itself : (extent a b : Rect) → IsRectangleIn extent b → IsRectangleIn (joined a b) b
-IsRectangleIn-joined_itself extent a b legal = record {
-  left_in = grind arith;
-  wide = legal.wide;
-  right_in = grind arith;
-  bottom_in = grind arith;
-  tall = legal.tall;
-  top_in = grind arith;
-}
+IsRectangleIn-joined_itself extent a b legal = IsRectangleIn-within (joined a b) extent b (IsWithin-joined_itself a b) legal
 
 -- it lies in an extent where both do
 pub joined-IsRectangleIn : (extent a b : Rect) → IsRectangleIn extent a → IsRectangleIn extent b → IsRectangleIn extent (joined a b)

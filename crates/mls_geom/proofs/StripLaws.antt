@@ -1,5 +1,5 @@
 -- The strips of a picture are determined by it, and number its tile count.
-use Rattle.std.proofs.Common.{◌≡◌, ℕ, ◌-◌, ◌<◌, true, List, map, length, get_or, All, AllPairs, Any, Contains, sym, ap, ◌∙◌, subst₂, le_refl, arith}
+use Rattle.std.proofs.Common.{◌≡◌, ℕ, ◌-◌, ◌<◌, Bool, true, List, map, length, get_or, All, AllPairs, Any, Contains, sym, ap, ◌∙◌, subst₂, le_refl, arith}
 use Rattle.std.proofs.lemmas.List.{length-map, get_or-map, same_lists}
 use Rattle.std.proofs.lemmas.List.Elements.{All-contains, All-map}
 use Rattle.mls_geom.specs.Rects.{Rect, holds}
@@ -21,25 +21,36 @@ corners extent picture = squares_where (is_corner extent picture) (columns exten
 abbrev pub corner_of : Piece → ℕ × ℕ
 corner_of piece = (piece.rect.left, piece.rect.bottom)
 
+-- the squares of an extent that pass a test are those of a list by columns and rows
+pub squares_there :
+    (test : ℕ → ℕ → Bool) (extent : Rect) (x y : ℕ) → holds extent x y ≡ true → test x y ≡ true → Contains (squares_where test (columns extent) (rows extent)) (x, y)
+squares_there test extent x y inside passes =
+    let lines = holds_between extent x y inside in
+    Contains-squares_where test (columns extent) (rows extent) x y (Contains-range_with_len extent.left extent.right x lines.0 lines.1)
+    (Contains-range_with_len extent.bottom extent.top y lines.2 lines.3) passes
+
+-- and what holds of each of them holds of each of the list
+pub All-squares :
+    (P : ℕ × ℕ → Type 0) (test : ℕ → ℕ → Bool) (extent : Rect) → ((x y : ℕ) → holds extent x y ≡ true → test x y ≡ true → P (x, y))
+    → All P (squares_where test (columns extent) (rows extent))
+All-squares P test extent each =
+    All-squares_where P test (columns extent) (rows extent)
+    (λ x y column row passes.
+    let across = range_with_len-Contains extent.left extent.right x column in
+    let up = range_with_len-Contains extent.bottom extent.top y row in
+    each x y (between_holds extent x y across.0 across.1 up.0 up.1) passes)
+
 -- each corner is among them
 pub corner_there : (extent : Rect) (picture : Picture) (x y : ℕ) → holds extent x y ≡ true → is_corner extent picture x y ≡ true → Contains (corners extent picture) (x, y)
 unfolding corners
-corner_there extent picture x y inside corner =
-    let lines = holds_between extent x y inside in
-    Contains-squares_where (is_corner extent picture) (columns extent) (rows extent) x y (Contains-range_with_len extent.left extent.right x lines.0 lines.1)
-    (Contains-range_with_len extent.bottom extent.top y lines.2 lines.3) corner
+corner_there extent picture x y inside corner = squares_there (is_corner extent picture) extent x y inside corner
 
 -- and what holds of each corner holds of each of them
 pub All-corners :
     (P : ℕ × ℕ → Type 0) (extent : Rect) (picture : Picture) → ((x y : ℕ) → holds extent x y ≡ true → is_corner extent picture x y ≡ true → P (x, y))
     → All P (corners extent picture)
 unfolding corners
-All-corners P extent picture each =
-    All-squares_where P (is_corner extent picture) (columns extent) (rows extent)
-    (λ x y column row corner.
-    let across = range_with_len-Contains extent.left extent.right x column in
-    let up = range_with_len-Contains extent.bottom extent.top y row in
-    each x y (between_holds extent x y across.0 across.1 up.0 up.1) corner)
+All-corners P extent picture each = All-squares P (is_corner extent picture) extent each
 
 -- a strip has its lower-left square among them
 pub strip_corner_there : (extent : Rect) (picture : Picture) (piece : Piece) → IsStrip extent picture piece → Contains (corners extent picture) (corner_of piece)

@@ -1,11 +1,11 @@
 -- The strips of a picture number its tile count, in whatever order they stand.
-use Rattle.std.proofs.Common.{◌≡◌, ◌≢◌, ℕ, Bool, ◌&&◌, ◌==◌, List, map, length, get_or, All, AllPairs, Contains, Decides, sym, ap, subst, ◌∙◌, arith}
+use Rattle.std.proofs.Common.{◌≡◌, ◌≢◌, ℕ, ◌≤◌, Bool, ◌&&◌, ◌==◌, List, map, length, get_or, All, AllPairs, Contains, Decides, sym, ap, subst, ◌∙◌, arith}
 use Rattle.std.specs.Cmp.{IsEquivalence}
 use Rattle.std.proofs.lemmas.Bool.{and_parts, and_from, eqb-true, eq-eqb}
-use Rattle.std.proofs.lemmas.Bool.Decides.{nat_tests, same_from_decides}
+use Rattle.std.proofs.lemmas.Bool.Decides.{nat_tests}
 use Rattle.std.proofs.lemmas.List.{length-map}
 use Rattle.std.proofs.lemmas.List.Elements.{All-contains, All-map}
-use Rattle.std.proofs.lemmas.Map.Made.{length-from_same_keys, is_member-Decides, IsDistinct-from_AllPairs}
+use Rattle.std.proofs.lemmas.Map.Made.{length-le_from_is_member, is_member-Decides, IsDistinct-from_AllPairs}
 use Rattle.mls_geom.specs.Locality.{AreUnorderedStrips}
 use Rattle.mls_geom.specs.Pictures.{Picture}
 use Rattle.mls_geom.specs.Rects.{Rect}
@@ -38,16 +38,16 @@ is_square-laws = record {
   congr = λ s t u same. grind (arith, nat_tests);
 }
 
--- two lists that have the same squares, each once, are of one length
+-- different squares of a list are at most as many as all of it
+pub squares-le : (xs ys : List (ℕ × ℕ)) → AllPairs (λ s t. s ≢ t) xs → All (Contains ys) xs → length xs ≤ length ys
+squares-le xs ys once there =
+    length-le_from_is_member is_square-laws xs ys (IsDistinct-from_AllPairs is_square-decides xs once)
+    (λ s held. (is_member-Decides is_square-decides ys s).1 (All-contains (Contains ys) xs s there ((is_member-Decides is_square-decides xs s).0 held)))
+
+-- so two lists that have the same squares, each once, are of one length
 pub same_length :
     (xs ys : List (ℕ × ℕ)) → AllPairs (λ s t. s ≢ t) xs → AllPairs (λ s t. s ≢ t) ys → All (Contains ys) xs → All (Contains xs) ys → length xs ≡ length ys
-same_length xs ys once once' there back =
-    length-from_same_keys is_square-laws xs ys (IsDistinct-from_AllPairs is_square-decides xs once) (IsDistinct-from_AllPairs is_square-decides ys once')
-    (λ s.
-    let one = is_member-Decides is_square-decides xs s in
-    let other = is_member-Decides is_square-decides ys s in
-    same_from_decides {P = Contains xs s} _ _ one
-    (λ held. All-contains (Contains xs) ys s back (other.0 held), λ held. other.1 (All-contains (Contains ys) xs s there held)))
+same_length xs ys once once' there back = omega (arith, squares-le xs ys once there, squares-le ys xs once' back)
 
 -- squares in order are each there once
 pub once_from_order : (xs : List (ℕ × ℕ)) → AllPairs StandsBefore xs → AllPairs (λ s t. s ≢ t) xs

@@ -1,20 +1,18 @@
 //! Lists in which many pieces lie over one another, split at lines. In each part the pieces that a later one covers
 //! are left out, so that few are left, and their strips take their place.
-ghost use Rattle.std.specs.Prelude.{◌≡◌, ℕ, ◌++◌, List, IfSome, OnOk, reverse};
+ghost use Rattle.std.specs.Prelude.{◌≡◌, ◌++◌, IfSome, OnOk, reverse};
 ghost use Rattle.mls_geom.specs.Locality.{laid};
 ghost use Rattle.mls_geom.specs.Parts.{AreParts, HasCoveredStrips, ShowAlike};
-ghost use Rattle.mls_geom.specs.Sweep.SweepRooms.{HasSweepRoom};
 ghost use Rattle.mls_geom.specs.World.{world};
 
-use crate::cuts::{Cuts, Line};
+use crate::cuts::Line;
 use crate::hidden::without_hidden;
 use crate::layers::Layers;
 use crate::pieces::bounds;
-use crate::slabs::{GaveUp, Slabs, add_all, add_cut, sweep_part};
+use crate::slabs::{GaveUp, Slicer, add_all, add_cut, sweep_part};
 use crate::sweep::Sweep;
 use crate::world::{HIGH, LOW};
 use crate::{Piece, Rect};
-use std::mem::swap;
 
 /// The most parts.
 const MOST_PARTS: usize = 1_048_576;
@@ -97,34 +95,27 @@ fn add_sides(
 }
 
 /// Adds the strips of a part to a list, the last one first.
-fn add_strips(
-    list: &mut Vec<Piece>,
-    part: &[Piece],
-    sweep: &mut Sweep,
-    room: usize,
-) -> Result<(), GaveUp>
-    requires { HasSweepRoom sweep.old room }
+fn add_strips(list: &mut Vec<Piece>, part: &[Piece], sweep: &mut Sweep) -> Result<(), GaveUp>
     ensures alike { OnOk result (ShowAlike (reverse list.new.items) (part.now ++ reverse list.old.items)) }
-    ensures room { (n : ℕ) → HasSweepRoom sweep.old n → HasSweepRoom sweep.new n }
+    ensures room { sweep.new.room ≡ sweep.old.room }
 {
     let _bounds = bounds(part);
-    sweep_part(sweep, part, room)?;
-    add_reversed(list, &sweep.strips)?;
+    sweep_part(sweep, part)?;
+    add_reversed(list, sweep.strips())?;
     Ok(())
 }
 
 impl Layers {
     /// Splits the last part of the list in two, or moves its strips to `next`, the last one first.
-    fn split(&mut self, sweep: &mut Sweep, cuts: &mut Cuts, room: usize) -> Result<(), GaveUp>
-        requires { HasSweepRoom sweep.old room }
+    fn split(&mut self, slicer: &mut Slicer) -> Result<(), GaveUp>
         ensures alike { OnOk result (ShowAlike (self.new.list.items ++ reverse self.new.next.items)
             (self.old.list.items ++ reverse self.old.next.items)) }
-        ensures room { (n : ℕ) → HasSweepRoom sweep.old n → HasSweepRoom sweep.new n }
+        ensures room { slicer.new.slabs.sweep.room ≡ slicer.old.slabs.sweep.room }
     {
         let count = self.counts.pop().unwrap_or(0);
         take_part(&mut self.list, &mut self.under, count)?;
-        let Some((first, second)) = cuts.split_line(&self.under).and_then(sides) else {
-            add_strips(&mut self.next, &self.under, sweep, room)?;
+        let Some((first, second)) = slicer.cuts.split_line(&self.under).and_then(sides) else {
+            add_strips(&mut self.next, &self.under, &mut slicer.slabs.sweep)?;
             return Ok(());
         };
         let (one, other) = add_sides(&mut self.list, &self.under, first, second)?;
@@ -135,17 +126,10 @@ impl Layers {
 
     /// Splits parts until `list` is empty. Gives up where they have more than `work` pieces together, and more for
     /// the strips that were found.
-    fn split_all(
-        &mut self,
-        sweep: &mut Sweep,
-        cuts: &mut Cuts,
-        room: usize,
-        work: usize,
-    ) -> Result<(), GaveUp>
-        requires { HasSweepRoom sweep.old room }
+    fn split_all(&mut self, slicer: &mut Slicer, work: usize) -> Result<(), GaveUp>
         ensures alike { OnOk result (ShowAlike (reverse self.new.next.items)
             (self.old.list.items ++ reverse self.old.next.items)) }
-        ensures room { (n : ℕ) → HasSweepRoom sweep.old n → HasSweepRoom sweep.new n }
+        ensures room { slicer.new.slabs.sweep.room ≡ slicer.old.slabs.sweep.room }
     {
         let mut done: usize = 0;
         for _ in 0..MOST_PARTS {
@@ -155,7 +139,7 @@ impl Layers {
             if done > work.saturating_add(self.next.len().saturating_mul(FOR_A_STRIP)) {
                 return Err(GaveUp);
             }
-            self.split(sweep, cuts, room)?;
+            self.split(slicer)?;
             done = done.saturating_add(self.under.len());
         }
         Err(GaveUp)
@@ -163,25 +147,17 @@ impl Layers {
 
     /// Fills the slabs with the strips of the squares that the listed pieces cover, once none of them lies over
     /// another. Gives up where that is more than so many times as much work as there are pieces.
-    pub(crate) fn sweep_split(
-        &mut self,
-        sweep: &mut Sweep,
-        slabs: &mut Slabs,
-        cuts: &mut Cuts,
-        room: usize,
-        times: usize,
-    ) -> Result<(), GaveUp>
-        requires { HasSweepRoom sweep.old room }
-        ensures strips { OnOk result (HasCoveredStrips world (laid self.old.list.items) slabs.new.done.items) }
-        ensures room { (n : ℕ) → HasSweepRoom sweep.old n → HasSweepRoom sweep.new n }
+    pub(crate) fn sweep_split(&mut self, slicer: &mut Slicer, times: usize) -> Result<(), GaveUp>
+        ensures strips { OnOk result (HasCoveredStrips world (laid self.old.list.items) slicer.new.slabs.done.items) }
+        ensures room { slicer.new.slabs.sweep.room ≡ slicer.old.slabs.sweep.room }
     {
         self.counts.clear();
         add_count(&mut self.counts, self.list.len())?;
         self.next.clear();
         let work = self.list.len().saturating_mul(times);
-        self.split_all(sweep, cuts, room, work)?;
+        self.split_all(slicer, work)?;
         self.next.reverse();
-        slabs.sweep_list(sweep, cuts, &self.next, room)?;
+        slicer.sweep_list(&self.next)?;
         Ok(())
     }
 }

@@ -2,7 +2,8 @@
 use Rattle.std.proofs.Common.{All, get_or, sym, subst}
 use Rattle.mls_geom.specs.Parts.{ShowAlike}
 use Rattle.mls_geom.specs.Rects.{IsRectangleIn}
-use Rattle.mls_geom.proofs.PaintedLists.{Any-first, IsRectangleIn-through, ShowAlike-hidden}
+use Rattle.mls_geom.proofs.InnerRects.{IsRectangleIn-through}
+use Rattle.mls_geom.proofs.PaintedLists.{Any-first, ShowAlike-hidden}
 use Rattle.mls_geom.proofs.hidden.without_hidden.Goals as goal
 
 pub returns-then-encloses-clause-alike : goal.returns-then-encloses-clause-alike

@@ -1,11 +1,11 @@
-use Rattle.std.proofs.Common.{◌≡◌, ℕ, ◌+◌, ◌++◌, List, length, subst, arith}
+use Rattle.std.proofs.Common.{◌≡◌, ℕ, ◌+◌, ◌++◌, List, length, ap, ◌∙◌, subst, arith}
 use Rattle.mls_geom.specs.Locality.{AreCoveredStrips, AreUnorderedStrips, AreUntouched, HaveKinds, covered_count, laid}
 use Rattle.mls_geom.specs.Pictures.{overlaid}
 use Rattle.mls_geom.specs.Rects.{IsRectangleIn}
 use Rattle.mls_geom.specs.TileCounts.{tile_count}
 use Rattle.mls_geom.specs.World.{AreLegal, world}
 use Rattle.mls_geom.specs.declared.piece.Piece.{Piece}
-use Rattle.mls_geom.proofs.CoveredCounts.{fresh_strips_number}
+use Rattle.mls_geom.proofs.CoveredCounts.{covered_strips_number, fresh_strips_number}
 use Rattle.mls_geom.proofs.ListLemmas.{All-append_right}
 use Rattle.mls_geom.proofs.StripPictures.{IsRectangleIn-IsStrip}
 use Rattle.mls_geom.proofs.TouchedStrips.{touched_strips_give_way}
@@ -15,7 +15,7 @@ abbrev IsLegal : Piece → Type 0
 IsLegal piece = IsRectangleIn world piece.rect
 
 pub invariant_of-scratch : goal.invariant_of-scratch
-invariant_of-scratch c = (c.find_strips.ensures.room _ c.scratch.invariant.0, c.scratch.invariant.1, c.scratch.invariant.2)
+invariant_of-scratch c = (c.find_strips.ensures.room ∙ c.scratch.invariant.0, c.scratch.invariant.1, c.scratch.invariant.2)
 
 -- what the strips number beside those that stay
 number :
@@ -29,29 +29,26 @@ pub returns-in_err-find_strips-clause-tile_count : goal.returns-in_err-find_stri
 returns-in_err-find_strips-clause-tile_count c = number c.args.pieces.now c.find_strips.ensures.kinds c.find_strips.ensures.legal
 
 pub invariant_of-scratch-2 : goal.invariant_of-scratch-2
-invariant_of-scratch-2 c =
-    let kept = c.find_strips.ensures.room _ c.scratch.invariant.0 in (
-      record {
-        lines = kept.lines;
-        starts = kept.starts;
-        active = kept.active;
-        row = kept.row;
-        below = kept.below;
-        strips = rw c.swap.ensures.y_after (omega (arith, c.scratch.invariant.1));
-      },
-      rw c.swap.ensures.x_after (omega (arith, kept.strips)),
-      c.scratch.invariant.2,
-    )
+invariant_of-scratch-2 c = (
+  c.swap_strips.ensures.room ∙ c.find_strips.ensures.room ∙ c.scratch.invariant.0,
+  omega (arith, c.swap_strips.ensures.capacity, c.find_strips.ensures.room, c.scratch.invariant.0),
+  c.scratch.invariant.2,
+)
+
+pub returns-clause-count : goal.returns-clause-count
+returns-clause-count c =
+    let found = covered_strips_number world (laid c.args.pieces.now) _ c.in_ok-find_strips.ensures.strips in
+    (omega arith, omega (arith, c.len.ensures, ap length c.swap_strips.ensures.strips, found))
 
 pub returns-clause-legal : goal.returns-clause-legal
-returns-clause-legal c = rw c.swap.ensures.x_after (λ k d within. IsRectangleIn-IsStrip world _ _ (c.in_ok-find_strips.ensures.strips.each k d within).0)
+returns-clause-legal c = rw c.swap_strips.ensures.strips (λ k d within. IsRectangleIn-IsStrip world _ _ (c.in_ok-find_strips.ensures.strips.each k d within).0)
 
 pub returns-clause-replaced : goal.returns-clause-replaced
 returns-clause-replaced c = λ below kept touched over is strips untouched.
-    rw c.swap.ensures.x_after
+    rw c.swap_strips.ensures.strips
     (touched_strips_give_way world below over kept touched _ strips (subst HaveKinds is c.find_strips.ensures.kinds)
     (All-append_right IsLegal touched over (subst AreLegal is c.find_strips.ensures.legal)) untouched
-    (subst (λ pieces. AreCoveredStrips world (laid pieces) c.find_strips.new.sweep.strips.items) is c.in_ok-find_strips.ensures.strips))
+    (subst (λ pieces. AreCoveredStrips world (laid pieces) c.find_strips.new.self.slicer.slabs.sweep.strips) is c.in_ok-find_strips.ensures.strips))
 
 pub returns-clause-tile_count : goal.returns-clause-tile_count
 returns-clause-tile_count c = number c.args.pieces.now c.find_strips.ensures.kinds c.find_strips.ensures.legal

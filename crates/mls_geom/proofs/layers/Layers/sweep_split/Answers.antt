@@ -5,19 +5,10 @@ use Rattle.mls_geom.proofs.PaintedLists.{HasCoveredStrips-alike}
 use Rattle.mls_geom.proofs.SplitLists.{ShowAlike-whole}
 use Rattle.mls_geom.proofs.layers.Layers.sweep_split.Goals as goal
 
-pub sweep_list-requires : goal.sweep_list-requires
-sweep_list-requires c = c.split_all.ensures.room _ c.requires
-
-pub returns-in_err-sweep_list-clause-room : goal.returns-in_err-sweep_list-clause-room
-returns-in_err-sweep_list-clause-room c = λ n room. c.sweep_list.ensures.room n (c.split_all.ensures.room n room)
-
-pub returns-clause-room : goal.returns-clause-room
-returns-clause-room c = λ n room. c.sweep_list.ensures.room n (c.split_all.ensures.room n room)
-
 pub returns-clause-strips : goal.returns-clause-strips
 returns-clause-strips c =
     let list = c.args.self.now.list.items in
     let found = c.split_all.new.self.next.items in
-    HasCoveredStrips-alike world c.deref.result.now list c.sweep_list.new.self.done.items
+    HasCoveredStrips-alike world c.deref.result.now list c.sweep_list.new.self.slabs.done.items
     (ShowAlike-whole list c.clear-2.new.self.items found c.deref.result.now c.clear-2.ensures.items (c.deref.ensures.value ∙ c.reverse.ensures.items)
     c.in_ok-split_all.ensures.alike) c.in_ok-sweep_list.ensures.strips

@@ -11,8 +11,8 @@ use Rattle.mls_geom.proofs.BandLines.{IsBand-lines, IsLineOf-lines, first_line, 
 use Rattle.mls_geom.proofs.BandRows.{AreAlike-band, IsBand}
 use Rattle.mls_geom.proofs.CornerCounts.{nothing_stacked, covered_count_up_to_grows}
 use Rattle.mls_geom.proofs.SweepRoomLemmas.{HasRowRoom-less}
-use Rattle.mls_geom.proofs.sweep.Sweep.stack_bands.Goals as goal
-use Rattle.mls_geom.proofs.sweep.Sweep.stack_bands.Goals.{After-deref_mut}
+use Rattle.mls_geom.proofs.sweep.Buffers.stack_bands.Goals as goal
+use Rattle.mls_geom.proofs.sweep.Buffers.stack_bands.Goals.{After-deref_mut}
 
 pub loop-i-init : goal.loop-i-init
 loop-i-init c =

@@ -5,7 +5,7 @@ use Rattle.mls_geom.specs.Sweep.RowRooms.{HasRowRoom}
 use Rattle.mls_geom.specs.Sweep.Stacks.{AreStacked}
 use Rattle.mls_geom.specs.Sweep.SweepRooms.{HasSweepRoom}
 use Rattle.mls_geom.specs.World.{world}
-use Rattle.mls_geom.proofs.sweep.Sweep.stack_bands.Given as goal
+use Rattle.mls_geom.proofs.sweep.Buffers.stack_bands.Given as goal
 
 abbrev pub invariant-loop-i : goal.invariant-loop-i
 invariant-loop-i l =
