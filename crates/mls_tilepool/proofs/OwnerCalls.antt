@@ -1,8 +1,8 @@
 -- What reserving for a new owner, and releasing an owner, leave of a pool.
 use Rattle.std.proofs.Common.{◌≡◌, ℕ, ◌+◌, ◌-◌, ◌≤◌, [], get_or, Option, Some, None, is_some, refl, sym, ap, ◌∙◌, arith}
 use Rattle.slab.specs.Slab.{Slab, Updates, get}
-use Rattle.mls_tilepool.specs.Pools.{Pool, Reserves, owned, reserved, tiles_of, unreserved}
-use Rattle.mls_tilepool.specs.Chains.{IsPool, OthersKeep, held_of, pool_of, room_in}
+use Rattle.mls_tilepool.specs.Pools.{ChangesOnly, Pool, Reserves, owned, reserved, tiles_of, unreserved}
+use Rattle.mls_tilepool.specs.Chains.{IsPool, held_of, pool_of, room_in}
 use Rattle.mls_tilepool.specs.declared.chain.Place.{Place}
 use Rattle.mls_tilepool.specs.declared.chain.Row.{Row}
 use Rattle.mls_tilepool.proofs.PoolChanges.{held_at, owned-none, room_at, tiles_of-none, tiles_of-same}
@@ -72,7 +72,7 @@ unfolding reserved
 unreserved-same old new rooms capacity = rw (rooms, capacity) refl
 
 -- an owner goes once its tiles are gone
-pub Reserves-from_released : (old now new : Pool) (owner : ℕ) → OthersKeep old now owner → Reserves now new owner None → Reserves old new owner None
+pub Reserves-from_released : (old now new : Pool) (owner : ℕ) → ChangesOnly old now owner → Reserves now new owner None → Reserves old new owner None
 Reserves-from_released old now new owner kept released =
     record {
       room = released.room;

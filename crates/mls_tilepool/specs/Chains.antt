@@ -1,9 +1,9 @@
 -- How the pool keeps an owner's tiles: each owner has a row, and its tiles are a doubly linked list that runs through their places.
-use Rattle.std.specs.Prelude.{◌≡◌, ◌≢◌, ℕ, zero, suc, ◌≤◌, ◌==◌, if◌then◌else◌, Bool, false, List, [], ◌∷◌, map, length, Option, Some, None, slice_index_or}
+use Rattle.std.specs.Prelude.{◌≡◌, ℕ, zero, suc, ◌≤◌, ◌==◌, if◌then◌else◌, Bool, false, List, [], ◌∷◌, map, length, Option, Some, None, slice_index_or}
 use Rattle.std.specs.List.{Contains, sum_by}
 use Rattle.std.specs.Option.{option_map, option_map_or}
 use Rattle.slab.specs.Slab.{Slab, get, ContainsKey, entries_from, slab_len}
-use Rattle.mls_tilepool.specs.Pools.{Held, Pool, owned, tiles_of}
+use Rattle.mls_tilepool.specs.Pools.{Held, Pool, owned}
 use Rattle.mls_tilepool.specs.declared.chain.Place.{Place}
 use Rattle.mls_tilepool.specs.declared.chain.Row.{Row}
 use Rattle.mls_tilepool.specs.declared.tile.Tile.{Tile}
@@ -86,10 +86,4 @@ leads_to (Some other) key = other == key
 pub record Links (change : Place → Place) (link : Option ℕ) (old new : Slab Place) : Type 0 where
   pub places : (key : ℕ) → get new key ≡ (if leads_to link key then option_map change (get old key) else get old key)
   pub len : slab_len new ≡ slab_len old
-  pub capacity : new.capacity ≡ old.capacity
-
--- only tiles of this owner have changed
-pub record OthersKeep (old new : Pool) (owner : ℕ) : Type 0 where
-  pub others : (other : ℕ) → other ≢ owner → tiles_of new other ≡ tiles_of old other
-  pub rooms : new.rooms ≡ old.rooms
   pub capacity : new.capacity ≡ old.capacity

@@ -64,6 +64,12 @@ pub record Changes (old new : Pool) (owner key : ℕ) (slot : Option Tile) : Typ
   pub rooms : new.rooms ≡ old.rooms
   pub capacity : new.capacity ≡ old.capacity
 
+-- only tiles of this owner have changed: all others are equal in every field, and so are all reserves and the capacity
+pub record ChangesOnly (old new : Pool) (owner : ℕ) : Type 0 where
+  pub others : (other : ℕ) → other ≢ owner → tiles_of new other ≡ tiles_of old other
+  pub rooms : new.rooms ≡ old.rooms
+  pub capacity : new.capacity ≡ old.capacity
+
 -- one owner has this reserve and no tile, and everything else is as it was: all reserves and tiles of all other owners, and the capacity
 pub record Reserves (old new : Pool) (owner : ℕ) (tiles : Option ℕ) : Type 0 where
   pub room : room_of new owner ≡ tiles

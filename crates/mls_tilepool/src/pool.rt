@@ -1,7 +1,7 @@
 //! The pool.
 ghost use Rattle.std.specs.Prelude.{◌≡◌, ℕ, ◌+◌, ◌≤◌, ◌<◌, ◌↔◌, [], Some, None, IfOk, IfSome, OnOk, OnErr, IfNone, IsErr, IsSome};
-ghost use Rattle.mls_tilepool.specs.Chains.{OthersKeep, key_limit};
-ghost use Rattle.mls_tilepool.specs.Pools.{Changes, IsOwner, ListsTiles, Reserves, count_of, room_of, tile_at, tiles_of, unreserved};
+ghost use Rattle.mls_tilepool.specs.Chains.{key_limit};
+ghost use Rattle.mls_tilepool.specs.Pools.{Changes, ChangesOnly, IsOwner, ListsTiles, Reserves, count_of, room_of, tile_at, tiles_of, unreserved};
 
 use crate::chain::{Place, Row, link_next, link_previous};
 use crate::{Owner, Tile, TileId, Tiles};
@@ -95,7 +95,7 @@ impl Pool {
         requires { IsOwner self.now owner.now }
         ensures { room_of self.now owner.now ≡ Some result }
     {
-        self.rows[owner.number as usize].room
+        self.rows[owner.0 as usize].room
     }
 
     /// Returns how many tiles the owner has.
@@ -104,7 +104,7 @@ impl Pool {
         ensures value { result ≡ count_of self.now owner.now }
         ensures within { IfSome (room_of self.now owner.now) (λ room. result ≤ room) }
     {
-        self.rows[owner.number as usize].count
+        self.rows[owner.0 as usize].count
     }
 
     /// Returns the name of one of the owner's tiles, if it has any.
@@ -113,8 +113,8 @@ impl Pool {
         ensures some { IfSome result (λ id. IsSome (tile_at self.now owner.now id)) }
         ensures none { IfNone result (tiles_of self.now owner.now ≡ []) }
     {
-        let key = self.rows[owner.number as usize].first?;
-        Some(TileId { key })
+        let key = self.rows[owner.0 as usize].first?;
+        Some(TileId(key))
     }
 
     /// Reserves room for this many tiles under a new owner.
@@ -138,7 +138,7 @@ impl Pool {
             first: None,
         }) as u32;
         self.reserved += tiles;
-        Ok(Owner { number })
+        Ok(Owner(number))
     }
 
     /// Removes all tiles of an owner, and gives its reserve back.
@@ -149,7 +149,7 @@ impl Pool {
             (λ room. unreserved self.new ≡ unreserved self.old + room) }
     {
         self.clear(&owner);
-        let row = self.rows.remove(owner.number as usize);
+        let row = self.rows.remove(owner.0 as usize);
         self.reserved -= row.room;
     }
 
@@ -157,7 +157,7 @@ impl Pool {
     fn clear(&mut self, owner: &Owner)
         requires { IsOwner self.old owner.now }
         ensures empty { tiles_of self.new owner.now ≡ [] }
-        ensures kept { OthersKeep self.old self.new owner.now }
+        ensures kept { ChangesOnly self.old self.new owner.now }
     {
         while let Some(id) = self.first(owner) {
             self.remove(owner, id);
@@ -175,31 +175,31 @@ impl Pool {
         ensures count { OnOk result (count_of self.new owner.now ≡ count_of self.old owner.now + 1) }
         ensures refused { OnErr result (self.new ≡ self.old) }
     {
-        let row = self.rows[owner.number as usize];
+        let row = self.rows[owner.0 as usize];
         if row.count == row.room {
             return Err(NoRoom);
         }
         let key = self.places.insert_reserved(Place {
-            owner: owner.number,
+            owner: owner.0,
             tile,
             previous: None,
             next: row.first,
         }) as u32;
         link_previous(&mut self.places, row.first, Some(key));
-        self.rows[owner.number as usize] = Row {
+        self.rows[owner.0 as usize] = Row {
             room: row.room,
             count: row.count + 1,
             first: Some(key),
         };
-        Ok(TileId { key })
+        Ok(TileId(key))
     }
 
     /// Returns the tile, if it is one of the owner's.
     pub fn get(&self, owner: &Owner, id: TileId) -> Option<Tile>
         ensures { result ≡ tile_at self.now owner.now id }
     {
-        let place = self.places.get(id.key as usize)?;
-        if place.owner == owner.number {
+        let place = self.places.get(id.0 as usize)?;
+        if place.owner == owner.0 {
             Some(place.tile)
         } else {
             None
@@ -212,7 +212,7 @@ impl Pool {
         ensures changes { Changes self.old self.new owner.now id (Some tile) }
         ensures count { count_of self.new owner.now ≡ count_of self.old owner.now }
     {
-        self.places[id.key as usize].tile = tile;
+        self.places[id.0 as usize].tile = tile;
     }
 
     /// Removes a tile of the owner's, and returns it.
@@ -222,15 +222,15 @@ impl Pool {
         ensures changes { Changes self.old self.new owner.now id None }
         ensures count { count_of self.new owner.now + 1 ≡ count_of self.old owner.now }
     {
-        let place = self.places.remove(id.key as usize);
+        let place = self.places.remove(id.0 as usize);
         link_next(&mut self.places, place.previous, place.next);
         link_previous(&mut self.places, place.next, place.previous);
-        let row = self.rows[owner.number as usize];
+        let row = self.rows[owner.0 as usize];
         let first = match place.previous {
             Some(_) => row.first,
             None => place.next,
         };
-        self.rows[owner.number as usize] = Row {
+        self.rows[owner.0 as usize] = Row {
             room: row.room,
             count: row.count - 1,
             first,
@@ -243,7 +243,7 @@ impl Pool {
         requires { IsOwner self.now owner.now }
         ensures { ListsTiles self.now owner.now result }
     {
-        let row = self.rows[owner.number as usize];
+        let row = self.rows[owner.0 as usize];
         Tiles::new(&self.places, row.count, row.first)
     }
 }

@@ -4,18 +4,16 @@ use std::marker::Model;
 
 /// The name of a tile in its pool, as long as the tile lies there.
 #[derive(Clone, Copy, Debug, PartialEq, Eq)]
-pub struct TileId {
-    pub(crate) key: u32,
-}
+pub struct TileId(pub(crate) u32);
 
 impl Model for TileId {
     ghost use Rattle.std.specs.Prelude.{ℕ};
 
     ghost Value = { ℕ };
 
-    ghost view = { λ id. id.key };
+    ghost view = { λ id. id.0 };
 
-    ghost inverse = { λ key. record { key = key } };
+    ghost inverse = { λ key. record { 0 = key } };
 }
 
 impl TileId {
@@ -25,7 +23,7 @@ impl TileId {
     pub fn key(self) -> usize
         ensures { result ≡ self }
     {
-        self.key as usize
+        self.0 as usize
     }
 }
 

@@ -50,6 +50,6 @@ impl Iterator for Tiles<'_> {
         let place = self.places.get(key as usize)?;
         self.left -= 1;
         self.next = place.next;
-        Some((TileId { key }, place.tile))
+        Some((TileId(key), place.tile))
     }
 }

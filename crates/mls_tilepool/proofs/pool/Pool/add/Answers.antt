@@ -8,7 +8,7 @@ use Rattle.mls_tilepool.proofs.pool.Pool.add.Goals as goal
 pub returns-then-row-clause-no_room : goal.returns-then-row-clause-no_room
 returns-then-row-clause-no_room c =
     let s = c.self.inside in
-    let owner = c.owner.inside.number in
+    let owner = c.owner.inside.0 in
     let row = c.index-row.result.now in
     rw (← c.self.view_is, ← c.owner.view_is) (
       λ _. room_of-row s.capacity s.reserved s.places s.rows owner row c.index-row.ensures
@@ -19,7 +19,7 @@ returns-then-row-clause-no_room c =
 pub insert_reserved-key-requires : goal.insert_reserved-key-requires
 insert_reserved-key-requires c =
     let s = c.self.inside in
-    let owner = c.owner.inside.number in
+    let owner = c.owner.inside.0 in
     let row = c.index-row.result.now in
     room_for_tile s.capacity s.reserved s.places s.rows owner row c.self.invariant c.index-row.ensures
     (omega (arith, c.if-row.false, (c.self.invariant.owners owner row c.index-row.ensures).within))
@@ -27,7 +27,7 @@ insert_reserved-key-requires c =
 pub overflow_add-row : goal.overflow_add-row
 overflow_add-row c =
     let s = c.self.inside in
-    let owner = c.owner.inside.number in
+    let owner = c.owner.inside.0 in
     let row = c.index-row.result.now in
     omega (
       arith,
@@ -40,7 +40,7 @@ overflow_add-row c =
 pub invariant_of-self : goal.invariant_of-self
 invariant_of-self c =
     let s = c.self.inside in
-    let owner = c.owner.inside.number in
+    let owner = c.owner.inside.0 in
     let row = c.index-row.result.now in
     let done = c.insert_reserved-key in
     IsPool-added s.capacity s.reserved s.places s.rows owner row c.self.invariant c.index-row.ensures done.new.self c.link_previous.new.places done.result c.args.tile
@@ -50,7 +50,7 @@ invariant_of-self c =
 pub returns-clause-no_room : goal.returns-clause-no_room
 returns-clause-no_room c =
     let s = c.self.inside in
-    let owner = c.owner.inside.number in
+    let owner = c.owner.inside.0 in
     let row = c.index-row.result.now in
     let room = room_of-row s.capacity s.reserved s.places s.rows owner row c.index-row.ensures in
     let count = count_of-row s.capacity s.reserved s.places s.rows c.self.invariant owner row c.index-row.ensures in
@@ -67,13 +67,13 @@ returns-clause-added c =
     let s = c.self.inside in
     let done = c.insert_reserved-key in
     rw (← c.self.view_is, ← c.owner.view_is)
-    (Changes-added s.capacity s.reserved s.places s.rows c.owner.inside.number c.index-row.result.now c.self.invariant c.index-row.ensures done.new.self
+    (Changes-added s.capacity s.reserved s.places s.rows c.owner.inside.0 c.index-row.result.now c.self.invariant c.index-row.ensures done.new.self
     c.link_previous.new.places done.result c.args.tile done.ensures.was_vacant done.ensures.updates c.link_previous.ensures.links)
 
 pub returns-clause-count : goal.returns-clause-count
 returns-clause-count c =
     let s = c.self.inside in
-    let owner = c.owner.inside.number in
+    let owner = c.owner.inside.0 in
     let row = c.index-row.result.now in
     let done = c.insert_reserved-key in
     rw (← c.self.view_is, ← c.owner.view_is)

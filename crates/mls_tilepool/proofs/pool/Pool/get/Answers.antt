@@ -6,16 +6,16 @@ pub returns-in_err-place : goal.returns-in_err-place
 returns-in_err-place c =
     let s = c.self.inside in
     rw (c.from_residual.ensures, ← c.self.view_is, ← c.id.view_is)
-    (sym (tile_at-vacant s.capacity s.reserved s.places s.rows c.args.owner.now c.id.inside.key (sym c.in_err-place.ensures)))
+    (sym (tile_at-vacant s.capacity s.reserved s.places s.rows c.args.owner.now c.id.inside.0 (sym c.in_err-place.ensures)))
 
 pub returns-then-place-owner : goal.returns-then-place-owner
 returns-then-place-owner c =
     let s = c.self.inside in
     rw (← c.self.view_is, ← c.id.view_is, ← c.owner.view_is)
-    (sym (tile_at-place_own s.capacity s.reserved s.places s.rows c.owner.inside.number c.id.inside.key c.in_ok-place.place.now (sym c.in_ok-place.ensures) c.if-place-owner.true))
+    (sym (tile_at-place_own s.capacity s.reserved s.places s.rows c.owner.inside.0 c.id.inside.0 c.in_ok-place.place.now (sym c.in_ok-place.ensures) c.if-place-owner.true))
 
 pub returns-else-place-owner : goal.returns-else-place-owner
 returns-else-place-owner c =
     let s = c.self.inside in
     rw (← c.self.view_is, ← c.id.view_is, ← c.owner.view_is)
-    (sym (tile_at-place_other s.capacity s.reserved s.places s.rows c.owner.inside.number c.id.inside.key c.in_ok-place.place.now (sym c.in_ok-place.ensures) c.if-place-owner.false))
+    (sym (tile_at-place_other s.capacity s.reserved s.places s.rows c.owner.inside.0 c.id.inside.0 c.in_ok-place.place.now (sym c.in_ok-place.ensures) c.if-place-owner.false))

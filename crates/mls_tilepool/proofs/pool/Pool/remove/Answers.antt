@@ -8,17 +8,17 @@ use Rattle.mls_tilepool.proofs.pool.Pool.remove.Goals as goal
 pub remove-place-requires : goal.remove-place-requires
 remove-place-requires c =
     let s = c.self.inside in
-    place_there s.capacity s.reserved s.places s.rows c.args.owner.now c.id.inside.key (rw (c.self.view_is, c.id.view_is) c.requires)
+    place_there s.capacity s.reserved s.places s.rows c.args.owner.now c.id.inside.0 (rw (c.self.view_is, c.id.view_is) c.requires)
 
 pub index-row-requires : goal.index-row-requires
 index-row-requires c =
     let s = c.self.inside in
-    row_there s.capacity s.reserved s.places s.rows c.self.invariant c.owner.inside.number c.id.inside.key (rw (c.self.view_is, c.id.view_is, c.owner.view_is) c.requires)
+    row_there s.capacity s.reserved s.places s.rows c.self.invariant c.owner.inside.0 c.id.inside.0 (rw (c.self.view_is, c.id.view_is, c.owner.view_is) c.requires)
 
 pub overflow_sub-row : goal.overflow_sub-row
 overflow_sub-row c =
     let s = c.self.inside in
-    counted (holds_tile s.capacity s.reserved s.places s.rows c.self.invariant c.owner.inside.number c.id.inside.key c.index-row.result.now c.remove-place.result
+    counted (holds_tile s.capacity s.reserved s.places s.rows c.self.invariant c.owner.inside.0 c.id.inside.0 c.index-row.result.now c.remove-place.result
     (rw (c.self.view_is, c.id.view_is, c.owner.view_is) c.requires) c.index-row.ensures c.remove-place.ensures.value)
 
 -- the row's first tile, as the code finds it
@@ -33,10 +33,10 @@ first_is c =
 
 -- the owner's tile under the key
 held : (c : goal.After-self-1)
-    → HoldsTile c.self.inside.capacity c.self.inside.reserved c.self.inside.places c.self.inside.rows c.owner.inside.number c.id.inside.key c.index-row.result.now c.remove-place.result
+    → HoldsTile c.self.inside.capacity c.self.inside.reserved c.self.inside.places c.self.inside.rows c.owner.inside.0 c.id.inside.0 c.index-row.result.now c.remove-place.result
 held c =
     let s = c.self.inside in
-    holds_tile s.capacity s.reserved s.places s.rows c.self.invariant c.owner.inside.number c.id.inside.key c.index-row.result.now c.remove-place.result
+    holds_tile s.capacity s.reserved s.places s.rows c.self.invariant c.owner.inside.0 c.id.inside.0 c.index-row.result.now c.remove-place.result
     (rw (c.self.view_is, c.id.view_is, c.owner.view_is) c.requires) c.index-row.ensures c.remove-place.ensures.value
 
 pub invariant_of-self : goal.invariant_of-self
@@ -51,7 +51,7 @@ returns-clause-tile c =
     let s = c.self.inside in
     let tile = held c in
     rw (← c.self.view_is, ← c.owner.view_is, ← c.id.view_is)
-    (tile_at-place_own s.capacity s.reserved s.places s.rows c.owner.inside.number c.id.inside.key c.remove-place.result tile.found tile.owns)
+    (tile_at-place_own s.capacity s.reserved s.places s.rows c.owner.inside.0 c.id.inside.0 c.remove-place.result tile.found tile.owns)
 
 pub returns-clause-changes : goal.returns-clause-changes
 returns-clause-changes c =
