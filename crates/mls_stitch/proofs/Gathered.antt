@@ -1,9 +1,9 @@
 -- Bounds, and the tiles that a search or a scan of an area found.
 use Rattle.std.proofs.Common.{◌≡◌, ◌⊎◌, ℕ, ◌+◌, ◌<◌, take, Bool, ◌&&◌, true, false, IsTrue, List, [], ◌∷◌, ◌++◌, length, get_or, Option, Some, None, All, Any, Contains, filter, inl, inr, refl, sym, ap, ◌∙◌, subst, arith}
-use Rattle.std.specs.Option.{IfNone, IfSome, IsSome, option_map_or}
+use Rattle.std.specs.Option.{IfSome, IsSome}
 use Rattle.std.proofs.lemmas.Bool.{both_ways, cases_eq, cond-false, ne_eqb}
 use Rattle.std.proofs.lemmas.List.{take_more}
-use Rattle.std.proofs.lemmas.List.Elements.{All-contains, All-filter, All-push, All-nil, Contains-append_left, Contains-append_right, filter_passes}
+use Rattle.std.proofs.lemmas.List.Elements.{All-contains, All-filter, All-push, Contains-append_left, Contains-append_right, filter_passes}
 use Rattle.std.proofs.lemmas.Option.{same_Some}
 use Rattle.mls_geom.specs.Locality.{touches}
 use Rattle.mls_geom.specs.Rects.{Rect, Point, IsRectangleIn, IsWithin, grown, holds, joined, meets}
@@ -11,7 +11,7 @@ use Rattle.mls_geom.specs.World.{world}
 use Rattle.mls_geom.specs.declared.piece.Piece.{Piece}
 use Rattle.mls_geom.proofs.Ascending.{Contains-filter, Contains-first, Contains-map}
 use Rattle.mls_geom.proofs.Holds.{between_holds, holds_between}
-use Rattle.mls_geom.proofs.JoinedRects.{IsWithin-joined, IsWithin-joined_itself}
+use Rattle.mls_geom.proofs.JoinedRects.{IsWithin-joined}
 use Rattle.mls_geom.proofs.KindsShown.{common_square, meets_by_square}
 use Rattle.mls_geom.proofs.PiecePictures.{holds_outer}
 use Rattle.mls_tilepool.specs.Pools.{tile_in}
@@ -28,25 +28,13 @@ use Rattle.mls_stitch.proofs.Listings.{listed_whole}
 use Rattle.mls_stitch.proofs.ReplacedStitches.{Any-contained}
 use Rattle.mls_stitch.proofs.Sides.{HoldsAt-block, there-IsSomeAnd}
 
--- the smallest rectangle round more and more has more and more within it
-within_more : {X : Type 0} (P : Rect → X → Type 0) (bounds : Option Rect) (rect result : Rect) (passed : List X) (x : X) →
-    ((a b : Rect) (y : X) → P a y → P (joined a b) y) → ((a : Rect) → IsWithin a rect → P a x) → IfSome bounds (λ b. All (P b) passed) → IfNone bounds (passed ≡ [])
-    → result ≡ option_map_or (λ b. joined b rect) bounds rect → All (P result) (passed ++ x ∷ [])
-within_more P None rect result passed x grows here so_far none is =
-    rw (is, none) (All-push (P rect) [] x (All-nil _) (here rect (record { left = omega arith; bottom = omega arith; right = omega arith; top = omega arith })))
-within_more P (Some b) rect result passed x grows here so_far none is =
-    rw is (All-push (P (joined b rect)) passed x (λ k d within. grows b rect (get_or passed k d) (so_far k d within)) (here (joined b rect) (IsWithin-joined_itself b rect)))
-
--- so it is with the next of a list
+-- bounds that are joined with one more have one more within them
 pub within_next :
-    {X : Type 0} (P : Rect → X → Type 0) (bounds : Option Rect) (rect result : Rect) (xs : List X) (i : ℕ) (x : X) → i < length xs → x ≡ get_or xs i x
-    → ((a b : Rect) (y : X) → P a y → P (joined a b) y) → ((a : Rect) → IsWithin a rect → P a x) → IfSome bounds (λ b. All (P b) (take i xs)) → IfNone bounds (take i xs ≡ [])
-    → result ≡ option_map_or (λ b. joined b rect) bounds rect → All (P result) (take (i + 1) xs)
-within_next P bounds rect result xs i x within is grows here so_far none enclosed =
-    rw (take_more xs i x within ∙ ap (λ y. take i xs ++ y ∷ []) (sym is)) (within_more P bounds rect result (take i xs) x grows here so_far none enclosed)
-
-pub grows_pieces : (a b : Rect) (piece : Piece) → IsWithin a piece.rect → IsWithin (joined a b) piece.rect
-grows_pieces a b piece inside = IsWithin-joined a b piece.rect inside
+    {X : Type 0} (P : Rect → X → Type 0) (bounds rect result : Rect) (xs : List X) (i : ℕ) (x : X) → result ≡ joined bounds rect → i < length xs → x ≡ get_or xs i x
+    → ((y : X) → P bounds y → P (joined bounds rect) y) → P (joined bounds rect) x → All (P bounds) (take i xs) → All (P result) (take (i + 1) xs)
+within_next P bounds rect result xs i x is_joined within is grows here so_far =
+    rw (is_joined, take_more xs i x within ∙ ap (λ y. take i xs ++ y ∷ []) (sym is))
+    (All-push (P (joined bounds rect)) (take i xs) x (λ k d less. grows (get_or (take i xs) k d) (so_far k d less)) here)
 
 pub grows_blocks : (blocks : ℕ → Option Piece) (a b : Rect) (key : ℕ) → IfSome (blocks key) (λ block. IsWithin a block.rect) → IfSome (blocks key) (λ block. IsWithin (joined a b) block.rect)
 grows_blocks blocks a b key inside = go (blocks key) inside where

@@ -1,6 +1,5 @@
 -- What a split and a join make of the calls that they rest on.
-use Rattle.std.proofs.Common.{◌≡◌, ℕ, List, [], ◌∷◌, Option, Some, Result, Ok, Err, IsSomeAnd, IfSome, sym, ap, ◌∙◌, subst}
-use Rattle.std.specs.Result.{IfOk, OnOk}
+use Rattle.std.proofs.Common.{◌≡◌, ℕ, List, [], ◌∷◌, Option, Some, IsSomeAnd, IfSome, sym, ap, ◌∙◌, subst}
 use Rattle.mls_geom.specs.declared.piece.Piece.{Piece}
 use Rattle.mls_tilepool.specs.declared.tile.Tile.{Tile}
 use Rattle.mls_stitch.specs.Replacements.{Replaces}
@@ -35,13 +34,11 @@ read-joined axis tiles first second read_a read_b a b is_a found_a is_b found_b 
 
 -- a tile that gave way to the parts of its block is split
 pub Splits-call :
-    {E : Type 0} (result : Result ℕ E) (old new : List (ℕ × Tile)) (tile : ℕ) (block : Piece) (parts : Piece × Piece) (axis : Axis) (at : ℕ)
-    → parts ≡ (first_part axis at block, second_part axis at block) → IsPlane old → KeysDiffer old → block_at old tile ≡ Some block → IsCutAt axis at block
-    → OnOk result (Replaces old new (tile ∷ []) (parts.0 ∷ parts.1 ∷ []))
-    → IfOk result (λ id. HoldsAt (block_at new) id (record { x = parts.1.rect.left; y = parts.1.rect.bottom }))
-    → IfOk result (λ id. IfSome (block_at old tile) (λ whole. Splits old new tile id (first_part axis at whole) (second_part axis at whole)))
-Splits-call (Err e) old new tile block parts axis at are plane differ here inside done held = tt
-Splits-call (Ok id) old new tile block parts axis at are plane differ here inside done held =
+    (old new : List (ℕ × Tile)) (tile id : ℕ) (block : Piece) (parts : Piece × Piece) (axis : Axis) (at : ℕ) → parts ≡ (first_part axis at block, second_part axis at block) → IsPlane old
+    → KeysDiffer old → block_at old tile ≡ Some block → IsCutAt axis at block → Replaces old new (tile ∷ []) (parts.0 ∷ parts.1 ∷ [])
+    → HoldsAt (block_at new) id (record { x = parts.1.rect.left; y = parts.1.rect.bottom })
+    → IfSome (block_at old tile) (λ whole. Splits old new tile id (first_part axis at whole) (second_part axis at whole))
+Splits-call old new tile id block parts axis at are plane differ here inside done held =
     subst (λ found. IfSome found (λ whole. Splits old new tile id (first_part axis at whole) (second_part axis at whole))) (sym here)
     (Splits-cut old new tile id block axis at plane differ here inside (rw are at done) (rw are at held))
 

@@ -1,15 +1,16 @@
 -- The tiles that pieces touch, gathered from the search round one piece after another, or round all.
-use Rattle.std.proofs.Common.{◌≡◌, ◌≢◌, ℕ, true, List, [], ◌∷◌, ◌++◌, length, ◌≤◌, AllPairs, Any, Contains, Option, inl, inr, refl, sym, ◌∙◌, subst, arith}
+use Rattle.std.proofs.Common.{◌≡◌, ◌≢◌, ℕ, true, List, [], ◌∷◌, ◌++◌, map, length, ◌≤◌, AllPairs, Any, Contains, Option, inl, inr, refl, sym, ◌∙◌, subst, arith}
 use Rattle.std.proofs.lemmas.Bool.{or_cases}
 use Rattle.std.proofs.lemmas.Bool.Decides.{nat_tests}
 use Rattle.std.proofs.lemmas.List.Elements.{All-append, All-contains, All-nil, All-push, Contains-append_left, Contains-append_right}
 use Rattle.std.proofs.lemmas.List.Folds.{Any-from_list_any, list_any-append, list_any-from_Any}
 use Rattle.mls_geom.specs.Locality.{is_touched, touches}
 use Rattle.mls_geom.specs.Rects.{Rect, IsWithin}
+use Rattle.mls_geom.specs.World.{world}
 use Rattle.mls_geom.specs.declared.piece.Piece.{Piece}
 use Rattle.mls_geom.proofs.Ascending.{Contains-first, Contains-map}
 use Rattle.mls_tilepool.specs.declared.tile.Tile.{Tile}
-use Rattle.mls_stitch.specs.Areas.{ListTouched}
+use Rattle.mls_stitch.specs.Areas.{AreInArea, ListTouched}
 use Rattle.mls_stitch.specs.Gathering.{AreMet, EnclosePieces, HasTouched}
 use Rattle.mls_stitch.specs.Pending.{keys_of}
 use Rattle.mls_stitch.specs.Placing.{KeepsKeys}
@@ -18,7 +19,7 @@ use Rattle.mls_stitch.specs.Walks.{IsLaid}
 use Rattle.mls_stitch.specs.declared.laid_tile.LaidTile.{LaidTile}
 use Rattle.mls_stitch.proofs.FreshTiles.{Contains-first_or_rest, Contains-from_map, nothing_in_nil}
 use Rattle.mls_stitch.proofs.Gathered.{IsRound, both_true, touched_met}
-use Rattle.mls_stitch.proofs.ListedTiles.{length-le-AreLaid}
+use Rattle.mls_stitch.proofs.ListedTiles.{keys-AreInArea, length-le-AreLaid, listed_there}
 use Rattle.mls_stitch.proofs.ReplacedStitches.{Any-contained}
 use Rattle.mls_stitch.proofs.Sides.{legal-AreBlocks}
 
@@ -119,3 +120,14 @@ ListTouched-passed blocks over list passed once = record { each = passed.each; w
 -- the listed tiles are at most all
 pub length-ListTouched : (tiles : List (ℕ × Tile)) (over : List Piece) (list : List LaidTile) → ListTouched (block_at tiles) over list → length list ≤ length tiles
 length-ListTouched tiles over list touched = length-le-AreLaid tiles list touched.each touched.once
+
+-- all tiles of a plane are a list of those that pieces touch
+pub ListTouched-AreInArea :
+    (tiles : List (ℕ × Tile)) (over : List Piece) (list : List LaidTile) → IsPlane tiles → AreInArea (block_at tiles) world list → ListTouched (block_at tiles) over list
+ListTouched-AreInArea tiles over list plane found = record {
+  each = λ k d within. (found.each k d within).laid;
+  whole = λ key block here near.
+      let (tile, listed, is_key, is_block) = listed_there tiles list key block plane (λ k d within. (found.each k d within).laid) found.whole here in
+      subst (Contains (map (λ t. t.id) list)) is_key (Contains-map (λ t. t.id) list tile listed);
+  once = keys-AreInArea (block_at tiles) world list found;
+}

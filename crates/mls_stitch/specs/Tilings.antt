@@ -1,12 +1,13 @@
 -- Planes of stitched tiles (Ousterhout 1984). A tile has a lower-left corner and four stitches; its right side and its top are the left side and
 -- the bottom of the tiles to which two of them lead.
-use Rattle.std.specs.Prelude.{◌≡◌, ◌≢◌, ℕ, List, map, Option, Some, None, IsTrue, IfSome}
+use Rattle.std.specs.Prelude.{◌≡◌, ℕ, List, map, Option, Some, None, IsTrue, IfSome}
 use Rattle.std.specs.Option.{option_map, option_map_or}
 use Rattle.mls_geom.specs.Rects.{Point, IsRectangleIn, holds}
 use Rattle.mls_geom.specs.World.{world}
 use Rattle.mls_geom.specs.Pictures.{Picture, picture_of}
 use Rattle.mls_geom.specs.Locality.{AreUnorderedStrips}
 use Rattle.mls_geom.specs.declared.piece.Piece.{Piece}
+pub use Rattle.mls_tilepool.specs.Pools.{ChangesOnly}
 use Rattle.mls_tilepool.specs.Pools.{Pool, IsOwner, tile_in, tiles_of}
 use Rattle.mls_tilepool.specs.declared.tile.Tile.{Tile}
 use Rattle.mls_stitch.specs.Stitches.{HoldsAt, LeadsTo, beyond, stitch_of}
@@ -77,9 +78,3 @@ IsMaximal tiles = AreUnorderedStrips world (shown tiles) (blocks_of tiles)
 pub record HasPlane (pool : Pool) (owner : ℕ) : Type 0 where
   pub live : IsOwner pool owner
   pub plane : IsPlane (tiles_of pool owner)
-
--- only tiles of this owner have changed: all others are equal in every field, and so are all reserves and the capacity
-pub record ChangesOnly (old new : Pool) (owner : ℕ) : Type 0 where
-  pub others : (other : ℕ) → other ≢ owner → tiles_of new other ≡ tiles_of old other
-  pub rooms : new.rooms ≡ old.rooms
-  pub capacity : new.capacity ≡ old.capacity

@@ -1,18 +1,36 @@
 //! Area search.
-ghost use Rattle.std.specs.Prelude.{◌≡◌, ◌≤◌, length, map};
+ghost use Rattle.std.specs.Prelude.{◌≡◌, ◌≤◌, length, map, vec_capacity, vec_len};
 ghost use Rattle.mls_tilepool.specs.Pools.{count_of, tiles_of};
 ghost use Rattle.mls_stitch.specs.Tilings.{HasPlane, IsMaximal, block_at, shown};
 ghost use Rattle.mls_geom.specs.Pictures.{picture_of};
+ghost use Rattle.mls_geom.specs.Rects.{IsRectangleIn};
 ghost use Rattle.mls_geom.specs.Strips.{AreStrips};
 ghost use Rattle.mls_geom.specs.World.{world};
 ghost use Rattle.mls_stitch.specs.Areas.{AreInArea, MeetArea};
+ghost use Rattle.mls_stitch.specs.Enumerations.{IsListedTo};
 
-use crate::enumeration::{area_into, meeting_into};
-use crate::{Plane, Scratch};
-use mls_geom::Rect;
+use crate::enumeration::{list_tiles, sort_rows};
+use crate::steps::Steps;
+use crate::{LaidTile, Plane, Scratch};
+use mls_geom::{Point, Rect};
 use mls_tilepool::Pool;
 
 impl Plane {
+    /// Fills `list` with the tiles that have a square of the area, each once, in any order. The search starts at the tile
+    /// in hand that was found closest to the square `near`.
+    pub(crate) fn search(&self, pool: &Pool, near: Point, area: Rect, list: &mut Vec<LaidTile>)
+        requires plane { HasPlane pool.now self.now }
+        requires room { count_of pool.now self.now ≤ vec_capacity list.old }
+        ensures legal { IsRectangleIn world area }
+        ensures listed { IsListedTo (block_at (tiles_of pool.now self.now)) area list.new.items
+            (vec_len list.new) world.top }
+        ensures room { vec_capacity list.new ≡ vec_capacity list.old }
+    {
+        let from = self.hints.start(pool, &self.owner, near);
+        let mut steps = Steps::up_to(usize::MAX);
+        list_tiles(pool, &self.owner, from, area, list, &mut steps);
+    }
+
     /// Finds the tiles that have a square of the area, by their bottom, clipped to the area, and then their left, and
     /// leaves them in the scratch (Ousterhout 1984, area enumeration).
     pub fn area(&mut self, pool: &Pool, area: Rect, scratch: &mut Scratch)
@@ -22,38 +40,28 @@ impl Plane {
         ensures plane { self.new ≡ self.old }
         ensures scratch_room { scratch.new.room ≡ scratch.old.room }
     {
-        let corner = area.corner();
-        let from = self.hints.start(pool, &self.owner, corner);
-        area_into(pool, &self.owner, from, area, &mut scratch.tiles);
-        if let Some(tile) = scratch.tiles.first() {
-            self.hints.keep(corner, tile.id);
-        }
+        self.search(pool, area.corner(), area, &mut scratch.tiles);
+        sort_rows(area, &mut scratch.tiles);
+        self.keep_found(area, scratch);
     }
 
     /// Finds the tiles that have a square of the area, in any order, and leaves them in the scratch.
-    pub fn meeting(&mut self, pool: &Pool, area: Rect, scratch: &mut Scratch)
-        requires plane { HasPlane pool.now self.old }
-        requires room { count_of pool.now self.old ≤ scratch.old.room }
-        ensures found { MeetArea (block_at (tiles_of pool.now self.old)) area scratch.new.tiles }
-        ensures plane { self.new ≡ self.old }
-        ensures scratch_room { scratch.new.room ≡ scratch.old.room }
-    {
-        self.list_meeting(pool, area, scratch);
-        if let Some(tile) = scratch.tiles.first() {
-            self.hints.keep(area.corner(), tile.id);
-        }
-    }
-
-    /// Finds the tiles that have a square of the area, in any order, and leaves them in the scratch, as
-    /// [`meeting`](Plane::meeting) does, of a plane that may only be read.
-    pub fn list_meeting(&self, pool: &Pool, area: Rect, scratch: &mut Scratch)
+    pub fn meeting(&self, pool: &Pool, area: Rect, scratch: &mut Scratch)
         requires plane { HasPlane pool.now self.now }
         requires room { count_of pool.now self.now ≤ scratch.old.room }
         ensures found { MeetArea (block_at (tiles_of pool.now self.now)) area scratch.new.tiles }
         ensures scratch_room { scratch.new.room ≡ scratch.old.room }
     {
-        let from = self.hints.start(pool, &self.owner, area.corner());
-        meeting_into(pool, &self.owner, from, area, &mut scratch.tiles);
+        self.search(pool, area.corner(), area, &mut scratch.tiles);
+    }
+
+    /// Keeps the first of the tiles in hand that were found last, which have a square of the area.
+    pub fn keep_found(&mut self, area: Rect, scratch: &Scratch)
+        ensures { self.new ≡ self.old }
+    {
+        if let Some(tile) = scratch.tiles.first() {
+            self.hints.keep(area.corner(), tile.id);
+        }
     }
 
     /// Finds all tiles of the plane, by bottom and then left, and leaves them in the scratch.
@@ -68,7 +76,7 @@ impl Plane {
         ensures scratch_room { scratch.new.room ≡ scratch.old.room }
     {
         let world = Rect::world();
-        let from = self.hints.start(pool, &self.owner, world.corner());
-        area_into(pool, &self.owner, from, world, &mut scratch.tiles);
+        self.search(pool, world.corner(), world, &mut scratch.tiles);
+        sort_rows(world, &mut scratch.tiles);
     }
 }

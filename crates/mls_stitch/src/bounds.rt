@@ -1,8 +1,6 @@
 //! The bounds of pieces and of tiles.
 ghost use Rattle.std.specs.Prelude.{◌≡◌, [], IfNone, IfSome, IsSome};
 ghost use Rattle.std.specs.List.{All};
-ghost use Rattle.std.specs.Option.{option_map_or};
-ghost use Rattle.mls_geom.specs.Rects.{joined};
 ghost use Rattle.mls_tilepool.specs.Pools.{tile_at, tiles_of};
 ghost use Rattle.mls_stitch.specs.Gathering.{EncloseBlocks, EnclosePieces};
 ghost use Rattle.mls_stitch.specs.Tilings.{HasPlane, block_at};
@@ -11,26 +9,16 @@ use crate::laid_tile::laid;
 use mls_geom::{Piece, Rect};
 use mls_tilepool::{Owner, Pool, TileId};
 
-/// Returns the smallest rectangle round the bounds, if there are any yet, and one more.
-fn enclose(bounds: Option<Rect>, rect: Rect) -> Rect
-    ensures { result ≡ option_map_or (λ b. joined b rect) bounds rect }
-{
-    match bounds {
-        Some(bounds) => bounds.joined(rect),
-        None => rect,
-    }
-}
-
 /// Returns the bounds of the pieces, or `None` if there are none.
 pub(crate) fn bounds_of_pieces(pieces: &[Piece]) -> Option<Rect>
     ensures round { IfSome result (λ bounds. EnclosePieces bounds pieces.now) }
     ensures none { IfNone result (pieces.now ≡ []) }
 {
-    let mut bounds = None;
+    let mut bounds = pieces.first()?.rect;
     for piece in pieces {
-        bounds = Some(enclose(bounds, piece.rect));
+        bounds = bounds.joined(piece.rect);
     }
-    bounds
+    Some(bounds)
 }
 
 /// Returns the bounds of the tiles, or `None` if there are none.
@@ -40,9 +28,9 @@ pub(crate) fn bounds_of_tiles(pool: &Pool, owner: &Owner, ids: &[TileId]) -> Opt
     ensures round { IfSome result (λ bounds. EncloseBlocks (block_at (tiles_of pool.now owner.now)) bounds ids.now) }
     ensures none { IfNone result (ids.now ≡ []) }
 {
-    let mut bounds = None;
+    let mut bounds = laid(pool, owner, *ids.first()?).unwrap().piece.rect;
     for id in ids {
-        bounds = Some(enclose(bounds, laid(pool, owner, *id).unwrap().piece.rect));
+        bounds = bounds.joined(laid(pool, owner, *id).unwrap().piece.rect);
     }
-    bounds
+    Some(bounds)
 }

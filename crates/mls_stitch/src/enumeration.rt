@@ -5,7 +5,7 @@ ghost use Rattle.mls_geom.specs.World.{world};
 ghost use Rattle.mls_tilepool.specs.Pools.{count_of, tiles_of};
 ghost use Rattle.std.specs.List.{AllPairs};
 ghost use Rattle.std.specs.List.Sorted.{IsPermutation};
-ghost use Rattle.mls_stitch.specs.Areas.{AreInArea, MeetArea, comes_first};
+ghost use Rattle.mls_stitch.specs.Areas.{comes_first};
 ghost use Rattle.mls_stitch.specs.Enumerations.{IsBeside, IsListedTo, first_row};
 ghost use Rattle.mls_stitch.specs.Tilings.{HasPlane, block_at};
 ghost use Rattle.mls_stitch.specs.declared.laid_tile.LaidTile.{LaidTile};
@@ -165,48 +165,11 @@ pub(crate) fn list_tiles(
     }
 }
 
-/// Lists the tiles that have a square of the area, in any order. The search starts at the tile `from`, if the owner
-/// has it.
-pub(crate) fn meeting_into(
-    pool: &Pool,
-    owner: &Owner,
-    from: TileId,
-    area: Rect,
-    list: &mut Vec<LaidTile>,
-)
-    requires plane { HasPlane pool.now owner.now }
-    requires room { count_of pool.now owner.now ≤ vec_capacity list.old }
-    ensures found { MeetArea (block_at (tiles_of pool.now owner.now)) area list.new.items }
-    ensures room { vec_capacity list.new ≡ vec_capacity list.old }
-{
-    let mut steps = Steps::up_to(usize::MAX);
-    list_tiles(pool, owner, from, area, list, &mut steps);
-}
-
 /// Sorts tiles by their first row in the area, and then by their left.
-fn sort_rows(area: Rect, list: &mut Vec<LaidTile>)
+pub(crate) fn sort_rows(area: Rect, list: &mut Vec<LaidTile>)
     ensures sorted { AllPairs (λ p q. comes_first area q p ≡ false) list.new.items }
     ensures same { IsPermutation list.old.items list.new.items }
     ensures room { vec_capacity list.new ≡ vec_capacity list.old }
 {
     list.sort_unstable_by_key(|tile| (first_row(area, tile), tile.sides().left));
-}
-
-/// Lists the tiles that have a square of the area, by their bottom, clipped to the area, and then their left. The
-/// search starts at the tile `from`, if the owner has it.
-pub(crate) fn area_into(
-    pool: &Pool,
-    owner: &Owner,
-    from: TileId,
-    area: Rect,
-    list: &mut Vec<LaidTile>,
-)
-    requires plane { HasPlane pool.now owner.now }
-    requires room { count_of pool.now owner.now ≤ vec_capacity list.old }
-    ensures found { AreInArea (block_at (tiles_of pool.now owner.now)) area list.new.items }
-    ensures room { vec_capacity list.new ≡ vec_capacity list.old }
-{
-    let mut steps = Steps::up_to(usize::MAX);
-    list_tiles(pool, owner, from, area, list, &mut steps);
-    sort_rows(area, list);
 }

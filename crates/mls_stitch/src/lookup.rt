@@ -93,23 +93,17 @@ struct Place {
 }
 
 impl Place {
-    /// Returns the place on a line.
-    fn at(line: u32, along: u32) -> Place
-        ensures { result ≡ record { line = line; along = along } }
-    {
-        Place { line, along }
-    }
-
     /// Returns the place of the square.
     fn of(stitch: Stitch, square: Square) -> Place
         ensures { result ≡ place_of stitch square }
     {
-        match stitch {
-            Stitch::Lb => Place::at(u32::MAX - square.row, u32::MAX - square.column),
-            Stitch::Bl => Place::at(u32::MAX - square.column, u32::MAX - square.row),
-            Stitch::Tr => Place::at(square.column, square.row),
-            Stitch::Rt => Place::at(square.row, square.column),
-        }
+        let (line, along) = match stitch {
+            Stitch::Lb => (u32::MAX - square.row, u32::MAX - square.column),
+            Stitch::Bl => (u32::MAX - square.column, u32::MAX - square.row),
+            Stitch::Tr => (square.column, square.row),
+            Stitch::Rt => (square.row, square.column),
+        };
+        Place { line, along }
     }
 
     /// Returns whether this place comes before `other`, or is the same.

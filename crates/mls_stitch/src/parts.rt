@@ -11,11 +11,7 @@ fn part_of(area: Area) -> Option<Rect>
     requires { IsWithin world area }
     ensures { result ≡ (if has_squares area then Some area else None) }
 {
-    if area.has_squares() {
-        Some(Rect::between(area.left, area.bottom, area.right, area.top))
-    } else {
-        None
-    }
+    area.has_squares().then(|| Rect::between(area.left, area.bottom, area.right, area.top))
 }
 
 /// Returns the parts of the rectangle below the inner one, above it, to the left and to the right, where it has

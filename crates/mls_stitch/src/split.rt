@@ -1,9 +1,7 @@
 //! Splitting tiles and joining them.
-ghost use Rattle.std.specs.Prelude.{◌≡◌, ◌<◌, ◌≤◌, ◌↔◌, [], ◌∷◌, Some, IfOk, IfSome, IsErr, IsSomeAnd, OnErr, OnOk};
+ghost use Rattle.std.specs.Prelude.{◌≡◌, ◌≤◌, ◌↔◌, Some, IfOk, IfSome, IsErr, IsSomeAnd, OnErr};
 ghost use Rattle.mls_tilepool.specs.Pools.{count_of, room_of, tiles_of};
-ghost use Rattle.mls_stitch.specs.Replacements.{Replaces, TakePlace};
-ghost use Rattle.mls_stitch.specs.Splits.{IsCutAt, JoinAlong, JoinInX, JoinInY, Joins, Splits, first_part, joined_along, joined_x, joined_y, left_of, lower_of, right_of, second_part, upper_of};
-ghost use Rattle.mls_stitch.specs.Stitches.{HoldsAt};
+ghost use Rattle.mls_stitch.specs.Splits.{IsCutAt, JoinAlong, Joins, Splits, first_part, joined_along, second_part};
 ghost use Rattle.mls_stitch.specs.Tilings.{ChangesOnly, HasPlane, block_at};
 
 use crate::laid_tile::laid;
@@ -12,8 +10,8 @@ use mls_geom::{Piece, Rect};
 use mls_tilepool::{NoRoom, Pool, TileId};
 
 /// The axis along which two tiles lie beside each other.
-#[derive(Clone, Copy)]
-enum Axis {
+#[derive(Clone, Copy, Debug, PartialEq, Eq)]
+pub enum Axis {
     /// One to the left of the other.
     X,
     /// One below the other.
@@ -58,70 +56,12 @@ fn joined(first: Piece, second: Piece, axis: Axis) -> Piece
 }
 
 impl Plane {
-    /// Replaces a tile by two parts of it, and returns the name of the second part.
+    /// Splits a tile at a line across the axis, counted as the coordinates of [`Area`](mls_geom::Area) are, and returns
+    /// the name of the part behind the line.
     ///
-    /// Fails if the owner has no room for one more tile, and then changes nothing.
-    fn cut(
-        &mut self,
-        pool: &mut Pool,
-        tile: TileId,
-        first: Piece,
-        second: Piece,
-        scratch: &mut Scratch,
-    ) -> Result<TileId, NoRoom>
-        requires plane { HasPlane pool.old self.old }
-        requires parts { TakePlace (block_at (tiles_of pool.old self.old)) (tile ∷ []) (first ∷ second ∷ []) }
-        requires tiles_fit { count_of pool.old self.old ≤ scratch.old.room }
-        requires pieces_fit { 2 ≤ scratch.old.room }
-        ensures no_room { IsErr result ↔ (room_of pool.old self.old ≡ Some (count_of pool.old self.old)) }
-        ensures replaced { OnOk result (Replaces (tiles_of pool.old self.old) (tiles_of pool.new self.old) (tile ∷ [])
-            (first ∷ second ∷ [])) }
-        ensures second { IfOk result (λ id.
-            HoldsAt (block_at (tiles_of pool.new self.old)) id
-            (record { x = second.rect.left; y = second.rect.bottom })) }
-        ensures refused { OnErr result (pool.new ≡ pool.old) }
-        ensures plane { self.new ≡ self.old }
-        ensures home { HasPlane pool.new self.old }
-        ensures only { ChangesOnly pool.old pool.new self.old }
-        ensures scratch_room { scratch.new.room ≡ scratch.old.room }
-    {
-        // So the call below fails only where there is no room at all.
-        prove!(pool.count(&self.owner) <= pool.room(&self.owner));
-        let corner = second.rect.corner();
-        self.replace(pool, &[tile], &[first, second], None, scratch)?;
-        Ok(self.find(pool, corner))
-    }
-
-    /// Replaces two tiles by a piece over the squares of both.
-    fn join(
-        &mut self,
-        pool: &mut Pool,
-        first: TileId,
-        second: TileId,
-        whole: Piece,
-        scratch: &mut Scratch,
-    )
-        requires plane { HasPlane pool.old self.old }
-        requires whole { TakePlace (block_at (tiles_of pool.old self.old)) (first ∷ second ∷ []) (whole ∷ []) }
-        requires tiles_fit { count_of pool.old self.old ≤ scratch.old.room }
-        ensures replaced { Replaces (tiles_of pool.old self.old) (tiles_of pool.new self.old) (first ∷ second ∷ [])
-            (whole ∷ []) }
-        ensures plane { self.new ≡ self.old }
-        ensures home { HasPlane pool.new self.old }
-        ensures only { ChangesOnly pool.old pool.new self.old }
-        ensures scratch_room { scratch.new.room ≡ scratch.old.room }
-    {
-        // So there is room for one tile in place of two.
-        prove!(pool.count(&self.owner) <= pool.room(&self.owner));
-        self.replace(pool, &[first, second], &[whole], None, scratch)
-            .unwrap();
-    }
-
-    /// Splits a tile at a line across the axis, and returns the name of the second part.
-    ///
-    /// The tile keeps its name for the first part. Fails if the owner has no room for one more tile, and then leaves
-    /// all as it was.
-    fn split(
+    /// The tile keeps its name for the part before the line. Fails if the owner has no room for one more tile, and then
+    /// changes nothing.
+    pub fn split(
         &mut self,
         pool: &mut Pool,
         tile: TileId,
@@ -143,129 +83,43 @@ impl Plane {
         ensures only { ChangesOnly pool.old pool.new self.old }
         ensures scratch_room { scratch.new.room ≡ scratch.old.room }
     {
+        // So the call below fails only where there is no room at all.
+        prove!(pool.count(&self.owner) <= pool.room(&self.owner));
         let whole = laid(pool, &self.owner, tile).unwrap().piece;
         let (first, second) = parts(whole, axis, at);
-        self.cut(pool, tile, first, second, scratch)
+        let corner = second.rect.corner();
+        self.replace(pool, &[tile], &[first, second], None, scratch)?;
+        Ok(self.find(pool, corner))
     }
 
-    /// Joins a tile and the one behind it, which share a whole side and have one kind. The tile keeps its name for
+    /// Joins a tile and the one behind it, which share a whole side and have one kind. The first one keeps its name for
     /// both.
-    fn join_along(
+    pub fn join(
         &mut self,
         pool: &mut Pool,
-        before: TileId,
-        behind: TileId,
+        first: TileId,
+        second: TileId,
         axis: Axis,
         scratch: &mut Scratch,
     )
         requires plane { HasPlane pool.old self.old }
-        requires whole_side { IsSomeAnd (block_at (tiles_of pool.old self.old) before) (λ a.
-            IsSomeAnd (block_at (tiles_of pool.old self.old) behind) (λ b. JoinAlong axis a b)) }
+        requires whole_side { IsSomeAnd (block_at (tiles_of pool.old self.old) first) (λ a.
+            IsSomeAnd (block_at (tiles_of pool.old self.old) second) (λ b. JoinAlong axis a b)) }
         requires tiles_fit { count_of pool.old self.old ≤ scratch.old.room }
-        ensures joined { IfSome (block_at (tiles_of pool.old self.old) before)
-            (λ a. IfSome (block_at (tiles_of pool.old self.old) behind) (λ b.
-            Joins (tiles_of pool.old self.old) (tiles_of pool.new self.old) before behind (joined_along axis a b))) }
+        ensures joined { IfSome (block_at (tiles_of pool.old self.old) first)
+            (λ a. IfSome (block_at (tiles_of pool.old self.old) second) (λ b.
+            Joins (tiles_of pool.old self.old) (tiles_of pool.new self.old) first second (joined_along axis a b))) }
         ensures plane { self.new ≡ self.old }
         ensures home { HasPlane pool.new self.old }
         ensures only { ChangesOnly pool.old pool.new self.old }
         ensures scratch_room { scratch.new.room ≡ scratch.old.room }
     {
-        let first = laid(pool, &self.owner, before).unwrap().piece;
-        let second = laid(pool, &self.owner, behind).unwrap().piece;
-        self.join(pool, before, behind, joined(first, second, axis), scratch);
-    }
-
-    /// Splits a tile at a column's left line, counted as the coordinates of [`Area`](mls_geom::Area) are.
-    ///
-    /// The tile keeps its name for the left part; returns the name of the right part. Fails if the owner has no room
-    /// for one more tile, and then changes nothing.
-    pub fn split_x(
-        &mut self,
-        pool: &mut Pool,
-        tile: TileId,
-        x: u32,
-        scratch: &mut Scratch,
-    ) -> Result<TileId, NoRoom>
-        requires plane { HasPlane pool.old self.old }
-        requires inside { IsSomeAnd (block_at (tiles_of pool.old self.old) tile)
-            (λ block. (block.rect.left < x) × (x < block.rect.right)) }
-        requires tiles_fit { count_of pool.old self.old ≤ scratch.old.room }
-        requires pieces_fit { 2 ≤ scratch.old.room }
-        ensures no_room { IsErr result ↔ (room_of pool.old self.old ≡ Some (count_of pool.old self.old)) }
-        ensures split { IfOk result (λ id. IfSome (block_at (tiles_of pool.old self.old) tile) (λ block.
-            Splits (tiles_of pool.old self.old) (tiles_of pool.new self.old) tile id (left_of x block)
-            (right_of x block))) }
-        ensures refused { OnErr result (pool.new ≡ pool.old) }
-        ensures plane { self.new ≡ self.old }
-        ensures home { HasPlane pool.new self.old }
-        ensures only { ChangesOnly pool.old pool.new self.old }
-        ensures scratch_room { scratch.new.room ≡ scratch.old.room }
-    {
-        self.split(pool, tile, Axis::X, x, scratch)
-    }
-
-    /// Splits a tile at a row's bottom line, counted as the coordinates of [`Area`](mls_geom::Area) are.
-    ///
-    /// The tile keeps its name for the lower part; returns the name of the upper part. Fails if the owner has no room
-    /// for one more tile, and then changes nothing.
-    pub fn split_y(
-        &mut self,
-        pool: &mut Pool,
-        tile: TileId,
-        y: u32,
-        scratch: &mut Scratch,
-    ) -> Result<TileId, NoRoom>
-        requires plane { HasPlane pool.old self.old }
-        requires inside { IsSomeAnd (block_at (tiles_of pool.old self.old) tile)
-            (λ block. (block.rect.bottom < y) × (y < block.rect.top)) }
-        requires tiles_fit { count_of pool.old self.old ≤ scratch.old.room }
-        requires pieces_fit { 2 ≤ scratch.old.room }
-        ensures no_room { IsErr result ↔ (room_of pool.old self.old ≡ Some (count_of pool.old self.old)) }
-        ensures split { IfOk result (λ id. IfSome (block_at (tiles_of pool.old self.old) tile) (λ block.
-            Splits (tiles_of pool.old self.old) (tiles_of pool.new self.old) tile id (lower_of y block)
-            (upper_of y block))) }
-        ensures refused { OnErr result (pool.new ≡ pool.old) }
-        ensures plane { self.new ≡ self.old }
-        ensures home { HasPlane pool.new self.old }
-        ensures only { ChangesOnly pool.old pool.new self.old }
-        ensures scratch_room { scratch.new.room ≡ scratch.old.room }
-    {
-        self.split(pool, tile, Axis::Y, y, scratch)
-    }
-
-    /// Joins a tile and the tile to its right, which share a whole side and have one kind. The tile keeps its name
-    /// for both.
-    pub fn join_x(&mut self, pool: &mut Pool, left: TileId, right: TileId, scratch: &mut Scratch)
-        requires plane { HasPlane pool.old self.old }
-        requires whole_side { IsSomeAnd (block_at (tiles_of pool.old self.old) left) (λ a.
-            IsSomeAnd (block_at (tiles_of pool.old self.old) right) (λ b. JoinInX a b)) }
-        requires tiles_fit { count_of pool.old self.old ≤ scratch.old.room }
-        ensures joined { IfSome (block_at (tiles_of pool.old self.old) left)
-            (λ a. IfSome (block_at (tiles_of pool.old self.old) right) (λ b.
-            Joins (tiles_of pool.old self.old) (tiles_of pool.new self.old) left right (joined_x a b))) }
-        ensures plane { self.new ≡ self.old }
-        ensures home { HasPlane pool.new self.old }
-        ensures only { ChangesOnly pool.old pool.new self.old }
-        ensures scratch_room { scratch.new.room ≡ scratch.old.room }
-    {
-        self.join_along(pool, left, right, Axis::X, scratch);
-    }
-
-    /// Joins a tile and the tile above it, which share a whole side and have one kind. The tile keeps its name for
-    /// both.
-    pub fn join_y(&mut self, pool: &mut Pool, lower: TileId, upper: TileId, scratch: &mut Scratch)
-        requires plane { HasPlane pool.old self.old }
-        requires whole_side { IsSomeAnd (block_at (tiles_of pool.old self.old) lower) (λ a.
-            IsSomeAnd (block_at (tiles_of pool.old self.old) upper) (λ b. JoinInY a b)) }
-        requires tiles_fit { count_of pool.old self.old ≤ scratch.old.room }
-        ensures joined { IfSome (block_at (tiles_of pool.old self.old) lower)
-            (λ a. IfSome (block_at (tiles_of pool.old self.old) upper) (λ b.
-            Joins (tiles_of pool.old self.old) (tiles_of pool.new self.old) lower upper (joined_y a b))) }
-        ensures plane { self.new ≡ self.old }
-        ensures home { HasPlane pool.new self.old }
-        ensures only { ChangesOnly pool.old pool.new self.old }
-        ensures scratch_room { scratch.new.room ≡ scratch.old.room }
-    {
-        self.join_along(pool, lower, upper, Axis::Y, scratch);
+        // So there is room for one tile in place of two.
+        prove!(pool.count(&self.owner) <= pool.room(&self.owner));
+        let before = laid(pool, &self.owner, first).unwrap().piece;
+        let behind = laid(pool, &self.owner, second).unwrap().piece;
+        let whole = joined(before, behind, axis);
+        self.replace(pool, &[first, second], &[whole], None, scratch)
+            .unwrap();
     }
 }

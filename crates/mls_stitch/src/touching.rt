@@ -54,10 +54,8 @@ fn list_round_first(
     ensures room { vec_capacity list.new ≡ vec_capacity list.old }
 {
     let bounds = enclosing(over)?;
-    let from = plane.hints.start(pool, &plane.owner, bounds.corner());
-    let mut steps = Steps::up_to(usize::MAX);
     let area = bounds.grow(1);
-    list_tiles(pool, &plane.owner, from, area, list, &mut steps);
+    plane.search(pool, bounds.corner(), area, list);
     Some(area)
 }
 
@@ -128,39 +126,31 @@ fn list_round_all(pool: &Pool, owner: &Owner, over: &[Piece], entries: &mut Vec<
     }
 }
 
-/// Lists tiles, each once, and among them those that one of the pieces touches. The search starts at the plane's
-/// tile in hand.
-fn list_touched(
-    pool: &Pool,
-    plane: &Plane,
-    over: &[Piece],
-    turns: usize,
-    found: &mut Vec<LaidTile>,
-    entries: &mut Vec<LaidTile>,
-)
-    requires plane { HasPlane pool.now plane.now }
-    requires found_fit { count_of pool.now plane.now ≤ vec_capacity found.old }
-    requires entries_fit { count_of pool.now plane.now + count_of pool.now plane.now
-        ≤ vec_capacity entries.old }
-    ensures touched { ListTouched (block_at (tiles_of pool.now plane.now)) over.now entries.new.items }
-    ensures few { vec_len entries.new ≤ count_of pool.now plane.now }
-    ensures found_room { vec_capacity found.new ≡ vec_capacity found.old }
-    ensures entries_room { vec_capacity entries.new ≡ vec_capacity entries.old }
-{
-    if !list_round_each(pool, plane, over, turns, found, entries) {
-        list_round_all(pool, &plane.owner, over, entries);
-    }
-    sort_dedup(entries);
-}
-
 impl Plane {
+    /// Finds tiles, each once, and among them those that one of the pieces touches, by a search round each piece or a
+    /// look at each tile of the plane, and leaves them in the scratch.
+    fn list_touched(&self, pool: &Pool, over: &[Piece], turns: usize, scratch: &mut Scratch)
+        requires plane { HasPlane pool.now self.now }
+        requires room { count_of pool.now self.now ≤ scratch.old.room }
+        ensures touched { ListTouched (block_at (tiles_of pool.now self.now)) over.now scratch.new.tiles }
+        ensures few { length scratch.new.tiles ≤ count_of pool.now self.now }
+        ensures scratch_room { scratch.new.room ≡ scratch.old.room }
+    {
+        let Scratch { tiles, entries, .. } = scratch;
+        if !list_round_each(pool, self, over, turns, entries, tiles) {
+            list_round_all(pool, &self.owner, over, tiles);
+        }
+        sort_dedup(tiles);
+    }
+
     /// Finds tiles of the plane, each once, and among them all that one of the pieces touches, by a square, a side or a
     /// corner, and leaves them in the scratch.
     ///
     /// Searches once where the first piece has all others within it, and returns the area whose tiles are all found
     /// then. Else searches round each piece; and where that would take more than `turns`, or there are many pieces
     /// beside the plane's tiles, looks at each tile of the plane instead, and finds those in the bounds of all pieces
-    /// and next to them. A search takes a turn for each tile that it goes through or looks at.
+    /// and next to them. A search takes a turn for each tile that it goes through or looks at. With no turns, finds all
+    /// tiles of the plane.
     pub fn touching(
         &mut self,
         pool: &Pool,
@@ -176,10 +166,13 @@ impl Plane {
         ensures plane { self.new ≡ self.old }
         ensures scratch_room { scratch.new.room ≡ scratch.old.room }
     {
-        let Scratch { tiles, entries, .. } = scratch;
-        let searched = list_round_first(pool, self, over, tiles);
+        if turns == 0 {
+            self.strips_of(pool, scratch);
+            return None;
+        }
+        let searched = list_round_first(pool, self, over, &mut scratch.tiles);
         if searched.is_none() {
-            list_touched(pool, self, over, turns, entries, tiles);
+            self.list_touched(pool, over, turns, scratch);
         }
         if let Some(tile) = scratch.tiles.first() {
             let first = over.first().map_or(tile.piece.rect, |piece| piece.rect);

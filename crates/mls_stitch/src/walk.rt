@@ -1,9 +1,7 @@
 //! Walks from tile to tile along stitches.
-ghost use Rattle.std.specs.Prelude.{◌≡◌, IfSome, IsTrue, MatchOption};
-ghost use Rattle.mls_geom.specs.Rects.{holds};
-ghost use Rattle.mls_geom.specs.World.{world};
+ghost use Rattle.std.specs.Prelude.{IfSome, MatchOption};
 ghost use Rattle.mls_tilepool.specs.Pools.{tiles_of};
-ghost use Rattle.mls_stitch.specs.Stitches.{HoldsAt, beyond};
+ghost use Rattle.mls_stitch.specs.Stitches.{HoldsAt, LeadsInside, beyond};
 ghost use Rattle.mls_stitch.specs.Tilings.{HasPlane, block_at};
 ghost use Rattle.mls_stitch.specs.Walks.{IsLaid, IsLaidAt};
 
@@ -20,7 +18,7 @@ const MOST_STEPS: u32 = 4096;
 pub(crate) fn neighbour(pool: &Pool, owner: &Owner, tile: &LaidTile, stitch: Stitch) -> LaidTile
     requires plane { HasPlane pool.now owner.now }
     requires laid { IsLaid (block_at (tiles_of pool.now owner.now)) tile.now }
-    requires inside { IsTrue (holds world (beyond stitch tile.now.piece.rect).x (beyond stitch tile.now.piece.rect).y) }
+    requires inside { LeadsInside stitch tile.now.piece.rect }
     ensures { IsLaidAt (block_at (tiles_of pool.now owner.now)) (beyond stitch tile.now.piece.rect) result }
 {
     let found = pool.get(owner, tile.id).unwrap();

@@ -10,7 +10,7 @@ ghost use Rattle.mls_tilepool.specs.Pools.{count_of, tiles_of};
 
 use crate::tests::pieces::{Sides, sides_of};
 use mls_geom::{Piece, Point, Rect, Scratch as Sweep, fresh_strips, strips};
-use mls_stitch::{LaidTile, Plane, Scratch};
+use mls_stitch::{Axis, LaidTile, Plane, Scratch};
 use mls_tilepool::{Pool, Tile, TileId};
 use std::alloc::{AllocError, Global};
 use std::marker::Model;
@@ -308,11 +308,11 @@ impl Sheet {
         match line {
             Line::Left if has_room && cuts_x(&piece, column) => {
                 self.plane
-                    .split_x(&mut self.pool, id, column, &mut self.scratch)?;
+                    .split(&mut self.pool, id, Axis::X, column, &mut self.scratch)?;
             }
             Line::Bottom if has_room && cuts_y(&piece, row) => {
                 self.plane
-                    .split_y(&mut self.pool, id, row, &mut self.scratch)?;
+                    .split(&mut self.pool, id, Axis::Y, row, &mut self.scratch)?;
             }
             _ => return Err(Fail::new("no line to split at")),
         }
@@ -337,11 +337,11 @@ impl Sheet {
         match line {
             Line::Left if join_in_x(&a, &b) => {
                 self.plane
-                    .join_x(&mut self.pool, first, second, &mut self.scratch);
+                    .join(&mut self.pool, first, second, Axis::X, &mut self.scratch);
             }
             Line::Bottom if join_in_y(&a, &b) => {
                 self.plane
-                    .join_y(&mut self.pool, first, second, &mut self.scratch);
+                    .join(&mut self.pool, first, second, Axis::Y, &mut self.scratch);
             }
             _ => return Err(Fail::new("no side to join at")),
         }

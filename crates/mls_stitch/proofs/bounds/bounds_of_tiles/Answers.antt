@@ -1,8 +1,10 @@
 -- Each tile that was passed stays within the bounds as they grow.
 use Rattle.std.proofs.Common.{ℕ, sym, ◌∙◌, subst}
 use Rattle.std.specs.Option.{IfSome}
+use Rattle.std.proofs.lemmas.List.{take_all}
+use Rattle.mls_geom.specs.Rects.{IsWithin, joined}
+use Rattle.mls_geom.proofs.JoinedRects.{IsWithin-joined_itself}
 use Rattle.mls_tilepool.specs.Pools.{tiles_of}
-use Rattle.mls_geom.specs.Rects.{IsWithin}
 use Rattle.mls_stitch.specs.Tilings.{block_at}
 use Rattle.mls_stitch.proofs.Gathered.{grows_blocks, within_next}
 use Rattle.mls_stitch.proofs.ReplacedPlanes.{laid_as}
@@ -10,13 +12,14 @@ use Rattle.mls_stitch.proofs.bounds.bounds_of_tiles.Goals as goal
 
 pub loop-id-preserved : goal.loop-id-preserved
 loop-id-preserved c =
-    let tiles = tiles_of c.args.pool.now c.args.owner.now in
+    let blocks = block_at (tiles_of c.args.pool.now c.args.owner.now) in
+    let bounds = c.loop-id.bounds in
     let id = c.id-item.result in
-    let here = (laid_as tiles id c.unwrap.result (sym c.laid.ensures ∙ c.unwrap.ensures)).1 in
-    record {
-      round =
-          within_next (λ b (key : ℕ). IfSome (block_at tiles key) (λ block. IsWithin b block.rect)) c.loop-id.bounds c.unwrap.result.piece.rect c.enclose.result c.args.ids.now c.loop-id.id-index id
-          c.loop-id-test.true c.id-item.is (grows_blocks (block_at tiles)) (λ b inside. subst (λ o. IfSome o (λ block. IsWithin b block.rect)) (sym here) inside)
-          c.loop-id.invariant.round c.loop-id.invariant.none c.enclose.ensures;
-      none = tt;
-    }
+    let rect = c.unwrap.result.piece.rect in
+    let here = (laid_as (tiles_of c.args.pool.now c.args.owner.now) id c.unwrap.result (sym c.laid-in-loop-id.ensures ∙ c.unwrap.ensures)).1 in
+    within_next (λ b (key : ℕ). IfSome (blocks key) (λ block. IsWithin b block.rect)) bounds rect c.joined-bounds.result c.args.ids.now c.loop-id.id-index id c.joined-bounds.ensures
+    c.loop-id-test.true c.id-item.is (grows_blocks blocks bounds rect)
+    (subst (λ o. IfSome o (λ block. IsWithin (joined bounds rect) block.rect)) (sym here) (IsWithin-joined_itself bounds rect)) c.loop-id.invariant
+
+pub returns-clause-round : goal.returns-clause-round
+returns-clause-round c = rw (take_all c.loop-id.id-index c.args.ids.now c.loop-id-test.false) at c.loop-id.invariant

@@ -1,13 +1,9 @@
--- The bounds are those of the tiles that were passed.
-use Rattle.std.proofs.Common.{◌≡◌, [], take}
-use Rattle.std.specs.Option.{IfNone, IfSome}
+-- The bounds have the tiles that were passed.
+use Rattle.std.proofs.Common.{take}
 use Rattle.mls_tilepool.specs.Pools.{tiles_of}
 use Rattle.mls_stitch.specs.Gathering.{EncloseBlocks}
 use Rattle.mls_stitch.specs.Tilings.{block_at}
 use Rattle.mls_stitch.proofs.bounds.bounds_of_tiles.Given as goal
 
 abbrev pub invariant-loop-id : goal.invariant-loop-id
-invariant-loop-id l = record {
-  round : IfSome l.bounds (λ bounds. EncloseBlocks (block_at (tiles_of l.pool l.owner)) bounds (take l.id-index l.ids));
-  none : IfNone l.bounds (take l.id-index l.ids ≡ []);
-}
+invariant-loop-id l = EncloseBlocks (block_at (tiles_of l.pool l.owner)) l.bounds (take l.id-index l.ids)

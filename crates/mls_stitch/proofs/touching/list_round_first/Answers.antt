@@ -12,27 +12,27 @@ use Rattle.mls_stitch.proofs.touching.list_round_first.Goals as goal
 
 -- all of the search is done
 listed :
-    (c : goal.After-list_tiles)
-    → IsListedTo (block_at (tiles_of c.args.pool.now c.args.plane.now)) c.grow-area.result c.list_tiles.new.list.items (length c.list_tiles.new.list.items) world.top
+    (c : goal.After-search)
+    → IsListedTo (block_at (tiles_of c.args.pool.now c.args.plane.now)) c.grow-area.result c.search.new.list.items (length c.search.new.list.items) world.top
 listed c =
     let blocks = block_at (tiles_of c.args.pool.now c.args.plane.now) in
-    let list = c.list_tiles.new.list in
-    subst (λ n. IsListedTo blocks c.grow-area.result list.items n world.top) list.ok.0 (rw c.plane.view_is at c.list_tiles.ensures.listed)
+    let list = c.search.new.list in
+    subst (λ n. IsListedTo blocks c.grow-area.result list.items n world.top) list.ok.0 c.search.ensures.listed
 
 pub returns-clause-searched : goal.returns-clause-searched
 returns-clause-searched c =
     let blocks = block_at (tiles_of c.args.pool.now c.args.plane.now) in
-    (MeetArea-listed blocks c.grow-area.result c.list_tiles.new.list.items c.requires.plane.plane.tiling c.list_tiles.ensures.legal (listed c), (listed c).once)
+    (MeetArea-listed blocks c.grow-area.result c.search.new.list.items c.requires.plane.plane.tiling c.search.ensures.legal (listed c), (listed c).once)
 
 pub returns-clause-touched : goal.returns-clause-touched
 returns-clause-touched c _ =
     let tiles = tiles_of c.args.pool.now c.args.plane.now in
-    let found = c.list_tiles.new.list.items in
-    let met = AreMet-listed (block_at tiles) c.grow-area.result found c.requires.plane.plane.tiling c.list_tiles.ensures.legal (listed c) in
+    let found = c.search.new.list.items in
+    let met = AreMet-listed (block_at tiles) c.grow-area.result found c.requires.plane.plane.tiling c.search.ensures.legal (listed c) in
     ListTouched-passed (block_at tiles) c.args.over.now found
     (HasTouched-met tiles c.args.over.now c.in_ok-bounds.bounds c.grow-area.result found c.requires.plane.plane c.in_ok-bounds.ensures c.grow-area.ensures.squares met) (listed c).once
 
 pub returns-clause-few : goal.returns-clause-few
 returns-clause-few c _ =
     omega
-    (arith, length-le-AreLaid (tiles_of c.args.pool.now c.args.plane.now) c.list_tiles.new.list.items (λ k d within. ((listed c).each k d within).laid) (listed c).once, c.list_tiles.new.list.ok.0)
+    (arith, length-le-AreLaid (tiles_of c.args.pool.now c.args.plane.now) c.search.new.list.items (λ k d within. ((listed c).each k d within).laid) (listed c).once, c.search.new.list.ok.0)

@@ -6,21 +6,22 @@ use Rattle.mls_stitch.proofs.ShownTiles.{KeysDiffer-tiles_of}
 use Rattle.mls_stitch.proofs.SplitCalls.{Splits-call, read-block}
 use Rattle.mls_stitch.proofs.plane.Plane.split.Goals as goal
 
-pub parts-first-requires : goal.parts-first-requires
-parts-first-requires c =
-    (read-block _ (tiles_of c.args.pool.now c.args.self.now) c.args.tile c.laid.result c.unwrap-whole.result (rw c.self.view_is at c.laid.ensures) c.unwrap-whole.ensures c.requires.inside).1
+pub parts-requires : goal.parts-requires
+parts-requires c =
+    (read-block _ (tiles_of c.args.pool.now c.args.self.now) c.args.tile c.laid.result c.unwrap.result (rw c.self.view_is at c.laid.ensures) c.unwrap.ensures c.requires.inside).1
 
-pub cut-requires-clause-parts : goal.cut-requires-clause-parts
-cut-requires-clause-parts c =
+pub replace-requires-clause-pieces : goal.replace-requires-clause-pieces
+replace-requires-clause-pieces c =
     let tiles = tiles_of c.args.pool.now c.args.self.now in
     let (here, inside) =
-    read-block _ tiles c.args.tile c.laid.result c.unwrap-whole.result (rw c.self.view_is at c.laid.ensures) c.unwrap-whole.ensures c.requires.inside in
-    rw c.parts-first.ensures (TakePlace-cut (block_at tiles) c.args.tile c.unwrap-whole.result.piece c.args.axis c.args.at c.requires.plane.plane.tiling here inside)
+    read-block _ tiles c.args.tile c.laid.result c.unwrap.result (rw c.self.view_is at c.laid.ensures) c.unwrap.ensures c.requires.inside in
+    rw c.parts.ensures (TakePlace-cut (block_at tiles) c.args.tile c.unwrap.result.piece c.args.axis c.args.at c.requires.plane.plane.tiling here inside)
 
 pub returns-clause-split : goal.returns-clause-split
 returns-clause-split c =
     let tiles = tiles_of c.args.pool.now c.args.self.now in
     let (here, inside) =
-    read-block _ tiles c.args.tile c.laid.result c.unwrap-whole.result (rw c.self.view_is at c.laid.ensures) c.unwrap-whole.ensures c.requires.inside in
-    Splits-call c.cut.result tiles (tiles_of c.cut.new.pool c.args.self.now) c.args.tile c.unwrap-whole.result.piece c.parts-first.result c.args.axis c.args.at c.parts-first.ensures
-    c.requires.plane.plane (KeysDiffer-tiles_of c.args.pool.now c.args.self.now) here inside c.cut.ensures.replaced c.cut.ensures.second
+    read-block _ tiles c.args.tile c.laid.result c.unwrap.result (rw c.self.view_is at c.laid.ensures) c.unwrap.ensures c.requires.inside in
+    Splits-call tiles (tiles_of c.replace.new.pool c.args.self.now) c.args.tile c.find.result c.unwrap.result.piece c.parts.result c.args.axis c.args.at c.parts.ensures
+    c.requires.plane.plane (KeysDiffer-tiles_of c.args.pool.now c.args.self.now) here inside c.in_ok-replace.ensures.replaced
+    (rw (c.corner-corner.ensures, c.replace.ensures.plane) at c.find.ensures.holds)
