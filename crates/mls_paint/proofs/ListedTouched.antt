@@ -1,5 +1,5 @@
 -- The listed tiles have all squares of the pieces, and are those that give way to them.
-use Rattle.std.proofs.Common.{◌≡◌, ℕ, true, List, map, ◌++◌, get_or, All, Contains, Option, Some, sym, ap, ◌∙◌, subst, arith}
+use Rattle.std.proofs.Common.{◌≡◌, ℕ, true, List, ◌++◌, get_or, All, Option, Some, sym, ap, ◌∙◌, subst, arith}
 use Rattle.std.proofs.lemmas.List.Elements.{All-map}
 use Rattle.std.proofs.lemmas.List.Folds.{list_any_at}
 use Rattle.std.proofs.lemmas.Option.{same_Some}
@@ -7,29 +7,15 @@ use Rattle.mls_geom.specs.Locality.{HaveKinds, touches}
 use Rattle.mls_geom.specs.Rects.{IsRectangleIn, grown, holds}
 use Rattle.mls_geom.specs.World.{AreLegal, world}
 use Rattle.mls_geom.specs.declared.piece.Piece.{Piece}
-use Rattle.mls_geom.proofs.Ascending.{Contains-map}
 use Rattle.mls_geom.proofs.KindsShown.{meets_by_square}
 use Rattle.mls_geom.proofs.PiecePictures.{holds_outer}
-use Rattle.mls_tilepool.specs.declared.tile.Tile.{Tile}
-use Rattle.mls_stitch.specs.Areas.{AreInArea, ListTouched}
-use Rattle.mls_stitch.specs.Tilings.{AreBlocks, IsPlane, block_at}
+use Rattle.mls_stitch.specs.Areas.{ListTouched}
+use Rattle.mls_stitch.specs.Tilings.{AreBlocks}
 use Rattle.mls_stitch.specs.declared.laid_tile.LaidTile.{LaidTile}
 use Rattle.mls_stitch.proofs.CloseSquares.{close_in_grown}
 use Rattle.mls_stitch.proofs.FreshStrips.{AreTouched, IsInside, pieces_of}
 use Rattle.mls_stitch.proofs.FreshTiles.{entry-keys_of}
-use Rattle.mls_stitch.proofs.ListedTiles.{keys-AreInArea, listed_there}
 use Rattle.mls_stitch.proofs.Sides.{legal-AreBlocks, there-IsSomeAnd}
-
--- all tiles are such a list
-pub ListTouched-AreInArea :
-    (tiles : List (ℕ × Tile)) (over : List Piece) (list : List LaidTile) → IsPlane tiles → AreInArea (block_at tiles) world list → ListTouched (block_at tiles) over list
-ListTouched-AreInArea tiles over list plane found = record {
-  each = λ k d within. (found.each k d within).laid;
-  whole = λ key block here near.
-      let (tile, listed, is_key, is_block) = listed_there tiles list key block plane (λ k d within. (found.each k d within).laid) found.whole here in
-      subst (Contains (map (λ t. t.id) list)) is_key (Contains-map (λ t. t.id) list tile listed);
-  once = keys-AreInArea (block_at tiles) world list found;
-}
 
 -- a piece touches a block with which it shares a square
 touched_by_square : (piece block : Piece) (x y : ℕ) → holds piece.rect x y ≡ true → holds block.rect x y ≡ true → touches piece.rect block.rect ≡ true

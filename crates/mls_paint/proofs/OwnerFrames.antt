@@ -2,12 +2,13 @@
 use Rattle.std.proofs.Common.{◌≡◌, ◌≢◌, ℕ, zero, suc, ◌+◌, ◌<◌, List, [], ◌∷◌, ◌++◌, length, get_or, Option, Some, None, IfSome, All, Contains, inl, inr, refl, sym, ap, subst, ◌∙◌, arith}
 use Rattle.std.proofs.Math.Path.{fun_ext}
 use Rattle.std.proofs.lemmas.Bool.{cases_eq}
-use Rattle.std.proofs.lemmas.List.Elements.{All-contains, All-push, Contains-append_left, Contains-append_right, Contains-push}
+use Rattle.std.proofs.lemmas.List.Elements.{All-append, All-cons, All-contains, All-nil, All-push, Contains-append_left, Contains-append_right, Contains-push}
 use Rattle.std.proofs.lemmas.Option.{slice_get_read}
 use Rattle.mls_tilepool.specs.Pools.{Pool, Reserves, reserved, room_of, tiles_of, unreserved}
 use Rattle.mls_stitch.specs.Tilings.{ChangesOnly, IsMaximal, IsPlane, shown}
+use Rattle.mls_stitch.proofs.DistinctNumbers.{cases_Contains}
 use Rattle.mls_stitch.proofs.OtherPlanes.{apart_from_new}
-use Rattle.mls_paint.specs.Owners.{AddsOwners, ChangesAmong, RemovesOwners}
+use Rattle.mls_paint.specs.Owners.{AddsOwners, ChangesAmong, IsGone, RemovesOwners}
 use Rattle.mls_paint.specs.Planes.{AddsOwner, HasStrips, layout_in, picture_at, picture_in}
 
 -- what an owner's plane shows, by its place among the planes
@@ -108,6 +109,7 @@ HasStrips-AddsOwner old new owner other tiles added before =
 pub AddsOwners-none : (pool : Pool) → AddsOwners pool pool [] 0
 AddsOwners-none pool = record {
   unused = λ k d within. absurd (omega arith);
+  live = λ k d within. absurd (omega arith);
   rooms = λ other apart. refl;
   others = λ other apart. refl;
   taken = omega arith;
@@ -119,6 +121,8 @@ pub AddsOwners-push :
     → AddsOwner mid new owner tiles → unreserved new + tiles ≡ unreserved mid → AddsOwners old new (owners ++ owner ∷ []) (before + tiles)
 AddsOwners-push old mid new owners owner before tiles so_far differ added taken = record {
   unused = All-push (λ other. room_of old other ≡ None) owners owner so_far.unused (sym (so_far.rooms owner is_new) ∙ added.unused);
+  live = All-push (λ other. room_of new other ≢ None) owners owner
+      (λ k d within none. so_far.live k d within (sym (added.rooms (get_or owners k d) (differ k d within)) ∙ none)) (λ none. absurd (cc (sym added.room ∙ none)));
   rooms = λ other none. added.rooms other (not_last other none) ∙ so_far.rooms other (not_before other none);
   others = λ other none. added.others other (not_last other none) ∙ so_far.others other (not_before other none);
   taken = omega (arith, so_far.taken, taken);
@@ -139,6 +143,7 @@ pub AddsOwners-ChangesAmong :
     (old mid new : Pool) (owners : List ℕ) (tiles : ℕ) → AddsOwners old mid owners tiles → ChangesAmong mid new owners → AddsOwners old new owners tiles
 AddsOwners-ChangesAmong old mid new owners tiles added changed = record {
   unused = added.unused;
+  live = λ k d within none. added.live k d within (sym (room_of-ChangesAmong mid new owners (get_or owners k d) changed) ∙ none);
   rooms = λ other apart. room_of-ChangesAmong mid new owners other changed ∙ added.rooms other apart;
   others = λ other apart. changed.others other apart ∙ added.others other apart;
   taken = omega (arith, added.taken, unreserved-ChangesAmong mid new owners changed);
@@ -148,6 +153,7 @@ AddsOwners-ChangesAmong old mid new owners tiles added changed = record {
 -- owners are removed one after the other
 pub RemovesOwners-none : (pool : Pool) → RemovesOwners pool pool [] 0
 RemovesOwners-none pool = record {
+  gone = λ k d within. absurd (omega arith);
   rooms = λ other apart. refl;
   others = λ other apart. refl;
   given_back = omega arith;
@@ -159,6 +165,7 @@ pub RemovesOwners-one :
     → IfSome room (λ tiles. RemovesOwners old new (owner ∷ []) tiles)
 RemovesOwners-one old new owner None released given_back = given_back
 RemovesOwners-one old new owner (Some tiles) released given_back = record {
+  gone = All-cons (IsGone new) owner [] (record { room = released.room; empty = released.empty }) (All-nil (IsGone new));
   rooms = λ other apart. released.rooms other (differs other apart);
   others = λ other apart. released.others other (differs other apart);
   given_back = given_back;
@@ -172,6 +179,7 @@ pub RemovesOwners-append :
     (old mid new : Pool) (some more : List ℕ) (before tiles : ℕ) → RemovesOwners old mid some before → RemovesOwners mid new more tiles
     → RemovesOwners old new (some ++ more) (before + tiles)
 RemovesOwners-append old mid new some more before tiles first second = record {
+  gone = All-append (IsGone new) some more (λ k d within. still_gone (get_or some k d) (first.gone k d within)) second.gone;
   rooms = λ other none. second.rooms other (not_more other none) ∙ first.rooms other (not_some other none);
   others = λ other none. second.others other (not_more other none) ∙ first.others other (not_some other none);
   given_back = omega (arith, first.given_back, second.given_back);
@@ -183,6 +191,13 @@ RemovesOwners-append old mid new some more before tiles first second = record {
 
     not_more : (other : ℕ) → ¬ (Contains (some ++ more) other) → ¬ (Contains more other)
     not_more other none found = none (Contains-append_right some more other found)
+
+    -- an owner that was gone is so still, whether it is removed again or not
+    still_gone : (owner : ℕ) → IsGone mid owner → IsGone new owner
+    still_gone owner gone = elim (cases_Contains more owner) [
+      | inl among ↦ All-contains (IsGone new) more owner second.gone among
+      | inr apart ↦ record { room = second.rooms owner apart ∙ gone.room; empty = second.others owner apart ∙ gone.empty }
+    ]
 
 -- they leave what had a reserve before: the reserve, the plane and what it shows
 pub not_added : (old new : Pool) (owners : List ℕ) (other tiles : ℕ) → AddsOwners old new owners tiles → room_of old other ≢ None → ¬ (Contains owners other)

@@ -4,9 +4,8 @@ ghost use Rattle.mls_geom.specs.Locality.{AreCoveredStrips, HaveKinds, covered_c
 ghost use Rattle.mls_geom.specs.Pictures.{overlaid};
 ghost use Rattle.mls_geom.specs.TileCounts.{tile_count};
 ghost use Rattle.mls_geom.specs.World.{AreLegal, world};
-ghost use Rattle.mls_tilepool.specs.Pools.{count_of, room_of, tiles_of};
-ghost use Rattle.mls_stitch.specs.Areas.{AreSearched, ListTouched};
-ghost use Rattle.mls_stitch.specs.Tilings.{ChangesOnly, HasPlane, block_at};
+ghost use Rattle.mls_tilepool.specs.Pools.{room_of, tiles_of};
+ghost use Rattle.mls_stitch.specs.Tilings.{ChangesOnly};
 ghost use Rattle.mls_paint.specs.Painting.{KeepsUntouched};
 ghost use Rattle.mls_paint.specs.Planes.{HasStrips, picture_in};
 ghost use Rattle.mls_paint.specs.Scratches.{HasRoomFor, KeepsRoom};
@@ -15,7 +14,7 @@ use crate::Scratch;
 use crate::changes::list_changes;
 use crate::planes::read_count;
 use crate::sweeps::Sweeps;
-use mls_geom::{Piece, Rect, TooMany};
+use mls_geom::{Piece, TooMany};
 use mls_stitch::{LaidTile, Plane};
 use mls_tilepool::Pool;
 use thiserror::Error;
@@ -95,7 +94,7 @@ pub fn overlay_within(
     ensures rooms { KeepsRoom scratch.old scratch.new }
 {
     let count = read_count(pool, plane, scratch);
-    let searched = find_touched(pool, plane, over, turns, scratch);
+    let searched = plane.touching(pool, over, turns as usize, &mut scratch.search);
     let Scratch {
         search,
         sweep,
@@ -130,7 +129,7 @@ pub fn fits(
     ensures rooms { KeepsRoom scratch.old scratch.new }
 {
     let count = read_count(pool, plane, scratch);
-    let _searched = find_touched(pool, plane, over, TURNS, scratch);
+    let _searched = plane.touching(pool, over, TURNS as usize, &mut scratch.search);
     let Scratch {
         search,
         sweep,
@@ -138,32 +137,6 @@ pub fn fits(
         ..
     } = scratch;
     find_fresh(search.tiles(), over, count, limit, touched, sweep).is_ok()
-}
-
-/// Finds tiles of the plane, and among them all that the pieces touch, and leaves them in the scratch: all tiles
-/// where there are no turns, and else those that [`Plane::touching`] finds. Returns the area whose tiles are all found,
-/// if one search was enough.
-fn find_touched(
-    pool: &Pool,
-    plane: &mut Plane,
-    over: &[Piece],
-    turns: u32,
-    scratch: &mut Scratch,
-) -> Option<Rect>
-    requires plane { HasPlane pool.now plane.old }
-    requires room { count_of pool.now plane.old ≤ scratch.old.room }
-    ensures found { ListTouched (block_at (tiles_of pool.now plane.old)) over.now scratch.new.tiles }
-    ensures searched { AreSearched (block_at (tiles_of pool.now plane.old)) result scratch.new.tiles }
-    ensures few { length scratch.new.tiles ≤ count_of pool.now plane.old }
-    ensures plane { plane.new ≡ plane.old }
-    ensures rooms { KeepsRoom scratch.old scratch.new }
-{
-    if turns == 0 {
-        plane.strips_of(pool, &mut scratch.search);
-        None
-    } else {
-        plane.touching(pool, over, turns as usize, &mut scratch.search)
-    }
 }
 
 /// Fills `pieces` with the rectangles and kinds of the tiles, and after them the pieces that are painted over them.

@@ -67,7 +67,8 @@ pub fn find_area(pool: &Pool, plane: &mut Plane, area: Rect, scratch: &mut Scrat
     ensures plane { plane.new ≡ plane.old }
     ensures rooms { KeepsRoom scratch.old scratch.new }
 {
-    read_count(pool, plane, scratch);
+    // So there is room for what is found.
+    prove!(read_count(pool, plane, scratch) <= scratch.room);
     plane.area(pool, area, &mut scratch.search);
 }
 
@@ -79,8 +80,8 @@ pub fn find_meeting(pool: &Pool, plane: &mut Plane, area: Rect, scratch: &mut Sc
     ensures plane { plane.new ≡ plane.old }
     ensures rooms { KeepsRoom scratch.old scratch.new }
 {
-    read_count(pool, plane, scratch);
-    plane.meeting(pool, area, &mut scratch.search);
+    find_meeting_in(pool, plane, area, scratch);
+    plane.keep_found(area, &scratch.search);
 }
 
 /// Finds the tiles that have a square of the area, in any order, and leaves them in the scratch, as [`find_meeting`]
@@ -91,8 +92,9 @@ pub fn find_meeting_in(pool: &Pool, plane: &Plane, area: Rect, scratch: &mut Scr
     ensures found { MeetArea (block_at (tiles_of pool.now plane.now)) area scratch.new.tiles }
     ensures rooms { KeepsRoom scratch.old scratch.new }
 {
-    read_count(pool, plane, scratch);
-    plane.list_meeting(pool, area, &mut scratch.search);
+    // So there is room for what is found.
+    prove!(read_count(pool, plane, scratch) <= scratch.room);
+    plane.meeting(pool, area, &mut scratch.search);
 }
 
 /// Finds all tiles of the plane, by bottom and then left, and leaves them in the scratch.
@@ -104,7 +106,8 @@ pub fn strips_of(pool: &Pool, plane: &Plane, scratch: &mut Scratch)
     ensures listed { map (λ tile. tile.piece) scratch.new.tiles ≡ strips_of world (picture_in pool.now plane.now) }
     ensures rooms { KeepsRoom scratch.old scratch.new }
 {
-    read_count(pool, plane, scratch);
+    // So there is room for what is found.
+    prove!(read_count(pool, plane, scratch) <= scratch.room);
     plane.strips_of(pool, &mut scratch.search);
 }
 

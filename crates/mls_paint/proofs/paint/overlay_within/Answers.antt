@@ -9,29 +9,29 @@ use Rattle.mls_paint.proofs.paint.overlay_within.Goals as goal
 
 pub returns-in_err-find_fresh-clause-too_many : goal.returns-in_err-find_fresh-clause-too_many
 returns-in_err-find_fresh-clause-too_many c =
-    let list = c.find_touched-searched.new.scratch.tiles in
-    let tiles = c.tiles.ensures ∙ ap (λ s. s.tiles) c.scratch.view_is in
-    let gives = GivesWay-swept c.args.pool.now c.args.plane.now c.args.over.now list _ c.requires.strips c.find_touched-searched.ensures.found tiles c.find_fresh.ensures.kinds c.find_fresh.ensures.legal in
+    let list = c.touching-searched.new.scratch.tiles in
+    let tiles = c.tiles.ensures in
+    let gives = GivesWay-swept c.args.pool.now c.args.plane.now c.args.over.now list _ c.requires.strips c.touching-searched.ensures.touched tiles c.find_fresh.ensures.kinds c.find_fresh.ensures.legal in
     let refused = too_many-swept c.args.pool.now c.args.plane.now c.args.over.now list _ c.args.limit _ gives tiles c.read_count-count.ensures.count c.in_err-find_fresh.ensures.too_many in
     (λ _. refused.0 refl, λ _. c.from_residual.ensures.0)
 
 pub list_changes-requires-clause-corners : goal.list_changes-requires-clause-corners
 list_changes-requires-clause-corners c =
-    let list = c.find_touched-searched.new.scratch.tiles in
-    let tiles = c.tiles.ensures ∙ ap (λ s. s.tiles) c.scratch.view_is in
-    let gives = GivesWay-swept c.args.pool.now c.args.plane.now c.args.over.now list _ c.requires.strips c.find_touched-searched.ensures.found tiles c.find_fresh.ensures.kinds c.find_fresh.ensures.legal in
+    let list = c.touching-searched.new.scratch.tiles in
+    let tiles = c.tiles.ensures in
+    let gives = GivesWay-swept c.args.pool.now c.args.plane.now c.args.over.now list _ c.requires.strips c.touching-searched.ensures.touched tiles c.find_fresh.ensures.kinds c.find_fresh.ensures.legal in
     rw (c.in_ok-find_fresh.ensures.touched ∙ ap pieces_of tiles) (CornersDiffer-GivesWay c.args.pool.now c.args.plane.now c.args.over.now list gives)
 
 pub replace-requires-clause-pieces : goal.replace-requires-clause-pieces
 replace-requires-clause-pieces c =
-    let list = c.find_touched-searched.new.scratch.tiles in
-    let tiles = c.tiles.ensures ∙ ap (λ s. s.tiles) c.scratch.view_is in
-    let gives = GivesWay-swept c.args.pool.now c.args.plane.now c.args.over.now list _ c.requires.strips c.find_touched-searched.ensures.found tiles c.find_fresh.ensures.kinds c.find_fresh.ensures.legal in
+    let list = c.touching-searched.new.scratch.tiles in
+    let tiles = c.tiles.ensures in
+    let gives = GivesWay-swept c.args.pool.now c.args.plane.now c.args.over.now list _ c.requires.strips c.touching-searched.ensures.touched tiles c.find_fresh.ensures.kinds c.find_fresh.ensures.legal in
     let covered = subst (λ listed. AreCoveredStrips world (laid (pieces_of listed ++ c.args.over.now)) c.find_fresh.new.sweep.strips) tiles c.in_ok-find_fresh.ensures.strips in
     let changes =
-    AreChanges-read list c.tiles-2.result.now c.find_fresh.new.sweep.strips c.strips.result.now _ c.deref.result.now _ c.deref-2.result.now (c.tiles-2.ensures ∙ ap (λ s. s.tiles) c.scratch.view_is)
+    AreChanges-read list c.tiles-2.result.now c.find_fresh.new.sweep.strips c.strips.result.now _ c.deref.result.now _ c.deref-2.result.now c.tiles-2.ensures
     c.strips.ensures c.deref.ensures.value c.deref-2.ensures.value c.list_changes.ensures.names c.list_changes.ensures.fresh in
-    rw c.find_touched-searched.ensures.plane
+    rw c.touching-searched.ensures.plane
     (TakePlace-GivesWay c.args.pool.now c.args.plane.now c.args.over.now list c.find_fresh.new.sweep.strips c.deref.result.now c.deref-2.result.now gives covered changes)
 
 pub returns : goal.returns
@@ -40,16 +40,16 @@ returns c =
     let new = c.replace.new.pool in
     let owner = c.args.plane.now in
     let over = c.args.over.now in
-    let list = c.find_touched-searched.new.scratch.tiles in
+    let list = c.touching-searched.new.scratch.tiles in
     let fresh = c.find_fresh.new.sweep.strips in
-    let found = c.find_touched-searched.ensures in
-    let tiles = c.tiles.ensures ∙ ap (λ s. s.tiles) c.scratch.view_is in
-    let gives = GivesWay-swept old owner over list _ c.requires.strips found.found tiles c.find_fresh.ensures.kinds c.find_fresh.ensures.legal in
+    let found = c.touching-searched.ensures in
+    let tiles = c.tiles.ensures in
+    let gives = GivesWay-swept old owner over list _ c.requires.strips found.touched tiles c.find_fresh.ensures.kinds c.find_fresh.ensures.legal in
     let covered = subst (λ listed. AreCoveredStrips world (laid (pieces_of listed ++ over)) fresh) tiles c.in_ok-find_fresh.ensures.strips in
     let changed : IsChanged (tiles_of old owner) (tiles_of new owner) list fresh = record {
       names = c.deref.result.now;
       put = c.deref-2.result.now;
-      changes = AreChanges-read list c.tiles-2.result.now fresh c.strips.result.now _ c.deref.result.now _ c.deref-2.result.now (c.tiles-2.ensures ∙ ap (λ s. s.tiles) c.scratch.view_is)
+      changes = AreChanges-read list c.tiles-2.result.now fresh c.strips.result.now _ c.deref.result.now _ c.deref-2.result.now c.tiles-2.ensures
           c.strips.ensures c.deref.ensures.value c.deref-2.ensures.value c.list_changes.ensures.names c.list_changes.ensures.fresh;
       replaced = rw (c.unwrap.ensures, found.plane) at c.replace.ensures.replaced;
     } in
