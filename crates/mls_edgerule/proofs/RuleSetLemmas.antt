@@ -1,10 +1,9 @@
 -- Sets of rules: what each operation on machine words makes, and the numbers of the rules in rising order.
-use Rattle.std.proofs.Common.{◌≡◌, ℕ, zero, suc, ◌+◌, ◌-◌, ◌*◌, ◌%◌, ◌^◌, ◌<◌, ◌≤◌, ◌==◌, inl, inr, Bool, true, false, not, ◌||◌, ◌&&◌, cond, List, [], ◌∷◌, length, map, refl, sym, ap, ◌∙◌, arith}
+use Rattle.std.proofs.Common.{◌≡◌, ℕ, zero, suc, ◌+◌, ◌-◌, ◌*◌, ◌%◌, ◌^◌, ◌<◌, ◌≤◌, ◌==◌, Bool, true, false, not, ◌||◌, ◌&&◌, cond, List, [], ◌∷◌, length, map, refl, sym, ap, ◌∙◌, arith}
 use Rattle.std.specs.Prelude.{bit_or, bit_and}
 use Rattle.std.specs.Int.{w128, bit_not, trailing_zeros}
 use Rattle.std.specs.Int.RustNames.{count_ones}
 use Rattle.std.specs.List.{filter, range_with_len}
-use Rattle.std.proofs.lemmas.Bool.{cases_eq}
 use Rattle.std.proofs.lemmas.List.{length-map}
 use Rattle.std.proofs.lemmas.Nat.{one_shl, pow_below}
 use Rattle.std.proofs.lemmas.Nat.Bits.{bit_at-trailing_zeros}
@@ -87,10 +86,8 @@ lowest_is set some fits =
     (below, rules_first set (trailing_zeros w128 set) below (ap (λ b. b == 1) there) (λ other lower. ap (λ b. b == 1) (none other lower)))
 
 pub none_from_rules : (set : ℕ) → set < 2 ^ 128 → rules_in set ≡ [] → set ≡ 0
-none_from_rules set fits none = elim (cases_eq set 0) [
-  | inl same ↦ same
-  | inr other ↦ let lowest = (lowest_is set (omega arith) fits).1 in cc
-]
+none_from_rules zero fits none = refl
+none_from_rules (suc bits) fits none = let lowest = (lowest_is (suc bits) (omega arith) fits).1 in cc
 
 pub ruleset empty_is = (none_from_rules, no_rules_at)
 

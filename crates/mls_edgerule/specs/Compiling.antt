@@ -18,47 +18,33 @@ use Rattle.mls_edgerule.specs.declared.fault.RuleFaultKind.{RuleFaultKind}
 use Rattle.mls_edgerule.specs.declared.fault.RuleFaultKind.TheVariants.{Planes, TooManyRules}
 
 -- ---- one rule, on the plane or the planes that were found for it
--- types S are at least d wide: beyond an edge into S lies S, and beyond a corner of such an edge
-abbrev pub width_rule : Tech → ℕ → ℕ → ℕ → EdgeRule
-width_rule tech set d plane = record {
-  types1 = difference (types_on tech plane) set;
-  types2 = set;
-  ok_types = set;
-  corner_types = set;
+-- beyond an edge from the first types into others, and beyond a corner of such an edge, only the allowed types lie within d
+abbrev pub even_rule : (from others allowed d : ℕ) → Directions → (plane check_plane : ℕ) → EdgeRule
+even_rule from others allowed d directions plane check_plane = record {
+  types1 = from;
+  types2 = others;
+  ok_types = allowed;
+  corner_types = others;
   distance = d;
   corner_distance = d;
-  directions = RightAndUp;
-  trigger_plane = plane;
-  check_plane = plane;
-}
-
--- types A and B on one plane may touch, and are else at least d apart: beyond an edge from A into neither there is no B
-abbrev pub touching_ok_rule : Tech → ℕ → ℕ → ℕ → ℕ → EdgeRule
-touching_ok_rule tech a b d plane = record {
-  types1 = a;
-  types2 = difference (difference (types_on tech plane) a) b;
-  ok_types = difference (types_on tech plane) b;
-  corner_types = difference (difference (types_on tech plane) a) b;
-  distance = d;
-  corner_distance = d;
-  directions = Four;
-  trigger_plane = plane;
-  check_plane = plane;
-}
-
--- types A and B may not touch and are at least d apart, on one plane or on two: beyond an edge out of A there is no B
-abbrev pub touching_illegal_rule : Tech → ℕ → ℕ → ℕ → ℕ → ℕ → EdgeRule
-touching_illegal_rule tech a b d plane check_plane = record {
-  types1 = a;
-  types2 = difference (types_on tech plane) a;
-  ok_types = difference (types_on tech check_plane) b;
-  corner_types = difference (types_on tech plane) a;
-  distance = d;
-  corner_distance = d;
-  directions = Four;
+  directions = directions;
   trigger_plane = plane;
   check_plane = check_plane;
 }
+
+-- types S are at least d wide: beyond an edge into S lies S, and beyond a corner of such an edge
+abbrev pub width_rule : Tech → ℕ → ℕ → ℕ → EdgeRule
+width_rule tech set d plane = even_rule (difference (types_on tech plane) set) set set d RightAndUp plane plane
+
+-- types A and B on one plane may touch, and are else at least d apart: beyond an edge from A into neither there is no B
+abbrev pub touching_ok_rule : Tech → ℕ → ℕ → ℕ → ℕ → EdgeRule
+touching_ok_rule tech a b d plane =
+    even_rule a (difference (difference (types_on tech plane) a) b) (difference (types_on tech plane) b) d Four plane plane
+
+-- types A and B may not touch and are at least d apart, on one plane or on two: beyond an edge out of A there is no B
+abbrev pub touching_illegal_rule : Tech → ℕ → ℕ → ℕ → ℕ → ℕ → EdgeRule
+touching_illegal_rule tech a b d plane check_plane =
+    even_rule a (difference (types_on tech plane) a) (difference (types_on tech check_plane) b) d Four plane check_plane
 
 -- as the line states it, without types of other planes, which no square of the plane has
 abbrev pub edge_line_rule : Tech → Directions → EdgeWords → ℕ → ℕ → EdgeRule

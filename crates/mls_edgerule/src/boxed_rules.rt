@@ -1,5 +1,6 @@
 //! Rules that a small value carries.
-ghost use Rattle.std.specs.Prelude.{◌≡◌, IfOk};
+ghost use Rattle.std.specs.Prelude.{◌≡◌, IfOk, List};
+ghost use Rattle.mls_edgerule.specs.declared.edge_rule.EdgeRule.{EdgeRule};
 
 use crate::Rules;
 use std::alloc::{AllocError, Global};
@@ -12,9 +13,6 @@ pub struct BoxedRules {
 }
 
 impl Model for BoxedRules {
-    ghost use Rattle.std.specs.Prelude.{List};
-    ghost use Rattle.mls_edgerule.specs.declared.edge_rule.EdgeRule.{EdgeRule};
-
     ghost Value = { List EdgeRule };
 
     ghost view = { λ boxed. boxed.rules.value };

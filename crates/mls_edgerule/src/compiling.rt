@@ -3,6 +3,7 @@ ghost use Rattle.std.specs.Prelude.{◌≡◌};
 ghost use Rattle.mls_tech.specs.declared.rule.Adjacency.TheVariants.{TouchingOk, TouchingIllegal};
 ghost use Rattle.mls_tech.specs.declared.rule.Rule.TheVariants.{Width, Spacing};
 ghost use Rattle.mls_edgerule.specs.Compiling as spec;
+ghost use Rattle.mls_edgerule.specs.declared.directions.Directions.TheVariants.{Four};
 
 use crate::plane_types::{is_on_plane, plane_of_set, trigger_plane, types_on};
 use crate::{Directions, EdgeRule, RuleFault, RuleFaultKind, Rules};
@@ -112,17 +113,7 @@ fn touching_ok_rule(tech: &Tech, from: KindSet, to: KindSet, distance: u8, plane
 {
     let all = types_on(tech, plane);
     let neither = all.difference(from).difference(to);
-    EdgeRule {
-        types1: from,
-        types2: neither,
-        ok_types: all.difference(to),
-        corner_types: neither,
-        distance,
-        corner_distance: distance,
-        directions: Directions::Four,
-        trigger_plane: plane,
-        check_plane: plane,
-    }
+    spacing_rule(from, neither, all.difference(to), distance, plane, plane)
 }
 
 /// Demands that types are `distance` apart and don't touch: beyond an edge out of the first, which lie on
@@ -138,11 +129,27 @@ fn touching_illegal_rule(
     ensures { result ≡ spec.touching_illegal_rule tech.now from to distance plane check_plane }
 {
     let outside = types_on(tech, plane).difference(from);
+    let allowed = types_on(tech, check_plane).difference(to);
+    spacing_rule(from, outside, allowed, distance, plane, check_plane)
+}
+
+/// Demands that beyond an edge from the first types into others, and beyond a corner of such an edge, only the
+/// allowed types lie within `distance`.
+fn spacing_rule(
+    from: KindSet,
+    others: KindSet,
+    allowed: KindSet,
+    distance: u8,
+    plane: u8,
+    check_plane: u8,
+) -> EdgeRule
+    ensures { result ≡ spec.even_rule from others allowed distance Four plane check_plane }
+{
     EdgeRule {
         types1: from,
-        types2: outside,
-        ok_types: types_on(tech, check_plane).difference(to),
-        corner_types: outside,
+        types2: others,
+        ok_types: allowed,
+        corner_types: others,
         distance,
         corner_distance: distance,
         directions: Directions::Four,

@@ -1,6 +1,6 @@
 //! Sets of rules, a bit for each.
 ghost use Rattle.std.specs.Iterator.{YieldsFirstBy, item_count};
-ghost use Rattle.std.specs.Prelude.{◌≡◌, ◌==◌, ◌≤◌, ◌↔◌, length, [], ◌∷◌, IfSome, IsTrue, MatchOption};
+ghost use Rattle.std.specs.Prelude.{◌≡◌, ℕ, ◌==◌, ◌≤◌, ◌↔◌, List, length, [], ◌∷◌, IfSome, IsTrue, MatchOption};
 ghost use Rattle.mls_edgerule.specs.RuleLists.{rule_limit};
 ghost use Rattle.mls_edgerule.specs.RuleSets.{rules_in, union, with_rule, without_rule};
 
@@ -15,8 +15,6 @@ pub struct RuleSet {
 }
 
 impl Model for RuleSet {
-    ghost use Rattle.std.specs.Prelude.{ℕ};
-
     ghost Value = { ℕ };
 
     ghost view = { λ set. set.bits };
@@ -116,9 +114,6 @@ pub struct RuleNumbers {
 }
 
 impl Model for RuleNumbers {
-    ghost use Rattle.std.specs.Prelude.{ℕ, List};
-    ghost use Rattle.mls_edgerule.specs.RuleSets.{rules_in};
-
     ghost Value = { List ℕ };
 
     ghost view = { λ numbers. rules_in numbers.left };

@@ -1,10 +1,10 @@
 -- The bounds of a cell are the smallest rectangle round all that its planes show.
-use Rattle.std.proofs.Common.{◌≡◌, ℕ, zero, suc, ◌+◌, ◌-◌, ◌<◌, ◌==◌, ◌||◌, true, not, Option, Some, None, List, [], ◌∷◌, ◌++◌, length, take, get_or, All, Contains, inl, inr, refl, sym, ap, subst, ◌∙◌, arith}
+use Rattle.std.proofs.Common.{◌≡◌, ℕ, zero, suc, ◌+◌, ◌-◌, ◌<◌, ◌==◌, ◌||◌, true, not, Option, Some, None, List, [], ◌∷◌, ◌++◌, length, map, take, get_or, All, Contains, inl, inr, refl, sym, ap, subst, ◌∙◌, arith}
 use Rattle.std.specs.List.{range_with_len}
 use Rattle.std.proofs.Math.Bool.{or-false}
 use Rattle.std.proofs.lemmas.Bool.{cases_Bool, eqb-true}
 use Rattle.std.proofs.lemmas.Bool.Decides.{same_from_decides}
-use Rattle.std.proofs.lemmas.List.{get_or_default, take_more}
+use Rattle.std.proofs.lemmas.List.{get_or-map, get_or_default, length-map, take_more}
 use Rattle.std.proofs.lemmas.List.Folds.{Any-from_list_any, list_any-append, list_any-from_Any}
 use Rattle.mls_geom.specs.Locality.{AreUnorderedStrips}
 use Rattle.mls_geom.specs.Pictures.{Picture, picture_of}
@@ -27,7 +27,7 @@ use Rattle.mls_library.proofs.SmallestRects.{IsBounds, IsBounds-bounds_of, Passe
 pub bounds_of-no_lists : bounds_of (any_painted []) ≡ None
 bounds_of-no_lists = bounds_of-none (any_painted []) (λ x y. refl)
 
-pub bounds_of-next_list :
+bounds_of-next_list :
     (lists : List (List Piece)) (i : ℕ) (list : List Piece) → i < length lists → list ≡ get_or lists i list
     → bounds_of (any_painted (take (i + 1) lists)) ≡ round_both (bounds_of (any_painted (take i lists))) (bounds_of (are_painted list))
 bounds_of-next_list lists i list within is =
@@ -36,6 +36,13 @@ bounds_of-next_list lists i list within is =
     ∙ list_any-append (λ one. are_painted one x y) (take i lists) (list ∷ [])
     ∙ ap (λ last. any_painted (take i lists) x y || last) (or-false (are_painted list x y)))
     ∙ bounds_of-either (any_painted (take i lists)) (are_painted list)
+
+-- the list of one thing more
+pub bounds_of-next : {X : Type 0} (pieces : X → List Piece) (things : List X) (i : ℕ) (thing : X) → i < length things → thing ≡ get_or things i thing
+    → bounds_of (any_painted (take (i + 1) (map pieces things))) ≡ round_both (bounds_of (any_painted (take i (map pieces things)))) (bounds_of (are_painted (pieces thing)))
+bounds_of-next pieces things i thing within is =
+    bounds_of-next_list (map pieces things) i (pieces thing) (omega (arith, length-map things pieces, within))
+    (ap pieces is ∙ sym (get_or-map pieces things i thing (pieces thing) within))
 
 -- ---- where each list has the strips of what it shows
 module _ (lists : List (List Piece)) (strips : All (λ list. AreUnorderedStrips world (picture_of list) list) lists) where

@@ -23,5 +23,6 @@ pub mod SavedRooms
 pub mod SavedLayouts
 pub mod SavedCells
 pub mod SavedTexts
+pub mod AppendedTexts
 pub mod MarkedTexts
 pub mod MarkedCells

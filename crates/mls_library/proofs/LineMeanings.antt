@@ -5,7 +5,7 @@ use Rattle.mls_geom.specs.Rects.{Rect}
 use Rattle.mls_geom.specs.World.{is_outside, rect_of}
 use Rattle.mls_geom.specs.declared.rect.RectFault.{RectFault}
 use Rattle.mls_tech.specs.Readings.{Tech}
-use Rattle.mls_library.specs.CellFiles.{◌>>=◌, first_line, header_line, integer_of, is_check_section, is_integer, is_section_mark, is_start, is_text_section, is_word, layer_line, layer_named, line_meaning, or_fault, painted_by, plain_line, rect_between, rect_line, scale_line, section_line, section_named, skipped_line, world_line}
+use Rattle.mls_library.specs.CellFiles.{◌>>=◌, or_fault, first_line, header_line, integer_of, is_check_section, is_integer, is_section_mark, is_start, is_text_section, is_word, layer_line, layer_named, line_meaning, painted_by, plain_line, rect_between, rect_line, scale_line, section_line, section_named, skipped_line, world_line}
 use Rattle.mls_library.specs.Inner.{IsKnownMeaning, IsKnownPlace}
 use Rattle.mls_library.specs.declared.fault.CellFaultKind.{CellFaultKind}
 use Rattle.mls_library.specs.declared.fault.CellFaultKind.TheVariants.{Memory, OutsideWorld, UnknownLayer}

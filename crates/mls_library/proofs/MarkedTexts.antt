@@ -16,29 +16,16 @@ rects_text rects = text_of (rect_lines rects)
 
 -- ---- a loop over rectangles
 module _ (rects : List Rect) (i : ℕ) (rect : Rect) (within : i < length rects) (here : rect ≡ get_or rects i rect) where
-  rects_text-more : rects_text (take (i + 1) rects) ≡ rects_text (take i rects) ++ (rect_line rect ++ 10 ∷ [])
+  pub rects_text-more : rects_text (take (i + 1) rects) ≡ rects_text (take i rects) ++ (rect_line rect ++ 10 ∷ [])
   rects_text-more =
       ap (text_by rect_line) (take_more rects i rect within) ∙ text_by-push rect_line (take i rects) (get_or rects i rect)
       ∙ ap (λ r. rects_text (take i rects) ++ (rect_line r ++ 10 ∷ [])) (sym here)
 
-  pub rects_text-pushed : (base old new : List ℕ) → old ≡ base ++ rects_text (take i rects) → new ≡ old ++ (rect_line rect ++ 10 ∷ []) → new ≡ base ++ rects_text (take (i + 1) rects)
-  rects_text-pushed base old new before appended =
-      appended ∙ ap (λ text. text ++ (rect_line rect ++ 10 ∷ [])) before ∙ append_assoc base (rects_text (take i rects)) (rect_line rect ++ 10 ∷ [])
-      ∙ ap (λ text. base ++ text) (sym rects_text-more)
-
-  -- a rectangle whose line has no room
-  pub rect_lacks : length (rects_text (take i rects)) + length (rect_line rect ++ 10 ∷ []) ≤ length (rects_text rects)
-  rect_lacks =
-      let before = take (i + 1) rects in
-      let after = drop (i + 1) rects in
-      omega (
-        arith,
-        length-append (rects_text (take i rects)) (rect_line rect ++ 10 ∷ []),
-        ap length rects_text-more,
-        ap (λ all. length (rects_text all)) (take-append-drop (i + 1) rects),
-        ap length (text_by-append rect_line before after),
-        length-append (rects_text before) (rects_text after),
-      )
+  -- the rectangles before it, its line, and the rectangles after it
+  pub rects_text-parts : rects_text (take i rects) ++ ((rect_line rect ++ 10 ∷ []) ++ rects_text (drop (i + 1) rects)) ≡ rects_text rects
+  rects_text-parts =
+      sym (append_assoc (rects_text (take i rects)) (rect_line rect ++ 10 ∷ []) (rects_text (drop (i + 1) rects))) ∙ ap (λ text. text ++ rects_text (drop (i + 1) rects)) (sym rects_text-more)
+      ∙ sym (text_by-append rect_line (take (i + 1) rects) (drop (i + 1) rects)) ∙ ap rects_text (take-append-drop (i + 1) rects)
 
 -- ---- a section
 pub some_rects : (rects : List Rect) → (length rects == 0) ≡ false → 1 ≤ length rects
@@ -61,14 +48,3 @@ pub rects_section-some : (name : List ℕ) (rects : List Rect) → 1 ≤ length 
     → text_of (rects_section name rects) ≡ text_of (spaced (section_words name) ∷ []) ++ rects_text rects
 rects_section-some name [] some = absurd (omega (arith, some))
 rects_section-some name (rect ∷ rects) some = text_of-append (spaced (section_words name) ∷ []) (rect_lines (rect ∷ rects))
-
-module _ (name : List ℕ) (rects : List Rect) (some : 1 ≤ length rects) where
-  -- a section whose heading was appended, and then its rectangles
-  pub rects_section-appended : (old middle new : List ℕ) → middle ≡ old ++ text_of (spaced (section_words name) ∷ []) → new ≡ middle ++ rects_text rects
-      → new ≡ old ++ text_of (rects_section name rects)
-  rects_section-appended old middle new headed listed =
-      listed ∙ ap (λ text. text ++ rects_text rects) headed ∙ append_assoc old (text_of (spaced (section_words name) ∷ [])) (rects_text rects)
-      ∙ ap (λ text. old ++ text) (sym (rects_section-some name rects some))
-
-  pub rects_section-length : length (text_of (rects_section name rects)) ≡ length (text_of (spaced (section_words name) ∷ [])) + length (rects_text rects)
-  rects_section-length = ap length (rects_section-some name rects some) ∙ length-append (text_of (spaced (section_words name) ∷ [])) (rects_text rects)

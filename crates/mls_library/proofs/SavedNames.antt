@@ -11,7 +11,7 @@ use Rattle.mls_tech.specs.Names.{is_name, is_name_byte, is_type_name}
 use Rattle.mls_tech.specs.Readings.{HasNames, Tech, number_named, plane_of_type}
 use Rattle.mls_text.specs.Lines.{IsUnbroken}
 use Rattle.mls_text.specs.Words.{is_blank, is_empty, same_word}
-use Rattle.mls_library.specs.CellFiles.{layer_named, or_fault, section_named}
+use Rattle.mls_library.specs.CellFiles.{or_fault, layer_named, section_named}
 use Rattle.mls_library.specs.SavedCells.{first_name}
 use Rattle.mls_library.specs.declared.fault.CellFaultKind.{CellFaultKind}
 use Rattle.mls_library.specs.declared.fault.CellFaultKind.TheVariants.{UnknownLayer}
@@ -22,19 +22,17 @@ use Rattle.mls_library.proofs.SavedLines.{IsWord}
 
 -- ---- spelling
 -- a name of a type is a word, and has no line feed
-spelled_solid : (word : List ℕ) → list_all is_name_byte word ≡ true → All (λ b. is_blank b ≡ false) word
-spelled_solid [] spelled = All-nil (λ b. is_blank b ≡ false)
-spelled_solid (b ∷ bytes) spelled =
+spelled_all : (P : ℕ → Type 0) → ((b : ℕ) → is_name_byte b ≡ true → P b) → (word : List ℕ) → list_all is_name_byte word ≡ true → All P word
+spelled_all P each [] spelled = All-nil P
+spelled_all P each (b ∷ bytes) spelled =
     let parts = and_parts (is_name_byte b) (list_all is_name_byte bytes) spelled in
-    let solid : is_blank b ≡ false = let byte : is_name_byte b ≡ true = parts.0 in grind (arith, nat_tests) in
-    All-cons (λ c. is_blank c ≡ false) b bytes solid (spelled_solid bytes parts.1)
+    All-cons P b bytes (each b parts.0) (spelled_all P each bytes parts.1)
+
+spelled_solid : (word : List ℕ) → list_all is_name_byte word ≡ true → All (λ b. is_blank b ≡ false) word
+spelled_solid word = spelled_all (λ b. is_blank b ≡ false) (λ b byte. grind (arith, nat_tests)) word
 
 spelled_unbroken : (word : List ℕ) → list_all is_name_byte word ≡ true → IsUnbroken word
-spelled_unbroken [] spelled = All-nil (λ b. b ≢ 10)
-spelled_unbroken (b ∷ bytes) spelled =
-    let parts = and_parts (is_name_byte b) (list_all is_name_byte bytes) spelled in
-    let other : b ≢ 10 = let byte : is_name_byte b ≡ true = parts.0 in λ same. grind (arith, nat_tests, same) in
-    All-cons (λ c. c ≢ 10) b bytes other (spelled_unbroken bytes parts.1)
+spelled_unbroken word = spelled_all (λ b. b ≢ 10) (λ b byte same. grind (arith, nat_tests, same)) word
 
 some_bytes : (word : List ℕ) → not (is_empty word) ≡ true → 0 < length word
 some_bytes [] some = cc

@@ -1,12 +1,12 @@
 -- The text of a saved layout, appended part by part.
-use Rattle.std.proofs.Common.{◌≡◌, ℕ, ℤ, pos, ◌+ℤ◌, zero, suc, ◌+◌, ◌<◌, ◌≤◌, ◌==◌, Bool, true, false, if◌then◌else◌, List, [], ◌∷◌, ◌++◌, length, map, flat_map, take, get_or, Some, refl, sym, ap, subst, to_z, of_z, w32, ◌∙◌, le_of_suc-le-suc, length-append, arith}
+use Rattle.std.proofs.Common.{◌≡◌, ◌≢◌, ℕ, ℤ, pos, ◌+ℤ◌, zero, suc, ◌+◌, ◌<◌, ◌≤◌, ◌==◌, Bool, true, false, if◌then◌else◌, List, [], ◌∷◌, ◌++◌, length, map, flat_map, take, drop, get_or, Some, refl, sym, ap, subst, to_z, of_z, w32, ◌∙◌, le_of_suc-le-suc, length-append, arith}
 use mir.Val.{SFits}
 use Rattle.std.specs.Prelude.{OnErr, Result, Ok, Err, codes, count_by}
 use Rattle.std.specs.Fmt.{signed_decimal}
 use Rattle.std.specs.List.{range_with_len}
 use Rattle.std.specs.Option.{option_map_or}
 use Rattle.std.proofs.lemmas.Int.{ints, to_z-of_z}
-use Rattle.std.proofs.lemmas.List.{length-map, length-take, map-append}
+use Rattle.std.proofs.lemmas.List.{length-map, length-take, map-append, take-append-drop}
 use Rattle.std.proofs.lemmas.List.Concat.{flat_map-append}
 use Rattle.std.proofs.lemmas.List.Elements.{filter-append, filter_more}
 use Rattle.std.proofs.lemmas.List.Sums.{length-filter}
@@ -58,30 +58,39 @@ coordinate_text-of line z from to tied =
     let fits : SFits w32 z = subst (SFits w32) same (record { sfits = short_line line from to }) in
     ap signed_decimal (to_z-of_z w32 z fits ∙ sym same)
 
-pub line_of_words : (old l b r t : List ℕ)
-    → ((((old ++ codes "rect ") ++ (l ++ 32 ∷ [])) ++ (b ++ 32 ∷ [])) ++ (r ++ 32 ∷ [])) ++ (t ++ 10 ∷ []) ≡ old ++ (spaced (codes "rect" ∷ l ∷ b ∷ r ∷ t ∷ []) ++ 10 ∷ [])
-line_of_words old l b r t = simp append_assoc
+line_of_words : (l b r t : List ℕ)
+    → codes "rect " ++ ((l ++ 32 ∷ []) ++ ((b ++ 32 ∷ []) ++ ((r ++ 32 ∷ []) ++ (t ++ 10 ∷ [])))) ≡ spaced (codes "rect" ∷ l ∷ b ∷ r ∷ t ∷ []) ++ 10 ∷ []
+line_of_words l b r t = simp append_assoc
 
-pub rect_line_appended :
-    (rect : Rect) (l b r t : ℤ) (i0 i1 i2 i3 i4 i5 : List ℕ) → IsRectangleIn world rect
-    → pos rect.left ≡ l +ℤ pos origin → pos rect.bottom ≡ b +ℤ pos origin → pos rect.right ≡ r +ℤ pos origin → pos rect.top ≡ t +ℤ pos origin
-    → i1 ≡ i0 ++ codes "rect " → i2 ≡ i1 ++ (signed_decimal (passed l) ++ 32 ∷ []) → i3 ≡ i2 ++ (signed_decimal (passed b) ++ 32 ∷ [])
-    → i4 ≡ i3 ++ (signed_decimal (passed r) ++ 32 ∷ []) → i5 ≡ i4 ++ (signed_decimal (passed t) ++ 10 ∷ []) → i5 ≡ i0 ++ (spaced (rect_words rect) ++ 10 ∷ [])
-rect_line_appended rect l b r t i0 i1 i2 i3 i4 i5 legal el eb er et e1 e2 e3 e4 e5 =
-    let left_from : 3145728 ≤ rect.left = legal.left_in in
-    let bottom_from : 3145728 ≤ rect.bottom = legal.bottom_in in
-    let right_to : rect.right ≤ 5242880 = legal.right_in in
-    let top_to : rect.top ≤ 5242880 = legal.top_in in
-    let tl = coordinate_text-of rect.left l left_from (omega (arith, legal.wide, right_to)) el in
-    let tb = coordinate_text-of rect.bottom b bottom_from (omega (arith, legal.tall, top_to)) eb in
-    let tr = coordinate_text-of rect.right r (omega (arith, legal.wide, left_from)) right_to er in
-    let tu = coordinate_text-of rect.top t (omega (arith, legal.tall, bottom_from)) top_to et in
-    let add = λ (text : List ℕ) (i : List ℕ). i ++ text in
-    e5
-    ∙ ap (add (signed_decimal (passed t) ++ 10 ∷ []))
-    (e4 ∙ ap (add (signed_decimal (passed r) ++ 32 ∷ [])) (e3 ∙ ap (add (signed_decimal (passed b) ++ 32 ∷ [])) (e2 ∙ ap (add (signed_decimal (passed l) ++ 32 ∷ [])) e1)))
-    ∙ line_of_words i0 (signed_decimal (passed l)) (signed_decimal (passed b)) (signed_decimal (passed r)) (signed_decimal (passed t))
-    ∙ (λ k. i0 ++ (spaced (codes "rect" ∷ tl k ∷ tb k ∷ tr k ∷ tu k ∷ []) ++ 10 ∷ []))
+pub rect_line_parts : (rect : Rect)
+    → codes "rect " ++ ((coordinate_text rect.left ++ 32 ∷ []) ++ ((coordinate_text rect.bottom ++ 32 ∷ []) ++ ((coordinate_text rect.right ++ 32 ∷ []) ++ (coordinate_text rect.top ++ 10 ∷ []))))
+    ≡ spaced (rect_words rect) ++ 10 ∷ []
+rect_line_parts rect = line_of_words (coordinate_text rect.left) (coordinate_text rect.bottom) (coordinate_text rect.right) (coordinate_text rect.top)
+
+-- the sides of a rectangle, each with the byte that follows it
+module _ (rect : Rect) (z : ℤ) (end : ℕ) (legal : IsRectangleIn world rect) where
+  written : (line : ℕ) → world.left ≤ line → line ≤ world.right → pos line ≡ z +ℤ pos origin → signed_decimal (passed z) ++ end ∷ [] ≡ coordinate_text line ++ end ∷ []
+  written line from to tied = ap (λ text. text ++ end ∷ []) (coordinate_text-of line z from to tied)
+
+  pub left_written : pos rect.left ≡ z +ℤ pos origin → signed_decimal (passed z) ++ end ∷ [] ≡ coordinate_text rect.left ++ end ∷ []
+  left_written tied =
+      let right_to : rect.right ≤ 5242880 = legal.right_in in
+      written rect.left legal.left_in (omega (arith, legal.wide, right_to)) tied
+
+  pub bottom_written : pos rect.bottom ≡ z +ℤ pos origin → signed_decimal (passed z) ++ end ∷ [] ≡ coordinate_text rect.bottom ++ end ∷ []
+  bottom_written tied =
+      let top_to : rect.top ≤ 5242880 = legal.top_in in
+      written rect.bottom legal.bottom_in (omega (arith, legal.tall, top_to)) tied
+
+  pub right_written : pos rect.right ≡ z +ℤ pos origin → signed_decimal (passed z) ++ end ∷ [] ≡ coordinate_text rect.right ++ end ∷ []
+  right_written tied =
+      let left_from : 3145728 ≤ rect.left = legal.left_in in
+      written rect.right (omega (arith, legal.wide, left_from)) legal.right_in tied
+
+  pub top_written : pos rect.top ≡ z +ℤ pos origin → signed_decimal (passed z) ++ end ∷ [] ≡ coordinate_text rect.top ++ end ∷ []
+  top_written tied =
+      let bottom_from : 3145728 ≤ rect.bottom = legal.bottom_in in
+      written rect.top (omega (arith, legal.tall, bottom_from)) legal.top_in tied
 
 -- ---- texts of lines
 pub text_of-append : (xs ys : List (List ℕ)) → text_of (xs ++ ys) ≡ text_of xs ++ text_of ys
@@ -136,18 +145,27 @@ module _ (kind : ℕ) where
     strips_text-other is = ap (text_by strip_line) (more false is ∙ append-nil (of_kind kind (take i strips)))
 
 -- a loop over strips, at a strip of the kind and at another
-module _ (kind : ℕ) (strips : List Piece) (i : ℕ) (strip : Piece) (within : i < length strips) (here : strip ≡ get_or strips i strip) (base old new : List ℕ)
-    (before : old ≡ base ++ strips_text kind (take i strips)) where
-  pub strips_text-pushed : (strip.kind == kind) ≡ true → new ≡ old ++ (strip_line strip ++ 10 ∷ []) → new ≡ base ++ strips_text kind (take (i + 1) strips)
-  strips_text-pushed own appended =
-      appended ∙ ap (λ text. text ++ (strip_line strip ++ 10 ∷ [])) before ∙ append_assoc base (strips_text kind (take i strips)) (strip_line strip ++ 10 ∷ [])
-      ∙ ap (λ s. base ++ (strips_text kind (take i strips) ++ (strip_line s ++ 10 ∷ []))) here
-      ∙ ap (λ text. base ++ text) (sym (strips_text-more kind strips i strip within (sym (ap (λ s. s.kind == kind) here) ∙ own)))
+module _ (kind : ℕ) (strips : List Piece) (i : ℕ) (strip : Piece) (within : i < length strips) (here : strip ≡ get_or strips i strip) where
+  pub strips_text-pushed : (strip.kind == kind) ≡ true → strips_text kind (take i strips) ++ (strip_line strip ++ 10 ∷ []) ≡ strips_text kind (take (i + 1) strips)
+  strips_text-pushed own =
+      ap (λ s. strips_text kind (take i strips) ++ (strip_line s ++ 10 ∷ [])) here ∙ sym (strips_text-more kind strips i strip within (sym (ap (λ s. s.kind == kind) here) ∙ own))
 
-  pub strips_text-passed : (strip.kind == kind) ≡ false → new ≡ old → new ≡ base ++ strips_text kind (take (i + 1) strips)
-  strips_text-passed other same = same ∙ before ∙ ap (λ text. base ++ text) (sym (strips_text-other kind strips i strip within (sym (ap (λ s. s.kind == kind) here) ∙ other)))
+  pub strips_text-passed : (strip.kind == kind) ≡ false → strips_text kind (take i strips) ≡ strips_text kind (take (i + 1) strips)
+  strips_text-passed other = sym (strips_text-other kind strips i strip within (sym (ap (λ s. s.kind == kind) here) ∙ other))
+
+  -- the strips before it, its line, and the strips after it
+  pub strips_text-parts : (strip.kind == kind) ≡ true
+      → strips_text kind (take i strips) ++ ((strip_line strip ++ 10 ∷ []) ++ strips_text kind (drop (i + 1) strips)) ≡ strips_text kind strips
+  strips_text-parts own =
+      sym (append_assoc (strips_text kind (take i strips)) (strip_line strip ++ 10 ∷ []) (strips_text kind (drop (i + 1) strips)))
+      ∙ ap (λ text. text ++ strips_text kind (drop (i + 1) strips)) (strips_text-pushed own)
+      ∙ sym (strips_text-append kind (take (i + 1) strips) (drop (i + 1) strips)) ∙ ap (strips_text kind) (take-append-drop (i + 1) strips)
 
 -- ---- a section
+pub section_line_parts : (name : List ℕ) → codes "<< " ++ (name ++ codes " >>\n") ≡ text_of (spaced (section_words name) ∷ [])
+unfolding text_of
+section_line_parts name = simp append_assoc
+
 pub length-section_lines-none : (name : List ℕ) (strips : List Piece) → length strips ≡ 0 → 0 ≡ length (section_lines name strips)
 length-section_lines-none name [] none = refl
 length-section_lines-none name (strip ∷ strips) none = absurd (omega (arith, none))
@@ -160,17 +178,10 @@ pub section_lines-none : (name : List ℕ) (strips : List Piece) → 0 ≡ lengt
 section_lines-none name [] none = text_of-none
 section_lines-none name (strip ∷ strips) none = absurd (omega (arith, none))
 
-pub section_lines-some : (name : List ℕ) (strips : List Piece) → 1 ≤ length (section_lines name strips)
-    → text_of (section_lines name strips) ≡ text_of (spaced (section_words name) ∷ []) ++ text_of (strip_lines strips)
-section_lines-some name [] some = absurd (omega (arith, some))
-section_lines-some name (strip ∷ strips) some = text_of-append (spaced (section_words name) ∷ []) (strip_lines (strip ∷ strips))
-
--- a section whose heading was appended, and then its strips
-pub section_appended : (name : List ℕ) (kind : ℕ) (strips : List Piece) (old middle new : List ℕ) → 1 ≤ length (section_lines name (of_kind kind strips))
-    → middle ≡ old ++ text_of (spaced (section_words name) ∷ []) → new ≡ middle ++ strips_text kind strips → new ≡ old ++ text_of (section_lines name (of_kind kind strips))
-section_appended name kind strips old middle new some headed listed =
-    listed ∙ ap (λ text. text ++ strips_text kind strips) headed ∙ append_assoc old (text_of (spaced (section_words name) ∷ [])) (strips_text kind strips)
-    ∙ ap (λ text. old ++ text) (sym (section_lines-some name (of_kind kind strips) some))
+pub section_lines-some : (name : List ℕ) (strips : List Piece) (n : ℕ) → n ≡ length (section_lines name strips) → n ≢ 0
+    → text_of (spaced (section_words name) ∷ []) ++ text_of (strip_lines strips) ≡ text_of (section_lines name strips)
+section_lines-some name [] n all some = absurd (some all)
+section_lines-some name (strip ∷ strips) n all some = sym (text_of-append (spaced (section_words name) ∷ []) (strip_lines (strip ∷ strips)))
 
 -- ---- the whole file
 -- lines, and after them the sections of the first types

@@ -6,7 +6,7 @@ use Rattle.std.proofs.lemmas.List.{take_all}
 use Rattle.mls_geom.specs.World.{is_outside}
 use Rattle.mls_text.specs.Digits.{value_of}
 use Rattle.mls_text.specs.Words.{begins_with}
-use Rattle.mls_library.specs.CellFiles.{integer_of, or_fault, world_line}
+use Rattle.mls_library.specs.CellFiles.{or_fault, integer_of, world_line}
 use Rattle.mls_library.specs.Inner.{at_distance, distance_of}
 use Rattle.mls_library.specs.declared.fault.CellFaultKind.{CellFaultKind}
 use Rattle.mls_library.specs.declared.fault.CellFaultKind.TheVariants.{OutsideWorld}

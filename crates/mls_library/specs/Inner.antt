@@ -9,7 +9,7 @@ use Rattle.mls_text.specs.Digits.{value_at_most}
 use Rattle.mls_tilepool.specs.Pools.{Pool}
 use Rattle.mls_paint.specs.Owners.{AddsOwners}
 use Rattle.mls_paint.specs.Planes.{picture_in}
-use Rattle.mls_library.specs.CellFiles.{layout_of, or_fault}
+use Rattle.mls_library.specs.CellFiles.{or_fault, layout_of}
 use Rattle.mls_library.specs.Libraries.{Cell, IsFrozen, NamedCell, most_tiles, tile_counts, total}
 use Rattle.mls_library.specs.declared.cell_rect.CellRect.{CellRect}
 use Rattle.mls_library.specs.declared.fault.CellFaultKind.{CellFaultKind}

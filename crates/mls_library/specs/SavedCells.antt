@@ -1,5 +1,6 @@
 -- The text of a layout as a cell file: the strips of each type, by bottom and then left. It depends on the squares of the layout alone.
-use Rattle.std.specs.Prelude.{◌≡◌, ◌≢◌, ℕ, pos, ◌-ℤ◌, ◌==◌, false, Some, Ok, List, [], ◌∷◌, ◌++◌, length, map, take, codes}
+use Rattle.std.specs.Prelude.{◌≡◌, ◌≢◌, ℕ, pos, ◌-ℤ◌, ◌+◌, ◌==◌, ◌≤◌, ◌<◌, false, Some, Ok, Result, OnOk, OnErr, List, [], ◌∷◌, ◌++◌, length, map, take, codes, Vec, vec_capacity, vec_len}
+use Rattle.std.specs.Global.{Global}
 use Rattle.std.specs.Fmt.{signed_decimal}
 use Rattle.std.specs.List.{filter, flat_map, join_with_byte, range_with_len}
 use Rattle.std.specs.Option.{option_map_or, unwrap_or}
@@ -97,3 +98,10 @@ ReadsAs tech text layout = (rects : List CellRect) × (reading_of tech text ≡ 
 -- what was there is still in front
 abbrev pub Extends : List ℕ → List ℕ → Type 0
 Extends old new = take (length old) new ≡ old
+
+-- the bytes are appended, unless memory ran out, which it does only where there was no room for all of them
+pub record Appends {T E : Type 0} (result : Result T E) (old new : Vec ℕ Global) (more : List ℕ) : Type 0 where
+  pub text : OnOk result (new.items ≡ old.items ++ more)
+  pub kept : OnErr result (Extends old.items new.items)
+  pub room : OnErr result (vec_capacity old < vec_len old + length more)
+  pub capacity : vec_capacity old ≤ vec_capacity new

@@ -1,5 +1,6 @@
 //! The faults of cells.
 ghost use Rattle.std.specs.Prelude.{◌≡◌};
+ghost use Rattle.mls_library.specs.Faults.{fault_number, fault_text};
 ghost use Rattle.mls_library.specs.declared.fault.CellFaultKind.TheVariants.{Memory, TooManyTiles};
 
 use mls_geom::TooMany;
@@ -11,7 +12,7 @@ use thiserror::Error;
 #[error("{}", self.text())]
 pub enum CellFaultKind {
     /// The file, or the cell's name, has another form.
-    Form = 1,
+    Form,
     /// A section is of no type.
     UnknownLayer,
     /// The cell uses other cells.
@@ -35,31 +36,37 @@ pub enum CellFaultKind {
 }
 
 impl CellFaultKind {
-    ghost use Rattle.mls_library.specs.Faults.{fault_number, fault_text};
-
     /// Returns the fault's number, from 1 to 11.
     pub fn number(self) -> u8
         ensures { result ≡ fault_number self }
     {
-        self as u8
+        self.row().0
     }
 
     /// Returns the fault's text.
     pub fn text(self) -> &'static str
         ensures { result.now ≡ fault_text self }
     {
+        self.row().1
+    }
+
+    /// Returns the fault's number and its text.
+    fn row(self) -> (u8, &'static str)
+        ensures number { result.0 ≡ fault_number self }
+        ensures text { result.1.now ≡ fault_text self }
+    {
         match self {
-            CellFaultKind::Form => "form",
-            CellFaultKind::UnknownLayer => "unknown layer",
-            CellFaultKind::Hierarchy => "hierarchy",
-            CellFaultKind::Scale => "scale",
-            CellFaultKind::OutsideWorld => "outside the world",
-            CellFaultKind::TooManyTiles => "too many tiles",
-            CellFaultKind::NameTwice => "name twice",
-            CellFaultKind::PoolFull => "pool full",
-            CellFaultKind::Memory => "memory",
-            CellFaultKind::Triangle => "triangle",
-            CellFaultKind::LibraryFull => "library full",
+            CellFaultKind::Form => (1, "form"),
+            CellFaultKind::UnknownLayer => (2, "unknown layer"),
+            CellFaultKind::Hierarchy => (3, "hierarchy"),
+            CellFaultKind::Scale => (4, "scale"),
+            CellFaultKind::OutsideWorld => (5, "outside the world"),
+            CellFaultKind::TooManyTiles => (6, "too many tiles"),
+            CellFaultKind::NameTwice => (7, "name twice"),
+            CellFaultKind::PoolFull => (8, "pool full"),
+            CellFaultKind::Memory => (9, "memory"),
+            CellFaultKind::Triangle => (10, "triangle"),
+            CellFaultKind::LibraryFull => (11, "library full"),
         }
     }
 }

@@ -3,6 +3,7 @@
 
 mod bounds;
 mod cell;
+mod cell_id;
 mod cell_name;
 mod cell_rect;
 mod cell_tiles;
@@ -18,8 +19,9 @@ mod plane_strips;
 mod saved;
 
 pub use cell::Cell;
+pub use cell_id::CellId;
 pub use cell_tiles::CellTiles;
 pub use fault::{CellFault, CellFaultKind};
-pub use library::{CellFile, CellId, Library};
+pub use library::{CellFile, Library};
 pub use marked::{dirty_line_count, mark_line_count, most_flat_tiles, push_dirty, push_marks};
 pub use saved::{layer_line_count, push_end, push_header, push_layer};

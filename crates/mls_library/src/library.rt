@@ -10,7 +10,7 @@ use crate::cell::Cell;
 use crate::cell_name::is_cell_name;
 use crate::file::read_cell;
 use crate::plane_strips::{count_tiles, find_plane_strips};
-use crate::{CellFault, CellFaultKind, CellTiles};
+use crate::{CellFault, CellFaultKind, CellId, CellTiles};
 use indexmap::IndexMap;
 use mls_geom::Piece;
 use mls_stitch::{Plane, Scratch};
@@ -21,31 +21,6 @@ use std::marker::Model;
 
 /// The most cells that a library may have.
 const MOST_CELLS: usize = 64;
-
-/// The number of a cell in its library.
-#[derive(Clone, Copy, Debug, PartialEq, Eq)]
-pub struct CellId {
-    index: usize,
-}
-
-impl Model for CellId {
-    ghost use Rattle.std.specs.Prelude.{ℕ};
-
-    ghost Value = { ℕ };
-
-    ghost view = { λ id. id.index };
-
-    ghost inverse = { λ index. record { index = index } };
-}
-
-impl CellId {
-    /// Returns the number.
-    pub fn number(self) -> usize
-        ensures { result ≡ self }
-    {
-        self.index
-    }
-}
 
 /// A cell's name, and the bytes of its file.
 #[derive(Clone, Copy)]

@@ -1,7 +1,7 @@
 //! The writing of what is known of the squares that rules forbid, beside a layout's own sections.
-ghost use Rattle.std.specs.Prelude.{◌≡◌, ◌+◌, ◌++◌, ◌≤◌, ◌<◌, OnErr, OnOk, length, vec_capacity, vec_len};
+ghost use Rattle.std.specs.Prelude.{◌≡◌, length};
 ghost use Rattle.mls_library.specs.MarkedCells as spec;
-ghost use Rattle.mls_library.specs.SavedCells.{Extends, text_of};
+ghost use Rattle.mls_library.specs.SavedCells.{Appends, text_of};
 
 use crate::CellTiles;
 use crate::saved::{push_rect, push_section, push_strip_section, section_line_count};
@@ -42,11 +42,7 @@ pub fn mark_line_count(strips: &[Piece]) -> usize
 ///
 /// Out of memory, where the text had no room for all that is appended. What it had before is still in front of it.
 pub fn push_dirty(areas: &[Rect], out: &mut Vec<u8>) -> Result<(), AllocError>
-    ensures text { OnOk result (out.new.items ≡ out.old.items ++ text_of (spec.dirty_lines areas.now)) }
-    ensures kept { OnErr result (Extends out.old.items out.new.items) }
-    ensures room { OnErr result (vec_capacity out.old
-        < vec_len out.old + length (text_of (spec.dirty_lines areas.now))) }
-    ensures capacity { vec_capacity out.old ≤ vec_capacity out.new }
+    ensures { Appends result out.old out.new (text_of (spec.dirty_lines areas.now)) }
 {
     if areas.is_empty() {
         return Ok(());
@@ -57,11 +53,7 @@ pub fn push_dirty(areas: &[Rect], out: &mut Vec<u8>) -> Result<(), AllocError>
 
 /// Appends a line for each rectangle.
 fn push_rects(rects: &[Rect], out: &mut Vec<u8>) -> Result<(), AllocError>
-    ensures text { OnOk result (out.new.items ≡ out.old.items ++ text_of (spec.rect_lines rects.now)) }
-    ensures kept { OnErr result (Extends out.old.items out.new.items) }
-    ensures room { OnErr result (vec_capacity out.old
-        < vec_len out.old + length (text_of (spec.rect_lines rects.now))) }
-    ensures capacity { vec_capacity out.old ≤ vec_capacity out.new }
+    ensures { Appends result out.old out.new (text_of (spec.rect_lines rects.now)) }
 {
     for rect in rects {
         push_rect(*rect, out)?;
@@ -76,11 +68,7 @@ fn push_rects(rects: &[Rect], out: &mut Vec<u8>) -> Result<(), AllocError>
 ///
 /// Out of memory, where the text had no room for all that is appended. What it had before is still in front of it.
 pub fn push_marks(strips: &[Piece], out: &mut Vec<u8>) -> Result<(), AllocError>
-    ensures text { OnOk result (out.new.items ≡ out.old.items ++ text_of (spec.mark_lines strips.now)) }
-    ensures kept { OnErr result (Extends out.old.items out.new.items) }
-    ensures room { OnErr result (vec_capacity out.old
-        < vec_len out.old + length (text_of (spec.mark_lines strips.now))) }
-    ensures capacity { vec_capacity out.old ≤ vec_capacity out.new }
+    ensures { Appends result out.old out.new (text_of (spec.mark_lines strips.now)) }
 {
     push_strip_section(b"error_p", MARKED, strips, out)
 }

@@ -69,12 +69,7 @@ pub fn push_layer(
     strips: &[Piece],
     out: &mut Vec<u8>,
 ) -> Result<(), AllocError>
-    ensures text { OnOk result (out.new.items
-        ≡ out.old.items ++ spec.text_of (spec.layer_lines tech.now kind strips.now)) }
-    ensures kept { OnErr result (spec.Extends out.old.items out.new.items) }
-    ensures room { OnErr result (vec_capacity out.old
-        < vec_len out.old + length (spec.text_of (spec.layer_lines tech.now kind strips.now))) }
-    ensures capacity { vec_capacity out.old ≤ vec_capacity out.new }
+    ensures { spec.Appends result out.old out.new (spec.text_of (spec.layer_lines tech.now kind strips.now)) }
 {
     push_strip_section(first_name(tech, kind), kind, strips, out)
 }
@@ -86,12 +81,8 @@ pub(crate) fn push_strip_section(
     strips: &[Piece],
     out: &mut Vec<u8>,
 ) -> Result<(), AllocError>
-    ensures text { OnOk result (out.new.items
-        ≡ out.old.items ++ spec.text_of (spec.section_lines name.now (spec.of_kind kind strips.now))) }
-    ensures kept { OnErr result (spec.Extends out.old.items out.new.items) }
-    ensures room { OnErr result (vec_capacity out.old
-        < vec_len out.old + length (spec.text_of (spec.section_lines name.now (spec.of_kind kind strips.now)))) }
-    ensures capacity { vec_capacity out.old ≤ vec_capacity out.new }
+    ensures { spec.Appends result out.old out.new (spec.text_of
+        (spec.section_lines name.now (spec.of_kind kind strips.now))) }
 {
     if section_line_count(strips, kind) == 0 {
         return Ok(());
@@ -113,10 +104,7 @@ fn first_name(tech: &Tech, kind: u8) -> &[u8]
 ///
 /// Out of memory, where the text had no room for all that is appended. What it had before is still in front of it.
 pub fn push_end(out: &mut Vec<u8>) -> Result<(), AllocError>
-    ensures text { OnOk result (out.new.items ≡ out.old.items ++ spec.text_of spec.end_lines) }
-    ensures kept { OnErr result (spec.Extends out.old.items out.new.items) }
-    ensures room { OnErr result (vec_capacity out.old < vec_len out.old + length (spec.text_of spec.end_lines)) }
-    ensures capacity { vec_capacity out.old ≤ vec_capacity out.new }
+    ensures { spec.Appends result out.old out.new (spec.text_of spec.end_lines) }
 {
     push_section(b"end", out)
 }
@@ -124,26 +112,23 @@ pub fn push_end(out: &mut Vec<u8>) -> Result<(), AllocError>
 /// Appends the line that begins a section.
 #[tactic(auto, unfolding(crate::specs::SavedCells::text_of))]
 pub(crate) fn push_section(name: &[u8], out: &mut Vec<u8>) -> Result<(), AllocError>
-    ensures text { OnOk result (out.new.items
-        ≡ out.old.items ++ spec.text_of (spec.spaced (spec.section_words name.now) ∷ [])) }
-    ensures kept { OnErr result (spec.Extends out.old.items out.new.items) }
-    ensures room { OnErr result (vec_capacity out.old
-        < vec_len out.old + length (spec.text_of (spec.spaced (spec.section_words name.now) ∷ []))) }
-    ensures capacity { vec_capacity out.old ≤ vec_capacity out.new }
+    ensures { spec.Appends result out.old out.new (spec.text_of (spec.spaced (spec.section_words name.now) ∷ [])) }
 {
-    out.extend_from_slice(b"<< ")?;
-    out.extend_from_slice(name)?;
-    out.extend_from_slice(b" >>\n")
+    push_bytes(b"<< ", out)?;
+    push_bytes(name, out)?;
+    push_bytes(b" >>\n", out)
+}
+
+/// Appends bytes.
+fn push_bytes(bytes: &[u8], out: &mut Vec<u8>) -> Result<(), AllocError>
+    ensures { spec.Appends result out.old out.new bytes.now }
+{
+    out.extend_from_slice(bytes)
 }
 
 /// Appends a line for each strip of the kind.
 fn push_strips(kind: u8, strips: &[Piece], out: &mut Vec<u8>) -> Result<(), AllocError>
-    ensures text { OnOk result (out.new.items
-        ≡ out.old.items ++ spec.text_of (spec.strip_lines (spec.of_kind kind strips.now))) }
-    ensures kept { OnErr result (spec.Extends out.old.items out.new.items) }
-    ensures room { OnErr result (vec_capacity out.old < vec_len out.old
-        + length (spec.text_of (spec.strip_lines (spec.of_kind kind strips.now)))) }
-    ensures capacity { vec_capacity out.old ≤ vec_capacity out.new }
+    ensures { spec.Appends result out.old out.new (spec.text_of (spec.strip_lines (spec.of_kind kind strips.now))) }
 {
     for strip in strips {
         if strip.kind == kind {
@@ -155,13 +140,9 @@ fn push_strips(kind: u8, strips: &[Piece], out: &mut Vec<u8>) -> Result<(), Allo
 
 /// Appends the line of a rectangle.
 pub(crate) fn push_rect(rect: Rect, out: &mut Vec<u8>) -> Result<(), AllocError>
-    ensures text { OnOk result (out.new.items ≡ out.old.items ++ (spec.spaced (spec.rect_words rect) ++ 10 ∷ [])) }
-    ensures kept { OnErr result (spec.Extends out.old.items out.new.items) }
-    ensures room { OnErr result (vec_capacity out.old
-        < vec_len out.old + length (spec.spaced (spec.rect_words rect) ++ 10 ∷ [])) }
-    ensures capacity { vec_capacity out.old ≤ vec_capacity out.new }
+    ensures { spec.Appends result out.old out.new (spec.spaced (spec.rect_words rect) ++ 10 ∷ []) }
 {
-    out.extend_from_slice(b"rect ")?;
+    push_bytes(b"rect ", out)?;
     push_coordinate(rect.left(), b' ', out)?;
     push_coordinate(rect.bottom(), b' ', out)?;
     push_coordinate(rect.right(), b' ', out)?;
@@ -170,14 +151,9 @@ pub(crate) fn push_rect(rect: Rect, out: &mut Vec<u8>) -> Result<(), AllocError>
 
 /// Appends a coordinate and the byte that follows it.
 fn push_coordinate(coordinate: i32, end: u8, out: &mut Vec<u8>) -> Result<(), AllocError>
-    ensures text { OnOk result (out.new.items ≡ out.old.items ++ (signed_decimal coordinate ++ end ∷ [])) }
-    ensures kept { OnErr result (spec.Extends out.old.items out.new.items) }
-    ensures room { OnErr result (vec_capacity out.old
-        < vec_len out.old + length (signed_decimal coordinate ++ end ∷ [])) }
-    ensures capacity { vec_capacity out.old ≤ vec_capacity out.new }
+    ensures { spec.Appends result out.old out.new (signed_decimal coordinate ++ end ∷ []) }
 {
     let mut buffer = Buffer::new();
-    out.extend_from_slice(buffer.format(coordinate).as_bytes())?;
-    out.push(end)?;
-    Ok(())
+    push_bytes(buffer.format(coordinate).as_bytes(), out)?;
+    push_bytes(&[end], out)
 }
