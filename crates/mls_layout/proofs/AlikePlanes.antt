@@ -3,7 +3,7 @@ use Rattle.std.proofs.Common.{◌≡◌, ℕ, true, false, inl, inr, List, All, 
 use Rattle.std.proofs.lemmas.Bool.{and_from, cases_Bool, both_ways, false_from_ne_true}
 use Rattle.std.proofs.lemmas.List.Elements.{All-contains}
 use Rattle.mls_geom.specs.Pictures.{Picture}
-use Rattle.mls_geom.specs.Rects.{Rect, IsRectangleIn, IsWithin, common, grown, holds}
+use Rattle.mls_geom.specs.Rects.{Rect, IsRectangleIn, common, grown, holds}
 use Rattle.mls_geom.specs.World.{world}
 use Rattle.mls_geom.proofs.Holds.{holds-IsWithin, holds_common}
 use Rattle.mls_tilepool.specs.Pools.{Pool, tiles_of}
@@ -15,7 +15,6 @@ use Rattle.mls_paint.specs.Planes.{picture_in}
 use Rattle.mls_layout.specs.Grids.{Shows}
 use Rattle.mls_layout.specs.Likenesses.{ShowsAlike, Spans, like_column, like_row}
 use Rattle.mls_layout.specs.declared.likeness.Likeness.{Likeness}
-use Rattle.mls_layout.specs.declared.likeness.Likeness.TheVariants.{OneKind}
 use Rattle.mls_layout.proofs.FoundTiles.{found-Shows}
 use Rattle.mls_layout.proofs.LikeSquares.{Spans-holds, alike-same, grown-IsRectangleIn, grown-holds, grown-none, like-holds, like_column-again, like_row-again}
 
@@ -68,20 +67,23 @@ pub in_zone : (h : ℕ) (rect zone : Rect) (x y : ℕ) → zone ≡ common (grow
 in_zone h rect zone x y is here inside =
     ap (λ (e : Rect). holds e x y) is ∙ holds_common (grown h rect) world x y ∙ and_from (holds (grown h rect) x y) (holds world x y) here inside
 
--- a plane of one kind in the zone shows one kind round the rectangle, where that is space or all squares are in the world
-pub OneKind-zone :
-    (pool : Pool) (owner h kind : ℕ) (rect zone : Rect) → HasPlane pool owner → IsRectangleIn world rect → zone ≡ common (grown h rect) world
-    → ((x y : ℕ) → holds zone x y ≡ true → picture_in pool owner x y ≡ kind) → ((x y : ℕ) → holds (grown h rect) x y ≡ true → holds world x y ≡ false → 0 ≡ kind)
-    → ShowsAlike OneKind h rect (picture_in pool owner)
-OneKind-zone pool owner h kind rect zone plane legal is one beyond =
-    one_kind-alike OneKind h kind rect (picture_in pool owner) legal (λ x y here. elim (cases_Bool (holds world x y)) [
-      | inl inside ↦ one x y (in_zone h rect zone x y is here inside)
-      | inr outside ↦ shown-outside (tiles_of pool owner) x y plane.plane (KeysDiffer-tiles_of pool owner) outside ∙ beyond x y here outside
-    ])
+-- what shows nothing in the zone shows nothing round the rectangle, where it shows nothing outside the world
+pub zone-space :
+    (likeness : Likeness) (h : ℕ) (rect zone : Rect) (picture : Picture) → IsRectangleIn world rect → zone ≡ common (grown h rect) world
+    → ((x y : ℕ) → holds zone x y ≡ true → picture x y ≡ 0) → ((x y : ℕ) → holds world x y ≡ false → picture x y ≡ 0) → ShowsAlike likeness h rect picture
+zone-space likeness h rect zone picture legal is none beyond = one_kind-alike likeness h 0 rect picture legal (λ x y here. elim (cases_Bool (holds world x y)) [
+  | inl inside ↦ none x y (in_zone h rect zone x y is here inside)
+  | inr outside ↦ beyond x y outside
+])
 
--- all squares are in the world, so none is beyond
-pub none_beyond : (h kind : ℕ) (rect : Rect) → IsWithin world (grown h rect) → (x y : ℕ) → holds (grown h rect) x y ≡ true → holds world x y ≡ false → 0 ≡ kind
-none_beyond h kind rect within x y here outside = absurd (both_ways (holds world x y) outside (holds-IsWithin world (grown h rect) x y within here))
+-- so does a plane whose tiles in the zone are all space
+pub zone-space-found :
+    (pool : Pool) (owner h : ℕ) (likeness : Likeness) (rect zone : Rect) (found : List LaidTile) → HasPlane pool owner → IsRectangleIn world rect
+    → zone ≡ common (grown h rect) world → MeetArea (block_at (tiles_of pool owner)) zone found → All (λ tile. tile.piece.kind ≡ 0) found
+    → ShowsAlike likeness h rect (picture_in pool owner)
+zone-space-found pool owner h likeness rect zone found plane legal is are none =
+    zone-space likeness h rect zone (picture_in pool owner) legal is (one_kind-found pool owner zone found 0 plane are none)
+    (λ x y outside. shown-outside (tiles_of pool owner) x y plane.plane (KeysDiffer-tiles_of pool owner) outside)
 
 -- a picture that is space outside an extent, and shows the same in those like squares that are both in it, has the likeness round the rectangle, where the extent spans that
 pub alike-extent :

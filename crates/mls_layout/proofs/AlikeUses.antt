@@ -126,15 +126,6 @@ module _ (pool : Pool) (owner : ℕ) (plane : HasPlane pool owner) (dx dy : ℤ)
     placed-space-found likeness found legal are none =
         one_kind-alike likeness h 0 rect placed legal (placed-space (one_kind-found pool owner part found 0 plane are none))
 
--- what shows nothing in the zone shows nothing round the rectangle, where it shows nothing outside the world
-pub zone-space :
-    (likeness : Likeness) (h : ℕ) (rect zone : Rect) (picture : Picture) → IsRectangleIn world rect → zone ≡ common (grown h rect) world
-    → ((x y : ℕ) → holds zone x y ≡ true → picture x y ≡ 0) → ((x y : ℕ) → holds world x y ≡ false → picture x y ≡ 0) → ShowsAlike likeness h rect picture
-zone-space likeness h rect zone picture legal is none beyond = one_kind-alike likeness h 0 rect picture legal (λ x y here. elim (cases_Bool (holds world x y)) [
-  | inl inside ↦ none x y (in_zone h rect zone x y is here inside)
-  | inr outside ↦ beyond x y outside
-])
-
 pub in_world-space : (picture : Picture) (x y : ℕ) → picture x y ≡ 0 → in_world picture x y ≡ 0
 in_world-space picture x y none = nowhere (holds world x y) (picture x y) none
 

@@ -9,20 +9,11 @@ use Rattle.mls_geom.specs.Rects.{IsRectangleIn, IsWithin, Rect, common, has_squa
 use Rattle.mls_geom.specs.declared.piece.Piece.{Piece}
 use Rattle.mls_geom.proofs.Ascending.{Contains-map}
 use Rattle.mls_geom.proofs.Holds.{between_holds, has_squares_lines, holds_between, holds_common}
+use Rattle.mls_geom.proofs.InnerRects.{IsRectangleIn-through}
 use Rattle.mls_geom.proofs.JoinedLists.{Any-append_left, Any-append_right}
 use Rattle.mls_stitch.specs.Areas.{MeetArea}
 use Rattle.mls_stitch.specs.declared.laid_tile.LaidTile.{LaidTile}
 use Rattle.mls_layout.specs.Grids.{Appends, CoverBlock, Shows}
-
-inner_rectangle : (extent part e : Rect) → IsWithin extent part → IsRectangleIn part e → IsRectangleIn extent e
-inner_rectangle extent part e within legal = record {
-  left_in = omega (arith, within.left, legal.left_in);
-  wide = legal.wide;
-  right_in = omega (arith, within.right, legal.right_in);
-  bottom_in = omega (arith, within.bottom, legal.bottom_in);
-  tall = legal.tall;
-  top_in = omega (arith, within.top, legal.top_in);
-}
 
 abbrev Has : ℕ → ℕ → Piece → Type 0
 Has x y piece = holds piece.rect x y ≡ true
@@ -35,8 +26,8 @@ CoverBlock-joined :
 CoverBlock-joined extent one other picture first second in_one in_other parts cover covers = record {
   bounded =
       All-append (λ piece. IsRectangleIn extent piece.rect) first second
-      (All-weaker (λ (piece : Piece). IsRectangleIn one piece.rect) (λ piece. IsRectangleIn extent piece.rect) (λ piece. inner_rectangle extent one piece.rect in_one) first cover.bounded)
-      (All-weaker (λ (piece : Piece). IsRectangleIn other piece.rect) (λ piece. IsRectangleIn extent piece.rect) (λ piece. inner_rectangle extent other piece.rect in_other) second covers.bounded);
+      (All-weaker (λ (piece : Piece). IsRectangleIn one piece.rect) (λ piece. IsRectangleIn extent piece.rect) (λ piece. IsRectangleIn-through extent one piece.rect in_one) first cover.bounded)
+      (All-weaker (λ (piece : Piece). IsRectangleIn other piece.rect) (λ piece. IsRectangleIn extent piece.rect) (λ piece. IsRectangleIn-through extent other piece.rect in_other) second covers.bounded);
   shown = All-append (λ piece. Shows picture piece) first second cover.shown covers.shown;
   whole = λ x y inside. elim (parts x y inside) [
     | inl here ↦ Any-append_left (Has x y) first second (cover.whole x y here)

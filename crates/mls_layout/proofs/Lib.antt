@@ -5,11 +5,13 @@ mod CoveredKinds
 mod Covers
 pub mod FlatLayouts
 mod FoundTiles
+mod FoundUses
 mod LaidPieces
 pub mod LentPlanes
 pub mod LikeSquares
 mod ListedTiles
 mod MovedParts
+mod OwnPaint
 mod PaintedTiles
 pub mod PlacedUses
 mod Places

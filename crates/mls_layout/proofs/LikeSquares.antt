@@ -3,6 +3,7 @@ use Rattle.std.proofs.Common.{◌≡◌, ℕ, true, refl, sym, ap, ◌∙◌, ar
 use Rattle.mls_geom.specs.Pictures.{Picture}
 use Rattle.mls_geom.specs.Rects.{Rect, IsRectangleIn, IsWithin, grown, holds}
 use Rattle.mls_geom.proofs.Holds.{between_holds, holds-IsWithin, holds_between}
+use Rattle.mls_geom.proofs.InnerRects.{IsRectangleIn-within}
 use Rattle.mls_layout.specs.Likenesses.{ShowsAlike, Spans, like_column, like_row}
 use Rattle.mls_layout.specs.declared.likeness.Likeness.{Likeness}
 use Rattle.mls_layout.specs.declared.likeness.Likeness.TheVariants.{OneKind, Columns, Rows}
@@ -61,14 +62,8 @@ grown-none rect = record { left = omega arith; bottom = omega arith; right = ome
 
 -- and it lies in the rectangle with more
 pub grown-IsRectangleIn : (h : ℕ) (extent rect : Rect) → IsRectangleIn extent rect → IsRectangleIn (grown h rect) rect
-grown-IsRectangleIn h extent rect legal = record {
-  left_in = omega arith;
-  wide = legal.wide;
-  right_in = omega arith;
-  bottom_in = omega arith;
-  tall = legal.tall;
-  top_in = omega arith;
-}
+grown-IsRectangleIn h extent rect =
+    IsRectangleIn-within (grown h rect) extent rect (record { left = omega arith; bottom = omega arith; right = omega arith; top = omega arith })
 
 -- two squares for which a rectangle has the same show the same
 pub alike-same :

@@ -1,19 +1,17 @@
 -- The part of an extent that a moved rectangle covers, from where its lines come to lie.
-use Rattle.std.proofs.Common.{◌≡◌, ℕ, ◌<◌, ◌≤◌, ℤ, pos, negsuc, ◌+ℤ◌, ◌-ℤ◌, ◌&&◌, Bool, true, false, not, if◌then◌else◌, nat_le, nat_lt, Some, None, refl, sym, ap, ◌∙◌, arith}
+use Rattle.std.proofs.Common.{◌≡◌, ℕ, ◌<◌, ◌≤◌, ℤ, pos, negsuc, ◌+ℤ◌, ◌-ℤ◌, ◌&&◌, Bool, true, false, not, if◌then◌else◌, nat_le, nat_lt, Option, Some, None, is_some, refl, sym, ap, subst, ◌∙◌, arith}
 use Rattle.std.specs.Prelude.{int_le}
+use Rattle.std.proofs.Math.Path.{fun_ext}
 use Rattle.std.proofs.lemmas.Bool.{false_from_ne_true, true≢false}
 use Rattle.std.proofs.lemmas.Bool.Decides.{nat_tests}
 use Rattle.std.proofs.lemmas.Int.{ints}
 use Rattle.mls_geom.specs.Rects.{IsWithin, Rect, has_squares, holds}
 use Rattle.mls_geom.proofs.Holds.{has_squares_lines, holds_between, square_has_squares}
-use Rattle.mls_layout.specs.Moves.{IsPartOf, holds_at}
+use Rattle.mls_layout.specs.Moves.{IsPartOf, holds_at, is_moved, moves_into}
 
 -- a line that was moved, and the column that was, lie as the two do
 int_le-moved : (line x : ℕ) (by : ℤ) → int_le (pos line +ℤ by) (pos x) ≡ int_le (pos line) (pos x -ℤ by)
 int_le-moved line x by = grind (arith, ints)
-
-int_le-moved_back : (line x : ℕ) (by : ℤ) → int_le (pos line -ℤ by) (pos x) ≡ int_le (pos line) (pos x +ℤ by)
-int_le-moved_back line x by = grind (arith, ints)
 
 -- the line comes to lie, for each column of a range, on the side of the column on which the first line is of the column's image
 abbrev pub LiesAs : ℕ → ℕ → (ℕ → ℤ) → ℕ → ℕ → Type 0
@@ -24,12 +22,6 @@ pub LiesAs-moved :
     → ((x : ℕ) → low' ≤ x → x < high' → nat_le to x ≡ int_le (pos line' +ℤ by) (pos x)) → LiesAs low high (λ x. pos x -ℤ by) line to
 LiesAs-moved low high line to low' high' line' by is_low is_high is_line lies x from below =
     lies x (omega (arith, is_low, from)) (omega (arith, is_high, below)) ∙ ap (λ l. int_le (pos l +ℤ by) (pos x)) is_line ∙ int_le-moved line x by
-
-pub LiesAs-moved_back :
-    (low high line to low' high' line' : ℕ) (by : ℤ) → low' ≡ low → high' ≡ high → line' ≡ line
-    → ((x : ℕ) → low' ≤ x → x < high' → nat_le to x ≡ int_le (pos line' -ℤ by) (pos x)) → LiesAs low high (λ x. pos x +ℤ by) line to
-LiesAs-moved_back low high line to low' high' line' by is_low is_high is_line lies x from below =
-    lies x (omega (arith, is_low, from)) (omega (arith, is_high, below)) ∙ ap (λ l. int_le (pos l -ℤ by) (pos x)) is_line ∙ int_le-moved_back line x by
 
 not_beyond : (right x : ℕ) → nat_lt x right ≡ not (nat_le right x)
 not_beyond right x = grind (arith, nat_tests)
@@ -87,13 +79,19 @@ module _ (e extent lines : Rect) (image_x image_y : ℕ → ℤ) (left : LiesAs 
           false_from_ne_true (holds_at e (image_x x) (image_y y))
           (λ there. true≢false (sym (square_has_squares lines x y (same_squares x y inside ∙ there)) ∙ none))
 
--- ---- where a moved rectangle has no square
-pub column-apart : (e : Rect) (zx zy : ℤ) → ((a : ℕ) → zx ≡ pos a → e.left ≤ a → a < e.right → ⊥) → holds_at e zx zy ≡ false
-column-apart e (pos a) (pos b) none = false_from_ne_true (holds e a b) (λ here. let lines = holds_between e a b here in none a refl lines.0 lines.1)
-column-apart e (pos a) (negsuc b) none = refl
-column-apart e (negsuc a) zy none = refl
+-- what moves back by the opposite moves into the rectangle
+moved_back : (x : ℕ) (by opposite : ℤ) → opposite +ℤ by ≡ pos 0 → pos x -ℤ opposite ≡ pos x +ℤ by
+moved_back x by opposite none = omega (arith, ints, none)
 
-pub row-apart : (e : Rect) (zx zy : ℤ) → ((b : ℕ) → zy ≡ pos b → e.bottom ≤ b → b < e.top → ⊥) → holds_at e zx zy ≡ false
-row-apart e (pos a) (pos b) none = false_from_ne_true (holds e a b) (λ here. let lines = holds_between e a b here in none b refl lines.2 lines.3)
-row-apart e (pos a) (negsuc b) none = refl
-row-apart e (negsuc a) zy none = refl
+pub IsPartOf-moved_back :
+    (e extent : Rect) (dx dy back_x back_y : ℤ) (part : Option Rect) → back_x +ℤ dx ≡ pos 0 → back_y +ℤ dy ≡ pos 0
+    → IsPartOf extent (is_moved e back_x back_y) part → IsPartOf extent (moves_into e dx dy) part
+IsPartOf-moved_back e extent dx dy back_x back_y part none_x none_y are =
+    subst (λ test. IsPartOf extent test part)
+    (fun_ext (λ x. fun_ext (λ y. ap (λ z. holds_at e z (pos y -ℤ back_y)) (moved_back x dx back_x none_x) ∙ ap (holds_at e (pos x +ℤ dx)) (moved_back y dy back_y none_y)))) are
+
+-- where there is no part, no square passes the test
+pub IsPartOf-none :
+    (extent : Rect) (test : ℕ → ℕ → Bool) (part : Option Rect) → is_some part ≡ false → IsPartOf extent test part → (x y : ℕ) → holds extent x y ≡ true → test x y ≡ false
+IsPartOf-none extent test None none are = are
+IsPartOf-none extent test (Some part) none are = absurd (cc none)

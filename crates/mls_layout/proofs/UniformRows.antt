@@ -15,34 +15,49 @@ part-element list from to k within = get_or-take (to - from) (drop from list) k 
 part-length : (list : List ℕ) (from to : ℕ) → to ≤ length list → length (take (to - from) (drop from list)) ≡ to - from
 part-length list from to within = length-take (to - from) (drop from list) ∙ omega (arith, length-drop from list)
 
--- the rows before a line are of a kind, and the next one is
-pub row-more :
-    (squares : List ℕ) (block area : Rect) (row kind from to : ℕ) → IsRectangleIn block area → area.bottom ≤ row → row < area.top → to ≤ length squares
-    → from ≡ place_in block area.left row → to ≡ from + (area.right - area.left)
-    → ((k : ℕ) → k < length (take (to - from) (drop from squares)) → slice_index (take (to - from) (drop from squares)) k ≡ kind)
-    → ((x y : ℕ) → holds (rows_to row area) x y ≡ true → grid_kind squares block x y ≡ kind)
-    → (x y : ℕ) → holds (rows_to (row + 1) area) x y ≡ true → grid_kind squares block x y ≡ kind
-row-more squares block area row kind from to legal on before within is_from is_to each so_far x y inside =
-    let lines = holds_between (rows_to (row + 1) area) x y inside in
-    elim (cases_lt y row) [
-      | inl below ↦ so_far x y (between_holds (rows_to row area) x y lines.0 lines.1 lines.2 below)
-      | inr above ↦
-          let k = x - area.left in
-          let few : k < to - from = omega (arith, lines, is_to) in
-          let place : from + k ≡ place_in block x y = omega (arith, lines, is_from, legal.left_in) in
-          ap (λ n. get_or squares n 0) (sym place) ∙ sym (part-element squares from to k few) ∙ each k (omega (arith, part-length squares from to within))
-    ]
+-- a row of an area of the block, and the places of its squares
+pub record IsRowOf (squares : List ℕ) (block area : Rect) (row from to : ℕ) : Type 0 where
+  pub legal : IsRectangleIn block area
+  pub on : area.bottom ≤ row
+  pub before : row < area.top
+  pub within : to ≤ length squares
+  pub first : from ≡ place_in block area.left row
+  pub last : to ≡ from + (area.right - area.left)
 
--- an area of a kind has its rows of that kind
-pub row-of-area :
-    (squares : List ℕ) (block area : Rect) (row kind from to : ℕ) → IsRectangleIn block area → area.bottom ≤ row → row < area.top → to ≤ length squares
-    → from ≡ place_in block area.left row → to ≡ from + (area.right - area.left)
-    → ((x y : ℕ) → holds area x y ≡ true → grid_kind squares block x y ≡ kind)
-    → (k : ℕ) → k < length (take (to - from) (drop from squares)) → slice_index (take (to - from) (drop from squares)) k ≡ kind
-row-of-area squares block area row kind from to legal on before within is_from is_to all k inside =
-    let few : k < to - from = omega (arith, part-length squares from to within) in
-    let place : from + k ≡ place_in block (area.left + k) row = omega (arith, is_from, legal.left_in) in
-    part-element squares from to k few ∙ ap (λ n. get_or squares n 0) place ∙ all (area.left + k) row (between_holds area (area.left + k) row (omega arith) (omega (arith, is_to)) on before)
+-- as it is found by what was lent of the area
+pub row-found :
+    (squares : List ℕ) (block area lent : Rect) (row from to : ℕ) → lent ≡ area → IsRectangleIn block area → lent.bottom ≤ row → row < lent.top
+    → from + (block.right - lent.left) ≤ length squares → from ≡ place_in block lent.left row → to ≡ from + (lent.right - lent.left) → IsRowOf squares block area row from to
+row-found squares block area lent row from to is legal on before room first last =
+    subst (λ (e : Rect). IsRectangleIn block e → IsRowOf squares block e row from to) is
+    (λ legal. record { legal = legal; on = on; before = before; within = omega (arith, room, last, legal.right_in, legal.wide); first = first; last = last }) legal
+
+module _ (squares : List ℕ) (block area : Rect) (row kind from to : ℕ) (is_row : IsRowOf squares block area row from to) where
+  -- the rows before a line are of a kind, and the next one is
+  pub row-more :
+      ((k : ℕ) → k < length (take (to - from) (drop from squares)) → slice_index (take (to - from) (drop from squares)) k ≡ kind)
+      → ((x y : ℕ) → holds (rows_to row area) x y ≡ true → grid_kind squares block x y ≡ kind)
+      → (x y : ℕ) → holds (rows_to (row + 1) area) x y ≡ true → grid_kind squares block x y ≡ kind
+  row-more each so_far x y inside =
+      let lines = holds_between (rows_to (row + 1) area) x y inside in
+      elim (cases_lt y row) [
+        | inl below ↦ so_far x y (between_holds (rows_to row area) x y lines.0 lines.1 lines.2 below)
+        | inr above ↦
+            let k = x - area.left in
+            let few : k < to - from = omega (arith, lines, is_row.last) in
+            let place : from + k ≡ place_in block x y = omega (arith, lines, is_row.first, is_row.legal.left_in) in
+            ap (λ n. get_or squares n 0) (sym place) ∙ sym (part-element squares from to k few) ∙ each k (omega (arith, part-length squares from to is_row.within))
+      ]
+
+  -- an area of a kind has its rows of that kind
+  pub row-of-area :
+      ((x y : ℕ) → holds area x y ≡ true → grid_kind squares block x y ≡ kind)
+      → (k : ℕ) → k < length (take (to - from) (drop from squares)) → slice_index (take (to - from) (drop from squares)) k ≡ kind
+  row-of-area all k inside =
+      let few : k < to - from = omega (arith, part-length squares from to is_row.within) in
+      let place : from + k ≡ place_in block (area.left + k) row = omega (arith, is_row.first, is_row.legal.left_in) in
+      part-element squares from to k few ∙ ap (λ n. get_or squares n 0) place
+      ∙ all (area.left + k) row (between_holds area (area.left + k) row (omega arith) (omega (arith, is_row.last)) is_row.on is_row.before)
 
 -- the answer says whether all squares of the area are of the kind
 abbrev pub TellsKind : List ℕ → Rect → Rect → ℕ → Bool → Type 0

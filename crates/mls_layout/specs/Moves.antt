@@ -1,5 +1,5 @@
 -- Pictures and rectangles that are moved. This project's own.
-use Rattle.std.specs.Prelude.{◌≡◌, ℕ, ℤ, pos, ◌+ℤ◌, ◌-ℤ◌, Bool, true, false, Option, Some, None}
+use Rattle.std.specs.Prelude.{◌≡◌, ℕ, ℤ, pos, ◌+ℤ◌, ◌-ℤ◌, int_le, Bool, true, false, Option, Some, None}
 use Rattle.mls_geom.specs.Pictures.{Picture}
 use Rattle.mls_geom.specs.Rects.{Rect, IsRectangleIn, holds}
 
@@ -21,6 +21,11 @@ holds_at e x y = false
 abbrev pub IsPartOf : Rect → (ℕ → ℕ → Bool) → Option Rect → Type 0
 IsPartOf extent test None = (x y : ℕ) → holds extent x y ≡ true → test x y ≡ false
 IsPartOf extent test (Some part) = IsRectangleIn extent part × ((x y : ℕ) → holds extent x y ≡ true → holds part x y ≡ test x y)
+
+-- no farther to either side than 32 bits go
+pub record IsMove (by : ℤ) : Type 0 where
+  pub from : int_le (pos 0) (by +ℤ pos 2147483648) ≡ true
+  pub to : int_le by (pos 2147483648) ≡ true
 
 -- the square is one of the rectangle's, moved to the right by dx and up by dy
 abbrev pub is_moved : Rect → ℤ → ℤ → ℕ → ℕ → Bool

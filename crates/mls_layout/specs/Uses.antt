@@ -8,8 +8,10 @@ use Rattle.mls_geom.specs.Rects.{holds}
 use Rattle.mls_geom.specs.World.{world}
 use Rattle.mls_library.specs.Libraries.{IsHome, Library, cell_layout}
 use Rattle.mls_paint.specs.Planes.{layout_in, picture_in}
+use Rattle.mls_stitch.specs.Tilings.{HasPlane}
 use Rattle.mls_tilepool.specs.Pools.{Pool}
 use Rattle.mls_layout.specs.Moves.{moved}
+use Rattle.mls_layout.specs.Workspaces.{FitsWorkspace}
 use Rattle.mls_layout.specs.declared.uses.CellUse.{CellUse}
 use Rattle.mls_layout.specs.declared.uses.Uses.{Uses}
 
@@ -58,3 +60,20 @@ flat_layout pool uses planes = flattened (cell_layouts pool uses.library.now) us
 pub record HasCells (pool : Pool) (planes : ℕ) (cells : Library) : Type 0 where
   pub home : IsHome pool cells
   pub few : All (λ cell. length cell.planes ≤ planes) cells
+
+-- ---- what calls read
+-- planes of the pool that a workspace has room for
+pub record HasPlanes (pool : Pool) (owners : List ℕ) : Type 0 where
+  pub each : All (HasPlane pool) owners
+  pub fit : All (FitsWorkspace pool) owners
+
+-- a layout: such planes, and cells that can be placed in it
+pub record HasLayout (pool : Pool) (owners : List ℕ) (library : Library) : Type 0 where
+  pub planes : HasPlanes pool owners
+  pub cells : HasCells pool (length owners) library
+
+-- one of its planes, and such cells
+pub record HasFlatPlane (pool : Pool) (owner : ℕ) (library : Library) : Type 0 where
+  pub plane : HasPlane pool owner
+  pub fits : FitsWorkspace pool owner
+  pub cells : IsHome pool library

@@ -1,12 +1,10 @@
 //! Whether a layout shows one kind on each plane round a rectangle, or bars.
-ghost use Rattle.std.specs.Prelude.{◌≡◌, ◌≤◌, ℕ, true, IfSome, IsTrue, length};
+ghost use Rattle.std.specs.Prelude.{◌≡◌, ◌≤◌, ℕ, IfSome, IsTrue};
 ghost use Rattle.std.specs.List.{All};
-ghost use Rattle.mls_geom.specs.Rects.{IsRectangleIn, grown, holds};
+ghost use Rattle.mls_geom.specs.Rects.{IsRectangleIn, grown};
 ghost use Rattle.mls_geom.specs.World.{world};
 ghost use Rattle.mls_layout.specs.Likenesses.{ShowsAlike, Spans};
-ghost use Rattle.mls_layout.specs.Uses.{HasCells, flat_layout};
-ghost use Rattle.mls_layout.specs.Workspaces.{FitsWorkspace};
-ghost use Rattle.mls_layout.specs.declared.likeness.Likeness.TheVariants.{OneKind};
+ghost use Rattle.mls_layout.specs.Uses.{HasLayout, HasPlanes, flat_layout};
 ghost use Rattle.mls_paint.specs.Planes.{picture_in};
 ghost use Rattle.mls_paint.specs.Scratches.{HasRoomFor, KeepsRoom};
 ghost use Rattle.mls_stitch.specs.Areas.{MeetArea};
@@ -20,6 +18,36 @@ use mls_paint::{Scratch, find_meeting};
 use mls_stitch::{LaidTile, Plane};
 use mls_tilepool::Pool;
 
+/// A rectangle with the squares that lie at most `halo` squares away from it, and the likeness that may be there.
+#[derive(Clone, Copy)]
+pub(crate) struct AlikeZone {
+    pub likeness: Likeness,
+    pub rect: Rect,
+    pub halo: u32,
+}
+
+impl AlikeZone {
+    /// Returns whether the world spans the zone.
+    pub fn is_amid_world(&self) -> bool
+        requires { self.now.halo ≤ 256 }
+        ensures { IsTrue result → Spans self.now.likeness world (grown self.now.halo self.now.rect) }
+    {
+        self.is_spanned_by(Rect::world())
+    }
+
+    /// Returns whether a rectangle spans the zone.
+    pub fn is_spanned_by(&self, outer: Rect) -> bool
+        requires { self.now.halo ≤ 256 }
+        ensures { IsTrue result → Spans self.now.likeness outer (grown self.now.halo self.now.rect) }
+    {
+        spans(
+            outer.area(),
+            self.likeness,
+            Area::around(self.rect, self.halo),
+        )
+    }
+}
+
 /// Returns whether the tiles of each plane and of each use show the likeness in the rectangle and at most `halo`
 /// squares away from it, so that each plane of the layout with the uses has it there. No memory is taken.
 pub fn is_alike(
@@ -30,17 +58,19 @@ pub fn is_alike(
     halo: u32,
     workspace: &mut Workspace,
 ) -> bool
-    requires planes { All (HasPlane workspace.old.pool) planes.old }
-    requires planes_fit { All (FitsWorkspace workspace.old.pool) planes.old }
-    requires cells { HasCells workspace.old.pool (length planes.old) uses.now.library.now }
+    requires layout { HasLayout workspace.old.pool planes.old uses.now.library.now }
     requires near { halo ≤ 256 }
     ensures alike { IsTrue result → (plane : ℕ) → ShowsAlike likeness halo rect
         (flat_layout workspace.old.pool uses.now planes.old plane) }
     ensures owners { planes.new ≡ planes.old }
     ensures pool { workspace.new.pool ≡ workspace.old.pool }
 {
-    planes_are_alike(planes, likeness, rect, halo, workspace)
-        && uses_are_alike(uses, likeness, rect, halo, workspace)
+    let zone = AlikeZone {
+        likeness,
+        rect,
+        halo,
+    };
+    planes_are_alike(planes, &zone, workspace) && uses_are_alike(uses, &zone, workspace)
 }
 
 /// Each rectangle lies in the world. Does nothing: the contract is the law.
@@ -50,54 +80,52 @@ pub(crate) fn lies_in_world(rect: Rect)
     rect.area();
 }
 
-/// Returns whether each plane has the likeness in the rectangle and at most `halo` squares away from it.
-fn planes_are_alike(
-    planes: &mut [Plane],
-    likeness: Likeness,
-    rect: Rect,
-    halo: u32,
-    workspace: &mut Workspace,
-) -> bool
-    requires planes { All (HasPlane workspace.old.pool) planes.old }
-    requires planes_fit { All (FitsWorkspace workspace.old.pool) planes.old }
-    requires near { halo ≤ 256 }
-    ensures each { IsTrue result
-        → All (λ owner. ShowsAlike likeness halo rect (picture_in workspace.old.pool owner)) planes.old }
+/// Returns whether each plane has the zone's likeness.
+fn planes_are_alike(planes: &mut [Plane], zone: &AlikeZone, workspace: &mut Workspace) -> bool
+    requires planes { HasPlanes workspace.old.pool planes.old }
+    requires near { zone.now.halo ≤ 256 }
+    ensures each { IsTrue result → All (λ owner. ShowsAlike zone.now.likeness zone.now.halo zone.now.rect
+        (picture_in workspace.old.pool owner)) planes.old }
     ensures owners { planes.new ≡ planes.old }
     ensures pool { workspace.new.pool ≡ workspace.old.pool }
 {
     let Workspace { pool, scratch, .. } = workspace;
-    each_shows_alike(pool, planes, likeness, rect, halo, scratch)
+    each_shows_alike(pool, planes, zone, scratch)
 }
 
-/// Returns whether each plane has the likeness in the rectangle and at most `halo` squares away from it. The searches
-/// leave in the scratch what they find.
+/// Returns whether each plane has the zone's likeness. The searches leave in the scratch what they find.
 fn each_shows_alike(
     pool: &Pool,
     planes: &mut [Plane],
-    likeness: Likeness,
-    rect: Rect,
-    halo: u32,
+    zone: &AlikeZone,
     scratch: &mut Scratch,
 ) -> bool
     requires planes { All (λ owner. HasPlane pool.now owner) planes.old }
     requires room { All (λ owner. HasRoomFor pool.now owner scratch.old) planes.old }
-    requires near { halo ≤ 256 }
-    ensures each { IsTrue result
-        → All (λ owner. ShowsAlike likeness halo rect (picture_in pool.now owner)) planes.old }
+    requires near { zone.now.halo ≤ 256 }
+    ensures each { IsTrue result → All (λ owner. ShowsAlike zone.now.likeness zone.now.halo zone.now.rect
+        (picture_in pool.now owner)) planes.old }
     ensures owners { planes.new ≡ planes.old }
     ensures rooms { KeepsRoom scratch.old scratch.new }
 {
     for index in 0..planes.len() {
-        if !shows_alike(pool, &mut planes[index], likeness, rect, halo, scratch) {
+        if !shows_alike(
+            pool,
+            &mut planes[index],
+            zone.likeness,
+            zone.rect,
+            zone.halo,
+            scratch,
+        ) {
             return false;
         }
     }
     true
 }
 
-/// Returns whether the plane has the likeness in the rectangle and at most `halo` squares away from it. The search
-/// leaves in the scratch what it finds.
+/// Returns whether the plane has the likeness in the rectangle and at most `halo` squares away from it: it shows
+/// nothing there, whatever the likeness, or its tiles show the likeness, and nothing is cut off by the world's rim. The
+/// search leaves in the scratch what it finds.
 pub fn shows_alike(
     pool: &Pool,
     plane: &mut Plane,
@@ -113,117 +141,23 @@ pub fn shows_alike(
     ensures owner { plane.new ≡ plane.old }
     ensures rooms { KeepsRoom scratch.old scratch.new }
 {
-    match likeness {
-        Likeness::OneKind => shows_one_kind(pool, plane, rect, halo, scratch),
-        Likeness::Columns | Likeness::Rows => {
-            shows_bars(pool, plane, likeness, rect, halo, scratch)
-        }
-    }
-}
-
-/// Returns whether the plane shows one kind in the rectangle and at most `halo` squares away from it.
-fn shows_one_kind(
-    pool: &Pool,
-    plane: &mut Plane,
-    rect: Rect,
-    halo: u32,
-    scratch: &mut Scratch,
-) -> bool
-    requires plane { HasPlane pool.now plane.old }
-    requires room { HasRoomFor pool.now plane.old scratch.old }
-    requires near { halo ≤ 256 }
-    ensures one { IsTrue result → ShowsAlike OneKind halo rect (picture_in pool.now plane.old) }
-    ensures owner { plane.new ≡ plane.old }
-    ensures rooms { KeepsRoom scratch.old scratch.new }
-{
+    let zone = AlikeZone {
+        likeness,
+        rect,
+        halo,
+    };
     lies_in_world(rect);
-    match one_kind(pool, plane, rect.grow(halo), scratch) {
-        Some(kind) => kind == 0 || is_amid_world(Likeness::OneKind, rect, halo),
-        None => false,
-    }
-}
-
-/// Returns whether the plane's tiles span the rectangle and what lies at most `halo` squares away from it, so that it
-/// has the likeness there. Where the world doesn't span that, returns `false`.
-fn shows_bars(
-    pool: &Pool,
-    plane: &mut Plane,
-    likeness: Likeness,
-    rect: Rect,
-    halo: u32,
-    scratch: &mut Scratch,
-) -> bool
-    requires plane { HasPlane pool.now plane.old }
-    requires room { HasRoomFor pool.now plane.old scratch.old }
-    requires near { halo ≤ 256 }
-    ensures alike { IsTrue result → ShowsAlike likeness halo rect (picture_in pool.now plane.old) }
-    ensures owner { plane.new ≡ plane.old }
-    ensures rooms { KeepsRoom scratch.old scratch.new }
-{
-    lies_in_world(rect);
-    if !is_amid_world(likeness, rect, halo) {
-        return false;
-    }
-    are_bars(pool, plane, likeness, rect.grow(halo), scratch)
-}
-
-/// Returns the kind that all squares of the area have on the plane, if they have the same one. The search leaves in the
-/// scratch what it finds.
-fn one_kind(pool: &Pool, plane: &mut Plane, area: Rect, scratch: &mut Scratch) -> Option<u8>
-    requires plane { HasPlane pool.now plane.old }
-    requires room { HasRoomFor pool.now plane.old scratch.old }
-    ensures kind { IfSome result (λ kind. (x y : ℕ) → holds area x y ≡ true
-        → picture_in pool.now plane.old x y ≡ kind) }
-    ensures owner { plane.new ≡ plane.old }
-    ensures rooms { KeepsRoom scratch.old scratch.new }
-{
-    if !begins_alike(pool, plane, Likeness::Rows, area, scratch) {
-        return None;
-    }
-    find_meeting(pool, plane, area, scratch);
-    kind_of(scratch.tiles())
-}
-
-/// Returns whether the plane's tiles span the area, so that it has the likeness there. The search leaves in the scratch
-/// what it finds.
-fn are_bars(
-    pool: &Pool,
-    plane: &mut Plane,
-    likeness: Likeness,
-    area: Rect,
-    scratch: &mut Scratch,
-) -> bool
-    requires plane { HasPlane pool.now plane.old }
-    requires room { HasRoomFor pool.now plane.old scratch.old }
-    ensures alike { IsTrue result → ShowsAlike likeness 0 area (picture_in pool.now plane.old) }
-    ensures owner { plane.new ≡ plane.old }
-    ensures rooms { KeepsRoom scratch.old scratch.new }
-{
-    if !begins_alike(pool, plane, likeness, area, scratch) {
-        return false;
-    }
-    lies_in_world(area);
-    find_meeting(pool, plane, area, scratch);
-    all_span(scratch.tiles(), likeness, area)
-}
-
-/// Returns whether the tile of the area's lower left square spans the area. Since tiles are maximal strips, it does so
-/// for rows where all squares have one kind, or rows have, and for columns where columns have; and where many tiles lie
-/// it seldom does.
-fn begins_alike(
-    pool: &Pool,
-    plane: &mut Plane,
-    likeness: Likeness,
-    area: Rect,
-    scratch: &mut Scratch,
-) -> bool
-    requires plane { HasPlane pool.now plane.old }
-    requires room { HasRoomFor pool.now plane.old scratch.old }
-    ensures owner { plane.new ≡ plane.old }
-    ensures rooms { KeepsRoom scratch.old scratch.new }
-{
+    let area = rect.grow(halo);
     find_meeting(pool, plane, first_square(area), scratch);
-    first_spans(scratch.tiles(), likeness, area)
+    if !begins_alike(scratch.tiles(), likeness, area) {
+        return false;
+    }
+    find_meeting(pool, plane, area, scratch);
+    let tiles = scratch.tiles();
+    if have_kind(tiles, 0) {
+        return true;
+    }
+    zone.is_amid_world() && are_alike(tiles, likeness, area)
 }
 
 /// Returns the lower left square of the area.
@@ -232,10 +166,16 @@ pub(crate) fn first_square(area: Rect) -> Rect {
     Rect::between(lines.left, lines.bottom, lines.left + 1, lines.bottom + 1)
 }
 
-/// Returns whether there is a tile, and the first one spans the area.
-pub(crate) fn first_spans(tiles: &[LaidTile], likeness: Likeness, area: Rect) -> bool {
+/// Returns whether there is a tile, and the first one spans the area. Since tiles are maximal strips, the tile of the
+/// area's lower left square spans its rows where all squares have one kind, or each row has one, and its columns where
+/// each column has one; and where many tiles lie it seldom does.
+pub(crate) fn begins_alike(tiles: &[LaidTile], likeness: Likeness, area: Rect) -> bool {
+    let lines = match likeness {
+        Likeness::Columns => Likeness::Columns,
+        Likeness::OneKind | Likeness::Rows => Likeness::Rows,
+    };
     match tiles {
-        [tile, ..] => spans(tile.piece.rect.area(), likeness, area.area()),
+        [tile, ..] => spans(tile.piece.rect.area(), lines, area.area()),
         [] => false,
     }
 }
@@ -290,17 +230,9 @@ fn all_span(tiles: &[LaidTile], likeness: Likeness, area: Rect) -> bool
     true
 }
 
-/// Returns whether the world spans the rectangle with the squares that lie at most `halo` squares away from it.
-fn is_amid_world(likeness: Likeness, rect: Rect, halo: u32) -> bool
-    requires { halo ≤ 256 }
-    ensures { IsTrue result → Spans likeness world (grown halo rect) }
-{
-    spans(Rect::world().area(), likeness, Area::around(rect, halo))
-}
-
 /// Returns whether an area spans another one: for columns from its bottom to its top, for rows from its left to its
 /// right, and for one kind both.
-pub(crate) fn spans(outer: Area, likeness: Likeness, area: Area) -> bool
+fn spans(outer: Area, likeness: Likeness, area: Area) -> bool
     ensures { IsTrue result → Spans likeness outer area }
 {
     match likeness {

@@ -13,123 +13,106 @@ ghost use Rattle.mls_stitch.specs.Areas.{MeetArea};
 ghost use Rattle.mls_stitch.specs.Tilings.{block_at};
 ghost use Rattle.mls_tilepool.specs.Pools.{tiles_of};
 
-use crate::alike::{are_alike, first_spans, first_square, have_kind, lies_in_world, spans};
+use crate::alike::{AlikeZone, are_alike, begins_alike, first_square, have_kind, lies_in_world};
 use crate::moves::moved_part;
 use crate::used_tiles::part_in;
 use crate::uses::reaches;
 use crate::{CellUse, Likeness, Uses, Workspace};
-use mls_geom::{Area, Rect};
+use mls_geom::Rect;
 use mls_library::Cell;
 use mls_paint::find_meeting_in;
 use mls_stitch::{LaidTile, Plane};
 
-/// Returns whether what the uses show has the likeness on each plane in the rectangle and at most `halo` squares away
-/// from it.
-pub(crate) fn uses_are_alike(
-    uses: &Uses<'_>,
-    likeness: Likeness,
-    rect: Rect,
-    halo: u32,
-    workspace: &mut Workspace,
-) -> bool
+/// Returns whether what the uses show has the zone's likeness on each plane.
+pub(crate) fn uses_are_alike(uses: &Uses<'_>, zone: &AlikeZone, workspace: &mut Workspace) -> bool
     requires cells { IsHome workspace.old.pool uses.now.library.now }
-    requires near { halo ≤ 256 }
-    ensures alike { IsTrue result → (plane : ℕ) → ShowsAlike likeness halo rect
+    requires near { zone.now.halo ≤ 256 }
+    ensures alike { IsTrue result → (plane : ℕ) → ShowsAlike zone.now.likeness zone.now.halo zone.now.rect
         (uses_layout (cell_layouts workspace.old.pool uses.now.library.now) uses.now.list.now plane) }
     ensures pool { workspace.new.pool ≡ workspace.old.pool }
 {
     for cell_use in uses.list {
-        if !use_is_alike(uses, cell_use, likeness, rect, halo, workspace) {
+        if !use_is_alike(uses, cell_use, zone, workspace) {
             return false;
         }
     }
     true
 }
 
-/// Returns whether what a use shows has the likeness on each plane in the rectangle and at most `halo` squares away
-/// from it.
+/// Returns whether what a use shows has the zone's likeness on each plane.
 fn use_is_alike(
     uses: &Uses<'_>,
     cell_use: &CellUse,
-    likeness: Likeness,
-    rect: Rect,
-    halo: u32,
+    zone: &AlikeZone,
     workspace: &mut Workspace,
 ) -> bool
     requires cells { IsHome workspace.old.pool uses.now.library.now }
-    requires near { halo ≤ 256 }
-    ensures alike { IsTrue result → (plane : ℕ) → ShowsAlike likeness halo rect
+    requires near { zone.now.halo ≤ 256 }
+    ensures alike { IsTrue result → (plane : ℕ) → ShowsAlike zone.now.likeness zone.now.halo zone.now.rect
         (use_layout (cell_layouts workspace.old.pool uses.now.library.now) cell_use.now plane) }
     ensures pool { workspace.new.pool ≡ workspace.old.pool }
 {
-    lies_in_world(rect);
+    lies_in_world(zone.rect);
     let Some(cell) = uses.library.get(cell_use.cell) else {
         return true;
     };
-    if !reaches(cell, cell_use, rect.grow(halo)) {
+    if !reaches(cell, cell_use, zone.rect.grow(zone.halo)) {
         return true;
     }
-    cell_is_alike(cell, cell_use, likeness, rect, halo, workspace)
+    cell_is_alike(cell, cell_use, zone, workspace)
 }
 
-/// Returns whether each plane of a cell, moved as in the use, has the likeness in the rectangle and at most `halo`
-/// squares away from it.
+/// Returns whether each plane of a cell, moved as in the use, has the zone's likeness.
 fn cell_is_alike(
     cell: &Cell,
     cell_use: &CellUse,
-    likeness: Likeness,
-    rect: Rect,
-    halo: u32,
+    zone: &AlikeZone,
     workspace: &mut Workspace,
 ) -> bool
     requires frozen { All (IsFrozen workspace.old.pool) cell.now.planes }
-    requires near { halo ≤ 256 }
-    ensures alike { IsTrue result → All (λ owner. ShowsAlike likeness halo rect
+    requires near { zone.now.halo ≤ 256 }
+    ensures alike { IsTrue result → All (λ owner. ShowsAlike zone.now.likeness zone.now.halo zone.now.rect
         (in_world (moved (picture_in workspace.old.pool owner) cell_use.now.dx cell_use.now.dy))) cell.now.planes }
     ensures pool { workspace.new.pool ≡ workspace.old.pool }
 {
     for plane in cell.planes() {
-        if !plane_is_alike(plane, cell_use, likeness, rect, halo, workspace) {
+        if !plane_is_alike(plane, cell_use, zone, workspace) {
             return false;
         }
     }
     true
 }
 
-/// Returns whether a cell's plane, moved as in the use, has the likeness in the rectangle and at most `halo` squares
-/// away from it: it shows nothing there, whatever the likeness, or its tiles show the likeness, and nothing is cut off
-/// by the world's rim.
+/// Returns whether a cell's plane, moved as in the use, has the zone's likeness: it shows nothing there, whatever the
+/// likeness, or its tiles show the likeness, and nothing is cut off by the world's rim.
 fn plane_is_alike(
     plane: &Plane,
     cell_use: &CellUse,
-    likeness: Likeness,
-    rect: Rect,
-    halo: u32,
+    zone: &AlikeZone,
     workspace: &mut Workspace,
 ) -> bool
     requires frozen { IsFrozen workspace.old.pool plane.now }
-    requires near { halo ≤ 256 }
-    ensures alike { IsTrue result → ShowsAlike likeness halo rect
+    requires near { zone.now.halo ≤ 256 }
+    ensures alike { IsTrue result → ShowsAlike zone.now.likeness zone.now.halo zone.now.rect
         (in_world (moved (picture_in workspace.old.pool plane.now) cell_use.now.dx cell_use.now.dy)) }
     ensures pool { workspace.new.pool ≡ workspace.old.pool }
 {
-    lies_in_world(rect);
-    let zone = rect.grow(halo);
-    let Some(part) = part_in(cell_use, zone) else {
+    lies_in_world(zone.rect);
+    let Some(part) = part_in(cell_use, zone.rect.grow(zone.halo)) else {
         return true;
     };
-    if !find_tiles(plane, likeness, part, workspace) {
+    if !find_tiles(plane, zone.likeness, part, workspace) {
         return false;
     }
     let tiles = workspace.scratch.tiles();
     if have_kind(tiles, 0) {
         return true;
     }
-    is_amid_worlds(cell_use, likeness, rect, halo) && are_alike(tiles, likeness, part)
+    is_amid_worlds(cell_use, zone) && are_alike(tiles, zone.likeness, part)
 }
 
 /// Finds the tiles that a cell's plane has in the area, and leaves them in the scratch. Where the tile of the lower
-/// left square tells already that the area neither is space nor has the likeness, returns `false`.
+/// left square shows already that the area neither is space nor has the likeness, returns `false`.
 fn find_tiles(plane: &Plane, likeness: Likeness, area: Rect, workspace: &mut Workspace) -> bool
     requires frozen { IsFrozen workspace.old.pool plane.now }
     ensures found { IsTrue result
@@ -147,25 +130,19 @@ fn find_tiles(plane: &Plane, likeness: Likeness, area: Rect, workspace: &mut Wor
 
 /// Returns whether an area that begins with the first of these tiles may be space, or have the likeness.
 fn may_be_alike(tiles: &[LaidTile], likeness: Likeness, area: Rect) -> bool {
-    match likeness {
-        Likeness::Columns => {
-            first_spans(tiles, likeness, area)
-                || have_kind(tiles, 0) && first_spans(tiles, Likeness::Rows, area)
-        }
-        Likeness::OneKind | Likeness::Rows => first_spans(tiles, Likeness::Rows, area),
-    }
+    begins_alike(tiles, likeness, area)
+        || have_kind(tiles, 0) && begins_alike(tiles, Likeness::Rows, area)
 }
 
-/// Returns whether the world, and the world moved as in the use, both span the rectangle with the squares that lie at
-/// most `halo` squares away from it.
-fn is_amid_worlds(cell_use: &CellUse, likeness: Likeness, rect: Rect, halo: u32) -> bool
-    requires near { halo ≤ 256 }
+/// Returns whether the world, and the world moved as in the use, both span the zone.
+fn is_amid_worlds(cell_use: &CellUse, zone: &AlikeZone) -> bool
+    requires near { zone.now.halo ≤ 256 }
     ensures { IsTrue result → (both : Rect)
         × IsPartOf world (is_moved world cell_use.now.dx cell_use.now.dy) (Some both)
-        × Spans likeness both (grown halo rect) }
+        × Spans zone.now.likeness both (grown zone.now.halo zone.now.rect) }
 {
     match moved_part(Rect::world(), cell_use.dx, cell_use.dy, Rect::world()) {
-        Some(both) => spans(both.area(), likeness, Area::around(rect, halo)),
+        Some(both) => zone.is_spanned_by(both),
         None => false,
     }
 }

@@ -4,13 +4,12 @@ ghost use Rattle.mls_geom.specs.Rects.{holds};
 ghost use Rattle.mls_geom.specs.World.{world};
 ghost use Rattle.mls_layout.specs.Grids.{IsBlock, grid_picture};
 ghost use Rattle.mls_layout.specs.Inner.{later_uses};
-ghost use Rattle.mls_layout.specs.Uses.{flat_plane, over};
-ghost use Rattle.mls_layout.specs.Workspaces.{FitsWorkspace};
+ghost use Rattle.mls_layout.specs.Uses.{HasFlatPlane, flat_plane, over};
 ghost use Rattle.mls_library.specs.Libraries.{IsHome};
-ghost use Rattle.mls_stitch.specs.Tilings.{HasPlane};
 
 use crate::painting::paint_tiles;
 use crate::used_tiles::find_use;
+use crate::uses::PlaneUses;
 use crate::{Uses, Workspace};
 use mls_geom::Rect;
 use mls_paint::find_meeting;
@@ -26,40 +25,40 @@ pub fn flatten(
     workspace: &mut Workspace,
 )
     requires block { IsBlock block }
-    requires plane { HasPlane workspace.old.pool plane.old }
-    requires plane_fits { FitsWorkspace workspace.old.pool plane.old }
-    requires cells { IsHome workspace.old.pool uses.now.library.now }
+    requires flat { HasFlatPlane workspace.old.pool plane.old uses.now.library.now }
     ensures shown { grid_picture workspace.new.grid block
         ≡ (λ x y. if holds block x y then flat_plane workspace.old.pool uses.now number plane.old x y else 0) }
     ensures owner { plane.new ≡ plane.old }
     ensures pool { workspace.new.pool ≡ workspace.old.pool }
 {
+    let shown = PlaneUses {
+        uses: *uses,
+        number,
+    };
     workspace.grid.clear(block);
     for index in 0..uses.list.len() {
-        paint_use(uses, index, number, block, workspace);
+        paint_use(&shown, index, block, workspace);
     }
-    let Workspace {
-        pool,
-        scratch,
-        grid,
-        ..
-    } = workspace;
+    let Workspace { pool, scratch, .. } = workspace;
     find_meeting(pool, plane, block, scratch);
+    let Workspace { scratch, grid, .. } = workspace;
     paint_tiles(scratch.tiles(), 0, 0, block, grid);
 }
 
-/// Paints what the use of this index shows on the plane of this number over a block of the workspace's grid, unless it
-/// is seen nowhere in the block.
-fn paint_use(uses: &Uses<'_>, index: usize, number: usize, block: Rect, workspace: &mut Workspace)
-    requires index { index < length uses.now.list.now }
+/// Paints what the use of this index shows on its plane over a block of the workspace's grid, unless it is seen nowhere
+/// in the block.
+fn paint_use(shown: &PlaneUses<'_>, index: usize, block: Rect, workspace: &mut Workspace)
+    requires index { index < length shown.now.uses.list.now }
     requires block { IsBlock block }
-    requires cells { IsHome workspace.old.pool uses.now.library.now }
+    requires cells { IsHome workspace.old.pool shown.now.uses.library.now }
     ensures painted { (x y : ℕ) → holds block x y ≡ true
-        → over (later_uses workspace.old.pool uses.now (index + 1) number) (grid_picture workspace.new.grid block) x y
-        ≡ over (later_uses workspace.old.pool uses.now index number) (grid_picture workspace.old.grid block) x y }
+        → over (later_uses workspace.old.pool shown.now.uses (index + 1) shown.now.number)
+        (grid_picture workspace.new.grid block) x y
+        ≡ over (later_uses workspace.old.pool shown.now.uses index shown.now.number)
+        (grid_picture workspace.old.grid block) x y }
     ensures pool { workspace.new.pool ≡ workspace.old.pool }
 {
-    if let Some(cell_use) = find_use(uses, index, number, block, workspace) {
+    if let Some(cell_use) = find_use(shown, index, block, workspace) {
         let Workspace { scratch, grid, .. } = workspace;
         paint_tiles(scratch.tiles(), cell_use.dx, cell_use.dy, block, grid);
     }

@@ -11,6 +11,7 @@ mod kind_grid;
 mod likeness;
 mod listing;
 mod moves;
+mod own_pieces;
 mod painting;
 mod pieces;
 mod rows;

@@ -7,14 +7,13 @@ ghost use Rattle.mls_geom.specs.Rects.{IsRectangleIn, holds};
 ghost use Rattle.mls_geom.specs.World.{world};
 ghost use Rattle.mls_layout.specs.Inner.{ShowMoved, dumps, later_uses};
 ghost use Rattle.mls_layout.specs.Moves.{moved};
-ghost use Rattle.mls_layout.specs.Uses.{flat_plane, over};
-ghost use Rattle.mls_layout.specs.Workspaces.{FitsWorkspace};
+ghost use Rattle.mls_layout.specs.Uses.{HasFlatPlane, flat_plane, over};
 ghost use Rattle.mls_library.specs.Libraries.{IsHome};
-ghost use Rattle.mls_stitch.specs.Tilings.{HasPlane};
 
+use crate::Workspace;
 use crate::moves::moved_part;
 use crate::used_tiles::find_use;
-use crate::{Uses, Workspace};
+use crate::uses::PlaneUses;
 use mls_geom::{Piece, Rect};
 use mls_paint::find_meeting;
 use mls_stitch::{LaidTile, Plane};
@@ -23,22 +22,19 @@ use mls_stitch::{LaidTile, Plane};
 /// another, what a plane shows there with the uses. Returns whether so few do.
 ///
 /// The first piece is the rectangle's space; those of the uses follow, and then the plane's own, each as it lies in a
-/// tile. The plane has this number among those of its layout.
+/// tile.
 pub(crate) fn list_pieces(
-    number: usize,
+    shown: &PlaneUses<'_>,
     plane: &mut Plane,
-    uses: &Uses<'_>,
     rect: Rect,
     most: usize,
     workspace: &mut Workspace,
 ) -> bool
     requires legal { IsRectangleIn world rect }
     requires most { most ≤ 32769 }
-    requires plane { HasPlane workspace.old.pool plane.old }
-    requires plane_fits { FitsWorkspace workspace.old.pool plane.old }
-    requires cells { IsHome workspace.old.pool uses.now.library.now }
+    requires flat { HasFlatPlane workspace.old.pool plane.old shown.now.uses.library.now }
     ensures laid { result ≡ true → (x y : ℕ) → holds rect x y ≡ true → laid workspace.new.pieces.items x y
-        ≡ flat_plane workspace.old.pool uses.now number plane.old x y }
+        ≡ flat_plane workspace.old.pool shown.now.uses shown.now.number plane.old x y }
     ensures inside { result ≡ true → All (λ piece. IsRectangleIn rect piece.rect) workspace.new.pieces.items }
     ensures covered { result ≡ true → (x y : ℕ) → holds rect x y ≡ true
         → laid workspace.new.pieces.items x y ≢ uncovered }
@@ -49,18 +45,18 @@ pub(crate) fn list_pieces(
     if !begin(rect, most, &mut workspace.pieces) {
         return false;
     }
-    for index in 0..uses.list.len() {
-        if !list_use(uses, index, number, rect, most, workspace) {
+    for index in 0..shown.uses.list.len() {
+        if !list_use(shown, index, rect, most, workspace) {
             return false;
         }
     }
+    let Workspace { pool, scratch, .. } = workspace;
+    find_meeting(pool, plane, rect, scratch);
     let Workspace {
-        pool,
         scratch,
         pieces,
         ..
     } = workspace;
-    find_meeting(pool, plane, rect, scratch);
     push_tiles(scratch.tiles(), 0, 0, rect, most, pieces)
 }
 
@@ -81,24 +77,25 @@ fn begin(rect: Rect, most: usize, pieces: &mut Vec<Piece>) -> bool
     true
 }
 
-/// Adds the pieces that the use of this index shows in a rectangle on the plane of this number, unless it is seen
-/// nowhere in it. Returns whether the list has at most `most` pieces; where it would have more, not all are added.
+/// Adds the pieces that the use of this index shows in a rectangle on its plane, unless it is seen nowhere in it.
+/// Returns whether the list has at most `most` pieces; where it would have more, not all are added.
 fn list_use(
-    uses: &Uses<'_>,
+    shown: &PlaneUses<'_>,
     index: usize,
-    number: usize,
     rect: Rect,
     most: usize,
     workspace: &mut Workspace,
 ) -> bool
-    requires index { index < length uses.now.list.now }
+    requires index { index < length shown.now.uses.list.now }
     requires legal { IsRectangleIn world rect }
     requires most { most ≤ 32769 }
-    requires cells { IsHome workspace.old.pool uses.now.library.now }
+    requires cells { IsHome workspace.old.pool shown.now.uses.library.now }
     requires few { length workspace.old.pieces.items ≤ most }
     ensures laid { result ≡ true → (x y : ℕ) → holds rect x y ≡ true
-        → over (later_uses workspace.old.pool uses.now (index + 1) number) (laid workspace.new.pieces.items) x y
-        ≡ over (later_uses workspace.old.pool uses.now index number) (laid workspace.old.pieces.items) x y }
+        → over (later_uses workspace.old.pool shown.now.uses (index + 1) shown.now.number)
+        (laid workspace.new.pieces.items) x y
+        ≡ over (later_uses workspace.old.pool shown.now.uses index shown.now.number)
+        (laid workspace.old.pieces.items) x y }
     ensures inside { All (λ piece. IsRectangleIn rect piece.rect) workspace.old.pieces.items
         → All (λ piece. IsRectangleIn rect piece.rect) workspace.new.pieces.items }
     ensures covered { (x y : ℕ) → laid workspace.old.pieces.items x y ≢ uncovered
@@ -106,7 +103,7 @@ fn list_use(
     ensures few { length workspace.new.pieces.items ≤ most }
     ensures pool { workspace.new.pool ≡ workspace.old.pool }
 {
-    let Some(cell_use) = find_use(uses, index, number, rect, workspace) else {
+    let Some(cell_use) = find_use(shown, index, rect, workspace) else {
         return true;
     };
     let Workspace {

@@ -1,17 +1,18 @@
 //! Pieces of what a plane shows with the cells that are placed in its layout.
-ghost use Rattle.std.specs.Prelude.{◌≡◌, ℕ, IfOk, OnOk, false, true};
-ghost use Rattle.mls_geom.specs.Rects.{holds};
+ghost use Rattle.std.specs.Prelude.{◌≡◌, IfOk, OnOk, false, true};
 ghost use Rattle.mls_layout.specs.Grids.{Appends, IsBlock};
-ghost use Rattle.mls_layout.specs.Uses.{cell_layouts, flat_plane, uses_layout};
+ghost use Rattle.mls_layout.specs.Uses.{flat_plane};
 ghost use Rattle.mls_layout.specs.Workspaces.{FitsWorkspace};
 ghost use Rattle.mls_library.specs.Libraries.{IsHome};
 ghost use Rattle.mls_stitch.specs.Tilings.{HasPlane};
 
 use crate::cut::cut;
 use crate::listing::list_pieces;
+use crate::own_pieces::push_own;
+use crate::uses::PlaneUses;
 use crate::{BLOCK_SIDE, Uses, Workspace, flatten};
 use mls_geom::{Piece, Rect};
-use mls_paint::{find_meeting, push_covered};
+use mls_paint::push_covered;
 use mls_stitch::Plane;
 use std::alloc::AllocError;
 
@@ -43,7 +44,8 @@ pub fn push_flat(
     ensures pool { workspace.new.pool ≡ workspace.old.pool }
 {
     if !uses.meet(zone) {
-        return push_apart(number, plane, uses, zone, workspace, out);
+        let Workspace { pool, scratch, .. } = workspace;
+        return push_own(pool, plane, zone, scratch, out);
     }
     let lines = zone.area();
     if lines.right - lines.left <= BLOCK_SIDE && lines.top - lines.bottom <= BLOCK_SIDE {
@@ -59,7 +61,7 @@ pub fn push_flat(
 }
 
 /// Appends such pieces of a block.
-pub(crate) fn push_block(
+fn push_block(
     number: usize,
     plane: &mut Plane,
     uses: &Uses<'_>,
@@ -103,7 +105,11 @@ fn push_swept(
     ensures pool { workspace.new.pool ≡ workspace.old.pool }
 {
     let most = MOST_SWEPT.min((rect.area().size() / SQUARES_FOR_A_PIECE) as usize);
-    if !list_pieces(number, plane, uses, rect, most, workspace) {
+    let shown = PlaneUses {
+        uses: *uses,
+        number,
+    };
+    if !list_pieces(&shown, plane, rect, most, workspace) {
         return Ok(false);
     }
     let Workspace {
@@ -112,34 +118,4 @@ fn push_swept(
         ..
     } = workspace;
     push_covered(pieces, scratch, out)
-}
-
-/// Appends such pieces of a rectangle in which the uses show nothing: the parts of the plane's tiles that lie in it.
-fn push_apart(
-    number: usize,
-    plane: &mut Plane,
-    uses: &Uses<'_>,
-    rect: Rect,
-    workspace: &mut Workspace,
-    out: &mut Vec<Piece>,
-) -> Result<(), AllocError>
-    requires plane { HasPlane workspace.old.pool plane.old }
-    requires plane_fits { FitsWorkspace workspace.old.pool plane.old }
-    requires apart { (x y : ℕ) → holds rect x y ≡ true
-        → uses_layout (cell_layouts workspace.old.pool uses.now.library.now) uses.now.list.now number x y ≡ 0 }
-    ensures appended { OnOk result (Appends rect (flat_plane workspace.old.pool uses.now number plane.old)
-        out.old.items out.new.items) }
-    ensures owner { plane.new ≡ plane.old }
-    ensures pool { workspace.new.pool ≡ workspace.old.pool }
-{
-    let Workspace { pool, scratch, .. } = workspace;
-    find_meeting(pool, plane, rect, scratch);
-    for tile in scratch.tiles() {
-        let part = tile.piece.rect.clip(rect).unwrap();
-        out.push(Piece {
-            rect: part,
-            kind: tile.piece.kind,
-        })?;
-    }
-    Ok(())
 }

@@ -3,13 +3,9 @@ ghost use Rattle.std.specs.Prelude.{◌≡◌, ℕ, [], IfOk, IsOk};
 ghost use Rattle.mls_geom.specs.Pictures.{Picture, kinds_in};
 ghost use Rattle.mls_geom.specs.Rects.{Rect};
 ghost use Rattle.mls_layout.specs.Grids.{CoverBlock};
-ghost use Rattle.mls_layout.specs.Uses.{flat_plane};
-ghost use Rattle.mls_layout.specs.Workspaces.{FitsWorkspace};
-ghost use Rattle.mls_library.specs.Libraries.{IsHome};
-ghost use Rattle.mls_stitch.specs.Tilings.{HasPlane};
+ghost use Rattle.mls_layout.specs.Uses.{HasFlatPlane, flat_plane};
 
-use crate::pieces::push_block;
-use crate::{BLOCK_SIDE, Uses, Workspace, push_flat};
+use crate::{Uses, Workspace, push_flat};
 use mls_geom::{Piece, Rect};
 use mls_kinds::KindSet;
 use mls_stitch::Plane;
@@ -27,9 +23,7 @@ pub fn kinds(
     rect: Rect,
     workspace: &mut Workspace,
 ) -> Result<KindSet, AllocError>
-    requires plane { HasPlane workspace.old.pool plane.old }
-    requires plane_fits { FitsWorkspace workspace.old.pool plane.old }
-    requires cells { IsHome workspace.old.pool uses.now.library.now }
+    requires flat { HasFlatPlane workspace.old.pool plane.old uses.now.library.now }
     ensures kinds { IfOk result (λ found. found
         ≡ kinds_in (flat_plane workspace.old.pool uses.now number plane.old) rect) }
     ensures without_uses { uses.now.list.now ≡ [] → IsOk result }
@@ -41,12 +35,7 @@ pub fn kinds(
         return Ok(mls_paint::kinds(pool, plane, rect, scratch));
     }
     let mut pieces = Vec::new(alloc);
-    let lines = rect.area();
-    if lines.right - lines.left <= BLOCK_SIDE && lines.top - lines.bottom <= BLOCK_SIDE {
-        push_block(number, plane, uses, rect, workspace, &mut pieces)?;
-    } else {
-        push_flat(number, plane, uses, rect, workspace, &mut pieces)?;
-    }
+    push_flat(number, plane, uses, rect, workspace, &mut pieces)?;
     Ok(kinds_of(&pieces))
 }
 

@@ -6,10 +6,7 @@ ghost use Rattle.mls_geom.specs.TileCounts.{tile_count};
 ghost use Rattle.mls_geom.specs.World.{world};
 ghost use Rattle.mls_layout.specs.Strips.{IfTooMany};
 ghost use Rattle.mls_layout.specs.declared.strips.Unlisted.TheVariants.{Memory, TooMany};
-ghost use Rattle.mls_layout.specs.Uses.{flat_plane};
-ghost use Rattle.mls_layout.specs.Workspaces.{FitsWorkspace};
-ghost use Rattle.mls_library.specs.Libraries.{IsHome};
-ghost use Rattle.mls_stitch.specs.Tilings.{HasPlane};
+ghost use Rattle.mls_layout.specs.Uses.{HasFlatPlane, flat_plane};
 
 use crate::{Uses, Workspace, push_flat};
 use mls_geom::{Piece, Rect, Scratch, TooMany, strips};
@@ -81,9 +78,7 @@ pub fn flat_strips(
     limit: usize,
     workspace: &mut Workspace,
 ) -> Result<FlatStrips, Unlisted>
-    requires plane { HasPlane workspace.old.pool plane.old }
-    requires plane_fits { FitsWorkspace workspace.old.pool plane.old }
-    requires cells { IsHome workspace.old.pool uses.now.library.now }
+    requires flat { HasFlatPlane workspace.old.pool plane.old uses.now.library.now }
     ensures strips { IfOk result (λ flat. flat
         ≡ strips_of world (flat_plane workspace.old.pool uses.now number plane.old)) }
     ensures within { OnOk result (tile_count world (flat_plane workspace.old.pool uses.now number plane.old) ≤ limit) }

@@ -11,39 +11,39 @@ ghost use Rattle.mls_library.specs.Libraries.{IsFrozen, IsHome};
 ghost use Rattle.mls_paint.specs.Planes.{picture_in};
 
 use crate::moves::part_moved_into;
-use crate::uses::reaches;
-use crate::{CellUse, Uses, Workspace};
+use crate::uses::{PlaneUses, reaches};
+use crate::{CellUse, Workspace};
 use mls_geom::Rect;
 use mls_paint::find_meeting_in;
 use mls_stitch::Plane;
 
-/// Finds the tiles that the use of this index shows in a rectangle on the plane of this number, and leaves them in the
-/// scratch, where they lie in its cell. Returns the use, unless it is seen nowhere in the rectangle.
+/// Finds the tiles that the use of this index shows in a rectangle on its plane, and leaves them in the scratch, where
+/// they lie in its cell. Returns the use, unless it is seen nowhere in the rectangle.
 pub(crate) fn find_use(
-    uses: &Uses<'_>,
+    shown: &PlaneUses<'_>,
     index: usize,
-    number: usize,
     rect: Rect,
     workspace: &mut Workspace,
 ) -> Option<CellUse>
-    requires index { index < length uses.now.list.now }
+    requires index { index < length shown.now.uses.list.now }
     requires legal { IsRectangleIn world rect }
-    requires cells { IsHome workspace.old.pool uses.now.library.now }
-    ensures found { IfSome result (λ cell_use. FindsUse workspace.old.pool uses.now index number rect
+    requires cells { IsHome workspace.old.pool shown.now.uses.library.now }
+    ensures found { IfSome result (λ cell_use. FindsUse workspace.old.pool shown.now.uses index shown.now.number rect
         cell_use.dx cell_use.dy workspace.new.scratch.tiles) }
     ensures hidden { IsNone result → (below : Picture) (x y : ℕ) → holds rect x y ≡ true
-        → over (later_uses workspace.old.pool uses.now (index + 1) number) below x y
-        ≡ over (later_uses workspace.old.pool uses.now index number) below x y }
+        → over (later_uses workspace.old.pool shown.now.uses (index + 1) shown.now.number) below x y
+        ≡ over (later_uses workspace.old.pool shown.now.uses index shown.now.number) below x y }
     ensures pool { workspace.new.pool ≡ workspace.old.pool }
     ensures pieces { workspace.new.pieces ≡ workspace.old.pieces }
     ensures grid { workspace.new.grid ≡ workspace.old.grid }
 {
-    let cell_use = uses.list[index];
-    let cell = uses.library.get(cell_use.cell)?;
-    if !reaches(cell, &cell_use, rect) || is_among(&cell_use, &uses.list[index + 1..]) {
+    let list = shown.uses.list;
+    let cell_use = list[index];
+    let cell = shown.uses.library.get(cell_use.cell)?;
+    if !reaches(cell, &cell_use, rect) || is_among(&cell_use, &list[index + 1..]) {
         return None;
     }
-    let plane = cell.planes().get(number)?;
+    let plane = cell.planes().get(shown.number)?;
     if find_moved(plane, &cell_use, rect, workspace) {
         Some(cell_use)
     } else {

@@ -6,7 +6,7 @@ ghost use Rattle.mls_layout.specs.Uses.{cell_layouts, use_layout, uses_layout};
 ghost use Rattle.mls_library.specs.Libraries.{IsHome};
 ghost use Rattle.mls_tilepool.specs.Pools.{Pool};
 
-use crate::moves::{is_moved_into, moved_part};
+use crate::moves::moved_part;
 use mls_geom::Rect;
 use mls_library::{Cell, CellId, Library};
 
@@ -26,6 +26,13 @@ pub struct CellUse {
 pub struct Uses<'a> {
     pub library: &'a Library,
     pub list: &'a [CellUse],
+}
+
+/// The uses of a layout, as they show on its plane of this number.
+#[derive(Clone, Copy)]
+pub(crate) struct PlaneUses<'a> {
+    pub uses: Uses<'a>,
+    pub number: usize,
 }
 
 impl Uses<'_> {
@@ -89,7 +96,7 @@ pub(crate) fn reaches(cell: &Cell, cell_use: &CellUse, area: Rect) -> bool
         → bounds_hold cell.now.bounds cell_use.now.dx cell_use.now.dy x y ≡ false }
 {
     match cell.bounds() {
-        Some(bounds) => is_moved_into(bounds, cell_use.dx, cell_use.dy, area),
+        Some(bounds) => moved_part(bounds, cell_use.dx, cell_use.dy, area).is_some(),
         None => false,
     }
 }

@@ -15,10 +15,10 @@ loop-index-preserved c =
     let so_far = c.loop-index.invariant in
     let below : index < length owners = omega (arith, ap length so_far.owners) in
     let there : owner ≡ get_or owners index owner = rw so_far.owners at c.index-planes-index.is in
-    let here : ShowsAlike c.args.likeness c.args.halo c.args.rect (picture_in pool owner) = rw (← c.index-planes-index.is) at (c.if-not-shows_alike.ensures.alike refl) in
+    let here : ShowsAlike c.args.zone.now.likeness c.args.zone.now.halo c.args.zone.now.rect (picture_in pool owner) = rw (← c.index-planes-index.is) at (c.if-not-shows_alike.ensures.alike refl) in
     record {
       each = λ k d before. elim (cases_eq k index) [
-        | inl same ↦ subst (λ (o : ℕ). ShowsAlike c.args.likeness c.args.halo c.args.rect (picture_in pool o))
+        | inl same ↦ subst (λ (o : ℕ). ShowsAlike c.args.zone.now.likeness c.args.zone.now.halo c.args.zone.now.rect (picture_in pool o))
             (sym (get_or_from_slice_get owners k owner d (ap (slice_get owners) same ∙ slice_get_read owners (length owners) index owner refl below there))) here
         | inr other ↦ so_far.each k d (omega arith)
       ];

@@ -7,7 +7,7 @@ use Rattle.mls_layout.proofs.alike.each_shows_alike.Given as goal
 
 abbrev pub invariant-loop-index : goal.invariant-loop-index
 invariant-loop-index l = record {
-  each : (k d : ℕ) → k < l.index → ShowsAlike l.fn.likeness l.fn.halo l.fn.rect (picture_in l.fn.pool (get_or l.fn.planes k d));
+  each : (k d : ℕ) → k < l.index → ShowsAlike l.fn.zone.likeness l.fn.zone.halo l.fn.zone.rect (picture_in l.fn.pool (get_or l.fn.planes k d));
   owners : l.planes ≡ l.fn.planes;
   rooms : KeepsRoom l.fn.scratch l.scratch;
 }

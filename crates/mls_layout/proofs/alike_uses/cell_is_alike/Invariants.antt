@@ -8,6 +8,6 @@ use Rattle.mls_layout.proofs.alike_uses.cell_is_alike.Given as goal
 
 abbrev pub invariant-loop-plane : goal.invariant-loop-plane
 invariant-loop-plane l = record {
-  each : All (λ owner. ShowsAlike l.fn.likeness l.fn.halo l.fn.rect (in_world (moved (picture_in l.fn.workspace.pool owner) l.fn.cell_use.dx l.fn.cell_use.dy))) (take l.plane-index l.fn.cell.planes);
+  each : All (λ owner. ShowsAlike l.fn.zone.likeness l.fn.zone.halo l.fn.zone.rect (in_world (moved (picture_in l.fn.workspace.pool owner) l.fn.cell_use.dx l.fn.cell_use.dy))) (take l.plane-index l.fn.cell.planes);
   pool : l.workspace.pool ≡ l.fn.workspace.pool;
 }

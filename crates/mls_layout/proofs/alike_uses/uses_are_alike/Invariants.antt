@@ -6,7 +6,7 @@ use Rattle.mls_layout.proofs.alike_uses.uses_are_alike.Given as goal
 
 abbrev pub invariant-loop-cell_use : goal.invariant-loop-cell_use
 invariant-loop-cell_use l = record {
-  each : All (λ cell_use. (plane : ℕ) → ShowsAlike l.fn.likeness l.fn.halo l.fn.rect (use_layout (cell_layouts l.fn.workspace.pool l.fn.uses.library.now) cell_use plane))
+  each : All (λ cell_use. (plane : ℕ) → ShowsAlike l.fn.zone.likeness l.fn.zone.halo l.fn.zone.rect (use_layout (cell_layouts l.fn.workspace.pool l.fn.uses.library.now) cell_use plane))
       (take l.cell_use-index l.fn.uses.list.now);
   pool : l.workspace.pool ≡ l.fn.workspace.pool;
 }

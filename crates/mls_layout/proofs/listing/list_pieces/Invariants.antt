@@ -11,8 +11,8 @@ abbrev pub invariant-loop-index : goal.invariant-loop-index
 invariant-loop-index l = record {
   shown :
       (x y : ℕ) → holds l.rect x y ≡ true
-      → over (later_uses l.fn.workspace.pool l.uses l.index l.number) (laid l.workspace.pieces.items) x y
-      ≡ uses_layout (cell_layouts l.fn.workspace.pool l.uses.library.now) l.uses.list.now l.number x y;
+      → over (later_uses l.fn.workspace.pool l.fn.shown.uses l.index l.fn.shown.number) (laid l.workspace.pieces.items) x y
+      ≡ uses_layout (cell_layouts l.fn.workspace.pool l.fn.shown.uses.library.now) l.fn.shown.uses.list.now l.fn.shown.number x y;
   inside : All (λ piece. IsRectangleIn l.rect piece.rect) l.workspace.pieces.items;
   covered : (x y : ℕ) → holds l.rect x y ≡ true → laid l.workspace.pieces.items x y ≢ uncovered;
   few : length l.workspace.pieces.items ≤ l.most;

@@ -1,16 +1,29 @@
-use Rattle.std.proofs.Common.{◌≡◌, ℕ, List, ap, subst, ◌∙◌}
+use Rattle.std.proofs.Common.{◌≡◌, ℕ, List, ap, subst, sym, ◌∙◌}
 use Rattle.std.proofs.lemmas.Result.{on_ok_weaker}
 use Rattle.mls_geom.specs.Rects.{IsRectangleIn, IsWithin, Rect}
 use Rattle.mls_geom.specs.declared.piece.Piece.{Piece}
 use Rattle.mls_tilepool.specs.Pools.{Pool}
+use Rattle.mls_paint.specs.Planes.{picture_in}
 use Rattle.mls_layout.specs.Grids.{Appends}
-use Rattle.mls_layout.specs.Uses.{flat_plane}
-use Rattle.mls_layout.proofs.CoveredBlocks.{Appends-joined}
+use Rattle.mls_layout.specs.Uses.{cell_layouts, flat_plane, uses_layout}
+use Rattle.mls_layout.proofs.CoveredBlocks.{Appends-agree, Appends-joined}
+use Rattle.mls_layout.proofs.FlatLayouts.{over-space}
 use Rattle.mls_layout.proofs.pieces.+push_flat.Goals as goal
 use Rattle.mls_layout.proofs.pieces.+push_flat.Goals.{else-eq-via-then-eq+in_ok-push_swept+else-branch, else-eq-via-else-eq}
 
 within : (e part : Rect) → IsRectangleIn e part → IsWithin e part
 within e part legal = record { left = legal.left_in; bottom = legal.bottom_in; right = legal.right_in; top = legal.top_in }
+
+pub returns-then-not-meet-clause-appended : goal.returns-then-not-meet-clause-appended
+returns-then-not-meet-clause-appended t c =
+    let pool = c.args.workspace.now.pool in
+    let uses = c.args.uses.now in
+    let own = picture_in pool c.args.plane.now in
+    let others = uses_layout (cell_layouts pool uses.library.now) uses.list.now c.args.number in
+    on_ok_weaker c.push_own.result
+    (Appends-agree c.args.zone own (flat_plane pool uses c.args.number c.args.plane.now) c.args.out.now.items c.push_own.new.out.items
+    (λ x y inside. sym (over-space own others x y (c.meet.ensures.apart c.if-not-meet.true pool c.requires.cells c.args.number x y inside))))
+    c.push_own.ensures.appended
 
 pub returns-clause-appended : goal.returns-clause-appended
 returns-clause-appended t c =

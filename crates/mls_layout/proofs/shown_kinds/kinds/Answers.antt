@@ -15,4 +15,4 @@ returns-then-not-meet-clause-kinds c =
     let others = uses_layout (cell_layouts pool uses.library.now) uses.list.now c.args.number in
     c.kinds.ensures.kinds
     ∙ kinds_in-agree c.args.rect own shown
-    (λ x y inside. sym (over-space own others x y (c.meet.ensures.apart c.if-not-meet.true pool c.requires.cells c.args.number x y inside)))
+    (λ x y inside. sym (over-space own others x y (c.meet.ensures.apart c.if-not-meet.true pool c.requires.flat.cells c.args.number x y inside)))

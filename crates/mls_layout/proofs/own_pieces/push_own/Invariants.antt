@@ -1,6 +1,6 @@
 use Rattle.std.proofs.Common.{◌≡◌, ◌++◌, map, take}
 use Rattle.mls_layout.proofs.CoveredBlocks.{clip}
-use Rattle.mls_layout.proofs.pieces.push_apart.Given as goal
+use Rattle.mls_layout.proofs.own_pieces.push_own.Given as goal
 
 -- the parts of the tiles so far are there
 abbrev pub invariant-loop-tile : goal.invariant-loop-tile

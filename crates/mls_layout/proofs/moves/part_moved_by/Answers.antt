@@ -2,7 +2,7 @@ use Rattle.std.proofs.Common.{pos, ◌-ℤ◌, ap, ◌∙◌, arith}
 use Rattle.std.proofs.lemmas.Int.{to_z-of_z}
 use Rattle.mls_geom.specs.Rects.{Rect}
 use Rattle.mls_layout.proofs.MovedParts.{IsPartOf-lines, LiesAs-moved}
-use Rattle.mls_layout.proofs.moves.moved_part.Goals as goal
+use Rattle.mls_layout.proofs.moves.part_moved_by.Goals as goal
 
 pub returns : goal.returns
 returns c =
