@@ -175,11 +175,13 @@ module _ (block : Rect) (mine picture grid : Picture) (tiles : List Tile) (are :
 
 -- so the grid of a block of the zone has all tiles exactly where the pictures are the same in the block
 pub tiles-in_block :
-    (zone block : Rect) (left bottom : ℕ) (mine picture now grid : Picture) (tiles : List Tile) → AreTiles outer mine tiles → IsBlock (block_from zone left bottom)
-    → block ≡ block_from zone left bottom → now ≡ picture → grid ≡ cut now block → All (HasTileIn block grid) tiles ↔ SameIn (block_from zone left bottom) mine picture
-tiles-in_block zone block left bottom mine picture now grid tiles are is is_block same shown = (
-  λ has. subst (λ (e : Rect). SameIn e mine picture) is_block (subst (λ (p : Picture). SameIn block mine p) same
-      (same-from_tiles block mine now grid tiles are shown (subst (IsRectangleIn world) (sym is_block) is.legal) has)),
-  λ has. tiles-from_same block mine now grid tiles are shown
-      (subst (λ (p : Picture). SameIn block mine p) (sym same) (subst (λ (e : Rect). SameIn e mine picture) (sym is_block) has)),
-)
+    (zone block : Rect) (left bottom : ℕ) (mine picture now grid : Picture) (tiles : List Tile) → AreTiles outer mine tiles → IsRectangleIn world zone
+    → BlocksSame zone mine picture left bottom → bottom < zone.top → block ≡ block_from zone left bottom → now ≡ picture → grid ≡ cut now block
+    → All (HasTileIn block grid) tiles ↔ SameIn (block_from zone left bottom) mine picture
+tiles-in_block zone block left bottom mine picture now grid tiles are legal so_far high is_block same shown =
+    let inside : IsRectangleIn world block = subst (IsRectangleIn world) (sym is_block) (block_from-IsBlock zone left bottom legal so_far.from so_far.to so_far.low high).legal in (
+      λ has. subst (λ (e : Rect). SameIn e mine picture) is_block (subst (λ (p : Picture). SameIn block mine p) same
+          (same-from_tiles block mine now grid tiles are shown inside has)),
+      λ has. tiles-from_same block mine now grid tiles are shown
+          (subst (λ (p : Picture). SameIn block mine p) (sym same) (subst (λ (e : Rect). SameIn e mine picture) (sym is_block) has)),
+    )

@@ -9,19 +9,19 @@ use Rattle.mls_geom.specs.Pictures.{Picture}
 use Rattle.mls_geom.specs.Rects.{Rect, holds}
 use Rattle.mls_tilepool.specs.Pools.{Pool}
 use Rattle.mls_library.specs.Libraries.{Library}
-use Rattle.mls_layout.specs.Uses.{HasCells, flat_layout, flat_plane}
+use Rattle.mls_layout.specs.Uses.{HasCells, HasFlatPlane, HasLayout, flat_layout, flat_plane}
 use Rattle.mls_layout.specs.declared.uses.Uses.{Uses}
 use Rattle.mls_layout.proofs.FlatLayouts.{flat_layout-beyond, flat_layout-plane}
 use Rattle.mls_checker.specs.Copies.{IsOfZone, PlaneTiles, no_plane, picture_of}
-use Rattle.mls_checker.specs.FlatZones.{AreReadable, CanBeRead, planes_layout}
+use Rattle.mls_checker.specs.FlatZones.{planes_layout}
 use Rattle.mls_checker.specs.ZoneLayouts.{within}
 use Rattle.mls_checker.proofs.Copying.{cut}
 use Rattle.mls_checker.proofs.NoPlane.{no_plane-space}
 
 -- ---- plane by plane
 -- planes that can be read together can each be read
-pub each-CanBeRead : (pool : Pool) (library : Library) (owners : List ℕ) → AreReadable pool library owners → All (CanBeRead pool library) owners
-each-CanBeRead pool library owners are k d within = record { plane = are.planes k d within; fits = are.fit k d within; cells = are.cells.home }
+pub each-HasFlatPlane : (pool : Pool) (library : Library) (owners : List ℕ) → HasLayout pool owners library → All (λ owner. HasFlatPlane pool owner library) owners
+each-HasFlatPlane pool library owners has k d within = record { plane = has.planes.each k d within; fits = has.planes.fit k d within; cells = has.cells.home }
 
 -- what the layout has on a plane in the zone, where neither the pool nor the owners have changed
 pub flat-at :

@@ -9,7 +9,7 @@ use Rattle.mls_geom.proofs.Ascending.{Contains-map}
 use Rattle.mls_geom.proofs.Holds.{holds_common}
 use Rattle.mls_geom.proofs.JoinedLists.{Any-append_left, Any-append_right}
 use Rattle.mls_layout.specs.Grids.{Appends, CoverBlock}
-use Rattle.mls_checker.specs.FlatZones.{piece_tiles}
+use Rattle.mls_checker.specs.FlatZones.{found_tiles, piece_tiles}
 use Rattle.mls_checker.specs.Tiles.{AreTiles, HasTile, IsAmid, Tile, clipped_tile, space_round}
 use Rattle.mls_checker.proofs.Copying.{cut}
 use Rattle.mls_checker.proofs.Prefixes.{take_next}
@@ -51,11 +51,11 @@ pub Appends-none : (zone : Rect) (picture : Picture) (old new : List Piece) → 
 Appends-none zone picture old new none (more, is, cover) =
     subst (CoverBlock zone picture) (sym (is ∙ ap (λ (pieces : List Piece). pieces ++ more) none)) cover
 
--- one piece more is one tile more
-pub piece_tiles-next :
-    (extent zone : Rect) (pieces : List Piece) (n : ℕ) (piece : Piece) → n < length pieces → piece ≡ get_or pieces n piece
-    → piece_tiles extent zone (take n pieces) ++ clipped_tile zone piece ∷ [] ≡ piece_tiles extent zone (take (n + 1) pieces)
-piece_tiles-next extent zone pieces n piece below is =
-    let clip : Piece → Tile = clipped_tile zone in
-    append-push (space_round extent zone) (map clip (take n pieces)) (clip piece)
-    ∙ ap (λ rest. space_round extent zone ++ rest) (sym (ap (map clip) (take_next pieces n piece below is) ∙ map-push clip (take n pieces) piece))
+-- one more found is one tile more
+pub found_tiles-next :
+    {X : Type 0} (piece_of : X → Piece) (extent zone : Rect) (found : List X) (n : ℕ) (one : X) → n < length found → one ≡ get_or found n one
+    → found_tiles piece_of extent zone (take n found) ++ clipped_tile zone (piece_of one) ∷ [] ≡ found_tiles piece_of extent zone (take (n + 1) found)
+found_tiles-next {X} piece_of extent zone found n one below is =
+    let clip : X → Tile = λ x. clipped_tile zone (piece_of x) in
+    append-push (space_round extent zone) (map clip (take n found)) (clip one)
+    ∙ ap (λ rest. space_round extent zone ++ rest) (sym (ap (map clip) (take_next found n one below is) ∙ map-push clip (take n found) one))

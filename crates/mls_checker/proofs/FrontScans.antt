@@ -1,8 +1,8 @@
 -- Scans of the squares just before tiles, tile by tile and part by part.
 use Rattle.std.proofs.Common.{◌≡◌, ℕ, ◌+◌, ◌<◌, ◌≤◌, Bool, true, ◌||◌, inl, inr, List, [], ◌++◌, length, map, take, get_or, refl, sym, ap, subst, ◌∙◌, arith}
-use Rattle.std.specs.List.{list_any}
+use Rattle.std.specs.List.{Contains, list_any}
 use Rattle.std.proofs.lemmas.Bool.{and_parts}
-use Rattle.std.proofs.lemmas.List.{map-append}
+use Rattle.std.proofs.lemmas.List.{get_or_default, map-append}
 use Rattle.std.proofs.lemmas.List.Elements.{All-contains, All-nil}
 use Rattle.std.proofs.lemmas.List.Folds.{list_any-append}
 use Rattle.mls_edgerule.specs.declared.edge_rule.EdgeRule.{EdgeRule}
@@ -15,7 +15,7 @@ use Rattle.mls_geom.specs.declared.direction.Direction.TheVariants.{Right, Up, L
 use Rattle.mls_geom.proofs.Holds.{between_holds, has_squares_lines, holds_between, holds_common}
 use Rattle.mls_checker.specs.Marking.{GainsDisallowed, SquareSet}
 use Rattle.mls_checker.specs.Sides.{EndsIn, GainsParts, GainsSidesReach, IsSide, IsThin, Side, faced, front_reaches, front_side, reaches_from, sides_reach}
-use Rattle.mls_checker.specs.Tiles.{AreTiles, HasTile, Tile, outer}
+use Rattle.mls_checker.specs.Tiles.{AreTiles, HasTile, Tile, outer, space_in}
 use Rattle.mls_checker.proofs.FacedSides.{list_any-mapped}
 use Rattle.mls_checker.proofs.FlankParts.{after-lines}
 use Rattle.mls_checker.proofs.Gathering.{gains_both, gains_nothing, gains_same}
@@ -150,3 +150,33 @@ front_side-IsSide direction picture tile other part rest shown legal shown' is c
     let piece_shown : HasTile picture piece = λ x y here. shown' x y ((and_parts (holds other.area x y) (holds rest x y) (sym (holds_common other.area rest x y) ∙ here)).0) in
     subst (λ (t : Tile). IsSide direction picture (front_side direction tile.kind t) × EndsIn outer (front_side direction tile.kind t).area) (sym is_part)
     (part-IsSide direction outer picture tile piece shown piece_shown legal inside, front-EndsIn direction outer tile.area piece.area legal inside)
+
+-- what is known of the side that the code makes of such a part, which lies in another tile of the zone
+pub record IsFrontIn (direction : Direction) (picture : Picture) (tile other part : Tile) (made : Side) : Type 0 where
+  pub is : made ≡ front_side direction tile.kind part
+  pub side : IsSide direction picture made
+  pub bounded : EndsIn outer made.area
+  pub shown : HasTile picture other
+
+pub made-IsFrontIn :
+    {direction d : Direction} {picture : Picture} {tiles list : List Tile} {index kind : ℕ} {read : Tile} (other part : Tile) (rest : Rect) (made : Side)
+    → AreTiles outer picture tiles → list ≡ tiles → index < length tiles → read ≡ get_or list index read → kind ≡ read.kind → d ≡ direction
+    → IsRestOf (common (front_of direction (get_or tiles index (space_in outer)).area) outer) rest → has_squares rest ≡ true → Contains tiles other
+    → holds other.area rest.left rest.bottom ≡ true → part ≡ record { area = common other.area rest; kind = other.kind } → (FitsWith 1 part.area → made ≡ front_side d kind part)
+    → IsFrontIn direction picture (get_or tiles index (space_in outer)) other part made
+made-IsFrontIn {direction} {d} {picture} {tiles} {list} {index} {kind} {read} other part rest made are same within is same_kind same_direction of_tile some listed corner is_part makes =
+    let tile = get_or tiles index (space_in outer) in
+    let at_index : Contains tiles tile = (index, within, get_or_default tiles index tile (space_in outer) within) in
+    let is_tile : read ≡ tile = is ∙ ap (λ (ts : List Tile). get_or ts index read) same ∙ get_or_default tiles index read (space_in outer) within in
+    let shown : HasTile picture other = All-contains (HasTile picture) tiles other are.shown listed in
+    let side =
+    front_side-IsSide direction picture tile other part rest (All-contains (HasTile picture) tiles tile are.shown at_index)
+    (All-contains (λ (t : Tile). IsRectangleIn outer t.area) tiles tile are.bounded at_index) shown of_tile corner some is_part in
+    let is : made ≡ front_side direction tile.kind part =
+    made-front_side direction d tile other part kind rest made of_tile corner some is_part same_direction (same_kind ∙ ap (λ (t : Tile). t.kind) is_tile) makes in
+    record {
+      is = is;
+      side = subst (IsSide direction picture) (sym is) side.0;
+      bounded = subst (λ (s : Side). EndsIn outer s.area) (sym is) side.1;
+      shown = shown;
+    }

@@ -52,7 +52,7 @@ module _ (pool : Pool) (owner : ℕ) (zone : Rect) (found : List LaidTile) (plan
       (zone-AreTiles (block_at (tiles_of pool owner)) outer zone (picture_in pool owner) found (amid-outer zone legal) met found-kinds)
 
   -- a picture that is space outside the zone has each of them as far as it lies in the zone exactly if it is what the plane shows in the zone
-  pub found-shown :
+  found-shown :
       (mine : Picture) → ((x y : ℕ) → holds zone x y ≡ false → mine x y ≡ 0)
       → All (λ tile. HasTile mine (clipped_tile zone tile.piece)) found ↔ (mine ≡ cut (picture_in pool owner) zone)
   found-shown mine space =
@@ -66,3 +66,12 @@ module _ (pool : Pool) (owner : ℕ) (zone : Rect) (found : List LaidTile) (plan
             let both = and_parts (holds tile.piece.rect x y) (holds zone x y) (sym (holds_common tile.piece.rect zone x y) ∙ here) in
             ap (λ (p : Picture). p x y) same ∙ cond-true (holds zone x y) (picture x y) 0 both.1 ∙ found-kinds k d within x y both.0,
       )
+
+  -- and so exactly if it is what the plane shows there with uses, where none of these shows anything in the zone
+  pub found-shown_flat :
+      (uses : Uses) (number : ℕ) → ((plane x y : ℕ) → holds zone x y ≡ true → uses_layout (cell_layouts pool uses.library.now) uses.list.now plane x y ≡ 0)
+      → (mine : Picture) → ((x y : ℕ) → holds zone x y ≡ false → mine x y ≡ 0)
+      → All (λ tile. HasTile mine (clipped_tile zone tile.piece)) found ↔ (mine ≡ cut (flat_plane pool uses number owner) zone)
+  found-shown_flat uses number apart mine space =
+      subst (λ (shown : Picture). All (λ tile. HasTile mine (clipped_tile zone tile.piece)) found ↔ (mine ≡ shown)) (own-cut pool uses number owner zone apart)
+      (found-shown mine space)

@@ -1,22 +1,20 @@
 -- Zones of layouts that show uses: their tiles, copies of their planes, and what is compared in them.
 use Rattle.std.specs.Prelude.{◌≡◌, ℕ, ◌+◌, min, nat_lt, true, if◌then◌else◌, List, ◌++◌, length, map, slice_get}
-use Rattle.std.specs.List.{All}
 use Rattle.std.specs.Option.{unwrap_or}
 use Rattle.mls_geom.specs.Layouts.{Layout}
 use Rattle.mls_geom.specs.Pictures.{Picture}
 use Rattle.mls_geom.specs.Rects.{Rect, common, holds}
 use Rattle.mls_geom.specs.declared.piece.Piece.{Piece}
-use Rattle.mls_layout.specs.Uses.{HasCells}
-use Rattle.mls_layout.specs.Workspaces.{FitsWorkspace}
-use Rattle.mls_library.specs.Libraries.{IsHome, Library}
-use Rattle.mls_stitch.specs.Tilings.{HasPlane}
-use Rattle.mls_tilepool.specs.Pools.{Pool}
 use Rattle.mls_checker.specs.Copies.{AreOfZone, PlaneTiles, no_plane, picture_of}
 use Rattle.mls_checker.specs.Tiles.{Tile, clipped_tile, space_round}
 
--- space round the zone, and pieces as far as they lie in it
+-- space round the zone, and what is found in it, each where a piece is, as far as that lies in it
+abbrev pub found_tiles : {X : Type 0} → (X → Piece) → Rect → Rect → List X → List Tile
+found_tiles piece_of extent zone found = space_round extent zone ++ map (λ one. clipped_tile zone (piece_of one)) found
+
+-- where they are pieces
 abbrev pub piece_tiles : Rect → Rect → List Piece → List Tile
-piece_tiles extent zone pieces = space_round extent zone ++ map (clipped_tile zone) pieces
+piece_tiles extent zone pieces = found_tiles (λ piece. piece) extent zone pieces
 
 -- the layout that these planes show
 abbrev pub planes_layout : List PlaneTiles → Layout
@@ -27,18 +25,6 @@ pub record AreCopies (zone : Rect) (count : ℕ) (layout : Layout) (planes : Lis
   pub of_zone : AreOfZone zone planes
   pub as_many : length planes ≡ count
   pub shown : planes_layout planes ≡ layout
-
--- a plane of the pool that a workspace has room for, and a library whose cells are in the pool
-pub record CanBeRead (pool : Pool) (library : Library) (owner : ℕ) : Type 0 where
-  pub plane : HasPlane pool owner
-  pub fits : FitsWorkspace pool owner
-  pub cells : IsHome pool library
-
--- planes of the pool that a workspace has room for, and a library whose cells are in the pool and have no more planes
-pub record AreReadable (pool : Pool) (library : Library) (owners : List ℕ) : Type 0 where
-  pub planes : All (HasPlane pool) owners
-  pub fit : All (FitsWorkspace pool) owners
-  pub cells : HasCells pool (length owners) library
 
 -- the pictures are the same in the area
 abbrev pub SameIn : Rect → Picture → Picture → Type 0

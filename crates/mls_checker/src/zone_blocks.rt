@@ -1,42 +1,42 @@
 //! Whether tiles show what a plane does with uses, block by block.
 ghost use Rattle.std.specs.Prelude.{◌≡◌, ◌↔◌, ◌<◌, ◌≤◌, IsTrue};
 ghost use Rattle.std.specs.List.{All};
-ghost use Rattle.mls_checker.specs.FlatZones.{CanBeRead, HasTileIn, SameIn, block_from, lines_after};
+ghost use Rattle.mls_checker.specs.FlatZones.{HasTileIn, SameIn, block_from, lines_after};
 ghost use Rattle.mls_checker.specs.Tiles.{AreTiles, outer, tiles_picture};
 ghost use Rattle.mls_layout.specs.Grids.{IsBlock, grid_picture};
-ghost use Rattle.mls_layout.specs.Uses.{flat_plane};
+ghost use Rattle.mls_layout.specs.Uses.{HasFlatPlane, flat_plane};
 
+use crate::plane_tiles::PlaneZone;
 use crate::tiles::Tile;
 use mls_geom::Rect;
 use mls_layout::{BLOCK_SIDE, KindGrid, Uses, Workspace, flatten};
 use mls_stitch::Plane;
 
-/// Whether the tiles show in the zone what the plane of this number does with the uses. No memory is taken.
+/// Whether the tiles show in the zone what the plane does with the uses. No memory is taken.
 pub(crate) fn show_flat(
     tiles: &[Tile],
-    number: usize,
+    at: PlaneZone,
     plane: &mut Plane,
     uses: &Uses<'_>,
-    zone: Rect,
     workspace: &mut Workspace,
 ) -> bool
     requires tiles { AreTiles outer (tiles_picture tiles.now) tiles.now }
-    requires readable { CanBeRead workspace.old.pool uses.now.library.now plane.old }
-    ensures same { IsTrue result ↔ SameIn zone (tiles_picture tiles.now)
-        (flat_plane workspace.old.pool uses.now number plane.old) }
+    requires flat { HasFlatPlane workspace.old.pool plane.old uses.now.library.now }
+    ensures same { IsTrue result ↔ SameIn at.zone (tiles_picture tiles.now)
+        (flat_plane workspace.old.pool uses.now at.number plane.old) }
     ensures owner { plane.new ≡ plane.old }
     ensures pool { workspace.new.pool ≡ workspace.old.pool }
 {
-    let lines = zone.area();
+    let lines = at.zone.area();
     let mut left = lines.left;
     let mut bottom = lines.bottom;
     'rows: while bottom < lines.top {
-        let block = block_from(zone, left, bottom);
-        flatten(number, plane, uses, block, workspace);
+        let block = block_from(at.zone, left, bottom);
+        flatten(at.number, plane, uses, block, workspace);
         if !has_tiles(&workspace.grid, block, tiles) {
             return false;
         }
-        let next = lines_after(zone, block);
+        let next = lines_after(at.zone, block);
         left = next.0;
         bottom = next.1;
     }

@@ -1,11 +1,11 @@
 //! Copies of a zone on all planes of a layout, with the cells that are placed in it.
 ghost use Rattle.std.specs.Prelude.{◌≡◌, ◌↔◌, IfOk, IsTrue, length};
 ghost use Rattle.mls_checker.specs.Copies.{AreOfZone};
-ghost use Rattle.mls_checker.specs.FlatZones.{AreCopies, AreReadable, planes_layout};
+ghost use Rattle.mls_checker.specs.FlatZones.{AreCopies, planes_layout};
 ghost use Rattle.mls_checker.specs.ZoneLayouts.{within};
-ghost use Rattle.mls_layout.specs.Uses.{flat_layout};
+ghost use Rattle.mls_layout.specs.Uses.{HasLayout, flat_layout};
 
-use crate::plane_tiles::PlaneTiles;
+use crate::plane_tiles::{PlaneTiles, PlaneZone};
 use mls_geom::Rect;
 use mls_layout::{Uses, Workspace};
 use mls_stitch::Plane;
@@ -19,7 +19,7 @@ pub(crate) fn read_planes(
     zone: Rect,
     workspace: &mut Workspace,
 ) -> Result<Vec<PlaneTiles>, AllocError>
-    requires { AreReadable workspace.old.pool uses.now.library.now planes.old }
+    requires { HasLayout workspace.old.pool planes.old uses.now.library.now }
     ensures copies { IfOk result (λ copies. AreCopies zone (length planes.old)
         (within zone (flat_layout workspace.old.pool uses.now planes.old)) copies.items) }
     ensures owners { planes.new ≡ planes.old }
@@ -27,7 +27,11 @@ pub(crate) fn read_planes(
 {
     let mut copies = Vec::with_capacity(alloc, planes.len())?;
     for index in 0..planes.len() {
-        copies.push(PlaneTiles::read(alloc, index, &mut planes[index], uses, zone, workspace)?)?;
+        let at = PlaneZone {
+            number: index,
+            zone,
+        };
+        copies.push(PlaneTiles::read(alloc, at, &mut planes[index], uses, workspace)?)?;
     }
     Ok(copies)
 }
@@ -42,14 +46,18 @@ pub(crate) fn show_planes(
 ) -> bool
     requires zone { AreOfZone zone copies.now }
     requires count { length copies.now ≡ length planes.old }
-    requires readable { AreReadable workspace.old.pool uses.now.library.now planes.old }
+    requires layout { HasLayout workspace.old.pool planes.old uses.now.library.now }
     ensures same { IsTrue result ↔ (planes_layout copies.now
         ≡ within zone (flat_layout workspace.old.pool uses.now planes.old)) }
     ensures owners { planes.new ≡ planes.old }
     ensures pool { workspace.new.pool ≡ workspace.old.pool }
 {
     for (index, copied) in copies.iter().enumerate() {
-        if !copied.is_shown(index, &mut planes[index], uses, zone, workspace) {
+        let at = PlaneZone {
+            number: index,
+            zone,
+        };
+        if !copied.is_shown(at, &mut planes[index], uses, workspace) {
             return false;
         }
     }

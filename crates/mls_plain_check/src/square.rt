@@ -21,34 +21,17 @@ impl Square {
     /// Returns the square that lies some steps away in a direction.
     pub fn after(self, direction: Direction, steps: u32) -> Square {
         let Square { column, row } = self;
-        match direction {
-            Direction::Right => Square {
-                column: column.saturating_add(steps),
-                row,
-            },
-            Direction::Up => Square {
-                column,
-                row: row.saturating_add(steps),
-            },
-            Direction::Left => Square {
-                column: column.saturating_sub(steps),
-                row,
-            },
-            Direction::Down => Square {
-                column,
-                row: row.saturating_sub(steps),
-            },
-        }
+        let (column, row) = match direction {
+            Direction::Right => (column.saturating_add(steps), row),
+            Direction::Up => (column, row.saturating_add(steps)),
+            Direction::Left => (column.saturating_sub(steps), row),
+            Direction::Down => (column, row.saturating_sub(steps)),
+        };
+        Square { column, row }
     }
 
     /// Returns the square from which one step in a direction leads to this one.
     pub fn before(self, direction: Direction) -> Square {
-        let back = match direction {
-            Direction::Right => Direction::Left,
-            Direction::Up => Direction::Down,
-            Direction::Left => Direction::Right,
-            Direction::Down => Direction::Up,
-        };
-        self.after(back, 1)
+        self.after(direction.back(), 1)
     }
 }

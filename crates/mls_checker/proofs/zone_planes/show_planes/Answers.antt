@@ -30,7 +30,7 @@ returns-clause-same c =
     let copies = c.args.copies.now in
     let owners = c.args.planes.now in
     let so_far = c.loop-index.invariant in (
-      λ _. flat-by_copies c.args.workspace.now.pool c.args.uses.now owners c.args.zone copies c.requires.readable.cells c.requires.count
+      λ _. flat-by_copies c.args.workspace.now.pool c.args.uses.now owners c.args.zone copies c.requires.layout.cells c.requires.count
           (λ plane below. so_far.copies plane (omega (arith, below, c.requires.count, c.loop-index-test.false))),
       λ _. refl,
     )

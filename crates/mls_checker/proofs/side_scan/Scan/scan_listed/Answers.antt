@@ -8,28 +8,27 @@ use Rattle.mls_checker.specs.Sides.{Side, faced, reaches_from, sides_reach}
 use Rattle.mls_geom.specs.Directions.{axis}
 use Rattle.mls_checker.proofs.FacedSides.{list_any-mapped, listed-IsSide}
 use Rattle.mls_checker.proofs.Gathering.{gains_more, gains_same}
-use Rattle.mls_checker.proofs.side_scan.scan_listed.Goals as goal
+use Rattle.mls_checker.proofs.side_scan.Scan.scan_listed.Goals as goal
 
 pub loop-side-preserved : goal.loop-side-preserved
 loop-side-preserved g c =
-    let rule = c.args.rule.now in
-    let layout = copied_layout c.args.snapshot.now in
-    let tiles = (plane_of c.args.snapshot.now rule.trigger_plane).tiles in
-    let direction = c.args.direction in
-    let test : ℕ → ℕ → Side → Bool = λ u v side. reaches_from rule tiles c.args.area.now direction u v (faced direction side) in
+    let rule = c.args.self.now.rule.now in
+    let layout = copied_layout c.args.self.now.snapshot.now in
+    let test : ℕ → ℕ → Side → Bool =
+    λ u v side. reaches_from rule (plane_of c.args.self.now.snapshot.now rule.trigger_plane).tiles c.args.self.now.area c.args.self.now.direction u v (faced c.args.self.now.direction side) in
     gains_more g.S.ViolationSink.represents rule layout test c.args.sides.now c.loop-side.side-index c.side-item.result c.args.sink.now c.loop-side.sink c.scan_side.new.sink
     c.loop-side-test.true c.loop-side.invariant
     (subst (λ (s : Side). GainsDisallowed g.S.ViolationSink.represents rule layout (λ u v. test u v s) c.loop-side.sink c.scan_side.new.sink) c.side-item.is c.scan_side.ensures)
 
 pub returns : goal.returns
 returns g c =
-    let rule = c.args.rule.now in
-    let tiles = (plane_of c.args.snapshot.now rule.trigger_plane).tiles in
-    let direction = c.args.direction in
-    let area = c.args.area.now in
+    let rule = c.args.self.now.rule.now in
+    let tiles = (plane_of c.args.self.now.snapshot.now rule.trigger_plane).tiles in
+    let direction = c.args.self.now.direction in
+    let area = c.args.self.now.area in
     let test : ℕ → ℕ → Side → Bool = λ u v side. reaches_from rule tiles area direction u v (faced direction side) in
     let sides = c.args.sides.now in
-    gains_same g.S.ViolationSink.represents rule (copied_layout c.args.snapshot.now) (λ u v. list_any (test u v) (take c.loop-side.side-index sides))
+    gains_same g.S.ViolationSink.represents rule (copied_layout c.args.self.now.snapshot.now) (λ u v. list_any (test u v) (take c.loop-side.side-index sides))
     (λ u v. sides_reach rule tiles area (map (faced direction) sides) u v direction) c.args.sink.now c.loop-side.sink
     (λ u v. ap (λ (xs : List Side). list_any (test u v) xs) (take_all c.loop-side.side-index sides (omega (arith, c.loop-side-test.false)))
     ∙ list_any-mapped (reaches_from rule tiles area direction u v) (faced direction) sides)
@@ -37,8 +36,8 @@ returns g c =
 
 pub scan_side-requires-clause-side : goal.scan_side-requires-clause-side
 scan_side-requires-clause-side g c =
-    let direction = c.args.direction in
-    let plane = plane_of c.args.snapshot.now c.args.rule.now.trigger_plane in
-    let picture = copied_layout c.args.snapshot.now c.args.rule.now.trigger_plane in
+    let direction = c.args.self.now.direction in
+    let plane = plane_of c.args.self.now.snapshot.now c.args.self.now.rule.now.trigger_plane in
+    let picture = copied_layout c.args.self.now.snapshot.now c.args.self.now.rule.now.trigger_plane in
     listed-IsSide (axis direction) outer picture plane.tiles c.args.sides.now c.loop-side.side-index _ c.side-item.result c.requires.sides
     (omega (arith, c.loop-side-test.true)) c.side-item.is
