@@ -4,6 +4,7 @@ use Rattle.std.specs.List.{list_any, sum_by}
 use Rattle.std.proofs.lemmas.Bool.{and_from, cases_Bool, or_left, or_right}
 use Rattle.std.proofs.lemmas.List.Folds.{list_any-from_Any}
 use Rattle.mls_geom.specs.Rects.{Rect, IsRectangleIn, common, holds, size_of}
+use Rattle.mls_geom.proofs.InnerRects.{IsRectangleIn-itself}
 use Rattle.mls_tilepool.specs.Pools.{Pool, tiles_of}
 use Rattle.mls_stitch.specs.Areas.{MeetArea}
 use Rattle.mls_stitch.specs.Tilings.{HasPlane, block_at}
@@ -40,14 +41,6 @@ pub marked_count-total :
 unfolding marked_count
 marked_count-total pool owner area r tiles listed count plane are same legal counted whole =
     let space : ℕ → ℕ → Bool = λ x y. list_any (λ t. in_space t x y) tiles in
-    let within : IsRectangleIn r r = record {
-      left_in = omega arith;
-      wide = legal.wide;
-      right_in = omega arith;
-      bottom_in = omega arith;
-      tall = legal.tall;
-      top_in = omega arith;
-    } in
     let covered : (x y : ℕ) → holds r x y ≡ true → (in_tiles tiles x y || space x y) ≡ true = λ x y inside.
     (let (k, t, at, is, held) = are.whole x y (holds_inside area r x y legal inside) in
     elim (cases_Bool (t.piece.kind == 0)) [
@@ -60,5 +53,5 @@ marked_count-total pool owner area r tiles listed count plane are same legal cou
     let total : sum_by (marked_part r) tiles + sum_by (space_size r) tiles ≡ size_of r =
     subst (λ (list : List LaidTile). sum_by (marked_part r) list + sum_by (space_size r) list ≡ size_of r) same
     (subst (λ n. n + sum_by (space_size r) listed ≡ size_of r) counted whole) in
-    let exact = exactly _ _ _ _ _ (marked-le r tiles) (space-le r tiles) total (whole-from-both r (in_tiles tiles) space within covered) in
+    let exact = exactly _ _ _ _ _ (marked-le r tiles) (space-le r tiles) total (whole-from-both r (in_tiles tiles) space (IsRectangleIn-itself area r legal) covered) in
     counted ∙ ap sums same ∙ sym exact ∙ sym shown

@@ -14,7 +14,6 @@ pub mod FinishedFindings
 pub mod FoundCounts
 pub mod FoundTotals
 pub mod KeptLists
-pub mod KeptRooms
 pub mod MarkCounts
 pub mod NextStretches
 pub mod PaintedAreas

@@ -25,6 +25,11 @@ with_rest-area :
 with_rest-area e from rest others is left =
     sym (ap (λ r. option_to_list r ++ others) left ∙ listed e (has_squares e) others ∙ ap (λ (r : Rect). with_area r others) is)
 
+-- rectangles that are one have the same sides
+pub same_sides : (e f : Rect) → e ≡ f → (e.left ≡ f.left) × (e.bottom ≡ f.bottom) × (e.right ≡ f.right) × (e.top ≡ f.top)
+same_sides e f same =
+    (ap (λ (r : Rect). r.left) same, ap (λ (r : Rect). r.bottom) same, ap (λ (r : Rect). r.right) same, ap (λ (r : Rect). r.top) same)
+
 -- pieces of the only row
 pub row-IsNext :
     (area rect from : Rect) (others : List Rect) (rest : Option Rect) (pieces count right : ℕ) → IsRectangleIn world area → area.top ≤ area.bottom + piece_side
@@ -33,10 +38,7 @@ pub row-IsNext :
     → rest ≡ (if has_squares from then Some from else None) → count ≡ pieces → 0 < pieces → (0 < count) × DropsAll rect count (area ∷ others) (option_to_list rest ++ others)
 row-IsNext area rect from others rest pieces count right legal low fits to is is_from left is_count some =
     let same : right ≡ min area.right (area.left + piece_side * pieces) = omega (arith, to) in
-    let lefts = ap (λ (e : Rect). e.left) is in
-    let bottoms = ap (λ (e : Rect). e.bottom) is in
-    let rights = ap (λ (e : Rect). e.right) is in
-    let tops = ap (λ (e : Rect). e.top) is in
+    let (lefts, bottoms, rights, tops) = same_sides _ _ is in
     let here = with_rest-area from (from_column area (min area.right (area.left + piece_side * pieces))) rest others (is_from ∙ ap (from_column area) same) left in
     subst (λ n. (0 < n) × DropsAll rect n (area ∷ others) (option_to_list rest ++ others)) (sym is_count) (
       some,
@@ -53,10 +55,7 @@ pub rows-IsNext :
     → (0 < count) × DropsAll rect count (area ∷ others) (option_to_list rest ++ others)
 rows-IsNext area rect from others rest columns rows count top legal enough fits fit to is is_from left is_count some some' =
     let same : top ≡ min area.top (area.bottom + piece_side * rows) = omega (arith, to) in
-    let lefts = ap (λ (e : Rect). e.left) is in
-    let bottoms = ap (λ (e : Rect). e.bottom) is in
-    let rights = ap (λ (e : Rect). e.right) is in
-    let tops = ap (λ (e : Rect). e.top) is in
+    let (lefts, bottoms, rights, tops) = same_sides _ _ is in
     let here = with_rest-area from (from_row area (min area.top (area.bottom + piece_side * rows))) rest others (is_from ∙ ap (from_row area) same) left in
     subst (λ n. (0 < n) × DropsAll rect n (area ∷ others) (option_to_list rest ++ others)) (sym is_count) (
       one-le-mul some some',

@@ -6,6 +6,7 @@ use Rattle.mls_geom.specs.Rects.{Rect, IsRectangleIn, common, has_squares, holds
 use Rattle.mls_geom.specs.World.{world}
 use Rattle.mls_geom.specs.declared.piece.Piece.{Piece}
 use Rattle.mls_geom.proofs.Holds.{has_squares_lines}
+use Rattle.mls_geom.proofs.InnerRects.{IsRectangleIn-itself}
 use Rattle.mls_errorplane.specs.PaintedMarks.{Paints}
 use Rattle.mls_errorplane.proofs.CoveredOnce.{in_common, not_common}
 use Rattle.mls_errorplane.proofs.PaintedPieces.{Paints-agree, Paints-push}
@@ -33,17 +34,9 @@ pub Paints-common :
     → new ≡ pieces ++ record { rect = r; kind = 1 } ∷ [] → Paints pieces part set → Paints new part (λ x y. set x y || holds area x y)
 Paints-common pieces new part area r set legal some same pushed paints =
     let e = common area part in
-    let whole : IsRectangleIn part part = record {
-      left_in = omega arith;
-      wide = legal.wide;
-      right_in = omega arith;
-      bottom_in = omega arith;
-      tall = legal.tall;
-      top_in = omega arith;
-    } in
     let made =
     Paints-agree (pieces ++ record { rect = e; kind = 1 } ∷ []) part (λ x y. set x y || holds e x y) (λ x y. set x y || holds area x y)
-    (λ x y inside. ap (λ b. set x y || b) (sym (in_common part area x y inside))) (Paints-push pieces part e set (common_in part part area whole some) paints) in
+    (λ x y inside. ap (λ b. set x y || b) (sym (in_common part area x y inside))) (Paints-push pieces part e set (common_in part part area (IsRectangleIn-itself world part legal) some) paints) in
     let list : pieces ++ record { rect = e; kind = 1 } ∷ [] ≡ new = ap (λ (e : Rect). pieces ++ record { rect = e; kind = 1 } ∷ []) (sym same) ∙ sym pushed in
     subst (λ (xs : List Piece). Paints xs part (λ x y. set x y || holds area x y)) list made
 

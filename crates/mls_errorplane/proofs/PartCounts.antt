@@ -1,11 +1,8 @@
 -- The strips of an extent's rows from one on are no more than the whole extent's strips that have a square there.
-use Rattle.std.proofs.Common.{◌≡◌, ◌≢◌, ℕ, ◌<◌, ◌≤◌, max, Bool, ◌&&◌, ◌==◌, not, true, inl, inr, List, map, length, get_or, All, AllPairs, Any, Contains, Decides, sym, ap, subst, subst₂, ◌∙◌, arith}
-use Rattle.std.specs.Cmp.{IsEquivalence}
-use Rattle.std.proofs.lemmas.Bool.{and_from, and_parts, cases_lt, eq-eqb, eqb-true}
-use Rattle.std.proofs.lemmas.Bool.Decides.{nat_tests}
+use Rattle.std.proofs.Common.{◌≡◌, ℕ, ◌<◌, ◌≤◌, max, not, true, inl, inr, List, map, length, get_or, All, Any, Contains, sym, ap, subst, subst₂, ◌∙◌, arith}
+use Rattle.std.proofs.lemmas.Bool.{and_parts, cases_lt}
 use Rattle.std.proofs.lemmas.List.{get_or-map, length-map}
 use Rattle.std.proofs.lemmas.List.Elements.{All-contains, All-map}
-use Rattle.std.proofs.lemmas.Map.Made.{IsDistinct-from_AllPairs, is_member-Decides, length-le_from_is_member}
 use Rattle.mls_geom.specs.Pictures.{Picture}
 use Rattle.mls_geom.specs.Rects.{Rect, holds}
 use Rattle.mls_geom.specs.Strips.{IsStrip}
@@ -17,7 +14,7 @@ use Rattle.mls_geom.proofs.Corners.{corner-IsStrip}
 use Rattle.mls_geom.proofs.Holds.{between_holds, holds_between}
 use Rattle.mls_geom.proofs.RunTests.{left-starts_run}
 use Rattle.mls_geom.proofs.StripLaws.{All-corners, corners, corners_ascend, length-corners}
-use Rattle.mls_geom.proofs.UnorderedStrips.{once_from_order, unordered_strips_number}
+use Rattle.mls_geom.proofs.UnorderedStrips.{once_from_order, squares-le, unordered_strips_number}
 use Rattle.mls_tilepool.specs.Pools.{Pool, tiles_of}
 use Rattle.mls_stitch.specs.Areas.{MeetArea}
 use Rattle.mls_stitch.specs.Tilings.{block_at, blocks_of}
@@ -25,34 +22,6 @@ use Rattle.mls_stitch.specs.declared.laid_tile.LaidTile.{LaidTile}
 use Rattle.mls_stitch.proofs.MaximalTiles.{strip-IsMaximal}
 use Rattle.mls_paint.specs.Planes.{HasStrips, picture_in}
 use Rattle.mls_errorplane.proofs.StairCorners.{from_row, is_corner-from_row}
-
--- ---- lists of squares
--- the squares are one
-abbrev is_square : ℕ × ℕ → ℕ × ℕ → Bool
-is_square s t = s.0 == t.0 && s.1 == t.1
-
-is_square-decides : (s t : ℕ × ℕ) → Decides (is_square s t) (s ≡ t)
-is_square-decides s t = (
-  λ same.
-      let tests = and_parts (s.0 == t.0) (s.1 == t.1) same in
-      let columns = eqb-true s.0 t.0 tests.0 in
-      let rows = eqb-true s.1 t.1 tests.1 in
-      λ i. (columns i, rows i),
-  λ same. and_from (s.0 == t.0) (s.1 == t.1) (eq-eqb s.0 t.0 (ap (λ p. p.0) same)) (eq-eqb s.1 t.1 (ap (λ p. p.1) same)),
-)
-
-is_square-laws : IsEquivalence is_square
-is_square-laws = record {
-  refl = λ s. grind (arith, nat_tests);
-  symm = λ s t. grind (arith, nat_tests);
-  congr = λ s t u same. grind (arith, nat_tests);
-}
-
--- different squares of a list are at most as many as all of it
-squares-le : (xs ys : List (ℕ × ℕ)) → AllPairs (λ s t. s ≢ t) xs → All (Contains ys) xs → length xs ≤ length ys
-squares-le xs ys once there =
-    length-le_from_is_member is_square-laws xs ys (IsDistinct-from_AllPairs is_square-decides xs once)
-    (λ s held. (is_member-Decides is_square-decides ys s).1 (All-contains (Contains ys) xs s there ((is_member-Decides is_square-decides xs s).0 held)))
 
 -- ---- strips
 -- the lower-left square of a piece's part in the rows from one on

@@ -1,35 +1,31 @@
 -- Check steps one after another: what they keep, and that they come to an end.
-use Rattle.std.proofs.Common.{◌≡◌, ◌≢◌, ℕ, zero, suc, ◌+◌, ◌*◌, ◌^◌, ◌<◌, ◌≤◌, List, [], ◌∷◌, get_or, All, None, refl, sym, ap, subst, arith, add-one}
+use Rattle.std.proofs.Common.{◌≡◌, ◌≢◌, ℕ, zero, suc, ◌+◌, ◌*◌, ◌^◌, ◌<◌, ◌≤◌, List, [], ◌∷◌, length, get_or, Option, None, IfSome, refl, sym, ap, subst, ◌∙◌, arith}
 use Rattle.mls_edgerule.specs.declared.edge_rule.EdgeRule.{EdgeRule}
 use Rattle.mls_geom.specs.Layouts.{Layout}
 use Rattle.mls_geom.specs.Rects.{Rect}
 use Rattle.mls_tilepool.specs.Pools.{Pool}
-use Rattle.mls_stitch.specs.Tilings.{ChangesOnly, HasPlane, shown}
+use Rattle.mls_stitch.specs.Tilings.{ChangesOnly, shown}
+use Rattle.mls_stitch.proofs.Laying.{room_of-ChangesOnly}
 use Rattle.mls_stitch.proofs.OtherPlanes.{HasPlane-ChangesOnly}
 use Rattle.mls_paint.specs.Owners.{ChangesAmong}
-use Rattle.mls_paint.specs.Planes.{layout_in}
 use Rattle.mls_paint.proofs.OwnerFrames.{ChangesAmong-ChangesOnly, layout_in-kept}
 use Rattle.mls_library.specs.Libraries.{Library}
-use Rattle.mls_library.proofs.KeptCells.{IsCellApart}
-use Rattle.mls_layout.specs.Uses.{HasCells, flat_layout}
+use Rattle.mls_layout.specs.Uses.{HasLayout, flat_layout}
+use Rattle.mls_layout.specs.Workspaces.{FitsWorkspace, tile_room}
 use Rattle.mls_layout.specs.declared.uses.Uses.{Uses}
 use Rattle.mls_layout.proofs.FlatLayouts.{HasCells-ChangesAmong, flat_layout-ChangesAmong}
 use Rattle.mls_errorplane.specs.CatchingUp.{AfterSteps, HasCaughtUp, Steps}
 use Rattle.mls_errorplane.specs.Checkings.{Checking, IsChecked}
 use Rattle.mls_errorplane.specs.DirtyLists.{IsDirtyList, area_of, dropped, first_piece_of}
-use Rattle.mls_errorplane.specs.ErrorPlanes.{HasStepped}
+use Rattle.mls_errorplane.specs.ErrorPlanes.{HasStepped, StandsApart, UnlessDone}
+use Rattle.mls_errorplane.specs.declared.catching_up.CaughtUp.{CaughtUp}
 use Rattle.mls_errorplane.specs.declared.catching_up.CaughtUp.TheVariants as caught_up
+use Rattle.mls_errorplane.specs.declared.error_plane.Stepped.{Stepped}
 use Rattle.mls_errorplane.specs.declared.error_plane.Stepped.TheVariants as stepped
 use Rattle.mls_errorplane.proofs.AreaSizes.{area_of-dropped-less}
 use Rattle.mls_errorplane.proofs.CheckedSquares.{step-IsChecked}
 
 -- ---- states
--- one step more
-pub Steps-more :
-    (rules : List EdgeRule) (layout : Layout) (limit count : ℕ) (old mid new : Checking) → Steps rules layout limit count old mid
-    → HasStepped rules layout limit mid stepped.Done new → Steps rules layout limit (count + 1) old new
-Steps-more rules layout limit count old mid new steps step = rw add-one (mid, steps, step)
-
 Steps-IsChecked :
     (rules : List EdgeRule) (layout : Layout) (limit count : ℕ) (old new : Checking) → Steps rules layout limit count old new
     → IsChecked rules layout old → IsChecked rules layout new
@@ -66,51 +62,48 @@ pub no_piece : (areas : List Rect) → first_piece_of areas ≡ None → areas �
 no_piece [] none = refl
 no_piece (first ∷ rest) none = absurd (cc)
 
--- ---- planes
--- a change of one owner's tiles leaves the planes of others, and the layout on them
-pub HasPlane-apart :
-    (old new : Pool) (owner : ℕ) (planes : List ℕ) → ChangesOnly old new owner → All (λ other. other ≢ owner) planes
-    → All (HasPlane old) planes → All (HasPlane new) planes
-HasPlane-apart old new owner planes changed apart have k d within =
-    HasPlane-ChangesOnly old new owner (get_or planes k d) changed (apart k d within) (have k d within)
-
-layout_in-apart :
-    (old new : Pool) (owner : ℕ) (planes : List ℕ) → ChangesOnly old new owner → All (λ other. other ≢ owner) planes
-    → layout_in new planes ≡ layout_in old planes
-layout_in-apart old new owner planes changed apart =
-    layout_in-kept old new planes (λ k d within. ap shown (changed.others (get_or planes k d) (apart k d within)))
-
--- the cells of a library too, under owners of their own
-module _ (old new : Pool) (owner : ℕ) (changed : ChangesOnly old new owner) (cells : Library) (apart : All (IsCellApart (owner ∷ [])) cells) where
+-- ---- where only tiles of one owner have changed
+module _ (old new : Pool) (owner : ℕ) (changed : ChangesOnly old new owner) where
   among : ChangesAmong old new (owner ∷ [])
   among = ChangesAmong-ChangesOnly old new (owner ∷ []) owner (0, omega arith, refl) changed
 
-  pub HasCells-apart : (count : ℕ) → HasCells old count cells → HasCells new count cells
-  HasCells-apart count has = HasCells-ChangesAmong old new (owner ∷ []) among count cells apart has
+  fits-kept : (other : ℕ) → FitsWorkspace old other → FitsWorkspace new other
+  fits-kept other = subst (λ (room : Option ℕ). IfSome room (λ r. r ≤ tile_room)) (sym (room_of-ChangesOnly other changed))
 
-pub flat_layout-apart :
-    (old new : Pool) (owner : ℕ) (uses : Uses) (planes : List ℕ) → ChangesOnly old new owner → All (IsCellApart (owner ∷ [])) uses.library.now
-    → All (λ other. other ≢ owner) planes → flat_layout new uses planes ≡ flat_layout old uses planes
-flat_layout-apart old new owner uses planes changed cells_apart apart =
-    flat_layout-ChangesAmong old new (owner ∷ []) (among old new owner changed uses.library.now cells_apart) uses planes cells_apart
-    (layout_in-apart old new owner planes changed apart)
+  -- a layout of others is lent on as it was
+  pub HasLayout-apart :
+      (planes back : List ℕ) (cells : Library) → StandsApart owner planes cells → back ≡ planes → HasLayout old planes cells → HasLayout new back cells
+  HasLayout-apart planes back cells apart same has = subst (λ (owners : List ℕ). HasLayout new owners cells) (sym same) (record {
+    planes = record {
+      each = λ k d within. HasPlane-ChangesOnly old new owner (get_or planes k d) changed (apart.planes k d within) (has.planes.each k d within);
+      fit = λ k d within. fits-kept (get_or planes k d) (has.planes.fit k d within);
+    };
+    cells = HasCells-ChangesAmong old new (owner ∷ []) among (length planes) cells apart.cells has.cells;
+  })
+
+  -- and shows what it showed
+  pub flat_layout-apart :
+      (uses : Uses) (planes back : List ℕ) → StandsApart owner planes uses.library.now → back ≡ planes → flat_layout new uses back ≡ flat_layout old uses planes
+  flat_layout-apart uses planes back apart same =
+      ap (flat_layout new uses) same
+      ∙ flat_layout-ChangesAmong old new (owner ∷ []) among uses planes apart.cells
+      (layout_in-kept old new planes (λ k d within. ap shown (changed.others (get_or planes k d) (apart.planes k d within))))
 
 -- ---- how catching up ends
--- after the steps so far no area is left, or the next step isn't done
-pub HasCaughtUp-Idle :
-    (rules : List EdgeRule) (layout : Layout) (limit count : ℕ) (old mid new : Checking) → Steps rules layout limit count old mid
-    → HasStepped rules layout limit mid stepped.Idle new → HasCaughtUp rules layout limit old caught_up.Done new
-HasCaughtUp-Idle rules layout limit count old mid new steps (none, same) =
-    subst (λ (now : Checking). HasCaughtUp rules layout limit old caught_up.Done now) (sym same) ((count, steps), none)
+-- with a step that isn't done, after this many that were
+abbrev pub ended : ℕ → Stepped → CaughtUp
+ended count stepped.Idle = caught_up.Done
+ended count stepped.Done = caught_up.Done
+ended count stepped.Full = caught_up.Full
+ended count stepped.Memory = caught_up.Memory count
 
-pub HasCaughtUp-Full :
-    (rules : List EdgeRule) (layout : Layout) (limit count : ℕ) (old mid new : Checking) → Steps rules layout limit count old mid
-    → HasStepped rules layout limit mid stepped.Full new → HasCaughtUp rules layout limit old caught_up.Full new
-HasCaughtUp-Full rules layout limit count old mid new steps (some, more, same) =
-    subst (λ (now : Checking). HasCaughtUp rules layout limit old caught_up.Full now) (sym same) ((count, steps), some, more)
+module _ (rules : List EdgeRule) (layout : Layout) (limit count : ℕ) (old mid new : Checking) (steps : Steps rules layout limit count old mid) where
+  -- what is known after the steps stays known, where the next one changes nothing
+  stays : (caught : CaughtUp) → new ≡ mid → HasCaughtUp rules layout limit old caught mid → HasCaughtUp rules layout limit old caught new
+  stays caught same = subst (HasCaughtUp rules layout limit old caught) (sym same)
 
-pub HasCaughtUp-Memory :
-    (rules : List EdgeRule) (layout : Layout) (limit count : ℕ) (old mid new : Checking) → Steps rules layout limit count old mid
-    → HasStepped rules layout limit mid stepped.Memory new → HasCaughtUp rules layout limit old (caught_up.Memory count) new
-HasCaughtUp-Memory rules layout limit count old mid new steps (some, same) =
-    subst (λ (now : Checking). HasCaughtUp rules layout limit old (caught_up.Memory count) now) (sym same) (steps, some)
+  pub HasCaughtUp-ended : (how : Stepped) → HasStepped rules layout limit mid how new → UnlessDone how (HasCaughtUp rules layout limit old (ended count how) new)
+  HasCaughtUp-ended stepped.Idle (none, same) = stays caught_up.Done same ((count, steps), none)
+  HasCaughtUp-ended stepped.Done step = tt
+  HasCaughtUp-ended stepped.Full (some, more, same) = stays caught_up.Full same ((count, steps), some, more)
+  HasCaughtUp-ended stepped.Memory (some, same) = stays (caught_up.Memory count) same (steps, some)

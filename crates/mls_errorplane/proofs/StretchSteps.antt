@@ -2,7 +2,7 @@
 use Rattle.std.proofs.Common.{◌≡◌, ◌≢◌, ℕ, zero, suc, ◌+◌, ◌<◌, ◌≤◌, not, ◌==◌, true, false, inl, inr, List, [], ◌∷◌, Option, None, Some, IfSome, sym, ap, subst, ◌∙◌, arith, add-suc, add-zero}
 use Rattle.std.specs.Option.{IsSomeAnd}
 use Rattle.std.proofs.Math.Path.{fun_ext}
-use Rattle.std.proofs.lemmas.Bool.{cases_Bool, cases_lt, cond-false, cond-true}
+use Rattle.std.proofs.lemmas.Bool.{cases_Bool, cond-false, cond-true}
 use Rattle.mls_edgerule.specs.declared.edge_rule.EdgeRule.{EdgeRule}
 use Rattle.mls_geom.specs.Layouts.{Layout}
 use Rattle.mls_geom.specs.Pictures.{Picture}
@@ -93,11 +93,7 @@ DropsIn-Steps rules layout limit (suc count) rect marks old new (mid, drops, ins
   HasStepped-right rules layout limit rect marks mid new inside is right fits,
 )
 
--- a step that is done leaves marks that are few enough, and right in its piece
-pub Done-fits :
-    (rules : List EdgeRule) (layout : Layout) (limit : ℕ) (old new : Checking) → HasStepped rules layout limit old stepped.Done new → exceeds limit new.marks ≡ false
-Done-fits rules layout limit old new step = ap (λ (checking : Checking). exceeds limit checking.marks) step.2 ∙ step.1
-
+-- a step that is done leaves marks that are right in its piece
 pub Done-AreRight :
     (rules : List EdgeRule) (layout : Layout) (old new : Checking) (piece : Rect) → new ≡ check_step rules layout old → Some piece ≡ first_piece_of old.dirty
     → AreRight rules layout new.marks piece
@@ -108,29 +104,12 @@ Done-AreRight rules layout old new piece is first x y here =
 -- steps so far, one more, and those of a stretch
 pub Steps-stretch :
     (rules : List EdgeRule) (layout : Layout) (limit count more : ℕ) (old mid new last : Checking) → Steps rules layout limit count old mid
-    → HasStepped rules layout limit mid stepped.Done new → (exceeds limit new.marks ≡ false → Steps rules layout limit more new last)
+    → HasStepped rules layout limit mid stepped.Done new → Steps rules layout limit more new last
     → Steps rules layout limit (count + (1 + more)) old last
 Steps-stretch rules layout limit count more old mid new last steps step later =
     let counts : suc count + more ≡ count + (1 + more) = omega arith in
     subst (λ n. Steps rules layout limit n old last) counts
-    (Steps-then rules layout limit (suc count) more old new last (mid, steps, step) (later (Done-fits rules layout limit mid new step)))
-
--- steps so far, and those of a stretch in which the marks are right
-pub Steps-dropped :
-    (rules : List EdgeRule) (layout : Layout) (limit count more : ℕ) (rect : Rect) (old mid new : Checking) → Steps rules layout limit count old mid → mid.marks ≡ old.marks
-    → new.marks ≡ old.marks → DropsIn rect more mid.dirty new.dirty → AreRight rules layout old.marks rect → exceeds limit old.marks ≡ false
-    → Steps rules layout limit (count + more) old new
-Steps-dropped rules layout limit count more rect old mid new steps same same' drops right fits =
-    Steps-then rules layout limit count more old mid new steps
-    (subst (λ (m : SquareSet). Steps rules layout limit more (checking_with m mid.dirty) new) (sym same)
-    (subst (λ (m : SquareSet). Steps rules layout limit more (checking_with old.marks mid.dirty) (checking_with m new.dirty)) (sym same')
-    (DropsIn-Steps rules layout limit more rect old.marks mid.dirty new.dirty drops right fits)))
-
-pub AreRight-same :
-    (rules : List EdgeRule) (layout other : Layout) (marks set : SquareSet) (rect : Rect) → layout ≡ other → marks ≡ set → AreRight rules layout marks rect
-    → AreRight rules other set rect
-AreRight-same rules layout other marks set rect same_layout same right =
-    subst (λ (l : Layout). AreRight rules l set rect) same_layout (subst (λ (m : SquareSet). AreRight rules layout m rect) same right)
+    (Steps-then rules layout limit (suc count) more old new last (mid, steps, step) later)
 
 -- ---- lists
 pub DropsIn-kept : (rect : Rect) (count : ℕ) (old new : List Rect) → DropsIn rect count old new → IsDirtyList old → IsDirtyList new
@@ -179,17 +158,6 @@ pub AreRight-within :
     → AreRight rules layout marks rect
 AreRight-within rules layout marks outer rect within right x y here = right x y (holds-IsWithin outer rect x y within here)
 
--- and where they are right in two rectangles of the same columns, of which one begins where the other ends, they are right in both together
-pub AreRight-above :
-    (rules : List EdgeRule) (layout : Layout) (marks : SquareSet) (block row : Rect) → row.left ≡ block.left → row.right ≡ block.right → row.bottom ≡ block.top
-    → AreRight rules layout marks block → AreRight rules layout marks row → AreRight rules layout marks (joined block row)
-AreRight-above rules layout marks block row left right bottom are are' x y here =
-    let lines = holds_between (joined block row) x y here in
-    elim (cases_lt y block.top) [
-      | inl below ↦ are x y (between_holds block x y (omega (arith, left, lines.0)) (omega (arith, right, lines.1)) (omega (arith, bottom, below, lines.2)) below)
-      | inr above ↦ are' x y (between_holds row x y (omega (arith, left, lines.0)) (omega (arith, right, lines.1)) (omega (arith, bottom, above)) (omega (arith, bottom, above, lines.3)))
-    ]
-
 -- marks that are right in some pieces stay so in a step that is done, and in its piece they are
 Done-keeps :
     (rules : List EdgeRule) (layout : Layout) (old new : Checking) (rect : Rect) → new ≡ check_step rules layout old → AreRight rules layout old.marks rect
@@ -217,15 +185,6 @@ Finished-AreRightIn rules planes layout limit old new finding Finished checked a
     then (Done-AreRightIn rules layout old new checked is right) (Done-AreRight rules layout old new finding.piece is (sym fresh.piece))
 Finished-AreRightIn rules planes layout limit old new finding Stale checked after same other right then = absurd (cc other)
 Finished-AreRightIn rules planes layout limit old new finding Full checked after same other right then = absurd (cc other)
-
-pub AreRightIn-same :
-    (rules : List EdgeRule) (layout other : Layout) (marks set : SquareSet) (checked : Checked) → layout ≡ other → marks ≡ set → AreRightIn rules layout marks checked
-    → AreRightIn rules other set checked
-AreRightIn-same rules layout other marks set checked same_layout same right = (
-  AreRight-same rules layout other marks set checked.last same_layout same right.0,
-  AreRight-same rules layout other marks set checked.row same_layout same right.1,
-  AreRight-same rules layout other marks set checked.block same_layout same right.2,
-)
 
 -- ---- a plane
 -- a plane of marks whose pool, owner and count are as they were

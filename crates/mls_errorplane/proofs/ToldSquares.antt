@@ -2,12 +2,8 @@
 use Rattle.std.proofs.Common.{◌≡◌, arith}
 use Rattle.mls_geom.specs.Rects.{Rect, IsRectangleIn}
 use Rattle.mls_geom.proofs.Holds.{between_holds, holds_between}
-use Rattle.mls_layout.specs.declared.likeness.Likeness.TheVariants.{OneKind, Columns, Rows}
+use Rattle.mls_layout.specs.declared.likeness.Likeness.TheVariants.{Columns, Rows}
 use Rattle.mls_errorplane.specs.Stretches.{Tells}
-
--- for one kind each one
-pub Tells-one_kind : (extent last rect : Rect) → IsRectangleIn extent last → Tells OneKind last rect
-Tells-one_kind extent last rect legal x y here = between_holds last last.left last.bottom (omega arith) legal.wide (omega arith) legal.tall
 
 -- for columns one of the same columns
 pub Tells-columns : (extent row rect : Rect) → IsRectangleIn extent row → (rect.left ≡ row.left) × (rect.right ≡ row.right) → Tells Columns row rect

@@ -1,12 +1,15 @@
 -- A layout's error plane, and its areas that await checking.
-use Rattle.std.specs.Prelude.{◌≡◌, ◌≢◌, ℕ, Bool, nat_lt, true, false, if◌then◌else◌, List, [], ⊤}
+use Rattle.std.specs.Prelude.{◌≡◌, ◌≢◌, ℕ, ◌≤◌, Bool, nat_lt, true, false, if◌then◌else◌, List, [], ◌∷◌, IfSome, Result, Ok, Err, ⊤}
+use Rattle.std.specs.List.{All, Contains}
 use Rattle.mls_edgerule.specs.declared.edge_rule.EdgeRule.{EdgeRule}
 use Rattle.mls_geom.specs.Layouts.{Layout}
 use Rattle.mls_geom.specs.Pictures.{Picture}
 use Rattle.mls_geom.specs.Rects.{Rect}
 use Rattle.mls_geom.specs.TileCounts.{tile_count}
 use Rattle.mls_geom.specs.World.{world}
-use Rattle.mls_tilepool.specs.Pools.{Pool}
+use Rattle.mls_tilepool.specs.Pools.{Pool, room_of}
+use Rattle.mls_library.specs.Libraries.{Library}
+use Rattle.mls_layout.specs.Workspaces.{FitsWorkspace}
 use Rattle.mls_paint.specs.Planes.{HasStrips, picture_in}
 use Rattle.mls_checker.specs.Marking.{SquareSet}
 use Rattle.mls_errorplane.specs.Checkings.{Checking, check_step}
@@ -34,6 +37,17 @@ pub record ShowsMarks (pool : Pool) (errors : ErrorPlane) : Type 0 where
   pub marks : picture_in pool errors.owner ≡ marks_picture (is_marked (picture_in pool errors.owner))
   pub counted : errors.marked ≡ marked_count world (picture_in pool errors.owner)
 
+-- an error plane whose marks a call may change, with room for as many tiles as the limit has
+pub record HasMarks (pool : Pool) (limit : ℕ) (errors : ErrorPlane) : Type 0 where
+  pub marks : ShowsMarks pool errors
+  pub fits : FitsWorkspace pool errors.owner
+  pub room : IfSome (room_of pool errors.owner) (λ room. limit ≤ room)
+
+-- an owner that has none of these planes, and none of the cells' planes
+pub record StandsApart (owner : ℕ) (owners : List ℕ) (library : Library) : Type 0 where
+  pub planes : All (λ other. other ≢ owner) owners
+  pub cells : All (λ cell. All (λ other. ¬ (Contains (owner ∷ []) other)) cell.planes) library
+
 -- an error plane with these marks would have more tiles than the limit
 abbrev pub exceeds : ℕ → SquareSet → Bool
 exceeds limit marks = nat_lt limit (tile_count world (marks_picture marks))
@@ -44,6 +58,11 @@ HasStepped rules layout limit old Idle new = (old.dirty ≡ []) × (new ≡ old)
 HasStepped rules layout limit old Done new = (old.dirty ≢ []) × (exceeds limit (check_step rules layout old).marks ≡ false) × (new ≡ check_step rules layout old)
 HasStepped rules layout limit old Full new = (old.dirty ≢ []) × (exceeds limit (check_step rules layout old).marks ≡ true) × (new ≡ old)
 HasStepped rules layout limit old Memory new = (old.dirty ≢ []) × (new ≡ old)
+
+-- how a check step ends that marks the first piece: it is done, or the error plane would have too many tiles
+abbrev pub stepped_of : {T E : Type 0} → Result T E → Stepped
+stepped_of (Ok marked) = Done
+stepped_of (Err fault) = Full
 
 -- the fact, unless the step was done
 abbrev pub UnlessDone : Stepped → Type 0 → Type 0

@@ -11,7 +11,9 @@ use Rattle.mls_checker.specs.Forbids.{forbidden}
 use Rattle.mls_checker.specs.Marking.{SquareSet}
 use Rattle.mls_errorplane.specs.DirtyLists.{dropped, first_piece_of, piece_side}
 use Rattle.mls_errorplane.specs.declared.checked.Checked.{Checked}
+use Rattle.mls_errorplane.specs.ErrorPlanes.{exceeds}
 use Rattle.mls_errorplane.specs.declared.stretch.Stretch.{Stretch}
+use Rattle.mls_errorplane.specs.declared.stretches.Trial.{Trial}
 
 -- the list without its next pieces, this many of them and all in the rectangle, is the other list
 abbrev pub DropsIn : Rect → ℕ → List Rect → List Rect → Type 0
@@ -68,3 +70,8 @@ AreRight rules layout marks rect = (x y : ℕ) → holds rect x y ≡ true → m
 -- they are so in all three rectangles
 abbrev pub AreRightIn : List EdgeRule → Layout → SquareSet → Checked → Type 0
 AreRightIn rules layout marks checked = AreRight rules layout marks checked.last × AreRight rules layout marks checked.row × AreRight rules layout marks checked.block
+
+-- the marks are within the limit that a stretch is tried with, and right in the pieces that were checked last
+pub record AreSound (rules : List EdgeRule) (layout : Layout) (trial : Trial) (marks : SquareSet) : Type 0 where
+  pub fits : exceeds trial.limit marks ≡ false
+  pub right : AreRightIn rules layout marks trial.checked

@@ -5,13 +5,12 @@ ghost use Rattle.mls_geom.specs.Pictures.{overlaid};
 ghost use Rattle.mls_geom.specs.Rects.{IsRectangleIn};
 ghost use Rattle.mls_geom.specs.TileCounts.{tile_count};
 ghost use Rattle.mls_geom.specs.World.{world};
-ghost use Rattle.mls_layout.specs.Workspaces.{FitsWorkspace};
 ghost use Rattle.mls_paint.specs.Planes.{HasStrips, picture_in};
 ghost use Rattle.mls_paint.specs.Scratches.{HasRoomFor, KeepsRoom};
 ghost use Rattle.mls_stitch.specs.Tilings.{ChangesOnly, HasPlane};
 ghost use Rattle.mls_tilepool.specs.Pools.{room_of};
 ghost use Rattle.mls_errorplane.specs.DirtyLists.{piece_side};
-ghost use Rattle.mls_errorplane.specs.ErrorPlanes.{ShowsMarks, checking_of, marks_picture};
+ghost use Rattle.mls_errorplane.specs.ErrorPlanes.{HasMarks, ShowsMarks, checking_of, marks_picture};
 ghost use Rattle.mls_errorplane.specs.MarkPlanes.{is_marked, marked_count};
 ghost use Rattle.mls_errorplane.specs.PaintedMarks.{Paints};
 ghost use Rattle.mls_errorplane.specs.Carrying as spec;
@@ -43,9 +42,7 @@ impl ErrorPlane {
         limit: u32,
         workspace: &mut Workspace,
     ) -> bool
-        requires marks { ShowsMarks workspace.old.pool self.old }
-        requires marks_fit { FitsWorkspace workspace.old.pool self.old.owner }
-        requires limit { IfSome (room_of workspace.old.pool self.old.owner) (λ room. limit ≤ room) }
+        requires marks { HasMarks workspace.old.pool limit self.old }
         ensures carried { IsTrue result → AreCarried source.likeness source.rect rect
             (checking_of workspace.old.pool self.old).marks (checking_of workspace.new.pool self.new).marks }
         ensures few { IsTrue result → AreFew limit rect (checking_of workspace.old.pool self.old).marks

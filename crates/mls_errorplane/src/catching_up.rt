@@ -1,12 +1,9 @@
 //! Checking all areas of a layout that await it.
-ghost use Rattle.std.specs.Prelude.{◌≡◌, ◌≢◌, ◌≤◌, [], ◌∷◌, IfSome, length};
-ghost use Rattle.std.specs.List.{All, Contains};
-ghost use Rattle.mls_layout.specs.Uses.{HasCells, flat_layout};
-ghost use Rattle.mls_layout.specs.Workspaces.{FitsWorkspace};
-ghost use Rattle.mls_stitch.specs.Tilings.{ChangesOnly, HasPlane};
-ghost use Rattle.mls_tilepool.specs.Pools.{room_of};
+ghost use Rattle.std.specs.Prelude.{◌≡◌};
+ghost use Rattle.mls_layout.specs.Uses.{HasLayout, flat_layout};
+ghost use Rattle.mls_stitch.specs.Tilings.{ChangesOnly};
 ghost use Rattle.mls_errorplane.specs.CatchingUp.{HasCaughtUp};
-ghost use Rattle.mls_errorplane.specs.ErrorPlanes.{ShowsMarks, checking_of};
+ghost use Rattle.mls_errorplane.specs.ErrorPlanes.{HasMarks, ShowsMarks, StandsApart, checking_of};
 
 use crate::checked::Checked;
 use crate::{Basis, ErrorPlane, Stepped};
@@ -43,15 +40,9 @@ impl ErrorPlane {
         limit: u32,
         workspace: &mut Workspace,
     ) -> CaughtUp
-        requires planes { All (HasPlane workspace.old.pool) planes.old }
-        requires planes_fit { All (FitsWorkspace workspace.old.pool) planes.old }
-        requires apart { All (λ owner. owner ≢ self.old.owner) planes.old }
-        requires cells { HasCells workspace.old.pool (length planes.old) basis.now.uses.library.now }
-        requires cells_apart { All (λ cell. All (λ owner. ¬ (Contains (self.old.owner ∷ []) owner)) cell.planes)
-            basis.now.uses.library.now }
-        requires marks { ShowsMarks workspace.old.pool self.old }
-        requires marks_fit { FitsWorkspace workspace.old.pool self.old.owner }
-        requires limit { IfSome (room_of workspace.old.pool self.old.owner) (λ room. limit ≤ room) }
+        requires layout { HasLayout workspace.old.pool planes.old basis.now.uses.library.now }
+        requires apart { StandsApart self.old.owner planes.old basis.now.uses.library.now }
+        requires marks { HasMarks workspace.old.pool limit self.old }
         ensures caught_up { HasCaughtUp basis.now.rules.now
             (flat_layout workspace.old.pool basis.now.uses planes.old) limit
             (checking_of workspace.old.pool self.old) result (checking_of workspace.new.pool self.new) }
@@ -66,7 +57,7 @@ impl ErrorPlane {
             match self.step(alloc, planes, basis, limit, workspace) {
                 Stepped::Done => {
                     let mut now = Checked::after(&checked, piece);
-                    let more = self.drop_alike(planes, basis, &mut now, limit, workspace);
+                    let more = self.settle(planes, basis, &mut now, limit, workspace);
                     checked = Some(now);
                     done += 1 + more;
                 }

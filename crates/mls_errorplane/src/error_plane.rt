@@ -1,29 +1,30 @@
 //! Checking a layout piece by piece, after it was edited.
-ghost use Rattle.std.specs.Prelude.{◌≡◌, ◌≤◌, ◌↔◌, ℕ, true, IfOk, IfSome, IsTrue, OnErr, OnOk, ◌+◌, ◌-◌, [], ◌∷◌, length};
-ghost use Rattle.std.specs.List.{All};
+ghost use Rattle.std.specs.Prelude.{◌≡◌, ◌≤◌, ◌↔◌, ℕ, true, IfOk, IfSome, IsTrue, OnErr, Some, List, ◌+◌, ◌-◌, [], ◌∷◌, length};
+ghost use Rattle.mls_checker.specs.Findings.{IsExact};
 ghost use Rattle.mls_checker.specs.Forbids.{forbidden};
 ghost use Rattle.mls_checker.specs.Marking.{marks, no_squares};
+ghost use Rattle.mls_edgerule.specs.declared.edge_rule.EdgeRule.{EdgeRule};
+ghost use Rattle.mls_geom.specs.Layouts.{Layout};
 ghost use Rattle.mls_geom.specs.Rects.{holds, size_of};
 ghost use Rattle.mls_geom.specs.StripLists.{strips_of};
 ghost use Rattle.mls_geom.specs.TileCounts.{tile_count};
 ghost use Rattle.mls_geom.specs.World.{world};
-ghost use Rattle.mls_layout.specs.Uses.{HasCells, flat_layout};
+ghost use Rattle.mls_layout.specs.Uses.{HasLayout, flat_layout};
 ghost use Rattle.mls_layout.specs.Workspaces.{FitsWorkspace};
 ghost use Rattle.mls_paint.specs.Owners.{RemovesOwners};
-ghost use Rattle.mls_paint.specs.Planes.{AddsOwner, HasStrips, picture_in};
-ghost use Rattle.mls_paint.specs.Scratches.{HasRoomFor, KeepsRoom};
-ghost use Rattle.mls_stitch.specs.Tilings.{ChangesOnly, HasPlane};
+ghost use Rattle.mls_paint.specs.Planes.{AddsOwner};
+ghost use Rattle.mls_stitch.specs.Tilings.{ChangesOnly};
 ghost use Rattle.mls_tilepool.specs.Pools.{IsOwner, Pool, room_of, unreserved};
 ghost use Rattle.mls_errorplane.specs.Checkings.{soiled};
-ghost use Rattle.mls_errorplane.specs.DirtyLists.{IsDirtyList};
-ghost use Rattle.mls_errorplane.specs.MarkPlanes.{marked_count, most_pieces};
+ghost use Rattle.mls_errorplane.specs.DirtyLists.{IsDirtyList, first_piece_of};
+ghost use Rattle.mls_errorplane.specs.MarkPlanes.{most_pieces};
 
 use crate::{Basis, Dirty, Recount, mark};
 use mls_checker::{Finding, Snapshot, check};
 use mls_edgerule::Rules;
 use mls_geom::Rect;
 use mls_layout::{MARK_ROOM, Workspace};
-use mls_paint::{Scratch, release_plane, space_plane, tile_count};
+use mls_paint::{TooManyTiles, release_plane, space_plane, tile_count};
 use mls_stitch::Plane;
 use mls_tilepool::Pool;
 use std::alloc::{AllocError, Global};
@@ -71,8 +72,9 @@ impl Model for ErrorPlane {
 }
 
 impl ErrorPlane {
-    ghost use Rattle.mls_errorplane.specs.ErrorPlanes.{HasStepped, ShowsMarks, UnlessDone, checking_of, marks_picture};
+    ghost use Rattle.mls_errorplane.specs.ErrorPlanes.{HasMarks, HasStepped, ShowsMarks, UnlessDone, checking_of, marks_picture, stepped_of};
     ghost use Rattle.mls_errorplane.specs.Outcomes.{HasFinished, IsFresh, UnlessFinished};
+    ghost use Rattle.mls_errorplane.specs.Stretches.{AreRight};
 
     /// Creates an error plane without marks, which reserves this many tiles of the pool, with these areas.
     ///
@@ -116,12 +118,8 @@ impl ErrorPlane {
         limit: u32,
         workspace: &mut Workspace,
     ) -> Stepped
-        requires planes { All (HasPlane workspace.old.pool) planes.old }
-        requires planes_fit { All (FitsWorkspace workspace.old.pool) planes.old }
-        requires cells { HasCells workspace.old.pool (length planes.old) basis.now.uses.library.now }
-        requires marks { ShowsMarks workspace.old.pool self.old }
-        requires marks_fit { FitsWorkspace workspace.old.pool self.old.owner }
-        requires limit { IfSome (room_of workspace.old.pool self.old.owner) (λ room. limit ≤ room) }
+        requires layout { HasLayout workspace.old.pool planes.old basis.now.uses.library.now }
+        requires marks { HasMarks workspace.old.pool limit self.old }
         ensures stepped { HasStepped basis.now.rules.now
             (flat_layout workspace.old.pool basis.now.uses planes.old) limit
             (checking_of workspace.old.pool self.old) result (checking_of workspace.new.pool self.new) }
@@ -137,18 +135,10 @@ impl ErrorPlane {
         let Ok(finding) = check_piece(alloc, planes, basis, piece, workspace) else {
             return Stepped::Memory;
         };
-        let Workspace {
-            pool,
-            scratch,
-            pieces,
-            ..
-        } = workspace;
-        let Ok(recount) = mark(pool, &mut self.plane, &finding, limit, pieces, scratch) else {
-            return Stepped::Full;
-        };
-        self.marked = recounted(self.marked, recount);
-        self.dirty.drop_piece();
-        Stepped::Done
+        match self.mark_first(&finding, limit, workspace) {
+            Ok(()) => Stepped::Done,
+            Err(TooManyTiles) => Stepped::Full,
+        }
     }
 
     /// Marks a finding that was made outside, and takes its piece out of the areas.
@@ -166,12 +156,8 @@ impl ErrorPlane {
         limit: u32,
         workspace: &mut Workspace,
     ) -> Outcome
-        requires planes { All (HasPlane workspace.old.pool) planes.old }
-        requires planes_fit { All (FitsWorkspace workspace.old.pool) planes.old }
-        requires cells { HasCells workspace.old.pool (length planes.old) basis.now.uses.library.now }
-        requires marks { ShowsMarks workspace.old.pool self.old }
-        requires marks_fit { FitsWorkspace workspace.old.pool self.old.owner }
-        requires limit { IfSome (room_of workspace.old.pool self.old.owner) (λ room. limit ≤ room) }
+        requires layout { HasLayout workspace.old.pool planes.old basis.now.uses.library.now }
+        requires marks { HasMarks workspace.old.pool limit self.old }
         ensures finished { HasFinished basis.now.rules.now (length planes.old)
             (flat_layout workspace.old.pool basis.now.uses planes.old) limit
             (checking_of workspace.old.pool self.old) finding.now result (checking_of workspace.new.pool self.new) }
@@ -184,18 +170,44 @@ impl ErrorPlane {
         if !self.is_fresh(planes, basis, finding, workspace) {
             return Outcome::Stale;
         }
+        match self.mark_first(finding, limit, workspace) {
+            Ok(()) => Outcome::Finished,
+            Err(TooManyTiles) => Outcome::Full,
+        }
+    }
+
+    /// Marks a finding of the first piece, and takes that out of the areas.
+    ///
+    /// Fails if the error plane would then have more than `limit` tiles, and changes nothing.
+    fn mark_first(
+        &mut self,
+        finding: &Finding,
+        limit: u32,
+        workspace: &mut Workspace,
+    ) -> Result<(), TooManyTiles>
+        requires marks { HasMarks workspace.old.pool limit self.old }
+        requires few { most_pieces finding.now.piece ≤ MARK_ROOM }
+        ensures exact { IsExact finding.now.piece finding.now.snapshot finding.now.rules finding.now.marks }
+        ensures stepped { (rules : List EdgeRule) (layout : Layout)
+            → first_piece_of self.old.dirty ≡ Some finding.now.piece
+            → AreRight rules layout (marks finding.now.marks) finding.now.piece
+            → HasStepped rules layout limit (checking_of workspace.old.pool self.old) (stepped_of result)
+            (checking_of workspace.new.pool self.new) }
+        ensures same { OnErr result ((self.new ≡ self.old) × (workspace.new.pool ≡ workspace.old.pool)) }
+        ensures marks { ShowsMarks workspace.new.pool self.new }
+        ensures only { ChangesOnly workspace.old.pool workspace.new.pool self.old.owner }
+        ensures owner { self.new.owner ≡ self.old.owner }
+    {
         let Workspace {
             pool,
             scratch,
             pieces,
             ..
         } = workspace;
-        let Ok(recount) = mark(pool, &mut self.plane, finding, limit, pieces, scratch) else {
-            return Outcome::Full;
-        };
+        let recount = mark(pool, &mut self.plane, finding, limit, pieces, scratch)?;
         self.marked = recounted(self.marked, recount);
         self.dirty.drop_piece();
-        Outcome::Finished
+        Ok(())
     }
 
     /// Returns whether the finding is by these rules, of the first piece, and of the layout on these planes with the
@@ -207,9 +219,7 @@ impl ErrorPlane {
         finding: &Finding,
         workspace: &mut Workspace,
     ) -> bool
-        requires planes { All (HasPlane workspace.old.pool) planes.old }
-        requires planes_fit { All (FitsWorkspace workspace.old.pool) planes.old }
-        requires cells { HasCells workspace.old.pool (length planes.old) basis.now.uses.library.now }
+        requires layout { HasLayout workspace.old.pool planes.old basis.now.uses.library.now }
         ensures fresh { IsTrue result ↔ IsFresh basis.now.rules.now (length planes.old)
             (flat_layout workspace.old.pool basis.now.uses planes.old)
             (checking_of workspace.old.pool self.now) finding.now }
@@ -295,9 +305,7 @@ fn check_piece(
     piece: Rect,
     workspace: &mut Workspace,
 ) -> Result<Finding, AllocError>
-    requires planes { All (HasPlane workspace.old.pool) planes.old }
-    requires planes_fit { All (FitsWorkspace workspace.old.pool) planes.old }
-    requires cells { HasCells workspace.old.pool (length planes.old) basis.now.uses.library.now }
+    requires layout { HasLayout workspace.old.pool planes.old basis.now.uses.library.now }
     ensures piece { IfOk result (λ finding. finding.piece ≡ piece) }
     ensures marks { IfOk result (λ finding. (x y : ℕ) → holds piece x y ≡ true → marks finding.marks x y
         ≡ forbidden basis.now.rules.now (flat_layout workspace.old.pool basis.now.uses planes.old) x y) }

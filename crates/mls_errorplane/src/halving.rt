@@ -1,8 +1,6 @@
 //! Where a large rectangle is cut in two, so that few tiles lie in each part.
 ghost use Rattle.std.specs.Prelude.{◌≡◌, ◌+◌, ◌<◌, ◌⊎◌, IfSome};
-ghost use Rattle.std.specs.List.{All};
-ghost use Rattle.mls_layout.specs.Workspaces.{FitsWorkspace};
-ghost use Rattle.mls_stitch.specs.Tilings.{HasPlane};
+ghost use Rattle.mls_layout.specs.Uses.{HasPlanes};
 ghost use Rattle.mls_errorplane.specs.Halves.{AreHalves};
 
 use mls_geom::{Area, Rect};
@@ -62,8 +60,7 @@ pub(crate) fn halves(
     rect: Rect,
     workspace: &mut Workspace,
 ) -> Option<(Rect, Rect)>
-    requires planes { All (HasPlane workspace.old.pool) planes.old }
-    requires planes_fit { All (FitsWorkspace workspace.old.pool) planes.old }
+    requires planes { HasPlanes workspace.old.pool planes.old }
     ensures halves { IfSome result (λ halves. AreHalves rect halves.0 halves.1) }
     ensures owners { planes.new ≡ planes.old }
     ensures pool { workspace.new.pool ≡ workspace.old.pool }
@@ -100,8 +97,7 @@ fn better_halves(rect: Rect, crossing: Crossing) -> (Rect, Rect)
 
 /// Returns how many tiles of the planes lie in the rectangle, and how many across its middle.
 fn crossing_in(planes: &mut [Plane], rect: Rect, workspace: &mut Workspace) -> Crossing
-    requires planes { All (HasPlane workspace.old.pool) planes.old }
-    requires planes_fit { All (FitsWorkspace workspace.old.pool) planes.old }
+    requires planes { HasPlanes workspace.old.pool planes.old }
     ensures owners { planes.new ≡ planes.old }
     ensures pool { workspace.new.pool ≡ workspace.old.pool }
 {

@@ -1,9 +1,6 @@
 //! Checks that are done outside an error plane.
 ghost use Rattle.std.specs.Prelude.{◌≡◌, length};
-ghost use Rattle.std.specs.List.{All};
-ghost use Rattle.mls_layout.specs.Uses.{HasCells, flat_layout};
-ghost use Rattle.mls_layout.specs.Workspaces.{FitsWorkspace};
-ghost use Rattle.mls_stitch.specs.Tilings.{HasPlane};
+ghost use Rattle.mls_layout.specs.Uses.{HasLayout, flat_layout};
 ghost use Rattle.mls_errorplane.specs.ErrorPlanes.{checking_of};
 ghost use Rattle.mls_errorplane.specs.Jobs.{HasGrabbed};
 
@@ -38,9 +35,7 @@ impl ErrorPlane {
         basis: &Basis<'_>,
         workspace: &mut Workspace,
     ) -> Result<Option<Job>, AllocError>
-        requires planes { All (HasPlane workspace.old.pool) planes.old }
-        requires planes_fit { All (FitsWorkspace workspace.old.pool) planes.old }
-        requires cells { HasCells workspace.old.pool (length planes.old) basis.now.uses.library.now }
+        requires layout { HasLayout workspace.old.pool planes.old basis.now.uses.library.now }
         ensures grabbed { HasGrabbed basis.now.rules.now (length planes.old)
             (flat_layout workspace.old.pool basis.now.uses planes.old)
             (checking_of workspace.old.pool self.now) result }

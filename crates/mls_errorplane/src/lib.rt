@@ -15,7 +15,6 @@ pub mod laws;
 mod mark_pieces;
 mod marks;
 mod opening;
-mod settling;
 mod shown_marks;
 mod stretch;
 mod stretches;

@@ -1,7 +1,7 @@
 //! Whether an error plane shows the marks of a finding already.
 ghost use Rattle.std.specs.Prelude.{◌≡◌, ◌+◌, ◌<◌, ◌≤◌, ℕ, true, IfSome, IsTrue};
 ghost use Rattle.std.specs.List.{All, Any, Contains, sum_by};
-ghost use Rattle.mls_checker.specs.Marking.{AreInside, marks, squares_of};
+ghost use Rattle.mls_checker.specs.Marking.{marks, squares_of};
 ghost use Rattle.mls_geom.specs.Rects.{common, holds, size_of};
 ghost use Rattle.mls_errorplane.specs.PaintedMarks.{IsSettled, ShowsSet, space_size};
 

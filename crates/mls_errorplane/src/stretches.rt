@@ -1,17 +1,14 @@
 //! Checking pieces as one, where each plane shows one kind round all of them, or bars.
-ghost use Rattle.std.specs.Prelude.{◌≡◌, ◌≢◌, ◌+◌, ◌<◌, ◌≤◌, ℕ, false, [], ◌∷◌, IfNone, IfSome, IsTrue, List, length};
-ghost use Rattle.std.specs.List.{All, Contains};
+ghost use Rattle.std.specs.Prelude.{◌≡◌, ◌+◌, ◌<◌, ◌≤◌, ℕ, false, IfNone, IfSome, IsTrue, List};
 ghost use Rattle.mls_geom.specs.Layouts.{Layout};
 ghost use Rattle.mls_geom.specs.Rects.{Rect, joined};
-ghost use Rattle.mls_layout.specs.Uses.{HasCells, flat_layout};
-ghost use Rattle.mls_layout.specs.Workspaces.{FitsWorkspace};
+ghost use Rattle.mls_layout.specs.Uses.{HasLayout, flat_layout};
 ghost use Rattle.mls_checker.specs.Marking.{SquareSet};
-ghost use Rattle.mls_stitch.specs.Tilings.{ChangesOnly, HasPlane};
-ghost use Rattle.mls_tilepool.specs.Pools.{room_of};
+ghost use Rattle.mls_stitch.specs.Tilings.{ChangesOnly};
 ghost use Rattle.mls_errorplane.specs.CatchingUp.{Steps};
 ghost use Rattle.mls_errorplane.specs.DirtyLists.{area_of};
-ghost use Rattle.mls_errorplane.specs.ErrorPlanes.{ShowsMarks, checking_of, exceeds};
-ghost use Rattle.mls_errorplane.specs.Stretches.{AreRight, AreRightIn, DropsAll, IsAlike, Tells};
+ghost use Rattle.mls_errorplane.specs.ErrorPlanes.{HasMarks, ShowsMarks, StandsApart, checking_of};
+ghost use Rattle.mls_errorplane.specs.Stretches.{AreRight, AreRightIn, AreSound, DropsAll, IsAlike, Tells};
 
 use crate::checked::{Checked, Source};
 use crate::dirty::lies_in_world;
@@ -54,9 +51,7 @@ fn alike_source(
     rect: Rect,
     workspace: &mut Workspace,
 ) -> Option<Source>
-    requires planes { All (HasPlane workspace.old.pool) planes.old }
-    requires planes_fit { All (FitsWorkspace workspace.old.pool) planes.old }
-    requires cells { HasCells workspace.old.pool (length planes.old) basis.now.uses.library.now }
+    requires layout { HasLayout workspace.old.pool planes.old basis.now.uses.library.now }
     ensures tells { IfSome result (λ source. Tells source.likeness source.rect rect) }
     ensures alike { IfSome result (λ source. IsAlike source.likeness basis.now.rules.now
         (flat_layout workspace.old.pool basis.now.uses planes.old) (joined source.rect rect)) }
@@ -97,9 +92,7 @@ fn is_alike(
     rect: Rect,
     workspace: &mut Workspace,
 ) -> bool
-    requires planes { All (HasPlane workspace.old.pool) planes.old }
-    requires planes_fit { All (FitsWorkspace workspace.old.pool) planes.old }
-    requires cells { HasCells workspace.old.pool (length planes.old) basis.now.uses.library.now }
+    requires layout { HasLayout workspace.old.pool planes.old basis.now.uses.library.now }
     ensures alike { IsTrue result → IsAlike likeness basis.now.rules.now
         (flat_layout workspace.old.pool basis.now.uses planes.old) rect }
     ensures owners { planes.new ≡ planes.old }
@@ -110,18 +103,20 @@ fn is_alike(
 }
 
 impl ErrorPlane {
-    /// Takes the next pieces out of the areas as long as their marks are known to be right or can be made so at once,
-    /// and returns how many these were: as many check steps, each of them done. In the rectangles of `checked` the
-    /// marks must be right; afterwards these are the last pieces that were taken.
+    /// Takes the next pieces out of the areas as long as their marks are known, and returns how many these were: as
+    /// many check steps, each of them done. They are known where each plane shows the same round them as round pieces
+    /// that were checked before. If they change, they do so at once, but only where the tiles before and after are
+    /// together well within the limit. Where the error plane has more than `limit` tiles, takes none.
     ///
     /// Goes on from rectangle to rectangle, where round both together each plane of the layout shows one kind; to the
-    /// right, where they show rows; and from row to row, where they show columns. If the error plane doesn't show the
-    /// same yet, the marks are carried on, where that takes few enough tiles. A rectangle is twice as large as the one
-    /// before, or, where that is too much, half as large, and the first of an area is one piece or one row: so each
-    /// search is small beside what it is about to save. No memory is taken.
+    /// right, where they show rows; and from row to row, where they show columns. A rectangle is twice as large as the
+    /// one before, or, where that is too much, half as large, and the first of an area is one piece or one row: so each
+    /// search is small beside what it is about to save.
     ///
-    /// The planes and the cells must be of other owners than the error plane.
-    pub(crate) fn drop_alike(
+    /// The marks must be right in the rectangles of `checked`, and are so in those that it has afterwards: the last
+    /// pieces that were taken. The planes and the cells must be of other owners than the error plane. No memory is
+    /// taken.
+    pub fn settle(
         &mut self,
         planes: &mut [Plane],
         basis: &Basis<'_>,
@@ -129,16 +124,9 @@ impl ErrorPlane {
         limit: u32,
         workspace: &mut Workspace,
     ) -> u64
-        requires planes { All (HasPlane workspace.old.pool) planes.old }
-        requires planes_fit { All (FitsWorkspace workspace.old.pool) planes.old }
-        requires apart { All (λ owner. owner ≢ self.old.owner) planes.old }
-        requires cells { HasCells workspace.old.pool (length planes.old) basis.now.uses.library.now }
-        requires cells_apart { All (λ cell. All (λ owner. ¬ (Contains (self.old.owner ∷ []) owner)) cell.planes)
-            basis.now.uses.library.now }
-        requires marks { ShowsMarks workspace.old.pool self.old }
-        requires marks_fit { FitsWorkspace workspace.old.pool self.old.owner }
-        requires limit { IfSome (room_of workspace.old.pool self.old.owner) (λ room. limit ≤ room) }
-        requires fits { exceeds limit (checking_of workspace.old.pool self.old).marks ≡ false }
+        requires layout { HasLayout workspace.old.pool planes.old basis.now.uses.library.now }
+        requires apart { StandsApart self.old.owner planes.old basis.now.uses.library.now }
+        requires marks { HasMarks workspace.old.pool limit self.old }
         requires right { AreRightIn basis.now.rules.now
             (flat_layout workspace.old.pool basis.now.uses planes.old)
             (checking_of workspace.old.pool self.old).marks checked.old }
@@ -153,11 +141,14 @@ impl ErrorPlane {
         ensures owner { self.new.owner ≡ self.old.owner }
         ensures owners { planes.new ≡ planes.old }
     {
+        if self.tiles(&workspace.pool) > limit {
+            return 0;
+        }
+        if self.areas() == 0 {
+            return 0;
+        }
         let mut most: u32 = 1;
         let mut steps = 0;
-        if self.areas() == 0 {
-            return steps;
-        }
         'stretches: while most > 0 {
             let trial = Trial {
                 checked: *checked,
@@ -185,16 +176,11 @@ impl ErrorPlane {
         workspace: &mut Workspace,
     ) -> Option<Stretch>
         requires some { 1 ≤ trial.now.most }
-        requires planes { All (HasPlane workspace.old.pool) planes.old }
-        requires planes_fit { All (FitsWorkspace workspace.old.pool) planes.old }
-        requires cells { HasCells workspace.old.pool (length planes.old) basis.now.uses.library.now }
-        requires marks { ShowsMarks workspace.old.pool self.old }
-        requires marks_fit { FitsWorkspace workspace.old.pool self.old.owner }
-        requires limit { IfSome (room_of workspace.old.pool self.old.owner) (λ room. trial.now.limit ≤ room) }
-        requires fits { exceeds trial.now.limit (checking_of workspace.old.pool self.old).marks ≡ false }
-        requires right { AreRightIn basis.now.rules.now
+        requires layout { HasLayout workspace.old.pool planes.old basis.now.uses.library.now }
+        requires marks { HasMarks workspace.old.pool trial.now.limit self.old }
+        requires sound { AreSound basis.now.rules.now
             (flat_layout workspace.old.pool basis.now.uses planes.old)
-            (checking_of workspace.old.pool self.old).marks trial.now.checked }
+            trial.now (checking_of workspace.old.pool self.old).marks }
         ensures steps { IfSome result (λ stretch. Steps basis.now.rules.now
             (flat_layout workspace.old.pool basis.now.uses planes.old) trial.now.limit stretch.pieces
             (checking_of workspace.old.pool self.old) (checking_of workspace.new.pool self.new)) }
@@ -203,10 +189,9 @@ impl ErrorPlane {
         ensures right { IfSome result (λ stretch. AreRight basis.now.rules.now
             (flat_layout workspace.old.pool basis.now.uses planes.old)
             (checking_of workspace.new.pool self.new).marks stretch.rect) }
-        ensures checked { AreRightIn basis.now.rules.now
+        ensures sound { AreSound basis.now.rules.now
             (flat_layout workspace.old.pool basis.now.uses planes.old)
-            (checking_of workspace.new.pool self.new).marks trial.now.checked }
-        ensures fits { exceeds trial.now.limit (checking_of workspace.new.pool self.new).marks ≡ false }
+            trial.now (checking_of workspace.new.pool self.new).marks }
         ensures none { IfNone result ((self.new ≡ self.old) × (workspace.new.pool ≡ workspace.old.pool)) }
         ensures marks { ShowsMarks workspace.new.pool self.new }
         ensures only { ChangesOnly workspace.old.pool workspace.new.pool self.old.owner }
@@ -232,16 +217,11 @@ impl ErrorPlane {
         rect: Rect,
         workspace: &mut Workspace,
     ) -> bool
-        requires planes { All (HasPlane workspace.old.pool) planes.old }
-        requires planes_fit { All (FitsWorkspace workspace.old.pool) planes.old }
-        requires cells { HasCells workspace.old.pool (length planes.old) basis.now.uses.library.now }
-        requires marks { ShowsMarks workspace.old.pool self.old }
-        requires marks_fit { FitsWorkspace workspace.old.pool self.old.owner }
-        requires limit { IfSome (room_of workspace.old.pool self.old.owner) (λ room. trial.now.limit ≤ room) }
-        requires fits { exceeds trial.now.limit (checking_of workspace.old.pool self.old).marks ≡ false }
-        requires right { AreRightIn basis.now.rules.now
+        requires layout { HasLayout workspace.old.pool planes.old basis.now.uses.library.now }
+        requires marks { HasMarks workspace.old.pool trial.now.limit self.old }
+        requires sound { AreSound basis.now.rules.now
             (flat_layout workspace.old.pool basis.now.uses planes.old)
-            (checking_of workspace.old.pool self.old).marks trial.now.checked }
+            trial.now (checking_of workspace.old.pool self.old).marks }
         ensures steps { IsTrue result → (count : ℕ) (old new : List Rect) → DropsAll rect count old new
             → Steps basis.now.rules.now (flat_layout workspace.old.pool basis.now.uses planes.old) trial.now.limit count
             (record { marks = (checking_of workspace.old.pool self.old).marks; dirty = old })
@@ -249,10 +229,9 @@ impl ErrorPlane {
         ensures right { IsTrue result → AreRight basis.now.rules.now
             (flat_layout workspace.old.pool basis.now.uses planes.old)
             (checking_of workspace.new.pool self.new).marks rect }
-        ensures checked { AreRightIn basis.now.rules.now
+        ensures sound { AreSound basis.now.rules.now
             (flat_layout workspace.old.pool basis.now.uses planes.old)
-            (checking_of workspace.new.pool self.new).marks trial.now.checked }
-        ensures fits { exceeds trial.now.limit (checking_of workspace.new.pool self.new).marks ≡ false }
+            trial.now (checking_of workspace.new.pool self.new).marks }
         ensures refused { result ≡ false → (self.new ≡ self.old) × (workspace.new.pool ≡ workspace.old.pool) }
         ensures marks { ShowsMarks workspace.new.pool self.new }
         ensures only { ChangesOnly workspace.old.pool workspace.new.pool self.old.owner }

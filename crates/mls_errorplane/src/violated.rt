@@ -1,10 +1,7 @@
 //! Which rules forbid some square of a rectangle of a layout, whatever its size.
-ghost use Rattle.std.specs.Prelude.{◌≡◌, IfOk, length};
-ghost use Rattle.std.specs.List.{All};
+ghost use Rattle.std.specs.Prelude.{◌≡◌, IfOk};
 ghost use Rattle.mls_checker.specs.Findings.{violated_rules};
-ghost use Rattle.mls_layout.specs.Uses.{HasCells, flat_layout};
-ghost use Rattle.mls_layout.specs.Workspaces.{FitsWorkspace};
-ghost use Rattle.mls_stitch.specs.Tilings.{HasPlane};
+ghost use Rattle.mls_layout.specs.Uses.{HasLayout, flat_layout};
 
 use crate::Basis;
 use crate::dirty::lies_in_world;
@@ -18,9 +15,9 @@ use std::alloc::{AllocError, Global};
 
 /// Returns the rules that forbid some square of the rectangle in the layout on these planes with the uses.
 ///
-/// The layout is read in parts, one after another. A rectangle in which many tiles lie is cut in halves, each of these
-/// again, and so on: so little is read more than once, and a search along a tile passes few others. Fails only if memory
-/// runs out.
+/// The layout is read in parts, one after another, each with what lies round it within the rules' halo. A rectangle in
+/// which many tiles lie is cut in halves, each of these again, and so on: so little is read more than once, and a search
+/// along a tile passes few others. Fails only if memory runs out.
 pub fn why(
     alloc: Global,
     planes: &mut [Plane],
@@ -28,41 +25,20 @@ pub fn why(
     rect: Rect,
     workspace: &mut Workspace,
 ) -> Result<RuleSet, AllocError>
-    requires planes { All (HasPlane workspace.old.pool) planes.old }
-    requires planes_fit { All (FitsWorkspace workspace.old.pool) planes.old }
-    requires cells { HasCells workspace.old.pool (length planes.old) basis.now.uses.library.now }
+    requires layout { HasLayout workspace.old.pool planes.old basis.now.uses.library.now }
     ensures value { IfOk result (λ violated. violated ≡ violated_rules basis.now.rules.now rect
         (flat_layout workspace.old.pool basis.now.uses planes.old)) }
     ensures owners { planes.new ≡ planes.old }
     ensures pool { workspace.new.pool ≡ workspace.old.pool }
 {
-    let Some(parts) = halves(planes, &basis.uses, rect, workspace) else {
-        return why_in_part(alloc, planes, basis, rect, workspace);
-    };
-    let violated = why(alloc, planes, basis, parts.0, workspace)?;
-    let more = why(alloc, planes, basis, parts.1, workspace)?;
-    Ok(violated.union(more))
-}
-
-/// Returns the rules that forbid some square of a part, which is read with what lies round it within the rules' halo.
-fn why_in_part(
-    alloc: Global,
-    planes: &mut [Plane],
-    basis: &Basis<'_>,
-    part: Rect,
-    workspace: &mut Workspace,
-) -> Result<RuleSet, AllocError>
-    requires planes { All (HasPlane workspace.old.pool) planes.old }
-    requires planes_fit { All (FitsWorkspace workspace.old.pool) planes.old }
-    requires cells { HasCells workspace.old.pool (length planes.old) basis.now.uses.library.now }
-    ensures value { IfOk result (λ violated. violated ≡ violated_rules basis.now.rules.now part
-        (flat_layout workspace.old.pool basis.now.uses planes.old)) }
-    ensures owners { planes.new ≡ planes.old }
-    ensures pool { workspace.new.pool ≡ workspace.old.pool }
-{
-    lies_in_world(part);
-    let zone = part.grow(basis.rules.halo());
+    if let Some(parts) = halves(planes, &basis.uses, rect, workspace) {
+        let violated = why(alloc, planes, basis, parts.0, workspace)?;
+        let more = why(alloc, planes, basis, parts.1, workspace)?;
+        return Ok(violated.union(more));
+    }
+    lies_in_world(rect);
+    let zone = rect.grow(basis.rules.halo());
     let mut snapshot = Snapshot::read(alloc, planes, &basis.uses, zone, workspace)?;
     snapshot.stitch(alloc)?;
-    Ok(mls_checker::why(basis.rules, &snapshot, part))
+    Ok(mls_checker::why(basis.rules, &snapshot, rect))
 }

@@ -9,4 +9,4 @@ pub returns-clause-marks : goal.returns-clause-marks
 returns-clause-marks c =
     let layout = flat_layout c.args.workspace.now.pool c.args.basis.now.uses c.args.planes.now in
     found-forbidden c.args.basis.now.rules.now c.args.piece layout c.in_ok-snapshot.snapshot c.check.result (c.in_ok-snapshot.ensures.layout ∙ ap (λ (z : Rect). within z layout) (sym c.in_ok-snapshot.ensures.zone))
-    (flat-AgreeOutside c.args.workspace.now.pool c.args.basis.now.uses c.args.planes.now c.requires.planes) c.check.ensures.piece c.check.ensures.snapshot c.check.ensures.rules c.check.ensures.exact
+    (flat-AgreeOutside c.args.workspace.now.pool c.args.basis.now.uses c.args.planes.now c.requires.layout.planes.each) c.check.ensures.piece c.check.ensures.snapshot c.check.ensures.rules c.check.ensures.exact

@@ -5,10 +5,16 @@ use Rattle.mls_layout.specs.Uses.{flat_layout}
 use Rattle.mls_checker.specs.Findings.{violated_rules}
 use Rattle.mls_layout.proofs.LentPlanes.{lent-same}
 use Rattle.mls_errorplane.proofs.ViolatedParts.{violated_rules-parts}
+use Rattle.mls_geom.specs.Rects.{Rect, common, grown}
+use Rattle.mls_geom.specs.World.{world}
+use Rattle.mls_checker.specs.Copies.{Snapshot, copied_layout}
+use Rattle.mls_checker.specs.ZoneLayouts.{within}
+use Rattle.mls_errorplane.proofs.CheckedMarks.{flat-AgreeOutside}
+use Rattle.mls_errorplane.proofs.ViolatedNear.{violated_rules-zone}
 use Rattle.mls_errorplane.proofs.violated.+why.Goals as goal
 
-pub returns-clause-value : goal.returns-clause-value
-returns-clause-value t c =
+pub returns-in-Some-clause-value : goal.returns-in-Some-clause-value
+returns-in-Some-clause-value t c =
     let rules = c.args.basis.now.rules.now in
     let shown = λ (pool : Pool) (planes : List ℕ). flat_layout pool c.args.basis.now.uses planes in
     let pool = c.args.workspace.now.pool in
@@ -22,3 +28,16 @@ returns-clause-value t c =
     ∙ ap (λ set. union set c.in_ok-more.more) (c.in_ok-violated.ensures.value ∙ ap (violated_rules rules one) first)
     ∙ ap (union (violated_rules rules one (shown pool planes))) (c.in_ok-more.ensures.value ∙ ap (violated_rules rules other) second)
     ∙ sym (violated_rules-parts rules c.args.rect one other (shown pool planes) c.in-Some.ensures.halves.squares)
+
+pub returns-clause-value : goal.returns-clause-value
+returns-clause-value t c =
+    let rules = c.args.basis.now.rules.now in
+    let rect = c.args.rect in
+    let pool = c.args.workspace.now.pool in
+    let layout = flat_layout pool c.args.basis.now.uses c.args.planes.now in
+    let same = lent-same (λ (p : Pool) (owners : List ℕ). flat_layout p c.args.basis.now.uses owners) pool c.halves.new.workspace.pool c.args.planes.now c.halves.new.planes
+    c.halves.ensures.pool c.halves.ensures.owners in
+    let zone = c.grow-zone.ensures.value ∙ ap (λ h. common (grown h rect) world) c.halo.ensures.value in
+    c.why-2.ensures ∙ ap (λ (s : Snapshot). violated_rules rules rect (copied_layout s)) c.stitch.ensures ∙ ap (violated_rules rules rect) (c.in_ok-snapshot.ensures.layout ∙ ap (within c.grow-zone.result) same)
+    ∙ ap (λ (e : Rect). violated_rules rules rect (within e layout)) zone
+    ∙ violated_rules-zone rules rect layout c.lies_in_world.ensures (flat-AgreeOutside pool c.args.basis.now.uses c.args.planes.now c.requires.layout.planes.each)

@@ -1,162 +1,149 @@
-use Rattle.std.proofs.Common.{ℕ, List, [], ◌∷◌, All, length, refl, sym, ap, subst, ◌∙◌, arith}
+use Rattle.std.proofs.Common.{◌≡◌, ℕ, ◌+◌, ◌*◌, ◌^◌, ◌≤◌, List, refl, sym, ap, subst, ◌∙◌, arith}
 use Rattle.mls_geom.specs.Layouts.{Layout}
-use Rattle.mls_stitch.specs.Tilings.{ChangesOnly, HasPlane}
+use Rattle.mls_stitch.specs.Tilings.{ChangesOnly}
 use Rattle.mls_stitch.proofs.PoolChanges.{ChangesOnly-refl, ChangesOnly-trans}
-use Rattle.mls_library.proofs.KeptCells.{IsCellApart}
-use Rattle.mls_layout.specs.Uses.{HasCells, flat_layout}
-use Rattle.mls_errorplane.specs.ErrorPlanes.{ErrorPlane, HasStepped, checking_of}
-use Rattle.mls_errorplane.specs.DirtyLists.{IsDirtyList, first_piece_of}
-use Rattle.mls_errorplane.specs.CatchingUp.{Steps}
+use Rattle.mls_layout.specs.Uses.{flat_layout}
+use Rattle.mls_errorplane.specs.ErrorPlanes.{ErrorPlane, HasStepped, StandsApart, UnlessDone, checking_of}
+use Rattle.mls_errorplane.specs.DirtyLists.{IsDirtyList, area_of, first_piece_of}
+use Rattle.mls_errorplane.specs.CatchingUp.{HasCaughtUp, Steps}
 use Rattle.mls_errorplane.specs.Stretches.{AreRightIn}
+use Rattle.mls_errorplane.specs.declared.error_plane.Stepped.{Stepped}
 use Rattle.mls_errorplane.specs.declared.error_plane.Stepped.TheVariants.{Done, Full, Idle, Memory}
 use Rattle.mls_errorplane.proofs.AreaSizes.{area_of-le}
-use Rattle.mls_errorplane.proofs.StepsDone.{HasCaughtUp-Full, HasCaughtUp-Idle, HasCaughtUp-Memory, HasCells-apart, HasPlane-apart, area_of-Done, few-Done, flat_layout-apart, no_piece}
-use Rattle.mls_errorplane.proofs.StretchSteps.{Done-AreRight, Done-AreRightIn, Done-fits, Steps-stretch}
+use Rattle.mls_errorplane.proofs.StepsDone.{HasCaughtUp-ended, HasLayout-apart, area_of-Done, ended, few-Done, flat_layout-apart, no_piece}
+use Rattle.mls_errorplane.proofs.StretchSteps.{Done-AreRight, Done-AreRightIn, Steps-stretch}
 use Rattle.mls_errorplane.proofs.error_plane.ErrorPlane.catch_up.Goals as goal
+use Rattle.mls_errorplane.proofs.error_plane.ErrorPlane.catch_up.Goals.{After-step}
 
-pub step-requires-clause-planes : goal.step-requires-clause-planes
-step-requires-clause-planes c =
-    let so_far = c.steps.invariant in
-    subst (λ (planes : List ℕ). All (HasPlane c.steps.workspace.pool) planes) (sym so_far.owners)
-    (HasPlane-apart c.args.workspace.now.pool c.steps.workspace.pool c.args.self.now.owner c.args.planes.now so_far.only c.requires.apart c.requires.planes)
+pub step-requires-clause-layout : goal.step-requires-clause-layout
+step-requires-clause-layout c =
+    HasLayout-apart c.args.workspace.now.pool c.steps.workspace.pool c.args.self.now.owner c.steps.invariant.only c.args.planes.now c.steps.planes
+    c.args.basis.now.uses.library.now c.requires.apart c.steps.invariant.owners c.requires.layout
 
-pub step-requires-clause-cells : goal.step-requires-clause-cells
-step-requires-clause-cells c =
-    let so_far = c.steps.invariant in
+-- ---- after a step
+module _ (c : After-step) where
+  -- only tiles of the error plane have changed
+  only : ChangesOnly c.args.workspace.now.pool c.step.new.workspace.pool c.args.self.now.owner
+  only = ChangesOnly-trans c.steps.invariant.only (subst (ChangesOnly c.steps.workspace.pool c.step.new.workspace.pool) c.steps.invariant.owner c.step.ensures.only)
+
+  abbrev layout : Layout
+  layout = flat_layout c.args.workspace.now.pool c.args.basis.now.uses c.args.planes.now
+
+  -- so the layout shows what it did
+  there : flat_layout c.step.new.workspace.pool c.args.basis.now.uses c.step.new.planes ≡ layout
+  there =
+      flat_layout-apart c.args.workspace.now.pool c.step.new.workspace.pool c.args.self.now.owner only c.args.basis.now.uses c.args.planes.now c.step.new.planes
+      c.requires.apart (c.step.ensures.owners ∙ c.steps.invariant.owners)
+
+  -- and the step ended so in the layout as it was
+  as_was :
+      (how : Stepped)
+      → HasStepped c.args.basis.now.rules.now (flat_layout c.steps.workspace.pool c.args.basis.now.uses c.steps.planes) c.args.limit (checking_of c.steps.workspace.pool c.steps.self) how (checking_of c.step.new.workspace.pool c.step.new.self)
+      → HasStepped c.args.basis.now.rules.now layout c.args.limit (checking_of c.steps.workspace.pool c.steps.self) how (checking_of c.step.new.workspace.pool c.step.new.self)
+  as_was how =
+      subst (λ (l : Layout). HasStepped c.args.basis.now.rules.now l c.args.limit (checking_of c.steps.workspace.pool c.steps.self) how (checking_of c.step.new.workspace.pool c.step.new.self))
+      (flat_layout-apart c.args.workspace.now.pool c.steps.workspace.pool c.args.self.now.owner c.steps.invariant.only c.args.basis.now.uses c.args.planes.now c.steps.planes
+      c.requires.apart c.steps.invariant.owners)
+
+  kept : IsDirtyList c.steps.self.dirty
+  kept = subst (λ (e : ErrorPlane). IsDirtyList e.dirty) c.self.view_is c.in-Some.ensures.kept
+
+  -- a step that was done leaves fewer squares
+  few :
+      HasStepped c.args.basis.now.rules.now layout c.args.limit (checking_of c.steps.workspace.pool c.steps.self) Done (checking_of c.step.new.workspace.pool c.step.new.self)
+      → c.steps.done + 1 + area_of c.step.new.self.dirty ≤ 65 * 2 ^ 42
+  few =
+      few-Done c.args.basis.now.rules.now layout c.args.limit c.steps.done (checking_of c.steps.workspace.pool c.steps.self) (checking_of c.step.new.workspace.pool c.step.new.self)
+      kept c.steps.invariant.few
+
+  -- where it wasn't, catching up ends
+  caught :
+      (how : Stepped)
+      → HasStepped c.args.basis.now.rules.now (flat_layout c.steps.workspace.pool c.args.basis.now.uses c.steps.planes) c.args.limit (checking_of c.steps.workspace.pool c.steps.self) how (checking_of c.step.new.workspace.pool c.step.new.self)
+      → UnlessDone how (HasCaughtUp c.args.basis.now.rules.now layout c.args.limit (checking_of c.args.workspace.now.pool c.args.self.now) (ended c.steps.done how) (checking_of c.step.new.workspace.pool c.step.new.self))
+  caught how step =
+      HasCaughtUp-ended c.args.basis.now.rules.now layout c.args.limit c.steps.done (checking_of c.args.workspace.now.pool c.args.self.now) (checking_of c.steps.workspace.pool c.steps.self)
+      (checking_of c.step.new.workspace.pool c.step.new.self) c.steps.invariant.after how (as_was how step)
+
+-- ---- and after the pieces that are settled then
+pub settle-more-requires-clause-layout : goal.settle-more-requires-clause-layout
+settle-more-requires-clause-layout c =
+    HasLayout-apart c.args.workspace.now.pool c.step.new.workspace.pool c.args.self.now.owner (only (goal.at.settle-more-requires-clause-layout c).After-step)
+    c.args.planes.now c.step.new.planes c.args.basis.now.uses.library.now c.requires.apart (c.step.ensures.owners ∙ c.steps.invariant.owners) c.requires.layout
+
+pub settle-more-requires-clause-apart : goal.settle-more-requires-clause-apart
+settle-more-requires-clause-apart c =
     let cells = c.args.basis.now.uses.library.now in
-    subst (λ (planes : List ℕ). HasCells c.steps.workspace.pool (length planes) cells) (sym so_far.owners)
-    (HasCells-apart c.args.workspace.now.pool c.steps.workspace.pool c.args.self.now.owner so_far.only cells c.requires.cells_apart (length c.args.planes.now) c.requires.cells)
+    subst (λ (owner : ℕ). StandsApart owner c.step.new.planes cells) (sym (c.step.ensures.owner ∙ c.steps.invariant.owner))
+    (subst (λ (planes : List ℕ). StandsApart c.args.self.now.owner planes cells) (sym (c.step.ensures.owners ∙ c.steps.invariant.owners)) c.requires.apart)
 
-pub drop_alike-more-requires-clause-planes : goal.drop_alike-more-requires-clause-planes
-drop_alike-more-requires-clause-planes c =
-    let so_far = c.steps.invariant in
-    let only = ChangesOnly-trans so_far.only (subst (ChangesOnly c.steps.workspace.pool c.step.new.workspace.pool) so_far.owner c.step.ensures.only) in
-    subst (λ (planes : List ℕ). All (HasPlane c.step.new.workspace.pool) planes) (sym (c.step.ensures.owners ∙ so_far.owners))
-    (HasPlane-apart c.args.workspace.now.pool c.step.new.workspace.pool c.args.self.now.owner c.args.planes.now only c.requires.apart c.requires.planes)
-
-pub drop_alike-more-requires-clause-cells : goal.drop_alike-more-requires-clause-cells
-drop_alike-more-requires-clause-cells c =
-    let so_far = c.steps.invariant in
-    let cells = c.args.basis.now.uses.library.now in
-    let only = ChangesOnly-trans so_far.only (subst (ChangesOnly c.steps.workspace.pool c.step.new.workspace.pool) so_far.owner c.step.ensures.only) in
-    subst (λ (planes : List ℕ). HasCells c.step.new.workspace.pool (length planes) cells) (sym (c.step.ensures.owners ∙ so_far.owners))
-    (HasCells-apart c.args.workspace.now.pool c.step.new.workspace.pool c.args.self.now.owner only cells c.requires.cells_apart (length c.args.planes.now) c.requires.cells)
-
-pub drop_alike-more-requires-clause-cells_apart : goal.drop_alike-more-requires-clause-cells_apart
-drop_alike-more-requires-clause-cells_apart c =
-    subst (λ (owner : ℕ). All (IsCellApart (owner ∷ [])) c.args.basis.now.uses.library.now) (sym (c.step.ensures.owner ∙ c.steps.invariant.owner)) c.requires.cells_apart
-
-pub drop_alike-more-requires-clause-right : goal.drop_alike-more-requires-clause-right
-drop_alike-more-requires-clause-right c =
-    let so_far = c.steps.invariant in
+pub settle-more-requires-clause-right : goal.settle-more-requires-clause-right
+settle-more-requires-clause-right c =
+    let at = (goal.at.settle-more-requires-clause-right c).After-step in
     let rules = c.args.basis.now.rules.now in
-    let uses = c.args.basis.now.uses in
-    let layout = flat_layout c.args.workspace.now.pool uses c.args.planes.now in
     let mid = checking_of c.steps.workspace.pool c.steps.self in
     let new = checking_of c.step.new.workspace.pool c.step.new.self in
-    let only = ChangesOnly-trans so_far.only (subst (ChangesOnly c.steps.workspace.pool c.step.new.workspace.pool) so_far.owner c.step.ensures.only) in
-    let here = ap (flat_layout c.steps.workspace.pool uses) so_far.owners
-    ∙ flat_layout-apart c.args.workspace.now.pool c.steps.workspace.pool c.args.self.now.owner uses c.args.planes.now so_far.only c.requires.cells_apart c.requires.apart in
-    let there = ap (flat_layout c.step.new.workspace.pool uses) (c.step.ensures.owners ∙ so_far.owners)
-    ∙ flat_layout-apart c.args.workspace.now.pool c.step.new.workspace.pool c.args.self.now.owner uses c.args.planes.now only c.requires.cells_apart c.requires.apart in
-    let step = subst (λ (l : Layout). HasStepped rules l c.args.limit mid Done new) here c.in-Done.ensures.stepped in
+    let step = as_was at Done c.in-Done.ensures.stepped in
     let first = c.in-Some.ensures.piece ∙ ap (λ (e : ErrorPlane). first_piece_of e.dirty) c.self.view_is in
-    subst (λ (l : Layout). AreRightIn rules l new.marks c.after-now.result) (sym there)
-    (c.after-now.ensures rules layout new.marks (Done-AreRightIn rules layout mid new c.steps.checked step.2 so_far.right)
-    (Done-AreRight rules layout mid new c.in-Some.piece step.2 first))
-
-pub drop_alike-more-requires-clause-fits : goal.drop_alike-more-requires-clause-fits
-drop_alike-more-requires-clause-fits c =
-    Done-fits c.args.basis.now.rules.now (flat_layout c.steps.workspace.pool c.args.basis.now.uses c.steps.planes) c.args.limit (checking_of c.steps.workspace.pool c.steps.self)
-    (checking_of c.step.new.workspace.pool c.step.new.self) c.in-Done.ensures.stepped
+    subst (λ (l : Layout). AreRightIn rules l new.marks c.after-now.result) (sym (there at))
+    (c.after-now.ensures rules (layout at) new.marks (Done-AreRightIn rules (layout at) mid new c.steps.checked step.2 c.steps.invariant.right)
+    (Done-AreRight rules (layout at) mid new c.in-Some.piece step.2 first))
 
 pub overflow_add-done : goal.overflow_add-done
 overflow_add-done c =
-    let few = few-Done c.args.basis.now.rules.now (flat_layout c.steps.workspace.pool c.args.basis.now.uses c.steps.planes) c.args.limit c.steps.done
-    (checking_of c.steps.workspace.pool c.steps.self) (checking_of c.step.new.workspace.pool c.step.new.self) (subst (λ (e : ErrorPlane). IsDirtyList e.dirty) c.self.view_is c.in-Some.ensures.kept) c.steps.invariant.few c.in-Done.ensures.stepped in
-    omega (arith, few, c.drop_alike-more.ensures.fewer)
+    let at = (goal.at.overflow_add-done c).After-step in
+    omega (arith, few at (as_was at Done c.in-Done.ensures.stepped), c.settle-more.ensures.fewer)
 
 pub overflow_add-done-in-Done : goal.overflow_add-done-in-Done
 overflow_add-done-in-Done c =
-    let few = few-Done c.args.basis.now.rules.now (flat_layout c.steps.workspace.pool c.args.basis.now.uses c.steps.planes) c.args.limit c.steps.done
-    (checking_of c.steps.workspace.pool c.steps.self) (checking_of c.step.new.workspace.pool c.step.new.self) (subst (λ (e : ErrorPlane). IsDirtyList e.dirty) c.self.view_is c.in-Some.ensures.kept) c.steps.invariant.few c.in-Done.ensures.stepped in
-    omega (arith, few, c.drop_alike-more.ensures.fewer)
+    let at = (goal.at.overflow_add-done-in-Done c).After-step in
+    omega (arith, few at (as_was at Done c.in-Done.ensures.stepped), c.settle-more.ensures.fewer)
 
 pub steps-smaller : goal.steps-smaller
 steps-smaller c =
-    let smaller = area_of-Done c.args.basis.now.rules.now (flat_layout c.steps.workspace.pool c.args.basis.now.uses c.steps.planes) c.args.limit
-    (checking_of c.steps.workspace.pool c.steps.self) (checking_of c.step.new.workspace.pool c.step.new.self) (subst (λ (e : ErrorPlane). IsDirtyList e.dirty) c.self.view_is c.in-Some.ensures.kept) c.in-Done.ensures.stepped in
-    omega (arith, smaller, c.drop_alike-more.ensures.fewer)
+    let at = (goal.at.steps-smaller c).After-step in
+    let smaller = area_of-Done c.args.basis.now.rules.now (layout at) c.args.limit (checking_of c.steps.workspace.pool c.steps.self) (checking_of c.step.new.workspace.pool c.step.new.self)
+    (kept at) (as_was at Done c.in-Done.ensures.stepped) in
+    omega (arith, smaller, c.settle-more.ensures.fewer)
 
 pub steps-preserved : goal.steps-preserved
 steps-preserved c =
+    let at = (goal.at.steps-preserved c).After-step in
     let so_far = c.steps.invariant in
     let rules = c.args.basis.now.rules.now in
-    let uses = c.args.basis.now.uses in
-    let layout = flat_layout c.args.workspace.now.pool uses c.args.planes.now in
-    let old = checking_of c.args.workspace.now.pool c.args.self.now in
     let mid = checking_of c.steps.workspace.pool c.steps.self in
     let new = checking_of c.step.new.workspace.pool c.step.new.self in
-    let last = checking_of c.drop_alike-more.new.workspace.pool c.drop_alike-more.new.self in
-    let more = c.drop_alike-more.result in
-    let only = ChangesOnly-trans so_far.only (subst (ChangesOnly c.steps.workspace.pool c.step.new.workspace.pool) so_far.owner c.step.ensures.only) in
-    let here = ap (flat_layout c.steps.workspace.pool uses) so_far.owners
-    ∙ flat_layout-apart c.args.workspace.now.pool c.steps.workspace.pool c.args.self.now.owner uses c.args.planes.now so_far.only c.requires.cells_apart c.requires.apart in
-    let there = ap (flat_layout c.step.new.workspace.pool uses) (c.step.ensures.owners ∙ so_far.owners)
-    ∙ flat_layout-apart c.args.workspace.now.pool c.step.new.workspace.pool c.args.self.now.owner uses c.args.planes.now only c.requires.cells_apart c.requires.apart in
-    let step = subst (λ (l : Layout). HasStepped rules l c.args.limit mid Done new) here c.in-Done.ensures.stepped in
-    let few = few-Done rules (flat_layout c.steps.workspace.pool uses c.steps.planes) c.args.limit c.steps.done mid new (subst (λ (e : ErrorPlane). IsDirtyList e.dirty) c.self.view_is c.in-Some.ensures.kept) so_far.few c.in-Done.ensures.stepped in
-    let further = ChangesOnly-trans only (subst (ChangesOnly c.step.new.workspace.pool c.drop_alike-more.new.workspace.pool) (c.step.ensures.owner ∙ so_far.owner) c.drop_alike-more.ensures.only) in
+    let last = checking_of c.settle-more.new.workspace.pool c.settle-more.new.self in
+    let more = c.settle-more.result in
+    let step = as_was at Done c.in-Done.ensures.stepped in
+    let owner = c.step.ensures.owner ∙ so_far.owner in
     record {
-      after = Steps-stretch rules layout c.args.limit c.steps.done more old mid new last so_far.after step
-          (λ fits. subst (λ (l : Layout). Steps rules l c.args.limit more new last) there c.drop_alike-more.ensures.steps);
-      few = λ kept. omega (arith, few, c.drop_alike-more.ensures.fewer);
-      right = subst (λ (l : Layout). AreRightIn rules l last.marks c.drop_alike-more.new.checked) there c.drop_alike-more.ensures.right;
-      marks = c.drop_alike-more.ensures.marks;
-      only = further;
-      owner = c.drop_alike-more.ensures.owner ∙ c.step.ensures.owner ∙ so_far.owner;
-      owners = c.drop_alike-more.ensures.owners ∙ c.step.ensures.owners ∙ so_far.owners;
+      after = Steps-stretch rules (layout at) c.args.limit c.steps.done more (checking_of c.args.workspace.now.pool c.args.self.now) mid new last so_far.after step
+          (subst (λ (l : Layout). Steps rules l c.args.limit more new last) (there at) c.settle-more.ensures.steps);
+      few = λ _. omega (arith, few at step, c.settle-more.ensures.fewer);
+      right = subst (λ (l : Layout). AreRightIn rules l last.marks c.settle-more.new.checked) (there at) c.settle-more.ensures.right;
+      marks = c.settle-more.ensures.marks;
+      only = ChangesOnly-trans (only at) (subst (ChangesOnly c.step.new.workspace.pool c.settle-more.new.workspace.pool) owner c.settle-more.ensures.only);
+      owner = c.settle-more.ensures.owner ∙ owner;
+      owners = c.settle-more.ensures.owners ∙ c.step.ensures.owners ∙ so_far.owners;
     }
 
+-- ---- how it ends
 pub returns-in-Idle-clause-caught_up : goal.returns-in-Idle-clause-caught_up
-returns-in-Idle-clause-caught_up c =
-    let so_far = c.steps.invariant in
-    let rules = c.args.basis.now.rules.now in
-    let mid = checking_of c.steps.workspace.pool c.steps.self in
-    let new = checking_of c.step.new.workspace.pool c.step.new.self in
-    let here = ap (flat_layout c.steps.workspace.pool c.args.basis.now.uses) so_far.owners
-    ∙ flat_layout-apart c.args.workspace.now.pool c.steps.workspace.pool c.args.self.now.owner c.args.basis.now.uses c.args.planes.now so_far.only c.requires.cells_apart c.requires.apart in
-    HasCaughtUp-Idle rules (flat_layout c.args.workspace.now.pool c.args.basis.now.uses c.args.planes.now) c.args.limit c.steps.done (checking_of c.args.workspace.now.pool c.args.self.now) mid new so_far.after
-    (subst (λ (layout : Layout). HasStepped rules layout c.args.limit mid Idle new) here c.in-Idle.ensures.stepped)
+returns-in-Idle-clause-caught_up c = caught (goal.at.returns-in-Idle-clause-caught_up c).After-step Idle c.in-Idle.ensures.stepped
 
 pub returns-in-Full-clause-caught_up : goal.returns-in-Full-clause-caught_up
-returns-in-Full-clause-caught_up c =
-    let so_far = c.steps.invariant in
-    let rules = c.args.basis.now.rules.now in
-    let mid = checking_of c.steps.workspace.pool c.steps.self in
-    let new = checking_of c.step.new.workspace.pool c.step.new.self in
-    let here = ap (flat_layout c.steps.workspace.pool c.args.basis.now.uses) so_far.owners
-    ∙ flat_layout-apart c.args.workspace.now.pool c.steps.workspace.pool c.args.self.now.owner c.args.basis.now.uses c.args.planes.now so_far.only c.requires.cells_apart c.requires.apart in
-    HasCaughtUp-Full rules (flat_layout c.args.workspace.now.pool c.args.basis.now.uses c.args.planes.now) c.args.limit c.steps.done (checking_of c.args.workspace.now.pool c.args.self.now) mid new so_far.after
-    (subst (λ (layout : Layout). HasStepped rules layout c.args.limit mid Full new) here c.in-Full.ensures.stepped)
+returns-in-Full-clause-caught_up c = caught (goal.at.returns-in-Full-clause-caught_up c).After-step Full c.in-Full.ensures.stepped
 
 pub returns-in-Memory-clause-caught_up : goal.returns-in-Memory-clause-caught_up
-returns-in-Memory-clause-caught_up c =
-    let so_far = c.steps.invariant in
-    let rules = c.args.basis.now.rules.now in
-    let mid = checking_of c.steps.workspace.pool c.steps.self in
-    let new = checking_of c.step.new.workspace.pool c.step.new.self in
-    let here = ap (flat_layout c.steps.workspace.pool c.args.basis.now.uses) so_far.owners
-    ∙ flat_layout-apart c.args.workspace.now.pool c.steps.workspace.pool c.args.self.now.owner c.args.basis.now.uses c.args.planes.now so_far.only c.requires.cells_apart c.requires.apart in
-    HasCaughtUp-Memory rules (flat_layout c.args.workspace.now.pool c.args.basis.now.uses c.args.planes.now) c.args.limit c.steps.done (checking_of c.args.workspace.now.pool c.args.self.now) mid new so_far.after
-    (subst (λ (layout : Layout). HasStepped rules layout c.args.limit mid Memory new) here c.in-Memory.ensures.stepped)
+returns-in-Memory-clause-caught_up c = caught (goal.at.returns-in-Memory-clause-caught_up c).After-step Memory c.in-Memory.ensures.stepped
 
 pub steps-init : goal.steps-init
 steps-init c = record {
   after = refl;
   few = λ kept. omega (arith, area_of-le c.args.self.now.dirty kept);
   right = tt;
-  marks = c.requires.marks;
+  marks = c.requires.marks.marks;
   only = ChangesOnly-refl c.args.workspace.now.pool c.args.self.now.owner;
   owner = refl;
   owners = refl;

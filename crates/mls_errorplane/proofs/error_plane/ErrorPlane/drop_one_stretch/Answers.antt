@@ -1,12 +1,12 @@
-use Rattle.std.proofs.Common.{◌≡◌, ℕ, List, false, refl, sym, ap, subst}
+use Rattle.std.proofs.Common.{◌≡◌, ℕ, List, refl, sym, ap, subst}
 use Rattle.mls_geom.specs.Rects.{Rect}
 use Rattle.mls_layout.specs.Uses.{flat_layout}
 use Rattle.mls_paint.specs.Planes.{picture_in}
 use Rattle.mls_errorplane.specs.CatchingUp.{Steps}
 use Rattle.mls_errorplane.specs.DirtyLists.{IsDirtyList}
-use Rattle.mls_errorplane.specs.ErrorPlanes.{ErrorPlane, exceeds}
+use Rattle.mls_errorplane.specs.ErrorPlanes.{ErrorPlane}
 use Rattle.mls_errorplane.specs.MarkPlanes.{is_marked}
-use Rattle.mls_errorplane.specs.Stretches.{AreRight, AreRightIn, DropsAll}
+use Rattle.mls_errorplane.specs.Stretches.{AreRight, AreSound, DropsAll}
 use Rattle.mls_errorplane.proofs.DroppedRows.{DropsAll-DropsIn}
 use Rattle.mls_errorplane.proofs.StretchSteps.{DropsIn-fewer, ShowsMarks-lent, checking_with}
 use Rattle.mls_errorplane.proofs.error_plane.ErrorPlane.drop_one_stretch.Goals as goal
@@ -42,16 +42,11 @@ returns-clause-right c =
     subst (λ (owner : ℕ). AreRight c.args.basis.now.rules.now layout (is_marked (picture_in c.make_right.new.workspace.pool owner)) c.in_ok-stretch.stretch.rect)
     (sym (ap (λ (e : ErrorPlane). e.owner) c.self-2.view_is)) (c.if-not-make_right.ensures.right refl)
 
-pub returns-clause-checked : goal.returns-clause-checked
-returns-clause-checked c =
+pub returns-clause-sound : goal.returns-clause-sound
+returns-clause-sound c =
     let layout = flat_layout c.args.workspace.now.pool c.args.basis.now.uses c.args.planes.now in
-    subst (λ (owner : ℕ). AreRightIn c.args.basis.now.rules.now layout (is_marked (picture_in c.make_right.new.workspace.pool owner)) c.args.trial.now.checked)
-    (sym (ap (λ (e : ErrorPlane). e.owner) c.self-2.view_is)) c.make_right.ensures.checked
-
-pub returns-clause-fits : goal.returns-clause-fits
-returns-clause-fits c =
-    subst (λ (owner : ℕ). exceeds c.args.trial.now.limit (is_marked (picture_in c.make_right.new.workspace.pool owner)) ≡ false)
-    (sym (ap (λ (e : ErrorPlane). e.owner) c.self-2.view_is)) c.make_right.ensures.fits
+    subst (λ (owner : ℕ). AreSound c.args.basis.now.rules.now layout c.args.trial.now (is_marked (picture_in c.make_right.new.workspace.pool owner)))
+    (sym (ap (λ (e : ErrorPlane). e.owner) c.self-2.view_is)) c.make_right.ensures.sound
 
 pub returns-clause-marks : goal.returns-clause-marks
 returns-clause-marks c =

@@ -1,14 +1,10 @@
-use Rattle.std.proofs.Common.{ap, arith}
-use Rattle.mls_geom.specs.Rects.{Rect}
-use Rattle.mls_errorplane.proofs.NextStretches.{row-IsNext}
+use Rattle.std.proofs.Common.{arith}
+use Rattle.mls_errorplane.proofs.NextStretches.{row-IsNext, same_sides}
 use Rattle.mls_errorplane.proofs.stretch.Stretch.in_row.Goals as goal
 
 pub returns : goal.returns
 returns c others =
-    let left = ap (λ (e : Rect). e.left) c.area.view_is in
-    let bottom = ap (λ (e : Rect). e.bottom) c.area.view_is in
-    let right = ap (λ (e : Rect). e.right) c.area.view_is in
-    let top = ap (λ (e : Rect). e.top) c.area.view_is in
+    let (left, bottom, right, top) = same_sides _ _ c.area.view_is in
     row-IsNext c.args.area c.between.result c.columns_from.result others c.rect_of.result c.min-pieces.result c.from.result c.min-right.result c.requires.legal c.requires.low
     (omega (arith, c.pieces_along.ensures.few, c.min-pieces.ensures, left, right)) (omega (arith, c.min-right.ensures, left, right)) (cc (c.between.ensures, left, bottom, top))
     c.columns_from.ensures c.rect_of.ensures c.from.ensures

@@ -1,14 +1,10 @@
 use Rattle.std.proofs.Common.{ap, ◌*◌, ◌∙◌, arith}
-use Rattle.mls_geom.specs.Rects.{Rect}
-use Rattle.mls_errorplane.proofs.NextStretches.{rows-IsNext}
+use Rattle.mls_errorplane.proofs.NextStretches.{rows-IsNext, same_sides}
 use Rattle.mls_errorplane.proofs.stretch.Stretch.of_rows.Goals as goal
 
 pub returns : goal.returns
 returns c others =
-    let left = ap (λ (e : Rect). e.left) c.area.view_is in
-    let bottom = ap (λ (e : Rect). e.bottom) c.area.view_is in
-    let right = ap (λ (e : Rect). e.right) c.area.view_is in
-    let top = ap (λ (e : Rect). e.top) c.area.view_is in
+    let (left, bottom, right, top) = same_sides _ _ c.area.view_is in
     rows-IsNext c.args.area c.between.result c.rows_from.result others c.rect_of.result c.pieces_along-columns.result c.min-rows.result (c.from.result * c.from-2.result) c.min-top.result
     c.requires.legal (omega (arith, c.pieces_along-columns.ensures.enough, left, right)) (omega (arith, c.pieces_along-columns.ensures.few, left, right))
     (omega (arith, c.pieces_along.ensures.few, c.min-rows.ensures, bottom, top)) (omega (arith, c.min-top.ensures, bottom, top)) (cc (c.between.ensures, left, bottom, right))

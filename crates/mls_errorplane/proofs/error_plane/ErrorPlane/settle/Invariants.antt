@@ -5,7 +5,7 @@ use Rattle.mls_errorplane.specs.CatchingUp.{Steps}
 use Rattle.mls_errorplane.specs.DirtyLists.{area_of}
 use Rattle.mls_errorplane.specs.ErrorPlanes.{ShowsMarks, checking_of, exceeds}
 use Rattle.mls_errorplane.specs.Stretches.{AreRightIn}
-use Rattle.mls_errorplane.proofs.error_plane.ErrorPlane.drop_alike.Given as goal
+use Rattle.mls_errorplane.proofs.error_plane.ErrorPlane.settle.Given as goal
 
 -- the pieces so far are as many check steps, in the layout as it was, and the marks are right in the last of them
 abbrev pub invariant-stretches : goal.invariant-stretches
