@@ -42,7 +42,7 @@ module _ (server : Server) (are : AreOpenIn server) (session : Session) {new : P
 
   -- the open sessions have none of its owners
   apart : All (λ entry. AreApart (owners_of entry.1.session) (owners_of session)) server.sessions
-  apart k d within = apart-AddsOwners added (get_or server.sessions k d).1.session (are.made k d within).home
+  apart k d within = apart-AddsOwners added (get_or server.sessions k d).1.session (are.made k d within).ready.home
 
   module _ (home : IsHome new session) (made_for : IsMadeFor server.setup session) (right : HasRightMarks (config_of server.setup new) (state_of new session).design)
       (opening : kept_of new session ≡ kept_at_opening server.setup.rules) where
@@ -52,9 +52,11 @@ module _ (server : Server) (are : AreOpenIn server) (session : Session) {new : P
 
     IsOpenIn-opened : IsOpenIn server.setup new first_open
     IsOpenIn-opened = record {
-      made_for = made_for;
-      home = home;
-      can_dump = record { home = cells_stay.home; apart = cells_apart; planes = cells_stay.planes };
+      ready = record {
+        home = home;
+        made_for = made_for;
+        can_dump = record { home = cells_stay.home; apart = cells_apart; planes = cells_stay.planes };
+      };
       marks_right = right;
       knows_right = tt;
       legal = subst (IsLegal (terms_of server.setup new)) (sym opening) (IsLegal-opening (terms_of server.setup new));

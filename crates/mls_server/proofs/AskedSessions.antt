@@ -9,14 +9,14 @@ use Rattle.mls_paint.specs.Owners.{ChangesAmong}
 use Rattle.mls_paint.proofs.OwnerFrames.{unreserved-ChangesAmong}
 use Rattle.mls_errorplane.specs.declared.checked.Checked.{Checked}
 use Rattle.mls_library.specs.SavedCells.{saved_text}
-use Rattle.mls_session.specs.Designs.{CanDump, HasRightMarks, KnowsRight}
-use Rattle.mls_session.specs.Journals.{IsLegal, Kept}
+use Rattle.mls_session.specs.Designs.{CanDump, KnowsRight}
+use Rattle.mls_session.specs.Journals.{Kept}
 use Rattle.mls_session.specs.OwnSteps.{Terms}
 use Rattle.mls_session.specs.declared.journal.Entry.{Entry as JournalEntry}
 use Rattle.mls_session.specs.declared.look.Look.{Look}
 use Rattle.mls_session.specs.declared.look.Looked.{Looked}
 use Rattle.mls_session.specs.declared.reply.Reply.{Reply}
-use Rattle.mls_session.specs.Sessions.{IsHome, IsMadeFor, KeepsPlanes, Session, kept_of, owners_of, state_of}
+use Rattle.mls_session.specs.Sessions.{IsReady, KeepsPlanes, Session, StaysSound, kept_of, owners_of, state_of}
 use Rattle.mls_session.specs.Setups.{terms_of}
 use Rattle.mls_tilepool.specs.Pools.{Pool}
 use Rattle.mls_server.specs.Events.{LooksAt, OnSeat, SavesText, own_text}
@@ -109,18 +109,18 @@ module _ {now server : Server} {id place : ℕ} {before : OpenSession} (asked : 
   -- ---- what stays beside it, as only its own owners change
   module _ {new : Pool} (others : KeepsOthers server.pool new (owners_of before.session)) where
     pub cells-beside : CanDump server.setup new []
-    cells-beside = CanDump-apart others asked.made.can_dump.apart asked.are.cells_home
+    cells-beside = CanDump-apart others asked.made.ready.can_dump.apart asked.are.cells_home
 
     pub made-beside : AllBut (λ entry. IsOpenIn server.setup new entry.1) server.sessions place
     made-beside k d within differ =
-        IsOpenIn-apart others (get_or server.sessions k d).1 (asked.apart k d within differ) asked.made.can_dump.apart (asked.are.made k d within)
+        IsOpenIn-apart others (get_or server.sessions k d).1 (asked.apart k d within differ) asked.made.ready.can_dump.apart (asked.are.made k d within)
 
     pub stays-beside : AllBut (StaysApart id server.pool new) server.sessions place
     stays-beside k d within differ = (asked.others k d within differ, seat_for-apart others (get_or server.sessions k d) (asked.apart k d within differ))
 
   -- ---- what each call of it requires
-  pub callable : record { home : IsHome server.pool before.session; made_for : IsMadeFor server.setup before.session; can_dump : CanDump server.setup server.pool (owners_of before.session) }
-  callable = record { home = asked.made.home; made_for = asked.made.made_for; can_dump = asked.made.can_dump }
+  pub callable : record { ready : IsReady server.setup server.pool before.session }
+  callable = record { ready = asked.made.ready }
 
   pub own_text-asked : own_text (world_of now) id ≡ saved_text server.setup.tech (kept_of server.pool before.session).own.design.drawn.paint
   own_text-asked =
@@ -147,7 +147,7 @@ module _ {now server : Server} {id place : ℕ} {before : OpenSession} (asked : 
 
     pub keeps-same : after.design ≡ before.session.design → after.limit ≡ before.session.limit → KeepsPlanes server.pool new before.session after
     keeps-same design limit =
-        subst (λ (at : Pool). KeepsPlanes server.pool at before.session after) (sym pool) (KeepsPlanes-same server.pool before.session after asked.made.home design limit)
+        subst (λ (at : Pool). KeepsPlanes server.pool at before.session after) (sym pool) (KeepsPlanes-same server.pool before.session after asked.made.ready.home design limit)
 
   -- ---- it changes tiles of its own owners alone
   module _ {new : Pool} {after : Session} (keeps : KeepsPlanes server.pool new before.session after) where
@@ -164,14 +164,12 @@ module _ {now server : Server} {id place : ℕ} {before : OpenSession} (asked : 
       changed = record server { pool = new; sessions = set_value_at server.sessions place member }
 
       pub AreOpen-changed :
-          (HasRightMarks (own_terms server).config (state_of server.pool before.session).design → HasRightMarks (own_terms server).config (state_of new after).design)
-          → KnowsRight (own_terms server).config (state_of new after).design checked
-          → (IsLegal (own_terms server) (kept_of server.pool before.session) → IsLegal (own_terms server) (kept_of new after)) → AreOpenIn changed
-      AreOpen-changed right knows legal = record {
+          StaysSound server.setup server.pool new before.session after → KnowsRight (own_terms server).config (state_of new after).design checked → AreOpenIn changed
+      AreOpen-changed sound knows = record {
         cells_home = cells-beside (others-kept keeps);
         made =
             All-replaced (λ entry. IsOpenIn server.setup new entry.1) member server.sessions place (made-beside (others-kept keeps))
-            (λ name. IsOpenIn-kept asked.made member keeps right knows legal);
+            (λ name. IsOpenIn-kept asked.made member keeps sound knows);
         apart =
             AllPairs-replaced (λ entry. owners_of entry.1.session) before member (λ name. owners_of-kept keeps) AreApart server.sessions place asked.found asked.are.apart;
         rising = AllPairs-replaced (λ entry. entry.1.id) before member (λ name. refl) (λ a b. a < b) server.sessions place asked.found asked.are.rising;
@@ -183,7 +181,7 @@ module _ {now server : Server} {id place : ℕ} {before : OpenSession} (asked : 
 
       world_of-changed : world_of changed ≡ with_kept (world_of server) id (kept_of new after)
       world_of-changed =
-          world_of-apart server (others-kept keeps) asked.made.can_dump.apart server.given (set_value_at server.sessions place member) _ _
+          world_of-apart server (others-kept keeps) asked.made.ready.can_dump.apart server.given (set_value_at server.sessions place member) _ _
           (seats-replaced id server.pool new server.sessions place before asked.found asked.has_id (stays-beside (others-kept keeps)) member refl)
           (unreserved-ChangesAmong server.pool new (owners_of before.session) keeps.planes.only)
 

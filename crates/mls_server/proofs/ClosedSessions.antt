@@ -40,15 +40,15 @@ module _ {now server : Server} {id place : ℕ} {closed : OpenSession} (asked : 
 
   pub world_of-closed : tiles ≡ length (owners_of closed.session) * plane_reserve closed.session.design.quota → world_of left ≡ without_session (world_of now) id
   world_of-closed all =
-      world_of-apart server others asked.made.can_dump.apart server.given (remove server.sessions place) _ _
+      world_of-apart server others asked.made.ready.can_dump.apart server.given (remove server.sessions place) _ _
       (seats-removed id server.pool new server.sessions place closed asked.found asked.has_id (stays-beside asked others))
       (removed.given_back ∙ ap (λ n. unreserved server.pool + n) reserve)
       ∙ ap (λ (on : Server). without_session (world_of on) id) asked.shows
     where
       reserve : tiles ≡ session_reserve (setting_of server)
       reserve =
-          all ∙ ap (λ n. n * plane_reserve closed.session.design.quota) (length-owners_of closed.session server.setup.tech.plane_count asked.made.made_for.design.planes)
-          ∙ ap (λ quota. (server.setup.tech.plane_count + 1) * plane_reserve quota) asked.made.made_for.design.quota
+          all ∙ ap (λ n. n * plane_reserve closed.session.design.quota) (length-owners_of closed.session server.setup.tech.plane_count asked.made.ready.made_for.design.planes)
+          ∙ ap (λ quota. (server.setup.tech.plane_count + 1) * plane_reserve quota) asked.made.ready.made_for.design.quota
 
   pub frame-closed : (other : ℕ) → ¬ (Contains (owners_under now id) other) → tiles_of new other ≡ tiles_of now.pool other
   frame-closed other apart =

@@ -1,16 +1,17 @@
 -- What stays of a session that changes tiles of its own planes alone.
-use Rattle.std.proofs.Common.{◌≡◌, ℕ, List, [], ◌∷◌, ◌++◌, length, sym, ap, subst, ◌∙◌}
+use Rattle.std.proofs.Common.{◌≡◌, ℕ, List, [], ◌∷◌, ◌++◌, sym, ap, subst, ◌∙◌}
 use Rattle.mls_paint.proofs.OwnerFrames.{ChangesAmong-refl}
-use Rattle.mls_session.specs.Designs.{CanDump, Design, HasRightMarks, IsHome as IsDesignHome, KnowsRight}
+use Rattle.mls_session.specs.Designs.{Design, HasRightMarks, IsHome as IsDesignHome, KnowsRight}
 use Rattle.mls_session.specs.Journals.{IsLegal}
 use Rattle.mls_session.specs.OwnSteps.{Terms}
-use Rattle.mls_session.specs.Sessions.{IsHome, KeepsPlanes, Session, kept_of, owners_of, state_of}
+use Rattle.mls_session.specs.Sessions.{IsHome, KeepsPlanes, Session, StaysSound, kept_of, owners_of, state_of}
 use Rattle.mls_session.specs.Setups.{config_of, terms_of}
 use Rattle.mls_session.specs.declared.setup.Setup.{Setup}
+use Rattle.mls_session.proofs.KeptPlanes.{IsReady-kept}
 use Rattle.mls_tilepool.specs.Pools.{Pool}
 use Rattle.mls_server.specs.Servers.{IsOpenIn}
 use Rattle.mls_server.specs.declared.server.OpenSession.{OpenSession}
-use Rattle.mls_server.proofs.OtherSessions.{CanDump-apart, KeepsOthers, cell_layouts-apart, others-ChangesAmong}
+use Rattle.mls_server.proofs.OtherSessions.{KeepsOthers, cell_layouts-apart, others-ChangesAmong}
 use Rattle.mls_server.proofs.SessionTerms.{terms-same}
 
 module _ {old new : Pool} {before after : Session} (keeps : KeepsPlanes old new before after) where
@@ -25,27 +26,15 @@ module _ {old new : Pool} {before after : Session} (keeps : KeepsPlanes old new 
 module _ {old : Pool} {setup : Setup} {before : OpenSession} (made : IsOpenIn setup old before) {new : Pool} (after : OpenSession)
     (keeps : KeepsPlanes old new before.session after.session) where
   terms_of-kept : terms_of setup new ≡ terms_of setup old
-  terms_of-kept = terms-same setup (cell_layouts-apart (others-kept keeps) setup.library made.can_dump.apart)
+  terms_of-kept = terms-same setup (cell_layouts-apart (others-kept keeps) setup.library made.ready.can_dump.apart)
 
   pub IsOpenIn-kept :
-      (HasRightMarks (config_of setup old) (state_of old before.session).design → HasRightMarks (config_of setup old) (state_of new after.session).design)
-      → KnowsRight (config_of setup old) (state_of new after.session).design after.checked
-      → (IsLegal (terms_of setup old) (kept_of old before.session) → IsLegal (terms_of setup old) (kept_of new after.session))
-      → IsOpenIn setup new after
-  IsOpenIn-kept right knows legal = record {
-    made_for = record {
-      design = record {
-        planes = ap length keeps.planes.planes ∙ made.made_for.design.planes;
-        quota = keeps.planes.quota ∙ made.made_for.design.quota;
-      };
-      limit = keeps.limit ∙ made.made_for.limit;
-    };
-    home = keeps.planes.home;
-    can_dump =
-        subst (λ (owners : List ℕ). CanDump setup new owners) (sym (owners_of-kept keeps)) (CanDump-apart (others-kept keeps) made.can_dump.apart made.can_dump);
-    marks_right = subst (λ (terms : Terms). HasRightMarks terms.config (state_of new after.session).design) (sym terms_of-kept) (right made.marks_right);
+      StaysSound setup old new before.session after.session → KnowsRight (config_of setup old) (state_of new after.session).design after.checked → IsOpenIn setup new after
+  IsOpenIn-kept sound knows = record {
+    ready = IsReady-kept setup old new before.session after.session keeps made.ready;
+    marks_right = subst (λ (terms : Terms). HasRightMarks terms.config (state_of new after.session).design) (sym terms_of-kept) (sound.marks_right made.marks_right);
     knows_right = subst (λ (terms : Terms). KnowsRight terms.config (state_of new after.session).design after.checked) (sym terms_of-kept) knows;
-    legal = subst (λ (terms : Terms). IsLegal terms (kept_of new after.session)) (sym terms_of-kept) (legal made.legal);
+    legal = subst (λ (terms : Terms). IsLegal terms (kept_of new after.session)) (sym terms_of-kept) (sound.legal made.legal);
   }
 
 -- where the pool and the design stay

@@ -163,9 +163,11 @@ module _ {old new : Pool} {owners : List ℕ} (others : KeepsOthers old new owne
 
     pub IsOpenIn-apart : IsOpenIn setup new opened
     IsOpenIn-apart = record {
-      made_for = made.made_for;
-      home = IsHome-apart opened.session apart made.home;
-      can_dump = CanDump-apart cells_apart made.can_dump;
+      ready = record {
+        home = IsHome-apart opened.session apart made.ready.home;
+        made_for = made.ready.made_for;
+        can_dump = CanDump-apart cells_apart made.ready.can_dump;
+      };
       marks_right = as_before (λ terms kept. HasRightMarks terms.config kept.own.design) made.marks_right;
       knows_right = as_before (λ terms kept. KnowsRight terms.config kept.own.design opened.checked) made.knows_right;
       legal = as_before (λ terms kept. IsLegal terms kept) made.legal;

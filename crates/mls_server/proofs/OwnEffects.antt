@@ -2,7 +2,7 @@
 use Rattle.std.proofs.Common.{◌≡◌, ◌≢◌, ℕ, Bool, true, false, Some, List, [], ◌∷◌, length, replicate, inl, inr, refl, sym, ap, ◌∙◌, subst, arith}
 use Rattle.std.specs.Option.{option_and_then, option_map}
 use Rattle.mls_session.proofs.OwnReplies.{own_step-not_memory}
-use Rattle.mls_session.specs.Journals.{ChecksOnce, ChecksTimes, Commands, Does, Kept, RunsOut, Saves, is_memory, is_refusal, text_with}
+use Rattle.mls_session.specs.Journals.{ChecksOnce, ChecksTimes, Commands, Does, Kept, RunsOut, Saves, is_memory, is_refusal}
 use Rattle.mls_session.specs.OwnSteps.{OwnState, Terms, checks}
 use Rattle.mls_session.specs.declared.command.Command.{Command as OwnCommand}
 use Rattle.mls_session.specs.declared.command.Command.TheVariants.{Box, Paint, Erase, Dump, GetCell, What, Save as SaveCommand, Check, CatchUp, Why as AskWhy, Count as AskCount}
@@ -103,14 +103,6 @@ module _ (terms : Terms) where
       → Leads terms (AddsCommand SaveCommand reply) (told_by reply) before after
   Saves-leads before reply text after (inl saves) = Does-leads before SaveCommand reply after saves.0
   Saves-leads before reply text after (inr (room, refused, empty, kept)) = none_led SaveCommand before after reply refused kept
-
-  -- a save has the text of the own paint as it was
-  pub Saves-text :
-      (before : Kept) (reply : Reply) (text : List ℕ) (after : Kept) → Saves terms before reply text after
-      → text ≡ text_with terms.config.tech before.own.design.drawn.paint reply
-  Saves-text before reply text after (inl saves) = saves.1
-  Saves-text before reply text after (inr (room, refused, empty, kept)) =
-      empty ∙ ap (text_with terms.config.tech before.own.design.drawn.paint) (sym refused)
 
   -- ---- check steps
   -- one that was accepted

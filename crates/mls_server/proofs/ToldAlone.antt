@@ -19,10 +19,10 @@ use Rattle.mls_session.specs.declared.reply.Reply.{Reply}
 use Rattle.mls_session.specs.declared.step_run.StepRun.{StepRun}
 use Rattle.mls_server.proofs.AloneRuns.{alone-both}
 use Rattle.mls_server.proofs.EventFrames.{Happens-keeps, Happens-leaves, Keeps, Leaves}
-use Rattle.mls_server.proofs.OwnEffects.{ChecksOnce-leads, ChecksTimes-leads, Commands-leads, Leads, Saves-leads, Saves-text, none-leads}
+use Rattle.mls_server.proofs.OwnEffects.{ChecksOnce-leads, ChecksTimes-leads, Commands-leads, Leads, Saves-leads, none-leads}
 use Rattle.mls_server.proofs.Seats.{not_open-beyond, with_kept-same, without_session-same}
-use Rattle.mls_server.specs.Events.{Closes, DoesCommand, DoesFinish, DoesGrab, DoesSettle, DoesStep, DoesSteps, Happens, LooksAt, Runs, SavesText}
-use Rattle.mls_server.specs.OwnLists.{Adds, AddsIf, HasText, IsToldAlone, Item, OwnList, alone, at, is_of, started, told, told_to}
+use Rattle.mls_server.specs.Events.{Closes, DoesCommand, DoesFinish, DoesGrab, DoesSettle, DoesStep, DoesSteps, Grabs, Happens, LooksAt, Runs, SavesText}
+use Rattle.mls_server.specs.OwnLists.{Adds, AddsIf, HasAnswer, IsToldAlone, Item, OwnList, alone, at, is_of, started, told, told_to}
 use Rattle.mls_server.specs.Settings.{Setting, terms_for}
 use Rattle.mls_server.specs.Worlds.{IsNumbered, World, kept_in, with_kept, without_session}
 use Rattle.mls_server.specs.declared.answer.Answer.{Answer}
@@ -44,7 +44,7 @@ record Adds-here (own_event : Bool) (terms : Terms) (event : Event) (answer : An
   items : List Item
   after : Kept
   adds : AddsIf own_event event answer items after
-  text : own_event ≡ true → HasText terms event answer before
+  answered : own_event ≡ true → HasAnswer terms event answer before after
   leads : alone terms (at before) items ≡ Some (record { kept = after; replies = cond own_event (told answer) [] })
   stands : Stands new id after
 
@@ -53,13 +53,13 @@ module _ (old : World) (numbered : IsNumbered old) (id : ℕ) (kept : Kept) (sto
   -- the session keeps something else
   changed :
       (event : Event) (answer : Answer) (before after : Kept) (new : World) → kept_in old id ≡ Some before → new ≡ with_kept old id after
-      → HasText (terms_for old.setting) event answer before → Leads (terms_for old.setting) (Adds event answer) (told answer) before after
+      → HasAnswer (terms_for old.setting) event answer before after → Leads (terms_for old.setting) (Adds event answer) (told answer) before after
       → Adds-here true (terms_for old.setting) event answer id kept new
-  changed event answer before after new is_open is text led = record {
+  changed event answer before after new is_open is has led = record {
     items = led.items;
     after = after;
     adds = led.adds;
-    text = λ of. subst (HasText (terms_for old.setting) event answer) (stood.open_at before is_open) text;
+    answered = λ of. subst (λ (from : Kept). HasAnswer (terms_for old.setting) event answer from after) (stood.open_at before is_open) has;
     leads = ap (λ (first : Kept). alone (terms_for old.setting) (at first) led.items) (sym (stood.open_at before is_open)) ∙ led.leads;
     stands = subst (λ (on : World). Stands on id after) (sym is) (record {
       open_at = λ last found. same_Some last after (sym found ∙ with_kept-same old id after before is_open);
@@ -69,13 +69,13 @@ module _ (old : World) (numbered : IsNumbered old) (id : ℕ) (kept : Kept) (sto
 
   -- nothing changes
   unchanged :
-      (event : Event) (answer : Answer) (new : World) → new ≡ old → Adds event answer [] kept → HasText (terms_for old.setting) event answer kept → told answer ≡ []
+      (event : Event) (answer : Answer) (new : World) → new ≡ old → Adds event answer [] kept → HasAnswer (terms_for old.setting) event answer kept kept → told answer ≡ []
       → Adds-here true (terms_for old.setting) event answer id kept new
-  unchanged event answer new is adds text nothing = record {
+  unchanged event answer new is adds has nothing = record {
     items = [];
     after = kept;
     adds = adds;
-    text = λ of. text;
+    answered = λ of. has;
     leads = ap (λ (said : List Reply). Some (record { kept = kept; replies = said })) (sym nothing);
     stands = subst (λ (on : World). Stands on id kept) (sym is) stood;
   }
@@ -93,7 +93,7 @@ module _ (old : World) (numbered : IsNumbered old) (id : ℕ) (kept : Kept) (sto
         items = [];
         after = kept;
         adds = refl;
-        text = λ of. tt;
+        answered = λ of. tt;
         leads = refl;
         stands = subst (λ (on : World). Stands on id kept) (sym is) (closed was_open);
       }
@@ -103,14 +103,14 @@ module _ (old : World) (numbered : IsNumbered old) (id : ℕ) (kept : Kept) (sto
       (command : OwnCommand) (result : Result Reply NotOpen) (new : World) → DoesCommand old id command result new
       → Adds-here true (terms_for old.setting) (Command id command) (Commanded result) id kept new
   of_command command (Ok reply) new (before, after, is_open, does, is) =
-      changed (Command id command) (Commanded (Ok reply)) before after new is_open is tt (Commands-leads (terms_for old.setting) before command reply after does)
+      changed (Command id command) (Commanded (Ok reply)) before after new is_open is does (Commands-leads (terms_for old.setting) before command reply after does)
   of_command command (Err fault) new (none, is) = unchanged (Command id command) (Commanded (Err fault)) new is refl tt refl
 
   of_save :
       (result : Result Reply NotOpen) (text : List ℕ) (new : World) → SavesText old id result text new
       → Adds-here true (terms_for old.setting) (Save id) (Saved result text) id kept new
   of_save (Ok reply) text new (before, after, is_open, saves, is) =
-      changed (Save id) (Saved (Ok reply) text) before after new is_open is (Saves-text (terms_for old.setting) before reply text after saves)
+      changed (Save id) (Saved (Ok reply) text) before after new is_open is saves
       (Saves-leads (terms_for old.setting) before reply text after saves)
   of_save (Err fault) text new (none, empty, is) = unchanged (Save id) (Saved (Err fault) text) new is refl empty refl
 
@@ -125,7 +125,7 @@ module _ (old : World) (numbered : IsNumbered old) (id : ℕ) (kept : Kept) (sto
   of_grab :
       (result : Result (Option Job) GrabFault) (new : World) → DoesGrab old id result new
       → Adds-here true (terms_for old.setting) (Grab id) (Grabbed result) id kept new
-  of_grab (Ok job) new (before, is_open, next, is) = unchanged (Grab id) (Grabbed (Ok job)) new is refl tt refl
+  of_grab (Ok job) new (before, is_open, next, is) = unchanged (Grab id) (Grabbed (Ok job)) new is refl (subst (λ (from : Kept). Grabs (terms_for old.setting) from job) (stood.open_at before is_open) next) refl
   of_grab (Err NoSession) new (none, is) = unchanged (Grab id) (Grabbed (Err NoSession)) new is refl tt refl
   of_grab (Err OutOfMemory) new (before, is_open, some, is) = unchanged (Grab id) (Grabbed (Err OutOfMemory)) new is refl tt refl
 
@@ -140,7 +140,7 @@ module _ (old : World) (numbered : IsNumbered old) (id : ℕ) (kept : Kept) (sto
       (finding : Finding) (result : Result Outcome NotOpen) (new : World) → DoesFinish old id finding result new
       → Adds-here true (terms_for old.setting) (Finish id finding) (Finished result) id kept new
   of_finish finding (Ok outcome) new (before, after, is_open, finishes, is) =
-      changed (Finish id finding) (Finished (Ok outcome)) before after new is_open is tt (Finishes-leads finding before outcome after finishes)
+      changed (Finish id finding) (Finished (Ok outcome)) before after new is_open is finishes (Finishes-leads finding before outcome after finishes)
   of_finish finding (Err fault) new (none, is) = unchanged (Finish id finding) (Finished (Err fault)) new is refl tt refl
 
   StepsOnce-leads :
@@ -154,20 +154,20 @@ module _ (old : World) (numbered : IsNumbered old) (id : ℕ) (kept : Kept) (sto
   of_step :
       (result : Result StepEnd NotOpen) (new : World) → DoesStep old id result new → Adds-here true (terms_for old.setting) (Step id) (Stepped result) id kept new
   of_step (Ok end) new (before, after, is_open, steps, is) =
-      changed (Step id) (Stepped (Ok end)) before after new is_open is tt (StepsOnce-leads before end after steps)
+      changed (Step id) (Stepped (Ok end)) before after new is_open is steps (StepsOnce-leads before end after steps)
   of_step (Err fault) new (none, is) = unchanged (Step id) (Stepped (Err fault)) new is refl tt refl
 
   of_steps :
       (most : ℕ) (result : Result StepRun NotOpen) (new : World) → DoesSteps old id most result new
       → Adds-here true (terms_for old.setting) (Steps id most) (SteppedTimes result) id kept new
   of_steps most (Ok run) new (before, after, is_open, (checks, ended), is) =
-      changed (Steps id most) (SteppedTimes (Ok run)) before after new is_open is tt (ChecksTimes-leads (terms_for old.setting) run.done before after checks)
+      changed (Steps id most) (SteppedTimes (Ok run)) before after new is_open is (checks, ended) (ChecksTimes-leads (terms_for old.setting) run.done before after checks)
   of_steps most (Err fault) new (none, is) = unchanged (Steps id most) (SteppedTimes (Err fault)) new is refl tt refl
 
   of_settle :
       (result : Result ℕ NotOpen) (new : World) → DoesSettle old id result new → Adds-here true (terms_for old.setting) (Settle id) (Settled result) id kept new
   of_settle (Ok count) new (before, after, is_open, checks, is) =
-      changed (Settle id) (Settled (Ok count)) before after new is_open is tt (ChecksTimes-leads (terms_for old.setting) count before after checks)
+      changed (Settle id) (Settled (Ok count)) before after new is_open is checks (ChecksTimes-leads (terms_for old.setting) count before after checks)
   of_settle (Err fault) new (none, is) = unchanged (Settle id) (Settled (Err fault)) new is refl tt refl
 
   -- an event of this session, which is of this id
@@ -230,7 +230,7 @@ module _ (old : World) (numbered : IsNumbered old) (id : ℕ) (kept : Kept) (sto
         items = [];
         after = kept;
         adds = refl;
-        text = λ of. absurd cc;
+        answered = λ of. absurd cc;
         leads = refl;
         stands = left new (Happens-keeps old event answer new happens) (Happens-leaves old numbered id event answer new not_of happens);
       }
@@ -243,7 +243,7 @@ pub OwnList-alone :
 OwnList-alone terms id kept [] answers items last (none, same) =
     ap (alone terms (at kept)) none ∙ ap (λ (reached : Kept). Some (at reached)) (sym same)
 OwnList-alone terms id kept (event ∷ events) [] items last never = absurd never
-OwnList-alone terms id kept (event ∷ events) (answer ∷ answers) items last (first, rest, mid, adds, text, ran, list, joined) =
+OwnList-alone terms id kept (event ∷ events) (answer ∷ answers) items last (first, rest, mid, adds, answered, ran, list, joined) =
     ap (alone terms (at kept)) joined
     ∙ alone-both terms kept mid last first rest (cond (is_of id event) (told answer) []) (told_to id events answers) ran
     (OwnList-alone terms id mid events answers rest last list)
@@ -275,7 +275,7 @@ Runs-told id old new kept (event ∷ events) (answer ∷ answers) numbered stood
         later.items,
         here.after,
         here.adds,
-        here.text,
+        here.answered,
         here.leads,
         subst (λ (setting : Setting). OwnList (terms_for setting) id here.after events answers later.items later.last) keeps.setting later.own_list,
         refl,

@@ -16,12 +16,13 @@ use Rattle.mls_library.specs.declared.fault.CellFault.{CellFault}
 use Rattle.mls_session.specs.Journals.{ChecksTimes, Commands, Finishes, Kept, Saves, StepsOnce, StepsUpTo}
 use Rattle.mls_session.specs.Looks.{Looks}
 use Rattle.mls_session.specs.Own.{layout_of}
+use Rattle.mls_session.specs.OwnSteps.{Terms}
 use Rattle.mls_session.specs.declared.command.Command.{Command as OwnCommand}
 use Rattle.mls_session.specs.declared.look.Look.{Look as OwnLook}
 use Rattle.mls_session.specs.declared.look.Looked.{Looked as OwnLooked}
 use Rattle.mls_session.specs.declared.reply.Reply.{Reply}
 use Rattle.mls_session.specs.declared.step_run.StepRun.{StepRun}
-use Rattle.mls_server.specs.Settings.{NamedLayout, cell_names, config_for, session_reserve, terms_for}
+use Rattle.mls_server.specs.Settings.{NamedLayout, cell_names, session_reserve, terms_for}
 use Rattle.mls_server.specs.Worlds.{World, kept_in, session_named, with_kept, with_session, without_session}
 use Rattle.mls_server.specs.declared.event.Event.{Event}
 use Rattle.mls_server.specs.declared.event.Event.TheVariants.{Open, Close, Command, Save, Look, Grab, Finish, Step, Steps, Settle}
@@ -113,11 +114,14 @@ DoesFinish old id finding result new = OnSeat old id (λ before outcome after. F
 abbrev pub DoesSettle : World → ℕ → Result ℕ NotOpen → World → Type 0
 DoesSettle old id result new = OnSeat old id (λ before count after. ChecksTimes (terms_for old.setting) count before after) result new
 
--- the next job of the session's layout, if any, and nothing changes
+-- the next job of the layout that the session keeps, if any
+abbrev pub Grabs : Terms → Kept → Option Job → Type 0
+Grabs terms kept job =
+    IsNextJob terms.config.rules terms.config.tech.plane_count (layout_of terms.config kept.own.design.drawn) kept.own.design.checking job
+
+-- the session's next job, and nothing changes
 abbrev pub DoesGrab : World → ℕ → Result (Option Job) GrabFault → World → Type 0
-DoesGrab old id (Ok job) new =
-    (kept : Kept) × (kept_in old id ≡ Some kept)
-    × IsNextJob old.setting.rules old.setting.tech.plane_count (layout_of (config_for old.setting) kept.own.design.drawn) kept.own.design.checking job × (new ≡ old)
+DoesGrab old id (Ok job) new = (kept : Kept) × (kept_in old id ≡ Some kept) × Grabs (terms_for old.setting) kept job × (new ≡ old)
 DoesGrab old id (Err NoSession) new = (kept_in old id ≡ None) × (new ≡ old)
 DoesGrab old id (Err OutOfMemory) new = (kept : Kept) × (kept_in old id ≡ Some kept) × (kept.own.design.checking.dirty ≢ []) × (new ≡ old)
 

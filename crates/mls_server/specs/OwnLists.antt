@@ -4,13 +4,14 @@ use Rattle.std.specs.Prelude.{◌≡◌, ◌≢◌, ℕ, ◌+◌, ◌==◌, Bool
 use Rattle.std.specs.Option.{option_and_then, option_map, unwrap_or}
 use Rattle.mls_errorplane.specs.declared.error_plane.Outcome.TheVariants.{Finished as FindingFinished}
 use Rattle.mls_errorplane.specs.declared.error_plane.Stepped.TheVariants.{Done as StepDone}
-use Rattle.mls_session.specs.Journals.{Kept, is_memory, is_refusal, kept_at_opening, noted, text_with}
+use Rattle.mls_session.specs.Journals.{ChecksTimes, Commands, Finishes, Kept, Saves, StepsOnce, StepsUpTo, is_memory, is_refusal, kept_at_opening, noted}
 use Rattle.mls_session.specs.Looks.{Looks}
 use Rattle.mls_session.specs.OwnSteps.{OwnState, Terms, own_check, own_step}
 use Rattle.mls_session.specs.declared.command.Command.{Command as OwnCommand}
 use Rattle.mls_session.specs.declared.command.Command.TheVariants.{Save as SaveCommand}
 use Rattle.mls_session.specs.declared.reply.Reply.{Reply}
 use Rattle.mls_session.specs.declared.reply.Reply.TheVariants.{Done, Kinds, Saved as SavedLines, Count, Why, Refused, Stopped}
+use Rattle.mls_server.specs.Events.{Grabs}
 use Rattle.mls_server.specs.Settings.{terms_for}
 use Rattle.mls_server.specs.Worlds.{World, kept_in}
 use Rattle.mls_server.specs.declared.event.Event.{Event}
@@ -89,14 +90,19 @@ told (Stepped result) = []
 told (SteppedTimes result) = []
 told (Settled result) = []
 
--- the text that comes with the reply to a save is that of the own paint, as the session keeps it, or empty where it isn't saved; and a look returns, with its
--- text, what a look at what the session keeps does
-abbrev pub HasText : Terms → Event → Answer → Kept → Type 0
-HasText terms (Save id) (Saved (Ok reply) text) kept = text ≡ text_with terms.config.tech kept.own.design.drawn.paint reply
-HasText terms (Save id) (Saved (Err fault) text) kept = text ≡ []
-HasText terms (Look id look) (Looked (Ok looked) text) kept = Looks terms kept look looked text
-HasText terms (Look id look) (Looked (Err fault) text) kept = text ≡ []
-HasText terms event answer kept = Unit
+-- the answer to an event of the session, with its text, is the one for what it keeps, which changes so
+abbrev pub HasAnswer : Terms → Event → Answer → Kept → Kept → Type 0
+HasAnswer terms (Command id command) (Commanded (Ok reply)) before after = Commands terms before command reply after
+HasAnswer terms (Save id) (Saved (Ok reply) text) before after = Saves terms before reply text after
+HasAnswer terms (Save id) (Saved (Err fault) text) before after = text ≡ []
+HasAnswer terms (Look id look) (Looked (Ok looked) text) before after = Looks terms before look looked text
+HasAnswer terms (Look id look) (Looked (Err fault) text) before after = text ≡ []
+HasAnswer terms (Grab id) (Grabbed (Ok job)) before after = Grabs terms before job
+HasAnswer terms (Finish id finding) (Finished (Ok outcome)) before after = Finishes terms before finding outcome after
+HasAnswer terms (Step id) (Stepped (Ok end)) before after = StepsOnce terms before end after
+HasAnswer terms (Steps id most) (SteppedTimes (Ok run)) before after = StepsUpTo terms most before run after
+HasAnswer terms (Settle id) (Settled (Ok count)) before after = ChecksTimes terms count before after
+HasAnswer terms event answer before after = Unit
 
 abbrev pub is_of : ℕ → Event → Bool
 is_of id event = unwrap_or (option_map (λ session. session == id) (session_of event)) false
@@ -129,14 +135,14 @@ alone terms run [] = Some run
 alone terms run (asked command ∷ items) = alone terms (with_command run command (own_step terms run.kept.own command)) items
 alone terms run (checked ∷ items) = option_and_then (λ own. alone terms (with_check run own) items) (own_check terms run.kept.own)
 
--- the session keeps this at first; its own list, event by event, is these items, and their alone run leads to what it keeps at last; each save and each
--- look is of what that run has then come to keep
+-- the session keeps this at first; its own list, event by event, is these items, and their alone run leads to what it keeps at last; the answer to each of
+-- its events is the one for what that run has then come to keep
 abbrev pub OwnList : Terms → ℕ → Kept → List Event → List Answer → List Item → Kept → Type 0
 OwnList terms id kept [] answers items last = (items ≡ []) × (last ≡ kept)
 OwnList terms id kept (event ∷ events) [] items last = ⊥
 OwnList terms id kept (event ∷ events) (answer ∷ answers) items last =
     (first : List Item) × (rest : List Item) × (mid : Kept) × AddsIf (is_of id event) event answer first mid
-    × (is_of id event ≡ true → HasText terms event answer kept)
+    × (is_of id event ≡ true → HasAnswer terms event answer kept mid)
     × (alone terms (at kept) first ≡ Some (record { kept = mid; replies = if is_of id event then told answer else [] }))
     × OwnList terms id mid events answers rest last × (items ≡ first ++ rest)
 

@@ -3,7 +3,7 @@ use Rattle.std.specs.Prelude.{◌≡◌, ℕ, ◌<◌, ◌≤◌, ◌==◌, if�
 use Rattle.std.specs.List.{All, AllPairs, Contains, position_or_len}
 use Rattle.mls_session.specs.Designs.{CanDump, HasRightMarks, KnowsRight}
 use Rattle.mls_session.specs.Journals.{IsLegal}
-use Rattle.mls_session.specs.Sessions.{IsHome, IsMadeFor, kept_of, owners_of, state_of}
+use Rattle.mls_session.specs.Sessions.{IsReady, kept_of, owners_of, state_of}
 use Rattle.mls_session.specs.Setups.{config_of, terms_of}
 use Rattle.mls_session.specs.declared.setup.Setup.{Setup}
 use Rattle.mls_tilepool.specs.Pools.{Pool, unreserved}
@@ -56,9 +56,7 @@ pub record IsPlaceOf (server : Server) (id place : ℕ) : Type 0 where
 -- the session was opened with this setup, its planes lie in the pool beside those of the cells, its marks are right by the rules, and where earlier checks
 -- are known to have left right marks too, and its journal is legal
 pub record IsOpenIn (setup : Setup) (pool : Pool) (opened : OpenSession) : Type 0 where
-  pub made_for : IsMadeFor setup opened.session
-  pub home : IsHome pool opened.session
-  pub can_dump : CanDump setup pool (owners_of opened.session)
+  pub ready : IsReady setup pool opened.session
   pub marks_right : HasRightMarks (config_of setup pool) (state_of pool opened.session).design
   pub knows_right : KnowsRight (config_of setup pool) (state_of pool opened.session).design opened.checked
   pub legal : IsLegal (terms_of setup pool) (kept_of pool opened.session)

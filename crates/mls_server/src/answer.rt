@@ -1,7 +1,7 @@
 //! What a server answers.
-use crate::{GrabFault, NotOpen, OpenFault, ReplyText, SessionId};
+use crate::{GrabFault, NotOpen, OpenFault, SessionId};
 use mls_errorplane::{Outcome, Stepped};
-use mls_session::{Job, Looked, Reply, StepRun};
+use mls_session::{Job, Listing, Looked, Reply, StepRun};
 
 /// The answer to an event.
 #[derive(Drop)]
@@ -12,10 +12,10 @@ pub enum Answer {
     Closed(Result<(), NotOpen>),
     /// The reply to a command.
     Commanded(Result<Reply, NotOpen>),
-    /// The reply to saving, and the text of the own paint, which is empty unless it was saved.
-    Saved(Result<Reply, NotOpen>, ReplyText),
-    /// What a look returned, and the text that comes with it.
-    Looked(Result<Looked, NotOpen>, ReplyText),
+    /// The reply to saving, and the bytes of the own paint's text. There are none unless it was saved.
+    Saved(Result<Reply, NotOpen>, Listing<u8>),
+    /// What a look returned, and the bytes of the text that comes with it.
+    Looked(Result<Looked, NotOpen>, Listing<u8>),
     /// What a check of the first piece needs, if an area awaits checking.
     Grabbed(Result<Option<Job>, GrabFault>),
     /// How finishing ended.

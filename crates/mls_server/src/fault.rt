@@ -1,5 +1,6 @@
 //! Why an event on a server fails.
 ghost use Rattle.std.specs.Prelude.{◌≡◌};
+ghost use Rattle.mls_server.specs.Faults.{open_fault_number, open_fault_text, open_fault_wording};
 
 use thiserror::Error;
 
@@ -34,29 +35,31 @@ pub enum OpenFault {
 }
 
 impl OpenFault {
-    ghost use Rattle.mls_server.specs.Faults.{open_fault_number, open_fault_text};
-
     /// Returns the fault's number in replies.
     pub fn number(self) -> u8
         ensures { result ≡ open_fault_number self }
     {
-        match self {
-            OpenFault::OpenAlready => 1,
-            OpenFault::SessionsFull => 2,
-            OpenFault::PoolFull => 3,
-            OpenFault::Memory => 4,
-        }
+        let (number, _) = self.wording();
+        number
     }
 
     /// Returns the fault's text in replies.
     pub fn text(self) -> &'static str
         ensures { result.now ≡ open_fault_text self }
     {
+        let (_, text) = self.wording();
+        text
+    }
+
+    /// Returns the fault's number and its text in replies.
+    fn wording(self) -> (u8, &'static str)
+        ensures { open_fault_wording self ≡ record { number = result.0; text = result.1.now } }
+    {
         match self {
-            OpenFault::OpenAlready => "open already",
-            OpenFault::SessionsFull => "sessions full",
-            OpenFault::PoolFull => "pool full",
-            OpenFault::Memory => "memory",
+            OpenFault::OpenAlready => (1, "open already"),
+            OpenFault::SessionsFull => (2, "sessions full"),
+            OpenFault::PoolFull => (3, "pool full"),
+            OpenFault::Memory => (4, "memory"),
         }
     }
 }

@@ -6,7 +6,6 @@ mod event;
 mod fault;
 mod limits;
 mod name;
-mod reply_text;
 mod server;
 mod session_id;
 
@@ -15,6 +14,5 @@ pub use event::Event;
 pub use fault::{GrabFault, NotOpen, OpenFault};
 pub use limits::{Capacity, Limits};
 pub use name::Name;
-pub use reply_text::ReplyText;
 pub use server::Server;
 pub use session_id::SessionId;

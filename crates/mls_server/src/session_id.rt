@@ -5,18 +5,16 @@ use std::marker::Model;
 
 /// The id of a session. The n-th session that a server opens has the id n, and no id is given twice.
 #[derive(Clone, Copy, Debug, PartialEq, Eq)]
-pub struct SessionId {
-    number: u64,
-}
+pub struct SessionId(u64);
 
 impl Model for SessionId {
     ghost use Rattle.std.specs.Prelude.{ℕ};
 
     ghost Value = { ℕ };
 
-    ghost view = { λ id. id.number };
+    ghost view = { λ id. id.0 };
 
-    ghost inverse = { λ number. record { number = number } };
+    ghost inverse = { λ number. record { 0 = number } };
 }
 
 impl SessionId {
@@ -24,13 +22,13 @@ impl SessionId {
     pub fn of(number: u64) -> SessionId
         ensures { result ≡ number }
     {
-        SessionId { number }
+        SessionId(number)
     }
 
     /// Returns the id's number.
     pub fn number(self) -> u64
         ensures { result ≡ self }
     {
-        self.number
+        self.0
     }
 }

@@ -1,12 +1,11 @@
 -- What an edit of a design's layout leads to, once what it changed awaits checking.
-use Rattle.std.proofs.Common.{◌≡◌, ℕ, ◌<◌, Bool, true, not, List, ◌∷◌, [], length, get_or, Option, Some, sym, ap, ◌∙◌}
+use Rattle.std.proofs.Common.{◌≡◌, ℕ, ◌<◌, Bool, true, not, List, Option, Some, sym, ap, ◌∙◌}
 use Rattle.mls_geom.specs.Layouts.{Layout}
 use Rattle.mls_geom.specs.Pictures.{overlaid}
 use Rattle.mls_geom.specs.Rects.{Rect}
 use Rattle.mls_geom.specs.TileCounts.{tile_count}
 use Rattle.mls_geom.specs.World.{world}
 use Rattle.mls_geom.specs.declared.piece.Piece.{Piece}
-use Rattle.mls_tech.specs.Readings.{plane_of_type}
 use Rattle.mls_tilepool.specs.Pools.{Pool}
 use Rattle.mls_stitch.specs.Tilings.{ChangesOnly}
 use Rattle.mls_paint.specs.Owners.{ChangesAmong}
@@ -20,7 +19,7 @@ use Rattle.mls_session.specs.declared.reply.Reply.TheVariants.{Done}
 use Rattle.mls_session.proofs.ChangedQuotas.{change_step-Done}
 use Rattle.mls_session.proofs.CommandSteps.{edit_step-Done}
 use Rattle.mls_session.proofs.ErrorPlanes.{checking_of-kept}
-use Rattle.mls_session.proofs.Painting.{paint_step-Done}
+use Rattle.mls_session.proofs.Painting.{IsPainting, paint_step-Done}
 
 -- the areas that await checking are those that did, and what the edit changed
 module _ (config : Config) (old new : Pool) (before after : Design) (rect : Option Rect) (home : IsHome old before) (only : ChangesAmong old new before.planes) (soiled : checking_of new after.errors ≡ soiled_after config.rules rect Done (checking_of new before.errors)) where
@@ -43,15 +42,14 @@ module _ (config : Config) (old new : Pool) (before after : Design) (rect : Opti
 
 -- one plane is painted
 pub paint-Done :
-    (config : Config) (old new : Pool) (before after : Design) (named : Option ℕ) (e : Rect) (kind plane owner : ℕ) (pieces : List Piece) → before.box ≡ Some e → named ≡ Some kind
-    → plane_of_type config.tech.type_planes kind ≡ Some plane → pieces ≡ record { rect = e; kind = kind } ∷ [] → config.quota ≡ before.quota → plane < length before.planes
-    → owner ≡ get_or before.planes plane owner → IsHome old before → ChangesOnly old new owner → picture_in new owner ≡ overlaid (picture_in old owner) pieces
+    (config : Config) (old new : Pool) (before after : Design) (named : Option ℕ) (e : Rect) (kind plane owner : ℕ) (pieces : List Piece)
+    → IsPainting config before named e kind plane owner pieces → IsHome old before → ChangesOnly old new owner → picture_in new owner ≡ overlaid (picture_in old owner) pieces
     → ¬ (before.quota < tile_count world (overlaid (picture_in old owner) pieces)) → after.box ≡ before.box → after.planes ≡ before.planes
     → after.uses ≡ before.uses → checking_of new after.errors ≡ soiled_after config.rules (Some e) Done (checking_of new before.errors)
     → edit_step config (designed_of old before) before.box (paint_step config (drawn_of old before) before.box named) ≡ (designed_of new after, Done)
-paint-Done config old new before after named e kind plane owner pieces is_set is_known lies_on one same_quota within is home changed shows few box planes uses soiled =
-    let only = ChangesAmong-ChangesOnly old new before.planes owner (plane, within, sym is) changed in
+paint-Done config old new before after named e kind plane owner pieces painting home changed shows few box planes uses soiled =
+    let only = ChangesAmong-ChangesOnly old new before.planes owner (plane, painting.within, sym painting.is) changed in
     edit_step-Done config (designed_of old before) (designed_of new after) before.box (paint_step config (drawn_of old before) before.box named)
-    (paint_step-Done config old before named e kind plane owner pieces is_set is_known lies_on one same_quota within is new after home.layout box planes uses changed shows few)
+    (paint_step-Done config old before named e kind plane owner pieces painting new after home.layout box planes uses changed shows few)
     (soiled ∙ ap (soiled_after config.rules (Some e) Done) (checking_of-kept old new before home.errors only)
-    ∙ ap (λ (rect : Option Rect). soiled_after config.rules rect Done (checking_of old before.errors)) (sym is_set))
+    ∙ ap (λ (rect : Option Rect). soiled_after config.rules rect Done (checking_of old before.errors)) (sym painting.is_set))

@@ -1,5 +1,5 @@
 -- A design's error plane lies in the pool beside the planes of its layout, and stays there as one of them changes.
-use Rattle.std.proofs.Common.{◌≡◌, ◌≢◌, ℕ, ◌≤◌, List, [], ◌∷◌, get_or, Option, Some, IfSome, All, Contains, sym, ap, ◌∙◌, subst, arith}
+use Rattle.std.proofs.Common.{◌≡◌, ◌≢◌, ℕ, ◌≤◌, List, [], ◌∷◌, get_or, Option, Some, All, Contains, sym, ap, ◌∙◌, subst, arith}
 use Rattle.std.proofs.lemmas.List.{get_or_default}
 use Rattle.std.proofs.lemmas.List.Elements.{Contains-append_left, Contains-push}
 use Rattle.mls_geom.specs.Rects.{Rect}
@@ -29,16 +29,6 @@ pub FitsWorkspace-home : (pool : Pool) (quota : ℕ) (planes : List ℕ) → Are
 FitsWorkspace-home pool quota planes home few k d within =
     let fits : plane_reserve quota ≤ 16448 = omega (arith, few) in
     rw (home.reserves k d within) fits
-
-pub FitsWorkspace-errors : (pool : Pool) (design : Design) → HasErrorPlane pool design → design.quota ≤ most_quota → FitsWorkspace pool design.errors.owner
-FitsWorkspace-errors pool design errors few =
-    let fits : plane_reserve design.quota ≤ 16448 = omega (arith, few) in
-    rw errors.reserve fits
-
-pub limit-errors : (pool : Pool) (design : Design) (limit : ℕ) → HasErrorPlane pool design → limit ≡ design.quota → IfSome (room_of pool design.errors.owner) (λ room. limit ≤ room)
-limit-errors pool design limit errors same =
-    let fits : limit ≤ plane_reserve design.quota = omega (arith, same) in
-    rw errors.reserve fits
 
 -- ---- what depends on the planes and the quota alone
 IsHome-with :

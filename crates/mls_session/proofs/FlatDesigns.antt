@@ -1,9 +1,9 @@
 -- A design's layout is what its planes show with the uses of its cells, and these lie in the pool beside them.
-use Rattle.std.proofs.Common.{◌≡◌, ℕ, ◌<◌, List, [], ◌∷◌, length, get_or, All, Contains, sym, ap, ◌∙◌, subst, arith}
+use Rattle.std.proofs.Common.{◌≡◌, ◌≢◌, ℕ, ◌<◌, ◌≤◌, List, [], ◌∷◌, length, get_or, All, Contains, sym, ap, ◌∙◌, subst, arith}
 use Rattle.std.proofs.lemmas.List.{get_or_default}
 use Rattle.std.proofs.lemmas.List.Elements.{Contains-append_right}
 use Rattle.mls_geom.specs.Pictures.{Picture}
-use Rattle.mls_layout.specs.Uses.{HasCells, cell_layouts, flat_layout, flat_plane, flattened, over, uses_layout}
+use Rattle.mls_layout.specs.Uses.{HasLayout, HasPlanes, cell_layouts, flat_layout, flat_plane, flattened, over, uses_layout}
 use Rattle.mls_layout.specs.declared.uses.CellUse.{CellUse}
 use Rattle.mls_layout.specs.declared.uses.Uses.{Uses}
 use Rattle.mls_layout.specs.Workspaces.{FitsWorkspace}
@@ -12,10 +12,13 @@ use Rattle.mls_paint.specs.Planes.{layout_in}
 use Rattle.mls_paint.proofs.OwnerFrames.{layout_in-at}
 use Rattle.mls_stitch.specs.Tilings.{HasPlane}
 use Rattle.mls_tilepool.specs.Pools.{Pool}
-use Rattle.mls_session.specs.Designs.{CanDump, Design, IsMadeFor, drawn_of, owners_of}
+use Rattle.mls_errorplane.specs.ErrorPlanes.{StandsApart}
+use Rattle.mls_session.specs.Designs.{CanDump, Design, HasErrorPlane, IsHome, IsMadeFor, drawn_of, owners_of}
 use Rattle.mls_session.specs.Own.{layout_of}
+use Rattle.mls_session.specs.Quotas.{most_quota}
 use Rattle.mls_session.specs.Setups.{config_of}
 use Rattle.mls_session.specs.declared.setup.Setup.{Setup}
+use Rattle.mls_session.proofs.ErrorPlanes.{FitsWorkspace-home, HasPlane-home}
 
 -- ---- what it shows
 pub flat_layout-design :
@@ -53,17 +56,25 @@ module _ (pool mid : Pool) (uses : Uses) (owners lent : List ℕ) (i owner : ℕ
       ∙ ap (λ (list : List ℕ). flat_plane pool uses i (get_or list i owner)) back
       ∙ flat_plane-at pool uses owners i (get_or owners i owner) within (get_or_default owners i owner (get_or owners i owner) within)
 
--- ---- what its calls ask for of the cells
+-- ---- what calls of its error plane ask for
 module _ (setup : Setup) (pool : Pool) (design : Design) (can : CanDump setup pool (owners_of design)) (library : Library) (same : library ≡ setup.library) where
-  -- they lie in the pool, and none has more planes than the design
-  pub HasCells-CanDump : (planes : List ℕ) → IsMadeFor setup design → planes ≡ design.planes → HasCells pool (length planes) library
-  HasCells-CanDump planes made_for is =
+  -- its planes and the cells lie in the pool, and no cell has more planes than the design
+  pub HasLayout-design : (planes : List ℕ) → IsHome pool design → design.quota ≤ most_quota → IsMadeFor setup design → planes ≡ design.planes → HasLayout pool planes library
+  HasLayout-design planes home few made_for is =
       let count = ap length is in
-      subst (HasCells pool (length planes)) (sym same) (record { home = can.home; few = λ k d within. omega (arith, count, made_for.planes, can.planes k d within) })
+      subst (HasLayout pool planes) (sym same) (record {
+        planes = subst (HasPlanes pool) (sym is) (record {
+          each = HasPlane-home pool design.quota design.planes home.layout;
+          fit = FitsWorkspace-home pool design.quota design.planes home.layout few;
+        });
+        cells = record { home = can.home; few = λ k d within. omega (arith, count, made_for.planes, can.planes k d within) };
+      })
 
-  -- the owner of the error plane has none of their planes
-  pub cells_apart-CanDump : (owner : ℕ) → owner ≡ design.errors.owner → All (λ cell. All (λ other. ¬ (Contains (owner ∷ []) other)) cell.planes) library
-  cells_apart-CanDump owner is =
-      subst (λ (cells : Library). All (λ cell. All (λ other. ¬ (Contains (owner ∷ []) other)) cell.planes) cells) (sym same)
-      (subst (λ (errors : ℕ). All (λ cell. All (λ other. ¬ (Contains (errors ∷ []) other)) cell.planes) setup.library) (sym is)
-      (λ k d within i e among found. can.apart k d within i e among (Contains-append_right design.planes (design.errors.owner ∷ []) _ found)))
+  -- the error plane stands apart from both
+  pub StandsApart-design : (owner : ℕ) (planes : List ℕ) → HasErrorPlane pool design → owner ≡ design.errors.owner → planes ≡ design.planes → StandsApart owner planes library
+  StandsApart-design owner planes errors is lent =
+      subst (λ (o : ℕ). StandsApart o planes library) (sym is) (record {
+        planes = subst (All (λ other. other ≢ design.errors.owner)) (sym lent) errors.apart;
+        cells = subst (All (λ cell. All (λ other. ¬ (Contains (design.errors.owner ∷ []) other)) cell.planes)) (sym same)
+            (λ k d within i e among found. can.apart k d within i e among (Contains-append_right design.planes (design.errors.owner ∷ []) _ found));
+      })

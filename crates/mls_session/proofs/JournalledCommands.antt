@@ -1,5 +1,5 @@
 -- What a session keeps after a command of its design.
-use Rattle.std.proofs.Common.{◌≡◌, ◌≢◌, inl, inr, ◌+◌, ◌++◌, ◌∷◌, [], ℕ, true, false, Some, List, length, length-append, refl, sym, ap, ◌∙◌, subst, arith}
+use Rattle.std.proofs.Common.{◌≡◌, ◌≢◌, inl, inr, ◌+◌, ◌++◌, ◌∷◌, [], ℕ, Bool, true, false, cond, Some, List, length, length-append, refl, sym, ap, ◌∙◌, subst, arith}
 use Rattle.std.proofs.lemmas.Bool.{cond-false, cond-true}
 use Rattle.mls_tilepool.specs.Pools.{Pool}
 use Rattle.mls_session.specs.Designs.{Design, designed_of}
@@ -24,6 +24,14 @@ use Rattle.mls_session.proofs.OwnReplies.{design_step-is_journalled, design_step
 abbrev pub kept_with : Designed → Journal → Kept
 kept_with own journal =
     record { own = record { design = own; entries = length journal.entries }; journal = journal.entries; checks = journal.checks }
+
+-- a command leaves it to a journal how many entries it may have
+pub after_command-limit : (journal : Journal) (command : Command) (executed : Executed) → (after_command journal command executed).limit ≡ journal.limit
+after_command-limit journal command executed = either (is_refusal is_memory executed.reply)
+  where
+    either : (memory : Bool) → (cond memory (after_steps journal executed.steps) (after_note journal (said_of command executed.reply))).limit ≡ journal.limit
+    either true = refl
+    either false = refl
 
 -- a session with this design and this journal
 abbrev pub seen : Design → Journal → Session

@@ -5,7 +5,7 @@ use Rattle.mls_paint.specs.Owners.{ChangesAmong}
 use Rattle.mls_paint.proofs.OwnerFrames.{ChangesAmong-refl, ChangesAmong-trans}
 use Rattle.mls_session.specs.Designs.{CanDump}
 use Rattle.mls_session.specs.OwnSteps.{Terms}
-use Rattle.mls_session.specs.Sessions.{IsHome, IsMadeFor, KeepsPlanes, Session, owners_of}
+use Rattle.mls_session.specs.Sessions.{IsHome, IsMadeFor, IsReady, KeepsPlanes, Session, StaysSound, owners_of}
 use Rattle.mls_session.specs.Setups.{terms_of}
 use Rattle.mls_session.specs.declared.setup.Setup.{Setup}
 use Rattle.mls_session.proofs.CellFrames.{home-ChangesAmong, layouts-ChangesAmong}
@@ -17,6 +17,9 @@ KeepsPlanes-refl pool session home = record {
   planes = record { home = home; only = ChangesAmong-refl pool (owners_of session); planes = refl; errors = refl; quota = refl };
   limit = refl;
 }
+
+pub StaysSound-refl : (setup : Setup) (pool : Pool) (session : Session) → IsHome pool session → StaysSound setup pool pool session session
+StaysSound-refl setup pool session home = record { legal = λ legal. legal; marks_right = λ right. right; planes = KeepsPlanes-refl pool session home }
 
 module _ (setup : Setup) (old new : Pool) (before after : Session) (keeps : KeepsPlanes old new before after) where
   pub owners_of-kept : owners_of after ≡ owners_of before
@@ -34,6 +37,9 @@ module _ (setup : Setup) (old new : Pool) (before after : Session) (keeps : Keep
   CanDump-kept can =
       subst (CanDump setup new) (sym owners_of-kept)
       (record { home = home-ChangesAmong old new (owners_of before) keeps.planes.only setup can; apart = can.apart; planes = can.planes })
+
+  pub IsReady-kept : IsReady setup old before → IsReady setup new after
+  IsReady-kept ready = record { home = keeps.planes.home; made_for = IsMadeFor-kept ready.made_for; can_dump = CanDump-kept ready.can_dump }
 
   pub terms_of-kept : CanDump setup old (owners_of before) → terms_of setup new ≡ terms_of setup old
   terms_of-kept can =

@@ -5,7 +5,7 @@ use Rattle.mls_geom.specs.Rects.{Rect}
 use Rattle.mls_geom.specs.World.{rect_of}
 use Rattle.mls_geom.specs.declared.rect.RectFault.{RectFault}
 use Rattle.mls_geom.specs.declared.rect.RectFault.TheVariants.{Empty, Outside}
-use Rattle.mls_session.specs.Designs.{KnowsRight, known_after}
+use Rattle.mls_session.specs.Designs.{KnowsRight, known_after, leaves_marks}
 use Rattle.mls_session.specs.Journals.{Commands, Does, Kept, RunsOut, is_journalled, noted}
 use Rattle.mls_session.specs.Own.{Config, Designed, box_step, check_in, edit_step, what_step, why_step}
 use Rattle.mls_session.specs.OwnSteps.{OwnState, Terms, design_step, own_step}
@@ -43,13 +43,11 @@ module _ (config : Config) (own : Designed) (checked : Option Checked) (right : 
 
   -- where nothing changes, what was known is so still, and more than is known after the command
   kept-knows : (command : Command) → KnowsRight config own (known_after command checked)
-  kept-knows (Box left bottom right' top) = right
-  kept-knows What = right
-  kept-knows Save = right
-  kept-knows Check = right
-  kept-knows Why = right
-  kept-knows Count = right
-  kept-knows _ = tt
+  kept-knows command = either (leaves_marks command)
+    where
+      either : (leaves : Bool) → KnowsRight config own (cond leaves checked None)
+      either true = right
+      either false = tt
 
 -- either way, the own state is the one that is given
 either_own : (journalled : Bool) (one other : Kept) (own : OwnState) → one.own ≡ own → other.own ≡ own → (cond journalled one other).own ≡ own

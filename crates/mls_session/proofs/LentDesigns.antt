@@ -1,24 +1,25 @@
 -- What a design lends to a call of its error plane, its planes and what its layout is checked by, and the design that comes back.
-use Rattle.std.proofs.Common.{◌≡◌, ℕ, List, [], ◌∷◌, length, All, Contains, sym, ap, ◌∙◌, subst}
+use Rattle.std.proofs.Common.{◌≡◌, ℕ, ◌≤◌, List, length, sym, ap, ◌∙◌, subst, arith}
 use Rattle.std.specs.Vec.{with_items}
 use Rattle.std.proofs.lemmas.List.{with_items_is}
 use Rattle.mls_edgerule.specs.declared.edge_rule.EdgeRule.{EdgeRule}
 use Rattle.mls_geom.specs.Layouts.{Layout}
 use Rattle.mls_tilepool.specs.Pools.{Pool}
 use Rattle.mls_stitch.specs.Tilings.{ChangesOnly}
-use Rattle.mls_layout.specs.Uses.{HasCells, flat_layout}
+use Rattle.mls_layout.specs.Uses.{HasLayout, flat_layout}
 use Rattle.mls_library.specs.Libraries.{Library}
 use Rattle.mls_errorplane.specs.Checkings.{Checking}
-use Rattle.mls_errorplane.specs.ErrorPlanes.{ErrorPlane, ShowsMarks, checking_of}
+use Rattle.mls_errorplane.specs.ErrorPlanes.{ErrorPlane, ShowsMarks, StandsApart, checking_of}
 use Rattle.mls_errorplane.specs.declared.basis.Basis.{Basis}
 use Rattle.mls_session.specs.Designs.{CanDump, Design, IsHome, IsMadeFor, drawn_of, owners_of}
 use Rattle.mls_session.specs.Inner.{KeepsDrawn}
 use Rattle.mls_session.specs.Own.{layout_of}
+use Rattle.mls_session.specs.Quotas.{IsQuota, most_quota}
 use Rattle.mls_session.specs.Setups.{config_of}
 use Rattle.mls_session.specs.declared.design.Design.TheInside.{Inside}
 use Rattle.mls_session.specs.declared.setup.Setup.{Setup}
 use Rattle.mls_session.proofs.ErrorPlanes.{KeepsPlanes-errors, drawn-errors}
-use Rattle.mls_session.proofs.FlatDesigns.{HasCells-CanDump, cells_apart-CanDump, flat_layout-design}
+use Rattle.mls_session.proofs.FlatDesigns.{HasLayout-design, StandsApart-design, flat_layout-design}
 
 -- the design as its fields have it
 abbrev pub seen : Inside → Design
@@ -43,19 +44,23 @@ pub record IsLent (setup : Setup) (inside : Inside) (basis : Basis) (owners : Li
   pub limit : most ≡ inside.quota
 
 -- ---- what is lent
--- the cells lie in the pool
-pub HasCells-lent :
-    (setup : Setup) (pool : Pool) (inside : Inside) (design : Design) → seen inside ≡ design → (library : Library) → library ≡ setup.library
-    → (owners : List ℕ) → owners ≡ inside.planes.items → CanDump setup pool (owners_of design) → IsMadeFor setup design → HasCells pool (length owners) library
-HasCells-lent setup pool inside design view library same owners lent can made_for =
-    HasCells-CanDump setup pool design can library same owners made_for (lent ∙ ap (λ (d : Design). d.planes) view)
+module _ (setup : Setup) (pool : Pool) (inside : Inside) (design : Design) (view : seen inside ≡ design) (home : IsHome pool design) (legal : IsQuota inside.quota) where
+  few : design.quota ≤ most_quota
+  few = let same = ap (λ (d : Design). d.quota) view in omega (arith, same, legal.bounded)
 
--- none of their planes is the error plane
-pub cells_apart-lent :
-    (setup : Setup) (pool : Pool) (inside : Inside) (design : Design) → seen inside ≡ design → (library : Library) → library ≡ setup.library
-    → CanDump setup pool (owners_of design) → All (λ cell. All (λ other. ¬ (Contains (inside.errors.owner ∷ []) other)) cell.planes) library
-cells_apart-lent setup pool inside design view library same can =
-    cells_apart-CanDump setup pool design can library same inside.errors.owner (ap (λ (d : Design). d.errors.owner) view)
+  -- its planes and the cells are a layout
+  pub HasLayout-lent :
+      (library : Library) → library ≡ setup.library → (owners : List ℕ) → owners ≡ inside.planes.items → CanDump setup pool (owners_of design) → IsMadeFor setup design
+      → HasLayout pool owners library
+  HasLayout-lent library same owners lent can made_for =
+      HasLayout-design setup pool design can library same owners home few made_for (lent ∙ ap (λ (d : Design). d.planes) view)
+
+  -- from which its error plane stands apart
+  pub StandsApart-lent :
+      (library : Library) → library ≡ setup.library → (owners : List ℕ) → owners ≡ inside.planes.items → CanDump setup pool (owners_of design)
+      → StandsApart inside.errors.owner owners library
+  StandsApart-lent library same owners lent can =
+      StandsApart-design setup pool design can library same inside.errors.owner owners home.errors (ap (λ (d : Design). d.errors.owner) view) (lent ∙ ap (λ (d : Design). d.planes) view)
 
 -- what is said of the rules, the layout, the planes, the limit and the error plane that are lent is said of the design's own
 pub said_of-lent :

@@ -1,5 +1,5 @@
 -- What a caller sees of a design, its own state, and its planes in the pool.
-use Rattle.std.specs.Prelude.{◌≡◌, ◌≢◌, ℕ, Option, Some, None, IfSome, List, [], ◌∷◌, ◌++◌, length, ⊤}
+use Rattle.std.specs.Prelude.{◌≡◌, ◌≢◌, ℕ, Bool, true, false, if◌then◌else◌, Option, Some, None, IfSome, List, [], ◌∷◌, ◌++◌, length, ⊤}
 use Rattle.std.specs.List.{All, AllPairs, Contains}
 use Rattle.mls_geom.specs.Rects.{Rect}
 use Rattle.mls_layout.specs.declared.uses.CellUse.{CellUse}
@@ -92,16 +92,20 @@ HasRightMarks config own = IsChecked config.rules (layout_of config own.drawn) o
 abbrev pub KnowsRight : Config → Designed → Option Checked → Type 0
 KnowsRight config own checked = IfSome checked (AreRightIn config.rules (layout_of config own.drawn) own.checking.marks)
 
--- where they are known to be so after a command: where they were, if it leaves the layout and the marks
+-- a command leaves the layout and the marks as they are, whatever its reply
+abbrev pub leaves_marks : Command → Bool
+leaves_marks (Box left bottom right top) = true
+leaves_marks What = true
+leaves_marks Save = true
+leaves_marks Check = true
+leaves_marks WhyCommand = true
+leaves_marks CountCommand = true
+leaves_marks (Paint kind) = false
+leaves_marks (Erase kinds) = false
+leaves_marks (Dump cell dx dy) = false
+leaves_marks (GetCell cell dx dy) = false
+leaves_marks CatchUp = false
+
+-- where they are known to be so after a command: where they were, if it leaves them
 abbrev pub known_after : Command → Option Checked → Option Checked
-known_after (Box left bottom right top) checked = checked
-known_after What checked = checked
-known_after Save checked = checked
-known_after Check checked = checked
-known_after WhyCommand checked = checked
-known_after CountCommand checked = checked
-known_after (Paint kind) checked = None
-known_after (Erase kinds) checked = None
-known_after (Dump cell dx dy) checked = None
-known_after (GetCell cell dx dy) checked = None
-known_after CatchUp checked = None
+known_after command checked = if leaves_marks command then checked else None

@@ -2,9 +2,10 @@
 use Rattle.std.specs.Prelude.{◌≡◌, ℕ, List, length}
 use Rattle.mls_tilepool.specs.Pools.{Pool}
 use Rattle.mls_session.specs.Designs as design
-use Rattle.mls_session.specs.Designs.{Design, designed_of}
-use Rattle.mls_session.specs.Journals.{Kept}
+use Rattle.mls_session.specs.Designs.{CanDump, Design, HasRightMarks, designed_of}
+use Rattle.mls_session.specs.Journals.{IsLegal, Kept}
 use Rattle.mls_session.specs.OwnSteps.{OwnState}
+use Rattle.mls_session.specs.Setups.{config_of, terms_of}
 use Rattle.mls_session.specs.declared.journal.Entry.{Entry}
 use Rattle.mls_session.specs.declared.setup.Setup.{Setup}
 
@@ -35,8 +36,20 @@ pub record IsMadeFor (setup : Setup) (session : Session) : Type 0 where
 abbrev pub IsHome : Pool → Session → Type 0
 IsHome pool session = design.IsHome pool session.design
 
+-- what most calls need: the session was opened with this setup, and its planes lie in the pool beside those of the library's cells
+pub record IsReady (setup : Setup) (pool : Pool) (session : Session) : Type 0 where
+  pub home : IsHome pool session
+  pub made_for : IsMadeFor setup session
+  pub can_dump : CanDump setup pool (owners_of session)
+
 -- what every call keeps: the session's planes are those that it had and are at home, only their tiles have changed, and its journal may have as many
 -- entries as it could
 pub record KeepsPlanes (old new : Pool) (before after : Session) : Type 0 where
   pub planes : design.KeepsPlanes old new before.design after.design
   pub limit : after.limit ≡ before.limit
+
+-- and what most of them leave true: a legal journal is legal, right marks are right, and the planes are kept
+pub record StaysSound (setup : Setup) (old new : Pool) (before after : Session) : Type 0 where
+  pub legal : IsLegal (terms_of setup old) (kept_of old before) → IsLegal (terms_of setup old) (kept_of new after)
+  pub marks_right : HasRightMarks (config_of setup old) (state_of old before).design → HasRightMarks (config_of setup old) (state_of new after).design
+  pub planes : KeepsPlanes old new before after

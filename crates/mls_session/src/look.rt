@@ -4,7 +4,7 @@ ghost use Rattle.std.specs.List.{All};
 ghost use Rattle.mls_paint.specs.Planes.{HasStrips, layout_in};
 ghost use Rattle.mls_session.specs.Looks.{tile_counts};
 
-use crate::{Entry, Refusal};
+use crate::{Entry, Listing, Refusal};
 use mls_edgerule::RuleSet;
 use mls_layout::CellUse;
 use mls_paint::tile_count;
@@ -44,8 +44,8 @@ pub enum Looked {
     Why(RuleSet),
     /// How far the session has come.
     Status(Status),
-    /// The cells that are placed.
-    Uses(UseList),
+    /// The cells that are placed, in the order in which they were.
+    Uses(Listing<CellUse>),
     /// The number of lines of the text of the layout with the areas that await checking and the marks.
     Marked(usize),
     /// The journal, and how many check steps were done since its last entry.
@@ -65,85 +65,12 @@ pub struct Status {
     pub steps: u64,
     /// How many areas await checking.
     pub areas: usize,
-    /// How many tiles each plane of the own paint has.
-    pub tiles: TileCounts,
+    /// How many tiles each plane of the own paint has, in the order of the planes.
+    pub tiles: Listing<u32>,
     /// How many tiles each plane may have.
     pub quota: u32,
     /// How many tiles the error plane has.
     pub mark_tiles: u32,
-}
-
-/// The number of tiles of each plane, in the order of the planes.
-#[derive(Drop)]
-pub struct TileCounts {
-    counts: Vec<u32>,
-}
-
-impl Model for TileCounts {
-    ghost use Rattle.std.specs.Prelude.{ℕ, List};
-
-    ghost Value = { List ℕ };
-
-    ghost view = { λ tiles. tiles.counts.items };
-}
-
-impl TileCounts {
-    /// Counts the tiles of each of these planes.
-    pub(crate) fn of_planes(
-        alloc: Global,
-        pool: &Pool,
-        planes: &[Plane],
-    ) -> Result<TileCounts, AllocError>
-        requires { All (λ owner. HasStrips pool.now owner) planes.now }
-        ensures { IfOk result (λ tiles. tiles
-            ≡ tile_counts (length planes.now) (layout_in pool.now planes.now)) }
-    {
-        let mut counts = Vec::with_capacity(alloc, planes.len())?;
-        for plane in planes {
-            counts.push_reserved(tile_count(pool, plane));
-        }
-        Ok(TileCounts { counts })
-    }
-
-    /// Returns the counts, a plane each.
-    pub fn as_slice(&self) -> &[u32]
-        ensures { result.now ≡ self.now }
-    {
-        self.counts.as_slice()
-    }
-}
-
-/// The cells that are placed in a layout, in the order in which they were placed.
-#[derive(Drop)]
-pub struct UseList {
-    uses: Vec<CellUse>,
-}
-
-impl Model for UseList {
-    ghost use Rattle.std.specs.Prelude.{List};
-    ghost use Rattle.mls_layout.specs.declared.uses.CellUse.{CellUse};
-
-    ghost Value = { List CellUse };
-
-    ghost view = { λ list. list.uses.items };
-}
-
-impl UseList {
-    /// Copies the uses of a layout.
-    pub(crate) fn copy_of(alloc: Global, uses: &[CellUse]) -> Result<UseList, AllocError>
-        ensures { IfOk result (λ list. list ≡ uses.now) }
-    {
-        Ok(UseList {
-            uses: Vec::from_slice(alloc, uses)?,
-        })
-    }
-
-    /// Returns the uses.
-    pub fn as_slice(&self) -> &[CellUse]
-        ensures { result.now ≡ self.now }
-    {
-        self.uses.as_slice()
-    }
 }
 
 /// A journal, and how many check steps were done since its last entry.
@@ -190,4 +117,21 @@ impl JournalCopy {
     {
         self.steps
     }
+}
+
+/// Counts the tiles of each of these planes.
+pub(crate) fn tile_counts(
+    alloc: Global,
+    pool: &Pool,
+    planes: &[Plane],
+) -> Result<Listing<u32>, AllocError>
+    requires { All (λ owner. HasStrips pool.now owner) planes.now }
+    ensures { IfOk result (λ tiles. tiles
+        ≡ tile_counts (length planes.now) (layout_in pool.now planes.now)) }
+{
+    let mut counts = Vec::with_capacity(alloc, planes.len())?;
+    for plane in planes {
+        counts.push_reserved(tile_count(pool, plane));
+    }
+    Ok(Listing::new(counts))
 }

@@ -8,7 +8,7 @@ use thiserror::Error;
 #[error("{}", self.text())]
 pub enum Refusal {
     /// The box would have no square.
-    EmptyBox = 1,
+    EmptyBox,
     /// The box would have squares outside the world.
     OutsideWorld,
     /// No box is set.
@@ -32,28 +32,36 @@ pub enum Refusal {
 impl Refusal {
     ghost use Rattle.mls_session.specs.Refusals as spec;
 
-    /// The refusal's number, from 1 to 10.
+    /// Returns the refusal's number, from 1 to 10.
     pub fn number(self) -> u8
         ensures { result ≡ spec.refusal_number self }
     {
-        self as u8
+        self.wording().0
     }
 
-    /// The refusal in words.
+    /// Returns the refusal's text.
     pub fn text(self) -> &'static str
         ensures { result.now ≡ spec.refusal_text self }
     {
+        self.wording().1
+    }
+
+    /// Returns the refusal's number and its text.
+    fn wording(self) -> (u8, &'static str)
+        ensures number { result.0 ≡ spec.refusal_number self }
+        ensures text { result.1.now ≡ spec.refusal_text self }
+    {
         match self {
-            Refusal::EmptyBox => "empty box",
-            Refusal::OutsideWorld => "outside the world",
-            Refusal::NoBox => "no box",
-            Refusal::UnknownType => "unknown type",
-            Refusal::Quota => "quota",
-            Refusal::JournalFull => "journal full",
-            Refusal::UnknownCell => "unknown cell",
-            Refusal::CellOutside => "cell outside the world",
-            Refusal::Memory => "memory",
-            Refusal::TooManyUses => "too many uses",
+            Refusal::EmptyBox => (1, "empty box"),
+            Refusal::OutsideWorld => (2, "outside the world"),
+            Refusal::NoBox => (3, "no box"),
+            Refusal::UnknownType => (4, "unknown type"),
+            Refusal::Quota => (5, "quota"),
+            Refusal::JournalFull => (6, "journal full"),
+            Refusal::UnknownCell => (7, "unknown cell"),
+            Refusal::CellOutside => (8, "cell outside the world"),
+            Refusal::Memory => (9, "memory"),
+            Refusal::TooManyUses => (10, "too many uses"),
         }
     }
 }

@@ -4,7 +4,7 @@ ghost use Rattle.mls_layout.specs.Uses.{cell_layouts};
 ghost use Rattle.mls_library.specs.Libraries as library_spec;
 ghost use Rattle.mls_library.specs.SavedCells.{HoldsOwnTypes, ReadsAs, saved_text};
 ghost use Rattle.mls_paint.specs.Owners.{AddsOwners, RemovesOwners};
-ghost use Rattle.mls_session.specs.Designs.{CanDump, HasRightMarks, OnRefused};
+ghost use Rattle.mls_session.specs.Designs.{HasRightMarks, OnRefused};
 ghost use Rattle.mls_session.specs.Journals.{Commands, IsLegal, Saves, kept_at_opening};
 ghost use Rattle.mls_session.specs.Quotas.{plane_reserve};
 ghost use Rattle.mls_session.specs.Saving.{OnSaved};
@@ -52,7 +52,7 @@ impl Model for Session {
 }
 
 impl Session {
-    ghost use Rattle.mls_session.specs.Sessions.{IsHome, IsMadeFor, KeepsPlanes, kept_of, owners_of, state_of};
+    ghost use Rattle.mls_session.specs.Sessions.{IsHome, IsMadeFor, IsReady, StaysSound, kept_of, owners_of, state_of};
 
     /// Opens a session with no box, no paint, no uses, no marks and an empty journal. Nothing awaits checking, unless
     /// the rules forbid squares of the empty layout.
@@ -108,17 +108,10 @@ impl Session {
         command: Command,
         workspace: &mut Workspace,
     ) -> Reply
-        requires home { IsHome workspace.old.pool self.old }
-        requires made_for { IsMadeFor setup.now self.old }
-        requires can_dump { CanDump setup.now workspace.old.pool (owners_of self.old) }
+        requires ready { IsReady setup.now workspace.old.pool self.old }
         ensures step { Commands (terms_of setup.now workspace.old.pool)
             (kept_of workspace.old.pool self.old) command result (kept_of workspace.new.pool self.new) }
-        ensures legal { IsLegal (terms_of setup.now workspace.old.pool) (kept_of workspace.old.pool self.old)
-            → IsLegal (terms_of setup.now workspace.old.pool) (kept_of workspace.new.pool self.new) }
-        ensures marks_right { HasRightMarks (config_of setup.now workspace.old.pool)
-            (state_of workspace.old.pool self.old).design
-            → HasRightMarks (config_of setup.now workspace.old.pool) (state_of workspace.new.pool self.new).design }
-        ensures keeps { KeepsPlanes workspace.old.pool workspace.new.pool self.old self.new }
+        ensures sound { StaysSound setup.now workspace.old.pool workspace.new.pool self.old self.new }
         ensures cells_home { library_spec.IsHome workspace.new.pool setup.now.library }
         ensures cells { cell_layouts workspace.new.pool setup.now.library
             ≡ cell_layouts workspace.old.pool setup.now.library }

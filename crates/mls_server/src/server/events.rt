@@ -6,7 +6,8 @@ ghost use Rattle.mls_server.specs.Servers.{world_of};
 ghost use Rattle.mls_server.specs.Worlds.{MarksAreExact};
 
 use super::Server;
-use crate::{Answer, Event, ReplyText};
+use crate::{Answer, Event};
+use mls_session::Listing;
 use std::alloc::{AllocError, Global};
 
 impl Server {
@@ -21,12 +22,12 @@ impl Server {
             Event::Save(id) => {
                 let mut text = Vec::new(alloc);
                 let result = self.save(*id, &mut text);
-                Answer::Saved(result, ReplyText::new(text))
+                Answer::Saved(result, Listing::new(text))
             }
             Event::Look(id, look) => {
                 let mut text = Vec::new(alloc);
                 let result = self.look(alloc, *id, *look, &mut text);
-                Answer::Looked(result, ReplyText::new(text))
+                Answer::Looked(result, Listing::new(text))
             }
             Event::Grab(id) => Answer::Grabbed(self.grab(alloc, *id)),
             Event::Finish(id, finding) => Answer::Finished(self.finish_ref(*id, finding)),

@@ -72,6 +72,7 @@ impl Design {
         ensures { (layout : Layout) (marks : Picture) → HoldsOwnTypes tech.now layout
             → ReadsAs tech.now (marked_text tech.now layout self.now.errors.dirty marks) layout }
     {
+        // For their contracts alone: the names are words, and the areas lie in the world.
         tech.types();
         tech.name();
         self.has_legal_areas();

@@ -1,11 +1,11 @@
 //! Check steps of a session, and what a check outside it needs and leads to.
-ghost use Rattle.std.specs.Prelude.{◌≡◌, ℕ, length};
+ghost use Rattle.std.specs.Prelude.{◌≡◌, length};
 ghost use Rattle.mls_errorplane.specs.ErrorPlanes.{UnlessDone};
 ghost use Rattle.mls_errorplane.specs.Jobs.{HasGrabbed};
 ghost use Rattle.mls_errorplane.specs.Outcomes.{UnlessFinished};
-ghost use Rattle.mls_session.specs.Designs.{CanDump, HasRightMarks, KnowsRight};
+ghost use Rattle.mls_session.specs.Designs.{KnowsRight};
 ghost use Rattle.mls_session.specs.Inner.{done_steps, finished_steps};
-ghost use Rattle.mls_session.specs.Journals.{ChecksTimes, Finishes, IsLegal, StepsOnce, StepsUpTo};
+ghost use Rattle.mls_session.specs.Journals.{ChecksTimes, Finishes, StepsOnce, StepsUpTo};
 ghost use Rattle.mls_session.specs.Own.{layout_of};
 ghost use Rattle.mls_session.specs.Setups.{config_of, terms_of};
 
@@ -17,7 +17,7 @@ use mls_layout::Workspace;
 use std::alloc::{AllocError, Global};
 
 impl Session {
-    ghost use Rattle.mls_session.specs.Sessions.{IsHome, IsMadeFor, KeepsPlanes, kept_of, owners_of, state_of};
+    ghost use Rattle.mls_session.specs.Sessions.{IsReady, StaysSound, kept_of, state_of};
 
     /// Returns what a check of the first piece of the areas that await checking needs, if there is an area. Nothing
     /// changes.
@@ -27,9 +27,7 @@ impl Session {
         setup: &Setup,
         workspace: &mut Workspace,
     ) -> Result<Option<Job>, AllocError>
-        requires home { IsHome workspace.old.pool self.old }
-        requires made_for { IsMadeFor setup.now self.old }
-        requires can_dump { CanDump setup.now workspace.old.pool (owners_of self.old) }
+        requires ready { IsReady setup.now workspace.old.pool self.old }
         ensures grabbed { HasGrabbed setup.now.rules (length self.old.design.planes)
             (layout_of (config_of setup.now workspace.old.pool)
             (state_of workspace.old.pool self.old).design.drawn)
@@ -44,18 +42,11 @@ impl Session {
     ///
     /// Unless this is done, nothing changes.
     pub fn step(&mut self, alloc: Global, setup: &Setup, workspace: &mut Workspace) -> Stepped
-        requires home { IsHome workspace.old.pool self.old }
-        requires made_for { IsMadeFor setup.now self.old }
-        requires can_dump { CanDump setup.now workspace.old.pool (owners_of self.old) }
+        requires ready { IsReady setup.now workspace.old.pool self.old }
         ensures stepped { StepsOnce (terms_of setup.now workspace.old.pool)
             (kept_of workspace.old.pool self.old) result (kept_of workspace.new.pool self.new) }
-        ensures legal { IsLegal (terms_of setup.now workspace.old.pool) (kept_of workspace.old.pool self.old)
-            → IsLegal (terms_of setup.now workspace.old.pool) (kept_of workspace.new.pool self.new) }
-        ensures marks_right { HasRightMarks (config_of setup.now workspace.old.pool)
-            (state_of workspace.old.pool self.old).design
-            → HasRightMarks (config_of setup.now workspace.old.pool) (state_of workspace.new.pool self.new).design }
+        ensures sound { StaysSound setup.now workspace.old.pool workspace.new.pool self.old self.new }
         ensures unless_done { UnlessDone result (workspace.new.pool ≡ workspace.old.pool) }
-        ensures keeps { KeepsPlanes workspace.old.pool workspace.new.pool self.old self.new }
     {
         let stepped = self.design.step(alloc, setup, workspace);
         self.journal.count(done_steps(stepped));
@@ -72,17 +63,10 @@ impl Session {
         most: u64,
         workspace: &mut Workspace,
     ) -> StepRun
-        requires home { IsHome workspace.old.pool self.old }
-        requires made_for { IsMadeFor setup.now self.old }
-        requires can_dump { CanDump setup.now workspace.old.pool (owners_of self.old) }
+        requires ready { IsReady setup.now workspace.old.pool self.old }
         ensures stepped { StepsUpTo (terms_of setup.now workspace.old.pool) most
             (kept_of workspace.old.pool self.old) result (kept_of workspace.new.pool self.new) }
-        ensures legal { IsLegal (terms_of setup.now workspace.old.pool) (kept_of workspace.old.pool self.old)
-            → IsLegal (terms_of setup.now workspace.old.pool) (kept_of workspace.new.pool self.new) }
-        ensures marks_right { HasRightMarks (config_of setup.now workspace.old.pool)
-            (state_of workspace.old.pool self.old).design
-            → HasRightMarks (config_of setup.now workspace.old.pool) (state_of workspace.new.pool self.new).design }
-        ensures keeps { KeepsPlanes workspace.old.pool workspace.new.pool self.old self.new }
+        ensures sound { StaysSound setup.now workspace.old.pool workspace.new.pool self.old self.new }
     {
         for done in 0..most {
             match self.step(alloc, setup, workspace) {
@@ -111,22 +95,15 @@ impl Session {
         checked: &mut Option<Checked>,
         workspace: &mut Workspace,
     ) -> Outcome
-        requires home { IsHome workspace.old.pool self.old }
-        requires made_for { IsMadeFor setup.now self.old }
-        requires can_dump { CanDump setup.now workspace.old.pool (owners_of self.old) }
+        requires ready { IsReady setup.now workspace.old.pool self.old }
         requires knows { KnowsRight (config_of setup.now workspace.old.pool)
             (state_of workspace.old.pool self.old).design checked.old }
         ensures finished { Finishes (terms_of setup.now workspace.old.pool)
             (kept_of workspace.old.pool self.old) finding.now result (kept_of workspace.new.pool self.new) }
-        ensures legal { IsLegal (terms_of setup.now workspace.old.pool) (kept_of workspace.old.pool self.old)
-            → IsLegal (terms_of setup.now workspace.old.pool) (kept_of workspace.new.pool self.new) }
-        ensures marks_right { HasRightMarks (config_of setup.now workspace.old.pool)
-            (state_of workspace.old.pool self.old).design
-            → HasRightMarks (config_of setup.now workspace.old.pool) (state_of workspace.new.pool self.new).design }
+        ensures sound { StaysSound setup.now workspace.old.pool workspace.new.pool self.old self.new }
         ensures knows { KnowsRight (config_of setup.now workspace.old.pool)
             (state_of workspace.new.pool self.new).design checked.new }
         ensures unless_finished { UnlessFinished result (workspace.new.pool ≡ workspace.old.pool) }
-        ensures keeps { KeepsPlanes workspace.old.pool workspace.new.pool self.old self.new }
     {
         let outcome = self.design.finish(setup, finding, workspace);
         self.journal.count(finished_steps(outcome));
@@ -145,21 +122,14 @@ impl Session {
         checked: &mut Option<Checked>,
         workspace: &mut Workspace,
     ) -> u64
-        requires home { IsHome workspace.old.pool self.old }
-        requires made_for { IsMadeFor setup.now self.old }
-        requires can_dump { CanDump setup.now workspace.old.pool (owners_of self.old) }
+        requires ready { IsReady setup.now workspace.old.pool self.old }
         requires knows { KnowsRight (config_of setup.now workspace.old.pool)
             (state_of workspace.old.pool self.old).design checked.old }
         ensures settled { ChecksTimes (terms_of setup.now workspace.old.pool) result
             (kept_of workspace.old.pool self.old) (kept_of workspace.new.pool self.new) }
-        ensures legal { IsLegal (terms_of setup.now workspace.old.pool) (kept_of workspace.old.pool self.old)
-            → IsLegal (terms_of setup.now workspace.old.pool) (kept_of workspace.new.pool self.new) }
-        ensures marks_right { HasRightMarks (config_of setup.now workspace.old.pool)
-            (state_of workspace.old.pool self.old).design
-            → HasRightMarks (config_of setup.now workspace.old.pool) (state_of workspace.new.pool self.new).design }
+        ensures sound { StaysSound setup.now workspace.old.pool workspace.new.pool self.old self.new }
         ensures knows { KnowsRight (config_of setup.now workspace.old.pool)
             (state_of workspace.new.pool self.new).design checked.new }
-        ensures keeps { KeepsPlanes workspace.old.pool workspace.new.pool self.old self.new }
     {
         let Some(known) = checked else {
             return 0;

@@ -1,21 +1,21 @@
 //! Looks at a session.
 ghost use Rattle.std.specs.Prelude.{◌≡◌, ◌+◌, ◌++◌, ◌<◌, ◌⊎◌, [], IfOk, List, length, vec_capacity, vec_len, ℕ};
 ghost use Rattle.mls_library.specs.SavedCells.{saved_text};
-ghost use Rattle.mls_session.specs.Designs.{CanDump};
 ghost use Rattle.mls_session.specs.Looks.{IsRect, Looks, MarksReadBack, OnMarks, status_of, why_in};
 ghost use Rattle.mls_session.specs.Own.{layout_of};
 ghost use Rattle.mls_session.specs.OwnSteps.{Terms};
 ghost use Rattle.mls_session.specs.Setups.{config_of, terms_of};
 
 use super::Session;
-use crate::{JournalCopy, Look, Looked, Refusal, Setup, Status, TileCounts, UseList};
+use crate::look::tile_counts;
+use crate::{JournalCopy, Listing, Look, Looked, Refusal, Setup, Status};
 use mls_geom::{Rect, RectFault};
 use mls_layout::{Unlisted, Workspace};
 use mls_tilepool::Pool;
 use std::alloc::{AllocError, Global};
 
 impl Session {
-    ghost use Rattle.mls_session.specs.Sessions.{IsHome, IsMadeFor, kept_of, owners_of, state_of};
+    ghost use Rattle.mls_session.specs.Sessions.{IsHome, IsMadeFor, IsReady, kept_of, state_of};
 
     /// Returns what a look asks for, and appends the text that comes with it. Nothing of the session changes.
     ///
@@ -30,9 +30,7 @@ impl Session {
         out: &mut Vec<u8>,
         workspace: &mut Workspace,
     ) -> Looked
-        requires home { IsHome workspace.old.pool self.old }
-        requires made_for { IsMadeFor setup.now self.old }
-        requires can_dump { CanDump setup.now workspace.old.pool (owners_of self.old) }
+        requires ready { IsReady setup.now workspace.old.pool self.old }
         ensures looks { (text : List ℕ) × Looks (terms_of setup.now workspace.old.pool)
             (kept_of workspace.old.pool self.old) look result text × (out.new.items ≡ out.old.items ++ text) }
         ensures reads_back { OnMarks look (MarksReadBack (terms_of setup.now workspace.old.pool)
@@ -85,9 +83,7 @@ impl Session {
         made: Result<Rect, RectFault>,
         workspace: &mut Workspace,
     ) -> Looked
-        requires home { IsHome workspace.old.pool self.old }
-        requires made_for { IsMadeFor setup.now self.old }
-        requires can_dump { CanDump setup.now workspace.old.pool (owners_of self.old) }
+        requires ready { IsReady setup.now workspace.old.pool self.old }
         ensures looks { (result ≡ why_in setup.now.rules
             (layout_of (config_of setup.now workspace.old.pool)
             (state_of workspace.old.pool self.old).design.drawn) made)
@@ -124,7 +120,7 @@ impl Session {
         ensures { IfOk result (λ status. status
             ≡ status_of (terms_of setup.now pool.now) (kept_of pool.now self.now)) }
     {
-        let tiles = TileCounts::of_planes(alloc, pool, &self.design.planes)?;
+        let tiles = tile_counts(alloc, pool, &self.design.planes)?;
         let errors = &self.design.errors;
         Ok(Status {
             entries: self.journal.entries().len(),
@@ -141,8 +137,8 @@ impl Session {
     fn look_at_uses(&self, alloc: Global, pool: &Pool) -> Looked
         ensures { (terms : Terms) → Looks terms (kept_of pool.now self.now) Look.Uses result [] }
     {
-        match UseList::copy_of(alloc, &self.design.uses) {
-            Ok(uses) => Looked::Uses(uses),
+        match Vec::from_slice(alloc, &self.design.uses) {
+            Ok(uses) => Looked::Uses(Listing::new(uses)),
             Err(_) => Looked::Refused(Refusal::Memory),
         }
     }
@@ -166,9 +162,7 @@ impl Session {
         out: &mut Vec<u8>,
         workspace: &mut Workspace,
     ) -> Looked
-        requires home { IsHome workspace.old.pool self.old }
-        requires made_for { IsMadeFor setup.now self.old }
-        requires can_dump { CanDump setup.now workspace.old.pool (owners_of self.old) }
+        requires ready { IsReady setup.now workspace.old.pool self.old }
         ensures looks { (text : List ℕ) × Looks (terms_of setup.now workspace.old.pool)
             (kept_of workspace.old.pool self.old) Look.Marks result text × (out.new.items ≡ out.old.items ++ text) }
         ensures reads_back { MarksReadBack (terms_of setup.now workspace.old.pool)
@@ -176,6 +170,7 @@ impl Session {
         ensures same { self.new ≡ self.old }
         ensures pool { workspace.new.pool ≡ workspace.old.pool }
     {
+        // For its contract alone: the text reads as the layout.
         self.design.reads_back(&setup.tech);
         match self.design.mark_text(alloc, setup, out, workspace) {
             Ok(lines) => Looked::Marked(lines),

@@ -12,7 +12,7 @@ use Rattle.mls_session.proofs.layers.list_layers.Goals as goal
 pub flat_strips-requires : goal.flat_strips-requires
 flat_strips-requires c =
     let (plane, fits, cells) = lent_plane c.args.workspace.now.pool c.loop-number.workspace.pool c.args.uses.now c.args.planes.now c.loop-number.planes c.loop-number.number c.index-planes-number.result c.loop-number.invariant.pool c.loop-number.invariant.owners (omega (arith, ap length c.loop-number.invariant.owners)) c.requires.planes c.requires.planes_fit c.requires.cells in
-    record { plane = plane; plane_fits = fits; cells = cells }
+    record { flat = record { plane = plane; fits = fits; cells = cells } }
 
 pub loop-number-preserved : goal.loop-number-preserved
 loop-number-preserved c =

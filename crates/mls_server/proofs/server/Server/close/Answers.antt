@@ -9,7 +9,7 @@ use Rattle.mls_server.proofs.server.Server.close.Goals as goal
 pub close-requires : goal.close-requires
 close-requires c =
     let is = is_asked-entry c.self.view_is c.self.invariant c.in_ok-place.ensures.place (sym c.shift_remove_index.ensures.entry ∙ c.unwrap-closed.ensures) in
-    record { home = is.made.home }
+    record { home = is.made.ready.home }
 
 pub invariant_of-self : goal.invariant_of-self
 invariant_of-self c =

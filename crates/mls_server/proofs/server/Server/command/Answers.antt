@@ -19,14 +19,14 @@ invariant_of-self c =
     let terms = terms_of c.self.inside.setup c.self.inside.workspace.pool in
     let after = kept_of c.command.new.workspace.pool c.command.new.self in
     let knows = Commands-knows terms (kept_of c.self.inside.workspace.pool before.session) after before.checked c.command.result is.made.knows_right c.args.command done.step in
-    AreOpen-changed is done.keeps c.known_after-asked.result done.marks_right
-    (subst (λ (checked : Option Checked). KnowsRight terms.config after.own.design checked) (sym c.known_after-asked.ensures) knows) done.legal
+    AreOpen-changed is done.sound.planes c.known_after-asked.result done.sound
+    (subst (λ (checked : Option Checked). KnowsRight terms.config after.own.design checked) (sym c.known_after-asked.ensures) knows)
 
 pub returns : goal.returns
 returns c =
     let is = is_asked c.self.view_is c.self.invariant c.in_ok-place.ensures.place c.index_mut-asked.ensures.value in
     let done = c.command.ensures in
     record {
-      does = OnSeat-changed is done.keeps c.known_after-asked.result (λ terms before reply after. Commands terms before c.args.command reply after) c.command.result done.step;
-      frame = frame-changed is done.keeps;
+      does = OnSeat-changed is done.sound.planes c.known_after-asked.result (λ terms before reply after. Commands terms before c.args.command reply after) c.command.result done.step;
+      frame = frame-changed is done.sound.planes;
     }

@@ -22,7 +22,7 @@ returns-clause-grabs c = elim c.match-grab.branch [
       let is = is_asked c.self.view_is c.self.invariant c.in-Ok.ensures.place c.index_mut-asked.ensures.value in
       let own = c.self.inside in
       let kept = kept_of own.workspace.pool c.index_mut-asked.result.now.session in
-      let next = subst (λ (count : ℕ). IsNextJob own.setup.rules count (layout_of (config_of own.setup own.workspace.pool) kept.own.design.drawn) kept.own.design.checking w.in-Ok-grab.job) is.made.made_for.design.planes w.in-Ok-grab.ensures.grabbed in
+      let next = subst (λ (count : ℕ). IsNextJob own.setup.rules count (layout_of (config_of own.setup own.workspace.pool) kept.own.design.drawn) kept.own.design.checking w.in-Ok-grab.job) is.made.ready.made_for.design.planes w.in-Ok-grab.ensures.grabbed in
       subst (λ result. DoesGrab (world_of c.args.self.now) c.args.id result (world_of (with_asked is c.grab.new.workspace.pool c.grab.new.self))) (sym w.result-is) (
         kept,
         is.kept,

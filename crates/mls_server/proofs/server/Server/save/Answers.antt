@@ -14,7 +14,7 @@ returns-in_err-place-clause-saves c = ([], saves-none (world_of c.args.self.now)
 pub save-requires : goal.save-requires
 save-requires c =
     let is = is_asked c.self.view_is c.self.invariant c.in_ok-place.ensures.place c.index_mut-asked.ensures.value in
-    record { home = is.made.home; made_for = is.made.made_for }
+    record { home = is.made.ready.home; made_for = is.made.ready.made_for }
 
 pub invariant_of-self : goal.invariant_of-self
 invariant_of-self c =
@@ -24,9 +24,12 @@ invariant_of-self c =
     let before = c.index_mut-asked.result.now in
     let config = config_of c.self.inside.setup pool in
     AreOpen-changed is (keeps-same is done.pool done.design done.limit) before.checked
-    (subst₂ (λ (now : Pool) (design : Design). HasRightMarks config (designed_of now design)) (sym done.pool) (sym done.design))
+    (record {
+      legal = λ legal. subst (λ (now : Pool). IsLegal (terms_of c.self.inside.setup pool) (kept_of now c.save.new.self)) (sym done.pool) (done.legal legal);
+      marks_right = subst₂ (λ (now : Pool) (design : Design). HasRightMarks config (designed_of now design)) (sym done.pool) (sym done.design);
+      planes = keeps-same is done.pool done.design done.limit;
+    })
     (subst₂ (λ (now : Pool) (design : Design). KnowsRight config (designed_of now design) before.checked) (sym done.pool) (sym done.design) is.made.knows_right)
-    (λ legal. subst (λ (now : Pool). IsLegal (terms_of c.self.inside.setup pool) (kept_of now c.save.new.self)) (sym done.pool) (done.legal legal))
 
 pub returns-clause-saves : goal.returns-clause-saves
 returns-clause-saves c =

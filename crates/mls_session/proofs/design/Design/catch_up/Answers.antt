@@ -13,19 +13,17 @@ use Rattle.mls_session.specs.Setups.{config_of}
 use Rattle.mls_stitch.specs.Tilings.{ChangesOnly}
 use Rattle.mls_session.proofs.CommandSteps.{caught_up-errors}
 use Rattle.mls_session.proofs.ErrorPlanes.{KeepsPlanes-errors}
-use Rattle.mls_session.proofs.FlatDesigns.{HasCells-CanDump, cells_apart-CanDump, flat_layout-design}
+use Rattle.mls_session.proofs.FlatDesigns.{flat_layout-design}
+use Rattle.mls_session.proofs.LentDesigns.{HasLayout-lent, StandsApart-lent}
 use Rattle.mls_session.proofs.design.Design.catch_up.Goals as goal
 
-pub catch_up-ended-requires-clause-cells : goal.catch_up-ended-requires-clause-cells
-catch_up-ended-requires-clause-cells c =
-    let lent = c.deref_mut.ensures.value ∙ ap (λ (d : Design). d.planes) c.self.view_is in
-    HasCells-CanDump c.args.setup.now c.args.workspace.now.pool c.args.self.now c.requires.can_dump c.basis-basis.result.uses.library.now c.basis-basis.ensures.library
-    c.deref_mut.result.now c.requires.made_for lent
+pub catch_up-ended-requires-clause-layout : goal.catch_up-ended-requires-clause-layout
+catch_up-ended-requires-clause-layout c =
+    HasLayout-lent c.args.setup.now c.args.workspace.now.pool c.self.inside c.args.self.now c.self.view_is c.requires.home c.self.invariant.0 c.basis-basis.result.uses.library.now c.basis-basis.ensures.library c.deref_mut.result.now c.deref_mut.ensures.value c.requires.can_dump c.requires.made_for
 
-pub catch_up-ended-requires-clause-cells_apart : goal.catch_up-ended-requires-clause-cells_apart
-catch_up-ended-requires-clause-cells_apart c =
-    cells_apart-CanDump c.args.setup.now c.args.workspace.now.pool c.args.self.now c.requires.can_dump c.basis-basis.result.uses.library.now c.basis-basis.ensures.library
-    c.self.inside.errors.owner (ap (λ (d : Design). d.errors.owner) c.self.view_is)
+pub catch_up-ended-requires-clause-apart : goal.catch_up-ended-requires-clause-apart
+catch_up-ended-requires-clause-apart c =
+    StandsApart-lent c.args.setup.now c.args.workspace.now.pool c.self.inside c.args.self.now c.self.view_is c.requires.home c.self.invariant.0 c.basis-basis.result.uses.library.now c.basis-basis.ensures.library c.deref_mut.result.now c.deref_mut.ensures.value c.requires.can_dump
 
 abbrev after : goal.After-steps_of → Design
 after c = record {

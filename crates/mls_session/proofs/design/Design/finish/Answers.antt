@@ -1,12 +1,12 @@
 use Rattle.std.proofs.Common.{length, ◌∙◌}
 use Rattle.mls_errorplane.specs.ErrorPlanes.{checking_of}
 use Rattle.mls_errorplane.specs.Outcomes.{HasFinished}
-use Rattle.mls_session.proofs.LentDesigns.{HasCells-lent, KeepsDrawn-returned, said_of-lent}
+use Rattle.mls_session.proofs.LentDesigns.{HasLayout-lent, KeepsDrawn-returned, said_of-lent}
 use Rattle.mls_session.proofs.design.Design.finish.Goals as goal
 
-pub finish-requires-clause-cells : goal.finish-requires-clause-cells
-finish-requires-clause-cells c =
-    HasCells-lent c.args.setup.now c.args.workspace.now.pool c.self.inside c.args.self.now c.self.view_is c.basis-basis.result.uses.library.now c.basis-basis.ensures.library c.deref_mut.result.now c.deref_mut.ensures.value c.requires.can_dump c.requires.made_for
+pub finish-requires-clause-layout : goal.finish-requires-clause-layout
+finish-requires-clause-layout c =
+    HasLayout-lent c.args.setup.now c.args.workspace.now.pool c.self.inside c.args.self.now c.self.view_is c.requires.home c.self.invariant.0 c.basis-basis.result.uses.library.now c.basis-basis.ensures.library c.deref_mut.result.now c.deref_mut.ensures.value c.requires.can_dump c.requires.made_for
 
 pub returns-clause-finished : goal.returns-clause-finished
 returns-clause-finished c =

@@ -1,11 +1,12 @@
 use Rattle.std.proofs.Common.{length, refl, ◌∙◌}
 use Rattle.mls_errorplane.specs.Jobs.{HasGrabbed}
-use Rattle.mls_session.proofs.LentDesigns.{HasCells-lent, said_of-lent}
+use Rattle.mls_session.proofs.LentDesigns.{HasLayout-lent, said_of-lent}
 use Rattle.mls_session.proofs.design.Design.grab.Goals as goal
 
-pub grab-requires-clause-cells : goal.grab-requires-clause-cells
-grab-requires-clause-cells c =
-    HasCells-lent c.args.setup.now c.args.workspace.now.pool c.self.inside c.args.self.now c.self.view_is c.basis-basis.result.uses.library.now c.basis-basis.ensures.library c.deref_mut.result.now c.deref_mut.ensures.value c.requires.can_dump c.requires.made_for
+pub grab-requires : goal.grab-requires
+grab-requires c = record {
+  layout = HasLayout-lent c.args.setup.now c.args.workspace.now.pool c.self.inside c.args.self.now c.self.view_is c.requires.home c.self.invariant.0 c.basis-basis.result.uses.library.now c.basis-basis.ensures.library c.deref_mut.result.now c.deref_mut.ensures.value c.requires.can_dump c.requires.made_for;
+}
 
 pub returns-clause-grabbed : goal.returns-clause-grabbed
 returns-clause-grabbed c =

@@ -1,11 +1,10 @@
 -- The plane's tiles show the box, and all else is at home as before.
-use Rattle.std.proofs.Common.{◌≡◌, ℕ, ◌<◌, ◌∷◌, ◌++◌, List, [], Some, set, length, get_or, refl, ap, sym, ◌∙◌, arith}
+use Rattle.std.proofs.Common.{ℕ, ◌<◌, ◌∷◌, ◌++◌, List, [], Some, set, length, get_or, refl, ap, sym, ◌∙◌, arith}
 use Rattle.std.proofs.lemmas.Bool.{false≢true}
 use Rattle.mls_geom.specs.Pictures.{overlaid}
 use Rattle.mls_geom.specs.TileCounts.{tile_count}
 use Rattle.mls_geom.specs.World.{world}
 use Rattle.mls_geom.specs.declared.piece.Piece.{Piece}
-use Rattle.mls_tech.specs.Readings.{plane_of_type}
 use Rattle.mls_tilepool.specs.Pools.{Pool}
 use Rattle.mls_paint.specs.Planes.{picture_in}
 use Rattle.mls_paint.proofs.OwnerFrames.{ChangesAmong-ChangesOnly}
@@ -20,8 +19,29 @@ use Rattle.mls_session.proofs.CommandSteps.{edit_step-Refused}
 use Rattle.mls_session.proofs.EditedDesigns.{paint-Done}
 use Rattle.mls_session.proofs.ErrorPlanes.{KeepsPlanes-layout}
 use Rattle.mls_session.proofs.HomePlanes.{AreAtHome-ChangesOnly, planes_kept}
-use Rattle.mls_session.proofs.Painting.{paint_step-Refused}
+use Rattle.mls_session.proofs.Painting.{IsPainting, paint_step-Refused}
 use Rattle.mls_session.proofs.design.Design.paint.Goals as goal
+use Rattle.mls_session.proofs.design.Design.paint.Goals.{After-deref}
+
+painting :
+    (c : After-deref)
+    → IsPainting (config_of c.args.setup.now c.args.workspace.now.pool) c.args.self.now c.args.kind c.in-Some.rect c.in-Some-kind.kind c.from.result c.index_mut-plane.result.now c.deref.result.now
+painting c =
+    let view = c.self.view_is in
+    let plane = c.from.result in
+    let owner = c.index_mut-plane.result.now in
+    let piece : Piece = record { rect = c.in-Some.rect; kind = c.in-Some-kind.kind } in
+    let one = c.deref.ensures.value ∙ c.push_reserved.ensures.items ∙ ap (λ pieces. pieces ++ piece ∷ []) c.clear.ensures.items in
+    let within : plane < length c.args.self.now.planes = omega (arith, c.in-Some-plane_of.ensures.known, c.from.ensures, c.requires.made_for.planes) in
+    record {
+      is_set = sym (ap (λ (d : Design). d.box) view) ∙ c.in-Some.is;
+      is_known = c.in-Some-kind.is;
+      lies_on = sym c.in-Some-plane_of.ensures.value ∙ ap (λ p. Some p) (sym c.from.ensures);
+      one = one;
+      same_quota = sym c.requires.made_for.quota;
+      within = within;
+      is = c.index_mut-plane.ensures.value ∙ ap (λ (d : Design). get_or d.planes plane owner) view;
+    }
 
 pub returns-in_default-overlay-clause-step : goal.returns-in_default-overlay-clause-step
 unfolding design_step
@@ -30,23 +50,15 @@ returns-in_default-overlay-clause-step c =
     let design = c.args.self.now in
     let config = config_of c.args.setup.now pool in
     let view = c.self.view_is in
-    let rect = c.in-Some.rect in
-    let kind = c.in-Some-kind.kind in
     let plane = c.from.result in
     let owner = c.index_mut-plane.result.now in
-    let piece : Piece = record { rect = rect; kind = kind } in
-    let is_set : design.box ≡ Some rect = sym (ap (λ (d : Design). d.box) view) ∙ c.in-Some.is in
-    let lies_on : plane_of_type config.tech.type_planes kind ≡ Some plane = sym c.in-Some-plane_of.ensures.value ∙ ap (λ p. Some p) (sym c.from.ensures) in
-    let one = c.deref.ensures.value ∙ c.push_reserved.ensures.items ∙ ap (λ pieces. pieces ++ piece ∷ []) c.clear.ensures.items in
-    let within : plane < length design.planes = omega (arith, c.in-Some-plane_of.ensures.known, c.from.ensures, c.requires.made_for.planes) in
-    let is : owner ≡ get_or design.planes plane owner = c.index_mut-plane.ensures.value ∙ ap (λ (d : Design). get_or d.planes plane owner) view in
     let done = c.in_default-overlay.ensures in
     let back = planes_kept c.self.inside.planes.items plane owner c.overlay.new.plane c.index_mut-plane.ensures.value done.plane in
     let quota = ap (λ (d : Design). d.quota) view in
     let over : c.get-limit.result < tile_count world (overlaid (picture_in pool owner) c.deref.result.now) = done.too_many.0 refl in
     let many : design.quota < tile_count world (overlaid (picture_in pool owner) c.deref.result.now) = omega (arith, over, quota, c.get-limit.ensures.value) in
     edit_step-Refused config (designed_of pool design) design.box (paint_step config (drawn_of pool design) design.box c.args.kind) Quota
-    (paint_step-Refused config pool design c.args.kind rect kind plane owner c.deref.result.now is_set c.in-Some-kind.is lies_on one (sym c.requires.made_for.quota) within is many)
+    (paint_step-Refused config pool design c.args.kind c.in-Some.rect c.in-Some-kind.kind plane owner c.deref.result.now (painting (goal.at.returns-in_default-overlay-clause-step c).After-deref) many)
     ∙ ap (λ (d : Design). (designed_of pool d, Refused Quota)) (sym view)
     ∙ ap (λ (owners : List ℕ). (designed_of pool (record { box = c.self.inside.box_rect; planes = owners; uses = c.self.inside.uses.items; quota = c.self.inside.quota; errors = c.self.inside.errors }), Refused Quota)) (sym back)
     ∙ ap (λ (now : Pool). (designed_of now (record { box = c.self.inside.box_rect; planes = set c.self.inside.planes.items plane c.overlay.new.plane; uses = c.self.inside.uses.items; quota = c.self.inside.quota; errors = c.self.inside.errors }), Refused Quota)) (sym done.refused)
@@ -60,15 +72,8 @@ returns-clause-step c =
     let config = config_of c.args.setup.now pool in
     let view = c.self.view_is in
     let rect = c.in-Some.rect in
-    let kind = c.in-Some-kind.kind in
     let plane = c.from.result in
     let owner = c.index_mut-plane.result.now in
-    let piece : Piece = record { rect = rect; kind = kind } in
-    let is_set : design.box ≡ Some rect = sym (ap (λ (d : Design). d.box) view) ∙ c.in-Some.is in
-    let lies_on : plane_of_type config.tech.type_planes kind ≡ Some plane = sym c.in-Some-plane_of.ensures.value ∙ ap (λ p. Some p) (sym c.from.ensures) in
-    let one = c.deref.ensures.value ∙ c.push_reserved.ensures.items ∙ ap (λ pieces. pieces ++ piece ∷ []) c.clear.ensures.items in
-    let within : plane < length design.planes = omega (arith, c.in-Some-plane_of.ensures.known, c.from.ensures, c.requires.made_for.planes) in
-    let is : owner ≡ get_or design.planes plane owner = c.index_mut-plane.ensures.value ∙ ap (λ (d : Design). get_or d.planes plane owner) view in
     let done = c.in-Ok.ensures in
     let planes = planes_kept c.self.inside.planes.items plane owner c.overlay.new.plane c.index_mut-plane.ensures.value done.plane ∙ ap (λ (d : Design). d.planes) view in
     let quota = ap (λ (d : Design). d.quota) view in
@@ -76,23 +81,21 @@ returns-clause-step c =
     let soiled = c.add.ensures.added new ∙ ap (λ (d : Design). soiled_after config.rules (Some rect) Done (checking_of new d.errors)) view in
     let after : Design =
     record { box = c.self.inside.box_rect; planes = set c.self.inside.planes.items plane c.overlay.new.plane; uses = c.self.inside.uses.items; quota = c.self.inside.quota; errors = c.add.new.self } in
-    paint-Done config pool new design after c.args.kind rect kind plane owner c.deref.result.now is_set c.in-Some-kind.is lies_on one (sym c.requires.made_for.quota) within is c.requires.home
-    done.only done.picture few (ap (λ (d : Design). d.box) view) planes (ap (λ (d : Design). d.uses) view) soiled
+    paint-Done config pool new design after c.args.kind rect c.in-Some-kind.kind plane owner c.deref.result.now (painting (goal.at.returns-clause-step c).After-deref) c.requires.home done.only done.picture few (ap (λ (d : Design). d.box) view) planes (ap (λ (d : Design). d.uses) view) soiled
 
 pub returns-clause-keeps : goal.returns-clause-keeps
 returns-clause-keeps c =
+    let is = painting (goal.at.returns-clause-keeps c).After-deref in
     let pool = c.args.workspace.now.pool in
     let new = c.overlay.new.pool in
     let design = c.args.self.now in
     let view = c.self.view_is in
     let plane = c.from.result in
     let owner = c.index_mut-plane.result.now in
-    let within : plane < length design.planes = omega (arith, c.in-Some-plane_of.ensures.known, c.from.ensures, c.requires.made_for.planes) in
-    let is : owner ≡ get_or design.planes plane owner = c.index_mut-plane.ensures.value ∙ ap (λ (d : Design). get_or d.planes plane owner) view in
     let done = c.in-Ok.ensures in
     let planes = planes_kept c.self.inside.planes.items plane owner c.overlay.new.plane c.index_mut-plane.ensures.value done.plane ∙ ap (λ (d : Design). d.planes) view in
     let after : Design =
     record { box = c.self.inside.box_rect; planes = set c.self.inside.planes.items plane c.overlay.new.plane; uses = c.self.inside.uses.items; quota = c.self.inside.quota; errors = c.add.new.self } in
     KeepsPlanes-layout pool new design after c.requires.home (AreAtHome-ChangesOnly pool new design.quota design.planes owner done.only done.strips c.requires.home.layout)
-    (ChangesAmong-ChangesOnly pool new design.planes owner (plane, within, sym is) done.only) planes (ap (λ (d : Design). d.quota) view)
+    (ChangesAmong-ChangesOnly pool new design.planes owner (plane, is.within, sym is.is) done.only) planes (ap (λ (d : Design). d.quota) view)
     (c.add.ensures.owner ∙ ap (λ (d : Design). d.errors.owner) view) (c.add.ensures.marked ∙ ap (λ (d : Design). d.errors.marked) view)

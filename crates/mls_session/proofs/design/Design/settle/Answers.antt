@@ -3,16 +3,16 @@ use Rattle.mls_errorplane.specs.CatchingUp.{Steps}
 use Rattle.mls_errorplane.specs.ErrorPlanes.{checking_of}
 use Rattle.mls_errorplane.specs.Stretches.{AreRightIn}
 use Rattle.mls_layout.specs.Uses.{flat_layout}
-use Rattle.mls_session.proofs.LentDesigns.{HasCells-lent, KeepsDrawn-returned, cells_apart-lent, said_of-lent}
+use Rattle.mls_session.proofs.LentDesigns.{HasLayout-lent, KeepsDrawn-returned, StandsApart-lent, said_of-lent}
 use Rattle.mls_session.proofs.design.Design.settle.Goals as goal
 
-pub settle-requires-clause-cells : goal.settle-requires-clause-cells
-settle-requires-clause-cells c =
-    HasCells-lent c.args.setup.now c.args.workspace.now.pool c.self.inside c.args.self.now c.self.view_is c.basis-basis.result.uses.library.now c.basis-basis.ensures.library c.deref_mut.result.now c.deref_mut.ensures.value c.requires.can_dump c.requires.made_for
+pub settle-requires-clause-layout : goal.settle-requires-clause-layout
+settle-requires-clause-layout c =
+    HasLayout-lent c.args.setup.now c.args.workspace.now.pool c.self.inside c.args.self.now c.self.view_is c.requires.home c.self.invariant.0 c.basis-basis.result.uses.library.now c.basis-basis.ensures.library c.deref_mut.result.now c.deref_mut.ensures.value c.requires.can_dump c.requires.made_for
 
-pub settle-requires-clause-cells_apart : goal.settle-requires-clause-cells_apart
-settle-requires-clause-cells_apart c =
-    cells_apart-lent c.args.setup.now c.args.workspace.now.pool c.self.inside c.args.self.now c.self.view_is c.basis-basis.result.uses.library.now c.basis-basis.ensures.library c.requires.can_dump
+pub settle-requires-clause-apart : goal.settle-requires-clause-apart
+settle-requires-clause-apart c =
+    StandsApart-lent c.args.setup.now c.args.workspace.now.pool c.self.inside c.args.self.now c.self.view_is c.requires.home c.self.invariant.0 c.basis-basis.result.uses.library.now c.basis-basis.ensures.library c.deref_mut.result.now c.deref_mut.ensures.value c.requires.can_dump
 
 pub settle-requires-clause-right : goal.settle-requires-clause-right
 settle-requires-clause-right c =

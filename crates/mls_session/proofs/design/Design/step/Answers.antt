@@ -1,11 +1,11 @@
 use Rattle.std.proofs.Common.{◌∙◌}
 use Rattle.mls_errorplane.specs.ErrorPlanes.{HasStepped, checking_of}
-use Rattle.mls_session.proofs.LentDesigns.{HasCells-lent, KeepsDrawn-returned, said_of-lent}
+use Rattle.mls_session.proofs.LentDesigns.{HasLayout-lent, KeepsDrawn-returned, said_of-lent}
 use Rattle.mls_session.proofs.design.Design.step.Goals as goal
 
-pub step-requires-clause-cells : goal.step-requires-clause-cells
-step-requires-clause-cells c =
-    HasCells-lent c.args.setup.now c.args.workspace.now.pool c.self.inside c.args.self.now c.self.view_is c.basis-basis.result.uses.library.now c.basis-basis.ensures.library c.deref_mut.result.now c.deref_mut.ensures.value c.requires.can_dump c.requires.made_for
+pub step-requires-clause-layout : goal.step-requires-clause-layout
+step-requires-clause-layout c =
+    HasLayout-lent c.args.setup.now c.args.workspace.now.pool c.self.inside c.args.self.now c.self.view_is c.requires.home c.self.invariant.0 c.basis-basis.result.uses.library.now c.basis-basis.ensures.library c.deref_mut.result.now c.deref_mut.ensures.value c.requires.can_dump c.requires.made_for
 
 pub returns-clause-stepped : goal.returns-clause-stepped
 returns-clause-stepped c =

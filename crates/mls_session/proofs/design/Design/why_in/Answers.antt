@@ -1,11 +1,12 @@
 use Rattle.std.proofs.Common.{IfOk, ◌≡◌, refl, ◌∙◌}
 use Rattle.mls_checker.specs.Findings.{violated_rules}
-use Rattle.mls_session.proofs.LentDesigns.{HasCells-lent, said_of-lent}
+use Rattle.mls_session.proofs.LentDesigns.{HasLayout-lent, said_of-lent}
 use Rattle.mls_session.proofs.design.Design.why_in.Goals as goal
 
-pub why-requires-clause-cells : goal.why-requires-clause-cells
-why-requires-clause-cells c =
-    HasCells-lent c.args.setup.now c.args.workspace.now.pool c.self.inside c.args.self.now c.self.view_is c.basis-basis.result.uses.library.now c.basis-basis.ensures.library c.deref_mut.result.now c.deref_mut.ensures.value c.requires.can_dump c.requires.made_for
+pub why-requires : goal.why-requires
+why-requires c = record {
+  layout = HasLayout-lent c.args.setup.now c.args.workspace.now.pool c.self.inside c.args.self.now c.self.view_is c.requires.home c.self.invariant.0 c.basis-basis.result.uses.library.now c.basis-basis.ensures.library c.deref_mut.result.now c.deref_mut.ensures.value c.requires.can_dump c.requires.made_for;
+}
 
 pub returns-clause-value : goal.returns-clause-value
 returns-clause-value c =

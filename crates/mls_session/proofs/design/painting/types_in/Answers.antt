@@ -19,7 +19,7 @@ loop-number-init c = record {
 pub kinds-requires : goal.kinds-requires
 kinds-requires c =
     let (plane, fits, cells) = lent_plane c.args.workspace.now.pool c.loop-number.workspace.pool c.args.uses.now c.args.planes.now c.loop-number.planes c.loop-number.number c.index-planes-number.result c.loop-number.invariant.pool c.loop-number.invariant.owners (omega (arith, ap length c.loop-number.invariant.owners)) c.requires.planes c.requires.planes_fit c.requires.cells in
-    record { plane = plane; plane_fits = fits; cells = cells }
+    record { flat = record { plane = plane; fits = fits; cells = cells } }
 
 pub loop-number-preserved : goal.loop-number-preserved
 loop-number-preserved c =

@@ -24,16 +24,19 @@ invariant_of-self c =
 pub returns-clause-finished : goal.returns-clause-finished
 returns-clause-finished c =
     Finishes-finished c.args.setup.now c.args.workspace.now.pool c.finish-outcome.new.workspace.pool c.args.self.now c.self.inside.design c.finish-outcome.new.self c.self.inside.journal c.count.new.self c.self.view_is c.finish-outcome.ensures.keeps.drawn
-    c.requires.made_for c.args.finding.now c.finish-outcome.result (journal c) c.finish-outcome.ensures.finished
+    c.requires.ready.made_for c.args.finding.now c.finish-outcome.result (journal c) c.finish-outcome.ensures.finished
 
-pub returns-clause-legal : goal.returns-clause-legal
-returns-clause-legal c =
-    Finishes-legal (terms_of c.args.setup.now c.args.workspace.now.pool) (kept_of c.args.workspace.now.pool c.args.self.now) (kept_of c.finish-outcome.new.workspace.pool (seen c.finish-outcome.new.self c.count.new.self)) c.args.finding.now c.finish-outcome.result (returns-clause-finished c)
-
-pub returns-clause-marks_right : goal.returns-clause-marks_right
-returns-clause-marks_right c =
-    right_after c.args.setup.now c.args.workspace.now.pool c.finish-outcome.new.workspace.pool c.args.self.now c.self.inside.design c.finish-outcome.new.self c.self.inside.journal c.count.new.self c.self.view_is c.finish-outcome.ensures.keeps.drawn
-    (HasFinished-IsChecked c.args.setup.now.rules (length c.self.inside.design.planes) (layout_of (config_of c.args.setup.now c.args.workspace.now.pool) (drawn_of c.args.workspace.now.pool c.self.inside.design)) c.self.inside.design.quota (checking_of c.args.workspace.now.pool c.self.inside.design.errors) (checking_of c.finish-outcome.new.workspace.pool c.finish-outcome.new.self.errors) c.args.finding.now c.finish-outcome.result c.finish-outcome.ensures.finished)
+pub returns-clause-sound : goal.returns-clause-sound
+returns-clause-sound c = record {
+  legal =
+      Finishes-legal (terms_of c.args.setup.now c.args.workspace.now.pool) (kept_of c.args.workspace.now.pool c.args.self.now) (kept_of c.finish-outcome.new.workspace.pool (seen c.finish-outcome.new.self c.count.new.self)) c.args.finding.now c.finish-outcome.result (returns-clause-finished c);
+  marks_right =
+      right_after c.args.setup.now c.args.workspace.now.pool c.finish-outcome.new.workspace.pool c.args.self.now c.self.inside.design c.finish-outcome.new.self c.self.inside.journal c.count.new.self c.self.view_is c.finish-outcome.ensures.keeps.drawn
+      (HasFinished-IsChecked c.args.setup.now.rules (length c.self.inside.design.planes) (layout_of (config_of c.args.setup.now c.args.workspace.now.pool) (drawn_of c.args.workspace.now.pool c.self.inside.design)) c.self.inside.design.quota (checking_of c.args.workspace.now.pool c.self.inside.design.errors) (checking_of c.finish-outcome.new.workspace.pool c.finish-outcome.new.self.errors) c.args.finding.now c.finish-outcome.result c.finish-outcome.ensures.finished);
+  planes =
+      subst (λ (s : Session). KeepsPlanes c.args.workspace.now.pool c.finish-outcome.new.workspace.pool s (seen c.finish-outcome.new.self c.count.new.self)) c.self.view_is
+      (record { planes = c.finish-outcome.ensures.keeps.planes; limit = ap (λ (j : Journal). j.limit) (journal c) });
+}
 
 pub returns-clause-knows : goal.returns-clause-knows
 returns-clause-knows c =
@@ -42,8 +45,3 @@ returns-clause-knows c =
     subst (λ (s : Session). KnowsRight config (designed_of c.args.workspace.now.pool s.design) c.args.checked.now) (sym c.self.view_is) c.requires.knows in
     subst (λ (d : Drawn). IfSome c.after_finding.result (AreRightIn config.rules (layout_of config d) (checking_of c.finish-outcome.new.workspace.pool c.finish-outcome.new.self.errors).marks)) (sym c.finish-outcome.ensures.keeps.drawn)
     (c.after_finding.ensures config.rules (length c.self.inside.design.planes) (layout_of (config_of c.args.setup.now c.args.workspace.now.pool) (drawn_of c.args.workspace.now.pool c.self.inside.design)) c.self.inside.design.quota (checking_of c.args.workspace.now.pool c.self.inside.design.errors) (checking_of c.finish-outcome.new.workspace.pool c.finish-outcome.new.self.errors) c.finish-outcome.ensures.finished known)
-
-pub returns-clause-keeps : goal.returns-clause-keeps
-returns-clause-keeps c =
-    subst (λ (s : Session). KeepsPlanes c.args.workspace.now.pool c.finish-outcome.new.workspace.pool s (seen c.finish-outcome.new.self c.count.new.self)) c.self.view_is
-    (record { planes = c.finish-outcome.ensures.keeps.planes; limit = ap (λ (j : Journal). j.limit) (journal c) })

@@ -8,4 +8,4 @@ pub returns-in-Ok : goal.returns-in-Ok
 returns-in-Ok c terms =
     let placed = ap (λ (inside : Inside). inside.design.uses) c.self-inside.view_is in
     let own = ap (λ (s : Session). s.design.uses) c.self.view_is in
-    Looks-uses terms (kept_of c.args.pool.now c.args.self.now) c.in-Ok.uses (c.in-Ok.ensures ∙ c.deref.ensures.value ∙ placed ∙ own)
+    Looks-uses terms (kept_of c.args.pool.now c.args.self.now) c.new.result (c.new.ensures ∙ c.in-Ok.ensures.items ∙ c.deref.ensures.value ∙ placed ∙ own)

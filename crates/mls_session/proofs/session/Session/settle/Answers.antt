@@ -1,13 +1,14 @@
-use Rattle.std.proofs.Common.{◌+◌, subst, sym}
+use Rattle.std.proofs.Common.{◌+◌, ap, subst, sym}
 use Rattle.mls_errorplane.specs.ErrorPlanes.{checking_of}
 use Rattle.mls_session.specs.Designs.{KnowsRight, designed_of, drawn_of}
 use Rattle.mls_session.specs.Inner.{IsCounted, Journal}
 use Rattle.mls_session.specs.Own.{layout_of}
-use Rattle.mls_session.specs.Sessions.{Session, kept_of}
+use Rattle.mls_session.specs.Sessions.{KeepsPlanes, Session, kept_of}
 use Rattle.mls_session.specs.Setups.{config_of, terms_of}
 use Rattle.mls_session.proofs.CountedSteps.{IsCounted-Steps, fits_of}
 use Rattle.mls_session.proofs.JournalledCommands.{seen}
 use Rattle.mls_session.proofs.JournalledSteps.{ChecksTimes-Steps, right_after}
+use Rattle.mls_session.proofs.KeptPlanes.{StaysSound-refl}
 use Rattle.mls_session.proofs.RightMarks.{Steps-IsChecked}
 use Rattle.mls_session.proofs.StepRuns.{ChecksTimes-legal, ChecksTimes-none}
 use Rattle.mls_session.proofs.session.Session.settle.Goals as goal
@@ -15,6 +16,9 @@ use Rattle.mls_session.proofs.session.Session.settle.Goals as goal
 pub returns-in_default-clause-settled : goal.returns-in_default-clause-settled
 returns-in_default-clause-settled c =
     ChecksTimes-none (terms_of c.args.setup.now c.args.workspace.now.pool) (kept_of c.args.workspace.now.pool c.args.self.now)
+
+pub returns-in_default-clause-sound : goal.returns-in_default-clause-sound
+returns-in_default-clause-sound c = StaysSound-refl c.args.setup.now c.args.workspace.now.pool c.args.self.now c.requires.ready.home
 
 pub settle-steps-requires-clause-right : goal.settle-steps-requires-clause-right
 settle-steps-requires-clause-right c =
@@ -41,13 +45,16 @@ invariant_of-self c =
 pub returns-clause-settled : goal.returns-clause-settled
 returns-clause-settled c =
     ChecksTimes-Steps c.args.setup.now c.args.workspace.now.pool c.settle-steps.new.workspace.pool c.args.self.now c.self.inside.design c.settle-steps.new.self c.self.inside.journal c.count.new.self c.self.view_is c.settle-steps.ensures.keeps.drawn
-    c.requires.made_for c.settle-steps.result c.count.ensures c.settle-steps.ensures.steps
+    c.requires.ready.made_for c.settle-steps.result c.count.ensures c.settle-steps.ensures.steps
 
-pub returns-clause-legal : goal.returns-clause-legal
-returns-clause-legal c =
-    ChecksTimes-legal (terms_of c.args.setup.now c.args.workspace.now.pool) c.settle-steps.result (kept_of c.args.workspace.now.pool c.args.self.now) (kept_of c.settle-steps.new.workspace.pool (seen c.settle-steps.new.self c.count.new.self)) (returns-clause-settled c)
-
-pub returns-clause-marks_right : goal.returns-clause-marks_right
-returns-clause-marks_right c =
-    right_after c.args.setup.now c.args.workspace.now.pool c.settle-steps.new.workspace.pool c.args.self.now c.self.inside.design c.settle-steps.new.self c.self.inside.journal c.count.new.self c.self.view_is c.settle-steps.ensures.keeps.drawn
-    (Steps-IsChecked c.args.setup.now.rules (layout_of (config_of c.args.setup.now c.args.workspace.now.pool) (drawn_of c.args.workspace.now.pool c.self.inside.design)) c.self.inside.design.quota c.settle-steps.result (checking_of c.args.workspace.now.pool c.self.inside.design.errors) (checking_of c.settle-steps.new.workspace.pool c.settle-steps.new.self.errors) c.settle-steps.ensures.steps)
+pub returns-clause-sound : goal.returns-clause-sound
+returns-clause-sound c = record {
+  legal =
+      ChecksTimes-legal (terms_of c.args.setup.now c.args.workspace.now.pool) c.settle-steps.result (kept_of c.args.workspace.now.pool c.args.self.now) (kept_of c.settle-steps.new.workspace.pool (seen c.settle-steps.new.self c.count.new.self)) (returns-clause-settled c);
+  marks_right =
+      right_after c.args.setup.now c.args.workspace.now.pool c.settle-steps.new.workspace.pool c.args.self.now c.self.inside.design c.settle-steps.new.self c.self.inside.journal c.count.new.self c.self.view_is c.settle-steps.ensures.keeps.drawn
+      (Steps-IsChecked c.args.setup.now.rules (layout_of (config_of c.args.setup.now c.args.workspace.now.pool) (drawn_of c.args.workspace.now.pool c.self.inside.design)) c.self.inside.design.quota c.settle-steps.result (checking_of c.args.workspace.now.pool c.self.inside.design.errors) (checking_of c.settle-steps.new.workspace.pool c.settle-steps.new.self.errors) c.settle-steps.ensures.steps);
+  planes =
+      subst (λ (s : Session). KeepsPlanes c.args.workspace.now.pool c.settle-steps.new.workspace.pool s (seen c.settle-steps.new.self c.count.new.self)) c.self.view_is
+      (record { planes = c.settle-steps.ensures.keeps.planes; limit = ap (λ (j : Journal). j.limit) c.count.ensures });
+}

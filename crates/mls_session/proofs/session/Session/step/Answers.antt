@@ -23,18 +23,16 @@ invariant_of-self c =
 pub returns-clause-stepped : goal.returns-clause-stepped
 returns-clause-stepped c =
     StepsOnce-stepped c.args.setup.now c.args.workspace.now.pool c.step-stepped.new.workspace.pool c.args.self.now c.self.inside.design c.step-stepped.new.self c.self.inside.journal c.count.new.self c.self.view_is c.step-stepped.ensures.keeps.drawn
-    c.requires.made_for c.step-stepped.result (journal c) c.step-stepped.ensures.stepped
+    c.requires.ready.made_for c.step-stepped.result (journal c) c.step-stepped.ensures.stepped
 
-pub returns-clause-legal : goal.returns-clause-legal
-returns-clause-legal c =
-    StepsOnce-legal (terms_of c.args.setup.now c.args.workspace.now.pool) (kept_of c.args.workspace.now.pool c.args.self.now) (kept_of c.step-stepped.new.workspace.pool (seen c.step-stepped.new.self c.count.new.self)) c.step-stepped.result (returns-clause-stepped c)
-
-pub returns-clause-marks_right : goal.returns-clause-marks_right
-returns-clause-marks_right c =
-    right_after c.args.setup.now c.args.workspace.now.pool c.step-stepped.new.workspace.pool c.args.self.now c.self.inside.design c.step-stepped.new.self c.self.inside.journal c.count.new.self c.self.view_is c.step-stepped.ensures.keeps.drawn
-    (HasStepped-IsChecked c.args.setup.now.rules (layout_of (config_of c.args.setup.now c.args.workspace.now.pool) (drawn_of c.args.workspace.now.pool c.self.inside.design)) c.self.inside.design.quota (checking_of c.args.workspace.now.pool c.self.inside.design.errors) (checking_of c.step-stepped.new.workspace.pool c.step-stepped.new.self.errors) c.step-stepped.result c.step-stepped.ensures.stepped)
-
-pub returns-clause-keeps : goal.returns-clause-keeps
-returns-clause-keeps c =
-    subst (λ (s : Session). KeepsPlanes c.args.workspace.now.pool c.step-stepped.new.workspace.pool s (seen c.step-stepped.new.self c.count.new.self)) c.self.view_is
-    (record { planes = c.step-stepped.ensures.keeps.planes; limit = ap (λ (j : Journal). j.limit) (journal c) })
+pub returns-clause-sound : goal.returns-clause-sound
+returns-clause-sound c = record {
+  legal =
+      StepsOnce-legal (terms_of c.args.setup.now c.args.workspace.now.pool) (kept_of c.args.workspace.now.pool c.args.self.now) (kept_of c.step-stepped.new.workspace.pool (seen c.step-stepped.new.self c.count.new.self)) c.step-stepped.result (returns-clause-stepped c);
+  marks_right =
+      right_after c.args.setup.now c.args.workspace.now.pool c.step-stepped.new.workspace.pool c.args.self.now c.self.inside.design c.step-stepped.new.self c.self.inside.journal c.count.new.self c.self.view_is c.step-stepped.ensures.keeps.drawn
+      (HasStepped-IsChecked c.args.setup.now.rules (layout_of (config_of c.args.setup.now c.args.workspace.now.pool) (drawn_of c.args.workspace.now.pool c.self.inside.design)) c.self.inside.design.quota (checking_of c.args.workspace.now.pool c.self.inside.design.errors) (checking_of c.step-stepped.new.workspace.pool c.step-stepped.new.self.errors) c.step-stepped.result c.step-stepped.ensures.stepped);
+  planes =
+      subst (λ (s : Session). KeepsPlanes c.args.workspace.now.pool c.step-stepped.new.workspace.pool s (seen c.step-stepped.new.self c.count.new.self)) c.self.view_is
+      (record { planes = c.step-stepped.ensures.keeps.planes; limit = ap (λ (j : Journal). j.limit) (journal c) });
+}

@@ -6,7 +6,7 @@ use Rattle.mls_paint.specs.Planes.{layout_in}
 use Rattle.mls_paint.proofs.OwnerFrames.{layout_in-at}
 use Rattle.mls_session.specs.Looks.{tile_counts}
 use Rattle.mls_session.proofs.FirstPlanes.{tile_counts-more}
-use Rattle.mls_session.proofs.look.TileCounts.of_planes.Goals as goal
+use Rattle.mls_session.proofs.look.tile_counts.Goals as goal
 
 pub loop-plane-preserved : goal.loop-plane-preserved
 loop-plane-preserved c =
