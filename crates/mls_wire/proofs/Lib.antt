@@ -8,6 +8,7 @@ pub mod NextLineLemmas
 pub mod OpenLines
 pub mod PieceRooms
 pub mod PlayedJournals
+pub mod PushedTexts
 pub mod Results
 pub mod RunLemmas
 pub mod RunLines

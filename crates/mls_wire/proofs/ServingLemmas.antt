@@ -1,19 +1,18 @@
 -- Serving a script line by line.
 use Rattle.std.proofs.Common.{◌≡◌, ◌≢◌, ℕ, ◌+◌, ◌<◌, ◌≤◌, Option, Some, None, List, [], ◌∷◌, ◌++◌, Result, OnOk, IfErr, All, length, map, refl, sym, ap, subst, ◌∙◌, arith, append_assoc, append-nil}
 use Rattle.std.proofs.KnownBytes.{Appends-nil, Appends-kept, Appends-trans}
-use Rattle.std.proofs.lemmas.List.{length-append, length-map, map-append}
+use Rattle.std.proofs.lemmas.List.{length-append, map-append}
 use Rattle.std.proofs.lemmas.List.Elements.{All-append, All-cons, All-nil}
 use Rattle.std.specs.Io.KnownBytes.{Appends, Keeps, prepend_known}
-use Rattle.std.specs.Prelude.{⊤}
 use Rattle.std.specs.Result.{IsErr, IsErrAnd}
 use Rattle.mls_text.proofs.LineLemmas.{lines_of-last}
 use Rattle.mls_text.specs.Lines.{IsUnbroken, lines_of}
-use Rattle.mls_server.specs.Worlds.{IsNumbered, World}
+use Rattle.mls_server.specs.Worlds.{IsNumbered, JournalsAreLegal, MarksAreExact, MarksAreRight, World}
 use Rattle.mls_server.specs.declared.answer.Answer.{Answer}
 use Rattle.mls_server.specs.declared.event.Event.{Event}
 use Rattle.mls_wire.specs.Lines.{read_line, script_of}
 use Rattle.mls_wire.specs.NextLines.{BeginsKnownLine, TakesLine, TakesKnownLine}
-use Rattle.mls_wire.specs.Runs.{RunsLine, RunsLines, RunsScript}
+use Rattle.mls_wire.specs.Runs.{IsSound, RunsLine, RunsLines, RunsScript, RunsUpTo}
 use Rattle.mls_wire.specs.Serving.{AppendsFront, Gains, StopsAtLine, WritesRun, WritesCutRun, WritesLine, WritesCutLine}
 use Rattle.mls_wire.specs.declared.reader.NextLine.{NextLine}
 use Rattle.mls_wire.specs.declared.reader.NextLine.TheVariants.{End, Line, LastLine}
@@ -28,6 +27,10 @@ pub AppendsFront-all : (a b c : Option (List ℕ)) (bytes : List ℕ) → Append
 AppendsFront-all a b c bytes h k = (bytes, [], sym (append-nil bytes), Appends-kept a b c bytes h k)
 
 -- ---- one line
+
+-- what every server keeps holds after the line
+pub sound_then : (new : World) → MarksAreRight new → MarksAreExact new → JournalsAreLegal new → IsSound new
+sound_then new right exact legal = record { right = right; exact = exact; legal = legal }
 
 module _ (old new : World) (n : ℕ) (line : Option (List ℕ)) (text : List ℕ)
     (asked : List Event) (answered : List Answer) (runs : RunsLine old n line text asked answered new) where
@@ -49,42 +52,81 @@ module _ (old new : World) (n : ℕ) (line : Option (List ℕ)) (text : List ℕ
 
 -- ---- the lines of a script
 
--- the whole lines up to line n were served, with this output, and this is left of the script
+-- these lines before line n were run, with this output
+pub record HasRun (old : World) (n : ℕ) (lines : List (Option (List ℕ))) (out : List ℕ) (session : World) : Type 0 where
+  pub number : n ≡ length lines + 1
+  pub events : List Event
+  pub answers : List Answer
+  pub runs : RunsLines old 1 lines out events answers session
+  pub ids : IsNumbered old
+
+-- the whole lines before line n were served, with this output, and this is left of the script
 pub record IsServed (old : World) (script : List ℕ) (n : ℕ) (left out : List ℕ) (session : World) : Type 0 where
   pub lines : List (List ℕ)
   pub split : script ≡ fed lines ++ left
   pub unbroken : All IsUnbroken lines
-  pub number : n ≡ length lines + 1
-  pub events : List Event
-  pub answers : List Answer
-  pub runs : RunsLines old 1 (map read_line lines) out events answers session
-  pub ids : IsNumbered old
+  pub run : HasRun old n (map read_line lines) out session
 
--- the same where the script is known
+-- the same where the script is known; where it isn't, some lines were
 abbrev pub Serves : World → Option (List ℕ) → Option (List ℕ) → ℕ → Option (List ℕ) → Option (List ℕ) → World → Type 0
-Serves old None written n left now session = ⊤
+Serves old None written n left now session = Gains written now (λ out. (lines : List (Option (List ℕ))) × HasRun old n lines out session)
 Serves old (Some script) written n None now session = ⊥
 Serves old (Some script) written n (Some left) now session = Gains written now (λ out. IsServed old script n left out session)
 
+run_first : (old : World) → IsNumbered old → HasRun old 1 [] [] old
+run_first old ids = record { number = refl; events = []; answers = []; runs = (refl, refl, refl, refl); ids = ids }
+
+module _ (old session : World) (n : ℕ) (lines : List (Option (List ℕ))) (out : List ℕ) (run : HasRun old n lines out session) where
+  -- all lines of a script, in whose events each session is told what it would be told alone
+  run_whole : RunsScript old lines out session
+  run_whole = record {
+    events = run.events;
+    answers = run.answers;
+    runs = run.runs;
+    alone = RunsLines-alone old session 1 lines out run.events run.answers run.ids run.runs;
+  }
+
+  module _ (new : World) (line : Option (List ℕ)) (asked : List Event) (answered : List Answer) where
+    number_first : n ≡ 1 + length lines
+    number_first = omega (arith, run.number)
+
+    -- one more line
+    run_more : (text : List ℕ) → RunsLine session n line text asked answered new → HasRun old (n + 1) (lines ++ line ∷ []) (out ++ text) new
+    run_more text more = record {
+      number = omega (arith, run.number, length-append lines (line ∷ []));
+      events = run.events ++ asked;
+      answers = run.answers ++ answered;
+      runs = RunsLines-snoc old session new 1 lines line out text run.events asked run.answers answered run.runs
+          (subst (λ k. RunsLine session k line text asked answered new) number_first more);
+      ids = run.ids;
+    }
+
+    -- one more line, whose reply text was not written whole
+    run_cut : (front missing : List ℕ) → RunsLine session n line (front ++ missing) asked answered new → RunsUpTo old (lines ++ line ∷ []) front (out ++ front) new
+    unfolding run_more
+    run_cut front missing more =
+        let ran = run_more (front ++ missing) more in
+        record {
+          before = lines;
+          last = line;
+          order = refl;
+          mid = session;
+          replies = out;
+          missing = missing;
+          events = run.events;
+          answers = run.answers;
+          asked = asked;
+          answered = answered;
+          runs = run.runs;
+          cut = subst (λ k. RunsLine session k line (front ++ missing) asked answered new) run.number more;
+          alone = RunsLines-alone old new 1 (lines ++ line ∷ []) (out ++ (front ++ missing)) ran.events ran.answers run.ids ran.runs;
+          written = refl;
+        }
+
 pub served_first : (old : World) (script written : Option (List ℕ)) → IsNumbered old → Serves old script written 1 script written old
-served_first old None written ids = tt
+served_first old None written ids = ([], ([], run_first old ids), Appends-nil written)
 served_first old (Some script) written ids =
-    ([], record { lines = []; split = refl; unbroken = All-nil IsUnbroken; number = refl; events = []; answers = []; runs = (refl, refl, refl, refl); ids = ids }, Appends-nil written)
-
--- the run of the served lines and one more
-runs_more : (old session new : World) (script : List ℕ) (n : ℕ) (left out text : List ℕ) (asked : List Event) (answered : List Answer) (line : Option (List ℕ))
-    → (served : IsServed old script n left out session) → RunsLine session n line text asked answered new
-    → RunsLines old 1 (map read_line served.lines ++ line ∷ []) (out ++ text) (served.events ++ asked) (served.answers ++ answered) new
-runs_more old session new script n left out text asked answered line served run =
-    let number : n ≡ 1 + length (map read_line served.lines) = omega (arith, served.number, length-map served.lines read_line) in
-    RunsLines-snoc old session new 1 (map read_line served.lines) line out text served.events asked served.answers answered served.runs
-    (subst (λ k. RunsLine session k line text asked answered new) number run)
-
--- the run of all lines of a script, in whose events each session is told what it would be told alone
-whole_run : (old new : World) (lines : List (Option (List ℕ))) (out : List ℕ) (events : List Event) (answers : List Answer)
-    → IsNumbered old → RunsLines old 1 lines out events answers new → RunsScript old lines out new
-whole_run old new lines out events answers ids runs =
-    record { events = events; answers = answers; runs = runs; alone = RunsLines-alone old new 1 lines out events answers ids runs }
+    ([], record { lines = []; split = refl; unbroken = All-nil IsUnbroken; run = run_first old ids }, Appends-nil written)
 
 -- a line was taken whose text ends the part of the script that was taken
 record HasTaken (script left : List ℕ) (before : List (List ℕ)) (line : Option (List ℕ)) : Type 0 where
@@ -135,7 +177,8 @@ taken_last script left next kept lines split unbroken taken =
 pub served_more : (old session new : World) (n : ℕ) (kept : List ℕ) (script written left next now then : Option (List ℕ))
     → Serves old script written n left now session → TakesKnownLine left next Line kept → WritesLine session n (read_line kept) now then new
     → Serves old script written (n + 1) next then new
-served_more old session new n kept None written left next now then s t w = tt
+served_more old session new n kept None written left next now then s t w =
+    (s.0 ++ w.0, (s.1.0 ++ read_line kept ∷ [], run_more old session n s.1.0 s.0 s.1.1 new (read_line kept) w.1.0 w.1.1 w.0 w.1.2), Appends-trans written now then s.0 w.0 s.2 w.2)
 served_more old session new n kept (Some script) written None next now then s t w = absurd s
 served_more old session new n kept (Some script) written (Some left) None now then s t w = absurd t
 served_more old session new n kept (Some script) written (Some left) (Some next) now then s t w =
@@ -148,12 +191,8 @@ served_more old session new n kept (Some script) written (Some left) (Some next)
         lines = served.lines ++ line ∷ [];
         split = served.split ∙ ap (λ l. fed served.lines ++ l) t.2 ∙ fed-snoc served.lines line next;
         unbroken = All-append IsUnbroken served.lines (line ∷ []) served.unbroken (All-cons IsUnbroken line [] t.1 (All-nil IsUnbroken));
-        number = omega (arith, served.number, length-append served.lines (line ∷ []));
-        events = served.events ++ w.1.0;
-        answers = served.answers ++ w.1.1;
-        runs = subst (λ all. RunsLines old 1 all (s.0 ++ w.0) (served.events ++ w.1.0) (served.answers ++ w.1.1) new) (sym lines)
-            (runs_more old session new script n left s.0 w.0 w.1.0 w.1.1 (read_line kept) served w.1.2);
-        ids = served.ids;
+        run = subst (λ all. HasRun old (n + 1) all (s.0 ++ w.0) new) (sym lines)
+            (run_more old session n (map read_line served.lines) s.0 served.run new (read_line kept) w.1.0 w.1.1 w.0 w.1.2);
       },
       Appends-trans written now then s.0 w.0 s.2 w.2,
     )
@@ -162,7 +201,9 @@ served_more old session new n kept (Some script) written (Some left) (Some next)
 pub served_last : (old session new : World) (n : ℕ) (kept : List ℕ) (script written left next now then : Option (List ℕ))
     → Serves old script written n left now session → TakesKnownLine left next LastLine kept → WritesLine session n (read_line kept) now then new
     → WritesRun old script written then new
-served_last old session new n kept None written left next now then s t w = tt
+served_last old session new n kept None written left next now then s t w =
+    let ran = run_more old session n s.1.0 s.0 s.1.1 new (read_line kept) w.1.0 w.1.1 w.0 w.1.2 in
+    (s.0 ++ w.0, (s.1.0 ++ read_line kept ∷ [], run_whole old new (n + 1) _ _ ran), Appends-trans written now then s.0 w.0 s.2 w.2)
 served_last old session new n kept (Some script) written None next now then s t w = absurd s
 served_last old session new n kept (Some script) written (Some left) None now then s t w = absurd t
 served_last old session new n kept (Some script) written (Some left) (Some next) now then s t w =
@@ -170,25 +211,25 @@ served_last old session new n kept (Some script) written (Some left) (Some next)
     let lines = script_of_last script left next kept served.lines served.split served.unbroken t in (
       s.0 ++ w.0,
       subst (λ all. RunsScript old all (s.0 ++ w.0) new) (sym lines)
-          (whole_run old new _ _ _ _ served.ids (runs_more old session new script n left s.0 w.0 w.1.0 w.1.1 (read_line kept) served w.1.2)),
+          (run_whole old new (n + 1) _ _ (run_more old session n (map read_line served.lines) s.0 served.run new (read_line kept) w.1.0 w.1.1 w.0 w.1.2)),
       Appends-trans written now then s.0 w.0 s.2 w.2,
     )
 
 -- nothing was left of the script
 pub served_all : (old session : World) (n : ℕ) (kept : List ℕ) (script written left next now : Option (List ℕ))
     → Serves old script written n left now session → TakesKnownLine left next End kept → WritesRun old script written now session
-served_all old session n kept None written left next now s t = tt
+served_all old session n kept None written left next now s t = (s.0, (s.1.0, run_whole old session n s.1.0 s.0 s.1.1), s.2)
 served_all old session n kept (Some script) written None next now s t = absurd s
 served_all old session n kept (Some script) written (Some left) None now s t = absurd t
 served_all old session n kept (Some script) written (Some left) (Some next) now s t =
     let served = s.1 in
     let lines : lines_of script ≡ served.lines = ap lines_of (served.split ∙ ap (λ l. fed served.lines ++ l) t.0) ∙ lines_of-whole served.lines [] served.unbroken ∙ append-nil served.lines in
-    (s.0, subst (λ all. RunsScript old all s.0 session) (sym (ap (map read_line) lines)) (whole_run old session _ _ _ _ served.ids served.runs), s.2)
+    (s.0, subst (λ all. RunsScript old all s.0 session) (sym (ap (map read_line) lines)) (run_whole old session n _ _ served.run), s.2)
 
 -- the input failed within a line
 served_begun : (old session : World) (n : ℕ) (script written left rest now : Option (List ℕ))
     → Serves old script written n left now session → BeginsKnownLine left rest → WritesCutRun old Read script rest written now session
-served_begun old session n None written left rest now s t = tt
+served_begun old session n None written left rest now s t = (s.0, (s.1.0, run_whole old session n s.1.0 s.0 s.1.1), s.2)
 served_begun old session n (Some script) written None rest now s t = absurd s
 served_begun old session n (Some script) written (Some left) None now s t = absurd t.2
 served_begun old session n (Some script) written (Some left) (Some rest) now s t =
@@ -198,7 +239,7 @@ served_begun old session n (Some script) written (Some left) (Some rest) now s t
       record {
         consumed = fed served.lines ++ t.0;
         split = served.split ∙ ap (λ l. fed served.lines ++ l) t.2 ∙ sym (append_assoc (fed served.lines) t.0 rest);
-        runs = subst (λ all. RunsScript old all s.0 session) (sym (ap (map read_line) lines)) (whole_run old session _ _ _ _ served.ids served.runs);
+        runs = subst (λ all. RunsScript old all s.0 session) (sym (ap (map read_line) lines)) (run_whole old session n _ _ served.run);
       },
       s.2,
     )
@@ -214,30 +255,14 @@ cut_line : (old session new : World) (n : ℕ) (script left ahead rest out front
     → (served : IsServed old script n left out session) → HasTaken script (ahead ++ rest) served.lines line → length ahead ≤ 4096
     → RunsLine session n line (front ++ missing) asked answered new → StopsAtLine old script rest front (out ++ front) new
 cut_line old session new n script left ahead rest out front missing asked answered line served has near run =
-    let before = map read_line served.lines in
-    let number : n ≡ length before + 1 = omega (arith, served.number, length-map served.lines read_line) in
+    let cut = run_cut old session n (map read_line served.lines) out served.run new line asked answered front missing run in
     record {
       taken = has.taken;
       ahead = ahead;
       split = has.split;
       near = near;
       whole = has.whole;
-      runs = record {
-        before = before;
-        last = line;
-        order = has.lines;
-        mid = session;
-        replies = out;
-        missing = missing;
-        events = served.events;
-        answers = served.answers;
-        asked = asked;
-        answered = answered;
-        runs = served.runs;
-        cut = subst (λ k. RunsLine session k line (front ++ missing) asked answered new) number run;
-        alone = RunsLines-alone old new 1 _ _ _ _ served.ids (runs_more old session new script n left out (front ++ missing) asked answered line served run);
-        written = refl;
-      };
+      runs = subst (λ lines. RunsUpTo old lines front (out ++ front) new) (sym has.lines) cut;
     }
 
 -- a line was taken from the script
@@ -254,7 +279,14 @@ served_within : (old session new : World) (n : ℕ) (ahead kept : List ℕ) (scr
     (next : NextLine) (fault : ServeFault) → next ≢ End → fault ≢ Read → length ahead ≤ 4096 → Serves old script written n left now session
     → TakesKnownLine left (prepend_known ahead rest) next kept → WritesCutLine session n (read_line kept) fault now then new
     → WritesCutRun old fault script rest written then new
-served_within old session new n ahead kept None written left rest now then next fault some other near s t w = tt
+served_within old session new n ahead kept None written left rest now then next Read some other near s t w = absurd (other refl)
+served_within old session new n ahead kept None written left rest now then next Write some other near s t w =
+    let cut = run_cut old session n s.1.0 s.0 s.1.1 new (read_line kept) w.1.0.1 w.1.0.2 w.0 w.1.0.0 w.1.0.3 in
+    (s.0 ++ w.0, (s.1.0 ++ read_line kept ∷ [], w.0, cut), Appends-trans written now then s.0 w.0 s.2 w.2)
+served_within old session new n ahead kept None written left rest now then next Memory some other near s t w =
+    let cut = run_cut old session n s.1.0 s.0 s.1.1 new (read_line kept) w.1.0.1 w.1.0.2 w.0 w.1.0.0 w.1.0.3 in
+    let none : w.0 ≡ [] = w.1.1 refl in
+    (s.0 ++ w.0, (s.1.0 ++ read_line kept ∷ [], subst (λ front. RunsUpTo old (s.1.0 ++ read_line kept ∷ []) front (s.0 ++ w.0) new) none cut), Appends-trans written now then s.0 w.0 s.2 w.2)
 served_within old session new n ahead kept (Some script) written None rest now then next fault some other near s t w = absurd s
 served_within old session new n ahead kept (Some script) written (Some left) None now then next fault some other near s t w = absurd t
 served_within old session new n ahead kept (Some script) written (Some left) (Some rest) now then next Read some other near s t w = absurd (other refl)

@@ -6,6 +6,7 @@ pub mod NameBooks
 pub mod NextLines
 pub mod Numbers
 pub mod PlayedJournals
+pub mod Pushes
 pub mod ReadBack
 pub mod Replies
 pub mod Runs

@@ -5,7 +5,7 @@ use Rattle.mls_session.specs.declared.command.Command.{Command}
 use Rattle.mls_session.specs.declared.command.Command.TheVariants.{Box, Paint, Erase, Dump, GetCell, What, Save as SaveCommand, Check, CatchUp, Why, Count}
 use Rattle.mls_server.specs.Events.{Happens}
 use Rattle.mls_server.specs.OwnLists.{IsToldAlone}
-use Rattle.mls_server.specs.Worlds.{World, kept_in}
+use Rattle.mls_server.specs.Worlds.{JournalsAreLegal, MarksAreExact, MarksAreRight, World, kept_in}
 use Rattle.mls_server.specs.declared.answer.Answer.{Answer}
 use Rattle.mls_server.specs.declared.event.Event.{Event}
 use Rattle.mls_server.specs.declared.event.Event.TheVariants.{Open as OpenEvent, Close as CloseEvent, Command as CommandEvent, Save as SaveEvent, Look as LookEvent, Step as StepEvent, Steps as StepsEvent}
@@ -90,11 +90,18 @@ answers_of (Answered name answer) = answer ∷ []
 answers_of (Audited name entries) = []
 
 -- ---- lines
+-- what holds after each line: the marks of each open session are right outside the areas that await checking, and exact
+-- where there is none, and its journal is legal
+pub record IsSound (on : World) : Type 0 where
+  pub right : MarksAreRight on
+  pub exact : MarksAreExact on
+  pub legal : JournalsAreLegal on
+
 -- line n has this reply text, asks for these events and gets these answers, at most one, and leads to the new world
 abbrev pub RunsLine : World → ℕ → Option (List ℕ) → List ℕ → List Event → List Answer → World → Type 0
 RunsLine old n line text events answers new =
     (response : Response) × Executes old (line_says (book_of old) line) response new × (text ≡ response_text (book_of new) n response)
-    × (events ≡ events_of (line_says (book_of old) line)) × (answers ≡ answers_of response)
+    × (events ≡ events_of (line_says (book_of old) line)) × (answers ≡ answers_of response) × IsSound new
 
 -- the lines from line n on have these reply texts, events and answers, one after another, and lead to the new world
 abbrev pub RunsLines : World → ℕ → List (Option (List ℕ)) → List ℕ → List Event → List Answer → World → Type 0

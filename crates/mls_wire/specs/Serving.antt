@@ -27,9 +27,9 @@ Gains old new P = (out : List ℕ) × P out × Appends old new out
 
 -- ---- a script that was read to its end
 
--- the output gained the reply texts of the script's lines, and the run led to the new world
+-- the output gained the reply texts of the script's lines, or of some lines where the script isn't known, and the run led to the new world
 abbrev pub WritesRun : World → Option (List ℕ) → Option (List ℕ) → Option (List ℕ) → World → Type 0
-WritesRun old None written now new = ⊤
+WritesRun old None written now new = Gains written now (λ out. (lines : List (Option (List ℕ))) × RunsScript old lines out new)
 WritesRun old (Some script) written now new = Gains written now (λ out. RunsScript old (script_of script) out new)
 
 -- ---- a script that was left before
@@ -56,9 +56,15 @@ IsCut old Read script rest out new = StopsAtRead old script rest out new
 IsCut old Write script rest out new = (front : List ℕ) × StopsAtLine old script rest front out new
 IsCut old Memory script rest out new = StopsAtLine old script rest [] out new
 
+-- the same of some lines, where the script isn't known
+abbrev pub IsCutRun : World → ServeFault → List ℕ → World → Type 0
+IsCutRun old Read out new = (lines : List (Option (List ℕ))) × RunsScript old lines out new
+IsCutRun old Write out new = (lines : List (Option (List ℕ))) × (front : List ℕ) × RunsUpTo old lines front out new
+IsCutRun old Memory out new = (lines : List (Option (List ℕ))) × RunsUpTo old lines [] out new
+
 -- the output gained that of a run that this fault cut, and the run led to the new world
 abbrev pub WritesCutRun : World → ServeFault → Option (List ℕ) → Option (List ℕ) → Option (List ℕ) → Option (List ℕ) → World → Type 0
-WritesCutRun old fault None rest written now new = ⊤
+WritesCutRun old fault None rest written now new = Gains written now (λ out. IsCutRun old fault out new)
 WritesCutRun old fault (Some script) None written now new = ⊥
 WritesCutRun old fault (Some script) (Some rest) written now new = Gains written now (λ out. IsCut old fault script rest out new)
 

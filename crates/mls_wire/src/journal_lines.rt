@@ -1,19 +1,19 @@
 //! The lines that play a session's journal again.
-ghost use Rattle.std.specs.Prelude.{◌≡◌, ℕ, ◌+◌, ◌++◌, ◌∷◌, ◌<◌, ◌≤◌, OnErr, OnOk, List, Some, if◌then◌else◌, length, nat_lt, vec_capacity, vec_len};
+ghost use Rattle.std.specs.Prelude.{◌≡◌, ℕ, ◌+◌, ◌++◌, ◌<◌, ◌≤◌, OnErr, OnOk, List, if◌then◌else◌, length, nat_lt, vec_capacity};
 ghost use Rattle.std.specs.List.{count_by, flat_map};
 ghost use Rattle.std.specs.Option.{option_map, unwrap_or};
 ghost use Rattle.mls_wire.specs.JournalLines as spec;
 ghost use Rattle.mls_wire.specs.NameBooks as books;
 ghost use Rattle.mls_wire.specs.ReadBack as back;
+ghost use Rattle.mls_wire.specs.Pushes.{Appends};
 
 use crate::Names;
-use crate::reply::{push_decimal, push_offset};
+use crate::reply::{Pushed, push_decimal, push_offset};
 use mls_kinds::{Iter, KindSet};
 use mls_library::CellId;
 use mls_server::Name;
 use mls_session::{Command, Entry, JournalCopy};
 use mls_text::without_return;
-use std::alloc::AllocError;
 
 /// Appends how many lines play a journal again, and these lines, each after a line feed.
 pub(crate) fn push_journal<N: Names>(
@@ -21,12 +21,8 @@ pub(crate) fn push_journal<N: Names>(
     name: &Name,
     journal: &JournalCopy,
     out: &mut Vec<u8>,
-) -> Result<(), AllocError>
-    ensures text { OnOk result (out.new.items ≡ out.old.items
-        ++ spec.journal_text (N.book names.now) name.now journal.now) }
-    ensures room { OnErr result (vec_capacity out.old
-        < vec_len out.old + length (spec.journal_text (N.book names.now) name.now journal.now)) }
-    ensures capacity { vec_capacity out.old ≤ vec_capacity out.new }
+) -> Pushed
+    ensures { Appends result out.old out.new (spec.journal_text (N.book names.now) name.now journal.now) }
 {
     let lines = line_count(journal);
     push_lines(names, name, lines, journal, out)
@@ -49,12 +45,8 @@ fn push_lines<N: Names>(
     lines: u128,
     journal: &JournalCopy,
     out: &mut Vec<u8>,
-) -> Result<(), AllocError>
-    ensures text { OnOk result (out.new.items ≡ out.old.items
-        ++ spec.counted_text (N.book names.now) name.now lines journal.now) }
-    ensures room { OnErr result (vec_capacity out.old
-        < vec_len out.old + length (spec.counted_text (N.book names.now) name.now lines journal.now)) }
-    ensures capacity { vec_capacity out.old ≤ vec_capacity out.new }
+) -> Pushed
+    ensures { Appends result out.old out.new (spec.counted_text (N.book names.now) name.now lines journal.now) }
 {
     out.extend_from_slice(b"journal ")?;
     push_decimal(lines, out)?;
@@ -90,17 +82,8 @@ fn stepped_count(entries: &[Entry]) -> usize
 }
 
 /// Appends the lines that play entries again, each after a line feed.
-fn push_entries<N: Names>(
-    names: &N,
-    name: &Name,
-    entries: &[Entry],
-    out: &mut Vec<u8>,
-) -> Result<(), AllocError>
-    ensures text { OnOk result (out.new.items ≡ out.old.items
-        ++ flat_map (spec.entry_text (N.book names.now) name.now) entries.now) }
-    ensures room { OnErr result (vec_capacity out.old < vec_len out.old
-        + length (flat_map (spec.entry_text (N.book names.now) name.now) entries.now)) }
-    ensures capacity { vec_capacity out.old ≤ vec_capacity out.new }
+fn push_entries<N: Names>(names: &N, name: &Name, entries: &[Entry], out: &mut Vec<u8>) -> Pushed
+    ensures { Appends result out.old out.new (flat_map (spec.entry_text (N.book names.now) name.now) entries.now) }
 {
     for entry in entries {
         push_entry(names, name, entry, out)?;
@@ -109,17 +92,8 @@ fn push_entries<N: Names>(
 }
 
 /// Appends the lines that play an entry again, each after a line feed.
-fn push_entry<N: Names>(
-    names: &N,
-    name: &Name,
-    entry: &Entry,
-    out: &mut Vec<u8>,
-) -> Result<(), AllocError>
-    ensures text { OnOk result (out.new.items ≡ out.old.items
-        ++ spec.entry_text (N.book names.now) name.now entry.now) }
-    ensures room { OnErr result (vec_capacity out.old
-        < vec_len out.old + length (spec.entry_text (N.book names.now) name.now entry.now)) }
-    ensures capacity { vec_capacity out.old ≤ vec_capacity out.new }
+fn push_entry<N: Names>(names: &N, name: &Name, entry: &Entry, out: &mut Vec<u8>) -> Pushed
+    ensures { Appends result out.old out.new (spec.entry_text (N.book names.now) name.now entry.now) }
 {
     push_steps(name, entry.checks_before, out)?;
     out.push(b'\n')?;
@@ -127,11 +101,8 @@ fn push_entry<N: Names>(
 }
 
 /// Appends the line that does this many check steps after a line feed, or nothing where there are none to do.
-fn push_steps(name: &Name, steps: u64, out: &mut Vec<u8>) -> Result<(), AllocError>
-    ensures text { OnOk result (out.new.items ≡ out.old.items ++ spec.fed_lines (spec.steps_lines name.now steps)) }
-    ensures room { OnErr result (vec_capacity out.old
-        < vec_len out.old + length (spec.fed_lines (spec.steps_lines name.now steps))) }
-    ensures capacity { vec_capacity out.old ≤ vec_capacity out.new }
+fn push_steps(name: &Name, steps: u64, out: &mut Vec<u8>) -> Pushed
+    ensures { Appends result out.old out.new (spec.fed_lines (spec.steps_lines name.now steps)) }
 {
     if steps == 0 {
         return Ok(());
@@ -143,33 +114,16 @@ fn push_steps(name: &Name, steps: u64, out: &mut Vec<u8>) -> Result<(), AllocErr
 }
 
 /// Appends the line that says a command, without its line feed.
-fn push_command<N: Names>(
-    names: &N,
-    name: &Name,
-    command: &Command,
-    out: &mut Vec<u8>,
-) -> Result<(), AllocError>
-    ensures text { OnOk result (out.new.items ≡ out.old.items
-        ++ spec.command_line (N.book names.now) name.now command.now) }
-    ensures room { OnErr result (vec_capacity out.old
-        < vec_len out.old + length (spec.command_line (N.book names.now) name.now command.now)) }
-    ensures capacity { vec_capacity out.old ≤ vec_capacity out.new }
+fn push_command<N: Names>(names: &N, name: &Name, command: &Command, out: &mut Vec<u8>) -> Pushed
+    ensures { Appends result out.old out.new (spec.command_line (N.book names.now) name.now command.now) }
 {
     out.extend_from_slice(name.as_bytes())?;
     push_shielded(names, command, out)
 }
 
 /// Appends a command, with a space before each of its words, and one after a carriage return at its end.
-fn push_shielded<N: Names>(
-    names: &N,
-    command: &Command,
-    out: &mut Vec<u8>,
-) -> Result<(), AllocError>
-    ensures text { OnOk result (out.new.items ≡ out.old.items
-        ++ spec.shielded (spec.said_text (N.book names.now) command.now)) }
-    ensures room { OnErr result (vec_capacity out.old
-        < vec_len out.old + length (spec.shielded (spec.said_text (N.book names.now) command.now))) }
-    ensures capacity { vec_capacity out.old ≤ vec_capacity out.new }
+fn push_shielded<N: Names>(names: &N, command: &Command, out: &mut Vec<u8>) -> Pushed
+    ensures { Appends result out.old out.new (spec.shielded (spec.said_text (N.book names.now) command.now)) }
 {
     push_said(names, command, out)?;
     push_shield(out)
@@ -177,7 +131,7 @@ fn push_shielded<N: Names>(
 
 /// Appends a space after a carriage return at the end, which a reader of lines would drop otherwise.
 #[tactic(auto, using(crate::proofs::ShieldedLines::shields))]
-fn push_shield(out: &mut Vec<u8>) -> Result<(), AllocError>
+fn push_shield(out: &mut Vec<u8>) -> Pushed
     ensures text { OnOk result (out.new.items ≡ spec.shielded out.old.items) }
     ensures room { OnErr result (vec_capacity out.old < length (spec.shielded out.old.items)) }
     ensures capacity { vec_capacity out.old ≤ vec_capacity out.new }
@@ -190,12 +144,8 @@ fn push_shield(out: &mut Vec<u8>) -> Result<(), AllocError>
 
 /// Appends a command, with a space before each of its words.
 #[tactic(auto, unfolding(crate::specs::JournalLines::command_words))]
-fn push_said<N: Names>(names: &N, command: &Command, out: &mut Vec<u8>) -> Result<(), AllocError>
-    ensures text { OnOk result (out.new.items ≡ out.old.items
-        ++ spec.said_text (N.book names.now) command.now) }
-    ensures room { OnErr result (vec_capacity out.old
-        < vec_len out.old + length (spec.said_text (N.book names.now) command.now)) }
-    ensures capacity { vec_capacity out.old ≤ vec_capacity out.new }
+fn push_said<N: Names>(names: &N, command: &Command, out: &mut Vec<u8>) -> Pushed
+    ensures { Appends result out.old out.new (spec.said_text (N.book names.now) command.now) }
 {
     match command {
         Command::Box {
@@ -230,55 +180,32 @@ fn push_said<N: Names>(names: &N, command: &Command, out: &mut Vec<u8>) -> Resul
 }
 
 /// Appends the words of a command that sets the box, with a space before each.
-fn push_box(
-    left: i32,
-    bottom: i32,
-    right: i32,
-    top: i32,
-    out: &mut Vec<u8>,
-) -> Result<(), AllocError>
-    ensures text { OnOk result (out.new.items ≡ out.old.items ++ spec.box_text left bottom right top) }
-    ensures room { OnErr result (vec_capacity out.old
-        < vec_len out.old + length (spec.box_text left bottom right top)) }
-    ensures capacity { vec_capacity out.old ≤ vec_capacity out.new }
+fn push_box(left: i32, bottom: i32, right: i32, top: i32, out: &mut Vec<u8>) -> Pushed
+    ensures { Appends result out.old out.new (spec.box_text left bottom right top) }
 {
     out.extend_from_slice(b" box")?;
     push_sides(left, bottom, right, top, out)
 }
 
 /// Appends four numbers, with a space before each.
-fn push_sides(
-    left: i32,
-    bottom: i32,
-    right: i32,
-    top: i32,
-    out: &mut Vec<u8>,
-) -> Result<(), AllocError>
-    ensures text { OnOk result (out.new.items ≡ out.old.items ++ spec.sides_text left bottom right top) }
-    ensures room { OnErr result (vec_capacity out.old
-        < vec_len out.old + length (spec.sides_text left bottom right top)) }
-    ensures capacity { vec_capacity out.old ≤ vec_capacity out.new }
+fn push_sides(left: i32, bottom: i32, right: i32, top: i32, out: &mut Vec<u8>) -> Pushed
+    ensures { Appends result out.old out.new (spec.sides_text left bottom right top) }
 {
     push_pair(left, bottom, out)?;
     push_pair(right, top, out)
 }
 
 /// Appends two numbers, with a space before each.
-fn push_pair(x: i32, y: i32, out: &mut Vec<u8>) -> Result<(), AllocError>
-    ensures text { OnOk result (out.new.items ≡ out.old.items ++ spec.pair_text x y) }
-    ensures room { OnErr result (vec_capacity out.old < vec_len out.old + length (spec.pair_text x y)) }
-    ensures capacity { vec_capacity out.old ≤ vec_capacity out.new }
+fn push_pair(x: i32, y: i32, out: &mut Vec<u8>) -> Pushed
+    ensures { Appends result out.old out.new (spec.pair_text x y) }
 {
     push_offset(x, out)?;
     push_offset(y, out)
 }
 
 /// Appends the shortest name of a type, or a comma where there is none.
-fn push_type<N: Names>(names: &N, kind: Option<u8>, out: &mut Vec<u8>) -> Result<(), AllocError>
-    ensures text { OnOk result (out.new.items ≡ out.old.items ++ spec.type_word (N.book names.now) kind) }
-    ensures room { OnErr result (vec_capacity out.old
-        < vec_len out.old + length (spec.type_word (N.book names.now) kind)) }
-    ensures capacity { vec_capacity out.old ≤ vec_capacity out.new }
+fn push_type<N: Names>(names: &N, kind: Option<u8>, out: &mut Vec<u8>) -> Pushed
+    ensures { Appends result out.old out.new (spec.type_word (N.book names.now) kind) }
 {
     match kind {
         Some(kind) => push_name(names.short_type_name(kind), out),
@@ -287,12 +214,8 @@ fn push_type<N: Names>(names: &N, kind: Option<u8>, out: &mut Vec<u8>) -> Result
 }
 
 /// Appends a name, or a comma where there is none.
-fn push_name(name: Option<&[u8]>, out: &mut Vec<u8>) -> Result<(), AllocError>
-    ensures text { OnOk result (out.new.items ≡ out.old.items
-        ++ unwrap_or (option_map (λ word. word.now) name.entry) books.no_name) }
-    ensures room { OnErr result (vec_capacity out.old
-        < vec_len out.old + length (unwrap_or (option_map (λ word. word.now) name.entry) books.no_name)) }
-    ensures capacity { vec_capacity out.old ≤ vec_capacity out.new }
+fn push_name(name: Option<&[u8]>, out: &mut Vec<u8>) -> Pushed
+    ensures { Appends result out.old out.new (unwrap_or (option_map (λ word. word.now) name.entry) books.no_name) }
 {
     match name {
         Some(word) => out.extend_from_slice(word),
@@ -301,15 +224,8 @@ fn push_name(name: Option<&[u8]>, out: &mut Vec<u8>) -> Result<(), AllocError>
 }
 
 /// Appends the names of types between commas, type 0 where there are no types, or a comma where there is no set.
-fn push_types<N: Names>(
-    names: &N,
-    kinds: Option<KindSet>,
-    out: &mut Vec<u8>,
-) -> Result<(), AllocError>
-    ensures text { OnOk result (out.new.items ≡ out.old.items ++ spec.types_word (N.book names.now) kinds) }
-    ensures room { OnErr result (vec_capacity out.old
-        < vec_len out.old + length (spec.types_word (N.book names.now) kinds)) }
-    ensures capacity { vec_capacity out.old ≤ vec_capacity out.new }
+fn push_types<N: Names>(names: &N, kinds: Option<KindSet>, out: &mut Vec<u8>) -> Pushed
+    ensures { Appends result out.old out.new (spec.types_word (N.book names.now) kinds) }
 {
     match kinds {
         Some(kinds) => push_listed(names, kinds.iter(), out),
@@ -318,11 +234,8 @@ fn push_types<N: Names>(
 }
 
 /// Appends the names of kinds between commas, or that of type 0 where there are none.
-fn push_listed<N: Names>(names: &N, kinds: Iter, out: &mut Vec<u8>) -> Result<(), AllocError>
-    ensures text { OnOk result (out.new.items ≡ out.old.items ++ spec.listed_types (N.book names.now) kinds) }
-    ensures room { OnErr result (vec_capacity out.old
-        < vec_len out.old + length (spec.listed_types (N.book names.now) kinds)) }
-    ensures capacity { vec_capacity out.old ≤ vec_capacity out.new }
+fn push_listed<N: Names>(names: &N, kinds: Iter, out: &mut Vec<u8>) -> Pushed
+    ensures { Appends result out.old out.new (spec.listed_types (N.book names.now) kinds) }
 {
     let mut rest = kinds;
     match rest.next() {
@@ -332,28 +245,16 @@ fn push_listed<N: Names>(names: &N, kinds: Iter, out: &mut Vec<u8>) -> Result<()
 }
 
 /// Appends the name of a kind, and that of each of the others after a comma.
-fn push_from<N: Names>(
-    names: &N,
-    kind: u8,
-    others: Iter,
-    out: &mut Vec<u8>,
-) -> Result<(), AllocError>
-    ensures text { OnOk result (out.new.items ≡ out.old.items ++ spec.listed_from (N.book names.now) kind others) }
-    ensures room { OnErr result (vec_capacity out.old
-        < vec_len out.old + length (spec.listed_from (N.book names.now) kind others)) }
-    ensures capacity { vec_capacity out.old ≤ vec_capacity out.new }
+fn push_from<N: Names>(names: &N, kind: u8, others: Iter, out: &mut Vec<u8>) -> Pushed
+    ensures { Appends result out.old out.new (spec.listed_from (N.book names.now) kind others) }
 {
     push_type(names, Some(kind), out)?;
     push_more_types(names, others, out)
 }
 
 /// Appends the name of each kind after a comma.
-fn push_more_types<N: Names>(names: &N, kinds: Iter, out: &mut Vec<u8>) -> Result<(), AllocError>
-    ensures text { OnOk result (out.new.items ≡ out.old.items
-        ++ flat_map (spec.next_type (N.book names.now)) kinds) }
-    ensures room { OnErr result (vec_capacity out.old
-        < vec_len out.old + length (flat_map (spec.next_type (N.book names.now)) kinds)) }
-    ensures capacity { vec_capacity out.old ≤ vec_capacity out.new }
+fn push_more_types<N: Names>(names: &N, kinds: Iter, out: &mut Vec<u8>) -> Pushed
+    ensures { Appends result out.old out.new (flat_map (spec.next_type (N.book names.now)) kinds) }
 {
     for kind in kinds {
         push_next_type(names, kind, out)?;
@@ -362,11 +263,8 @@ fn push_more_types<N: Names>(names: &N, kinds: Iter, out: &mut Vec<u8>) -> Resul
 }
 
 /// Appends a comma and the name of a type.
-fn push_next_type<N: Names>(names: &N, kind: u8, out: &mut Vec<u8>) -> Result<(), AllocError>
-    ensures text { OnOk result (out.new.items ≡ out.old.items ++ spec.next_type (N.book names.now) kind) }
-    ensures room { OnErr result (vec_capacity out.old
-        < vec_len out.old + length (spec.next_type (N.book names.now) kind)) }
-    ensures capacity { vec_capacity out.old ≤ vec_capacity out.new }
+fn push_next_type<N: Names>(names: &N, kind: u8, out: &mut Vec<u8>) -> Pushed
+    ensures { Appends result out.old out.new (spec.next_type (N.book names.now) kind) }
 {
     out.push(b',')?;
     push_type(names, Some(kind), out)
@@ -379,23 +277,16 @@ fn push_moved<N: Names>(
     dx: i32,
     dy: i32,
     out: &mut Vec<u8>,
-) -> Result<(), AllocError>
-    ensures text { OnOk result (out.new.items ≡ out.old.items
-        ++ spec.cell_word (N.book names.now) cell ++ spec.pair_text dx dy) }
-    ensures room { OnErr result (vec_capacity out.old
-        < vec_len out.old + length (spec.cell_word (N.book names.now) cell ++ spec.pair_text dx dy)) }
-    ensures capacity { vec_capacity out.old ≤ vec_capacity out.new }
+) -> Pushed
+    ensures { Appends result out.old out.new (spec.cell_word (N.book names.now) cell ++ spec.pair_text dx dy) }
 {
     push_cell(names, cell, out)?;
     push_pair(dx, dy, out)
 }
 
 /// Appends the name of a cell, or a comma where there is none.
-fn push_cell<N: Names>(names: &N, cell: Option<CellId>, out: &mut Vec<u8>) -> Result<(), AllocError>
-    ensures text { OnOk result (out.new.items ≡ out.old.items ++ spec.cell_word (N.book names.now) cell) }
-    ensures room { OnErr result (vec_capacity out.old
-        < vec_len out.old + length (spec.cell_word (N.book names.now) cell)) }
-    ensures capacity { vec_capacity out.old ≤ vec_capacity out.new }
+fn push_cell<N: Names>(names: &N, cell: Option<CellId>, out: &mut Vec<u8>) -> Pushed
+    ensures { Appends result out.old out.new (spec.cell_word (N.book names.now) cell) }
 {
     match cell {
         Some(cell) => push_name(names.cell_name(cell), out),

@@ -2,10 +2,12 @@
 ghost use Rattle.std.specs.Prelude.{◌≡◌, ◌+◌, ◌++◌, ◌∷◌, ◌<◌, ◌≤◌, OnErr, OnOk, [], decimal, codes, length, vec_capacity, vec_len};
 ghost use Rattle.std.specs.Fmt.{signed_decimal};
 ghost use Rattle.std.specs.List.{flat_map};
+ghost use Rattle.std.specs.Option.{option_map, unwrap_or};
 ghost use Rattle.mls_edgerule.specs.RuleSets.{rules_in};
 ghost use Rattle.mls_kinds.specs.KindSets.{members};
 ghost use Rattle.mls_server.specs.Faults.{open_fault_number, open_fault_text};
 ghost use Rattle.mls_session.specs.Refusals.{refusal_number, refusal_text};
+ghost use Rattle.mls_wire.specs.Pushes.{Appends};
 ghost use Rattle.mls_wire.specs.ReadBack.{CommandsAreLines, CommandsReadBack, NamesReadBack, StepsReadBack};
 ghost use Rattle.mls_wire.specs.Replies as spec;
 ghost use Rattle.mls_wire.specs.SeatTexts.{differs_text};
@@ -20,6 +22,9 @@ use mls_layout::CellUse;
 use mls_server::{Answer, Name, NotOpen, OpenFault};
 use mls_session::{Looked, Refusal, Reply, Status, StepRun};
 use std::alloc::AllocError;
+
+/// Whether bytes were appended: memory may run out.
+pub(crate) type Pushed = Result<(), AllocError>;
 
 /// Appends the reply text of the response to line `n`.
 ///
@@ -130,25 +135,16 @@ pub fn push_differs(name: &Name, out: &mut Vec<u8>) -> Result<(), AllocError>
 
 /// Appends the reply text of an answer. Answers that no line has are of no text.
 #[tactic(auto, unfolding(crate::specs::Replies::answer_text))]
-fn push_answer<N: Names>(
-    names: &N,
-    name: &Name,
-    answer: &Answer,
-    out: &mut Vec<u8>,
-) -> Result<(), AllocError>
-    ensures text { OnOk result (out.new.items ≡ out.old.items
-        ++ spec.answer_text (N.book names.now) name.now answer.now) }
-    ensures room { OnErr result (vec_capacity out.old
-        < vec_len out.old + length (spec.answer_text (N.book names.now) name.now answer.now)) }
-    ensures capacity { vec_capacity out.old ≤ vec_capacity out.new }
+fn push_answer<N: Names>(names: &N, name: &Name, answer: &Answer, out: &mut Vec<u8>) -> Pushed
+    ensures { Appends result out.old out.new (spec.answer_text (N.book names.now) name.now answer.now) }
 {
     match answer {
         Answer::Opened(Ok(_)) => push_words(name, b" opened\n", out),
         Answer::Opened(Err(fault)) => push_not_opened(name, *fault, out),
         Answer::Closed(Ok(_)) => push_words(name, b" closed\n", out),
         Answer::Commanded(Ok(reply)) => push_replied(names, name, *reply, b"", out),
-        Answer::Saved(Ok(reply), text) => push_replied(names, name, *reply, text.as_bytes(), out),
-        Answer::Looked(looked, text) => push_looked(names, name, looked, text.as_bytes(), out),
+        Answer::Saved(Ok(reply), text) => push_replied(names, name, *reply, text.as_slice(), out),
+        Answer::Looked(looked, text) => push_looked(names, name, looked, text.as_slice(), out),
         Answer::Stepped(Ok(end)) => {
             push_words(name, b" step ", out)?;
             out.extend_from_slice(stepped_text(*end).as_bytes())?;
@@ -171,22 +167,18 @@ fn push_answer<N: Names>(
 }
 
 /// Appends a session's name and the bytes after it.
-fn push_words(name: &Name, bytes: &[u8], out: &mut Vec<u8>) -> Result<(), AllocError>
-    ensures text { OnOk result (out.new.items ≡ out.old.items ++ name.now ++ bytes.now) }
-    ensures room { OnErr result (vec_capacity out.old < vec_len out.old + length (name.now ++ bytes.now)) }
-    ensures capacity { vec_capacity out.old ≤ vec_capacity out.new }
+fn push_words(name: &Name, bytes: &[u8], out: &mut Vec<u8>) -> Pushed
+    ensures { Appends result out.old out.new (name.now ++ bytes.now) }
 {
     out.extend_from_slice(name.as_bytes())?;
     out.extend_from_slice(bytes)
 }
 
 /// Appends why a session of this name can't be opened.
-fn push_not_opened(name: &Name, fault: OpenFault, out: &mut Vec<u8>) -> Result<(), AllocError>
-    ensures text { OnOk result (out.new.items ≡ out.old.items ++ name.now ++ codes " refused open "
-        ++ spec.numbered (open_fault_number fault) (open_fault_text fault) ++ 10 ∷ []) }
-    ensures room { OnErr result (vec_capacity out.old < vec_len out.old + length (name.now ++ codes " refused open "
-        ++ spec.numbered (open_fault_number fault) (open_fault_text fault) ++ 10 ∷ [])) }
-    ensures capacity { vec_capacity out.old ≤ vec_capacity out.new }
+fn push_not_opened(name: &Name, fault: OpenFault, out: &mut Vec<u8>) -> Pushed
+    ensures { Appends result out.old out.new
+        (name.now ++ codes " refused open " ++ spec.numbered (open_fault_number fault) (open_fault_text fault)
+        ++ 10 ∷ []) }
 {
     push_words(name, b" refused open ", out)?;
     push_numbered(fault.number(), fault.text().as_bytes(), out)?;
@@ -200,12 +192,9 @@ fn push_replied<N: Names>(
     reply: Reply,
     text: &[u8],
     out: &mut Vec<u8>,
-) -> Result<(), AllocError>
-    ensures text { OnOk result (out.new.items ≡ out.old.items
-        ++ name.now ++ 32 ∷ spec.reply_text (N.book names.now) reply ++ 10 ∷ text.now) }
-    ensures room { OnErr result (vec_capacity out.old
-        < vec_len out.old + length (name.now ++ 32 ∷ spec.reply_text (N.book names.now) reply ++ 10 ∷ text.now)) }
-    ensures capacity { vec_capacity out.old ≤ vec_capacity out.new }
+) -> Pushed
+    ensures { Appends result out.old out.new
+        (name.now ++ 32 ∷ spec.reply_text (N.book names.now) reply ++ 10 ∷ text.now) }
 {
     push_words(name, b" ", out)?;
     push_reply(names, reply, out)?;
@@ -214,20 +203,16 @@ fn push_replied<N: Names>(
 }
 
 /// Appends a number.
-pub(crate) fn push_decimal<I: Integer>(n: I, out: &mut Vec<u8>) -> Result<(), AllocError>
-    ensures text { OnOk result (out.new.items ≡ out.old.items ++ I.text n) }
-    ensures room { OnErr result (vec_capacity out.old < vec_len out.old + length (I.text n)) }
-    ensures capacity { vec_capacity out.old ≤ vec_capacity out.new }
+pub(crate) fn push_decimal<I: Integer>(n: I, out: &mut Vec<u8>) -> Pushed
+    ensures { Appends result out.old out.new (I.text n) }
 {
     let mut buffer = Buffer::new();
     out.extend_from_slice(buffer.format(n).as_bytes())
 }
 
 /// Appends a number and its text.
-fn push_numbered(n: u8, text: &[u8], out: &mut Vec<u8>) -> Result<(), AllocError>
-    ensures text { OnOk result (out.new.items ≡ out.old.items ++ spec.numbered n text.now) }
-    ensures room { OnErr result (vec_capacity out.old < vec_len out.old + length (spec.numbered n text.now)) }
-    ensures capacity { vec_capacity out.old ≤ vec_capacity out.new }
+fn push_numbered(n: u8, text: &[u8], out: &mut Vec<u8>) -> Pushed
+    ensures { Appends result out.old out.new (spec.numbered n text.now) }
 {
     push_decimal(n, out)?;
     out.push(b' ')?;
@@ -236,11 +221,8 @@ fn push_numbered(n: u8, text: &[u8], out: &mut Vec<u8>) -> Result<(), AllocError
 
 /// Appends a reply, without its line's first word and its line feed.
 #[tactic(auto, unfolding(crate::specs::Replies::reply_text))]
-fn push_reply<N: Names>(names: &N, reply: Reply, out: &mut Vec<u8>) -> Result<(), AllocError>
-    ensures text { OnOk result (out.new.items ≡ out.old.items ++ spec.reply_text (N.book names.now) reply) }
-    ensures room { OnErr result (vec_capacity out.old
-        < vec_len out.old + length (spec.reply_text (N.book names.now) reply)) }
-    ensures capacity { vec_capacity out.old ≤ vec_capacity out.new }
+fn push_reply<N: Names>(names: &N, reply: Reply, out: &mut Vec<u8>) -> Pushed
+    ensures { Appends result out.old out.new (spec.reply_text (N.book names.now) reply) }
 {
     match reply {
         Reply::Done => out.extend_from_slice(b"ok"),
@@ -275,17 +257,8 @@ fn push_reply<N: Names>(names: &N, reply: Reply, out: &mut Vec<u8>) -> Result<()
 
 /// Appends what a look returned, without its line's first word and its line feed.
 #[tactic(auto, unfolding(crate::specs::Replies::looked_text))]
-fn push_look<N: Names>(
-    names: &N,
-    name: &Name,
-    looked: &Looked,
-    out: &mut Vec<u8>,
-) -> Result<(), AllocError>
-    ensures text { OnOk result (out.new.items ≡ out.old.items
-        ++ spec.looked_text (N.book names.now) name.now looked.now) }
-    ensures room { OnErr result (vec_capacity out.old
-        < vec_len out.old + length (spec.looked_text (N.book names.now) name.now looked.now)) }
-    ensures capacity { vec_capacity out.old ≤ vec_capacity out.new }
+fn push_look<N: Names>(names: &N, name: &Name, looked: &Looked, out: &mut Vec<u8>) -> Pushed
+    ensures { Appends result out.old out.new (spec.looked_text (N.book names.now) name.now looked.now) }
 {
     match looked {
         Looked::Saved(lines) => push_reply(names, Reply::Saved(*lines), out),
@@ -302,10 +275,8 @@ fn push_look<N: Names>(
 }
 
 /// Appends how far a session has come, and how many tiles its planes have.
-fn push_status(status: &Status, out: &mut Vec<u8>) -> Result<(), AllocError>
-    ensures text { OnOk result (out.new.items ≡ out.old.items ++ spec.status_text status.now) }
-    ensures room { OnErr result (vec_capacity out.old < vec_len out.old + length (spec.status_text status.now)) }
-    ensures capacity { vec_capacity out.old ≤ vec_capacity out.new }
+fn push_status(status: &Status, out: &mut Vec<u8>) -> Pushed
+    ensures { Appends result out.old out.new (spec.status_text status.now) }
 {
     out.extend_from_slice(b"stat ")?;
     push_progress(status, out)?;
@@ -314,10 +285,8 @@ fn push_status(status: &Status, out: &mut Vec<u8>) -> Result<(), AllocError>
 }
 
 /// Appends how far a session has come.
-fn push_progress(status: &Status, out: &mut Vec<u8>) -> Result<(), AllocError>
-    ensures text { OnOk result (out.new.items ≡ out.old.items ++ spec.progress_text status.now) }
-    ensures room { OnErr result (vec_capacity out.old < vec_len out.old + length (spec.progress_text status.now)) }
-    ensures capacity { vec_capacity out.old ≤ vec_capacity out.new }
+fn push_progress(status: &Status, out: &mut Vec<u8>) -> Pushed
+    ensures { Appends result out.old out.new (spec.progress_text status.now) }
 {
     push_share(status.entries as u64, status.limit as u64, out)?;
     out.extend_from_slice(b" entries, ")?;
@@ -326,7 +295,7 @@ fn push_progress(status: &Status, out: &mut Vec<u8>) -> Result<(), AllocError>
 
 /// Appends how many check steps a session did since its last entry, and how many areas await checking.
 #[tactic(auto, unfolding(crate::specs::Replies::checks_text))]
-fn push_checks(status: &Status, out: &mut Vec<u8>) -> Result<(), AllocError>
+fn push_checks(status: &Status, out: &mut Vec<u8>) -> Pushed
     ensures text { OnOk result (out.new.items ≡ out.old.items ++ spec.checks_text status.now) }
     ensures room { OnErr result (vec_capacity out.old < vec_len out.old + length (spec.checks_text status.now)) }
     ensures capacity { vec_capacity out.old ≤ vec_capacity out.new }
@@ -339,10 +308,8 @@ fn push_checks(status: &Status, out: &mut Vec<u8>) -> Result<(), AllocError>
 
 /// Appends how many tiles the planes of a session have.
 #[tactic(auto, unfolding(crate::specs::Replies::room_text))]
-fn push_room(status: &Status, out: &mut Vec<u8>) -> Result<(), AllocError>
-    ensures text { OnOk result (out.new.items ≡ out.old.items ++ spec.room_text status.now) }
-    ensures room { OnErr result (vec_capacity out.old < vec_len out.old + length (spec.room_text status.now)) }
-    ensures capacity { vec_capacity out.old ≤ vec_capacity out.new }
+fn push_room(status: &Status, out: &mut Vec<u8>) -> Pushed
+    ensures { Appends result out.old out.new (spec.room_text status.now) }
 {
     push_tiles(status.tiles.as_slice(), out)?;
     out.extend_from_slice(b" of ")?;
@@ -353,10 +320,8 @@ fn push_room(status: &Status, out: &mut Vec<u8>) -> Result<(), AllocError>
 }
 
 /// Appends a number and the most that it may be.
-fn push_share(count: u64, limit: u64, out: &mut Vec<u8>) -> Result<(), AllocError>
-    ensures text { OnOk result (out.new.items ≡ out.old.items ++ spec.share_text count limit) }
-    ensures room { OnErr result (vec_capacity out.old < vec_len out.old + length (spec.share_text count limit)) }
-    ensures capacity { vec_capacity out.old ≤ vec_capacity out.new }
+fn push_share(count: u64, limit: u64, out: &mut Vec<u8>) -> Pushed
+    ensures { Appends result out.old out.new (spec.share_text count limit) }
 {
     push_decimal(count, out)?;
     out.extend_from_slice(b" of ")?;
@@ -364,26 +329,27 @@ fn push_share(count: u64, limit: u64, out: &mut Vec<u8>) -> Result<(), AllocErro
 }
 
 /// Appends the number of tiles of each plane after a space.
-fn push_tiles(counts: &[u32], out: &mut Vec<u8>) -> Result<(), AllocError>
-    ensures text { OnOk result (out.new.items ≡ out.old.items ++ flat_map spec.tiles_text counts.now) }
-    ensures room { OnErr result (vec_capacity out.old
-        < vec_len out.old + length (flat_map spec.tiles_text counts.now)) }
-    ensures capacity { vec_capacity out.old ≤ vec_capacity out.new }
+fn push_tiles(counts: &[u32], out: &mut Vec<u8>) -> Pushed
+    ensures { Appends result out.old out.new (flat_map spec.tiles_text counts.now) }
 {
     for count in counts {
-        out.push(b' ')?;
-        push_decimal(*count, out)?;
+        push_tile_count(*count, out)?;
     }
     Ok(())
 }
 
+/// Appends a space and how many tiles a plane has.
+fn push_tile_count(count: u32, out: &mut Vec<u8>) -> Pushed
+    ensures { Appends result out.old out.new (spec.tiles_text count) }
+{
+    out.push(b' ')?;
+    push_decimal(count, out)
+}
+
 /// Appends how many cells are placed, and the line that places each.
-fn push_uses<N: Names>(names: &N, uses: &[CellUse], out: &mut Vec<u8>) -> Result<(), AllocError>
-    ensures text { OnOk result (out.new.items ≡ out.old.items
-        ++ codes "uses " ++ decimal (length uses.now) ++ flat_map (spec.use_text (N.book names.now)) uses.now) }
-    ensures room { OnErr result (vec_capacity out.old < vec_len out.old + length (codes "uses "
-        ++ decimal (length uses.now) ++ flat_map (spec.use_text (N.book names.now)) uses.now)) }
-    ensures capacity { vec_capacity out.old ≤ vec_capacity out.new }
+fn push_uses<N: Names>(names: &N, uses: &[CellUse], out: &mut Vec<u8>) -> Pushed
+    ensures { Appends result out.old out.new
+        (codes "uses " ++ decimal (length uses.now) ++ flat_map (spec.use_text (N.book names.now)) uses.now) }
 {
     out.extend_from_slice(b"uses ")?;
     push_decimal(uses.len() as u64, out)?;
@@ -391,15 +357,8 @@ fn push_uses<N: Names>(names: &N, uses: &[CellUse], out: &mut Vec<u8>) -> Result
 }
 
 /// Appends the line that places each cell, after a line feed.
-fn push_use_lines<N: Names>(
-    names: &N,
-    uses: &[CellUse],
-    out: &mut Vec<u8>,
-) -> Result<(), AllocError>
-    ensures text { OnOk result (out.new.items ≡ out.old.items ++ flat_map (spec.use_text (N.book names.now)) uses.now) }
-    ensures room { OnErr result (vec_capacity out.old
-        < vec_len out.old + length (flat_map (spec.use_text (N.book names.now)) uses.now)) }
-    ensures capacity { vec_capacity out.old ≤ vec_capacity out.new }
+fn push_use_lines<N: Names>(names: &N, uses: &[CellUse], out: &mut Vec<u8>) -> Pushed
+    ensures { Appends result out.old out.new (flat_map (spec.use_text (N.book names.now)) uses.now) }
 {
     for cell_use in uses {
         push_use(names, cell_use, out)?;
@@ -408,7 +367,7 @@ fn push_use_lines<N: Names>(
 }
 
 /// Appends a line feed and the line that places a cell, without its own line feed.
-fn push_use<N: Names>(names: &N, cell_use: &CellUse, out: &mut Vec<u8>) -> Result<(), AllocError>
+fn push_use<N: Names>(names: &N, cell_use: &CellUse, out: &mut Vec<u8>) -> Pushed
     ensures text { OnOk result (out.new.items ≡ out.old.items ++ spec.use_text (N.book names.now) cell_use.now) }
     ensures room { OnErr result (vec_capacity out.old
         < vec_len out.old + length (spec.use_text (N.book names.now) cell_use.now)) }
@@ -423,32 +382,25 @@ fn push_use<N: Names>(names: &N, cell_use: &CellUse, out: &mut Vec<u8>) -> Resul
 }
 
 /// Appends a space and a number.
-pub(crate) fn push_offset(offset: i32, out: &mut Vec<u8>) -> Result<(), AllocError>
-    ensures text { OnOk result (out.new.items ≡ out.old.items ++ 32 ∷ signed_decimal offset) }
-    ensures room { OnErr result (vec_capacity out.old < vec_len out.old + length (32 ∷ signed_decimal offset)) }
-    ensures capacity { vec_capacity out.old ≤ vec_capacity out.new }
+pub(crate) fn push_offset(offset: i32, out: &mut Vec<u8>) -> Pushed
+    ensures { Appends result out.old out.new (32 ∷ signed_decimal offset) }
 {
     out.push(b' ')?;
     push_decimal(offset, out)
 }
 
 /// Appends the number and the text of a refusal.
-fn push_refusal(refusal: Refusal, out: &mut Vec<u8>) -> Result<(), AllocError>
-    ensures text { OnOk result (out.new.items ≡ out.old.items
-        ++ codes "refused " ++ spec.numbered (refusal_number refusal) (refusal_text refusal)) }
-    ensures room { OnErr result (vec_capacity out.old < vec_len out.old + length (codes "refused "
-        ++ spec.numbered (refusal_number refusal) (refusal_text refusal))) }
-    ensures capacity { vec_capacity out.old ≤ vec_capacity out.new }
+fn push_refusal(refusal: Refusal, out: &mut Vec<u8>) -> Pushed
+    ensures { Appends result out.old out.new
+        (codes "refused " ++ spec.numbered (refusal_number refusal) (refusal_text refusal)) }
 {
     out.extend_from_slice(b"refused ")?;
     push_numbered(refusal.number(), refusal.text().as_bytes(), out)
 }
 
 /// Appends how many areas await checking.
-fn push_pending(pending: usize, out: &mut Vec<u8>) -> Result<(), AllocError>
-    ensures text { OnOk result (out.new.items ≡ out.old.items ++ spec.pending_text pending) }
-    ensures room { OnErr result (vec_capacity out.old < vec_len out.old + length (spec.pending_text pending)) }
-    ensures capacity { vec_capacity out.old ≤ vec_capacity out.new }
+fn push_pending(pending: usize, out: &mut Vec<u8>) -> Pushed
+    ensures { Appends result out.old out.new (spec.pending_text pending) }
 {
     out.push(b' ')?;
     push_decimal(pending as u64, out)?;
@@ -456,10 +408,8 @@ fn push_pending(pending: usize, out: &mut Vec<u8>) -> Result<(), AllocError>
 }
 
 /// Appends how many check steps were done, and how they ended.
-fn push_step_run(run: &StepRun, out: &mut Vec<u8>) -> Result<(), AllocError>
-    ensures text { OnOk result (out.new.items ≡ out.old.items ++ spec.steps_text run.now) }
-    ensures room { OnErr result (vec_capacity out.old < vec_len out.old + length (spec.steps_text run.now)) }
-    ensures capacity { vec_capacity out.old ≤ vec_capacity out.new }
+fn push_step_run(run: &StepRun, out: &mut Vec<u8>) -> Pushed
+    ensures { Appends result out.old out.new (spec.steps_text run.now) }
 {
     push_decimal(run.done, out)?;
     out.push(b' ')?;
@@ -487,12 +437,8 @@ fn without_space(kinds: KindSet) -> KindSet
 }
 
 /// Appends the name of each type after a space, in the order of their numbers.
-fn push_types<N: Names>(names: &N, types: KindSet, out: &mut Vec<u8>) -> Result<(), AllocError>
-    ensures text { OnOk result (out.new.items ≡ out.old.items
-        ++ flat_map (spec.type_text (N.book names.now)) (members types)) }
-    ensures room { OnErr result (vec_capacity out.old
-        < vec_len out.old + length (flat_map (spec.type_text (N.book names.now)) (members types))) }
-    ensures capacity { vec_capacity out.old ≤ vec_capacity out.new }
+fn push_types<N: Names>(names: &N, types: KindSet, out: &mut Vec<u8>) -> Pushed
+    ensures { Appends result out.old out.new (flat_map (spec.type_text (N.book names.now)) (members types)) }
 {
     for kind in types.iter() {
         push_type(names, kind, out)?;
@@ -501,26 +447,16 @@ fn push_types<N: Names>(names: &N, types: KindSet, out: &mut Vec<u8>) -> Result<
 }
 
 /// Appends a space and the type's first name.
-fn push_type<N: Names>(names: &N, kind: u8, out: &mut Vec<u8>) -> Result<(), AllocError>
-    ensures text { OnOk result (out.new.items ≡ out.old.items ++ spec.type_text (N.book names.now) kind) }
-    ensures room { OnErr result (vec_capacity out.old
-        < vec_len out.old + length (spec.type_text (N.book names.now) kind)) }
-    ensures capacity { vec_capacity out.old ≤ vec_capacity out.new }
+fn push_type<N: Names>(names: &N, kind: u8, out: &mut Vec<u8>) -> Pushed
+    ensures { Appends result out.old out.new (spec.type_text (N.book names.now) kind) }
 {
     out.push(b' ')?;
-    if let Some(name) = names.type_name(kind) {
-        out.extend_from_slice(name)?;
-    }
-    Ok(())
+    push_optional(names.type_name(kind), out)
 }
 
 /// Appends the text of each rule of the set, in rising order.
-fn push_rules<N: Names>(names: &N, rules: RuleSet, out: &mut Vec<u8>) -> Result<(), AllocError>
-    ensures text { OnOk result (out.new.items ≡ out.old.items
-        ++ flat_map (spec.rule_text (N.book names.now)) (rules_in rules)) }
-    ensures room { OnErr result (vec_capacity out.old
-        < vec_len out.old + length (flat_map (spec.rule_text (N.book names.now)) (rules_in rules))) }
-    ensures capacity { vec_capacity out.old ≤ vec_capacity out.new }
+fn push_rules<N: Names>(names: &N, rules: RuleSet, out: &mut Vec<u8>) -> Pushed
+    ensures { Appends result out.old out.new (flat_map (spec.rule_text (N.book names.now)) (rules_in rules)) }
 {
     for n in rules.iter() {
         push_rule(names, n, out)?;
@@ -529,17 +465,21 @@ fn push_rules<N: Names>(names: &N, rules: RuleSet, out: &mut Vec<u8>) -> Result<
 }
 
 /// Appends the number of a rule in brackets, and its why text.
-fn push_rule<N: Names>(names: &N, n: usize, out: &mut Vec<u8>) -> Result<(), AllocError>
-    ensures text { OnOk result (out.new.items ≡ out.old.items ++ spec.rule_text (N.book names.now) n) }
-    ensures room { OnErr result (vec_capacity out.old
-        < vec_len out.old + length (spec.rule_text (N.book names.now) n)) }
-    ensures capacity { vec_capacity out.old ≤ vec_capacity out.new }
+fn push_rule<N: Names>(names: &N, n: usize, out: &mut Vec<u8>) -> Pushed
+    ensures { Appends result out.old out.new (spec.rule_text (N.book names.now) n) }
 {
     out.extend_from_slice(b" [")?;
     push_decimal(n as u64, out)?;
     out.extend_from_slice(b"] ")?;
-    if let Some(text) = names.why_text(n) {
-        out.extend_from_slice(text)?;
+    push_optional(names.why_text(n), out)
+}
+
+/// Appends a text, if there is one.
+fn push_optional(text: Option<&[u8]>, out: &mut Vec<u8>) -> Pushed
+    ensures { Appends result out.old out.new (unwrap_or (option_map (λ words. words.now) text.entry) []) }
+{
+    match text {
+        Some(text) => out.extend_from_slice(text),
+        None => Ok(()),
     }
-    Ok(())
 }

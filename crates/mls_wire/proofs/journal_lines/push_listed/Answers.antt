@@ -3,14 +3,8 @@ use Rattle.mls_wire.specs.JournalLines.{type_word}
 use Rattle.mls_wire.proofs.WrittenWords.{joined-pieces}
 use Rattle.mls_wire.proofs.journal_lines.push_listed.Goals as goal
 
-pub returns-in-Some-clause-text : goal.returns-in-Some-clause-text
-returns-in-Some-clause-text g c =
+pub returns-in-Some : goal.returns-in-Some
+returns-in-Some g c =
     let book = g.N.Names.book c.args.names.now in
     let pieces = joined-pieces (λ k. type_word book (Some k)) c.in-Some.kind c.next.new.self in
-    rw (c.in-Some.ensures.steps, pieces) c.push_from.ensures.text
-
-pub returns-in-Some-clause-room : goal.returns-in-Some-clause-room
-returns-in-Some-clause-room g c =
-    let book = g.N.Names.book c.args.names.now in
-    let pieces = joined-pieces (λ k. type_word book (Some k)) c.in-Some.kind c.next.new.self in
-    rw (c.in-Some.ensures.steps, pieces) c.push_from.ensures.room
+    rw (c.in-Some.ensures.steps, pieces) c.push_from.ensures

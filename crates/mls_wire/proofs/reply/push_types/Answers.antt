@@ -1,15 +1,10 @@
-use Rattle.std.proofs.Common.{◌+◌, ◌<◌, length, vec_len, vec_capacity}
-use Rattle.std.specs.List.{flat_map}
 use Rattle.mls_kinds.specs.KindSets.{members}
 use Rattle.mls_wire.specs.Replies.{type_text}
-use Rattle.mls_wire.proofs.PieceRooms.{next_piece_lacks}
-use Rattle.mls_wire.proofs.Results.{on_err}
+use Rattle.mls_wire.proofs.PushedTexts.{stops_at_next_piece}
 use Rattle.mls_wire.proofs.reply.push_types.Goals as goal
 
-pub returns-in_err-push_type-clause-room : goal.returns-in_err-push_type-clause-room
-returns-in_err-push_type-clause-room g c =
+pub returns-in_err-push_type : goal.returns-in_err-push_type
+returns-in_err-push_type g c =
     let text = type_text (g.N.Names.book c.args.names.now) in
-    let types = members c.args.types in
-    on_err c.from_residual.result (vec_capacity c.args.out.now < vec_len c.args.out.now + length (flat_map text types))
-    (next_piece_lacks text types c.loop-kind.kind-iterator c.next.new.self c.in-Some.kind c.args.out.now.items c.loop-kind.out.items c.in-Some.ensures.steps
-    c.loop-kind.invariant.text c.args.out.now.ok.0 c.loop-kind.out.ok.0 c.loop-kind.invariant.capacity c.in_err-push_type.ensures.room)
+    stops_at_next_piece c.from_residual.result c.args.out.now c.push_type.new.out c.from_residual.ensures.0 text (members c.args.types) c.in-Some.kind c.loop-kind.out c.loop-kind.invariant.capacity
+    c.in_err-push_type.ensures.room c.in_err-push_type.ensures.capacity c.loop-kind.kind-iterator c.next.new.self c.in-Some.ensures.steps c.loop-kind.invariant.text

@@ -41,17 +41,15 @@ returns-in_err-read_ahead-clause-begun g c =
 
 pub returns-then-has_begun-clause-taken : goal.returns-then-has_begun-clause-taken
 returns-then-has_begun-clause-taken g c =
-    let start = script_ahead c.args.self.now (g.R.Read.remaining c.args.input.now.device) in
     let end = c.in_ok-read_ahead.ensures.end c.if-not-branch.true in
     let came = came_so_far g (goal.at.returns-then-has_begun-clause-taken g c).In_ok-read_ahead in
-    TakesKnownLine-last start _ _ came end c.if-has_begun.ensures.begun
+    TakesKnownLine-last _ _ _ came end c.if-has_begun.ensures.begun
 
 pub returns-else-has_begun-clause-taken : goal.returns-else-has_begun-clause-taken
 returns-else-has_begun-clause-taken g c =
-    let start = script_ahead c.args.self.now (g.R.Read.remaining c.args.input.now.device) in
     let end = c.in_ok-read_ahead.ensures.end c.if-not-branch.true in
     let came = came_so_far g (goal.at.returns-else-has_begun-clause-taken g c).In_ok-read_ahead in
-    TakesKnownLine-end start _ _ came end c.if-has_begun.ensures.none
+    TakesKnownLine-end _ _ _ came end c.if-has_begun.ensures.none
 
 pub returns-clause-taken : goal.returns-clause-taken
 returns-clause-taken g c =
