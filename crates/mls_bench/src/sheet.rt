@@ -20,37 +20,39 @@ const ROOM: u32 = 16_384;
 /// The kind of what the steps paint.
 const PAINTED_KIND: u8 = 2;
 
-/// Builds the plane that squares show, and returns it with the nanoseconds that the build takes without the search for
-/// strips.
-fn build(
-    squares: &[Piece],
-    sweep: &mut Sweep,
-    pool: &mut Pool,
-    tiles: &mut Tiles,
-    clock: &impl Clock,
-) -> Result<(Plane, u128)>
-    ensures strips { IfOk result (λ built. HasStrips pool.new built.0) }
-    ensures room { IfOk result (λ built. room_of pool.new built.0 ≡ Some 16384) }
-{
-    let room = ROOM as usize;
-    ensure!(
-        sweep.holds(squares.len(), room) && room <= tiles.room(),
-        "no room"
-    );
-    strips(&[], squares, room, sweep)?;
-    let owner = pool.reserve(ROOM)?;
-    let start = Instant::now(clock)?;
-    let plane = Plane::build(pool, owner, sweep.strips(), tiles);
-    Ok((plane, start.elapsed(clock)?.as_nanos()))
+/// What a plane is built from, and the lists that this works in.
+#[derive(Drop)]
+struct Builder {
+    squares: Vec<Piece>,
+    sweep: Sweep,
+    tiles: Tiles,
+}
+
+impl Builder {
+    /// Builds the plane that the squares show, and returns it with the nanoseconds that the build takes without the
+    /// search for strips.
+    fn build(&mut self, pool: &mut Pool, clock: &impl Clock) -> Result<(Plane, u128)>
+        ensures strips { IfOk result (λ built. HasStrips pool.new built.0) }
+        ensures room { IfOk result (λ built. room_of pool.new built.0 ≡ Some 16384) }
+    {
+        let room = ROOM as usize;
+        ensure!(
+            self.sweep.holds(self.squares.len(), room) && room <= self.tiles.room(),
+            "no room"
+        );
+        strips(&[], &self.squares, room, &mut self.sweep)?;
+        let owner = pool.reserve(ROOM)?;
+        let start = Instant::now(clock)?;
+        let plane = Plane::build(pool, owner, self.sweep.strips(), &mut self.tiles);
+        Ok((plane, start.elapsed(clock)?.as_nanos()))
+    }
 }
 
 /// The plane of a grid in a pool, with lists to work in.
 #[derive(Drop)]
 pub struct Sheet {
     places: Places,
-    squares: Vec<Piece>,
-    sweep: Sweep,
-    tiles: Tiles,
+    builder: Builder,
     scratch: Scratch,
     pool: Pool,
     plane: Plane,
@@ -72,17 +74,17 @@ impl Model for Sheet {
 impl Sheet {
     /// Builds the plane of a grid of k by k squares.
     pub fn of_grid(alloc: Global, clock: &impl Clock, k: u8) -> Result<Sheet> {
-        let squares = grid(alloc, k)?;
-        let mut sweep = Sweep::new(alloc, ROOM as usize)?;
-        let mut tiles = Tiles::new(alloc, ROOM)?;
+        let mut builder = Builder {
+            squares: grid(alloc, k)?,
+            sweep: Sweep::new(alloc, ROOM as usize)?,
+            tiles: Tiles::new(alloc, ROOM)?,
+        };
         let scratch = Scratch::new(alloc, ROOM, 1)?;
         let mut pool = Pool::new(alloc, ROOM)?;
-        let (plane, _) = build(&squares, &mut sweep, &mut pool, &mut tiles, clock)?;
+        let (plane, _) = builder.build(&mut pool, clock)?;
         Ok(Sheet {
             places: Places::on_grid(k)?,
-            squares,
-            sweep,
-            tiles,
+            builder,
             scratch,
             pool,
             plane,
@@ -93,20 +95,16 @@ impl Sheet {
     pub fn rebuilt(self, clock: &impl Clock) -> Result<(Sheet, u128)> {
         let Sheet {
             places,
-            squares,
-            mut sweep,
-            mut tiles,
+            mut builder,
             scratch,
             mut pool,
             plane,
         } = self;
         pool.release(plane.into_owner());
-        let (plane, nanos) = build(&squares, &mut sweep, &mut pool, &mut tiles, clock)?;
+        let (plane, nanos) = builder.build(&mut pool, clock)?;
         let sheet = Sheet {
             places,
-            squares,
-            sweep,
-            tiles,
+            builder,
             scratch,
             pool,
             plane,

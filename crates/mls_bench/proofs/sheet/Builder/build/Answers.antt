@@ -3,7 +3,7 @@ use Rattle.std.proofs.Common.{sym, subst}
 use Rattle.mls_geom.specs.Strips.{AreStrips}
 use Rattle.mls_geom.specs.World.{world}
 use Rattle.mls_geom.proofs.StripPictures.{AreUnorderedStrips-ordered}
-use Rattle.mls_bench.proofs.sheet.build.Goals as goal
+use Rattle.mls_bench.proofs.sheet.Builder.build.Goals as goal
 
 pub build-plane-requires-clause-strips : goal.build-plane-requires-clause-strips
 build-plane-requires-clause-strips g c =
