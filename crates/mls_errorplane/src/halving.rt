@@ -17,8 +17,8 @@ const FEW_TILES: usize = 1024;
 /// A side of at most this many squares isn't cut.
 const SHORT: u32 = 256;
 
-/// How many tiles lie in a rectangle, and how many of them across the line in the middle of its columns, and of its rows.
-/// It says where to cut: nothing is promised of it.
+/// How many tiles lie in a rectangle, and how many of them across the line in the middle of its columns, and of its
+/// rows. It says where to cut: nothing is promised of it.
 #[derive(Clone, Copy)]
 struct Crossing {
     tiles: usize,
@@ -52,8 +52,8 @@ impl Crossing {
     }
 }
 
-/// Returns the halves of a rectangle in which many tiles lie or uses may show something, unless it is small. No memory is
-/// taken.
+/// Returns the halves of a rectangle in which many tiles lie or uses may show something, unless it is small. No memory
+/// is taken.
 pub(crate) fn halves(
     planes: &mut [Plane],
     uses: &Uses<'_>,

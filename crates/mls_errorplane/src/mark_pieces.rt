@@ -10,8 +10,8 @@ use crate::dirty::lies_in_world;
 use mls_checker::Marks;
 use mls_geom::{Area, Piece, Rect};
 
-/// Fills `pieces` with those that give the marked squares of a rectangle kind 1, and its other squares kind 0: one for the
-/// rectangle, and one for each area of the marks that has squares of it.
+/// Fills `pieces` with those that give the marked squares of a rectangle kind 1, and its other squares kind 0: one for
+/// the rectangle, and one for each area of the marks that has squares of it.
 pub(crate) fn list_pieces(found: &Marks, rect: Rect, pieces: &mut Vec<Piece>)
     requires { most_pieces found.now.rect ≤ vec_capacity pieces.old }
     ensures painted { Paints pieces.new.items rect (marks found.now) }

@@ -16,8 +16,8 @@ use std::alloc::{AllocError, Global};
 /// Returns the rules that forbid some square of the rectangle in the layout on these planes with the uses.
 ///
 /// The layout is read in parts, one after another, each with what lies round it within the rules' halo. A rectangle in
-/// which many tiles lie is cut in halves, each of these again, and so on: so little is read more than once, and a search
-/// along a tile passes few others. Fails only if memory runs out.
+/// which many tiles lie is cut in halves, each of these again, and so on: so little is read more than once, and a
+/// search along a tile passes few others. Fails only if memory runs out.
 pub fn why(
     alloc: Global,
     planes: &mut [Plane],

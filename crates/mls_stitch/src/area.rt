@@ -16,8 +16,8 @@ use mls_geom::{Point, Rect};
 use mls_tilepool::Pool;
 
 impl Plane {
-    /// Fills `list` with the tiles that have a square of the area, each once, in any order. The search starts at the tile
-    /// in hand that was found closest to the square `near`.
+    /// Fills `list` with the tiles that have a square of the area, each once, in any order. The search starts at the
+    /// tile in hand that was found closest to the square `near`.
     pub(crate) fn search(&self, pool: &Pool, near: Point, area: Rect, list: &mut Vec<LaidTile>)
         requires plane { HasPlane pool.now self.now }
         requires room { count_of pool.now self.now ≤ vec_capacity list.old }
