@@ -1,5 +1,6 @@
 mod CellLoads
 mod CellWords
+mod Ends
 mod MessageLemmas
 mod NumberLemmas
 mod NumberTexts

@@ -132,6 +132,11 @@ EndsInScript old script rest written now input output contents before after =
     (fault : ServeFault) × FailsInScript old script rest written now input output fault
     × ReportsAll contents before after (skipped_lines old.setting.tech ++ serve_fault_line fault ∷ [])
 
+-- it failed so, and the fault was reported after the skipped lines
+abbrev pub ReportsEnd : {E : Type 0} → World → (Fault → Type 0) → (E → Option (List ℕ)) → Watched E → Watched E → Type 0
+ReportsEnd on fails messages before after =
+    (fault : Fault) × fails fault × ReportsAll messages before after (skipped_lines on.setting.tech ++ fault_text fault ∷ [])
+
 -- ---- the script, with workers
 
 -- the script fails with this fault, or all was written, and what some session was told isn't what its journal has
@@ -143,9 +148,7 @@ FailsInCrew on script input contents old new _ = ⊥
 -- so it did, and the fault was reported after the skipped lines
 abbrev pub EndsInCrew : {R W E : Type 0} → World → Option (List ℕ) → Watched R → (W → Option (List ℕ)) → Watched W → Watched W
     → (E → Option (List ℕ)) → Watched E → Watched E → Type 0
-EndsInCrew on script input contents old new messages before after =
-    (fault : Fault) × FailsInCrew on script input contents old new fault
-    × ReportsAll messages before after (skipped_lines on.setting.tech ++ fault_text fault ∷ [])
+EndsInCrew on script input contents old new messages before after = ReportsEnd on (FailsInCrew on script input contents old new) messages before after
 
 -- ---- the script, answered as it comes
 
@@ -158,6 +161,4 @@ FailsLive on script input contents old new _ = ⊥
 -- so it did, and the fault was reported after the skipped lines
 abbrev pub EndsLive : {R W E : Type 0} → World → Option (List ℕ) → Watched R → (W → Option (List ℕ)) → Watched W → Watched W
     → (E → Option (List ℕ)) → Watched E → Watched E → Type 0
-EndsLive on script input contents old new messages before after =
-    (fault : Fault) × FailsLive on script input contents old new fault
-    × ReportsAll messages before after (skipped_lines on.setting.tech ++ fault_text fault ∷ [])
+EndsLive on script input contents old new messages before after = ReportsEnd on (FailsLive on script input contents old new) messages before after
