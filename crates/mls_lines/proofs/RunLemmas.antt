@@ -37,3 +37,7 @@ module _ (terms : Terms) (book : Names) (script : Option (List ℕ)) where
   -- no line was carried out yet
   pub answered_none : ∥ HasAnswered terms book script 0 None ∥₁
   answered_none = ∣ ([], (refl, refl)) ∣₁
+
+  -- the text of a line before which none was carried out is a reply
+  pub answered_first : (last : Answered) → 0 < last.n → IsLineOf script last.n last.line → Answers None last → ∥ IsReply terms book script last.text ∥₁
+  answered_first last = answered_last 0 None last answered_none

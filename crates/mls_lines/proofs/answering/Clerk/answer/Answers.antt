@@ -1,26 +1,29 @@
 use Rattle.std.proofs.Common.{◌≡◌, ℕ, true, Option, List, Result, Ok, Err, refl, sym, ap, ◌∙◌}
+use Rattle.mls_wire.specs.NameBooks.{Names}
 use Rattle.mls_wire.specs.Replies.{response_text}
 use Rattle.mls_wire.specs.ScriptLines.{text_of}
+use Rattle.mls_wire.specs.declared.line.Line.{Line}
+use Rattle.mls_wire.specs.declared.line.LineFault.{LineFault}
 use Rattle.mls_wire.specs.declared.response.Response.TheVariants.{Fault}
 use Rattle.mls_lines.specs.Answers.{held_by, name_held}
 use Rattle.mls_lines.specs.Glossaries.{book_in, says_beside}
 use Rattle.mls_lines.proofs.AnswerLemmas.{done_gives}
 use Rattle.mls_lines.proofs.answering.Clerk.answer.Goals as goal
 
+-- the name was read, and then what the line says where a session of that name is open
+says_held : (book : Names) (held name : Option (List ℕ)) (line : Option (List ℕ)) (result said : Result Line LineFault)
+    → name ≡ held → result ≡ says_beside book name line → result ≡ said → says_beside book held line ≡ said
+says_held book held name line result said same says is = ap (λ (n : Option (List ℕ)). says_beside book n line) (sym same) ∙ sym says ∙ is
+
 pub returns-in-Err : goal.returns-in-Err
 returns-in-Err g c =
     let book = book_in g.N.Scripted.glossary in
-    let line = text_of c.args.line.now.line in
-    let says : says_beside book (name_held (held_by c.args.sitting.now)) line ≡ Err c.in-Err.fault =
-    ap (λ (held : Option (List ℕ)). says_beside book held line) (sym c.name_of.ensures) ∙ sym c.says.ensures ∙ c.in-Err.is in
+    let says = says_held book (name_held (held_by c.args.sitting.now)) c.name_of.result (text_of c.args.line.now.line) c.says.result (Err c.in-Err.fault) c.name_of.ensures c.says.ensures c.in-Err.is in
     let text = response_text book c.args.line.now.n (Fault c.in-Err.fault) in
     let (ok, err) = done_gives c.push_fault.result c.done.result true _ _ c.done.ensures.same c.done.ensures.known c.push_fault.ensures.ok c.push_fault.ensures.room in
     rw says (text, true, (refl, refl), ok, err)
 
 pub returns-in-Ok : goal.returns-in-Ok
 returns-in-Ok g c =
-    let book = book_in g.N.Scripted.glossary in
-    let line = text_of c.args.line.now.line in
-    let says : says_beside book (name_held (held_by c.args.sitting.now)) line ≡ Ok c.in-Ok.said =
-    ap (λ (held : Option (List ℕ)). says_beside book held line) (sym c.name_of.ensures) ∙ sym c.says.ensures ∙ c.in-Ok.is in
+    let says = says_held (book_in g.N.Scripted.glossary) (name_held (held_by c.args.sitting.now)) c.name_of.result (text_of c.args.line.now.line) c.says.result (Ok c.in-Ok.said) c.name_of.ensures c.says.ensures c.in-Ok.is in
     rw says c.carry_out.ensures
