@@ -182,24 +182,25 @@ fn tiles_of(
     Ok(Some(tiles))
 }
 
-/// Returns the columns at which a rectangle begins or ends.
-fn columns_of(alloc: Global, rects: &[PlainRect]) -> Result<Vec<i32>, AllocError> {
-    let mut columns = Vec::new(alloc);
-    for rect in rects {
-        add_new(&mut columns, rect.left)?;
-        add_new(&mut columns, rect.right)?;
-    }
-    Ok(columns)
+/// Lines of squares at which rectangles begin or end.
+#[derive(Clone, Copy)]
+enum Ends {
+    Columns,
+    Rows,
 }
 
-/// Returns the rows at which a rectangle begins or ends.
-fn rows_of(alloc: Global, rects: &[PlainRect]) -> Result<Vec<i32>, AllocError> {
-    let mut rows = Vec::new(alloc);
+/// Returns the columns, or the rows, at which a rectangle begins or ends.
+fn ends_of(alloc: Global, rects: &[PlainRect], ends: Ends) -> Result<Vec<i32>, AllocError> {
+    let mut lines = Vec::new(alloc);
     for rect in rects {
-        add_new(&mut rows, rect.bottom)?;
-        add_new(&mut rows, rect.top)?;
+        let (first, last) = match ends {
+            Ends::Columns => (rect.left, rect.right),
+            Ends::Rows => (rect.bottom, rect.top),
+        };
+        add_new(&mut lines, first)?;
+        add_new(&mut lines, last)?;
     }
-    Ok(rows)
+    Ok(lines)
 }
 
 /// Adds a line to a list, if it isn't there.
@@ -215,8 +216,8 @@ fn add_new(lines: &mut Vec<i32>, line: i32) -> Result<(), AllocError> {
 fn show_same(alloc: Global, rects: &[PlainRect], tiles: &[PlainRect]) -> Result<bool, AllocError> {
     let mut all = Vec::from_slice(alloc, rects)?;
     all.extend_from_slice(tiles)?;
-    let columns = columns_of(alloc, &all)?;
-    let rows = rows_of(alloc, &all)?;
+    let columns = ends_of(alloc, &all, Ends::Columns)?;
+    let rows = ends_of(alloc, &all, Ends::Rows)?;
     for x in &columns {
         for y in &rows {
             if !show_same_at(rects, tiles, *x, *y) {

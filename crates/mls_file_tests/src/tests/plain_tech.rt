@@ -4,7 +4,7 @@ use crate::tests::plain_rule::{form_of, read_form, why_of};
 use crate::tests::plain_text::{PlainLine, first_bad_line, plain_lines, plain_words, quoted_words};
 use mls_kinds::KindSet;
 use mls_tech::Rule;
-use std::alloc::{AllocError, AllocFailed, Global};
+use std::alloc::{AllocError, Global};
 
 /// The number of a fault, and its line.
 #[derive(Clone, Copy, Debug, PartialEq, Eq)]
@@ -13,26 +13,17 @@ pub struct PlainFault {
     pub number: u8,
 }
 
-/// Returns the fault of a line.
-fn fault<T>(line: usize, number: u8) -> Result<T, PlainFault> {
-    Err(PlainFault { line, number })
-}
-
-/// The fault 10: memory.
-const MEMORY: PlainFault = PlainFault {
-    line: 0,
-    number: 10,
-};
-
-impl From<AllocError> for PlainFault {
-    fn from(_error: AllocError) -> PlainFault {
-        MEMORY
+impl Fault {
+    /// Returns the fault as that of a line.
+    fn at(self, line: usize) -> PlainFault {
+        let Fault(number) = self;
+        PlainFault { line, number }
     }
 }
 
-impl<T: Drop> From<AllocFailed<T>> for PlainFault {
-    fn from(_error: AllocFailed<T>) -> PlainFault {
-        MEMORY
+impl From<AllocError> for PlainFault {
+    fn from(error: AllocError) -> PlainFault {
+        Fault::from(error).at(0)
     }
 }
 
@@ -101,7 +92,7 @@ fn section_named(word: &[u8]) -> Section {
 /// Reads a technology file.
 pub fn read_plain(alloc: Global, file: &[u8]) -> Result<PlainTech, PlainFault> {
     if let Some(line) = first_bad_line(file) {
-        return fault(line, 1);
+        return Err(Fault(1).at(line));
     }
     let lines = plain_lines(alloc, file)?;
     let mut tech = nothing_read(alloc)?;
@@ -137,10 +128,11 @@ fn read_lines(alloc: Global, tech: &mut PlainTech, lines: &[PlainLine]) -> Resul
             None if has_end(alloc, &lines[index..])? => words
                 .first()
                 .map(|name| section_named(name)),
-            None => return fault(line.number, 2),
+            None => return Err(Fault(2).at(line.number)),
             Some(_) if is_end(&words) => None,
             Some(section) => {
-                read_line(alloc, tech, section, line, &words)?;
+                let read = read_line(alloc, tech, section, line, &words);
+                read.map_err(|fault| fault.at(line.number))?;
                 Some(section)
             }
         };
@@ -180,16 +172,15 @@ fn read_line(
     section: Section,
     line: &PlainLine,
     words: &[&[u8]],
-) -> Result<(), PlainFault> {
-    let number = line.number;
+) -> Result<(), Fault> {
     match section {
         Section::Other => Ok(()),
         Section::Tech => tech.read_name(alloc, words),
-        Section::Planes => tech.read_plane(alloc, number, words),
-        Section::Types => tech.read_type(alloc, number, words),
+        Section::Planes => tech.read_plane(alloc, words),
+        Section::Types => tech.read_type(alloc, words),
         Section::Drc => match quoted_words(alloc, &line.text)? {
-            None => fault(number, 8),
-            Some(words) => tech.read_rule(alloc, number, &words),
+            None => Err(Fault(8)),
+            Some(words) => tech.read_rule(alloc, line.number, &words),
         },
     }
 }
@@ -228,25 +219,25 @@ fn is_spelled(owner: Owner, word: &[u8]) -> bool {
     }
 }
 
-/// Adds the names of a list with commas, or returns the number of the first fault.
+/// Adds the names of a list with commas, up to the first fault.
 fn add_names(
     alloc: Global,
     names: &mut Vec<Named>,
     owner: Owner,
     list: &[u8],
     number: u8,
-) -> Result<Option<u8>, AllocError> {
+) -> Result<(), Fault> {
     for word in list.split(|b| *b == b',') {
         if !is_spelled(owner, word) {
-            return Ok(Some(8));
+            return Err(Fault(8));
         }
         if number_of(names, word).is_some() {
-            return Ok(Some(5));
+            return Err(Fault(5));
         }
         let name = Vec::from_slice(alloc, word)?;
         names.push(Named { name, number })?;
     }
-    Ok(None)
+    Ok(())
 }
 
 /// The most planes and types.
@@ -256,7 +247,7 @@ const MOST_TYPES: usize = 63;
 
 impl PlainTech {
     /// Reads a line of the section `tech`.
-    fn read_name(&mut self, alloc: Global, words: &[&[u8]]) -> Result<(), PlainFault> {
+    fn read_name(&mut self, alloc: Global, words: &[&[u8]]) -> Result<(), Fault> {
         let Some(word) = words.first() else {
             return Ok(());
         };
@@ -267,57 +258,43 @@ impl PlainTech {
     }
 
     /// Reads a line of the section `planes`.
-    fn read_plane(
-        &mut self,
-        alloc: Global,
-        line: usize,
-        words: &[&[u8]],
-    ) -> Result<(), PlainFault> {
+    fn read_plane(&mut self, alloc: Global, words: &[&[u8]]) -> Result<(), Fault> {
         let [names] = words else {
-            return fault(line, 8);
+            return Err(Fault(8));
         };
         let number = self.plane_count;
-        if let Some(found) = add_names(alloc, &mut self.planes, Owner::Plane, names, number)? {
-            return fault(line, found);
-        }
+        add_names(alloc, &mut self.planes, Owner::Plane, names, number)?;
         if number >= MOST_PLANES {
-            return fault(line, 9);
+            return Err(Fault(9));
         }
         self.plane_count = number.saturating_add(1);
         Ok(())
     }
 
     /// Reads a line of the section `types`.
-    fn read_type(&mut self, alloc: Global, line: usize, words: &[&[u8]]) -> Result<(), PlainFault> {
+    fn read_type(&mut self, alloc: Global, words: &[&[u8]]) -> Result<(), Fault> {
         let [plane, names] = words else {
-            return fault(line, 8);
+            return Err(Fault(8));
         };
         let plane = match *plane {
             [b'-', plane @ ..] => plane,
             plane => plane,
         };
         let Some(plane) = number_of(&self.planes, plane) else {
-            return fault(line, 3);
+            return Err(Fault(3));
         };
         let number = self.type_planes.len().saturating_add(1);
         let kind = u8::try_from(number).unwrap_or(u8::MAX);
-        if let Some(found) = add_names(alloc, &mut self.types, Owner::Type, names, kind)? {
-            return fault(line, found);
-        }
+        add_names(alloc, &mut self.types, Owner::Type, names, kind)?;
         if number > MOST_TYPES {
-            return fault(line, 9);
+            return Err(Fault(9));
         }
         self.type_planes.push(plane)?;
         Ok(())
     }
 
     /// Reads a line of the section `drc`.
-    fn read_rule(
-        &mut self,
-        alloc: Global,
-        line: usize,
-        words: &[Vec<u8>],
-    ) -> Result<(), PlainFault> {
+    fn read_rule(&mut self, alloc: Global, line: usize, words: &[Vec<u8>]) -> Result<(), Fault> {
         let Some((keyword, words)) = words.split_first() else {
             return Ok(());
         };
@@ -327,16 +304,12 @@ impl PlainTech {
             return Ok(());
         };
         if !form.has_words(words.len()) {
-            return fault(line, 8);
+            return Err(Fault(8));
         }
-        match read_form(alloc, self, form, words) {
-            Ok(rule) => {
-                let why = Vec::from_slice(alloc, why_of(form, words))?;
-                self.rules.push(PlainRule { line, rule, why })?;
-                Ok(())
-            }
-            Err(Fault(number)) => fault(line, number),
-        }
+        let rule = read_form(alloc, self, form, words)?;
+        let why = Vec::from_slice(alloc, why_of(form, words))?;
+        self.rules.push(PlainRule { line, rule, why })?;
+        Ok(())
     }
 }
 
