@@ -15,7 +15,7 @@ use crate::violation_sink::ViolationSink;
 use crate::{Marks, Snapshot};
 use mls_edgerule::EdgeRule;
 use mls_geom::{Area, Rect};
-use mls_kinds::KindSet;
+use mls_kinds::{KindSet, PlaneNumber};
 use std::alloc::{AllocError, Global};
 
 /// The squares of a rectangle that a scan adds to. Those whose types are allowed are taken away late: once for all
@@ -24,7 +24,7 @@ use std::alloc::{AllocError, Global};
 pub(crate) struct MarkSink {
     grid: Grid,
     /// The check plane and the allowed types of the rules by which squares were reached.
-    check_plane: u8,
+    check_plane: PlaneNumber,
     ok_types: KindSet,
     /// No square was reached since the marks were settled.
     is_settled: bool,
@@ -41,7 +41,7 @@ impl MarkSink {
         let grid = Grid::new(alloc, rect)?;
         Ok(MarkSink {
             grid,
-            check_plane: 0,
+            check_plane: PlaneNumber::new(0),
             ok_types: KindSet::empty(),
             is_settled: true,
         })

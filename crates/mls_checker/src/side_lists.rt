@@ -7,13 +7,14 @@ use crate::Snapshot;
 use crate::idle::is_idle;
 use crate::sides::{Side, sides_of};
 use mls_edgerule::{Direction, EdgeRule};
+use mls_kinds::PlaneNumber;
 use std::alloc::AllocError;
 use std::marker::Model;
 
 /// The sides of a plane in one direction, without the edges inside tiles.
 #[derive(Drop)]
 pub(crate) struct SideList {
-    plane: u8,
+    plane: PlaneNumber,
     direction: Direction,
     sides: Vec<Side>,
 }
@@ -27,7 +28,11 @@ impl Model for SideList {
 }
 
 /// Returns the sides of a plane that are kept for the direction, if they are listed.
-pub(crate) fn find_sides(lists: &[SideList], plane: u8, direction: Direction) -> Option<&[Side]>
+pub(crate) fn find_sides(
+    lists: &[SideList],
+    plane: PlaneNumber,
+    direction: Direction,
+) -> Option<&[Side]>
     ensures { IfSome result (λ sides. (copied : SpecSnapshot) → AreListsOf copied lists.now
         → IsListOf copied (record { plane = plane; direction = axis direction; sides = sides.now })) }
 {
@@ -41,7 +46,7 @@ pub(crate) fn find_sides(lists: &[SideList], plane: u8, direction: Direction) ->
 }
 
 /// Whether the list has the sides of the plane in the direction.
-fn is_of(list: &SideList, plane: u8, direction: Direction) -> bool
+fn is_of(list: &SideList, plane: PlaneNumber, direction: Direction) -> bool
     ensures { result ≡ true → (list.now.plane ≡ plane) × (list.now.direction ≡ direction) }
 {
     list.plane == plane && list.direction == direction
@@ -81,7 +86,7 @@ fn add_lists(
 /// Lists the sides of a plane in the direction.
 fn add_list(
     lists: &mut Vec<SideList>,
-    plane: u8,
+    plane: PlaneNumber,
     direction: Direction,
     snapshot: &Snapshot,
 ) -> Result<(), AllocError>

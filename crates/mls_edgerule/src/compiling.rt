@@ -7,7 +7,7 @@ ghost use Rattle.mls_edgerule.specs.declared.directions.Directions.TheVariants.{
 
 use crate::plane_types::{is_on_plane, plane_of_set, trigger_plane, types_on};
 use crate::{Directions, EdgeRule, RuleFault, RuleFaultKind, Rules};
-use mls_kinds::KindSet;
+use mls_kinds::{KindSet, PlaneNumber};
 use mls_tech::{Adjacency, Edge, Rule, RuleLine, Tech};
 
 /// Compiles the rule lines of a technology: one edge rule for each line, in the order of the lines.
@@ -90,7 +90,7 @@ fn touching_illegal(tech: &Tech, from: KindSet, to: KindSet, distance: u8) -> Op
 
 /// Demands that the types of the set are `distance` wide: beyond an edge into them, and beyond a corner
 /// of such an edge, there are only they.
-fn width_rule(tech: &Tech, set: KindSet, distance: u8, plane: u8) -> EdgeRule
+fn width_rule(tech: &Tech, set: KindSet, distance: u8, plane: PlaneNumber) -> EdgeRule
     ensures { result ≡ spec.width_rule tech.now set distance plane }
 {
     EdgeRule {
@@ -108,7 +108,13 @@ fn width_rule(tech: &Tech, set: KindSet, distance: u8, plane: u8) -> EdgeRule
 
 /// Demands that types of one plane touch or are `distance` apart: beyond an edge from the first into
 /// neither there are none of the others.
-fn touching_ok_rule(tech: &Tech, from: KindSet, to: KindSet, distance: u8, plane: u8) -> EdgeRule
+fn touching_ok_rule(
+    tech: &Tech,
+    from: KindSet,
+    to: KindSet,
+    distance: u8,
+    plane: PlaneNumber,
+) -> EdgeRule
     ensures { result ≡ spec.touching_ok_rule tech.now from to distance plane }
 {
     let all = types_on(tech, plane);
@@ -123,8 +129,8 @@ fn touching_illegal_rule(
     from: KindSet,
     to: KindSet,
     distance: u8,
-    plane: u8,
-    check_plane: u8,
+    plane: PlaneNumber,
+    check_plane: PlaneNumber,
 ) -> EdgeRule
     ensures { result ≡ spec.touching_illegal_rule tech.now from to distance plane check_plane }
 {
@@ -140,8 +146,8 @@ fn spacing_rule(
     others: KindSet,
     allowed: KindSet,
     distance: u8,
-    plane: u8,
-    check_plane: u8,
+    plane: PlaneNumber,
+    check_plane: PlaneNumber,
 ) -> EdgeRule
     ensures { result ≡ spec.even_rule from others allowed distance Four plane check_plane }
 {
@@ -172,8 +178,8 @@ fn edge_line_rule(
     tech: &Tech,
     directions: Directions,
     edge: Edge,
-    plane: u8,
-    check_plane: u8,
+    plane: PlaneNumber,
+    check_plane: PlaneNumber,
 ) -> EdgeRule
     ensures { result ≡ spec.edge_line_rule tech.now directions edge plane check_plane }
 {

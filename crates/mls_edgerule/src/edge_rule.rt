@@ -1,6 +1,6 @@
 //! Compiled rules.
 use crate::Directions;
-use mls_kinds::KindSet;
+use mls_kinds::{KindSet, PlaneNumber};
 
 /// A rule on the edges of a plane (Taylor and Ousterhout 1984).
 ///
@@ -19,6 +19,6 @@ pub struct EdgeRule {
     pub distance: u8,
     pub corner_distance: u8,
     pub directions: Directions,
-    pub trigger_plane: u8,
-    pub check_plane: u8,
+    pub trigger_plane: PlaneNumber,
+    pub check_plane: PlaneNumber,
 }

@@ -4,7 +4,7 @@ ghost use Rattle.mls_edgerule.specs.Halos.{halo_of};
 ghost use Rattle.mls_edgerule.specs.RuleLists as spec;
 
 use crate::{Directions, EdgeRule};
-use mls_kinds::KindSet;
+use mls_kinds::{KindSet, PlaneNumber};
 use std::marker::Model;
 
 /// The most rules that a technology may have.
@@ -45,8 +45,8 @@ fn no_rule() -> EdgeRule
         distance: 1,
         corner_distance: 0,
         directions: Directions::RightAndUp,
-        trigger_plane: 0,
-        check_plane: 0,
+        trigger_plane: PlaneNumber::new(0),
+        check_plane: PlaneNumber::new(0),
     }
 }
 

@@ -8,6 +8,7 @@ ghost use Rattle.mls_errorplane.specs.PaintedMarks.{ShowsBeside};
 use crate::shown_marks::is_settled;
 use mls_checker::Marks;
 use mls_geom::{Area, Rect};
+use mls_kinds::Kind;
 use mls_stitch::LaidTile;
 
 /// How many pairs of a tile and an area are looked at. Where there are more, the whole rectangle is taken to differ.
@@ -65,7 +66,7 @@ fn with_tile(bounds: Area, tile: &LaidTile, rect: Rect, areas: &[Area]) -> Area
     ensures beside { ShowsBeside rect result (squares_of areas.now) tile.now }
 {
     let part = tile.piece.rect.area().common(rect.area());
-    if tile.piece.kind == 0 {
+    if tile.piece.kind == Kind::SPACE {
         return with_areas(bounds, part, areas);
     }
     if is_settled(tile, rect, areas) {

@@ -9,6 +9,10 @@ ghost use Rattle.mls_geom.specs.World.{world};
 use crate::dirty::lies_in_world;
 use mls_checker::Marks;
 use mls_geom::{Area, Piece, Rect};
+use mls_kinds::Kind;
+
+/// The number of the kind of marked squares.
+pub(crate) const MARKED: u8 = 1;
 
 /// Fills `pieces` with those that give the marked squares of a rectangle kind 1, and its other squares kind 0: one for
 /// the rectangle, and one for each area of the marks that has squares of it.
@@ -21,7 +25,10 @@ pub(crate) fn list_pieces(found: &Marks, rect: Rect, pieces: &mut Vec<Piece>)
     // What the areas have of the rectangle lies in the world, too.
     lies_in_world(rect);
     pieces.clear();
-    pieces.push_reserved(Piece { rect, kind: 0 });
+    pieces.push_reserved(Piece {
+        rect,
+        kind: Kind::SPACE,
+    });
     list_areas(rect, found.areas(), pieces);
 }
 
@@ -53,5 +60,8 @@ fn push_part(part: Rect, area: Area, pieces: &mut Vec<Piece>)
         return;
     }
     let rect = Rect::between(common.left, common.bottom, common.right, common.top);
-    pieces.push_reserved(Piece { rect, kind: 1 });
+    pieces.push_reserved(Piece {
+        rect,
+        kind: Kind::new(MARKED),
+    });
 }

@@ -21,6 +21,7 @@ use crate::mark_pieces::list_pieces;
 use crate::shown_marks::{show, space_size};
 use mls_checker::{Finding, Marks};
 use mls_geom::{Piece, Rect};
+use mls_kinds::Kind;
 use mls_paint::{Scratch, TooManyTiles, find_area, find_meeting, overlay, tile_count};
 use mls_stitch::{LaidTile, Plane};
 use mls_tilepool::Pool;
@@ -179,7 +180,7 @@ fn count_tiles(tiles: &[LaidTile], rect: Rect) -> Option<u64>
 fn marked_part(tile: &LaidTile, rect: Rect) -> u64
     ensures { result ≡ marked_part rect tile.now }
 {
-    if tile.piece.kind == 0 {
+    if tile.piece.kind == Kind::SPACE {
         return 0;
     }
     tile.piece.rect.area().common(rect.area()).size()

@@ -7,6 +7,7 @@ ghost use Rattle.mls_errorplane.specs.EmptyLayouts.{forbids_space};
 use crate::Dirty;
 use mls_edgerule::{EdgeRule, Rules};
 use mls_geom::Rect;
+use mls_kinds::Kind;
 use std::alloc::{AllocError, Global};
 
 /// Creates the areas of an empty layout that await checking: the whole world where the rules forbid some square of
@@ -32,8 +33,9 @@ fn forbid_empty_layout(rules: &Rules) -> bool
 fn forbids_space(rule: &EdgeRule) -> bool
     ensures { result ≡ forbids_space rule.now }
 {
-    rule.types1.contains(0)
-        && rule.types2.contains(0)
-        && !rule.ok_types.contains(0)
-        && (rule.distance > 0 || (rule.corner_distance > 0 && rule.corner_types.contains(0)))
+    rule.types1.contains(Kind::SPACE)
+        && rule.types2.contains(Kind::SPACE)
+        && !rule.ok_types.contains(Kind::SPACE)
+        && (rule.distance > 0
+            || (rule.corner_distance > 0 && rule.corner_types.contains(Kind::SPACE)))
 }

@@ -5,8 +5,10 @@ ghost use Rattle.mls_checker.specs.Marking.{marks, squares_of};
 ghost use Rattle.mls_geom.specs.Rects.{common, holds, size_of};
 ghost use Rattle.mls_errorplane.specs.PaintedMarks.{IsSettled, ShowsSet, space_size};
 
+use crate::mark_pieces::MARKED;
 use mls_checker::Marks;
 use mls_geom::{Area, Rect};
+use mls_kinds::Kind;
 use mls_stitch::LaidTile;
 
 /// How many columns wide the bands are by which a check lists its areas.
@@ -46,11 +48,11 @@ fn are_settled(tiles: &[LaidTile], rect: Rect, areas: &[Area]) -> bool
 pub(crate) fn is_settled(tile: &LaidTile, rect: Rect, areas: &[Area]) -> bool
     ensures { IsTrue result → IsSettled rect (squares_of areas.now) tile.now }
 {
-    if tile.piece.kind == 0 {
+    if tile.piece.kind == Kind::SPACE {
         return true;
     }
     let part = tile.piece.rect.area().common(rect.area());
-    tile.piece.kind == 1 && are_covered(&part, rect, areas)
+    tile.piece.kind.number() == MARKED && are_covered(&part, rect, areas)
 }
 
 /// Returns whether all squares of a part of the rectangle lie in the areas.
@@ -140,7 +142,7 @@ fn without_space(tiles: &[LaidTile], rect: Rect) -> Option<u64>
 pub(crate) fn space_size(tile: &LaidTile, rect: Rect) -> u64
     ensures { result ≡ space_size rect tile.now }
 {
-    if tile.piece.kind == 0 {
+    if tile.piece.kind == Kind::SPACE {
         return tile.piece.rect.area().common(rect.area()).size();
     }
     0

@@ -39,7 +39,3 @@ common_square a b met = (max a.left b.left, max a.bottom b.bottom, grind (arith,
 -- and two that have one meet
 pub meets_by_square : (a b : Rect) (x y : ℕ) → holds a x y ≡ true → holds b x y ≡ true → meets a b ≡ true
 meets_by_square a b x y in_a in_b = grind (arith, nat_tests)
-
--- a set of kinds with one kind more is a number of 64 bits
-pub kinds_fit : (kinds new kind : ℕ) → new ≡ with_kind kinds kind → new < 2 ^ 64
-kinds_fit kinds new kind put = rw put (set_of-lt (λ other. sets.holds kinds other || other == kind))

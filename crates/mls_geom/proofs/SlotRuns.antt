@@ -33,22 +33,8 @@ pub shown_alike : (kinds free : List ℕ) (a b : ℕ) → kind_if_painted kinds 
 shown_alike kinds free a b same =
     shown-kind_or_none (is_painted free a) (slice_index kinds a) ∙ ap kind_or_none same ∙ sym (shown-kind_or_none (is_painted free b) (slice_index kinds b))
 
--- and others don't, since a kind is a byte
-other_shown :
-    (p q : Bool) (k l : ℕ) → k < uncovered → l < uncovered → (if p then Some k else None) ≢ (if q then Some l else None)
-    → (if p then k else uncovered) ≢ (if q then l else uncovered)
-other_shown true true k l byte byte' others same = others (ap Some same)
-other_shown true false k l byte byte' others same = omega arith
-other_shown false true k l byte byte' others same = omega arith
-other_shown false false k l byte byte' others same = others refl
-
-pub shown_otherwise :
-    (kinds free : List ℕ) (a b : ℕ) → ((slot : ℕ) → slice_index kinds slot < uncovered) → kind_if_painted kinds free a ≢ kind_if_painted kinds free b
-    → shown kinds free a ≢ shown kinds free b
-shown_otherwise kinds free a b bytes = other_shown (is_painted free a) (is_painted free b) (slice_index kinds a) (slice_index kinds b) (bytes a) (bytes b)
-
 module _
-    (extent : Rect) (picture : Picture) (y : ℕ) (lines kinds free : List ℕ) (cuts : AreCuts extent lines) (slot_kinds : AreSlotKinds picture y lines kinds free) (bytes : (slot : ℕ) → slice_index kinds slot < uncovered) where
+    (extent : Rect) (picture : Picture) (y : ℕ) (lines kinds free : List ℕ) (cuts : AreCuts extent lines) (slot_kinds : AreSlotKinds picture y lines kinds free) where
   -- the squares on both sides of a line
   right_of_line : (index : ℕ) → index < length kinds → picture (slice_index lines index) y ≡ shown kinds free index
   right_of_line index within =
@@ -64,7 +50,7 @@ module _
 
   pub IsRun-from_slots :
       (first end : ℕ) → first < end → end ≤ length kinds → ((slot : ℕ) → first ≤ slot → slot < end → kind_if_painted kinds free slot ≡ kind_if_painted kinds free first)
-      → (0 < first → kind_if_painted kinds free first ≢ kind_if_painted kinds free (first - 1)) → (end < length kinds → kind_if_painted kinds free end ≢ kind_if_painted kinds free (end - 1))
+      → (0 < first → shown kinds free first ≢ shown kinds free (first - 1)) → (end < length kinds → shown kinds free end ≢ shown kinds free (end - 1))
       → IsRun extent picture (slice_index lines first) (slice_index lines end) y (shown kinds free first)
   IsRun-from_slots first end wide within alike starts ends =
       let count = slot_kinds.count in
@@ -79,9 +65,9 @@ module _
             slot_kinds.each found.0 x (omega (arith, found.2)) found.3 found.4 ∙ same found.0 found.1 (omega (arith, found.2)));
         ends_left = λ inside goes_on.
             (let some = before_from_less lines cuts.ascending 0 first cuts.some (omega (arith, cuts.first)) in
-            shown_otherwise kinds free first (first - 1) bytes (starts some) (sym goes_on ∙ left_of_line first some (omega arith)));
+            starts some (sym goes_on ∙ left_of_line first some (omega arith)));
         ends_right = λ inside goes_on.
             (let more = before_from_less lines cuts.ascending end (length lines - 1) (omega arith) (omega (arith, cuts.last)) in
-            shown_otherwise kinds free end (end - 1) bytes (ends (omega (arith, more)))
+            ends (omega (arith, more))
             (sym (right_of_line end (omega (arith, more))) ∙ goes_on ∙ sym (same (end - 1) (omega arith) (omega arith))));
       }

@@ -6,12 +6,13 @@ ghost use Rattle.mls_geom.specs.World.{world};
 
 use crate::world::{HIGH, LOW};
 use crate::{Area, Rect};
+use mls_kinds::Kind;
 
 /// A rectangle of squares of one kind. Kind 0 is space.
 #[derive(Clone, Copy, Debug, PartialEq, Eq)]
 pub struct Piece {
     pub rect: Rect,
-    pub kind: u8,
+    pub kind: Kind,
 }
 
 impl Piece {
@@ -21,7 +22,7 @@ impl Piece {
     {
         Piece {
             rect: Rect::between(LOW, LOW, HIGH, HIGH),
-            kind: 0,
+            kind: Kind::SPACE,
         }
     }
 

@@ -12,12 +12,13 @@ use crate::lines::{are_ascending, find_line, sort_dedup};
 use crate::run::{Run, join_slots};
 use crate::slots::paint_row;
 use crate::world::{HIGH, LOW};
+use mls_kinds::Kind;
 
 /// Buffers in which the runs of a row are found.
 #[derive(Drop)]
 pub(crate) struct Row {
     pub(crate) lines: Vec<u32>,
-    pub(crate) kinds: Vec<u8>,
+    pub(crate) kinds: Vec<Kind>,
     pub(crate) free: Vec<usize>,
     pub(crate) runs: Vec<Run>,
 }

@@ -1,23 +1,25 @@
 //! Runs of a row.
 ghost use Rattle.std.specs.Prelude.{◌≡◌, ◌≢◌, ℕ, ◌+◌, ◌-◌, ◌<◌, ◌≤◌, length, vec_capacity};
+ghost use Rattle.mls_geom.specs.Locality.{uncovered};
 ghost use Rattle.mls_geom.specs.Rects.{Rect};
 ghost use Rattle.mls_geom.specs.Pictures.{Picture};
 ghost use Rattle.mls_geom.specs.Sweep.Rows.{AreRuns};
-ghost use Rattle.mls_geom.specs.Sweep.Slots.{AreCuts, AreSlotKinds, kind_if_painted};
+ghost use Rattle.mls_geom.specs.Sweep.Slots.{AreCuts, AreSlotKinds, kind_if_painted, slot_kind};
 
 use crate::slots::kind_of;
+use mls_kinds::Kind;
 
 /// The squares of a row between two lines, all of one kind, and the index of their strip.
 #[derive(Clone, Copy)]
 pub(crate) struct Run {
     pub(crate) left: u32,
     pub(crate) right: u32,
-    pub(crate) kind: u8,
+    pub(crate) kind: Kind,
     pub(crate) strip: usize,
 }
 
 /// Fills `runs` with the runs of a row, from the kinds of its slots. A free slot is in no run.
-pub(crate) fn join_slots(lines: &[u32], kinds: &[u8], free: &[usize], runs: &mut Vec<Run>)
+pub(crate) fn join_slots(lines: &[u32], kinds: &[Kind], free: &[usize], runs: &mut Vec<Run>)
     requires count { length lines.now ≡ length kinds.now + 1 }
     requires free_count { length free.now ≡ length kinds.now + 1 }
     requires room { length kinds.now ≤ vec_capacity runs.old }
@@ -44,7 +46,7 @@ pub(crate) fn join_slots(lines: &[u32], kinds: &[u8], free: &[usize], runs: &mut
 }
 
 /// Returns the end of the slots from `first` on that have the kind of `first`, or are free as it is.
-fn end_of_kind(kinds: &[u8], free: &[usize], first: usize) -> usize
+fn end_of_kind(kinds: &[Kind], free: &[usize], first: usize) -> usize
     requires free_count { length free.now ≡ length kinds.now + 1 }
     requires within { first < length kinds.now }
     ensures wide { first < result }
@@ -52,7 +54,7 @@ fn end_of_kind(kinds: &[u8], free: &[usize], first: usize) -> usize
     ensures alike { (slot : ℕ) → first ≤ slot → slot < result
         → kind_if_painted kinds.now free.now slot ≡ kind_if_painted kinds.now free.now first }
     ensures changes { result < length kinds.now
-        → kind_if_painted kinds.now free.now result ≢ kind_if_painted kinds.now free.now (result - 1) }
+        → slot_kind kinds.now free.now result uncovered ≢ slot_kind kinds.now free.now (result - 1) uncovered }
 {
     let kind = kind_of(kinds, free, first);
     let mut end = first + 1;

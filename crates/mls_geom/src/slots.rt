@@ -1,15 +1,16 @@
 //! Painting the slots of a row, the uppermost piece first: a painted slot keeps its kind, and links
 //! over painted slots lead to the free ones.
-ghost use Rattle.std.specs.Prelude.{◌≡◌, ℕ, ◌+◌, ◌<◌, ◌≤◌, ◌&&◌, Option, Some, None, false, nat_lt, nat_le, if◌then◌else◌, length, slice_index, vec_len, vec_capacity};
+ghost use Rattle.std.specs.Prelude.{◌≡◌, ℕ, ◌+◌, ◌<◌, ◌≤◌, ◌&&◌, IfSome, Option, Some, None, false, nat_lt, nat_le, if◌then◌else◌, length, slice_index, vec_len, vec_capacity};
 ghost use Rattle.std.specs.List.{Contains};
 ghost use Rattle.std.specs.List.Sorted.{IsStrictlyIncreasing};
-ghost use Rattle.mls_geom.specs.Locality.{laid};
+ghost use Rattle.mls_geom.specs.Locality.{laid, uncovered};
 ghost use Rattle.mls_geom.specs.Pictures.{Picture, overlaid, painted};
 ghost use Rattle.mls_geom.specs.Sweep.Rows.{AreActive};
 ghost use Rattle.mls_geom.specs.Sweep.Slots.{AreBetweenLines, AreLinks, AreSlotKinds, AreSlots, IsBetweenLines, is_painted, kind_if_painted, slot_kind};
 
 use crate::Piece;
 use crate::lines::find_line;
+use mls_kinds::Kind;
 
 /// Fills `kinds` with the kind of each slot between the lines, in the row whose pieces are the active
 /// ones. A later piece wins, and a slot of no piece stays free.
@@ -17,7 +18,7 @@ pub(crate) fn paint_row(
     pieces: &[Piece],
     active: &[usize],
     lines: &[u32],
-    kinds: &mut Vec<u8>,
+    kinds: &mut Vec<Kind>,
     free: &mut Vec<usize>,
 )
     requires ascending { IsStrictlyIncreasing lines.now }
@@ -37,7 +38,7 @@ pub(crate) fn paint_row(
 }
 
 /// Makes `count` free slots.
-fn clear_slots(count: usize, kinds: &mut Vec<u8>, free: &mut Vec<usize>)
+fn clear_slots(count: usize, kinds: &mut Vec<Kind>, free: &mut Vec<usize>)
     requires kinds_fit { count ≤ vec_capacity kinds.old }
     requires free_fit { count < vec_capacity free.old }
     ensures slots { AreSlots kinds.new.items free.new.items }
@@ -49,7 +50,7 @@ fn clear_slots(count: usize, kinds: &mut Vec<u8>, free: &mut Vec<usize>)
     kinds.clear();
     free.clear();
     for slot in 0..count {
-        kinds.push_reserved(0);
+        kinds.push_reserved(Kind::SPACE);
         free.push_reserved(slot);
     }
     free.push_reserved(count);
@@ -60,7 +61,7 @@ fn paint_slots(
     pieces: &[Piece],
     active: &[usize],
     lines: &[u32],
-    kinds: &mut [u8],
+    kinds: &mut [Kind],
     free: &mut [usize],
 )
     requires slots { AreSlots kinds.old free.old }
@@ -88,7 +89,7 @@ fn paint_piece(
     piece: Piece,
     lines: &[u32],
     near: usize,
-    kinds: &mut [u8],
+    kinds: &mut [Kind],
     free: &mut [usize],
 ) -> usize
     requires slots { AreSlots kinds.old free.old }
@@ -123,7 +124,7 @@ fn index_of(lines: &[u32], line: u32, near: usize) -> usize
 }
 
 /// Paints the free slots from index `from` up to, not including, `to`.
-fn paint_below(kinds: &mut [u8], free: &mut [usize], from: usize, to: usize, kind: u8)
+fn paint_below(kinds: &mut [Kind], free: &mut [usize], from: usize, to: usize, kind: Kind)
     requires slots { AreSlots kinds.old free.old }
     requires from { from ≤ length kinds.old }
     requires to { to ≤ length kinds.old }
@@ -141,10 +142,11 @@ fn paint_below(kinds: &mut [u8], free: &mut [usize], from: usize, to: usize, kin
 }
 
 /// Returns the kind of a slot, or `None` if it is free.
-pub(crate) fn kind_of(kinds: &[u8], free: &[usize], slot: usize) -> Option<u8>
+pub(crate) fn kind_of(kinds: &[Kind], free: &[usize], slot: usize) -> Option<Kind>
     requires count { length free.now ≡ length kinds.now + 1 }
     requires within { slot < length kinds.now }
-    ensures { result ≡ kind_if_painted kinds.now free.now slot }
+    ensures kind { result ≡ kind_if_painted kinds.now free.now slot }
+    ensures fits { IfSome result (λ kind. kind < uncovered) }
 {
     (slot < free[slot]).then_some(kinds[slot])
 }

@@ -166,11 +166,6 @@ pub with_bit_or : (n set k : ℕ) → set < 2 ^ n → k < n → bit_or set (1 * 
 with_bit_or n set k fits below =
     ap (bit_or set) (one_shl k n below) ∙ is_bits_where n _ _ (or_lt n set (2 ^ k) fits (pow_below k n below)) (λ i _. holds-or set (2 ^ k) i ∙ ap (λ b. holds set i || b) (holds-pow k i))
 
--- a bit from n on changes nothing
-pub with_bit_above : (n set k : ℕ) → set < 2 ^ n → n ≤ k → with_bit n set k ≡ set
-with_bit_above n set k fits above =
-    sym (is_bits_where n set _ fits (λ i below. sym (ap (λ b. holds set i || b) (ne_eqb i k (λ same. omega arith)) ∙ or-false (holds set i))))
-
 with_bit-bits_where : (test : ℕ → Bool) (n k : ℕ) → with_bit n (bits_where test n) k ≡ bits_where (λ i. test i || i == k) n
 with_bit-bits_where test n k = bits_where_same n _ _ (λ i below. ap (λ b. b || i == k) (holds-bits_where test n i below))
 

@@ -5,9 +5,10 @@ use Rattle.std.specs.Int.{w64, bit_not, trailing_zeros}
 use Rattle.std.specs.List.{list_any}
 use Rattle.std.specs.Int.RustNames.{count_ones}
 use Rattle.std.proofs.lemmas.Bool.{cases_eq}
+use Rattle.std.proofs.lemmas.Bool.Decides.{nat_tests}
 use Rattle.std.proofs.lemmas.Nat.Bits.{bit_at-trailing_zeros}
 use Rattle.mls_kinds.specs.KindSets.{holds, set_of, union, intersection, difference, members, with_kind}
-use Rattle.mls_kinds.proofs.BitLemmas.{count_ones-holds, fold-with_bit, with_bit_above, filter_first, filter_none, bits_where-lt, bits_where_none, bits_where_one, bits_where_or, bits_where_and, bits_where_same, holds-bits_where, holds-not, holds-zero, holds_above, is_bits_where}
+use Rattle.mls_kinds.proofs.BitLemmas.{count_ones-holds, fold-with_bit, filter_first, filter_none, bits_where-lt, bits_where_none, bits_where_one, bits_where_or, bits_where_and, bits_where_same, holds-bits_where, holds-not, holds-zero, holds_above, is_bits_where}
 
 -- ---- sets by tests
 pub holds-set_of : (test : ℕ → Bool) (kind : ℕ) → kind < 64 → holds (set_of test) kind ≡ test kind
@@ -47,10 +48,13 @@ pub insert_is : (set kind : ℕ) → union set (set_of (λ other. other == kind)
 unfolding union
 insert_is set kind = set_of_same _ _ (λ other h. ap (λ held. holds set other || held) (holds-set_of (λ other. other == kind) other h))
 
--- a kind from 64 on is in no set
-pub with_kind_above : (set kind : ℕ) → set < 2 ^ 64 → 64 ≤ kind → with_kind set kind ≡ set
-unfolding set_of
-with_kind_above set kind fits above = with_bit_above 64 set kind fits above
+-- no set takes a kind from 64 on
+pub insert_none : (set kind : ℕ) → 64 ≤ kind → union set 0 ≡ with_kind set kind
+unfolding union set_of
+insert_none set kind above = set_of_same _ _ (λ other below. ap (λ held. holds set other || held) (holds-zero other ∙ not_among other below))
+  where
+    not_among : (other : ℕ) → other < 64 → false ≡ (other == kind)
+    not_among other below = grind (arith, nat_tests)
 
 -- the kinds of things, gathered one by one
 pub fold-with_kind : {X : Type 0} (kind_of : X → ℕ) (test : ℕ → Bool) (things : List X)

@@ -3,6 +3,7 @@ ghost use Rattle.std.specs.Iterator.{YieldsFirstBy, item_count};
 ghost use Rattle.std.specs.Prelude.{◌≡◌, ◌<◌, ◌==◌, ◌↔◌, not, length, [], ◌∷◌, IfSome, IsTrue, MatchOption};
 ghost use Rattle.mls_kinds.specs.KindSets.{holds, set_of, union, intersection, difference, members, with_kind};
 
+use crate::Kind;
 use std::marker::Model;
 
 /// A set of kinds, 0 to 63.
@@ -33,11 +34,13 @@ impl KindSet {
 
     /// The set of one kind.
     #[tactic(auto, using(crate::proofs::KindSetLemmas::single_is))]
-    pub fn single(kind: u8) -> Self
+    pub fn single(kind: Kind) -> Self
         requires { kind < 64 }
         ensures { result ≡ set_of (λ other. other == kind) }
     {
-        KindSet { bits: 1 << kind }
+        KindSet {
+            bits: 1 << kind.number(),
+        }
     }
 
     /// The number whose bit k is 1 for each kind k in the set.
@@ -47,23 +50,27 @@ impl KindSet {
         self.bits
     }
 
-    /// Adds a kind, and returns whether the set was without it.
-    pub fn insert(&mut self, kind: u8) -> bool
-        requires { kind < 64 }
+    /// Adds a kind, and returns whether the set was without it. Kinds from 64 on aren't added.
+    pub fn insert(&mut self, kind: Kind) -> bool
         ensures set { self.new ≡ with_kind self.old kind }
         ensures new { result ≡ not (holds self.old kind) }
     {
         let is_new = !self.contains(kind);
-        *self = self.union(KindSet::single(kind));
+        let added = if kind.number() < 64 {
+            KindSet::single(kind)
+        } else {
+            KindSet::empty()
+        };
+        *self = self.union(added);
         is_new
     }
 
     /// Whether the kind is in the set. No kind from 64 on is.
     #[tactic(auto, using(crate::proofs::KindSetLemmas::holds_from_64))]
-    pub fn contains(self, kind: u8) -> bool
+    pub fn contains(self, kind: Kind) -> bool
         ensures { result ≡ holds self kind }
     {
-        kind < 64 && (self.bits >> kind) & 1 == 1
+        kind.number() < 64 && (self.bits >> kind.number()) & 1 == 1
     }
 
     /// The kinds of either set.
@@ -122,7 +129,7 @@ impl KindSet {
 
     /// The lowest kind.
     #[tactic(auto, using(crate::proofs::KindSetLemmas::first_is))]
-    fn first(self) -> Option<u8>
+    fn first(self) -> Option<Kind>
         ensures kind { IfSome result (λ kind. kind < 64) }
         ensures first { MatchOption result (members self ≡ [])
             (λ kind. members self ≡ kind ∷ members (difference self (set_of (λ other. other == kind)))) }
@@ -130,7 +137,7 @@ impl KindSet {
         if self.bits == 0 {
             return None;
         }
-        Some(self.bits.trailing_zeros() as u8)
+        Some(Kind::new(self.bits.trailing_zeros() as u8))
     }
 }
 
@@ -150,13 +157,13 @@ impl Model for Iter {
 }
 
 impl Iterator for Iter {
-    type Item = u8;
+    type Item = Kind;
 
     ghost next_gives = { YieldsFirstBy (λ kind. kind) (λ kinds. kinds) };
 
     ghost remaining = { item_count (λ kinds. kinds) };
 
-    fn next(&mut self) -> Option<u8> {
+    fn next(&mut self) -> Option<Kind> {
         let kind = self.left.first()?;
         self.left = self.left.difference(KindSet::single(kind));
         Some(kind)

@@ -1,5 +1,5 @@
 -- The kinds that a picture has in a rectangle, by pieces that leave no square of it out.
-use Rattle.std.proofs.Common.{◌≡◌, ℕ, ◌<◌, ◌≤◌, ◌+◌, ◌^◌, ◌==◌, true, false, List, fold, get_or, length, take, eq-eqb, eqb-true, sym, ap, ◌∙◌, arith}
+use Rattle.std.proofs.Common.{◌≡◌, ℕ, ◌<◌, ◌+◌, ◌==◌, true, false, List, fold, get_or, length, take, eq-eqb, eqb-true, sym, ap, ◌∙◌, arith}
 use Rattle.std.proofs.Math.Path.{fun_ext}
 use Rattle.std.specs.List.{list_any}
 use Rattle.std.proofs.lemmas.Bool.Decides.{same_from_decides}
@@ -7,7 +7,7 @@ use Rattle.std.proofs.lemmas.List.Elements.{All-contains}
 use Rattle.std.proofs.lemmas.List.Folds.{Any-from_list_any, list_any-from_Any}
 use Rattle.std.proofs.lemmas.List.Sums.{fold_more}
 use Rattle.mls_kinds.specs.KindSets.{set_of, with_kind}
-use Rattle.mls_kinds.proofs.KindSetLemmas.{fold-with_kind, set_of_none, with_kind_above}
+use Rattle.mls_kinds.proofs.KindSetLemmas.{fold-with_kind, set_of_none}
 use Rattle.mls_geom.specs.Pictures.{Picture, kinds_in, shows}
 use Rattle.mls_geom.specs.Rects.{IsRectangleIn, Rect, holds}
 use Rattle.mls_geom.specs.declared.piece.Piece.{Piece}
@@ -72,10 +72,3 @@ pub kinds_of_more :
 kinds_of_more pieces i kinds new piece within next so_far put =
     put ∙ ap (λ set. with_kind set piece.kind) so_far ∙ ap (λ p. with_kind (kinds_of (take i pieces)) p.kind) next
     ∙ sym (fold_more (λ set piece. with_kind set piece.kind) 0 pieces i piece within)
-
--- or left out, from 64 on
-pub kinds_of_above :
-    (pieces : List Piece) (i kinds : ℕ) (piece : Piece) → i < length pieces → piece ≡ get_or pieces i piece → kinds < 2 ^ 64 → 64 ≤ piece.kind
-    → kinds ≡ kinds_of (take i pieces) → kinds ≡ kinds_of (take (i + 1) pieces)
-kinds_of_above pieces i kinds piece within next fits above so_far =
-    kinds_of_more pieces i kinds kinds piece within next so_far (sym (with_kind_above kinds piece.kind fits above))

@@ -14,6 +14,7 @@ ghost use Rattle.mls_tilepool.specs.Pools.{Pool, tiles_of};
 use crate::alike_uses::uses_are_alike;
 use crate::{Likeness, Uses, Workspace};
 use mls_geom::{Area, Rect};
+use mls_kinds::Kind;
 use mls_paint::{Scratch, find_meeting};
 use mls_stitch::{LaidTile, Plane};
 use mls_tilepool::Pool;
@@ -154,7 +155,7 @@ pub fn shows_alike(
     }
     find_meeting(pool, plane, area, scratch);
     let tiles = scratch.tiles();
-    if have_kind(tiles, 0) {
+    if have_kind(tiles, Kind::SPACE) {
         return true;
     }
     zone.is_amid_world() && are_alike(tiles, likeness, area)
@@ -195,7 +196,7 @@ pub(crate) fn are_alike(tiles: &[LaidTile], likeness: Likeness, area: Rect) -> b
 }
 
 /// Returns the kind of the tiles, if they have the same one.
-fn kind_of(tiles: &[LaidTile]) -> Option<u8>
+fn kind_of(tiles: &[LaidTile]) -> Option<Kind>
     ensures { IfSome result (λ kind. All (λ tile. tile.piece.kind ≡ kind) tiles.now) }
 {
     let kind = tiles.first()?.piece.kind;
@@ -206,7 +207,7 @@ fn kind_of(tiles: &[LaidTile]) -> Option<u8>
 }
 
 /// Returns whether all tiles have the kind.
-pub(crate) fn have_kind(tiles: &[LaidTile], kind: u8) -> bool
+pub(crate) fn have_kind(tiles: &[LaidTile], kind: Kind) -> bool
     ensures { IsTrue result → All (λ tile. tile.piece.kind ≡ kind) tiles.now }
 {
     for tile in tiles {

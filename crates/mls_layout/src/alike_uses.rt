@@ -19,6 +19,7 @@ use crate::used_tiles::part_in;
 use crate::uses::reaches;
 use crate::{CellUse, Likeness, Uses, Workspace};
 use mls_geom::Rect;
+use mls_kinds::Kind;
 use mls_library::Cell;
 use mls_paint::find_meeting_in;
 use mls_stitch::{LaidTile, Plane};
@@ -105,7 +106,7 @@ fn plane_is_alike(
         return false;
     }
     let tiles = workspace.scratch.tiles();
-    if have_kind(tiles, 0) {
+    if have_kind(tiles, Kind::SPACE) {
         return true;
     }
     is_amid_worlds(cell_use, zone) && are_alike(tiles, zone.likeness, part)
@@ -131,7 +132,7 @@ fn find_tiles(plane: &Plane, likeness: Likeness, area: Rect, workspace: &mut Wor
 /// Returns whether an area that begins with the first of these tiles may be space, or have the likeness.
 fn may_be_alike(tiles: &[LaidTile], likeness: Likeness, area: Rect) -> bool {
     begins_alike(tiles, likeness, area)
-        || have_kind(tiles, 0) && begins_alike(tiles, Likeness::Rows, area)
+        || have_kind(tiles, Kind::SPACE) && begins_alike(tiles, Likeness::Rows, area)
 }
 
 /// Returns whether the world, and the world moved as in the use, both span the zone.

@@ -7,12 +7,13 @@ ghost use Rattle.mls_layout.specs.Grids.{GainArea, IsBlock, IsRunFrom, Raises, S
 use crate::front::Front;
 use crate::rows::{end_of_alike, place_of};
 use mls_geom::{Area, Piece, Rect};
+use mls_kinds::Kind;
 use std::alloc::AllocError;
 
 /// Adds pieces that have the squares of a row of a block to the pieces of the rows below it, which begin at the index
 /// `first`. Fails if memory runs out.
 pub(crate) fn push_row(
-    squares: &[u8],
+    squares: &[Kind],
     block: &Area,
     row: u32,
     first: usize,
@@ -37,7 +38,7 @@ pub(crate) fn push_row(
 }
 
 /// Returns the squares of a row from a column on that are of one kind.
-fn run_from(squares: &[u8], block: &Area, left: u32, row: u32) -> Piece
+fn run_from(squares: &[Kind], block: &Area, left: u32, row: u32) -> Piece
     requires block { IsBlock block.now }
     requires size { length squares.now ≡ grid_size }
     requires inside { holds block.now left row ≡ true }

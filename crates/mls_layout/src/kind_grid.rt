@@ -8,6 +8,7 @@ use crate::front::Front;
 use crate::grid_pieces::push_row;
 use crate::rows::{STRIDE, fill_rows, rows_have_kind};
 use mls_geom::{Piece, Rect};
+use mls_kinds::Kind;
 use std::alloc::{AllocError, Global};
 use std::marker::Model;
 
@@ -20,7 +21,7 @@ pub const BLOCK_SIDE: u32 = 512;
 /// call writes or reads is no more than the squares that it names.
 #[derive(Drop)]
 pub struct KindGrid {
-    squares: Vec<u8>,
+    squares: Vec<Kind>,
 }
 
 impl Model for KindGrid {
@@ -40,7 +41,7 @@ impl KindGrid {
     pub fn new(alloc: Global) -> Result<KindGrid, AllocError>
         ensures { IfOk result (λ grid. (block : Rect) → grid_picture grid block ≡ empty_picture) }
     {
-        let squares = vec![in alloc; 0; STRIDE * STRIDE]?;
+        let squares = vec![in alloc; Kind::SPACE; STRIDE * STRIDE]?;
         Ok(KindGrid { squares })
     }
 
@@ -50,7 +51,7 @@ impl KindGrid {
         ensures { grid_picture self.new block ≡ empty_picture }
     {
         let lines = block.area();
-        fill_rows(&mut self.squares, &lines, &lines, 0);
+        fill_rows(&mut self.squares, &lines, &lines, Kind::SPACE);
     }
 
     /// Paints a piece that lies in a block.
@@ -68,7 +69,7 @@ impl KindGrid {
     }
 
     /// Returns whether all squares of a rectangle that lies in a block are of this kind.
-    pub fn has_kind(&self, block: Rect, rect: Rect, kind: u8) -> bool
+    pub fn has_kind(&self, block: Rect, rect: Rect, kind: Kind) -> bool
         requires block { IsBlock block }
         requires inside { IsRectangleIn block rect }
         ensures { IsTrue result ↔ ((x y : ℕ) → holds rect x y ≡ true → grid_picture self.now block x y ≡ kind) }

@@ -15,6 +15,7 @@ use crate::moves::moved_part;
 use crate::used_tiles::find_use;
 use crate::uses::PlaneUses;
 use mls_geom::{Piece, Rect};
+use mls_kinds::Kind;
 use mls_paint::find_meeting;
 use mls_stitch::{LaidTile, Plane};
 
@@ -73,7 +74,10 @@ fn begin(rect: Rect, most: usize, pieces: &mut Vec<Piece>) -> bool
     if most == 0 {
         return false;
     }
-    pieces.push_reserved(Piece { rect, kind: 0 });
+    pieces.push_reserved(Piece {
+        rect,
+        kind: Kind::SPACE,
+    });
     true
 }
 
@@ -170,7 +174,7 @@ fn push_piece(
     ensures few { length pieces.new.items ≤ most }
     ensures room { vec_capacity pieces.new ≡ vec_capacity pieces.old }
 {
-    if piece.kind == 0 {
+    if piece.kind.number() == 0 {
         return true;
     }
     let Some(part) = moved_part(piece.rect, dx, dy, rect) else {

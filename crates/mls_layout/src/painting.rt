@@ -10,6 +10,7 @@ ghost use Rattle.mls_layout.specs.Uses.{over};
 use crate::KindGrid;
 use crate::moves::moved_part;
 use mls_geom::{Piece, Rect};
+use mls_kinds::Kind;
 use mls_stitch::LaidTile;
 
 /// Paints the tiles that aren't space over a block of the grid, moved to the right by `dx` and up by `dy`.
@@ -30,7 +31,7 @@ fn paint_piece(piece: &Piece, dx: i32, dy: i32, block: Rect, grid: &mut KindGrid
     ensures painted { (x y : ℕ) → holds block x y ≡ true → grid_picture grid.new block x y
         ≡ (if dumps piece.now dx dy x y then piece.now.kind else grid_picture grid.old block x y) }
 {
-    if piece.kind == 0 {
+    if piece.kind == Kind::SPACE {
         return;
     }
     if let Some(rect) = moved_part(piece.rect, dx, dy, block) {

@@ -4,6 +4,7 @@ ghost use Rattle.mls_geom.specs.Rects.{IsRectangleIn, holds};
 ghost use Rattle.mls_layout.specs.Grids.{IsBlock, grid_kind, grid_size, place_in};
 
 use mls_geom::Area;
+use mls_kinds::Kind;
 
 /// How many squares stand between those of a row and those of the next.
 pub(crate) const STRIDE: usize = 512;
@@ -19,7 +20,7 @@ pub(crate) fn place_of(block: &Area, column: u32, row: u32) -> usize
 }
 
 /// Gives a kind to the squares from one place up to another.
-fn fill_row(squares: &mut [u8], from: usize, to: usize, kind: u8)
+fn fill_row(squares: &mut [Kind], from: usize, to: usize, kind: Kind)
     requires ordered { from ≤ to }
     requires within { to ≤ length squares.old }
     ensures { (place : ℕ) → slice_index squares.new place
@@ -29,7 +30,7 @@ fn fill_row(squares: &mut [u8], from: usize, to: usize, kind: u8)
 }
 
 /// Gives a kind to the squares of an area of a block.
-pub(crate) fn fill_rows(squares: &mut [u8], block: &Area, area: &Area, kind: u8)
+pub(crate) fn fill_rows(squares: &mut [Kind], block: &Area, area: &Area, kind: Kind)
     requires block { IsBlock block.now }
     requires inside { IsRectangleIn block.now area.now }
     requires size { length squares.old ≡ grid_size }
@@ -44,14 +45,14 @@ pub(crate) fn fill_rows(squares: &mut [u8], block: &Area, area: &Area, kind: u8)
 }
 
 /// Returns whether all squares of a row are of this kind.
-fn row_has_kind(row: &[u8], kind: u8) -> bool
+fn row_has_kind(row: &[Kind], kind: Kind) -> bool
     ensures { IsTrue result ↔ EachIndex row.now (λ k. slice_index row.now k ≡ kind) }
 {
     row.iter().all(|other| *other == kind)
 }
 
 /// Returns whether the squares of an area of a block are of this kind.
-pub(crate) fn rows_have_kind(squares: &[u8], block: &Area, area: &Area, kind: u8) -> bool
+pub(crate) fn rows_have_kind(squares: &[Kind], block: &Area, area: &Area, kind: Kind) -> bool
     requires block { IsBlock block.now }
     requires inside { IsRectangleIn block.now area.now }
     requires size { length squares.now ≡ grid_size }
@@ -69,7 +70,7 @@ pub(crate) fn rows_have_kind(squares: &[u8], block: &Area, area: &Area, kind: u8
 }
 
 /// Returns the first place after one, and before another, whose kind is another, or else the last of the three.
-pub(crate) fn end_of_alike(squares: &[u8], from: usize, to: usize) -> usize
+pub(crate) fn end_of_alike(squares: &[Kind], from: usize, to: usize) -> usize
     requires some { from < to }
     requires within { to ≤ length squares.now }
     ensures after { from < result }

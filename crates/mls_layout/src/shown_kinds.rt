@@ -46,9 +46,7 @@ fn kinds_of(pieces: &[Piece]) -> KindSet
 {
     let mut kinds = KindSet::empty();
     for piece in pieces {
-        if piece.kind < 64 {
-            kinds.insert(piece.kind);
-        }
+        kinds.insert(piece.kind);
     }
     kinds
 }

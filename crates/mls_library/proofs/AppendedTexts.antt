@@ -1,5 +1,5 @@
 -- A text that is appended part by part, where memory may run out at each.
-use Rattle.std.proofs.Common.{◌≡◌, ℕ, ◌+◌, ◌++◌, List, [], length, Result, Ok, Err, IsErr, Vec, Global, vec_len, sym, ap, subst, ◌∙◌, length-append, arith}
+use Rattle.std.proofs.Common.{◌≡◌, ℕ, ◌++◌, List, [], Result, Ok, Err, IsErr, Vec, Global, sym, ap, subst, ◌∙◌, length-append, arith}
 use Rattle.std.proofs.lemmas.Result.{IfOk-from_err, on_err_weaker, on_ok_weaker}
 use mathlib.Core.List.{append_assoc, append-nil}
 use Rattle.mls_library.specs.SavedCells.{Appends}

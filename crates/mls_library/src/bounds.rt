@@ -3,6 +3,7 @@ ghost use Rattle.std.specs.Prelude.{◌≡◌, map};
 ghost use Rattle.mls_library.specs.Bounds.{any_painted, are_painted, bounds_of, round_both};
 
 use mls_geom::{Piece, Rect};
+use mls_kinds::Kind;
 
 /// Returns the smallest rectangle round all strips that aren't space, or `None` if there are none.
 pub(crate) fn bounds_of(planes: &[Vec<Piece>]) -> Option<Rect>
@@ -21,7 +22,7 @@ fn strips_bounds(strips: &[Piece]) -> Option<Rect>
 {
     let mut bounds = None;
     for strip in strips {
-        if strip.kind != 0 {
+        if strip.kind != Kind::SPACE {
             // For its contract alone: the rectangle lies in the world.
             strip.rect.area();
             bounds = round_both(bounds, Some(strip.rect));

@@ -33,7 +33,7 @@ pub(crate) fn read_cell(
     while let Some((line, after)) = next_line(rest) {
         rest = after;
         number += 1;
-        match line_meaning(tech, place, line) {
+        match line_meaning(tech, &place, line) {
             Ok(Meaning::Nothing) => {}
             Ok(Meaning::Enters(next)) => place = next,
             Ok(Meaning::Paints(rect)) => rects.push(rect)?,

@@ -10,14 +10,19 @@ use crate::integer::{is_integer, world_line};
 use crate::meaning::Meaning;
 use crate::place::Place;
 use mls_geom::{Piece, Rect};
+use mls_kinds::{Kind, PlaneNumber};
 use mls_tech::Tech;
 use mls_text::Words;
 
 /// Returns what a line in this place means.
 #[tactic(auto, unfolding(crate::specs::CellFiles::line_meaning))]
-pub(crate) fn line_meaning(tech: &Tech, place: Place, line: &[u8]) -> Result<Meaning, CellFaultKind>
-    ensures value { result ≡ spec.line_meaning tech.now place (words_of line.now) }
-    ensures known { IsKnownPlace tech.now.plane_count place → IfOk result (IsKnownMeaning tech.now.plane_count) }
+pub(crate) fn line_meaning(
+    tech: &Tech,
+    place: &Place,
+    line: &[u8],
+) -> Result<Meaning, CellFaultKind>
+    ensures value { result ≡ spec.line_meaning tech.now place.now (words_of line.now) }
+    ensures known { IsKnownPlace tech.now.plane_count place.now → IfOk result (IsKnownMeaning tech.now.plane_count) }
 {
     let mut words = Words::new(line);
     let Some(keyword) = words.next() else {
@@ -31,10 +36,10 @@ pub(crate) fn line_meaning(tech: &Tech, place: Place, line: &[u8]) -> Result<Mea
 }
 
 /// Returns whether no line with words stands before the place.
-fn is_start(place: Place) -> bool
-    ensures { result ≡ spec.is_start place }
+fn is_start(place: &Place) -> bool
+    ensures { result ≡ spec.is_start place.now }
 {
-    match place {
+    match *place {
         Place::Start => true,
         _ => false,
     }
@@ -42,10 +47,14 @@ fn is_start(place: Place) -> bool
 
 /// Returns what a line that begins no section means.
 #[tactic(auto, unfolding(crate::specs::CellFiles::plain_line))]
-fn plain_line(place: Place, keyword: &[u8], words: &mut Words<'_>) -> Result<Meaning, CellFaultKind>
-    ensures { result ≡ spec.plain_line place keyword.now words.old }
+fn plain_line(
+    place: &Place,
+    keyword: &[u8],
+    words: &mut Words<'_>,
+) -> Result<Meaning, CellFaultKind>
+    ensures { result ≡ spec.plain_line place.now keyword.now words.old }
 {
-    match place {
+    match *place {
         Place::Start => first_line(keyword, words),
         Place::Header => header_line(keyword, words),
         Place::Skipped { with_uses } => skipped_line(with_uses, keyword),
@@ -176,8 +185,8 @@ fn skipped_line(with_uses: bool, keyword: &[u8]) -> Result<Meaning, CellFaultKin
 /// Returns what a line of a type's section means.
 #[tactic(auto, unfolding(crate::specs::CellFiles::layer_line))]
 fn layer_line(
-    kind: u8,
-    plane: u8,
+    kind: Kind,
+    plane: PlaneNumber,
     keyword: &[u8],
     words: &mut Words<'_>,
 ) -> Result<Meaning, CellFaultKind>
@@ -196,7 +205,11 @@ fn layer_line(
 
 /// Returns what a line with these words after `rect` means in a type's section.
 #[tactic(auto, unfolding(crate::specs::CellFiles::rect_line))]
-fn rect_line(kind: u8, plane: u8, words: &mut Words<'_>) -> Result<Meaning, CellFaultKind>
+fn rect_line(
+    kind: Kind,
+    plane: PlaneNumber,
+    words: &mut Words<'_>,
+) -> Result<Meaning, CellFaultKind>
     ensures { result ≡ spec.rect_line kind plane words.old }
 {
     let (Some(left), Some(bottom), Some(right), Some(top), None) = (
@@ -218,8 +231,8 @@ fn rect_line(kind: u8, plane: u8, words: &mut Words<'_>) -> Result<Meaning, Cell
 /// Returns what a rectangle between these integers means.
 #[tactic(auto, unfolding(crate::specs::CellFiles::rect_between))]
 fn rect_between(
-    kind: u8,
-    plane: u8,
+    kind: Kind,
+    plane: PlaneNumber,
     left: &[u8],
     bottom: &[u8],
     right: &[u8],

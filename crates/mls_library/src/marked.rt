@@ -6,9 +6,10 @@ ghost use Rattle.mls_library.specs.SavedCells.{Appends, text_of};
 use crate::CellTiles;
 use crate::saved::{push_rect, push_section, push_strip_section, section_line_count};
 use mls_geom::{Piece, Rect};
+use mls_kinds::Kind;
 use std::alloc::AllocError;
 
-/// The kind of a square that is marked.
+/// The number of the kind of a square that is marked.
 const MARKED: u8 = 1;
 
 /// Returns the most tiles that a plane may have together with the cells that are placed on it, where it may have a
@@ -33,7 +34,7 @@ pub fn dirty_line_count(areas: &[Rect]) -> usize
 pub fn mark_line_count(strips: &[Piece]) -> usize
     ensures { result ≡ length (spec.mark_lines strips.now) }
 {
-    section_line_count(strips, MARKED)
+    section_line_count(strips, Kind::new(MARKED))
 }
 
 /// Appends the section of areas that await checking, in their order. There is none without an area.
@@ -70,5 +71,5 @@ fn push_rects(rects: &[Rect], out: &mut Vec<u8>) -> Result<(), AllocError>
 pub fn push_marks(strips: &[Piece], out: &mut Vec<u8>) -> Result<(), AllocError>
     ensures { Appends result out.old out.new (text_of (spec.mark_lines strips.now)) }
 {
-    push_strip_section(b"error_p", MARKED, strips, out)
+    push_strip_section(b"error_p", Kind::new(MARKED), strips, out)
 }

@@ -1,4 +1,5 @@
 //! Places in a cell file.
+use mls_kinds::{Kind, PlaneNumber};
 
 /// Where a line stands in a cell file.
 #[derive(Clone, Copy, Debug, PartialEq, Eq)]
@@ -10,5 +11,5 @@ pub(crate) enum Place {
     /// In a section that is skipped, which may have lines that begin with `use`.
     Skipped { with_uses: bool },
     /// In the section of a type.
-    Layer { kind: u8, plane: u8 },
+    Layer { kind: Kind, plane: PlaneNumber },
 }

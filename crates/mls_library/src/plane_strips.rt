@@ -10,10 +10,15 @@ ghost use Rattle.mls_library.specs.Libraries.{most_tiles, tile_counts, total};
 use crate::cell_rect::CellRect;
 use crate::{CellFault, CellTiles};
 use mls_geom::{Piece, Scratch as Sweep, strips};
+use mls_kinds::PlaneNumber;
 use std::alloc::{AllocError, Global};
 
 /// Fills `pieces` with those that are painted on a plane, in order.
-fn list_pieces(rects: &[CellRect], plane: u8, pieces: &mut Vec<Piece>) -> Result<(), AllocError>
+fn list_pieces(
+    rects: &[CellRect],
+    plane: PlaneNumber,
+    pieces: &mut Vec<Piece>,
+) -> Result<(), AllocError>
     ensures items { OnOk result (pieces.new.items ≡ pieces_on plane rects.now) }
     ensures few { OnOk result (length pieces.new.items ≤ length rects.now) }
 {
@@ -66,8 +71,8 @@ pub(crate) fn find_plane_strips(
     let mut sweep = sweep_for(alloc, rects.len(), limit)?;
     let mut pieces = Vec::new(alloc);
     let mut found = Vec::with_capacity(alloc, usize::from(planes))?;
-    for plane in 0..planes {
-        list_pieces(rects, plane, &mut pieces)?;
+    for number in 0..planes {
+        list_pieces(rects, PlaneNumber::new(number), &mut pieces)?;
         strips(&[], &pieces, limit.get() as usize, &mut sweep)?;
         found.push_reserved(Vec::from_slice(alloc, sweep.strips())?);
     }

@@ -7,18 +7,19 @@ ghost use Rattle.mls_text.specs.Lines.{IsUnbroken};
 
 use itoa::Buffer;
 use mls_geom::{Piece, Rect};
+use mls_kinds::Kind;
 use mls_tech::Tech;
 use std::alloc::AllocError;
 
 /// Returns how many lines the section of a type has in a cell file, where the type's plane has these strips.
-pub fn layer_line_count(strips: &[Piece], kind: u8) -> usize
+pub fn layer_line_count(strips: &[Piece], kind: Kind) -> usize
     ensures { (tech : Tech) → result ≡ length (spec.layer_lines tech kind strips.now) }
 {
     section_line_count(strips, kind)
 }
 
 /// Returns how many lines a section has with the strips of a kind among these.
-pub(crate) fn section_line_count(strips: &[Piece], kind: u8) -> usize
+pub(crate) fn section_line_count(strips: &[Piece], kind: Kind) -> usize
     ensures { (name : List ℕ) → result ≡ length (spec.section_lines name (spec.of_kind kind strips.now)) }
 {
     match count_strips(strips, kind) {
@@ -28,7 +29,7 @@ pub(crate) fn section_line_count(strips: &[Piece], kind: u8) -> usize
 }
 
 /// Returns how many strips are of the kind.
-fn count_strips(strips: &[Piece], kind: u8) -> usize
+fn count_strips(strips: &[Piece], kind: Kind) -> usize
     ensures value { result ≡ count_by (λ strip. strip.kind == kind) strips.now }
     ensures bound { result ≤ length strips.now }
 {
@@ -65,7 +66,7 @@ pub fn push_header(tech: &Tech, out: &mut Vec<u8>) -> Result<(), AllocError>
 /// Out of memory, where the text had no room for all that is appended. What it had before is still in front of it.
 pub fn push_layer(
     tech: &Tech,
-    kind: u8,
+    kind: Kind,
     strips: &[Piece],
     out: &mut Vec<u8>,
 ) -> Result<(), AllocError>
@@ -77,7 +78,7 @@ pub fn push_layer(
 /// Appends the section of this name with the strips of a kind among these. There is none without a strip of the kind.
 pub(crate) fn push_strip_section(
     name: &[u8],
-    kind: u8,
+    kind: Kind,
     strips: &[Piece],
     out: &mut Vec<u8>,
 ) -> Result<(), AllocError>
@@ -92,7 +93,7 @@ pub(crate) fn push_strip_section(
 }
 
 /// Returns the name that is written for a type.
-fn first_name(tech: &Tech, kind: u8) -> &[u8]
+fn first_name(tech: &Tech, kind: Kind) -> &[u8]
     ensures { result.now ≡ spec.first_name tech.now kind }
 {
     tech.type_name(kind).unwrap_or(b"")
@@ -127,7 +128,7 @@ fn push_bytes(bytes: &[u8], out: &mut Vec<u8>) -> Result<(), AllocError>
 }
 
 /// Appends a line for each strip of the kind.
-fn push_strips(kind: u8, strips: &[Piece], out: &mut Vec<u8>) -> Result<(), AllocError>
+fn push_strips(kind: Kind, strips: &[Piece], out: &mut Vec<u8>) -> Result<(), AllocError>
     ensures { spec.Appends result out.old out.new (spec.text_of (spec.strip_lines (spec.of_kind kind strips.now))) }
 {
     for strip in strips {

@@ -1,5 +1,5 @@
 -- The kinds of the squares of an area, by the tiles that area search finds there.
-use Rattle.std.proofs.Common.{◌≡◌, ℕ, ◌<◌, ◌≤◌, ◌+◌, ◌^◌, ◌==◌, true, false, List, fold, get_or, length, take, eq-eqb, eqb-true, sym, ap, ◌∙◌}
+use Rattle.std.proofs.Common.{◌≡◌, ℕ, ◌<◌, ◌+◌, ◌==◌, true, false, List, fold, get_or, length, take, eq-eqb, eqb-true, sym, ap, ◌∙◌}
 use Rattle.std.proofs.Math.Path.{fun_ext}
 use Rattle.std.specs.List.{list_any}
 use Rattle.std.proofs.lemmas.Bool.Decides.{same_from_decides}
@@ -7,7 +7,7 @@ use Rattle.std.proofs.lemmas.List.Elements.{All-contains}
 use Rattle.std.proofs.lemmas.List.Folds.{Any-from_list_any, list_any-from_Any}
 use Rattle.std.proofs.lemmas.List.Sums.{fold_more}
 use Rattle.mls_kinds.specs.KindSets.{set_of, with_kind}
-use Rattle.mls_kinds.proofs.KindSetLemmas.{fold-with_kind, set_of_none, with_kind_above}
+use Rattle.mls_kinds.proofs.KindSetLemmas.{fold-with_kind, set_of_none}
 use Rattle.mls_geom.specs.Pictures.{kinds_in, shows}
 use Rattle.mls_geom.specs.Rects.{Rect}
 use Rattle.mls_geom.proofs.KindsShown.{ShowsAt, ShowsAt-from_shows, shows-from_ShowsAt, common_square}
@@ -66,10 +66,3 @@ pub kinds_of_more :
 kinds_of_more list i kinds new tile within next so_far put =
     put ∙ ap (λ set. with_kind set tile.piece.kind) so_far ∙ ap (λ t. with_kind (kinds_of (take i list)) t.piece.kind) next
     ∙ sym (fold_more (λ set tile. with_kind set tile.piece.kind) 0 list i tile within)
-
--- or left out, from 64 on
-pub kinds_of_above :
-    (list : List LaidTile) (i kinds : ℕ) (tile : LaidTile) → i < length list → tile ≡ get_or list i tile → kinds < 2 ^ 64 → 64 ≤ tile.piece.kind
-    → kinds ≡ kinds_of (take i list) → kinds ≡ kinds_of (take (i + 1) list)
-kinds_of_above list i kinds tile within next fits above so_far =
-    kinds_of_more list i kinds kinds tile within next so_far (sym (with_kind_above kinds tile.piece.kind fits above))

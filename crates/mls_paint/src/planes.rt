@@ -14,7 +14,7 @@ ghost use Rattle.mls_paint.specs.Scratches.{HasRoomFor, KeepsRoom};
 
 use crate::Scratch;
 use mls_geom::{Piece, Rect};
-use mls_kinds::KindSet;
+use mls_kinds::{Kind, KindSet};
 use mls_stitch::Plane;
 use mls_tilepool::{Pool, PoolFull};
 
@@ -35,7 +35,7 @@ pub fn space_plane(pool: &mut Pool, tiles: u32, scratch: &mut Scratch) -> Result
     let owner = pool.reserve(tiles)?;
     let space = Piece {
         rect: Rect::world(),
-        kind: 0,
+        kind: Kind::SPACE,
     };
     Ok(Plane::build(pool, owner, &[space], &mut scratch.search))
 }
@@ -122,9 +122,7 @@ pub fn kinds(pool: &Pool, plane: &mut Plane, rect: Rect, scratch: &mut Scratch) 
     find_area(pool, plane, rect, scratch);
     let mut kinds = KindSet::empty();
     for tile in scratch.tiles() {
-        if tile.piece.kind < 64 {
-            kinds.insert(tile.piece.kind);
-        }
+        kinds.insert(tile.piece.kind);
     }
     kinds
 }

@@ -27,5 +27,4 @@ mod walk;
 pub use laid_tile::LaidTile;
 pub use plane::Plane;
 pub use scratch::Scratch;
-pub use split::Axis;
 pub use stitch::Stitch;

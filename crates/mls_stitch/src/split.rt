@@ -1,7 +1,7 @@
 //! Splitting tiles and joining them.
-ghost use Rattle.std.specs.Prelude.{◌≡◌, ◌≤◌, ◌↔◌, Some, IfOk, IfSome, IsErr, IsSomeAnd, OnErr};
+ghost use Rattle.std.specs.Prelude.{◌≡◌, ◌<◌, ◌≤◌, ◌↔◌, Some, IfOk, IfSome, IsErr, IsSomeAnd, OnErr};
 ghost use Rattle.mls_tilepool.specs.Pools.{count_of, room_of, tiles_of};
-ghost use Rattle.mls_stitch.specs.Splits.{IsCutAt, JoinAlong, Joins, Splits, first_part, joined_along, second_part};
+ghost use Rattle.mls_stitch.specs.Splits.{IsCutAt, JoinAlong, JoinInX, JoinInY, Joins, Splits, first_part, joined_along, joined_x, joined_y, left_of, lower_of, right_of, second_part, upper_of};
 ghost use Rattle.mls_stitch.specs.Tilings.{ChangesOnly, HasPlane, block_at};
 
 use crate::laid_tile::laid;
@@ -10,8 +10,8 @@ use mls_geom::{Piece, Rect};
 use mls_tilepool::{NoRoom, Pool, TileId};
 
 /// The axis along which two tiles lie beside each other.
-#[derive(Clone, Copy, Debug, PartialEq, Eq)]
-pub enum Axis {
+#[derive(Clone, Copy)]
+enum Axis {
     /// One to the left of the other.
     X,
     /// One below the other.
@@ -56,12 +56,8 @@ fn joined(first: Piece, second: Piece, axis: Axis) -> Piece
 }
 
 impl Plane {
-    /// Splits a tile at a line across the axis, counted as the coordinates of [`Area`](mls_geom::Area) are, and returns
-    /// the name of the part behind the line.
-    ///
-    /// The tile keeps its name for the part before the line. Fails if the owner has no room for one more tile, and then
-    /// changes nothing.
-    pub fn split(
+    /// Splits a tile at a line across the axis.
+    fn split(
         &mut self,
         pool: &mut Pool,
         tile: TileId,
@@ -92,9 +88,8 @@ impl Plane {
         Ok(self.find(pool, corner))
     }
 
-    /// Joins a tile and the one behind it, which share a whole side and have one kind. The first one keeps its name for
-    /// both.
-    pub fn join(
+    /// Joins a tile and the one behind it.
+    fn join(
         &mut self,
         pool: &mut Pool,
         first: TileId,
@@ -121,5 +116,101 @@ impl Plane {
         let whole = joined(before, behind, axis);
         self.replace(pool, &[first, second], &[whole], None, scratch)
             .unwrap();
+    }
+
+    /// Splits a tile at a column, counted as the coordinates of [`Area`](mls_geom::Area) are, and returns the name of
+    /// the right part (Ousterhout 1984).
+    ///
+    /// The tile keeps its name for the left part. Fails if the owner has no room for one more tile, and then changes
+    /// nothing.
+    pub fn split_x(
+        &mut self,
+        pool: &mut Pool,
+        tile: TileId,
+        x: u32,
+        scratch: &mut Scratch,
+    ) -> Result<TileId, NoRoom>
+        requires plane { HasPlane pool.old self.old }
+        requires inside { IsSomeAnd (block_at (tiles_of pool.old self.old) tile) (λ block.
+            (block.rect.left < x) × (x < block.rect.right)) }
+        requires tiles_fit { count_of pool.old self.old ≤ scratch.old.room }
+        requires pieces_fit { 2 ≤ scratch.old.room }
+        ensures no_room { IsErr result ↔ (room_of pool.old self.old ≡ Some (count_of pool.old self.old)) }
+        ensures split { IfOk result (λ id. IfSome (block_at (tiles_of pool.old self.old) tile) (λ block.
+            Splits (tiles_of pool.old self.old) (tiles_of pool.new self.old) tile id (left_of x block)
+            (right_of x block))) }
+        ensures refused { OnErr result (pool.new ≡ pool.old) }
+        ensures plane { self.new ≡ self.old }
+        ensures home { HasPlane pool.new self.old }
+        ensures only { ChangesOnly pool.old pool.new self.old }
+        ensures scratch_room { scratch.new.room ≡ scratch.old.room }
+    {
+        self.split(pool, tile, Axis::X, x, scratch)
+    }
+
+    /// Splits a tile at a row, counted as the coordinates of [`Area`](mls_geom::Area) are, and returns the name of
+    /// the upper part (Ousterhout 1984).
+    ///
+    /// The tile keeps its name for the lower part. Fails if the owner has no room for one more tile, and then changes
+    /// nothing.
+    pub fn split_y(
+        &mut self,
+        pool: &mut Pool,
+        tile: TileId,
+        y: u32,
+        scratch: &mut Scratch,
+    ) -> Result<TileId, NoRoom>
+        requires plane { HasPlane pool.old self.old }
+        requires inside { IsSomeAnd (block_at (tiles_of pool.old self.old) tile) (λ block.
+            (block.rect.bottom < y) × (y < block.rect.top)) }
+        requires tiles_fit { count_of pool.old self.old ≤ scratch.old.room }
+        requires pieces_fit { 2 ≤ scratch.old.room }
+        ensures no_room { IsErr result ↔ (room_of pool.old self.old ≡ Some (count_of pool.old self.old)) }
+        ensures split { IfOk result (λ id. IfSome (block_at (tiles_of pool.old self.old) tile) (λ block.
+            Splits (tiles_of pool.old self.old) (tiles_of pool.new self.old) tile id (lower_of y block)
+            (upper_of y block))) }
+        ensures refused { OnErr result (pool.new ≡ pool.old) }
+        ensures plane { self.new ≡ self.old }
+        ensures home { HasPlane pool.new self.old }
+        ensures only { ChangesOnly pool.old pool.new self.old }
+        ensures scratch_room { scratch.new.room ≡ scratch.old.room }
+    {
+        self.split(pool, tile, Axis::Y, y, scratch)
+    }
+
+    /// Joins a tile and the one to the right of it, which share a whole side and have one kind. The left one keeps its
+    /// name for both (Ousterhout 1984).
+    pub fn join_x(&mut self, pool: &mut Pool, left: TileId, right: TileId, scratch: &mut Scratch)
+        requires plane { HasPlane pool.old self.old }
+        requires whole_side { IsSomeAnd (block_at (tiles_of pool.old self.old) left) (λ a.
+            IsSomeAnd (block_at (tiles_of pool.old self.old) right) (λ b. JoinInX a b)) }
+        requires tiles_fit { count_of pool.old self.old ≤ scratch.old.room }
+        ensures joined { IfSome (block_at (tiles_of pool.old self.old) left)
+            (λ a. IfSome (block_at (tiles_of pool.old self.old) right) (λ b.
+            Joins (tiles_of pool.old self.old) (tiles_of pool.new self.old) left right (joined_x a b))) }
+        ensures plane { self.new ≡ self.old }
+        ensures home { HasPlane pool.new self.old }
+        ensures only { ChangesOnly pool.old pool.new self.old }
+        ensures scratch_room { scratch.new.room ≡ scratch.old.room }
+    {
+        self.join(pool, left, right, Axis::X, scratch);
+    }
+
+    /// Joins a tile and the one above it, which share a whole side and have one kind. The lower one keeps its name
+    /// for both (Ousterhout 1984).
+    pub fn join_y(&mut self, pool: &mut Pool, lower: TileId, upper: TileId, scratch: &mut Scratch)
+        requires plane { HasPlane pool.old self.old }
+        requires whole_side { IsSomeAnd (block_at (tiles_of pool.old self.old) lower) (λ a.
+            IsSomeAnd (block_at (tiles_of pool.old self.old) upper) (λ b. JoinInY a b)) }
+        requires tiles_fit { count_of pool.old self.old ≤ scratch.old.room }
+        ensures joined { IfSome (block_at (tiles_of pool.old self.old) lower)
+            (λ a. IfSome (block_at (tiles_of pool.old self.old) upper) (λ b.
+            Joins (tiles_of pool.old self.old) (tiles_of pool.new self.old) lower upper (joined_y a b))) }
+        ensures plane { self.new ≡ self.old }
+        ensures home { HasPlane pool.new self.old }
+        ensures only { ChangesOnly pool.old pool.new self.old }
+        ensures scratch_room { scratch.new.room ≡ scratch.old.room }
+    {
+        self.join(pool, lower, upper, Axis::Y, scratch);
     }
 }

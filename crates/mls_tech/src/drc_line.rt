@@ -10,6 +10,7 @@ use crate::drc_words::drc_words;
 use crate::list_reader::{ListReader, openings};
 use crate::number::number_in;
 use crate::{Adjacency, Edge, Rule, Tech, TechFaultKind};
+use mls_kinds::PlaneNumber;
 use std::alloc::Global;
 
 /// The largest distance that a rule may have, in squares.
@@ -206,7 +207,7 @@ fn adjacency_of(word: &[u8]) -> Option<Adjacency>
 }
 
 /// Returns the plane at the end of an edge line, if one is named.
-fn last_plane(tech: &Tech, words: &[&[u8]]) -> Result<Option<u8>, TechFaultKind>
+fn last_plane(tech: &Tech, words: &[&[u8]]) -> Result<Option<PlaneNumber>, TechFaultKind>
     ensures { result ≡ spec.last_plane (scope_of tech.now) (word_bytes words.now) }
 {
     match words {

@@ -1,13 +1,13 @@
 //! A type list, read from the left.
-ghost use Rattle.std.specs.Prelude.{◌≡◌, ◌<◌};
-ghost use Rattle.std.specs.Option.{ForSome};
+ghost use Rattle.std.specs.Prelude.{◌≡◌, ◌<◌, ℕ, Option};
+ghost use Rattle.std.specs.Option.{ForSome, is_some};
 ghost use Rattle.mls_tech.specs.Inner.ListReaders as spec;
 ghost use Rattle.mls_tech.specs.Readings.{scope_of};
 
 use crate::name::is_name;
 use crate::token::{Token, Tokens};
 use crate::{Tech, TechFaultKind};
-use mls_kinds::KindSet;
+use mls_kinds::{Kind, KindSet, PlaneNumber};
 use std::alloc::{AllocError, Global};
 use std::marker::Model;
 
@@ -211,7 +211,7 @@ impl ListReader {
             self.end_term(tech, tildes, KindSet::empty());
         } else if is_name(word) {
             let kind = tech.type_of(word);
-            self.note(kind, TechFaultKind::UnknownType);
+            self.note(kind.is_some(), TechFaultKind::UnknownType);
             self.end_term(tech, tildes, named_set(kind));
         } else {
             return Err(TechFaultKind::BadList);
@@ -252,7 +252,7 @@ impl ListReader {
             return Err(TechFaultKind::BadList);
         }
         let plane = tech.plane_named(word);
-        self.note(plane, TechFaultKind::UnknownPlane);
+        self.note(plane.is_some(), TechFaultKind::UnknownPlane);
         self.end_item(plane_set(tech, set, plane));
         Ok(())
     }
@@ -300,17 +300,18 @@ impl ListReader {
     }
 
     /// Notes the fault of an unknown name, if it is the list's first.
-    fn note(&mut self, known: Option<u8>, fault: TechFaultKind)
-        ensures { self.new ≡ spec.noting self.old known fault }
+    fn note(&mut self, is_known: bool, fault: TechFaultKind)
+        ensures { (known : Option ℕ) → is_known ≡ is_some known
+            → self.new ≡ spec.noting self.old known fault }
     {
-        if known.is_none() && self.unknown.is_none() {
+        if !is_known && self.unknown.is_none() {
             self.unknown = Some(fault);
         }
     }
 }
 
 /// Returns the set of the one type, or the empty set for an unknown one.
-fn named_set(kind: Option<u8>) -> KindSet
+fn named_set(kind: Option<Kind>) -> KindSet
     requires { ForSome kind (λ known. known < 64) }
     ensures { result ≡ spec.named_set kind }
 {
@@ -318,7 +319,7 @@ fn named_set(kind: Option<u8>) -> KindSet
 }
 
 /// Returns the types of the set that lie on the plane, or all of them for an unknown plane.
-fn plane_set(tech: &Tech, set: KindSet, plane: Option<u8>) -> KindSet
+fn plane_set(tech: &Tech, set: KindSet, plane: Option<PlaneNumber>) -> KindSet
     ensures { result ≡ spec.plane_set (scope_of tech.now) set plane }
 {
     match plane {

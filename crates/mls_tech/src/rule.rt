@@ -1,5 +1,5 @@
 //! The rule lines of a technology file, as they are written.
-use mls_kinds::KindSet;
+use mls_kinds::{KindSet, PlaneNumber};
 
 /// Whether types may touch that are spaced apart otherwise.
 #[derive(Clone, Copy, Debug, PartialEq, Eq)]
@@ -18,7 +18,7 @@ pub struct Edge {
     pub corner_types: KindSet,
     pub corner_distance: u8,
     /// The plane that is checked, if the line names one.
-    pub plane: Option<u8>,
+    pub plane: Option<PlaneNumber>,
 }
 
 /// A rule line. Distances are in squares.

@@ -10,6 +10,7 @@ mod type_sets;
 
 use crate::name_table::NameTable;
 use crate::{RuleLine, Skipped};
+use mls_kinds::{Kind, PlaneNumber};
 use mls_text::Word;
 use std::alloc::{AllocError, Global};
 use std::marker::Model;
@@ -22,7 +23,7 @@ pub struct Tech {
     plane_count: u8,
     types: NameTable,
     /// The planes of the types from type 1 on.
-    type_planes: Vec<u8>,
+    type_planes: Vec<PlaneNumber>,
     rules: Vec<RuleLine>,
     skipped: Vec<Skipped>,
 }
@@ -73,41 +74,42 @@ impl Tech {
     }
 
     /// Returns the type with this name. Type 0 is `space`.
-    pub fn type_of(&self, name: &[u8]) -> Option<u8>
+    pub fn type_of(&self, name: &[u8]) -> Option<Kind>
         ensures value { result ≡ spec.number_named self.now.types name.now }
         ensures known { IfSome result (λ kind. kind ≤ length self.now.type_planes) }
         ensures small { IfSome result (λ kind. kind < 64) }
     {
-        self.types.number_of(name)
+        let number = self.types.number_of(name)?;
+        Some(Kind::new(number))
     }
 
     /// Returns the plane with this name.
-    pub(crate) fn plane_named(&self, name: &[u8]) -> Option<u8>
+    pub(crate) fn plane_named(&self, name: &[u8]) -> Option<PlaneNumber>
         ensures { result ≡ spec.number_named self.now.planes name.now }
     {
-        self.planes.number_of(name)
+        self.planes.number_of(name).map(PlaneNumber::new)
     }
 
     /// Returns the first name of a type.
-    pub fn type_name(&self, kind: u8) -> Option<&[u8]>
+    pub fn type_name(&self, kind: Kind) -> Option<&[u8]>
         ensures { option_copied result ≡ spec.name_of self.now.types kind }
     {
-        self.types.name_of(kind)
+        self.types.name_of(kind.number())
     }
 
     /// Returns the shortest name of a type, the first of that length.
-    pub fn short_type_name(&self, kind: u8) -> Option<&[u8]>
+    pub fn short_type_name(&self, kind: Kind) -> Option<&[u8]>
         ensures { option_copied result ≡ spec.short_name_of self.now.types kind }
     {
-        self.types.short_name_of(kind)
+        self.types.short_name_of(kind.number())
     }
 
     /// Returns the plane of a type; `space` has none of its own.
-    pub fn plane_of(&self, kind: u8) -> Option<u8>
+    pub fn plane_of(&self, kind: Kind) -> Option<PlaneNumber>
         ensures value { result ≡ spec.plane_of_type self.now.type_planes kind }
         ensures known { IfSome result (λ plane. plane < self.now.plane_count) }
     {
-        let index = usize::from(kind).checked_sub(1)?;
+        let index = usize::from(kind.number()).checked_sub(1)?;
         self.type_planes.get(index).copied()
     }
 

@@ -1,5 +1,6 @@
 //! Tiles.
 use mls_geom::Point;
+use mls_kinds::Kind;
 use std::marker::Model;
 
 /// The name of a tile in its pool, as long as the tile lies there.
@@ -35,7 +36,7 @@ pub struct Tile {
     /// The lower-left square of the tile.
     pub corner: Point,
     /// What the squares of the tile are of.
-    pub kind: u8,
+    pub kind: Kind,
     /// The tile below the lower-left square.
     pub lb: Option<TileId>,
     /// The tile to the left of the lower-left square.

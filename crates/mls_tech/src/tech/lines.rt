@@ -117,8 +117,7 @@ impl Tech {
             return Err(TechFaultKind::BadForm);
         };
         let plane = self
-            .planes
-            .number_of(without_dash(plane))
+            .plane_named(without_dash(plane))
             .ok_or(TechFaultKind::UnknownPlane)?;
         let kind = self.kinds();
         // At a fault both stay empty, so that no type is without a name.

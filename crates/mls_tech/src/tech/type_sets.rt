@@ -4,7 +4,7 @@ ghost use Rattle.mls_tech.specs.Readings.{lies_on_plane};
 ghost use Rattle.mls_kinds.specs.KindSets.{set_of};
 
 use super::Tech;
-use mls_kinds::KindSet;
+use mls_kinds::{Kind, KindSet, PlaneNumber};
 
 impl Tech {
     /// Returns all types, `space` among them.
@@ -12,18 +12,19 @@ impl Tech {
         ensures { result ≡ set_of (λ kind. nat_le kind (length self.now.type_planes)) }
     {
         let mut set = KindSet::empty();
-        for kind in 0..self.kinds() {
-            set = set.union(KindSet::single(kind));
+        for number in 0..self.kinds() {
+            set = set.union(KindSet::single(Kind::new(number)));
         }
         set
     }
 
     /// Returns the types that lie on a plane, `space` among them.
-    pub fn plane_types(&self, plane: u8) -> KindSet
+    pub fn plane_types(&self, plane: PlaneNumber) -> KindSet
         ensures { result ≡ set_of (lies_on_plane self.now.type_planes plane) }
     {
         let mut set = KindSet::empty();
-        for kind in 0..self.kinds() {
+        for number in 0..self.kinds() {
+            let kind = Kind::new(number);
             if self.lies_on(plane, kind) {
                 set = set.union(KindSet::single(kind));
             }
@@ -40,9 +41,9 @@ impl Tech {
     }
 
     /// Returns whether the type lies on the plane; `space` lies on each.
-    fn lies_on(&self, plane: u8, kind: u8) -> bool
+    fn lies_on(&self, plane: PlaneNumber, kind: Kind) -> bool
         ensures { result ≡ lies_on_plane self.now.type_planes plane kind }
     {
-        kind == 0 || self.plane_of(kind).is_some_and(|on| on == plane)
+        kind == Kind::SPACE || self.plane_of(kind).is_some_and(|on| on == plane)
     }
 }

@@ -3,5 +3,5 @@ use Rattle.mls_edgerule.specs.PlaneTypes.{has_edges, only_one, trigger_plane}
 use Rattle.mls_edgerule.proofs.OnlyOne.{found, passing}
 use Rattle.mls_edgerule.proofs.plane_types.trigger_plane.Given as goal
 
-abbrev pub invariant-loop-plane : goal.invariant-loop-plane
-invariant-loop-plane l = only_one (found l.found (passing (has_edges l.tech l.set l.other) l.plane l.plane-end)) ≡ trigger_plane l.tech l.set l.other
+abbrev pub invariant-loop-number : goal.invariant-loop-number
+invariant-loop-number l = only_one (found l.found (passing (has_edges l.tech l.set l.other) l.number l.number-end)) ≡ trigger_plane l.tech l.set l.other

@@ -12,7 +12,7 @@ pub returns-clause-painted : goal.returns-clause-painted
 returns-clause-painted c = λ set paints.
     let shared = c.common-common.ensures ∙ ap (λ (e : Rect). common c.args.area e) c.area.ensures.value in
     Paints-common c.args.pieces.now.items c.push_reserved.new.self.items c.args.part c.args.area c.between-rect.result set c.requires.legal (sym (ap has_squares shared) ∙ sym c.if-not-has_squares.ensures)
-    (c.between-rect.ensures ∙ c.common.view_is ∙ shared) c.push_reserved.ensures.items paints
+    (c.between-rect.ensures ∙ c.common.view_is ∙ shared) (rw c.new.ensures at c.push_reserved.ensures.items) paints
 
 pub returns-clause-few : goal.returns-clause-few
 returns-clause-few c = omega (arith, length-pushed c.args.pieces.now.items c.push_reserved.new.self.items _ c.push_reserved.ensures.items)

@@ -11,15 +11,15 @@ loop-first-preserved-in-Some c =
     let free = c.args.free.now in
     let slots = c.end_of_kind-end.ensures in
     let so_far = c.loop-first.invariant in
-    let shows = shown-painted kinds free c.loop-first.first c.in-Some.kind (sym c.kind_of.ensures ∙ c.in-Some.is) in
-    let byte : c.in-Some.kind < uncovered = omega arith in
+    let shows = shown-painted kinds free c.loop-first.first c.in-Some.kind (sym c.kind_of.ensures.kind ∙ c.in-Some.is) in
+    let byte : c.in-Some.kind < uncovered = rw c.in-Some.is at c.kind_of.ensures.fits in
     record {
       within = slots.within;
       starts = λ _. slots.changes;
       runs = λ extent picture y cuts slot_kinds.
           (let starts = λ (some : 0 < c.loop-first.first). so_far.starts some c.loop-first-test.true in
-          let next = IsRun-from_slots extent picture y c.args.lines.now kinds free cuts slot_kinds (λ slot. omega (arith, c.type_inv.kinds slot)) c.loop-first.first _ slots.wide slots.within slots.alike starts slots.changes in
-          rw c.push_reserved.ensures.items (AreRunsBefore-push extent picture y _ _ (so_far.runs extent picture y cuts slot_kinds) (rw shows at next) (λ none. omega arith)));
+          let next = IsRun-from_slots extent picture y c.args.lines.now kinds free cuts slot_kinds c.loop-first.first _ slots.wide slots.within slots.alike starts slots.changes in
+          rw c.push_reserved.ensures.items (AreRunsBefore-push extent picture y _ _ (so_far.runs extent picture y cuts slot_kinds) (rw shows at next) (λ none. omega (arith, byte))));
       fits = omega arith;
       room = cc;
     }
@@ -30,13 +30,13 @@ loop-first-preserved c =
     let free = c.args.free.now in
     let slots = c.end_of_kind-end.ensures in
     let so_far = c.loop-first.invariant in
-    let shows = shown-free kinds free c.loop-first.first (sym c.kind_of.ensures ∙ c.in_default.is) in
+    let shows = shown-free kinds free c.loop-first.first (sym c.kind_of.ensures.kind ∙ c.in_default.is) in
     record {
       within = slots.within;
       starts = λ _. slots.changes;
       runs = λ extent picture y cuts slot_kinds.
           (let starts = λ (some : 0 < c.loop-first.first). so_far.starts some c.loop-first-test.true in
-          let next = IsRun-from_slots extent picture y c.args.lines.now kinds free cuts slot_kinds (λ slot. omega (arith, c.type_inv.kinds slot)) c.loop-first.first _ slots.wide slots.within slots.alike starts slots.changes in
+          let next = IsRun-from_slots extent picture y c.args.lines.now kinds free cuts slot_kinds c.loop-first.first _ slots.wide slots.within slots.alike starts slots.changes in
           AreRunsBefore-uncovered extent picture y _ _ _ (so_far.runs extent picture y cuts slot_kinds) (omega (arith, next.wide)) (λ x from before. next.one_kind x from before ∙ shows));
       fits = omega arith;
       room = cc;

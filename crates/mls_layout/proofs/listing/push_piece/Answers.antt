@@ -1,4 +1,4 @@
-use Rattle.std.proofs.Common.{◌≢◌, ap, sym, subst, ◌∙◌, rules}
+use Rattle.std.proofs.Common.{◌≢◌, ap, sym, subst, ◌∙◌, arith, rules}
 use Rattle.std.specs.Int.{w32}
 use Rattle.std.specs.Prelude.{FitsSigned}
 use Rattle.std.proofs.lemmas.Int.{to_z-of_z}
@@ -14,7 +14,7 @@ returns-clause-laid c = λ done x y inside.
     let up : FitsSigned w32 dy = search rules in
     let part = simp to_z-of_z at c.in-Some.ensures in
     ap (λ pieces. laid pieces x y) c.push_reserved.ensures.items
-    ∙ laid-dumped c.args.pieces.now.items c.args.piece.now c.in-Some.part dx dy x y c.if-piece-eq0.false (part.1 x y inside)
+    ∙ laid-dumped c.args.pieces.now.items c.args.piece.now c.in-Some.part dx dy x y (omega (arith, c.number.ensures.value, c.if-number-eq0.false)) (part.1 x y inside)
 
 pub returns-clause-covered : goal.returns-clause-covered
 returns-clause-covered c = λ x y some.

@@ -3,10 +3,10 @@ use Rattle.mls_library.specs.Inner.{AreLayoutStrips}
 use Rattle.mls_library.proofs.plane_strips.find_plane_strips.Given as goal
 
 -- the planes so far have their strips
-abbrev pub invariant-loop-plane : goal.invariant-loop-plane
-invariant-loop-plane l = record {
+abbrev pub invariant-loop-number : goal.invariant-loop-number
+invariant-loop-number l = record {
   strips : AreLayoutStrips l.limit l.rects (map (λ list. list.items) l.found.items);
-  count : length l.found.items ≡ l.plane;
+  count : length l.found.items ≡ l.number;
   reserved : l.planes ≤ vec_capacity l.found;
   pieces_fit : length l.rects ≤ l.sweep.room;
   strips_fit : l.limit ≤ l.sweep.room;

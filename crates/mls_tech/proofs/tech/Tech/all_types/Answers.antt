@@ -3,16 +3,16 @@ use Rattle.std.proofs.lemmas.Bool.{le-leb}
 use Rattle.mls_tech.proofs.TypeTests.{set_of-below_none, set_of-below_more, set_of-below_all, not_a_type}
 use Rattle.mls_tech.proofs.tech.Tech.all_types.Goals as goal
 
-pub loop-kind-init : goal.loop-kind-init
-loop-kind-init c = c.empty-set.ensures ∙ set_of-below_none (λ kind. nat_le kind (length c.args.self.now.type_planes))
+pub loop-number-init : goal.loop-number-init
+loop-number-init c = c.empty-set.ensures ∙ set_of-below_none (λ kind. nat_le kind (length c.args.self.now.type_planes))
 
-pub loop-kind-preserved : goal.loop-kind-preserved
-loop-kind-preserved c =
+pub loop-number-preserved : goal.loop-number-preserved
+loop-number-preserved c =
     let is_type : ℕ → Bool = λ kind. nat_le kind (length c.args.self.now.type_planes) in
-    let more = set_of-below_more is_type c.loop-kind.kind (le-leb _ _ (omega (arith, c.kinds-kind-end.ensures.value))) in
-    cc
+    let more = set_of-below_more is_type c.loop-number.number (le-leb _ _ (omega (arith, c.kinds-number-end.ensures.value))) in
+    rw (c.union-set.ensures, c.loop-number.invariant, c.single.ensures, c.new.ensures) more
 
 pub returns : goal.returns
 returns c =
-    c.loop-kind.invariant
-    ∙ set_of-below_all (λ kind. nat_le kind (length c.args.self.now.type_planes)) c.loop-kind.kind (λ kind past. not_a_type _ kind (omega (arith, c.kinds-kind-end.ensures.value)))
+    c.loop-number.invariant
+    ∙ set_of-below_all (λ kind. nat_le kind (length c.args.self.now.type_planes)) c.loop-number.number (λ kind past. not_a_type _ kind (omega (arith, c.kinds-number-end.ensures.value)))
