@@ -3,7 +3,7 @@ use Rattle.std.proofs.Common.{◌≡◌, ◌≢◌, ℕ, ◌<◌, ◌≤◌, Lis
 use Rattle.std.proofs.lemmas.List.{get_or_default}
 use Rattle.std.proofs.lemmas.List.Elements.{Contains-append_right}
 use Rattle.mls_geom.specs.Pictures.{Picture}
-use Rattle.mls_layout.specs.Uses.{HasLayout, HasPlanes, cell_layouts, flat_layout, flat_plane, flattened, over, uses_layout}
+use Rattle.mls_layout.specs.Uses.{HasFlatPlane, HasLayout, HasPlanes, cell_layouts, flat_layout, flat_plane, flattened, over, uses_layout}
 use Rattle.mls_layout.specs.declared.uses.CellUse.{CellUse}
 use Rattle.mls_layout.specs.declared.uses.Uses.{Uses}
 use Rattle.mls_layout.specs.Workspaces.{FitsWorkspace}
@@ -44,10 +44,9 @@ module _ (pool mid : Pool) (uses : Uses) (owners lent : List ℕ) (i owner : ℕ
   lent_has Has all =
       subst (λ (now : Pool). Has now (get_or lent i owner)) (sym same) (subst (λ (list : List ℕ). Has pool (get_or list i owner)) (sym back) (all i owner within))
 
-  pub lent_plane :
-      All (HasPlane pool) owners → All (FitsWorkspace pool) owners → AreCellsHome pool uses.library.now
-      → HasPlane mid (get_or lent i owner) × FitsWorkspace mid (get_or lent i owner) × AreCellsHome mid uses.library.now
-  lent_plane planes fit cells = (lent_has HasPlane planes, lent_has FitsWorkspace fit, subst (λ (now : Pool). AreCellsHome now uses.library.now) (sym same) cells)
+  pub HasFlatPlane-lent : All (HasPlane pool) owners → All (FitsWorkspace pool) owners → AreCellsHome pool uses.library.now → HasFlatPlane mid (get_or lent i owner) uses.library.now
+  HasFlatPlane-lent planes fit cells =
+      record { plane = lent_has HasPlane planes; fits = lent_has FitsWorkspace fit; cells = subst (λ (now : Pool). AreCellsHome now uses.library.now) (sym same) cells }
 
   -- and shows with the uses what the layout does
   pub flat_plane-lent : flat_plane mid uses i (get_or lent i owner) ≡ flat_layout pool uses owners i

@@ -47,6 +47,7 @@ pub mod Results
 pub mod RightMarks
 pub mod SavedCounts
 pub mod SavedPlanes
+pub mod SavedSections
 pub mod SessionLooks
 pub mod StepRuns
 pub mod TilePieces

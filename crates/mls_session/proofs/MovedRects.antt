@@ -1,12 +1,12 @@
 -- Moved rectangles, and their squares.
 use Rattle.std.proofs.Common.{◌≡◌, Bool, true, false, ℕ, ℤ, to_z, of_z, pos, negsuc, ◌-◌, ◌<◌, ◌≤◌, ◌+ℤ◌, ◌-ℤ◌, ◌≤ℤ◌, ◌<ℤ◌, ◌&&◌, ◌||◌, if◌then◌else◌, nat_le, nat_lt, Option, Some, None, Result, Ok, Err, inl, inr, ◌⊎◌, refl, sym, ap, ◌∙◌, subst, arith}
-use Rattle.std.specs.Int.{w32}
+use Rattle.std.specs.Int.{saturate_signed, w32}
 use Rattle.std.specs.Prelude.{FitsSigned, int_le, int_lt, nat_abs}
 use Rattle.std.specs.Result.{result_ok}
 use Rattle.std.proofs.Math.Bool.{and-false}
-use Rattle.std.proofs.lemmas.Bool.{cases_Bool}
+use Rattle.std.proofs.lemmas.Bool.{cases_Bool, cases_lt}
 use Rattle.std.proofs.lemmas.Bool.Decides.{nat_tests}
-use Rattle.std.proofs.lemmas.Int.{fits_signed_from_abs, ints, to_z-of_z}
+use Rattle.std.proofs.lemmas.Int.{ints, to_z-of_z}
 use Rattle.std.proofs.lemmas.Option.{same_Some}
 use Rattle.mls_geom.specs.Rects.{IsRectangleIn, Rect, holds}
 use Rattle.mls_geom.specs.World.{coordinate_of, is_outside, origin, rect_of, world}
@@ -130,21 +130,33 @@ IsMoved-moved_rect e r dx dy wide tall is =
     subst (λ s. IsMoved e s dx dy) stays.1 moved
 
 -- ---- sums of 32 bits
-fits_near : (z : ℤ) → negsuc 1048575 ≤ℤ z → z ≤ℤ pos 1048576 → FitsSigned w32 z
-fits_near (pos n) low high = fits_signed_from_abs w32 (pos n) (omega (arith, ints, high))
-fits_near (negsuc n) low high = fits_signed_from_abs w32 (negsuc n) (omega (arith, ints, low))
+-- the two are one line, or neither is a line of the world
+abbrev pub AreAlike : ℤ → ℤ → Type 0
+AreAlike a b = (a ≡ b) ⊎ ((is_outside a ≡ true) × (is_outside b ≡ true))
 
-near : (line : ℕ) (w z : ℤ) → pos line ≡ w +ℤ pos origin → is_beyond (pos line +ℤ z) ≡ false → (negsuc 1048575 ≤ℤ (w +ℤ z)) × ((w +ℤ z) ≤ℤ pos 1048576)
-near line w z counted stays =
-    let inside = within (pos line +ℤ z) stays in
-    (omega (arith, ints, inside.0, inside.1, counted), omega (arith, ints, inside.0, inside.2, counted))
+outside_above : (z : ℤ) → pos 1048576 <ℤ z → is_outside z ≡ true
+unfolding is_outside
+outside_above z high = grind (arith, ints)
 
--- a line that doesn't fit, as users count it, is none of the world
-is_beyond-unfit : (line : ℕ) (w z : ℤ) → pos line ≡ w +ℤ pos origin → ¬ (FitsSigned w32 (w +ℤ z)) → is_beyond (pos line +ℤ z) ≡ true
-is_beyond-unfit line w z counted unfit = elim (cases_Bool (is_beyond (pos line +ℤ z))) [
-  | inl beyond ↦ beyond
-  | inr stays ↦ let lines = near line w z counted stays in absurd (unfit (fits_near (w +ℤ z) lines.0 lines.1))
+outside_below : (z : ℤ) → z <ℤ negsuc 1048575 → is_outside z ≡ true
+unfolding is_outside
+outside_below z low = grind (arith, ints)
+
+-- a sum that doesn't fit is none of the world, nor is what stands for it
+alike-saturated : (z sum : ℤ) → sum ≡ saturate_signed w32 z → AreAlike sum z
+alike-saturated (pos n) sum is = elim (cases_lt n 2147483648) [
+  | inl fits ↦ inl (omega (arith, ints, is, fits))
+  | inr high ↦ inr (outside_above sum (omega (arith, ints, is, high)), outside_above (pos n) (omega (arith, ints, high)))
 ]
+alike-saturated (negsuc n) sum is = elim (cases_lt n 2147483648) [
+  | inl fits ↦ inl (omega (arith, ints, is, fits))
+  | inr low ↦ inr (outside_below sum (omega (arith, ints, is, low)), outside_below (negsuc n) (omega (arith, ints, low)))
+]
+
+pub alike-moved : (line : ℕ) (w z sum : ℤ) → pos line ≡ w +ℤ pos origin → sum ≡ saturate_signed w32 (w +ℤ z) → AreAlike sum (moved_line line z)
+alike-moved line w z sum counted is =
+    let same : w +ℤ z ≡ moved_line line z = omega (arith, ints, counted) in
+    subst (AreAlike sum) same (alike-saturated (w +ℤ z) sum is)
 
 any_of : (a b c d : Bool) → (a ≡ true) ⊎ ((b ≡ true) ⊎ ((c ≡ true) ⊎ (d ≡ true))) → (a || b || c || d) ≡ true
 any_of true b c d h = refl
@@ -156,42 +168,38 @@ any_of false false false false (inr (inl h)) = absurd (cc h)
 any_of false false false false (inr (inr (inl h))) = absurd (cc h)
 any_of false false false false (inr (inr (inr h))) = absurd (cc h)
 
-module _ (e : Rect) (dx dy : ℤ) (legal : IsRectangleIn world e) where
-  lost_by :
-      (is_beyond (pos e.left +ℤ dx) ≡ true) ⊎ ((is_beyond (pos e.bottom +ℤ dy) ≡ true) ⊎ ((is_beyond (pos e.right +ℤ dx) ≡ true) ⊎ (is_beyond (pos e.top +ℤ dy) ≡ true)))
-      → moved_rect e dx dy ≡ None
-  lost_by one =
-      let beyond = any_of (is_beyond (pos e.left +ℤ dx)) (is_beyond (pos e.bottom +ℤ dy)) (is_beyond (pos e.right +ℤ dx)) (is_beyond (pos e.top +ℤ dy)) one in
-      moved_rect-is e dx dy legal.wide legal.tall ∙ ap (λ b. if b then None else Some (lines_moved e dx dy)) beyond
+no_rect : (a b : Bool) (s : Rect) → b ≡ true → or_none (if a then Err Empty else (if b then Err Outside else Ok s)) ≡ None
+no_rect true b s h = refl
+no_rect false true s h = refl
+no_rect false false s h = absurd (cc h)
 
-  pub moved_rect-left : (w : ℤ) → pos e.left ≡ w +ℤ pos origin → ¬ (FitsSigned w32 (w +ℤ dx)) → moved_rect e dx dy ≡ None
-  moved_rect-left w counted unfit = lost_by (inl (is_beyond-unfit e.left w dx counted unfit))
+-- no rectangle has a line outside the world
+none-outside :
+    (l b r t : ℤ) → (is_outside l ≡ true) ⊎ ((is_outside b ≡ true) ⊎ ((is_outside r ≡ true) ⊎ (is_outside t ≡ true))) → or_none (rect_of l b r t) ≡ None
+unfolding rect_of
+none-outside l b r t one =
+    let out = any_of (is_outside l) (is_outside b) (is_outside r) (is_outside t) one in
+    no_rect (int_le r l || int_le t b) (is_outside l || is_outside b || is_outside r || is_outside t) _ out
 
-  pub moved_rect-bottom : (w : ℤ) → pos e.bottom ≡ w +ℤ pos origin → ¬ (FitsSigned w32 (w +ℤ dy)) → moved_rect e dx dy ≡ None
-  moved_rect-bottom w counted unfit = lost_by (inr (inl (is_beyond-unfit e.bottom w dy counted unfit)))
-
-  pub moved_rect-right : (w : ℤ) → pos e.right ≡ w +ℤ pos origin → ¬ (FitsSigned w32 (w +ℤ dx)) → moved_rect e dx dy ≡ None
-  moved_rect-right w counted unfit = lost_by (inr (inr (inl (is_beyond-unfit e.right w dx counted unfit))))
-
-  pub moved_rect-top : (w : ℤ) → pos e.top ≡ w +ℤ pos origin → ¬ (FitsSigned w32 (w +ℤ dy)) → moved_rect e dx dy ≡ None
-  moved_rect-top w counted unfit = lost_by (inr (inr (inr (is_beyond-unfit e.top w dy counted unfit))))
-
--- lines that fit make the rectangle
-moved_line-is : (line : ℕ) (w z sum : ℤ) → pos line ≡ w +ℤ pos origin → sum ≡ w +ℤ z → moved_line line z ≡ sum
-moved_line-is line w z sum counted is = omega (arith, ints, counted, is)
+same-alike :
+    (l b r t l' b' r' t' : ℤ) → AreAlike l l' → AreAlike b b' → AreAlike r r' → AreAlike t t' → or_none (rect_of l b r t) ≡ or_none (rect_of l' b' r' t')
+same-alike l b r t l' b' r' t' (inr out) bottom right top = none-outside l b r t (inl out.0) ∙ sym (none-outside l' b' r' t' (inl out.1))
+same-alike l b r t l' b' r' t' left (inr out) right top = none-outside l b r t (inr (inl out.0)) ∙ sym (none-outside l' b' r' t' (inr (inl out.1)))
+same-alike l b r t l' b' r' t' left bottom (inr out) top = none-outside l b r t (inr (inr (inl out.0))) ∙ sym (none-outside l' b' r' t' (inr (inr (inl out.1))))
+same-alike l b r t l' b' r' t' left bottom right (inr out) = none-outside l b r t (inr (inr (inr out.0))) ∙ sym (none-outside l' b' r' t' (inr (inr (inr out.1))))
+same-alike l b r t l' b' r' t' (inl left) (inl bottom) (inl right) (inl top) = rw (left, bottom, right, top) refl
 
 result_ok-is : (made : Result Rect RectFault) → result_ok made ≡ or_none made
 result_ok-is (Ok e) = refl
 result_ok-is (Err fault) = refl
 
-pub moved_rect-sums :
-    (e : Rect) (dx dy wl wb wr wt l b r t : ℤ) (made : Result Rect RectFault) (after : Option Rect) → pos e.left ≡ wl +ℤ pos origin → pos e.bottom ≡ wb +ℤ pos origin
-    → pos e.right ≡ wr +ℤ pos origin → pos e.top ≡ wt +ℤ pos origin → l ≡ wl +ℤ dx → b ≡ wb +ℤ dy → r ≡ wr +ℤ dx → t ≡ wt +ℤ dy → made ≡ rect_of l b r t
-    → after ≡ result_ok made → after ≡ moved_rect e dx dy
+pub moved_rect-saturated :
+    (e : Rect) (dx dy l b r t : ℤ) (made : Result Rect RectFault) (after : Option Rect) → AreAlike l (moved_line e.left dx) → AreAlike b (moved_line e.bottom dy)
+    → AreAlike r (moved_line e.right dx) → AreAlike t (moved_line e.top dy) → made ≡ rect_of l b r t → after ≡ result_ok made → after ≡ moved_rect e dx dy
 unfolding moved_rect
-moved_rect-sums e dx dy wl wb wr wt l b r t made after left bottom right top sum_l sum_b sum_r sum_t is_made is =
+moved_rect-saturated e dx dy l b r t made after left bottom right top is_made is =
     is ∙ result_ok-is made ∙ ap or_none is_made
-    ∙ rw (moved_line-is e.left wl dx l left sum_l, moved_line-is e.bottom wb dy b bottom sum_b, moved_line-is e.right wr dx r right sum_r, moved_line-is e.top wt dy t top sum_t) refl
+    ∙ same-alike l b r t (moved_line e.left dx) (moved_line e.bottom dy) (moved_line e.right dx) (moved_line e.top dy) left bottom right top
 
 -- ---- its squares
 -- the rectangle has the square at this column and row, which may lie below 0

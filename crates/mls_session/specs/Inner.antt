@@ -8,12 +8,13 @@ use Rattle.mls_geom.specs.TileCounts.{tile_count}
 use Rattle.mls_geom.specs.World.{world}
 use Rattle.mls_geom.specs.declared.piece.Piece.{Piece}
 use Rattle.mls_library.specs.Libraries.{IsFrozen}
-use Rattle.mls_library.specs.SavedCells.{strips_on}
+use Rattle.mls_library.specs.SavedCells.{layer_lines, strips_on}
 use Rattle.mls_paint.specs.Planes.{layout_in, picture_in}
+use Rattle.mls_tech.specs.Readings.{Tech, plane_of_type}
 use Rattle.mls_tilepool.specs.Pools.{Pool, room_of}
 use Rattle.mls_session.specs.Bounds.{moved_rect}
 use Rattle.mls_session.specs.Changes.{dumped, erased, leaves_world}
-use Rattle.mls_session.specs.Designs.{Design, KeepsPlanes, drawn_of}
+use Rattle.mls_session.specs.Designs.{Design, IsHome, KeepsPlanes, drawn_of}
 use Rattle.mls_errorplane.specs.DirtyLists.{IsDirtyList, area_of}
 use Rattle.mls_errorplane.specs.declared.catching_up.CaughtUp.{CaughtUp}
 use Rattle.mls_errorplane.specs.declared.catching_up.CaughtUp.TheVariants.{Done as AllChecked, Full as MarksFull, Memory as OutOfMemory}
@@ -83,6 +84,18 @@ FitsQuota planes quota layout = (plane : ℕ) → plane < planes → tile_count 
 -- these are the strips of a plane of the layout, by bottom and then left
 abbrev pub ListsPlane : Layout → List Piece → ℕ → Type 0
 ListsPlane layout strips plane = strips ≡ strips_on layout plane
+
+-- the design's planes lie in the pool, and the pieces are the strips of the plane that is listed, if one is
+pub record IsListing (pool : Pool) (design : Design) (listed : Option ℕ) (pieces : List Piece) : Type 0 where
+  pub home : IsHome pool design
+  pub lists : IfSome listed (ListsPlane (layout_in pool design.planes) pieces)
+
+-- the type has a plane, whose strips are these, and its section has this number of lines
+pub record IsSection (tech : Tech) (layout : Layout) (kind : ℕ) (strips : List Piece) (lines : ℕ) : Type 0 where
+  pub plane : ℕ
+  pub place : plane_of_type tech.type_planes kind ≡ Some plane
+  pub strips_are : ListsPlane layout strips plane
+  pub count : lines ≡ length (layer_lines tech kind strips)
 
 -- these are the strips of the layout's first planes, a list for each
 abbrev pub ListsPlanes : Layout → List (List Piece) → Type 0

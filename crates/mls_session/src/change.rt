@@ -11,7 +11,7 @@ ghost use Rattle.mls_tilepool.specs.Pools.{room_of};
 
 use crate::moving::moved_rect;
 use mls_geom::{Piece, Rect};
-use mls_kinds::KindSet;
+use mls_kinds::{Kind, KindSet};
 use mls_paint::{Scratch, find_area, strips_of};
 use mls_stitch::Plane;
 use mls_tilepool::Pool;
@@ -93,7 +93,7 @@ fn list_erased(
             let part = tile.piece.rect.clip(rect).unwrap();
             pieces.push_reserved(Piece {
                 rect: part,
-                kind: 0,
+                kind: Kind::SPACE,
             });
         }
     }
@@ -121,7 +121,7 @@ fn list_dumped(
     strips_of(pool, cell, scratch);
     pieces.clear();
     for tile in scratch.tiles() {
-        if tile.piece.kind != 0 {
+        if tile.piece.kind != Kind::SPACE {
             let rect = moved_rect(tile.piece.rect, dx, dy).unwrap();
             pieces.push_reserved(Piece {
                 rect,

@@ -3,7 +3,7 @@ ghost use Rattle.std.specs.Prelude.{◌≡◌};
 ghost use Rattle.mls_session.specs.Designs as spec;
 
 use mls_errorplane::Checked;
-use mls_kinds::KindSet;
+use mls_kinds::{Kind, KindSet};
 use mls_library::CellId;
 
 /// A command of a session.
@@ -17,7 +17,7 @@ pub enum Command {
         top: i32,
     },
     /// Paints the box with a type, or with `None` if no type has the name that the user wrote.
-    Paint(Option<u8>),
+    Paint(Option<Kind>),
     /// Erases these types in the box, on each plane, or `None` if some name that the user wrote is of no type.
     Erase(Option<KindSet>),
     /// Paints the squares of a cell that aren't space, moved to the right by `dx` and up by `dy`, on each plane. The

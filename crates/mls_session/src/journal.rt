@@ -29,7 +29,7 @@ pub struct Entry {
 pub(crate) struct Journal {
     entries: Vec<Entry>,
     limit: JournalLimit,
-    checks: u64,
+    pub(crate) checks: u64,
 }
 
 impl Model for Journal {
@@ -101,13 +101,6 @@ impl Journal {
         ensures { self.new ≡ after_steps self.old steps }
     {
         self.checks += steps;
-    }
-
-    /// Returns how many check steps were done since the last entry.
-    pub fn checks(&self) -> u64
-        ensures { result ≡ self.now.checks }
-    {
-        self.checks
     }
 
     /// Returns the entries.

@@ -18,6 +18,7 @@ ghost use Rattle.mls_stitch.specs.Tilings.{HasPlane};
 ghost use Rattle.mls_tech.specs.Readings.{plane_of_type};
 
 use mls_geom::{Piece, Rect};
+use mls_kinds::Kind;
 use mls_layout::{FlatStrips, Unlisted, Uses, Workspace, flat_strips};
 use mls_library::{
     dirty_line_count, layer_line_count, mark_line_count, push_dirty, push_end, push_header,
@@ -62,13 +63,13 @@ pub(crate) fn list_layers(
 }
 
 /// Returns the strips of a type's plane, where these are those of each plane.
-fn strips_for<'a>(tech: &Tech, layers: &'a [FlatStrips], kind: u8) -> &'a [Piece]
+fn strips_for<'a>(tech: &Tech, layers: &'a [FlatStrips], kind: Kind) -> &'a [Piece]
     requires count { length layers.now ≡ tech.now.plane_count }
     ensures { (layout : Layout) → ListsPlanes layout layers.now
         → result.now ≡ option_map_or (strips_on layout) (plane_of_type tech.now.type_planes kind) [] }
 {
     match tech.plane_of(kind) {
-        Some(plane) => layers[usize::from(plane)].as_slice(),
+        Some(plane) => layers[plane.index()].as_slice(),
         None => &[],
     }
 }
@@ -81,7 +82,8 @@ fn push_layers(tech: &Tech, layers: &[FlatStrips], out: &mut Vec<u8>) -> Result<
     ensures kept { Extends out.old.items out.new.items }
 {
     let types = tech.types() as u8;
-    for kind in 1..types + 1 {
+    for number in 1..types + 1 {
+        let kind = Kind::new(number);
         push_layer(tech, kind, strips_for(tech, layers, kind), out)?;
     }
     Ok(())
@@ -97,7 +99,8 @@ fn count_layers(tech: &Tech, layers: &[FlatStrips]) -> usize
 {
     let types = tech.types() as u8;
     let mut lines = 0;
-    for kind in 1..types + 1 {
+    for number in 1..types + 1 {
+        let kind = Kind::new(number);
         lines += layer_line_count(strips_for(tech, layers, kind), kind);
     }
     lines

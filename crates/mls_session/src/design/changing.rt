@@ -218,5 +218,5 @@ fn has_types(tech: &Tech, kinds: KindSet) -> bool
     ensures { result ≡ are_types tech.now kinds }
 {
     let types = tech.types();
-    kinds.iter().all(|kind| usize::from(kind) <= types)
+    kinds.iter().all(|kind| usize::from(kind.number()) <= types)
 }

@@ -5,7 +5,7 @@ ghost use Rattle.mls_geom.specs.Layouts.{Layout};
 ghost use Rattle.mls_geom.specs.Pictures.{Picture};
 ghost use Rattle.mls_layout.specs.Strips.{IfTooMany};
 ghost use Rattle.mls_library.specs.MarkedCells.{marked_line_count, marked_text};
-ghost use Rattle.mls_library.specs.SavedCells.{HoldsOwnTypes, ReadsAs};
+ghost use Rattle.mls_library.specs.SavedCells.{HoldsOwnTypes, ReadsAs, saved_text};
 ghost use Rattle.mls_session.specs.Own.{exceeds_listed, layout_of};
 ghost use Rattle.mls_session.specs.Setups.{config_of};
 
@@ -66,10 +66,12 @@ impl Design {
         Ok(count_marked(&setup.tech, &layers, &areas, marks))
     }
 
-    /// The text of any layout with the areas of this design and any marks reads as that layout, where each of its
-    /// squares is space or of a type whose plane that is. Does nothing: the contract is the law.
+    /// The text of any layout, also with the areas of this design and any marks, reads as that layout, where each of
+    /// its squares is space or of a type whose plane that is. Does nothing: the contract is the law.
     pub fn reads_back(&self, tech: &Tech)
-        ensures { (layout : Layout) (marks : Picture) → HoldsOwnTypes tech.now layout
+        ensures saved { (layout : Layout) → HoldsOwnTypes tech.now layout
+            → ReadsAs tech.now (saved_text tech.now layout) layout }
+        ensures marked { (layout : Layout) (marks : Picture) → HoldsOwnTypes tech.now layout
             → ReadsAs tech.now (marked_text tech.now layout self.now.errors.dirty marks) layout }
     {
         // For their contracts alone: the names are words, and the areas lie in the world.

@@ -13,7 +13,7 @@ ghost use Rattle.mls_tilepool.specs.Pools.{Pool};
 use super::Design;
 use crate::{Command, Refusal, Reply, Setup};
 use mls_geom::{Piece, Rect, RectFault};
-use mls_kinds::KindSet;
+use mls_kinds::{Kind, KindSet};
 use mls_layout::{Uses, Workspace, kinds};
 use mls_paint::overlay;
 use mls_stitch::Plane;
@@ -45,7 +45,7 @@ impl Design {
 
     /// Paints the box with a type, on the type's plane, unless this would then have more tiles than the quota.
     #[tactic(auto, unfolding(crate::specs::OwnSteps::design_step))]
-    pub fn paint(&mut self, setup: &Setup, kind: Option<u8>, workspace: &mut Workspace) -> Reply
+    pub fn paint(&mut self, setup: &Setup, kind: Option<Kind>, workspace: &mut Workspace) -> Reply
         requires home { IsHome workspace.old.pool self.old }
         requires made_for { IsMadeFor setup.now self.old }
         ensures step { design_step (config_of setup.now workspace.old.pool)
@@ -72,7 +72,7 @@ impl Design {
         pieces.clear();
         pieces.push_reserved(Piece { rect, kind });
         let limit = self.quota.get();
-        let plane = &mut self.planes[usize::from(plane)];
+        let plane = &mut self.planes[plane.index()];
         let Ok(_) = overlay(pool, plane, pieces, limit, scratch) else {
             return Reply::Refused(Refusal::Quota);
         };

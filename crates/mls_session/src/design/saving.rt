@@ -1,12 +1,12 @@
 //! The text of a design's own paint, as a cell file.
-ghost use Rattle.std.specs.Prelude.{◌≡◌, ◌+◌, ◌≤◌, ◌<◌, ◌++◌, IfOk, IfSome, OnOk, OnErr, length, vec_capacity, vec_len};
+ghost use Rattle.std.specs.Prelude.{◌≡◌, ◌+◌, ◌≤◌, ◌<◌, ◌^◌, ◌++◌, IfOk, IfSome, OnOk, OnErr, length, vec_capacity, vec_len};
 ghost use Rattle.mls_library.specs.SavedCells.{Extends, HoldsOwnTypes, ReadsAs, saved_line_count, saved_text};
-ghost use Rattle.mls_tech.specs.Readings.{plane_of_type};
-ghost use Rattle.mls_session.specs.Inner.{ListsPlane};
+ghost use Rattle.mls_session.specs.Inner.{IsListing, IsSection};
 ghost use Rattle.mls_session.specs.Saving.{SavesText};
 
 use super::Design;
 use crate::{Refusal, Reply};
+use mls_kinds::{Kind, PlaneNumber};
 use mls_layout::Workspace;
 use mls_library::{layer_line_count, push_end, push_header, push_layer};
 use mls_tech::Tech;
@@ -33,41 +33,14 @@ impl Design {
             (drawn_of workspace.old.pool self.now).paint }
         ensures pool { workspace.new.pool ≡ workspace.old.pool }
     {
-        match self.save_text(tech, out, workspace) {
-            Ok(lines) => Reply::Saved(lines),
-            Err(_) => Reply::Refused(Refusal::Memory),
-        }
-    }
-
-    /// Appends the text of the own paint, as a cell file, and returns the number of its lines.
-    ///
-    /// Out of memory, appends nothing. Where there is room for the text, no memory is taken.
-    pub fn save_text(
-        &self,
-        tech: &Tech,
-        out: &mut Vec<u8>,
-        workspace: &mut Workspace,
-    ) -> Result<usize, AllocError>
-        requires home { IsHome workspace.old.pool self.now }
-        requires made_for { length self.now.planes ≡ tech.now.plane_count }
-        ensures count { IfOk result (λ lines. lines
-            ≡ saved_line_count tech.now (drawn_of workspace.old.pool self.now).paint) }
-        ensures text { OnOk result (out.new.items ≡ out.old.items ++ saved_text tech.now
-            (drawn_of workspace.old.pool self.now).paint) }
-        ensures room { OnErr result (vec_capacity out.old < vec_len out.old
-            + length (saved_text tech.now (drawn_of workspace.old.pool self.now).paint)) }
-        ensures refused { OnErr result (out.new.items ≡ out.old.items) }
-        ensures reads_back { HoldsOwnTypes tech.now (drawn_of workspace.old.pool self.now).paint
-            → ReadsAs tech.now (saved_text tech.now (drawn_of workspace.old.pool self.now).paint)
-            (drawn_of workspace.old.pool self.now).paint }
-        ensures pool { workspace.new.pool ≡ workspace.old.pool }
-    {
+        // For its contract alone: the text reads as the own paint.
+        self.reads_back(tech);
         let len = out.len();
         match self.push_text(tech, out, workspace) {
-            Ok(lines) => Ok(lines),
-            Err(error) => {
+            Ok(lines) => Reply::Saved(lines),
+            Err(_) => {
                 out.truncate(len);
-                Err(error)
+                Reply::Refused(Refusal::Memory)
             }
         }
     }
@@ -82,15 +55,17 @@ impl Design {
         let types = tech.types() as u8;
         let mut lines = OTHER_LINES;
         let mut listed = None;
-        for kind in 1..types + 1 {
-            self.list_plane(tech, kind, &mut listed, workspace);
-            lines += layer_line_count(&workspace.pieces, kind);
+        for number in 1..types + 1 {
+            let kind = Kind::new(number);
+            lines += self.list_section(tech, kind, &mut listed, workspace);
         }
         lines
     }
 
-    /// Appends the text of the own paint, and returns the number of its lines. Out of memory, leaves its beginning.
-    fn push_text(
+    /// Appends the text of the own paint, as a cell file, and returns the number of its lines.
+    ///
+    /// Out of memory, leaves its beginning. Where there is room for the text, no memory is taken.
+    pub fn push_text(
         &self,
         tech: &Tech,
         out: &mut Vec<u8>,
@@ -105,42 +80,60 @@ impl Design {
         ensures room { OnErr result (vec_capacity out.old < vec_len out.old
             + length (saved_text tech.now (drawn_of workspace.old.pool self.now).paint)) }
         ensures kept { OnErr result (Extends out.old.items out.new.items) }
-        ensures reads_back { HoldsOwnTypes tech.now (drawn_of workspace.old.pool self.now).paint
-            → ReadsAs tech.now (saved_text tech.now (drawn_of workspace.old.pool self.now).paint)
-            (drawn_of workspace.old.pool self.now).paint }
         ensures pool { workspace.new.pool ≡ workspace.old.pool }
     {
         let types = tech.types() as u8;
         push_header(tech, out)?;
         let mut lines = OTHER_LINES;
         let mut listed = None;
-        for kind in 1..types + 1 {
-            self.list_plane(tech, kind, &mut listed, workspace);
-            lines += layer_line_count(&workspace.pieces, kind);
+        for number in 1..types + 1 {
+            let kind = Kind::new(number);
+            lines += self.list_section(tech, kind, &mut listed, workspace);
             push_layer(tech, kind, &workspace.pieces, out)?;
         }
         push_end(out)?;
         Ok(lines)
     }
 
-    /// Lists the strips of a type's plane in the list of pieces, unless they are those that it lists already.
-    fn list_plane(&self, tech: &Tech, kind: u8, listed: &mut Option<u8>, workspace: &mut Workspace)
-        requires home { IsHome workspace.old.pool self.now }
+    /// Lists the strips of a type's plane in the list of pieces, and returns the number of lines of the type's section.
+    fn list_section(
+        &self,
+        tech: &Tech,
+        kind: Kind,
+        listed: &mut Option<PlaneNumber>,
+        workspace: &mut Workspace,
+    ) -> usize
         requires made_for { length self.now.planes ≡ tech.now.plane_count }
         requires is_type { (1 ≤ kind) × (kind ≤ length tech.now.type_planes) }
-        requires listed { IfSome listed.old (ListsPlane
-            (drawn_of workspace.old.pool self.now).paint workspace.old.pieces.items) }
-        ensures lists { IfSome listed.new (ListsPlane
-            (drawn_of workspace.old.pool self.now).paint workspace.new.pieces.items) }
-        ensures plane { listed.new ≡ plane_of_type tech.now.type_planes kind }
+        requires lists { IsListing workspace.old.pool self.now listed.old workspace.old.pieces.items }
+        ensures section { IsSection tech.now (drawn_of workspace.old.pool self.now).paint kind
+            workspace.new.pieces.items result }
+        ensures few { result ≤ 2 ^ 42 + 1 }
+        ensures lists { IsListing workspace.new.pool self.now listed.new workspace.new.pieces.items }
         ensures pool { workspace.new.pool ≡ workspace.old.pool }
     {
-        let plane = tech.plane_of(kind);
+        self.list_plane(tech.plane_of(kind), listed, workspace);
+        layer_line_count(&workspace.pieces, kind)
+    }
+
+    /// Lists the strips of a plane in the list of pieces, unless they are those that it lists already.
+    fn list_plane(
+        &self,
+        plane: Option<PlaneNumber>,
+        listed: &mut Option<PlaneNumber>,
+        workspace: &mut Workspace,
+    )
+        requires is_plane { IfSome plane (λ number. number < length self.now.planes) }
+        requires lists { IsListing workspace.old.pool self.now listed.old workspace.old.pieces.items }
+        ensures plane { listed.new ≡ plane }
+        ensures lists { IsListing workspace.new.pool self.now listed.new workspace.new.pieces.items }
+        ensures pool { workspace.new.pool ≡ workspace.old.pool }
+    {
         if plane == *listed {
             return;
         }
         if let Some(number) = plane {
-            workspace.list_strips(&self.planes[usize::from(number)]);
+            workspace.list_strips(&self.planes[number.index()]);
         }
         *listed = plane;
     }

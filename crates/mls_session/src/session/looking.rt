@@ -69,9 +69,13 @@ impl Session {
             + length (saved_text setup.now.tech (state_of workspace.old.pool self.now).design.drawn.paint) }
         ensures pool { workspace.new.pool ≡ workspace.old.pool }
     {
-        match self.design.save_text(&setup.tech, out, workspace) {
+        let len = out.len();
+        match self.design.push_text(&setup.tech, out, workspace) {
             Ok(lines) => Looked::Saved(lines),
-            Err(_) => Looked::Refused(Refusal::Memory),
+            Err(_) => {
+                out.truncate(len);
+                Looked::Refused(Refusal::Memory)
+            }
         }
     }
 
@@ -125,7 +129,7 @@ impl Session {
         Ok(Status {
             entries: self.journal.entries().len(),
             limit: setup.limit.get() as usize,
-            steps: self.journal.checks(),
+            steps: self.journal.checks,
             areas: errors.areas(),
             tiles,
             quota: setup.quota.get(),
@@ -147,7 +151,7 @@ impl Session {
     fn look_at_journal(&self, alloc: Global, pool: &Pool) -> Looked
         ensures { (terms : Terms) → Looks terms (kept_of pool.now self.now) Look.Journal result [] }
     {
-        match JournalCopy::copy_of(alloc, self.journal.entries(), self.journal.checks()) {
+        match JournalCopy::copy_of(alloc, self.journal.entries(), self.journal.checks) {
             Ok(copy) => Looked::Journal(copy),
             Err(_) => Looked::Refused(Refusal::Memory),
         }

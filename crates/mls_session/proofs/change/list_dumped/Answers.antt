@@ -1,5 +1,6 @@
 -- Each turn makes a piece for a tile that isn't space.
-use Rattle.std.proofs.Common.{to_z, of_z, w32, ap, subst, sym, ◌∙◌, arith}
+use Rattle.std.proofs.Common.{◌≡◌, ◌≢◌, ◌==◌, ℕ, Bool, true, false, not, to_z, of_z, w32, ap, subst, sym, ◌∙◌, arith}
+use Rattle.std.proofs.lemmas.Bool.Decides.{nat_tests}
 use Rattle.std.proofs.lemmas.Int.{to_z-of_z}
 use Rattle.std.proofs.lemmas.List.{take_all}
 use Rattle.mls_geom.specs.World.{world}
@@ -11,7 +12,13 @@ use Rattle.mls_layout.specs.Moves.{moved}
 use Rattle.mls_session.proofs.MovedTiles.{dumps, dumps-space, few-dumped, holds-moved, kind-dumps, legal_there, moved_rect-some, overlaid-dumps}
 use Rattle.mls_session.proofs.TilePieces.{ArePatches, ArePatches-left, ArePatches-made}
 use Rattle.mls_session.proofs.change.list_dumped.Goals as goal
-use Rattle.mls_session.proofs.change.list_dumped.Goals.{then-tile-ne0, else-tile-ne0}
+use Rattle.mls_session.proofs.change.list_dumped.Goals.{then-ne, else-ne}
+
+painted : (kind : ℕ) (differs : Bool) → differs ≡ not (kind == 0) → differs ≡ true → kind ≢ 0
+painted kind differs is holds = grind (arith, nat_tests)
+
+space : (kind : ℕ) (differs : Bool) → differs ≡ not (kind == 0) → differs ≡ false → kind ≡ 0
+space kind differs is fails = grind (arith, nat_tests)
 
 pub unwrap-rect-requires : goal.unwrap-rect-requires
 unwrap-rect-requires c =
@@ -22,7 +29,7 @@ unwrap-rect-requires c =
     let up = c.ranges.dy in
     let moved = simp to_z-of_z at c.moved_rect.ensures in
     rw moved (moved_rect-some tiles items c.requires.cell.strips.plane.plane (KeysDiffer-tiles_of c.args.pool.now c.args.cell.now) found c.args.dx c.args.dy c.tile-item.result
-    (c.loop-tile.tile-index, c.loop-tile-test.true, sym c.tile-item.is) c.if-tile-ne0.true c.requires.stays)
+    (c.loop-tile.tile-index, c.loop-tile-test.true, sym c.tile-item.is) (painted c.tile-item.result.piece.kind c.ne.result c.ne.ensures c.if-ne.true) c.requires.stays)
 
 pub push_reserved-requires : goal.push_reserved-requires
 push_reserved-requires c =
@@ -44,22 +51,22 @@ loop-tile-preserved c =
     let found = subst (AreInArea (block_at tiles) world) (sym c.tiles-tile-items.ensures) c.strips_of.ensures.found in
     let plane = c.requires.cell.strips.plane.plane in
     let differ = KeysDiffer-tiles_of pool owner in
-    elim c.if-tile-ne0.branch [
-      | then-tile-ne0 w ↦
+    elim c.if-ne.branch [
+      | then-ne w ↦
           let made = w.push_reserved.ensures in
           record {
             patches =
-                ArePatches-made (dumps dx dy) over items i tile c.loop-tile.pieces.items c.if-tile-ne0.pieces.items
+                ArePatches-made (dumps dx dy) over items i tile c.loop-tile.pieces.items c.if-ne.pieces.items
                 (record { rect = w.unwrap-rect.result; kind = tile.piece.kind }) c.loop-tile-test.true c.tile-item.is so_far.patches (rw w.pieces-is made.items)
                 (holds-moved dx dy tile w.unwrap-rect.result (legal_there tiles items plane differ found tile (i, c.loop-tile-test.true, sym c.tile-item.is))
-                (sym w.moved_rect.ensures ∙ w.unwrap-rect.ensures) w.if-tile-ne0.true)
+                (sym w.moved_rect.ensures ∙ w.unwrap-rect.ensures) (painted tile.piece.kind c.ne.result c.ne.ensures w.if-ne.true))
                 (λ x y covered. kind-dumps tiles items plane differ found dx dy tile x y (i, c.loop-tile-test.true, sym c.tile-item.is) covered);
             room = rw w.pieces-is (made.capacity ∙ so_far.room);
           }
-      | else-tile-ne0 w ↦ record {
+      | else-ne w ↦ record {
         patches =
-            ArePatches-left (dumps dx dy) over items i tile c.loop-tile.pieces.items c.if-tile-ne0.pieces.items c.loop-tile-test.true c.tile-item.is so_far.patches
-            (ap (λ v. v.items) w.pieces-is) (dumps-space dx dy tile w.if-tile-ne0.false);
+            ArePatches-left (dumps dx dy) over items i tile c.loop-tile.pieces.items c.if-ne.pieces.items c.loop-tile-test.true c.tile-item.is so_far.patches
+            (ap (λ v. v.items) w.pieces-is) (dumps-space dx dy tile (space tile.piece.kind c.ne.result c.ne.ensures w.if-ne.false));
         room = rw w.pieces-is so_far.room;
       }
     ]

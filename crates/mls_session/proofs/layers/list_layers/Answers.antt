@@ -4,15 +4,14 @@ use Rattle.mls_geom.specs.StripLists.{strips_of}
 use Rattle.mls_geom.specs.TileCounts.{tile_count}
 use Rattle.mls_geom.specs.World.{world}
 use Rattle.mls_layout.specs.Uses.{flat_layout, flat_plane}
-use Rattle.mls_session.proofs.FlatDesigns.{flat_plane-lent, lent_plane}
+use Rattle.mls_session.proofs.FlatDesigns.{HasFlatPlane-lent, flat_plane-lent}
 use Rattle.mls_session.proofs.HomePlanes.{planes_kept}
 use Rattle.mls_session.proofs.ListedLayers.{ListsPlanes-push, exceeds_tiles-at, exceeds_tiles-more, too_many-on}
 use Rattle.mls_session.proofs.layers.list_layers.Goals as goal
 
 pub flat_strips-requires : goal.flat_strips-requires
 flat_strips-requires c =
-    let (plane, fits, cells) = lent_plane c.args.workspace.now.pool c.loop-number.workspace.pool c.args.uses.now c.args.planes.now c.loop-number.planes c.loop-number.number c.index-planes-number.result c.loop-number.invariant.pool c.loop-number.invariant.owners (omega (arith, ap length c.loop-number.invariant.owners)) c.requires.planes c.requires.planes_fit c.requires.cells in
-    record { flat = record { plane = plane; fits = fits; cells = cells } }
+    record { flat = HasFlatPlane-lent c.args.workspace.now.pool c.loop-number.workspace.pool c.args.uses.now c.args.planes.now c.loop-number.planes c.loop-number.number c.index-planes-number.result c.loop-number.invariant.pool c.loop-number.invariant.owners (omega (arith, ap length c.loop-number.invariant.owners)) c.requires.planes c.requires.planes_fit c.requires.cells }
 
 pub loop-number-preserved : goal.loop-number-preserved
 loop-number-preserved c =

@@ -8,5 +8,5 @@ pub returns-in-Some : goal.returns-in-Some
 returns-in-Some c layout all =
     let layers = c.args.layers.now in
     c.as_slice.ensures
-    ∙ ListsPlanes-at layout layers c.in-Some.plane c.index-layers-from.result all (omega (arith, c.in-Some.ensures.known, c.requires.count)) (rw c.from.ensures at c.index-layers-from.is)
+    ∙ ListsPlanes-at layout layers c.in-Some.plane c.index-layers-index.result all (omega (arith, c.in-Some.ensures.known, c.requires.count)) (rw c.index.ensures.value at c.index-layers-index.is)
     ∙ ap (λ (found : Option ℕ). option_map_or (strips_on layout) found []) c.in-Some.ensures.value

@@ -25,18 +25,18 @@ use Rattle.mls_session.proofs.design.Design.paint.Goals.{After-deref}
 
 painting :
     (c : After-deref)
-    → IsPainting (config_of c.args.setup.now c.args.workspace.now.pool) c.args.self.now c.args.kind c.in-Some.rect c.in-Some-kind.kind c.from.result c.index_mut-plane.result.now c.deref.result.now
+    → IsPainting (config_of c.args.setup.now c.args.workspace.now.pool) c.args.self.now c.args.kind c.in-Some.rect c.in-Some-kind.kind c.index.result c.index_mut-plane.result.now c.deref.result.now
 painting c =
     let view = c.self.view_is in
-    let plane = c.from.result in
+    let plane = c.index.result in
     let owner = c.index_mut-plane.result.now in
     let piece : Piece = record { rect = c.in-Some.rect; kind = c.in-Some-kind.kind } in
     let one = c.deref.ensures.value ∙ c.push_reserved.ensures.items ∙ ap (λ pieces. pieces ++ piece ∷ []) c.clear.ensures.items in
-    let within : plane < length c.args.self.now.planes = omega (arith, c.in-Some-plane_of.ensures.known, c.from.ensures, c.requires.made_for.planes) in
+    let within : plane < length c.args.self.now.planes = omega (arith, c.in-Some-plane_of.ensures.known, c.index.ensures.value, c.requires.made_for.planes) in
     record {
       is_set = sym (ap (λ (d : Design). d.box) view) ∙ c.in-Some.is;
       is_known = c.in-Some-kind.is;
-      lies_on = sym c.in-Some-plane_of.ensures.value ∙ ap (λ p. Some p) (sym c.from.ensures);
+      lies_on = sym c.in-Some-plane_of.ensures.value ∙ ap (λ p. Some p) (sym c.index.ensures.value);
       one = one;
       same_quota = sym c.requires.made_for.quota;
       within = within;
@@ -50,7 +50,7 @@ returns-in_default-overlay-clause-step c =
     let design = c.args.self.now in
     let config = config_of c.args.setup.now pool in
     let view = c.self.view_is in
-    let plane = c.from.result in
+    let plane = c.index.result in
     let owner = c.index_mut-plane.result.now in
     let done = c.in_default-overlay.ensures in
     let back = planes_kept c.self.inside.planes.items plane owner c.overlay.new.plane c.index_mut-plane.ensures.value done.plane in
@@ -72,7 +72,7 @@ returns-clause-step c =
     let config = config_of c.args.setup.now pool in
     let view = c.self.view_is in
     let rect = c.in-Some.rect in
-    let plane = c.from.result in
+    let plane = c.index.result in
     let owner = c.index_mut-plane.result.now in
     let done = c.in-Ok.ensures in
     let planes = planes_kept c.self.inside.planes.items plane owner c.overlay.new.plane c.index_mut-plane.ensures.value done.plane ∙ ap (λ (d : Design). d.planes) view in
@@ -90,7 +90,7 @@ returns-clause-keeps c =
     let new = c.overlay.new.pool in
     let design = c.args.self.now in
     let view = c.self.view_is in
-    let plane = c.from.result in
+    let plane = c.index.result in
     let owner = c.index_mut-plane.result.now in
     let done = c.in-Ok.ensures in
     let planes = planes_kept c.self.inside.planes.items plane owner c.overlay.new.plane c.index_mut-plane.ensures.value done.plane ∙ ap (λ (d : Design). d.planes) view in

@@ -5,7 +5,7 @@ use Rattle.mls_geom.specs.Pictures.{Picture, kinds_in}
 use Rattle.mls_layout.specs.Uses.{flat_layout}
 use Rattle.mls_session.specs.Own.{types_in}
 use Rattle.mls_session.proofs.BoxTypes.{types_none, types_more}
-use Rattle.mls_session.proofs.FlatDesigns.{flat_plane-lent, lent_plane}
+use Rattle.mls_session.proofs.FlatDesigns.{HasFlatPlane-lent, flat_plane-lent}
 use Rattle.mls_session.proofs.HomePlanes.{planes_kept}
 use Rattle.mls_session.proofs.design.painting.types_in.Goals as goal
 
@@ -18,8 +18,7 @@ loop-number-init c = record {
 
 pub kinds-requires : goal.kinds-requires
 kinds-requires c =
-    let (plane, fits, cells) = lent_plane c.args.workspace.now.pool c.loop-number.workspace.pool c.args.uses.now c.args.planes.now c.loop-number.planes c.loop-number.number c.index-planes-number.result c.loop-number.invariant.pool c.loop-number.invariant.owners (omega (arith, ap length c.loop-number.invariant.owners)) c.requires.planes c.requires.planes_fit c.requires.cells in
-    record { flat = record { plane = plane; fits = fits; cells = cells } }
+    record { flat = HasFlatPlane-lent c.args.workspace.now.pool c.loop-number.workspace.pool c.args.uses.now c.args.planes.now c.loop-number.planes c.loop-number.number c.index-planes-number.result c.loop-number.invariant.pool c.loop-number.invariant.owners (omega (arith, ap length c.loop-number.invariant.owners)) c.requires.planes c.requires.planes_fit c.requires.cells }
 
 pub loop-number-preserved : goal.loop-number-preserved
 loop-number-preserved c =

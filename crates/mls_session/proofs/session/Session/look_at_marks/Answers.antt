@@ -31,4 +31,4 @@ returns-clause-looks c =
 
 pub returns-clause-reads_back : goal.returns-clause-reads_back
 returns-clause-reads_back c =
-    subst (λ (s : Session). MarksReadBack (terms_of c.args.setup.now c.args.workspace.now.pool) (kept_of c.args.workspace.now.pool s)) c.self.view_is (c.reads_back.ensures _ _)
+    subst (λ (s : Session). MarksReadBack (terms_of c.args.setup.now c.args.workspace.now.pool) (kept_of c.args.workspace.now.pool s)) c.self.view_is (c.reads_back.ensures.marked _ _)
