@@ -4,6 +4,7 @@ use Rattle.std.specs.Io.KnownBytes.{Appends}
 use Rattle.mls_server.specs.Settings.{terms_for}
 use Rattle.mls_server.specs.Worlds.{World}
 use Rattle.mls_wire.specs.Ahead.{SaysScript, StopsReading}
+use Rattle.mls_wire.specs.Lines.{script_of}
 use Rattle.mls_wire.specs.NameBooks.{book_of}
 use Rattle.mls_wire.specs.Serving.{AppendsFront}
 use Rattle.mls_wire.specs.Watches.{Watched}
@@ -11,22 +12,22 @@ use Rattle.mls_wire.specs.declared.line.Line.{Line}
 use Rattle.mls_wire.specs.declared.line.LineFault.{LineFault}
 use Rattle.mls_wire.specs.declared.serving.ServeFault.{ServeFault}
 use Rattle.mls_wire.specs.declared.serving.ServeFault.TheVariants.{Read, Write, Memory}
-use Rattle.mls_crew.specs.Books.{Labels, labels_in, labels_of}
-use Rattle.mls_crew.specs.Scripts.{FailsCrew, GivesLines, WritesCrew, WritesFront}
+use Rattle.mls_seat_lines.specs.Glossaries.{book_in, glossary_of}
+use Rattle.mls_crew.specs.Scripts.{FailsCrew, GivesLines, GivesScript, WritesCrew, WritesFront}
 
-module _ (on : World) (labels : Labels) (said : List (Result Line LineFault)) (audited : Bool) (out : List ℕ) (same : labels ≡ labels_in on.setting)
-    (gives : GivesLines (terms_for on.setting) (labels_of labels) said audited out) where
+module _ (on : World) (said : List (Result Line LineFault)) (audited : Bool) (out : List ℕ)
+    (gives : GivesLines (terms_for on.setting) (book_in (glossary_of on.setting)) said audited out) where
+  -- it is what the script gives whose lines say this
+  given : (script : List ℕ) → SaysScript (book_of on) (Some script) said → GivesScript on (script_of script) audited out
+  given script says = subst (λ (s : List (Result Line LineFault)). GivesLines (terms_for on.setting) (book_in (glossary_of on.setting)) s audited out) says gives
+
   pub crew_writes : (script written now : Option (List ℕ)) → SaysScript (book_of on) script said → Appends written now out → WritesCrew on script written now audited
   crew_writes None written now says gained = tt
-  crew_writes (Some script) written now says gained =
-      let there = subst (λ (l : Labels). GivesLines (terms_for on.setting) (labels_of l) said audited out) same gives in
-      (out, subst (λ (s : List (Result Line LineFault)). GivesLines (terms_for on.setting) (labels_of (labels_in on.setting)) s audited out) says there, gained)
+  crew_writes (Some script) written now says gained = (out, given script says, gained)
 
   pub crew_begins : (script written now : Option (List ℕ)) → SaysScript (book_of on) script said → AppendsFront written now out → WritesFront on script written now
   crew_begins None written now says gained = tt
-  crew_begins (Some script) written now says gained =
-      let there = subst (λ (l : Labels). GivesLines (terms_for on.setting) (labels_of l) said audited out) same gives in
-      (audited, out, subst (λ (s : List (Result Line LineFault)). GivesLines (terms_for on.setting) (labels_of (labels_in on.setting)) s audited out) says there, gained)
+  crew_begins (Some script) written now says gained = (audited, out, given script says, gained)
 
 -- reading the script fails, and nothing was written
 pub reading_fails :

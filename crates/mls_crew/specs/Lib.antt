@@ -1,4 +1,3 @@
-pub mod Books
 pub mod Countdowns
 pub mod Groups
 pub mod Scripts

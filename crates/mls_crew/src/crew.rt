@@ -3,16 +3,15 @@ ghost use Rattle.std.specs.Prelude.{◌≡◌, ◌++◌, [], false, IfOk, IfErr}
 ghost use Rattle.std.specs.List.{flat_map, list_all};
 ghost use Rattle.mls_server.specs.Servers.{world_of};
 ghost use Rattle.mls_server.specs.Settings.{terms_for};
-ghost use Rattle.mls_crew.specs.Books.{labels_of};
-ghost use Rattle.mls_server.specs.Settings.{cell_names};
+ghost use Rattle.mls_seat_lines.specs.Glossaries.{book_in, glossary_of};
 ghost use Rattle.mls_crew.specs.Scripts.{FailsCrew, GivesLines, WritesCrew};
 
-use crate::Labels;
 use crate::sorting::{Desk, sort};
 use crate::speaking::{GroupText, Part};
 use crate::threads::say_groups;
 use crossbeam_channel::{Receiver, unbounded};
 use mls_live::{Live, Naming};
+use mls_seat_lines::Glossary;
 use mls_server::{Server, SessionId};
 use mls_tech::Tech;
 use mls_wire::{Line, LineFault, ServeFault, Watched, read_script, send};
@@ -94,10 +93,10 @@ fn say<N: Naming + Send + Sync, T: Threads + Wait + Sync>(
 ) -> Result<Output, AllocError>
     requires named { terms_for (world_of crew.server).setting ≡ N.terms }
     requires idle { (world_of crew.server).seats ≡ [] }
+    requires tech { crew.tech ≡ (world_of crew.server).setting.tech }
     requires blank { (blank.name ≡ N.name) × (blank.parts ≡ N.parts) }
     requires parts { N.parts ≡ 65 }
-    ensures { IfOk result (λ output. GivesLines N.terms
-        (labels_of (record { tech = crew.tech; cells = cell_names (world_of crew.server).setting }))
+    ensures { IfOk result (λ output. GivesLines N.terms (book_in (glossary_of (world_of crew.server).setting))
         script.now output.audited output.text.items) }
 {
     let Crew {
@@ -106,9 +105,9 @@ fn say<N: Naming + Send + Sync, T: Threads + Wait + Sync>(
         workers,
     } = crew;
     let limit = server.journal_limit();
-    let labels = Labels::new(tech, server.cell_names(alloc)?);
+    let glossary = Glossary::new(alloc, &server, tech)?;
     let live = Live::<N>::new(server, limit, blank);
-    say_at(rt, alloc, &live, &labels, workers, script)
+    say_at(rt, alloc, &live, &glossary, workers, script)
 }
 
 /// Says the lines of a script at a server in which no session is open, beside this many workers, and returns what is
@@ -117,12 +116,12 @@ fn say_at<N: Naming + Send + Sync, T: Threads + Wait + Sync>(
     rt: &T,
     alloc: Global,
     live: &Live<N>,
-    labels: &Labels,
+    glossary: &Glossary,
     workers: usize,
     script: &[Result<Line, LineFault>],
 ) -> Result<Output, AllocError>
     requires parts { N.parts ≡ 65 }
-    ensures { IfOk result (λ output. GivesLines N.terms (labels_of labels.now)
+    ensures { IfOk result (λ output. GivesLines N.terms (book_in glossary.now)
         script.now output.audited output.text.items) }
 {
     let (notices, ids) = unbounded(alloc)?;
@@ -130,7 +129,7 @@ fn say_at<N: Naming + Send + Sync, T: Threads + Wait + Sync>(
     let desk = Desk {
         alloc,
         live,
-        labels,
+        glossary,
         notices,
     };
     let mut fresh = Vec::new(alloc);
@@ -139,12 +138,12 @@ fn say_at<N: Naming + Send + Sync, T: Threads + Wait + Sync>(
     drop(desk);
     let part = Part {
         alloc,
-        labels,
+        glossary,
         sorting: &sorting,
         session: 0,
     };
     let groups = say_groups(rt, live, part, receivers, fresh)?;
-    gather(alloc, sorting.head(), &groups)
+    gather(sorting.into_head(), &groups)
 }
 
 /// Returns as many clones of a receiver.
@@ -161,11 +160,11 @@ fn clones(
 }
 
 /// Appends the texts of all sessions to that of the lines that have their replies at once.
-fn gather(alloc: Global, head: &[u8], groups: &[GroupText]) -> Result<Output, AllocError>
-    ensures text { IfOk result (λ output. output.text.items ≡ head.now ++ flat_map (λ group. group.text) groups.now) }
+fn gather(head: Vec<u8>, groups: &[GroupText]) -> Result<Output, AllocError>
+    ensures text { IfOk result (λ output. output.text.items ≡ head.items ++ flat_map (λ group. group.text) groups.now) }
     ensures audited { IfOk result (λ output. output.audited ≡ list_all (λ group. group.audited) groups.now) }
 {
-    let mut text = head.to_vec(alloc)?;
+    let mut text = head;
     let mut audited = true;
     for group in groups {
         text.extend_from_slice(group.text())?;

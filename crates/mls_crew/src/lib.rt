@@ -3,11 +3,9 @@
 
 mod crew;
 mod handed;
-mod labels;
 mod sorting;
 mod speaking;
 mod threads;
 
 pub use crew::{Crew, Served};
 pub use handed::Handed;
-pub use labels::Labels;

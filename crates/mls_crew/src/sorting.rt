@@ -1,14 +1,14 @@
 //! Which lines of a script have their replies at once, and which are handed to a session.
 ghost use Rattle.std.specs.Prelude.{◌≡◌, ◌+◌, ◌<◌, [], IfOk, Ok, OnOk, length, slice_index_or, vec_len};
 ghost use Rattle.mls_live.specs.Lists.{list_of};
-ghost use Rattle.mls_crew.specs.Books.{labels_of};
+ghost use Rattle.mls_seat_lines.specs.Glossaries.{book_in};
 ghost use Rattle.mls_crew.specs.Sorting.{Opens, Sorts, SortsLine, added, at_once, faulty, handed_to, session_of};
 ghost use Rattle.mls_wire.specs.Replies.{response_text};
 
-use crate::{Handed, Labels};
+use crate::Handed;
 use crossbeam_channel::Sender;
 use mls_live::{Live, Naming, Seat};
-use mls_seat_lines::SeatLine;
+use mls_seat_lines::{Glossary, SeatLine};
 use mls_server::{Answer, Name, OpenFault, SessionId};
 use mls_wire::{Line, LineFault, Response, push_response};
 use std::alloc::{AllocError, Global};
@@ -22,12 +22,12 @@ pub struct Fresh<'l, N: Naming> {
     pub ghost silent: { length (list_of seat) ≡ 0 },
 }
 
-/// What opens sessions and labels replies.
+/// What opens sessions and answers lines.
 #[derive(Drop)]
 pub struct Desk<'l, N: Naming> {
     pub alloc: Global,
     pub live: &'l Live<N>,
-    pub labels: &'l Labels,
+    pub glossary: &'l Glossary,
     pub notices: Sender<SessionId, Global>,
 }
 
@@ -61,10 +61,10 @@ impl Sorting {
     }
 
     /// Returns the text of the lines that have their replies at once.
-    pub fn head(&self) -> &[u8]
-        ensures { result.now ≡ self.now.head }
+    pub fn into_head(self) -> Vec<u8>
+        ensures { result.items ≡ self.head }
     {
-        self.head.as_slice()
+        self.head
     }
 
     /// Returns the lines that are handed to sessions.
@@ -72,13 +72,6 @@ impl Sorting {
         ensures { result.now ≡ self.now.handed }
     {
         self.handed.as_slice()
-    }
-
-    /// Returns how many sessions were opened.
-    pub fn opened(&self) -> usize
-        ensures { result ≡ length self.now.opened }
-    {
-        self.names.len()
     }
 
     /// Returns the name of an opened session.
@@ -107,7 +100,7 @@ impl Sorting {
     ) -> Result<(), AllocError>
         requires paired { length self.old.opened ≡ vec_len seats.old }
         ensures sorts { OnOk result ((sorted : _) × SortsLine
-            (labels_of desk.now.labels.now) n self.old.opened said.now sorted × (self.new ≡ added self.old sorted)) }
+            (book_in desk.now.glossary.now) n self.old.opened said.now sorted × (self.new ≡ added self.old sorted)) }
         ensures paired { OnOk result (length self.new.opened ≡ vec_len seats.new) }
     {
         match said {
@@ -126,7 +119,7 @@ impl Sorting {
         seats: &mut Vec<Fresh<'l, N>>,
     ) -> Result<(), AllocError>
         requires paired { length self.old.opened ≡ vec_len seats.old }
-        ensures sorts { OnOk result ((sorted : _) × SortsLine (labels_of desk.now.labels.now) n self.old.opened
+        ensures sorts { OnOk result ((sorted : _) × SortsLine (book_in desk.now.glossary.now) n self.old.opened
             (Ok line.now) sorted × (self.new ≡ added self.old sorted)) }
         ensures paired { OnOk result (length self.new.opened ≡ vec_len seats.new) }
     {
@@ -150,9 +143,9 @@ impl Sorting {
         response: &Response,
     ) -> Result<(), AllocError>
         ensures { OnOk result (self.new ≡ added self.old
-            (at_once self.old.opened (response_text (labels_of desk.now.labels.now) n response.now))) }
+            (at_once self.old.opened (response_text (book_in desk.now.glossary.now) n response.now))) }
     {
-        push_response(desk.labels, n, response, &mut self.head)
+        push_response(desk.glossary, n, response, &mut self.head)
     }
 
     /// Replies to line `n` with its fault.
@@ -163,7 +156,7 @@ impl Sorting {
         fault: LineFault,
     ) -> Result<(), AllocError>
         ensures { OnOk result (self.new ≡ added self.old
-            (faulty (labels_of desk.now.labels.now) n fault self.old.opened)) }
+            (faulty (book_in desk.now.glossary.now) n fault self.old.opened)) }
     {
         self.answer(desk, n, &Response::Fault(fault))
     }
@@ -177,7 +170,7 @@ impl Sorting {
         line: SeatLine,
     ) -> Result<(), AllocError>
         ensures { OnOk result (self.new ≡ added self.old
-            (handed_to (labels_of desk.now.labels.now) n self.old.opened (session_of self.old.opened name.now) line)) }
+            (handed_to (book_in desk.now.glossary.now) n self.old.opened (session_of self.old.opened name.now) line)) }
     {
         let Some(session) = self.session(name) else {
             return self.refuse(desk, n, LineFault::NotOpen);
@@ -197,7 +190,7 @@ impl Sorting {
     ) -> Result<(), AllocError>
         requires paired { length self.old.opened ≡ vec_len seats.old }
         ensures opens { OnOk result ((sorted : _) × Opens
-            (labels_of desk.now.labels.now) n self.old.opened name.now sorted × (self.new ≡ added self.old sorted)) }
+            (book_in desk.now.glossary.now) n self.old.opened name.now sorted × (self.new ≡ added self.old sorted)) }
         ensures paired { OnOk result (length self.new.opened ≡ vec_len seats.new) }
     {
         if self.session(name).is_some() {
@@ -222,7 +215,7 @@ impl Sorting {
         fault: OpenFault,
     ) -> Result<(), AllocError>
         ensures { OnOk result (self.new ≡ added self.old
-            (at_once self.old.opened (response_text (labels_of desk.now.labels.now) n
+            (at_once self.old.opened (response_text (book_in desk.now.glossary.now) n
             (Response.Answered name.now (Answer.Opened (Err fault)))))) }
     {
         self.answer(
@@ -251,7 +244,7 @@ pub fn sort<'l, N: Naming, R: Wait>(
     seats: &mut Vec<Fresh<'l, N>>,
 ) -> Result<Sorting, AllocError>
     requires { vec_len seats.old ≡ 0 }
-    ensures sorts { IfOk result (λ sorted. Sorts (labels_of desk.now.labels.now) 1 [] script.now sorted) }
+    ensures sorts { IfOk result (λ sorted. Sorts (book_in desk.now.glossary.now) 1 [] script.now sorted) }
     ensures paired { IfOk result (λ sorted. length sorted.opened ≡ vec_len seats.new) }
 {
     let mut sorting = Sorting::new(desk.alloc);

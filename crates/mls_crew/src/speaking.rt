@@ -1,13 +1,12 @@
 //! What a session of a script says at its seat.
 ghost use Rattle.std.specs.Prelude.{◌≡◌, ◌++◌, ℕ, List, [], IfOk, OnOk, length};
 ghost use Rattle.mls_live.specs.Lists.{list_of};
-ghost use Rattle.mls_crew.specs.Books.{labels_of};
+ghost use Rattle.mls_seat_lines.specs.Glossaries.{book_in};
 ghost use Rattle.mls_crew.specs.Groups.{SaysLines, GivesGroup, lines_of};
 
-use crate::Labels;
 use crate::sorting::{Fresh, Sorting};
 use mls_live::{Naming, Seat};
-use mls_seat_lines::{Voice, say_line};
+use mls_seat_lines::{Glossary, Voice, say_line};
 use mls_server::{Answer, Name};
 use mls_wire::{Response, push_response};
 use std::alloc::{AllocError, Global};
@@ -56,7 +55,7 @@ pub struct Spoken<'l, N: Naming> {
 #[derive(Clone, Copy)]
 pub struct Part<'s> {
     pub alloc: Global,
-    pub labels: &'s Labels,
+    pub glossary: &'s Glossary,
     pub sorting: &'s Sorting,
     pub session: usize,
 }
@@ -77,7 +76,7 @@ pub fn speak<'l, N: Naming, R: Wait>(
     name: Name,
     fresh: Fresh<'l, N>,
 ) -> Spoken<'l, N>
-    ensures { IfOk result.group (GivesGroup N.terms (labels_of part.entry.labels.now) name
+    ensures { IfOk result.group (GivesGroup N.terms (book_in part.entry.glossary.now) name
         (lines_of part.entry.session part.entry.sorting.now.handed)) }
 {
     let Fresh { mut seat } = fresh;
@@ -93,12 +92,12 @@ fn say_group<N: Naming, R: Wait>(
     seat: &mut Seat<'_, N>,
 ) -> Result<GroupText, AllocError>
     requires { length (list_of seat.old) ≡ 0 }
-    ensures { IfOk result (GivesGroup N.terms (labels_of part.now.labels.now) name.now
+    ensures { IfOk result (GivesGroup N.terms (book_in part.now.glossary.now) name.now
         (lines_of part.now.session part.now.sorting.now.handed)) }
 {
     let mut text = Vec::new(part.alloc);
     let opened = Response::Answered(*name, Answer::Opened(Ok(seat.id())));
-    push_response(part.labels, 0, &opened, &mut text)?;
+    push_response(part.glossary, 0, &opened, &mut text)?;
     say_lines(rt, part, name, seat, &mut text)?;
     let audited = seat.audit(rt).is_ok();
     Ok(GroupText { text, audited })
@@ -112,14 +111,14 @@ fn say_lines<N: Naming, R: Wait>(
     seat: &mut Seat<'_, N>,
     out: &mut Vec<u8>,
 ) -> Result<(), AllocError>
-    ensures { OnOk result ((text : List ℕ) × SaysLines N.terms (labels_of part.now.labels.now) name.now
+    ensures { OnOk result ((text : List ℕ) × SaysLines N.terms (book_in part.now.glossary.now) name.now
         (list_of seat.old)
         (lines_of part.now.session part.now.sorting.now.handed) text (list_of seat.new)
         × (out.new.items ≡ out.old.items ++ text)) }
 {
     let voice = Voice {
         alloc: part.alloc,
-        names: part.labels,
+        names: part.glossary,
     };
     let lines = part.sorting.handed();
     for handed in lines {

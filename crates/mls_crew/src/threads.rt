@@ -1,6 +1,6 @@
 //! The threads of a script: one for each session, and the workers beside them.
 ghost use Rattle.std.specs.Prelude.{◌≡◌, ◌≤◌, [], false, IfOk, OnOk, length, vec_len, vec_capacity};
-ghost use Rattle.mls_crew.specs.Books.{labels_of};
+ghost use Rattle.mls_seat_lines.specs.Glossaries.{book_in};
 ghost use Rattle.mls_crew.specs.Countdowns.{CountsDown};
 ghost use Rattle.mls_crew.specs.Scripts.{GivesGroups};
 
@@ -18,7 +18,7 @@ impl<'s, 'l, N: Naming> Promise<Spoken<'l, N>> for Part<'s> {
     ghost use Rattle.mls_crew.specs.Scripts.{GivesPart};
 
     ghost kept_by = { λ part spoken. IfOk spoken.group
-        (GivesPart N.terms (labels_of part.labels.now) part.sorting.now part.session) };
+        (GivesPart N.terms (book_in part.glossary.now) part.sorting.now part.session) };
 }
 
 /// Says the lines of each session in a thread of its own while workers check, one for each receiver, closes the
@@ -33,7 +33,7 @@ pub fn say_groups<'l, N: Naming + Send + Sync, R: Threads + Wait + Sync>(
     requires parts { N.parts ≡ 65 }
     requires paired { vec_len fresh ≡ length part.sorting.now.opened }
     ensures { IfOk result (λ groups. GivesGroups N.terms
-        (labels_of part.entry.labels.now) part.entry.sorting.now groups.items) }
+        (book_in part.entry.glossary.now) part.entry.sorting.now groups.items) }
 {
     thread::scope(
         thread::scope_env(),
@@ -42,7 +42,7 @@ pub fn say_groups<'l, N: Naming + Send + Sync, R: Threads + Wait + Sync>(
             requires parts { N.parts ≡ 65 }
             requires paired { vec_len fresh ≡ length part.sorting.now.opened }
             ensures { IfOk result (λ groups. GivesGroups N.terms
-                (labels_of part.entry.labels.now) part.entry.sorting.now groups.items) }
+                (book_in part.entry.glossary.now) part.entry.sorting.now groups.items) }
         {
             start_workers(rt, scope, part.alloc, live, receivers)?;
             let spoken = speak_all(rt, scope, part, fresh)?;
@@ -127,7 +127,7 @@ fn speak_all<'s, 'l: 's, E, N: Naming + Send + Sync + 's, R: Threads + Wait + Sy
 ) -> Result<AllSpoken<'s, 'l, N>, AllocError>
     requires { vec_len fresh ≡ length part.sorting.now.opened }
     ensures { IfOk result (λ spoken. spoken.failed ≡ false
-        → GivesGroups N.terms (labels_of part.entry.labels.now) part.entry.sorting.now spoken.groups.items) }
+        → GivesGroups N.terms (book_in part.entry.glossary.now) part.entry.sorting.now spoken.groups.items) }
 {
     let spoken = AllSpoken::new(part, fresh.len())?;
     let mut speakers = Vec::with_capacity(part.alloc, fresh.len())?;
@@ -178,7 +178,7 @@ fn joined<'s, 'l, N: Naming, R: Threads>(
     requires seats { (vec_len spoken.seats ≡ 0) × (vec_len speakers ≤ vec_capacity spoken.seats) }
     requires groups { (vec_len spoken.groups ≡ 0) × (vec_len speakers ≤ vec_capacity spoken.groups) }
     ensures { vec_len speakers.entry ≡ length spoken.entry.part.sorting.now.opened → result.failed ≡ false
-        → GivesGroups N.terms (labels_of spoken.entry.part.labels.now) spoken.entry.part.sorting.now
+        → GivesGroups N.terms (book_in spoken.entry.part.glossary.now) spoken.entry.part.sorting.now
         result.groups.items }
 {
     while let Some(speaker) = speakers.pop() {

@@ -1,12 +1,34 @@
 -- Replies to lines.
-use Rattle.std.proofs.Common.{◌≡◌, Bool, true, false, Result, Ok, Err, OnOk, OnErr, is_ok}
-use Rattle.std.specs.Result.{IfOk}
+use Rattle.std.proofs.Common.{◌≡◌, ℕ, Bool, true, false, List, [], Option, None, Result, Ok, Err, Vec, Global, is_ok, append-nil, refl, sym, arith}
+use Rattle.mls_session.specs.OwnSteps.{Terms}
+use Rattle.mls_wire.specs.NameBooks.{Names}
+use Rattle.mls_wire.specs.Pushes.{Appends}
+use Rattle.mls_wire.specs.Replies.{response_text}
+use Rattle.mls_wire.specs.declared.line.Line.{Line}
+use Rattle.mls_wire.specs.declared.line.Line.TheVariants.{Silent, Open, Close, Step, Steps, Audit, Look, Run}
+use Rattle.mls_wire.specs.declared.response.Response.TheVariants.{Fault}
+use Rattle.mls_lines.specs.Answers.{AnswersLine, fault_alone}
 
--- what holds where a line has its reply, and where there was no room for it
-pub done_gives : {E : Type 0} (replied : Result Unit E) (result : Result Bool E) (audited : Bool) (P Q : Type 0)
-    → is_ok result ≡ is_ok replied → IfOk result (λ known. known ≡ audited) → OnOk replied P → OnErr replied Q
-    → IfOk result (λ known. (known ≡ audited) × P) × OnErr result Q
-done_gives (Ok x) (Ok known) audited P Q same is p q = ((is, p), tt)
-done_gives (Ok x) (Err e) audited P Q same is p q = let bad : false ≡ true = same in absurd (cc)
-done_gives (Err e) (Ok known) audited P Q same is p q = let bad : true ≡ false = same in absurd (cc)
-done_gives (Err e) (Err other) audited P Q same is p q = (tt, q)
+-- no text is appended
+pub appends_none : {T E : Type 0} {value : T} (old : Vec ℕ Global) → Appends {T = T} {E = E} (Ok value) old old []
+appends_none old = record { text = sym (append-nil old.items); room = tt; capacity = omega arith }
+
+-- the text is there where another result says so
+pub appends_as : {S T E F : Type 0} (replied : Result S E) (result : Result T F) (old new : Vec ℕ Global) (text : List ℕ)
+    → is_ok result ≡ is_ok replied → Appends replied old new text → Appends result old new text
+appends_as (Ok done) (Ok known) old new text same appended = record { text = appended.text; room = tt; capacity = appended.capacity }
+appends_as (Ok done) (Err fault) old new text same appended = let bad : false ≡ true = same in absurd (cc)
+appends_as (Err fault) (Ok known) old new text same appended = let bad : true ≡ false = same in absurd (cc)
+appends_as (Err fault) (Err other) old new text same appended = record { text = tt; room = appended.room; capacity = appended.capacity }
+
+-- a line of an open session has this fault where none is open
+pub answers_alone : (terms : Terms) (book : Names) (n : ℕ) (said : Line) → (said ≡ Silent → ⊥) → ((name : List ℕ) → said ≡ Open name → ⊥)
+    → AnswersLine terms book n (Ok said) None (response_text book n (Fault (fault_alone said))) true None
+answers_alone terms book n Silent some other = absurd (some refl)
+answers_alone terms book n (Open name) some other = absurd (other name refl)
+answers_alone terms book n (Close name id) some other = (refl, refl)
+answers_alone terms book n (Step name id) some other = (refl, refl)
+answers_alone terms book n (Steps name id most) some other = (refl, refl)
+answers_alone terms book n (Audit name id) some other = (refl, refl)
+answers_alone terms book n (Look name id look) some other = (refl, refl)
+answers_alone terms book n (Run name id command) some other = (refl, refl)

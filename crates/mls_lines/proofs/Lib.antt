@@ -1,6 +1,5 @@
 pub mod AnswerLemmas
 pub mod EndLemmas
-pub mod GlossaryLemmas
 pub mod ReadingLemmas
 pub mod ReplyLemmas
 pub mod RunLemmas

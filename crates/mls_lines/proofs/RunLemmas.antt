@@ -4,7 +4,7 @@ use Rattle.std.proofs.Math.Logic.{∥∥₁_elim}
 use Rattle.mls_session.specs.OwnSteps.{Terms}
 use Rattle.mls_wire.specs.NameBooks.{Names}
 use Rattle.mls_lines.specs.Answers.{AnswersLine, Held, name_held}
-use Rattle.mls_lines.specs.Glossaries.{says_beside}
+use Rattle.mls_lines.specs.Beside.{says_beside}
 use Rattle.mls_lines.specs.Scripts.{Answered, AnswersLines, HasAnswered, IsLineOf, IsReply}
 
 module _ (terms : Terms) (book : Names) (script : Option (List ℕ)) where
@@ -21,7 +21,7 @@ module _ (terms : Terms) (book : Names) (script : Option (List ℕ)) where
       (later_one, stands_one, answers_one, answers_more one.n one.after more to mid last rest later stands answers)
 
   -- a line more was carried out
-  pub answered_more : (to : ℕ) (mid : Option Held) (last : Answered)
+  answered_more : (to : ℕ) (mid : Option Held) (last : Answered)
       → ∥ HasAnswered terms book script to mid ∥₁ → to < last.n → IsLineOf script last.n last.line → Answers mid last
       → ∥ HasAnswered terms book script last.n last.after ∥₁
   answered_more to mid last has later stands answers =
@@ -33,6 +33,14 @@ module _ (terms : Terms) (book : Names) (script : Option (List ℕ)) where
       → ∥ IsReply terms book script last.text ∥₁
   answered_last to mid last has later stands answers =
       ∥∥₁_elim has squash₁ (λ (run, answered). ∣ (run, last, answers_more 0 None run to mid last answered later stands answers, refl) ∣₁)
+
+  -- both of a line that was read as line n
+  pub answered_line : (to : ℕ) (mid : Option Held) (n : ℕ) (line : Option (List ℕ)) (text : List ℕ) (audited : Bool) (after : Option Held)
+      → ∥ HasAnswered terms book script to mid ∥₁ → to < n → IsLineOf script n line → AnswersLine terms book n (says_beside book (name_held mid) line) mid text audited after
+      → ∥ HasAnswered terms book script n after ∥₁ × ∥ IsReply terms book script text ∥₁
+  answered_line to mid n line text audited after has later stands answers =
+      let last : Answered = record { n = n; line = line; text = text; audited = audited; after = after } in
+      (answered_more to mid last has later stands answers, answered_last to mid last has later stands answers)
 
   -- no line was carried out yet
   pub answered_none : ∥ HasAnswered terms book script 0 None ∥₁

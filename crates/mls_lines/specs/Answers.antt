@@ -13,7 +13,7 @@ use Rattle.mls_text.specs.Words.{same_word}
 use Rattle.mls_wire.specs.NameBooks.{Names}
 use Rattle.mls_wire.specs.Replies.{answer_text, response_text}
 use Rattle.mls_wire.specs.declared.line.Line.{Line}
-use Rattle.mls_wire.specs.declared.line.Line.TheVariants.{Silent, Open, Close, Audit, Look, Run}
+use Rattle.mls_wire.specs.declared.line.Line.TheVariants.{Silent, Open, Close, Step, Steps, Audit, Look, Run}
 use Rattle.mls_wire.specs.declared.line.LineFault.{LineFault}
 use Rattle.mls_wire.specs.declared.line.LineFault.TheVariants.{NotOpen, UnknownCommand}
 use Rattle.mls_wire.specs.declared.response.Response.TheVariants.{Fault}
@@ -38,6 +38,12 @@ name_held held = option_map (λ h. h.name) held
 -- line n has this fault, and nothing changes
 abbrev pub IsFaulty : Names → ℕ → LineFault → Option Held → List ℕ → Option Held → Type 0
 IsFaulty book n fault held text now = (text ≡ response_text book n (Fault fault)) × (now ≡ held)
+
+-- the fault of a line where no session of its name is open
+abbrev pub fault_alone : Line → LineFault
+fault_alone (Step name id) = UnknownCommand
+fault_alone (Steps name id most) = UnknownCommand
+fault_alone _ = NotOpen
 
 -- the opening of this name is refused by this fault
 abbrev pub refused_text : Names → List ℕ → OpenFault → List ℕ

@@ -1,4 +1,5 @@
 pub mod Answers
-pub mod Glossaries
+pub mod Beside
 pub mod Rosters
 pub mod Scripts
+pub use Rattle.mls_seat_lines.specs.Glossaries

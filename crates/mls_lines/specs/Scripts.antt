@@ -11,7 +11,8 @@ use Rattle.mls_wire.specs.Watches.{HasCause, Watched}
 use Rattle.mls_wire.specs.declared.serving.ServeFault.{ServeFault}
 use Rattle.mls_wire.specs.declared.serving.ServeFault.TheVariants.{Read, Write, Memory}
 use Rattle.mls_lines.specs.Answers.{AnswersLine, Held, name_held}
-use Rattle.mls_lines.specs.Glossaries.{book_in, glossary_of, says_beside}
+use Rattle.mls_seat_lines.specs.Glossaries.{book_in, glossary_of}
+use Rattle.mls_lines.specs.Beside.{says_beside}
 
 -- where the script's bytes are known, its n-th line, from 1, is this one
 abbrev pub IsLineOf : Option (List ℕ) → ℕ → Option (List ℕ) → Type 0

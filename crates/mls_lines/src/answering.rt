@@ -1,11 +1,13 @@
 //! What a line does, and its reply.
-ghost use Rattle.std.specs.Prelude.{◌≡◌, ◌+◌, ◌++◌, ◌<◌, ℕ, Bool, List, [], None, Ok, true, is_ok, IfOk, OnErr, OnOk, length, vec_capacity, vec_len};
+ghost use Rattle.std.specs.Prelude.{◌≡◌, ℕ, Bool, List, [], None, Ok, true, is_ok, IfOk};
 ghost use Rattle.mls_live.specs.Lists.{list_of};
 ghost use Rattle.mls_server.specs.LegalLists.{IsLegalList};
+ghost use Rattle.mls_wire.specs.Pushes.{Appends};
 ghost use Rattle.mls_wire.specs.Replies.{answer_text, response_text};
 ghost use Rattle.mls_wire.specs.ScriptLines.{text_of};
-ghost use Rattle.mls_lines.specs.Answers.{AnswersLine, ClosesAt, OpensAt, SaysAt, held_by, name_held};
-ghost use Rattle.mls_lines.specs.Glossaries.{book_in, says_beside};
+ghost use Rattle.mls_lines.specs.Answers.{AnswersLine, ClosesAt, OpensAt, SaysAt, fault_alone, held_by, name_held};
+ghost use Rattle.mls_seat_lines.specs.Glossaries.{book_in};
+ghost use Rattle.mls_lines.specs.Beside.{says_beside};
 
 use crate::hall::{Hall, Scripted};
 use crate::seating::{Sitting, parse};
@@ -62,8 +64,7 @@ impl<'l, N: Scripted> Clerk<'l, N> {
         ensures { (text : List ℕ) × (audited : Bool) × AnswersLine N.terms (book_in N.glossary) line.now.n
             (says_beside (book_in N.glossary) (name_held (held_by sitting.old)) (text_of line.now.line))
             (held_by sitting.old) text audited (held_by sitting.new)
-            × IfOk result (λ known. (known ≡ audited) × (out.new.items ≡ out.old.items ++ text))
-            × OnErr result (vec_capacity out.old < vec_len out.old + length text) }
+            × IfOk result (λ known. known ≡ audited) × Appends result out.old out.new text }
     {
         match says::<N>(self.hall, name_of(sitting), line) {
             Err(fault) => done(push_fault::<N>(self.hall, line.n, fault, out), true),
@@ -83,8 +84,7 @@ impl<'l, N: Scripted> Clerk<'l, N> {
         requires parts { N.parts ≡ 65 }
         ensures { (text : List ℕ) × (audited : Bool) × AnswersLine N.terms (book_in N.glossary) n (Ok said)
             (held_by sitting.old) text audited (held_by sitting.new)
-            × IfOk result (λ known. (known ≡ audited) × (out.new.items ≡ out.old.items ++ text))
-            × OnErr result (vec_capacity out.old < vec_len out.old + length text) }
+            × IfOk result (λ known. known ≡ audited) × Appends result out.old out.new text }
     {
         match said {
             Line::Silent => Ok(true),
@@ -113,8 +113,7 @@ impl<'l, N: Scripted> Clerk<'l, N> {
     ) -> Result<(), AllocError>
         ensures { (text : List ℕ) × SaysAt N.terms (book_in N.glossary) n line
             (held_by sitting.old) text (held_by sitting.new)
-            × OnOk result (out.new.items ≡ out.old.items ++ text)
-            × OnErr result (vec_capacity out.old < vec_len out.old + length text) }
+            × Appends result out.old out.new text }
     {
         let Some(sitting) = sitting else {
             return push_fault::<N>(self.hall, n, LineFault::NotOpen, out);
@@ -140,8 +139,7 @@ impl<'l, N: Scripted> Clerk<'l, N> {
     ) -> Result<(), AllocError>
         ensures { (text : List ℕ) × OpensAt (book_in N.glossary) name
             (held_by sitting.old) text (held_by sitting.new)
-            × OnOk result (out.new.items ≡ out.old.items ++ text)
-            × OnErr result (vec_capacity out.old < vec_len out.old + length text) }
+            × Appends result out.old out.new text }
     {
         if let Some(Sitting { name: other, .. }) = sitting {
             let fault = if *other == name {
@@ -186,8 +184,7 @@ impl<'l, N: Scripted> Clerk<'l, N> {
         requires parts { N.parts ≡ 65 }
         ensures { (text : List ℕ) × (audited : Bool) × ClosesAt N.terms (book_in N.glossary) n name
             (held_by sitting.old) text audited (held_by sitting.new)
-            × IfOk result (λ known. (known ≡ audited) × (out.new.items ≡ out.old.items ++ text))
-            × OnErr result (vec_capacity out.old < vec_len out.old + length text) }
+            × IfOk result (λ known. known ≡ audited) × Appends result out.old out.new text }
     {
         match sitting.take() {
             Some(sitting) => self.leave(rt, sitting, name, out),
@@ -205,10 +202,8 @@ impl<'l, N: Scripted> Clerk<'l, N> {
     ) -> Result<bool, AllocError>
         requires parts { N.parts ≡ 65 }
         ensures { (audited : Bool) × (audited ≡ true → IsLegalList N.terms (list_of sitting.entry.seat))
-            × IfOk result (λ known. (known ≡ audited) × (out.new.items ≡ out.old.items
-            ++ answer_text (book_in N.glossary) name (Answer.Closed (Ok tt))))
-            × OnErr result (vec_capacity out.old
-            < vec_len out.old + length (answer_text (book_in N.glossary) name (Answer.Closed (Ok tt)))) }
+            × IfOk result (λ known. known ≡ audited)
+            × Appends result out.old out.new (answer_text (book_in N.glossary) name (Answer.Closed (Ok tt))) }
     {
         let Sitting { seat, .. } = sitting;
         let audited = seat.audit(rt).is_ok();
@@ -221,11 +216,8 @@ impl<'l, N: Scripted> Clerk<'l, N> {
 
     /// Appends that line `n` is no command, since the workers take check steps.
     fn refuse_steps(&self, n: u128, out: &mut Vec<u8>) -> Result<(), AllocError>
-        ensures ok { OnOk result (out.new.items ≡ out.old.items
-            ++ response_text (book_in N.glossary) n (Response.Fault LineFault.UnknownCommand)) }
-        ensures room { OnErr result (vec_capacity out.old
-            < vec_len out.old
-            + length (response_text (book_in N.glossary) n (Response.Fault LineFault.UnknownCommand))) }
+        ensures { Appends result out.old out.new
+            (response_text (book_in N.glossary) n (Response.Fault LineFault.UnknownCommand)) }
     {
         push_fault::<N>(self.hall, n, LineFault::UnknownCommand, out)
     }
@@ -280,8 +272,7 @@ pub fn push_alone<N: Scripted>(
     requires { hall.now.glossary ≡ N.glossary }
     ensures { (text : List ℕ) × AnswersLine N.terms (book_in N.glossary) line.now.n
         (says_beside (book_in N.glossary) None (text_of line.now.line)) None text true None
-        × OnOk result (out.new.items ≡ out.old.items ++ text)
-        × OnErr result (vec_capacity out.old < vec_len out.old + length text) }
+        × Appends result out.old out.new text }
 {
     match says::<N>(hall, None, line) {
         Err(fault) => push_fault::<N>(hall, line.n, fault, out),
@@ -298,8 +289,7 @@ fn push_said_alone<N: Scripted>(
 ) -> Result<(), AllocError>
     requires { hall.now.glossary ≡ N.glossary }
     ensures { (text : List ℕ) × AnswersLine N.terms (book_in N.glossary) n (Ok said.now) None text true None
-        × OnOk result (out.new.items ≡ out.old.items ++ text)
-        × OnErr result (vec_capacity out.old < vec_len out.old + length text) }
+        × Appends result out.old out.new text }
 {
     match said {
         Line::Silent => Ok(()),
@@ -307,12 +297,23 @@ fn push_said_alone<N: Scripted>(
             let full = Answer::Opened(Err(OpenFault::SessionsFull));
             push_answer::<N>(hall, *name, full, out)
         }
-        Line::Step(_, _) => push_fault::<N>(hall, n, LineFault::UnknownCommand, out),
-        Line::Steps(_, _, _) => push_fault::<N>(hall, n, LineFault::UnknownCommand, out),
-        Line::Close(_, _) => push_fault::<N>(hall, n, LineFault::NotOpen, out),
-        Line::Audit(_, _) => push_fault::<N>(hall, n, LineFault::NotOpen, out),
-        Line::Look(_, _, _) => push_fault::<N>(hall, n, LineFault::NotOpen, out),
-        Line::Run(_, _, _) => push_fault::<N>(hall, n, LineFault::NotOpen, out),
+        said => push_fault::<N>(hall, n, fault_alone(said), out),
+    }
+}
+
+/// Returns the fault of a line of an open session, where no thread has its name.
+fn fault_alone(said: &Line) -> LineFault
+    ensures { result ≡ fault_alone said.now }
+{
+    match said {
+        // The workers take check steps.
+        Line::Step(_, _) | Line::Steps(_, _, _) => LineFault::UnknownCommand,
+        Line::Silent
+        | Line::Open(_)
+        | Line::Close(_, _)
+        | Line::Audit(_, _)
+        | Line::Look(_, _, _)
+        | Line::Run(_, _, _) => LineFault::NotOpen,
     }
 }
 
@@ -325,10 +326,7 @@ fn push_answer<N: Scripted>(
     out: &mut Vec<u8>,
 ) -> Result<(), AllocError>
     requires { hall.now.glossary ≡ N.glossary }
-    ensures ok { OnOk result (out.new.items ≡ out.old.items
-        ++ answer_text (book_in N.glossary) name answer) }
-    ensures room { OnErr result (vec_capacity out.old
-        < vec_len out.old + length (answer_text (book_in N.glossary) name answer)) }
+    ensures { Appends result out.old out.new (answer_text (book_in N.glossary) name answer) }
 {
     push_response(&hall.glossary, 0, &Response::Answered(name, answer), out)
 }
@@ -341,10 +339,7 @@ fn push_fault<N: Scripted>(
     out: &mut Vec<u8>,
 ) -> Result<(), AllocError>
     requires { hall.now.glossary ≡ N.glossary }
-    ensures ok { OnOk result (out.new.items ≡ out.old.items
-        ++ response_text (book_in N.glossary) n (Response.Fault fault)) }
-    ensures room { OnErr result (vec_capacity out.old
-        < vec_len out.old + length (response_text (book_in N.glossary) n (Response.Fault fault))) }
+    ensures { Appends result out.old out.new (response_text (book_in N.glossary) n (Response.Fault fault)) }
 {
     push_response(&hall.glossary, n, &Response::Fault(fault), out)
 }

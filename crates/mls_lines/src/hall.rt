@@ -1,6 +1,6 @@
 //! What all threads share.
 ghost use Rattle.std.specs.Prelude.{◌≡◌, ℕ, List, Option, Some};
-ghost use Rattle.mls_lines.specs.Glossaries.{Glossary, book_in};
+ghost use Rattle.mls_seat_lines.specs.Glossaries.{Glossary, book_in};
 ghost use Rattle.mls_lines.specs.Scripts.{IsLineOf, IsReply};
 
 use crate::Glossary;

@@ -2,7 +2,6 @@
 #![tactic(auto)]
 
 mod answering;
-mod glossary;
 mod hall;
 mod lines;
 mod progress;
@@ -12,5 +11,5 @@ mod seating;
 mod threads;
 mod writing;
 
-pub use glossary::Glossary;
 pub use lines::{Lines, Served};
+pub use mls_seat_lines::Glossary;

@@ -2,7 +2,7 @@
 ghost use Rattle.std.specs.Prelude.{◌≡◌, ◌≢◌, ℕ, List, [], IfOk, IfErr, OnOk, OnErr};
 ghost use Rattle.mls_server.specs.Servers.{world_of};
 ghost use Rattle.mls_server.specs.Settings.{terms_for};
-ghost use Rattle.mls_lines.specs.Glossaries.{book_in, glossary_of};
+ghost use Rattle.mls_seat_lines.specs.Glossaries.{book_in, glossary_of};
 ghost use Rattle.mls_lines.specs.Scripts.{AreReplies, EndsLines, FailsLines, WritesLines};
 ghost use Rattle.mls_wire.specs.Serving.{AppendsFront, Gains};
 ghost use Rattle.mls_wire.specs.Watches.{HasCause};

@@ -1,7 +1,7 @@
 //! How far the lines of a name's thread have come.
 ghost use Rattle.std.specs.Prelude.{◌≡◌};
 ghost use Rattle.mls_lines.specs.Answers.{held_by};
-ghost use Rattle.mls_lines.specs.Glossaries.{book_in};
+ghost use Rattle.mls_seat_lines.specs.Glossaries.{book_in};
 ghost use Rattle.mls_lines.specs.Scripts.{HasAnswered};
 
 use crate::answering::{Clerk, Numbered};

@@ -1,14 +1,14 @@
 //! The session of a name's thread.
 ghost use Rattle.std.specs.Prelude.{◌≡◌, Some};
-ghost use Rattle.mls_lines.specs.Glossaries.{book_in, is_stepwise, says_beside};
+ghost use Rattle.mls_seat_lines.specs.Glossaries.{book_in};
+ghost use Rattle.mls_lines.specs.Beside.{is_stepwise, says_beside};
 ghost use Rattle.mls_wire.specs.ScriptLines.{text_of};
 
 use crate::Glossary;
-use mls_library::CellId;
 use mls_live::{Naming, Seat};
 use mls_server::{Name, SessionId};
 use mls_text::Words;
-use mls_wire::{Line, LineFault, Names, ScriptLine, parse_line};
+use mls_wire::{Line, LineFault, ScriptLine, Sessions, parse_line};
 
 /// A session that is open: its name, and its seat.
 #[derive(Drop)]
@@ -17,41 +17,16 @@ pub struct Sitting<'l, N: Naming> {
     pub seat: Seat<'l, N>,
 }
 
-/// Names beside one session that may be open. Its id doesn't matter.
+/// The one session that may be open beside a name's thread. Its id doesn't matter.
 #[derive(Drop)]
-struct Beside<'a> {
-    glossary: &'a Glossary,
+struct Beside {
     held: Option<Name>,
 }
 
-impl Names for Beside<'_> {
-    ghost use Rattle.mls_lines.specs.Glossaries.{beside, book_in};
+impl Sessions for Beside {
+    ghost use Rattle.mls_lines.specs.Beside.{ids_beside};
 
-    ghost book = { λ names. beside (book_in names.glossary.now) names.held };
-
-    fn type_of(&self, word: &[u8]) -> Option<u8> {
-        self.glossary.type_of(word)
-    }
-
-    fn cell_of(&self, word: &[u8]) -> Option<CellId> {
-        self.glossary.cell_of(word)
-    }
-
-    fn cell_name(&self, cell: CellId) -> Option<&[u8]> {
-        self.glossary.cell_name(cell)
-    }
-
-    fn type_name(&self, kind: u8) -> Option<&[u8]> {
-        self.glossary.type_name(kind)
-    }
-
-    fn short_type_name(&self, kind: u8) -> Option<&[u8]> {
-        self.glossary.short_type_name(kind)
-    }
-
-    fn why_text(&self, n: usize) -> Option<&[u8]> {
-        self.glossary.why_text(n)
-    }
+    ghost ids = { λ beside. ids_beside beside.held };
 
     fn session(&self, name: &Name) -> Option<SessionId> {
         match &self.held {
@@ -63,7 +38,7 @@ impl Names for Beside<'_> {
 
 /// Returns what a line says where this session is open, or none, or its first fault. `%step` and `%steps` are no
 /// commands.
-#[tactic(auto, unfolding(crate::specs::Glossaries::says_beside))]
+#[tactic(auto, unfolding(crate::specs::Beside::says_beside))]
 pub fn parse(
     glossary: &Glossary,
     held: Option<Name>,
@@ -78,14 +53,14 @@ pub fn parse(
 }
 
 /// Returns what the bytes of a line say.
-#[tactic(auto, unfolding(crate::specs::Glossaries::says_beside))]
+#[tactic(auto, unfolding(crate::specs::Beside::says_beside))]
 fn parse_text(glossary: &Glossary, held: Option<Name>, bytes: &[u8]) -> Result<Line, LineFault>
     ensures { result ≡ says_beside (book_in glossary.now) held (Some bytes.now) }
 {
     if begins_stepwise(Words::new(bytes)) {
         return Err(LineFault::UnknownCommand);
     }
-    parse_line(&Beside { glossary, held }, ScriptLine::Text(bytes))
+    parse_line(glossary, &Beside { held }, ScriptLine::Text(bytes))
 }
 
 /// Returns whether the first word is `%step` or `%steps`.

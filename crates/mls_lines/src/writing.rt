@@ -1,6 +1,6 @@
 //! The writer of replies.
 ghost use Rattle.std.specs.Prelude.{ℕ, List, OnOk, OnErr};
-ghost use Rattle.mls_lines.specs.Glossaries.{book_in};
+ghost use Rattle.mls_seat_lines.specs.Glossaries.{book_in};
 ghost use Rattle.mls_lines.specs.Scripts.{AreReplies};
 ghost use Rattle.mls_wire.specs.Serving.{AppendsFront, Gains};
 ghost use Rattle.mls_wire.specs.Watches.{HasCause};

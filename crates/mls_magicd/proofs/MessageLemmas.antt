@@ -12,7 +12,7 @@ use Rattle.mls_wire.specs.Serving.{AppendsFront, serve_fault_text}
 use Rattle.mls_wire.specs.declared.serving.ServeFault.{ServeFault}
 use Rattle.mls_wire.specs.Watches.{Watched}
 use Rattle.mls_tech.specs.declared.rule_line.Skipped.{Skipped}
-use Rattle.mls_magicd.specs.Messages.{ReportsAll, Reports, bad_cell_line, faulty_cell_line, faulty_line, serve_fault_line, skipped_line, unreadable_line}
+use Rattle.mls_magicd.specs.Messages.{ReportsAll, Reports, bad_cell_line, faulty_line, serve_fault_line, skipped_line, unreadable_line}
 
 -- the text of parts
 abbrev pub text_of : List (Bor (List ℕ)) → List ℕ
@@ -78,10 +78,11 @@ pub skipped_line-parts : (skipped : Skipped) (line keyword : List ℕ) → line 
 unfolding skipped_line
 skipped_line-parts skipped line keyword line_is keyword_is = rw (line_is, keyword_is) (simp append_assoc)
 
-pub faulty_line-parts : (sort words : List ℕ) (n m : ℕ) (line number text : List ℕ) → line ≡ decimal n → number ≡ decimal m → text ≡ words
-    → codes "magicd: tech line " ++ (line ++ (sort ++ (number ++ (32 ∷ [] ++ (text ++ 10 ∷ []))))) ≡ faulty_line sort n m words
+pub faulty_line-parts : (file name sort words : List ℕ) (n m : ℕ) (line number text : List ℕ) → line ≡ decimal n → number ≡ decimal m → text ≡ words
+    → codes "magicd: " ++ (file ++ (name ++ (codes " line " ++ (line ++ (sort ++ (number ++ (32 ∷ [] ++ (text ++ 10 ∷ []))))))))
+    ≡ faulty_line (file ++ name) sort n m words
 unfolding faulty_line
-faulty_line-parts sort words n m line number text line_is number_is text_is = rw (line_is, number_is, text_is) (simp append_assoc)
+faulty_line-parts file name sort words n m line number text line_is number_is text_is = rw (line_is, number_is, text_is) (simp append_assoc)
 
 pub unreadable_line-parts : (path part : List ℕ) → part ≡ path → codes "magicd: cannot read " ++ (part ++ 10 ∷ []) ≡ unreadable_line path
 unfolding unreadable_line
@@ -95,10 +96,3 @@ serve_fault_line-parts fault part part_is = rw part_is (simp append_assoc)
 pub bad_cell_line-parts : (word part : List ℕ) → part ≡ word → codes "magicd: bad cell argument " ++ (part ++ 10 ∷ []) ≡ bad_cell_line word
 unfolding bad_cell_line
 bad_cell_line-parts word part part_is = rw part_is (simp append_assoc)
-
-pub faulty_cell_line-parts : (name words : List ℕ) (n m : ℕ) (called line number text : List ℕ) → called ≡ name → line ≡ decimal n → number ≡ decimal m → text ≡ words
-    → codes "magicd: cell " ++ (called ++ (codes " line " ++ (line ++ (codes " fault " ++ (number ++ (32 ∷ [] ++ (text ++ 10 ∷ [])))))))
-    ≡ faulty_cell_line name n m words
-unfolding faulty_cell_line
-faulty_cell_line-parts name words n m called line number text called_is line_is number_is text_is =
-    rw (called_is, line_is, number_is, text_is) (simp append_assoc)

@@ -1,23 +1,13 @@
 -- The number that is named is the one that is given.
 use Rattle.std.proofs.Common.{◌≡◌, ◌∙◌, ◌<◌, ◌^◌, ℕ, List, Option, Some, None, Result, sym, subst}
-use Rattle.std.specs.Prelude.{pos}
 use Rattle.std.specs.Option.{MatchOption, SomeIff, UnwrapsOrElse}
 use Rattle.std.specs.Str.Parse.{ParsesUnsigned, ExplainsUnsignedError, HasUnsignedDigitsIfOk}
 use Rattle.std.specs.declared.num.ParseIntError.{ParseIntError}
-use Rattle.clap.specs.Words.{IsSignedIn, ReadsOne, Text, one_text, without_minus}
+use Rattle.clap.specs.Words.{ReadsOne, Text, one_text}
 use Rattle.clap.proofs.CallerReads.{signed_reads}
 use Rattle.clap.specs.declared.parser.matches.Found.{Found}
 use Rattle.mls_bounded.specs.Ranges.{IsInRange}
-use Rattle.mls_magicd.specs.CommandLines.{IsNumberFor, IsNumberOf, NumberOption, number_in, number_named}
-
--- the parser takes the text for a number of the option
-abbrev pub IsNumberText : NumberOption → Text → Type 0
-IsNumberText option text = (written : Text) × (text ≡ without_minus written) × IsSignedIn (pos option.least) (pos option.most) written
-
--- the number is the one that a parse found, if the text after the option is one that the parser takes, or else the default
-pub record IsFoundNumber (option : NumberOption) (found : Found) (number : ℕ) : Type 0 where
-  pub usual : one_text found option.name ≡ None → number ≡ option.default
-  pub named : (text : Text) → one_text found option.name ≡ Some text → IsNumberText option text → number ≡ number_in text
+use Rattle.mls_magicd.specs.CommandLines.{IsFoundNumber, IsNumberFor, IsNumberOf, NumberOption, number_in, number_named}
 
 -- what a text gives that is read as a `u32`
 abbrev GivesNumber : List ℕ → Result ℕ ParseIntError → Type 0

@@ -22,8 +22,7 @@ use Rattle.clap.specs.declared.builder.value_parser.ValueParser.{ValueParser}
 use Rattle.clap.specs.declared.builder.value_parser.ValueParser.TheVariants.{Signed}
 use Rattle.clap.specs.declared.parser.matches.ArgMatches.{ArgMatches}
 use Rattle.clap.specs.declared.parser.matches.MatchedArg.{MatchedArg}
-use Rattle.mls_magicd.proofs.NumberLemmas.{IsNumberText}
-use Rattle.mls_magicd.specs.CommandLines.{NumberOption, magicd, tech_rule, number_rule, live_rule, cells_rule, quota_option, pool_option, journal_option, cell_tiles_option, workers_option}
+use Rattle.mls_magicd.specs.CommandLines.{IsNumberText, NumberOption, magicd, tech_rule, number_rule, live_rule, cells_rule, quota_option, pool_option, journal_option, cell_tiles_option, workers_option}
 
 -- the rules of the command's arguments
 abbrev pub own_rules : List Rule

@@ -11,9 +11,8 @@ use Rattle.clap.specs.declared.builder.command.Command.TheViews.{out-Command}
 use Rattle.clap.specs.declared.error.Error.{Error}
 use Rattle.clap.specs.declared.error.kind.ErrorKind.TheVariants.{OutOfMemory}
 use Rattle.clap.specs.declared.parser.matches.ArgMatches.{ArgMatches}
-use Rattle.mls_magicd.proofs.NumberLemmas.{IsFoundNumber, IsNumberText}
 use Rattle.mls_magicd.proofs.NumberTexts.{StandsAt, number-text}
-use Rattle.mls_magicd.specs.CommandLines.{IsOwnArg, IsOwnCommand, NumberOption, magicd, cell_words, bad_word, faults_in, words_found, IsBadWord, IsNumberFor, IsNumberOf, file_named, live_named, number_named, IsParserFault, IsRefusedBy}
+use Rattle.mls_magicd.specs.CommandLines.{IsOwnArg, IsOwnCommand, NumberOption, magicd, cell_words, bad_word, faults_in, words_found, IsBadWord, IsFoundNumber, IsNumberFor, IsNumberOf, IsNumberText, file_named, live_named, number_named, IsParserFault, IsRefusedBy}
 use Rattle.mls_magicd.specs.declared.options.OptionsFault.{OptionsFault}
 use Rattle.mls_magicd.specs.declared.options.OptionsFault.TheVariants.{Memory, Refused, BadCell}
 

@@ -1,7 +1,7 @@
 -- The command line of `magicd`, and what its words mean. This project's own.
-use Rattle.std.specs.Prelude.{◌≡◌, ◌≢◌, ◌⊎◌, ℕ, ◌==◌, not, true, false, Option, Some, None, is_some, List, [], ◌∷◌, Result, Ok, Err, pos, codes, find, if◌then◌else◌, map, option_map, unwrap_or, ⊤}
+use Rattle.std.specs.Prelude.{◌≡◌, ◌≢◌, ◌⊎◌, ℕ, ◌==◌, not, true, false, Option, Some, None, is_some, List, [], ◌∷◌, Result, Ok, Err, pos, codes, find, if◌then◌else◌, map, max, min, option_map, unwrap_or, ⊤}
 use Rattle.std.specs.Str.Parse.{digits_value, without_leading_plus}
-use Rattle.clap.specs.Words.{App, IsPlain, IsPlainArg, Kinds, Rule, Text, all_of, app_of, fault_of, first_of, matched_of, matches_of, new_app, new_rule, one_of, raw_values, rule_of, with_rule}
+use Rattle.clap.specs.Words.{App, IsPlain, IsPlainArg, Kinds, Rule, Text, all_of, app_of, fault_of, first_of, IsSignedIn, matched_of, matches_of, new_app, new_rule, one_of, one_text, raw_values, rule_of, with_rule, without_minus}
 use Rattle.clap.specs.declared.builder.arg.Arg.{Arg}
 use Rattle.clap.specs.declared.builder.command.Command.{Command}
 use Rattle.clap.specs.declared.builder.command.Command.TheViews.{out-Command}
@@ -119,6 +119,19 @@ IsNumberOf option (Some text) number = number ≡ number_in text
 -- it is the one that the words name
 abbrev pub IsNumberFor : NumberOption → List Text → ℕ → Type 0
 IsNumberFor option words number = IsNumberOf option (number_named option words) number
+
+-- the parser takes the text for a number of the option
+abbrev pub IsNumberText : NumberOption → Text → Type 0
+IsNumberText option text = (written : Text) × (text ≡ without_minus written) × IsSignedIn (pos option.least) (pos option.most) written
+
+-- the number is the one that a parse found, if the text after the option is one that the parser takes, or else the default
+pub record IsFoundNumber (option : NumberOption) (found : Found) (number : ℕ) : Type 0 where
+  pub usual : one_text found option.name ≡ None → number ≡ option.default
+  pub named : (text : Text) → one_text found option.name ≡ Some text → IsNumberText option text → number ≡ number_in text
+
+-- the option of this name that takes the numbers of a range with a default
+abbrev pub ranged_option : Text → ℕ → ℕ → ℕ → NumberOption
+ranged_option name least most default = record { name = name; least = least; most = max least most; default = max least (min most default) }
 
 -- ---- the cells
 

@@ -39,17 +39,18 @@ unreadable_line path = codes "magicd: cannot read " ++ path ++ 10 ∷ []
 unfoldable pub bad_cell_line : List ℕ → List ℕ
 bad_cell_line word = codes "magicd: bad cell argument " ++ word ++ 10 ∷ []
 
--- a line of the technology has a fault of this sort
-unfoldable pub faulty_line : List ℕ → ℕ → ℕ → List ℕ → List ℕ
-faulty_line sort line number text = codes "magicd: tech line " ++ decimal line ++ sort ++ decimal number ++ 32 ∷ text ++ 10 ∷ []
+-- a line of a file has a fault of this sort
+unfoldable pub faulty_line : List ℕ → List ℕ → ℕ → ℕ → List ℕ → List ℕ
+faulty_line file sort line number text =
+    codes "magicd: " ++ file ++ codes " line " ++ decimal line ++ sort ++ decimal number ++ 32 ∷ text ++ 10 ∷ []
 
 -- the technology's fault, with its line, number and text
 abbrev pub tech_fault_line : TechFault → List ℕ
-tech_fault_line fault = faulty_line (codes " fault ") fault.line (tech_fault_number fault.kind) (tech_fault_text fault.kind)
+tech_fault_line fault = faulty_line (codes "tech") (codes " fault ") fault.line (tech_fault_number fault.kind) (tech_fault_text fault.kind)
 
 -- the fault of a rule line, with its line, number and text
 abbrev pub rule_fault_line : RuleFault → List ℕ
-rule_fault_line fault = faulty_line (codes " rule fault ") fault.line (rule_fault_number fault.kind) (rule_fault_text fault.kind)
+rule_fault_line fault = faulty_line (codes "tech") (codes " rule fault ") fault.line (rule_fault_number fault.kind) (rule_fault_text fault.kind)
 
 -- why there is no technology
 abbrev pub technology_fault_line : TechnologyFault → List ℕ
@@ -57,14 +58,9 @@ technology_fault_line (Unreadable path) = unreadable_line path.now
 technology_fault_line (Faulty fault) = tech_fault_line fault
 technology_fault_line TechnologyMemory = memory_line
 
--- a line of a cell's file has a fault
-unfoldable pub faulty_cell_line : List ℕ → ℕ → ℕ → List ℕ → List ℕ
-faulty_cell_line name line number text =
-    codes "magicd: cell " ++ name ++ codes " line " ++ decimal line ++ codes " fault " ++ decimal number ++ 32 ∷ text ++ 10 ∷ []
-
 -- the cell's fault, with its line, number and text
 abbrev pub cell_fault_line : List ℕ → CellFault → List ℕ
-cell_fault_line name fault = faulty_cell_line name fault.line (cell_fault_number fault.kind) (cell_fault_text fault.kind)
+cell_fault_line name fault = faulty_line (codes "cell " ++ name) (codes " fault ") fault.line (cell_fault_number fault.kind) (cell_fault_text fault.kind)
 
 -- why a cell isn't loaded
 abbrev pub load_fault_line : LoadFault → List ℕ

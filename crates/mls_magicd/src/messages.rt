@@ -1,5 +1,5 @@
 //! The messages of the program.
-ghost use Rattle.std.specs.Prelude.{◌≡◌, map, IfSome, OnOk, OnErr};
+ghost use Rattle.std.specs.Prelude.{◌≡◌, ◌++◌, map, IfSome, OnOk, OnErr};
 ghost use Rattle.std.specs.List.{flat_map};
 ghost use Rattle.std.specs.Io.KnownBytes.{Appends};
 ghost use Rattle.mls_wire.specs.Serving.{AppendsFront};
@@ -94,34 +94,14 @@ fn report_cell_fault<E: Write>(faults: &mut Watched<E>, name: &str, fault: CellF
     ensures { spec.Reports E.contents faults.old faults.new (spec.cell_fault_line name.now fault) }
 {
     let CellFault { line, kind } = fault;
-    report_faulty_cell(faults, name, line, kind.number(), kind.text());
-}
-
-/// Reports a fault in a line of the file of the cell of this name.
-fn report_faulty_cell<E: Write>(
-    faults: &mut Watched<E>,
-    name: &str,
-    line: usize,
-    number: u8,
-    text: &str,
-)
-    ensures { spec.Reports E.contents faults.old faults.new (spec.faulty_cell_line name.now line number text.now) }
-{
-    let mut line_text = Buffer::new();
-    let mut number_text = Buffer::new();
-    report(
+    let numbers = (line, kind.number());
+    report_faulty_line(
         faults,
-        &[
-            b"magicd: cell ",
-            name.as_bytes(),
-            b" line ",
-            line_text.format(line).as_bytes(),
-            b" fault ",
-            number_text.format(number).as_bytes(),
-            b" ",
-            text.as_bytes(),
-            b"\n",
-        ],
+        b"cell ",
+        name.as_bytes(),
+        numbers,
+        b" fault ",
+        kind.text(),
     );
 }
 
@@ -144,7 +124,8 @@ fn report_tech_fault<E: Write>(faults: &mut Watched<E>, fault: TechFault)
     ensures { spec.Reports E.contents faults.old faults.new (spec.tech_fault_line fault) }
 {
     let TechFault { line, kind } = fault;
-    report_faulty_line(faults, b" fault ", line, kind.number(), kind.text());
+    let numbers = (line, kind.number());
+    report_faulty_line(faults, b"tech", b"", numbers, b" fault ", kind.text());
 }
 
 /// Reports a rule line that can't be compiled.
@@ -152,25 +133,32 @@ fn report_rule_fault<E: Write>(faults: &mut Watched<E>, fault: RuleFault)
     ensures { spec.Reports E.contents faults.old faults.new (spec.rule_fault_line fault) }
 {
     let RuleFault { line, kind } = fault;
-    report_faulty_line(faults, b" rule fault ", line, kind.number(), kind.text());
+    let numbers = (line, kind.number());
+    report_faulty_line(faults, b"tech", b"", numbers, b" rule fault ", kind.text());
 }
 
-/// Reports a fault of this sort in a line of the technology file.
-fn report_faulty_line<E: Write>(
+/// Reports a fault of this sort in a line of a file of this name; the numbers are those of the line and of the fault.
+fn report_faulty_line<'a, E: Write>(
     faults: &mut Watched<E>,
-    sort: &[u8],
-    line: usize,
-    number: u8,
-    text: &str,
+    file: &'a [u8],
+    name: &'a [u8],
+    numbers: (usize, u8),
+    sort: &'a [u8],
+    text: &'a str,
 )
-    ensures { spec.Reports E.contents faults.old faults.new (spec.faulty_line sort.now line number text.now) }
+    ensures { spec.Reports E.contents faults.old faults.new
+        (spec.faulty_line (file.now ++ name.now) sort.now numbers.0 numbers.1 text.now) }
 {
+    let (line, number) = numbers;
     let mut line_text = Buffer::new();
     let mut number_text = Buffer::new();
     report(
         faults,
         &[
-            b"magicd: tech line ",
+            b"magicd: ",
+            file,
+            name,
+            b" line ",
             line_text.format(line).as_bytes(),
             sort,
             number_text.format(number).as_bytes(),

@@ -1,14 +1,15 @@
 //! The options of the command line.
-ghost use Rattle.std.specs.Prelude.{◌≡◌, IfOk, IfErr, map};
+ghost use Rattle.std.specs.Prelude.{◌≡◌, ◌<◌, ◌^◌, max, IfOk, IfErr, map};
 ghost use Rattle.std.specs.Range.{range_inclusive_start, range_inclusive_end};
 ghost use Rattle.clap.specs.Words.{found_of, kind_of};
 ghost use Rattle.clap.specs.declared.error.kind.ErrorKind.TheVariants.{OutOfMemory};
-ghost use Rattle.mls_magicd.specs.CommandLines.{NumberOption, magicd, tech_rule, number_rule, live_rule, cells_rule, file_of, words_found, IsBadWord, IsOwnArg, IsOwnCommand, IsParserFault, NamesFiles, ParsesWords};
+ghost use Rattle.mls_magicd.specs.CommandLines.{NumberOption, magicd, tech_rule, number_rule, live_rule, cells_rule, file_of, words_found, IsBadWord, IsFoundNumber, IsOwnArg, IsOwnCommand, IsParserFault, NamesFiles, ParsesWords, ranged_option};
 
 use crate::cell_argument::CellArgument;
 use crate::workers::Workers;
 use clap::error::ErrorKind;
 use clap::{Arg, ArgAction, ArgMatches, Command, Error as ParseError, value_parser};
+use mls_bounded::Bounded;
 use mls_library::CellTiles;
 use mls_server::Capacity;
 use mls_session::{JournalLimit, Quota};
@@ -81,26 +82,11 @@ impl<'a> Options<'a> {
                 let cells = cells_given(alloc, &matches)?;
                 Ok(Options {
                     tech: matches.get_str("tech"),
-                    quota: matches
-                        .get_one::<u32>("quota")
-                        .and_then(Quota::new)
-                        .unwrap_or_default(),
-                    pool: matches
-                        .get_one::<u32>("pool")
-                        .and_then(Capacity::new)
-                        .unwrap_or_default(),
-                    journal: matches
-                        .get_one::<u32>("journal")
-                        .and_then(JournalLimit::new)
-                        .unwrap_or_default(),
-                    cell_tiles: matches
-                        .get_one::<u32>("cell-tiles")
-                        .and_then(CellTiles::new)
-                        .unwrap_or_default(),
-                    workers: matches
-                        .get_one::<u32>("workers")
-                        .and_then(Workers::new)
-                        .unwrap_or_default(),
+                    quota: number_of(&matches, "quota"),
+                    pool: number_of(&matches, "pool"),
+                    journal: number_of(&matches, "journal"),
+                    cell_tiles: number_of(&matches, "cell-tiles"),
+                    workers: number_of(&matches, "workers"),
                     live: matches.get_flag("live"),
                     cells,
                 })
@@ -194,6 +180,20 @@ fn cells_argument<'a>(alloc: Global) -> Arg<'a>
         .action(ArgAction::Append)
         .value_name("NAME=FILE")
         .help("Loads a library cell from a file")
+}
+
+/// The number that the matches give an option, or its default.
+fn number_of<const LEAST: u32, const MOST: u32, const DEFAULT: u32>(
+    matches: &ArgMatches<'_>,
+    name: &str,
+) -> Bounded<LEAST, MOST, DEFAULT>
+    ensures { max LEAST MOST < 2 ^ 32
+        → IsFoundNumber (ranged_option name.now LEAST MOST DEFAULT) (found_of matches.now) result }
+{
+    match matches.get_one::<u32>(name) {
+        Some(number) => Bounded::new(number).unwrap_or_default(),
+        None => Bounded::default(),
+    }
 }
 
 /// The cells that the matches name, in order.

@@ -1,1 +1,2 @@
+pub mod Glossaries
 pub mod SeatLines

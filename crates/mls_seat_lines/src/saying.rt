@@ -1,6 +1,7 @@
 //! What is said at a seat.
-ghost use Rattle.std.specs.Prelude.{◌≡◌, ◌+◌, ◌++◌, ◌<◌, ℕ, List, OnErr, OnOk, length, vec_capacity, vec_len};
+ghost use Rattle.std.specs.Prelude.{◌≡◌, ℕ, List};
 ghost use Rattle.mls_live.specs.Lists.{list_of};
+ghost use Rattle.mls_wire.specs.Pushes.{Appends};
 ghost use Rattle.mls_seat_lines.specs.SeatLines.{SaysCommand, SaysLine, SaysLook, SaysAudit};
 ghost use Rattle.mls_seat_lines.specs.SeatLines as spec;
 
@@ -34,8 +35,7 @@ pub fn say_line<N: Naming, B: Names, R: Wait>(
 ) -> Result<(), AllocError>
     ensures { (text : List ℕ) × SaysLine N.terms (B.book voice.now.names.now) name.now
         (list_of seat.old) line.now text (list_of seat.new)
-        × OnOk result (out.new.items ≡ out.old.items ++ text)
-        × OnErr result (vec_capacity out.old < vec_len out.old + length text) }
+        × Appends result out.old out.new text }
 {
     match *line {
         SeatLine::Run(command) => run(rt, voice, name, seat, command, out),
@@ -55,8 +55,7 @@ fn run<N: Naming, B: Names, R: Wait>(
 ) -> Result<(), AllocError>
     ensures { (text : List ℕ) × SaysCommand N.terms (B.book voice.now.names.now) name.now
         (list_of seat.old) command text (list_of seat.new)
-        × OnOk result (out.new.items ≡ out.old.items ++ text)
-        × OnErr result (vec_capacity out.old < vec_len out.old + length text) }
+        × Appends result out.old out.new text }
 {
     if is_save(&command) {
         return save(rt, voice, name, seat, out);
@@ -83,8 +82,7 @@ fn save<N: Naming, B: Names, R: Wait>(
 ) -> Result<(), AllocError>
     ensures { (text : List ℕ) × SaysCommand N.terms (B.book voice.now.names.now) name.now
         (list_of seat.old) Command.Save text (list_of seat.new)
-        × OnOk result (out.new.items ≡ out.old.items ++ text)
-        × OnErr result (vec_capacity out.old < vec_len out.old + length text) }
+        × Appends result out.old out.new text }
 {
     let mut saved = Vec::new(voice.alloc);
     let result = seat.save(rt, &mut saved);
@@ -101,8 +99,7 @@ fn look<N: Naming, B: Names, R: Wait>(
     out: &mut Vec<u8>,
 ) -> Result<(), AllocError>
     ensures { (text : List ℕ) × SaysLook N.terms (B.book voice.now.names.now) name.now look text
-        × OnOk result (out.new.items ≡ out.old.items ++ text)
-        × OnErr result (vec_capacity out.old < vec_len out.old + length text) }
+        × Appends result out.old out.new text }
 {
     let mut shown = Vec::new(voice.alloc);
     let result = seat.look(rt, voice.alloc, look, &mut shown);
@@ -119,8 +116,7 @@ fn audit<N: Naming, B: Names, R: Wait>(
 ) -> Result<(), AllocError>
     ensures { (text : List ℕ) × SaysAudit N.terms (B.book voice.now.names.now) name.now
         (list_of seat.now) text
-        × OnOk result (out.new.items ≡ out.old.items ++ text)
-        × OnErr result (vec_capacity out.old < vec_len out.old + length text) }
+        × Appends result out.old out.new text }
 {
     match seat.audit(rt) {
         Ok(audited) => {

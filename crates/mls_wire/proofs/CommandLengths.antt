@@ -9,14 +9,14 @@ use Rattle.std.proofs.lemmas.Slice.Eq.{bytes_eq-Decides}
 use Rattle.mls_kinds.specs.KindSets.{holds, members}
 use Rattle.mls_library.proofs.SavedLines.{IsWord}
 use Rattle.mls_session.specs.declared.command.Command.{Command}
-use Rattle.mls_session.specs.declared.command.Command.TheVariants.{Dump, GetCell, Check, CatchUp, Why, Count}
+use Rattle.mls_session.specs.declared.command.Command.TheVariants.{Dump, GetCell, What, Save, Check, CatchUp, Why, Count}
 use Rattle.mls_text.specs.Fields.{fields_of}
 use Rattle.mls_text.specs.Words.{same_word}
 use Rattle.mls_wire.specs.JournalLines.{cell_word, command_words, listed_types, type_word, types_word}
 use Rattle.mls_wire.specs.ReadBack.{NamesReadBack}
 use Rattle.mls_wire.specs.NameBooks.{Names, no_name}
 use Rattle.mls_wire.specs.Numbers.{number_of}
-use Rattle.mls_wire.specs.Says.{box_of, cell_edit_of, command_of, drc_of, drc_says, dump_of, edit_of, erase_says, getcell_of, moved_by, moved_cell_says, names_type, paint_says, save_says, sides_of, sides_say, types_named, what_says}
+use Rattle.mls_wire.specs.Says.{alone_says, box_of, command_of, drc_of, drc_says, dump_of, edit_of, erase_says, getcell_of, moved_by, moved_cell_says, names_type, paint_says, sides_of, sides_say, types_named}
 use Rattle.mls_wire.specs.declared.line.LineFault.{LineFault}
 use Rattle.mls_wire.specs.declared.line.LineFault.TheVariants.{UnknownCommand}
 use Rattle.mls_wire.specs.declared.parse.MovedCell.{MovedCell}
@@ -138,12 +138,12 @@ module _ (book : Names) (names : NamesReadBack book) where
       edit-within (codes "getcell") (λ moved. GetCell moved.cell moved.dx moved.dy) (λ moved. refl) getcell_of (λ moved. refl) (λ fault. refl)
 
   -- ---- others
-  save-within : (words : List (List ℕ)) → AreWithin (codes "save" ∷ words) (save_says words)
+  save-within : (words : List (List ℕ)) → AreWithin (codes "save" ∷ words) (alone_says Save words)
   unfolding command_words
   save-within [] = omega arith
   save-within (word ∷ words) = tt
 
-  what-within : (words : List (List ℕ)) → AreWithin (codes "what" ∷ words) (what_says words)
+  what-within : (words : List (List ℕ)) → AreWithin (codes "what" ∷ words) (alone_says What words)
   unfolding command_words
   what-within [] = omega arith
   what-within (word ∷ words) = tt
@@ -177,7 +177,7 @@ module _ (book : Names) (names : NamesReadBack book) where
   drc-within (word ∷ more ∷ words) = tt
 
   pub command_of-within : (words : List (List ℕ)) → All IsWord words → AreWithin words (command_of book words)
-  unfolding command_of edit_of cell_edit_of
+  unfolding command_of edit_of
   command_of-within [] are = tt
   command_of-within (verb ∷ words) are =
       let others = All-tail IsWord verb words are in

@@ -21,11 +21,13 @@ use Rattle.mls_text.specs.Words.{is_blank, words_of}
 use Rattle.mls_wire.specs.JournalLines.{cell_word, command_line, command_words, listed_types, said_text, shielded, steps_line, type_word, types_word}
 use Rattle.mls_wire.specs.ReadBack.{CommandsAreLines, CommandsReadBack, HasShortName, IsListable, NamesReadBack, StepsReadBack}
 use Rattle.mls_wire.specs.Lines.{line_limit, read_line}
-use Rattle.mls_wire.specs.NameBooks.{Names, no_name}
+use Rattle.mls_wire.specs.NameBooks.{Names, SessionIds, no_name}
 use Rattle.mls_wire.specs.Numbers.{number_of}
-use Rattle.mls_wire.specs.Says.{asked_of, box_of, cell_edit_of, command_of, count_says, drc_of, dump_of, edit_of, getcell_of, line_says, line_with, moved_by, moved_cell_says, names_type, run_by, session_says, sides_of, sides_say, steps_of, steps_says, types_named, words_say}
+use Rattle.mls_wire.specs.Says.{asked_by, asked_of, asks_says, box_of, command_of, drc_of, dump_of, edit_of, getcell_of, line_asking, line_says, line_with, moved_by, moved_cell_says, names_type, run_by, session_says, sides_of, sides_say, steps_of, steps_say, types_named, words_say}
 use Rattle.mls_wire.specs.declared.line.Line.TheVariants.{Silent, Steps, Run}
 use Rattle.mls_wire.specs.declared.line.LineFault.TheVariants.{BadName, BadNumber}
+use Rattle.mls_wire.specs.declared.parse.Asked.TheVariants.{Steps as AsksSteps}
+use Rattle.mls_wire.specs.declared.parse.Asking.TheVariants.{Steps as ByCount}
 use Rattle.mls_wire.proofs.RunLines.{IsPart, IsRun, line-run}
 use Rattle.mls_wire.proofs.ShieldedLines.{kept-shielded, length-shielded, read_line-kept, unbroken-shielded, without_return-word, words_of-shielded}
 use Rattle.mls_wire.proofs.SpelledCommands.{HasCell, HasType, HasTypes, HasTypesIfAny, IsSpelled, any-members}
@@ -126,7 +128,7 @@ module _ (Is : List ℕ → Type 0) (is-word : (word : List ℕ) → Is word →
       λ i. moved_by (cell_of-word cell has i) (number_of-signed_decimal dx hx i) (number_of-signed_decimal dy hy i)
 
   command_of-words : (command : Command) → IsSpelled book Is command → command_of book (command_words book command) ≡ Ok command
-  unfolding command_of command_words edit_of cell_edit_of drc_of moved_cell_says sides_say sides_of
+  unfolding command_of command_words edit_of drc_of moved_cell_says sides_say sides_of
   command_of-words (Box left bottom right top) (hl, hb, hr, ht) =
       λ i. box_of (sides_of (number_of-signed_decimal left hl i) (number_of-signed_decimal bottom hb i) (number_of-signed_decimal right hr i) (number_of-signed_decimal top ht i))
   command_of-words (Paint None) spelled = ap (λ (o : Option ℕ). Ok (Paint o)) names.no_type
@@ -185,55 +187,49 @@ module _ (Is : List ℕ → Type 0) (is-word : (word : List ℕ) → Is word →
   IsWord-command_words Why has = All-from_recursion IsWord (codes "drc" ∷ codes "why" ∷ []) (tested (codes "drc") (omega arith) refl, (tested (codes "why") (omega arith) refl, tt))
   IsWord-command_words Count has = All-from_recursion IsWord (codes "drc" ∷ codes "count" ∷ []) (tested (codes "drc") (omega arith) refl, (tested (codes "count") (omega arith) refl, tt))
 
-  words_say-session : (b : ℕ) (name : List ℕ) (words : List (List ℕ)) → (b == 37) ≡ false → words_say book ((b ∷ name) ∷ words) ≡ session_says book (b ∷ name) words
+  words_say-session : (ids : SessionIds) (b : ℕ) (name : List ℕ) (words : List (List ℕ)) → (b == 37) ≡ false → words_say book ids ((b ∷ name) ∷ words) ≡ session_says book ids (b ∷ name) words
   unfolding words_say
-  words_say-session b name words bare = rw bare refl
+  words_say-session ids b name words bare = rw bare refl
 
   -- the words of a command stand after the name
-  command_line-spaced : (name : List ℕ) (command : Command) → name ++ said_text book command ≡ spaced (name ∷ command_words book command)
-  unfolding command_words
-  command_line-spaced name (Box left bottom right top) = refl
-  command_line-spaced name (Paint kind) = refl
-  command_line-spaced name (Erase kinds) = refl
-  command_line-spaced name (Dump cell dx dy) = refl
-  command_line-spaced name (GetCell cell dx dy) = refl
-  command_line-spaced name What = refl
-  command_line-spaced name Save = refl
-  command_line-spaced name Check = refl
-  command_line-spaced name CatchUp = refl
-  command_line-spaced name Why = refl
-  command_line-spaced name Count = refl
+  spaced-after : (name : List ℕ) (command : Command) (words : List (List ℕ)) → command_of book words ≡ Ok command → name ++ 32 ∷ spaced words ≡ spaced (name ∷ words)
+  unfolding command_of
+  spaced-after name command [] says = absurd (cc)
+  spaced-after name command (word ∷ words) says = refl
+
+  command_line-spaced : (name : List ℕ) (command : Command) → IsSpelled book Is command → name ++ said_text book command ≡ spaced (name ∷ command_words book command)
+  command_line-spaced name command spelled = spaced-after name command (command_words book command) (command_of-words command spelled)
 
   -- it is as long as its words, but for a space at its end
-  command_line-length : (name : List ℕ) (command : Command) → length (command_line book name command) ≤ width (name ∷ command_words book command)
-  command_line-length name command =
-      let all = ap length (command_line-spaced name command) in
+  command_line-length : (name : List ℕ) (command : Command) → IsSpelled book Is command → length (command_line book name command) ≤ width (name ∷ command_words book command)
+  command_line-length name command spelled =
+      let all = ap length (command_line-spaced name command spelled) in
       let words = length-joined 32 name (command_words book command) in
       let bare = length-append name (said_text book command) in
       let whole = length-append name (shielded (said_text book command)) in
       let more = length-shielded (said_text book command) in
       omega (arith, all, words, bare, whole, more)
 
-  command_line-read : (name : List ℕ) (command : Command) → width (name ∷ command_words book command) ≤ line_limit
+  command_line-read : (name : List ℕ) (command : Command) → IsSpelled book Is command → width (name ∷ command_words book command) ≤ line_limit
       → read_line (command_line book name command) ≡ Some (command_line book name command)
-  command_line-read name command within =
-      let short = command_line-length name command in
+  command_line-read name command spelled within =
+      let short = command_line-length name command spelled in
       read_line-kept (command_line book name command) (kept-shielded name 32 (spaced (command_words book command))) (omega (arith, short, within))
 
-  command_line-says : (name : List ℕ) (id : ℕ) (command : Command) → is_session_name name ≡ true → book.session name ≡ Some id → IsSpelled book Is command
-      → line_says book (Some (command_line book name command)) ≡ Ok (Run name id command)
+  command_line-says : (ids : SessionIds) (name : List ℕ) (id : ℕ) (command : Command) → is_session_name name ≡ true → ids name ≡ Some id → IsSpelled book Is command
+      → line_says book ids (Some (command_line book name command)) ≡ Ok (Run name id command)
   unfolding line_says session_says
-  command_line-says [] id command is opened spelled = absurd (omega (arith, (IsWord-name [] is).some))
-  command_line-says (b ∷ name) id command is opened spelled =
+  command_line-says ids [] id command is opened spelled = absurd (omega (arith, (IsWord-name [] is).some))
+  command_line-says ids (b ∷ name) id command is opened spelled =
       let words = command_words book command in
       let byte = first_byte b (and_parts (is_name_byte b) (list_all is_name_byte name) (and_parts _ _ is).1).0 in
-      ap (λ (t : Bool). cond t (Ok Silent) (words_say book (words_of (command_line book (b ∷ name) command)))) byte.0
-      ∙ ap (words_say book) (words_of-shielded (b ∷ name) 32 (spaced words))
-      ∙ ap (λ (line : List ℕ). words_say book (words_of line)) (command_line-spaced (b ∷ name) command)
-      ∙ ap (words_say book) (words_of-spaced ((b ∷ name) ∷ words) (All-cons IsWord (b ∷ name) words (IsWord-name (b ∷ name) is) (IsWord-command_words command spelled)))
-      ∙ words_say-session b name words byte.1
-      ∙ ap (λ (t : Bool). cond t (line_with book (b ∷ name) (command_of book words)) (Err BadName)) is
-      ∙ ap (line_with book (b ∷ name)) (command_of-words command spelled)
+      ap (λ (t : Bool). cond t (Ok Silent) (words_say book ids (words_of (command_line book (b ∷ name) command)))) byte.0
+      ∙ ap (words_say book ids) (words_of-shielded (b ∷ name) 32 (spaced words))
+      ∙ ap (λ (line : List ℕ). words_say book ids (words_of line)) (command_line-spaced (b ∷ name) command spelled)
+      ∙ ap (words_say book ids) (words_of-spaced ((b ∷ name) ∷ words) (All-cons IsWord (b ∷ name) words (IsWord-name (b ∷ name) is) (IsWord-command_words command spelled)))
+      ∙ words_say-session ids b name words byte.1
+      ∙ ap (λ (t : Bool). cond t (line_with ids (b ∷ name) (command_of book words)) (Err BadName)) is
+      ∙ ap (line_with ids (b ∷ name)) (command_of-words command spelled)
       ∙ ap (run_by (b ∷ name) command) opened
 
   -- ---- it is one line
@@ -306,9 +302,9 @@ module _ (book : Names) where
     solid = All-from_recursion (λ b. is_blank b ≡ false) (codes "%steps") (refl, (refl, (refl, (refl, (refl, (refl, tt))))));
   }
 
-  words_say-steps : (words : List (List ℕ)) → words_say book (codes "%steps" ∷ words) ≡ steps_says book words
-  unfolding words_say
-  words_say-steps words = refl
+  words_say-steps : (ids : SessionIds) (words : List (List ℕ)) → words_say book ids (codes "%steps" ∷ words) ≡ asks_says ids ByCount words
+  unfolding words_say asked_by
+  words_say-steps ids words = refl
 
   steps_line-read : (name : List ℕ) (steps : ℕ) → is_session_name name ≡ true → steps < 2 ^ 64 → read_line (steps_line name steps) ≡ Some (steps_line name steps)
   steps_line-read name steps is fits =
@@ -321,22 +317,22 @@ module _ (book : Names) where
       let named = length-append (codes "%steps") (32 ∷ name) in
       read_line-kept (steps_line name steps) kept (omega (arith, most, digits, all, named))
 
-  steps_line-says : (name : List ℕ) (id steps : ℕ) → is_session_name name ≡ true → book.session name ≡ Some id → 1 ≤ steps → steps < 2 ^ 64
-      → line_says book (Some (steps_line name steps)) ≡ Ok (Steps name id steps)
-  unfolding line_says steps_says
-  steps_line-says name id steps is opened some fits =
+  steps_line-says : (ids : SessionIds) (name : List ℕ) (id steps : ℕ) → is_session_name name ≡ true → ids name ≡ Some id → 1 ≤ steps → steps < 2 ^ 64
+      → line_says book ids (Some (steps_line name steps)) ≡ Ok (Steps name id steps)
+  unfolding line_says asks_says
+  steps_line-says ids name id steps is opened some fits =
       let words = name ∷ decimal steps ∷ [] in
       let number = decimal_plain steps fits in
-      ap (words_say book)
+      ap (words_say book ids)
       (words_of-spaced (codes "%steps" ∷ words)
       (All-from_recursion IsWord (codes "%steps" ∷ words) (IsWord-steps, (IsWord-name name is, (IsWord-plain (decimal steps) number.1 number.0, tt)))))
-      ∙ words_say-steps words
-      ∙ ap (λ (t : Bool). cond t (steps_of book name (count_says (decimal steps ∷ []))) (Err BadName)) is
-      ∙ ap (λ (o : Option ℕ). steps_of book name (ok_or o BadNumber)) (count_of-decimal steps some fits)
-      ∙ ap (asked_of (λ by by_id. Steps by by_id steps) name) opened
+      ∙ words_say-steps ids words
+      ∙ ap (λ (t : Bool). cond t (line_asking ids name (steps_say (decimal steps ∷ []))) (Err BadName)) is
+      ∙ ap (λ (o : Option ℕ). line_asking ids name (steps_of (ok_or o BadNumber))) (count_of-decimal steps some fits)
+      ∙ ap (asked_of (AsksSteps steps) name) opened
 
   pub steps-read-back : StepsReadBack book
-  steps-read-back name id steps is opened some fits = ap (line_says book) (steps_line-read name steps is fits) ∙ steps_line-says name id steps is opened some fits
+  steps-read-back ids name id steps is opened some fits = ap (line_says book ids) (steps_line-read name steps is fits) ∙ steps_line-says ids name id steps is opened some fits
 
 -- ---- commands
 module _ (book : Names) (names : NamesReadBack book) where
@@ -344,12 +340,12 @@ module _ (book : Names) (names : NamesReadBack book) where
   solid-part line word is = is.solid
 
   pub commands-read-back : CommandsReadBack book
-  commands-read-back line name id command short said =
-      let (is, opened, spelled, within) = IfOk-at_ok (IsRun book (IsPart line) (suc (length line))) said (line-run book names line) in
-      ap (line_says book) (command_line-read (IsPart line) (solid-part line) book names name command (omega (arith, short, within)))
-      ∙ command_line-says (IsPart line) (solid-part line) book names name id command is opened spelled
+  commands-read-back ids line name id command short said =
+      let (is, opened, spelled, within) = IfOk-at_ok (IsRun book ids (IsPart line) (suc (length line))) said (line-run book ids names line) in
+      ap (line_says book ids) (command_line-read (IsPart line) (solid-part line) book names name command spelled (omega (arith, short, within)))
+      ∙ command_line-says (IsPart line) (solid-part line) book names ids name id command is opened spelled
 
   pub commands-are-lines : CommandsAreLines book
-  commands-are-lines line name id command whole said =
-      let (is, opened, spelled, within) = IfOk-at_ok (IsRun book (IsPart line) (suc (length line))) said (line-run book names line) in
+  commands-are-lines ids line name id command whole said =
+      let (is, opened, spelled, within) = IfOk-at_ok (IsRun book ids (IsPart line) (suc (length line))) said (line-run book ids names line) in
       unbroken-line (IsPart line) (solid-part line) book names (λ word part. part.unbroken whole) name command is spelled

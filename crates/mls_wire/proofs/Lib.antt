@@ -2,6 +2,7 @@ pub mod AheadLemmas
 pub mod CalledWords
 pub mod Chunks
 pub mod CommandLengths
+pub mod Interruptions
 pub mod JournalLaws
 pub mod JournalTexts
 pub mod NextLineLemmas

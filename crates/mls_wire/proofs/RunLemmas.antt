@@ -6,9 +6,7 @@ use Rattle.mls_server.specs.Worlds.{IsNumbered, World}
 use Rattle.mls_server.specs.declared.answer.Answer.{Answer}
 use Rattle.mls_server.specs.declared.event.Event.{Event}
 use Rattle.mls_server.specs.declared.event.Event.TheVariants.{Open as OpenEvent, Close as CloseEvent, Look as LookEvent, Step as StepEvent, Steps as StepsEvent}
-use Rattle.mls_wire.specs.NameBooks.{book_of}
-use Rattle.mls_wire.specs.Runs.{AreToldAlone, Asks, Executes, RunsLine, RunsLines, answers_of, command_event, events_of}
-use Rattle.mls_wire.specs.Says.{line_says}
+use Rattle.mls_wire.specs.Runs.{AreToldAlone, Asks, Executes, RunsLine, RunsLines, answers_of, command_event, events_of, says_in}
 use Rattle.mls_wire.specs.declared.line.Line.{Line}
 use Rattle.mls_wire.specs.declared.line.Line.TheVariants.{Silent, Open, Close, Step, Steps, Audit, Look, Run}
 use Rattle.mls_wire.specs.declared.line.LineFault.{LineFault}
@@ -71,8 +69,8 @@ line_run : (old new : World) (n : ℕ) (line : Option (List ℕ)) (text : List �
     → RunsLine old n line text events answers new → Runs old events answers new
 line_run old new n line text events answers run =
     subst (λ given. Runs old given answers new) (sym run.3)
-    (subst (λ given. Runs old (events_of (line_says (book_of old) line)) given new) (sym run.4)
-    (executed_run old new (line_says (book_of old) line) run.0 run.1))
+    (subst (λ given. Runs old (events_of (says_in old line)) given new) (sym run.4)
+    (executed_run old new (says_in old line) run.0 run.1))
 
 runs_append : (old mid new : World) (events more_events : List Event) (answers more_answers : List Answer)
     → Runs old events answers mid → Runs mid more_events more_answers new → Runs old (events ++ more_events) (answers ++ more_answers) new

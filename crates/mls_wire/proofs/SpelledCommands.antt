@@ -17,7 +17,7 @@ use Rattle.mls_text.specs.Words.{onto_first, same_word}
 use Rattle.mls_wire.specs.ReadBack.{HasShortName, NamesReadBack}
 use Rattle.mls_wire.specs.NameBooks.{Names}
 use Rattle.mls_wire.specs.Numbers.{number_of}
-use Rattle.mls_wire.specs.Says.{box_of, cell_edit_of, command_of, drc_of, drc_says, dump_of, edit_of, erase_says, getcell_of, moved_by, moved_cell_says, names_type, paint_says, save_says, sides_of, sides_say, types_named, what_says}
+use Rattle.mls_wire.specs.Says.{alone_says, box_of, command_of, drc_of, drc_says, dump_of, edit_of, erase_says, getcell_of, moved_by, moved_cell_says, names_type, paint_says, sides_of, sides_say, types_named}
 use Rattle.mls_wire.specs.declared.line.LineFault.{LineFault}
 use Rattle.mls_wire.specs.declared.line.LineFault.TheVariants.{UnknownCommand}
 use Rattle.mls_wire.specs.declared.parse.MovedCell.{MovedCell}
@@ -241,13 +241,9 @@ module _ (Is : List ℕ → Type 0) (book : Names) (names : NamesReadBack book) 
   erase-spelled (list ∷ []) = let (field, others, begins) = fields_of-field list in types_named-spelled (fields_of list) field others begins
   erase-spelled (list ∷ more ∷ words) = tt
 
-  save-spelled : (words : List (List ℕ)) → IfOk (save_says words) (IsSpelled book Is)
-  save-spelled [] = tt
-  save-spelled (word ∷ words) = tt
-
-  what-spelled : (words : List (List ℕ)) → IfOk (what_says words) (IsSpelled book Is)
-  what-spelled [] = tt
-  what-spelled (word ∷ words) = tt
+  alone-spelled : (command : Command) → IsSpelled book Is command → (words : List (List ℕ)) → IfOk (alone_says command words) (IsSpelled book Is)
+  alone-spelled command spelled [] = spelled
+  alone-spelled command spelled (word ∷ words) = tt
 
   drc_of-spelled : (word : List ℕ) → IfOk (drc_of word) (IsSpelled book Is)
   unfolding drc_of
@@ -263,13 +259,13 @@ module _ (Is : List ℕ → Type 0) (book : Names) (names : NamesReadBack book) 
   drc-spelled (word ∷ more ∷ words) = tt
 
   pub command_of-spelled : (words : List (List ℕ)) → All Is words → IfOk (command_of book words) (IsSpelled book Is)
-  unfolding command_of edit_of cell_edit_of
+  unfolding command_of edit_of
   command_of-spelled [] are = tt
   command_of-spelled (verb ∷ words) are =
       let others = All-tail Is verb words are in
       choice (IsSpelled book Is) (same_word verb (codes "box")) _ _ (box_of-spelled (sides_say words) (sides_say-short words))
-      (choice (IsSpelled book Is) (same_word verb (codes "what")) _ _ (what-spelled words)
-      (choice (IsSpelled book Is) (same_word verb (codes "save")) _ _ (save-spelled words)
+      (choice (IsSpelled book Is) (same_word verb (codes "what")) _ _ (alone-spelled What tt words)
+      (choice (IsSpelled book Is) (same_word verb (codes "save")) _ _ (alone-spelled Save tt words)
       (choice (IsSpelled book Is) (same_word verb (codes "drc")) _ _ (drc-spelled words)
       (choice (IsSpelled book Is) (same_word verb (codes "paint")) _ _ (paint-spelled words)
       (choice (IsSpelled book Is) (same_word verb (codes "erase")) _ _ (erase-spelled words)

@@ -1,7 +1,7 @@
 -- What names mean to a reader of lines, and what numbers are called in replies.
 use Rattle.std.specs.Prelude.{ℕ, Option, None, List, [], ◌∷◌, if◌then◌else◌, position, slice_get}
 use Rattle.mls_server.specs.Settings.{Setting, cell_names}
-use Rattle.mls_server.specs.Worlds.{World, session_named}
+use Rattle.mls_server.specs.Worlds.{World}
 use Rattle.mls_tech.specs.Readings.{number_named, name_of, short_name_of, why_of}
 use Rattle.mls_text.specs.Words.{same_word}
 
@@ -18,8 +18,10 @@ pub record Names : Type 0 where
   pub short_type_name : ℕ → Option (List ℕ)
   -- why a rule is there, by its number from 1
   pub why_text : ℕ → Option (List ℕ)
-  -- the id of the open session of a name
-  pub session : List ℕ → Option ℕ
+
+-- the id of the open session of each name
+abbrev pub SessionIds : Type 0
+SessionIds = List ℕ → Option ℕ
 
 -- a comma, which is the name of nothing: it is written for what has no name
 abbrev pub no_name : List ℕ
@@ -39,5 +41,4 @@ book_of on =
       type_name = name_of on.setting.tech.types;
       short_type_name = short_name_of on.setting.tech.types;
       why_text = why_of on.setting.tech.rules;
-      session = session_named on;
     }

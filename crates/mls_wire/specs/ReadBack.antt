@@ -10,7 +10,7 @@ use Rattle.mls_text.specs.Lines.{IsUnbroken}
 use Rattle.mls_text.specs.Words.{is_blank}
 use Rattle.mls_wire.specs.JournalLines.{command_line, steps_line, type_word}
 use Rattle.mls_wire.specs.Lines.{line_limit, read_line}
-use Rattle.mls_wire.specs.NameBooks.{Names, book_of, no_name}
+use Rattle.mls_wire.specs.NameBooks.{Names, SessionIds, book_of, no_name}
 use Rattle.mls_wire.specs.PlayedJournals.{PlaysAgain}
 use Rattle.mls_wire.specs.Says.{line_says}
 use Rattle.mls_wire.specs.declared.line.Line.TheVariants.{Run, Steps}
@@ -40,19 +40,20 @@ pub record NamesReadBack (book : Names) : Type 0 where
 -- for every command that some line of at most 1,023 bytes says, the line that is written for it says the same command of the same session, as it is read
 abbrev pub CommandsReadBack : Names → Type 0
 CommandsReadBack book =
-    (line name : List ℕ) (id : ℕ) (command : Command) → length line < line_limit → line_says book (Some line) ≡ Ok (Run name id command)
-    → line_says book (read_line (command_line book name command)) ≡ Ok (Run name id command)
+    (ids : SessionIds) (line name : List ℕ) (id : ℕ) (command : Command) → length line < line_limit → line_says book ids (Some line) ≡ Ok (Run name id command)
+    → line_says book ids (read_line (command_line book name command)) ≡ Ok (Run name id command)
 
 -- it is one line, where that is one
 abbrev pub CommandsAreLines : Names → Type 0
 CommandsAreLines book =
-    (line name : List ℕ) (id : ℕ) (command : Command) → IsUnbroken line → line_says book (Some line) ≡ Ok (Run name id command) → IsUnbroken (command_line book name command)
+    (ids : SessionIds) (line name : List ℕ) (id : ℕ) (command : Command) → IsUnbroken line → line_says book ids (Some line) ≡ Ok (Run name id command)
+    → IsUnbroken (command_line book name command)
 
 -- and a line of check steps does as many
 abbrev pub StepsReadBack : Names → Type 0
 StepsReadBack book =
-    (name : List ℕ) (id steps : ℕ) → is_session_name name ≡ true → book.session name ≡ Some id → 1 ≤ steps → steps < 2 ^ 64
-    → line_says book (read_line (steps_line name steps)) ≡ Ok (Steps name id steps)
+    (ids : SessionIds) (name : List ℕ) (id steps : ℕ) → is_session_name name ≡ true → ids name ≡ Some id → 1 ≤ steps → steps < 2 ^ 64
+    → line_says book ids (read_line (steps_line name steps)) ≡ Ok (Steps name id steps)
 
 -- types and cells are called as they are in this setting
 pub record CallsAs (book : Names) (setting : Setting) : Type 0 where

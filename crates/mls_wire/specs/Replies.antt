@@ -1,5 +1,5 @@
 -- The text of a line's response. Each reply ends with a line feed. This project's own.
-use Rattle.std.specs.Prelude.{ℕ, ◌==◌, List, [], ◌∷◌, ◌++◌, Ok, Err, length, codes}
+use Rattle.std.specs.Prelude.{ℕ, ◌==◌, Option, List, [], ◌∷◌, ◌++◌, Ok, Err, length, codes}
 use Rattle.std.specs.List.{flat_map}
 use Rattle.std.specs.Option.{unwrap_or}
 use Rattle.mls_edgerule.specs.RuleSets.{rules_in}
@@ -32,13 +32,25 @@ numbered n text = decimal n ++ 32 ∷ text
 unfoldable pub without_space : ℕ → ℕ
 without_space kinds = difference kinds (set_of (λ kind. kind == 0))
 
+-- a text, or none
+abbrev pub text_if_any : Option (List ℕ) → List ℕ
+text_if_any text = unwrap_or text []
+
 -- a space and the type's first name
 abbrev pub type_text : Names → ℕ → List ℕ
-type_text book kind = 32 ∷ unwrap_or (book.type_name kind) []
+type_text book kind = 32 ∷ text_if_any (book.type_name kind)
+
+-- those of a set of types, in the order of their numbers
+abbrev pub types_text : Names → ℕ → List ℕ
+types_text book kinds = flat_map (type_text book) (members kinds)
 
 -- a space, the rule's number in brackets, and its why text
 abbrev pub rule_text : Names → ℕ → List ℕ
-rule_text book n = codes " [" ++ decimal n ++ codes "] " ++ unwrap_or (book.why_text n) []
+rule_text book n = codes " [" ++ decimal n ++ codes "] " ++ text_if_any (book.why_text n)
+
+-- those of a set of rules, in rising order
+abbrev pub rules_text : Names → ℕ → List ℕ
+rules_text book rules = flat_map (rule_text book) (rules_in rules)
 
 -- how many areas await checking
 abbrev pub pending_text : ℕ → List ℕ
@@ -58,10 +70,10 @@ steps_text run = decimal run.done ++ 32 ∷ stepped_text run.ended
 -- a reply without its line's first word and its line feed
 unfoldable pub reply_text : Names → Reply → List ℕ
 reply_text book Done = codes "ok"
-reply_text book (Kinds kinds) = codes "what " ++ decimal (length (members (without_space kinds))) ++ flat_map (type_text book) (members (without_space kinds))
+reply_text book (Kinds kinds) = codes "what " ++ decimal (length (members (without_space kinds))) ++ types_text book (without_space kinds)
 reply_text book (Saved lines) = codes "saved " ++ decimal lines
 reply_text book (Count errors pending) = codes "count " ++ decimal errors ++ codes " errors" ++ pending_text pending
-reply_text book (Why rules) = codes "why " ++ decimal (length (rules_in rules)) ++ flat_map (rule_text book) (rules_in rules)
+reply_text book (Why rules) = codes "why " ++ decimal (length (rules_in rules)) ++ rules_text book rules
 reply_text book (Refused refusal) = codes "refused " ++ numbered (refusal_number refusal) (refusal_text refusal)
 reply_text book (Stopped refusal pending) = codes "refused " ++ numbered (refusal_number refusal) (refusal_text refusal) ++ pending_text pending
 
@@ -92,7 +104,7 @@ status_text status = codes "stat " ++ progress_text status ++ codes "," ++ room_
 -- a line feed, and the line that places a cell so, without its own line feed
 abbrev pub use_text : Names → CellUse → List ℕ
 use_text book cell_use =
-    10 ∷ codes "getcell " ++ unwrap_or (book.cell_name cell_use.cell) [] ++ 32 ∷ signed_decimal cell_use.dx ++ 32 ∷ signed_decimal cell_use.dy
+    10 ∷ codes "getcell " ++ text_if_any (book.cell_name cell_use.cell) ++ 32 ∷ signed_decimal cell_use.dx ++ 32 ∷ signed_decimal cell_use.dy
 
 -- what a look at the session of a name returned, without its line's first word and its line feed: a text and rules as a command's reply has them
 unfoldable pub looked_text : Names → List ℕ → Looked → List ℕ

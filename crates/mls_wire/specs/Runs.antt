@@ -5,7 +5,7 @@ use Rattle.mls_session.specs.declared.command.Command.{Command}
 use Rattle.mls_session.specs.declared.command.Command.TheVariants.{Box, Paint, Erase, Dump, GetCell, What, Save as SaveCommand, Check, CatchUp, Why, Count}
 use Rattle.mls_server.specs.Events.{Happens}
 use Rattle.mls_server.specs.OwnLists.{IsToldAlone}
-use Rattle.mls_server.specs.Worlds.{JournalsAreLegal, MarksAreExact, MarksAreRight, World, kept_in}
+use Rattle.mls_server.specs.Worlds.{JournalsAreLegal, MarksAreExact, MarksAreRight, World, kept_in, session_named}
 use Rattle.mls_server.specs.declared.answer.Answer.{Answer}
 use Rattle.mls_server.specs.declared.event.Event.{Event}
 use Rattle.mls_server.specs.declared.event.Event.TheVariants.{Open as OpenEvent, Close as CloseEvent, Command as CommandEvent, Save as SaveEvent, Look as LookEvent, Step as StepEvent, Steps as StepsEvent}
@@ -19,6 +19,10 @@ use Rattle.mls_wire.specs.declared.response.Response.{Response}
 use Rattle.mls_wire.specs.declared.response.Response.TheVariants.{Silent as NoResponse, Fault, Answered, Audited}
 
 -- ---- a line
+-- what it says in a world, or its first fault
+abbrev pub says_in : World → Option (List ℕ) → Result Line LineFault
+says_in on line = line_says (book_of on) (session_named on) line
+
 -- a command asks for itself, and `save` for the text too
 abbrev pub command_event : ℕ → Command → Event
 command_event id (Box left bottom right top) = CommandEvent id (Box left bottom right top)
@@ -100,8 +104,8 @@ pub record IsSound (on : World) : Type 0 where
 -- line n has this reply text, asks for these events and gets these answers, at most one, and leads to the new world
 abbrev pub RunsLine : World → ℕ → Option (List ℕ) → List ℕ → List Event → List Answer → World → Type 0
 RunsLine old n line text events answers new =
-    (response : Response) × Executes old (line_says (book_of old) line) response new × (text ≡ response_text (book_of new) n response)
-    × (events ≡ events_of (line_says (book_of old) line)) × (answers ≡ answers_of response) × IsSound new
+    (response : Response) × Executes old (says_in old line) response new × (text ≡ response_text (book_of new) n response)
+    × (events ≡ events_of (says_in old line)) × (answers ≡ answers_of response) × IsSound new
 
 -- the lines from line n on have these reply texts, events and answers, one after another, and lead to the new world
 abbrev pub RunsLines : World → ℕ → List (Option (List ℕ)) → List ℕ → List Event → List Answer → World → Type 0

@@ -7,7 +7,7 @@ use Rattle.mls_session.specs.declared.command.Command.{Command}
 use Rattle.mls_session.specs.declared.command.Command.TheVariants.{Box, Paint, Erase, Dump, GetCell, What, Save, Check, CatchUp, Why, Count}
 use Rattle.mls_session.specs.declared.look.Look.{Look}
 use Rattle.mls_session.specs.declared.look.Look.TheVariants.{Save as SaveLook, Why as WhyLook, Status as StatusLook, Uses as UsesLook, Marks as MarksLook, Journal as JournalLook}
-use Rattle.mls_wire.specs.NameBooks.{Names}
+use Rattle.mls_wire.specs.NameBooks.{Names, SessionIds}
 use Rattle.mls_wire.specs.Numbers.{count_of, number_of}
 use Rattle.mls_text.specs.Fields.{fields_of}
 use Rattle.mls_text.specs.Words.{begins_with, words_of, same_word}
@@ -16,7 +16,9 @@ use Rattle.mls_wire.specs.declared.line.Line.{Line}
 use Rattle.mls_wire.specs.declared.line.Line.TheVariants.{Silent, Open, Close, Step, Steps, Audit, Look as LookAt, Run}
 use Rattle.mls_wire.specs.declared.line.LineFault.{LineFault}
 use Rattle.mls_wire.specs.declared.parse.Asked.{Asked}
-use Rattle.mls_wire.specs.declared.parse.Asked.TheVariants.{Close as AsksClose, Step as AsksStep, Audit as AsksAudit, Look as AsksLook}
+use Rattle.mls_wire.specs.declared.parse.Asked.TheVariants.{Close as AsksClose, Step as AsksStep, Steps as AsksSteps, Audit as AsksAudit, Look as AsksLook}
+use Rattle.mls_wire.specs.declared.parse.Asking.{Asking}
+use Rattle.mls_wire.specs.declared.parse.Asking.TheVariants.{Alone as ByName, Why as ByLines, Steps as ByCount}
 use Rattle.mls_wire.specs.declared.parse.MovedCell.{MovedCell}
 use Rattle.mls_wire.specs.declared.parse.Sides.{Sides}
 use Rattle.mls_wire.specs.declared.line.LineFault.TheVariants.{UnknownCommand, BadNumber, BadName, NotOpen}
@@ -82,13 +84,10 @@ getcell_of (Err fault) = Err fault
 abbrev pub getcell_says : Names → List (List ℕ) → Result Command LineFault
 getcell_says book words = getcell_of (moved_cell_says book words)
 
-abbrev pub save_says : List (List ℕ) → Result Command LineFault
-save_says [] = Ok Save
-save_says _ = Err UnknownCommand
-
-abbrev pub what_says : List (List ℕ) → Result Command LineFault
-what_says [] = Ok What
-what_says _ = Err UnknownCommand
+-- this was said so far, and no words follow
+abbrev pub alone_says : {A : Type 0} → A → List (List ℕ) → Result A LineFault
+alone_says said [] = Ok said
+alone_says said _ = Err UnknownCommand
 
 -- the command on checks that this word is
 unfoldable pub drc_of : List ℕ → Result Command LineFault
@@ -102,25 +101,21 @@ abbrev pub drc_says : List (List ℕ) → Result Command LineFault
 drc_says (word ∷ []) = drc_of word
 drc_says _ = Err UnknownCommand
 
--- a command that brings a cell into the layout, and the words after its own
-unfoldable pub cell_edit_of : Names → List ℕ → List (List ℕ) → Result Command LineFault
-cell_edit_of book verb words =
-    if same_word verb (codes "dump") then dump_says book words
-    else (if same_word verb (codes "getcell") then getcell_says book words else Err UnknownCommand)
-
 -- a command that changes the layout, and the words after its own
 unfoldable pub edit_of : Names → List ℕ → List (List ℕ) → Result Command LineFault
 edit_of book verb words =
     if same_word verb (codes "paint") then paint_says book words
-    else (if same_word verb (codes "erase") then erase_says book words else cell_edit_of book verb words)
+    else (if same_word verb (codes "erase") then erase_says book words
+    else (if same_word verb (codes "dump") then dump_says book words
+    else (if same_word verb (codes "getcell") then getcell_says book words else Err UnknownCommand)))
 
 -- the words after a session's name
 unfoldable pub command_of : Names → List (List ℕ) → Result Command LineFault
 command_of book [] = Err UnknownCommand
 command_of book (verb ∷ words) =
     if same_word verb (codes "box") then box_says words
-    else (if same_word verb (codes "what") then what_says words
-    else (if same_word verb (codes "save") then save_says words
+    else (if same_word verb (codes "what") then alone_says What words
+    else (if same_word verb (codes "save") then alone_says Save words
     else (if same_word verb (codes "drc") then drc_says words else edit_of book verb words)))
 
 -- a command for a session: a fault of its name's form comes first, then one of the command's, and last that no session of the name is open
@@ -128,12 +123,12 @@ abbrev pub run_by : List ℕ → Command → Option ℕ → Result Line LineFaul
 run_by name command (Some id) = Ok (Run name id command)
 run_by name command None = Err NotOpen
 
-abbrev pub line_with : Names → List ℕ → Result Command LineFault → Result Line LineFault
-line_with book name (Ok command) = run_by name command (book.session name)
-line_with book name (Err fault) = Err fault
+abbrev pub line_with : SessionIds → List ℕ → Result Command LineFault → Result Line LineFault
+line_with ids name (Ok command) = run_by name command (ids name)
+line_with ids name (Err fault) = Err fault
 
-unfoldable pub session_says : Names → List ℕ → List (List ℕ) → Result Line LineFault
-session_says book name words = if is_session_name name then line_with book name (command_of book words) else Err BadName
+unfoldable pub session_says : Names → SessionIds → List ℕ → List (List ℕ) → Result Line LineFault
+session_says book ids name words = if is_session_name name then line_with ids name (command_of book words) else Err BadName
 
 -- the words after `%open`
 unfoldable pub open_says : List (List ℕ) → Result Line LineFault
@@ -141,83 +136,84 @@ open_says [] = Err BadName
 open_says (name ∷ []) = if is_session_name name then Ok (Open name) else Err BadName
 open_says (name ∷ more ∷ words) = if is_session_name name then Err UnknownCommand else Err BadName
 
--- what is asked of the open session of a name
-abbrev pub asked_of : (List ℕ → ℕ → Line) → List ℕ → Option ℕ → Result Line LineFault
-asked_of make name (Some id) = Ok (make name id)
-asked_of make name None = Err NotOpen
-
--- the words after `%close`, `%step`, `%audit`, `%save`, `%stat`, `%uses`, `%marks` or `%journal`: here too a fault of the name's form comes first, then one of the
--- number of words, and last that no session of the name is open
-unfoldable pub asks_says : Names → (List ℕ → ℕ → Line) → List (List ℕ) → Result Line LineFault
-asks_says book make [] = Err BadName
-asks_says book make (name ∷ []) = if is_session_name name then asked_of make name (book.session name) else Err BadName
-asks_says book make (name ∷ more ∷ words) = if is_session_name name then Err UnknownCommand else Err BadName
-
--- the line that looks at a session
-abbrev pub look_line : Look → List ℕ → ℕ → Line
-look_line look name id = LookAt name id look
-
 -- the line that asks this
 abbrev pub asked_line : Asked → List ℕ → ℕ → Line
 asked_line AsksClose name id = Close name id
 asked_line AsksStep name id = Step name id
+asked_line (AsksSteps most) name id = Steps name id most
 asked_line AsksAudit name id = Audit name id
-asked_line (AsksLook look) name id = look_line look name id
+asked_line (AsksLook look) name id = LookAt name id look
 
--- why a square between these lines is forbidden, in the open session of a name
-abbrev pub why_of : Names → List ℕ → Result Sides LineFault → Result Line LineFault
-why_of book name (Ok sides) = asked_of (look_line (WhyLook sides.left sides.bottom sides.right sides.top)) name (book.session name)
-why_of book name (Err fault) = Err fault
+-- why a square between these lines is forbidden
+abbrev pub why_of : Result Sides LineFault → Result Asked LineFault
+why_of (Ok sides) = Ok (AsksLook (WhyLook sides.left sides.bottom sides.right sides.top))
+why_of (Err fault) = Err fault
 
--- the words after `%why`: a fault of the name's form comes first, then one of the number of words, then one of a number, and last that no session of the
--- name is open
-unfoldable pub why_says : Names → List (List ℕ) → Result Line LineFault
-why_says book [] = Err BadName
-why_says book (name ∷ words) = if is_session_name name then why_of book name (sides_say words) else Err BadName
+abbrev pub why_says : List (List ℕ) → Result Asked LineFault
+why_says words = why_of (sides_say words)
 
 -- how many times something is done
 abbrev pub count_says : List (List ℕ) → Result ℕ LineFault
 count_says (word ∷ []) = ok_or (count_of word) BadNumber
 count_says _ = Err UnknownCommand
 
--- at most so many check steps, in the open session of a name
-abbrev pub steps_of : Names → List ℕ → Result ℕ LineFault → Result Line LineFault
-steps_of book name (Ok most) = asked_of (λ by id. Steps by id most) name (book.session name)
-steps_of book name (Err fault) = Err fault
+-- at most so many check steps
+abbrev pub steps_of : Result ℕ LineFault → Result Asked LineFault
+steps_of (Ok most) = Ok (AsksSteps most)
+steps_of (Err fault) = Err fault
 
--- the words after `%steps`: the faults come in the order of `%why`
-unfoldable pub steps_says : Names → List (List ℕ) → Result Line LineFault
-steps_says book [] = Err BadName
-steps_says book (name ∷ words) = if is_session_name name then steps_of book name (count_says words) else Err BadName
+abbrev pub steps_say : List (List ℕ) → Result Asked LineFault
+steps_say words = steps_of (count_says words)
 
--- what a word asks of the open session whose name comes next, by that name alone
-unfoldable pub asked_by : List ℕ → Option Asked
+-- what the words after the session's name ask
+abbrev pub asked_in : Asking → List (List ℕ) → Result Asked LineFault
+asked_in (ByName asked) words = alone_says asked words
+asked_in ByLines words = why_says words
+asked_in ByCount words = steps_say words
+
+-- what is asked of the open session of a name
+abbrev pub asked_of : Asked → List ℕ → Option ℕ → Result Line LineFault
+asked_of asked name (Some id) = Ok (asked_line asked name id)
+asked_of asked name None = Err NotOpen
+
+abbrev pub line_asking : SessionIds → List ℕ → Result Asked LineFault → Result Line LineFault
+line_asking ids name (Ok asked) = asked_of asked name (ids name)
+line_asking ids name (Err fault) = Err fault
+
+-- the words after one that asks something: here too a fault of the name's form comes first, then one of the words after it, and last that no session of the name
+-- is open
+unfoldable pub asks_says : SessionIds → Asking → List (List ℕ) → Result Line LineFault
+asks_says ids asking [] = Err BadName
+asks_says ids asking (name ∷ words) = if is_session_name name then line_asking ids name (asked_in asking words) else Err BadName
+
+-- what a word asks of the open session whose name comes next
+unfoldable pub asked_by : List ℕ → Option Asking
 asked_by word =
-    if same_word word (codes "%close") then Some AsksClose
-    else (if same_word word (codes "%step") then Some AsksStep
-    else (if same_word word (codes "%audit") then Some AsksAudit
-    else (if same_word word (codes "%save") then Some (AsksLook SaveLook)
-    else (if same_word word (codes "%stat") then Some (AsksLook StatusLook)
-    else (if same_word word (codes "%uses") then Some (AsksLook UsesLook)
-    else (if same_word word (codes "%marks") then Some (AsksLook MarksLook)
-    else (if same_word word (codes "%journal") then Some (AsksLook JournalLook) else None)))))))
+    if same_word word (codes "%why") then Some ByLines
+    else (if same_word word (codes "%steps") then Some ByCount
+    else (if same_word word (codes "%close") then Some (ByName AsksClose)
+    else (if same_word word (codes "%step") then Some (ByName AsksStep)
+    else (if same_word word (codes "%audit") then Some (ByName AsksAudit)
+    else (if same_word word (codes "%save") then Some (ByName (AsksLook SaveLook))
+    else (if same_word word (codes "%stat") then Some (ByName (AsksLook StatusLook))
+    else (if same_word word (codes "%uses") then Some (ByName (AsksLook UsesLook))
+    else (if same_word word (codes "%marks") then Some (ByName (AsksLook MarksLook))
+    else (if same_word word (codes "%journal") then Some (ByName (AsksLook JournalLook)) else None)))))))))
 
-abbrev pub asking_says : Names → Option Asked → List (List ℕ) → Result Line LineFault
-asking_says book (Some asked) words = asks_says book (asked_line asked) words
-asking_says book None words = Err UnknownCommand
+abbrev pub asking_says : SessionIds → Option Asking → List (List ℕ) → Result Line LineFault
+asking_says ids (Some asking) words = asks_says ids asking words
+asking_says ids None words = Err UnknownCommand
 
-unfoldable pub words_say : Names → List (List ℕ) → Result Line LineFault
-words_say book [] = Ok Silent
-words_say book (word ∷ words) =
+unfoldable pub words_say : Names → SessionIds → List (List ℕ) → Result Line LineFault
+words_say book ids [] = Ok Silent
+words_say book ids (word ∷ words) =
     if same_word word (codes "%open") then open_says words
-    else (if same_word word (codes "%why") then why_says book words
-    else (if same_word word (codes "%steps") then steps_says book words
-    else (if begins_with 37 word then asking_says book (asked_by word) words else session_says book word words)))
+    else (if begins_with 37 word then asking_says ids (asked_by word) words else session_says book ids word words)
 
 -- a line as it was read: one that is too long is a fault whatever it holds, and a comment begins with `#` in its very first byte
-unfoldable pub line_says : Names → Option (List ℕ) → Result Line LineFault
-line_says book None = Err UnknownCommand
-line_says book (Some bytes) = if begins_with 35 bytes then Ok Silent else words_say book (words_of bytes)
+unfoldable pub line_says : Names → SessionIds → Option (List ℕ) → Result Line LineFault
+line_says book ids None = Err UnknownCommand
+line_says book ids (Some bytes) = if begins_with 35 bytes then Ok Silent else words_say book ids (words_of bytes)
 
 -- the number of a fault in its reply
 abbrev pub line_fault_number : LineFault → ℕ

@@ -5,47 +5,20 @@ ghost use Rattle.mls_wire.specs.Ahead.{SaysScript, StopsReading, ahead_says, is_
 ghost use Rattle.mls_wire.specs.ScriptLines.{text_of};
 
 use crate::reader::{LineReader, NextLine};
-use crate::{Line, LineFault, Names, ScriptLine, ServeFault, Watched, parse_line};
-use mls_library::CellId;
+use crate::{Line, LineFault, Names, ScriptLine, ServeFault, Sessions, Watched, parse_line};
 use mls_server::{Name, SessionId};
 use mls_text::Words;
 use std::alloc::{AllocError, Global};
 use std::io::Read;
 
-/// Names before any session is open. Each session may be opened yet.
+/// The sessions of a script before any is open. Each may be opened yet.
 #[derive(Drop)]
-struct Ahead<'a, N> {
-    names: &'a N,
-}
+struct Ahead;
 
-impl<N: Names> Names for Ahead<'_, N> {
-    ghost use Rattle.mls_wire.specs.Ahead.{ahead_of};
+impl Sessions for Ahead {
+    ghost use Rattle.mls_wire.specs.Ahead.{ids_ahead};
 
-    ghost book = { λ ahead. ahead_of (N.book ahead.names.now) };
-
-    fn type_of(&self, word: &[u8]) -> Option<u8> {
-        self.names.type_of(word)
-    }
-
-    fn cell_of(&self, word: &[u8]) -> Option<CellId> {
-        self.names.cell_of(word)
-    }
-
-    fn cell_name(&self, cell: CellId) -> Option<&[u8]> {
-        self.names.cell_name(cell)
-    }
-
-    fn type_name(&self, kind: u8) -> Option<&[u8]> {
-        self.names.type_name(kind)
-    }
-
-    fn short_type_name(&self, kind: u8) -> Option<&[u8]> {
-        self.names.short_type_name(kind)
-    }
-
-    fn why_text(&self, n: usize) -> Option<&[u8]> {
-        self.names.why_text(n)
-    }
+    ghost ids = { λ _. ids_ahead };
 
     fn session(&self, _name: &Name) -> Option<SessionId> {
         Some(SessionId::of(0))
@@ -113,7 +86,7 @@ fn parse_text<N: Names>(names: &N, bytes: &[u8]) -> Result<Line, LineFault>
     if begins_stepwise(Words::new(bytes)) {
         return Err(LineFault::UnknownCommand);
     }
-    parse_line(&Ahead { names }, ScriptLine::Text(bytes))
+    parse_line(names, &Ahead, ScriptLine::Text(bytes))
 }
 
 /// Returns whether the first word is `%close`, `%step` or `%steps`.

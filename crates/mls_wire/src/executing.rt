@@ -3,10 +3,8 @@ ghost use Rattle.std.specs.Prelude.{◌≡◌, ◌≢◌, None, Ok, Some};
 ghost use Rattle.std.specs.Option.{option_map};
 ghost use Rattle.mls_server.specs.Servers.{world_of};
 ghost use Rattle.mls_server.specs.Worlds.{kept_in};
-ghost use Rattle.mls_wire.specs.NameBooks.{book_of};
 ghost use Rattle.mls_wire.specs.Runs as runs;
-ghost use Rattle.mls_wire.specs.Runs.{Asks, CanExecute, Executes};
-ghost use Rattle.mls_wire.specs.Says.{line_says};
+ghost use Rattle.mls_wire.specs.Runs.{Asks, CanExecute, Executes, says_in};
 ghost use Rattle.mls_wire.specs.ScriptLines.{text_of};
 
 use crate::{Line, Response, ScriptLine, parse_line};
@@ -17,10 +15,10 @@ use std::alloc::Global;
 /// Executes a line, and returns the response to it.
 pub fn respond(alloc: Global, server: &mut Server, line: ScriptLine<'_>) -> Response
     ensures executes { Executes (world_of server.old)
-        (line_says (book_of (world_of server.old)) (text_of line.entry)) result (world_of server.new) }
+        (says_in (world_of server.old) (text_of line.entry)) result (world_of server.new) }
     ensures setting { (world_of server.new).setting ≡ (world_of server.old).setting }
 {
-    match parse_line(server, line) {
+    match parse_line(server, server, line) {
         Ok(said) => execute(alloc, server, said),
         Err(fault) => Response::Fault(fault),
     }

@@ -9,7 +9,7 @@ ghost use Rattle.mls_wire.specs.Pushes.{Appends};
 
 use crate::Names;
 use crate::reply::{Pushed, push_decimal, push_offset};
-use mls_kinds::{Iter, KindSet};
+use mls_kinds::{Iter, Kind, KindSet};
 use mls_library::CellId;
 use mls_server::Name;
 use mls_session::{Command, Entry, JournalCopy};
@@ -147,28 +147,28 @@ fn push_shield(out: &mut Vec<u8>) -> Pushed
 fn push_said<N: Names>(names: &N, command: &Command, out: &mut Vec<u8>) -> Pushed
     ensures { Appends result out.old out.new (spec.said_text (N.book names.now) command.now) }
 {
-    match command {
+    match *command {
         Command::Box {
             left,
             bottom,
             right,
             top,
-        } => push_box(*left, *bottom, *right, *top, out),
+        } => push_box(left, bottom, right, top, out),
         Command::Paint(kind) => {
             out.extend_from_slice(b" paint ")?;
-            push_type(names, *kind, out)
+            push_type(names, kind, out)
         }
         Command::Erase(kinds) => {
             out.extend_from_slice(b" erase ")?;
-            push_types(names, *kinds, out)
+            push_types(names, kinds, out)
         }
         Command::Dump { cell, dx, dy } => {
             out.extend_from_slice(b" dump ")?;
-            push_moved(names, *cell, *dx, *dy, out)
+            push_moved(names, cell, dx, dy, out)
         }
         Command::GetCell { cell, dx, dy } => {
             out.extend_from_slice(b" getcell ")?;
-            push_moved(names, *cell, *dx, *dy, out)
+            push_moved(names, cell, dx, dy, out)
         }
         Command::What => out.extend_from_slice(b" what"),
         Command::Save => out.extend_from_slice(b" save"),
@@ -204,7 +204,7 @@ fn push_pair(x: i32, y: i32, out: &mut Vec<u8>) -> Pushed
 }
 
 /// Appends the shortest name of a type, or a comma where there is none.
-fn push_type<N: Names>(names: &N, kind: Option<u8>, out: &mut Vec<u8>) -> Pushed
+fn push_type<N: Names>(names: &N, kind: Option<Kind>, out: &mut Vec<u8>) -> Pushed
     ensures { Appends result out.old out.new (spec.type_word (N.book names.now) kind) }
 {
     match kind {
@@ -240,12 +240,12 @@ fn push_listed<N: Names>(names: &N, kinds: Iter, out: &mut Vec<u8>) -> Pushed
     let mut rest = kinds;
     match rest.next() {
         Some(kind) => push_from(names, kind, rest, out),
-        None => push_type(names, Some(0), out),
+        None => push_type(names, Some(Kind::SPACE), out),
     }
 }
 
 /// Appends the name of a kind, and that of each of the others after a comma.
-fn push_from<N: Names>(names: &N, kind: u8, others: Iter, out: &mut Vec<u8>) -> Pushed
+fn push_from<N: Names>(names: &N, kind: Kind, others: Iter, out: &mut Vec<u8>) -> Pushed
     ensures { Appends result out.old out.new (spec.listed_from (N.book names.now) kind others) }
 {
     push_type(names, Some(kind), out)?;
@@ -263,7 +263,7 @@ fn push_more_types<N: Names>(names: &N, kinds: Iter, out: &mut Vec<u8>) -> Pushe
 }
 
 /// Appends a comma and the name of a type.
-fn push_next_type<N: Names>(names: &N, kind: u8, out: &mut Vec<u8>) -> Pushed
+fn push_next_type<N: Names>(names: &N, kind: Kind, out: &mut Vec<u8>) -> Pushed
     ensures { Appends result out.old out.new (spec.next_type (N.book names.now) kind) }
 {
     out.push(b',')?;

@@ -19,7 +19,7 @@ pub use ahead::read_script;
 pub use executing::respond;
 pub use line::{Line, LineFault};
 pub use mls_server::Name;
-pub use names::{Names, server_reads_back};
+pub use names::{Names, Sessions, server_reads_back};
 pub use parse::parse_line;
 pub use reader::{LineReader, NextLine};
 pub use reply::{push_differs, push_looked, push_response, push_saved};

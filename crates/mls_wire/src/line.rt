@@ -26,7 +26,7 @@ pub enum Line {
 
 /// Why a line can't be read.
 #[derive(Clone, Copy, Debug, PartialEq, Eq, Error)]
-#[error("{}", self.text())]
+#[error("{}", self.numbered().1)]
 pub enum LineFault {
     /// There is no such command, its number of words is wrong, or the line is too long.
     UnknownCommand,
@@ -42,27 +42,15 @@ impl LineFault {
     ghost use Rattle.std.specs.Prelude.{◌≡◌};
     ghost use Rattle.mls_wire.specs.Says.{line_fault_number, line_fault_text};
 
-    /// Returns the fault's number in replies.
-    pub fn number(self) -> u8
-        ensures { result ≡ line_fault_number self }
+    /// Returns the fault's number and its text, as they stand in replies.
+    pub fn numbered(self) -> (u8, &'static str)
+        ensures { (result.0 ≡ line_fault_number self) × (result.1.now ≡ line_fault_text self) }
     {
         match self {
-            LineFault::UnknownCommand => 1,
-            LineFault::BadNumber => 2,
-            LineFault::BadName => 3,
-            LineFault::NotOpen => 4,
-        }
-    }
-
-    /// Returns the fault's text in replies.
-    pub fn text(self) -> &'static str
-        ensures { result.now ≡ line_fault_text self }
-    {
-        match self {
-            LineFault::UnknownCommand => "unknown command",
-            LineFault::BadNumber => "bad number",
-            LineFault::BadName => "name",
-            LineFault::NotOpen => "not open",
+            LineFault::UnknownCommand => (1, "unknown command"),
+            LineFault::BadNumber => (2, "bad number"),
+            LineFault::BadName => (3, "name"),
+            LineFault::NotOpen => (4, "not open"),
         }
     }
 }

@@ -2,22 +2,23 @@
 ghost use Rattle.std.specs.Prelude.{◌≡◌, if◌then◌else◌};
 ghost use Rattle.mls_text.specs.Fields.{fields_of};
 ghost use Rattle.mls_text.specs.Words.{begins_with};
-ghost use Rattle.mls_wire.specs.Says.{asked_by, asked_line, asking_says, asks_says, box_says, cell_edit_of, command_of, count_says, drc_says, dump_says, edit_of, erase_says, getcell_says, line_says, moved_cell_says, open_says, paint_says, save_says, session_says, sides_say, steps_says, types_named, what_says, why_says, words_say};
+ghost use Rattle.mls_wire.specs.Says.{alone_says, asked_by, asked_in, asked_line, asking_says, box_says, command_of, count_says, drc_says, dump_says, edit_of, erase_says, getcell_says, line_says, moved_cell_says, open_says, paint_says, session_says, sides_say, steps_say, types_named, why_says, words_say};
 ghost use Rattle.mls_wire.specs.ScriptLines.{text_of};
 
 use crate::number::{count_of, number_of};
-use crate::{Line, LineFault, Names, ScriptLine};
+use crate::{Line, LineFault, Names, ScriptLine, Sessions};
 use mls_kinds::KindSet;
 use mls_library::CellId;
 use mls_server::{Name, SessionId};
 use mls_session::{Command, Look};
 use mls_text::{Fields, Words};
 
-/// What a line asks of an open session by the session's name alone.
+/// What a line asks of an open session, if it is no command.
 #[derive(Clone, Copy, Debug, PartialEq, Eq)]
 enum Asked {
     Close,
     Step,
+    Steps(u64),
     Audit,
     Look(Look),
 }
@@ -30,13 +31,26 @@ impl Asked {
         match self {
             Asked::Close => Line::Close(name, id),
             Asked::Step => Line::Step(name, id),
+            Asked::Steps(most) => Line::Steps(name, id, most),
             Asked::Audit => Line::Audit(name, id),
             Asked::Look(look) => Line::Look(name, id, look),
         }
     }
 }
 
+/// What a word asks of the open session whose name comes next.
+#[derive(Clone, Copy, Debug, PartialEq, Eq)]
+enum Asking {
+    /// This, and no words follow the name.
+    Alone(Asked),
+    /// Why a square is forbidden between the four lines that follow.
+    Why,
+    /// As many check steps as the word that follows spells.
+    Steps,
+}
+
 /// The four lines round a rectangle.
+#[derive(Clone, Copy)]
 struct Sides {
     left: i32,
     bottom: i32,
@@ -53,75 +67,117 @@ struct MovedCell {
 
 /// Returns what a line says, or its first fault.
 #[tactic(auto, unfolding(crate::specs::Says::line_says))]
-pub fn parse_line<N: Names>(names: &N, line: ScriptLine<'_>) -> Result<Line, LineFault>
-    ensures { result ≡ line_says (N.book names.now) (text_of line.entry) }
+pub fn parse_line<N: Names, S: Sessions>(
+    names: &N,
+    sessions: &S,
+    line: ScriptLine<'_>,
+) -> Result<Line, LineFault>
+    ensures { result ≡ line_says (N.book names.now) (S.ids sessions.now) (text_of line.entry) }
 {
     match line {
         ScriptLine::TooLong => Err(LineFault::UnknownCommand),
         ScriptLine::Text([b'#', ..]) => Ok(Line::Silent),
-        ScriptLine::Text(bytes) => parse_words(names, Words::new(bytes)),
+        ScriptLine::Text(bytes) => parse_words(names, sessions, Words::new(bytes)),
     }
 }
 
 /// Returns what the words of a line say.
 #[tactic(auto, unfolding(crate::specs::Says::words_say))]
-fn parse_words<N: Names>(names: &N, mut words: Words) -> Result<Line, LineFault>
-    ensures { result ≡ words_say (N.book names.now) words.entry }
+fn parse_words<N: Names, S: Sessions>(
+    names: &N,
+    sessions: &S,
+    mut words: Words,
+) -> Result<Line, LineFault>
+    ensures { result ≡ words_say (N.book names.now) (S.ids sessions.now) words.entry }
 {
     match words.next() {
         None => Ok(Line::Silent),
         Some(b"%open") => parse_open(words),
-        Some(b"%why") => parse_why(names, words),
-        Some(b"%steps") => parse_steps(names, words),
-        Some(word) => parse_named(names, word, words),
+        Some(word) => parse_named(names, sessions, word, words),
     }
 }
 
 /// Returns what the words after the first say, where that asks something of an open session, or is its name.
-fn parse_named<N: Names>(names: &N, first: &[u8], words: Words) -> Result<Line, LineFault>
+#[tactic(auto, unfolding(crate::specs::Says::session_says))]
+fn parse_named<N: Names, S: Sessions>(
+    names: &N,
+    sessions: &S,
+    first: &[u8],
+    words: Words,
+) -> Result<Line, LineFault>
     ensures { result ≡ (if begins_with 37 first.now
-        then asking_says (N.book names.now) (asked_by first.now) words.entry
-        else session_says (N.book names.now) first.now words.entry) }
+        then asking_says (S.ids sessions.now) (asked_by first.now) words.entry
+        else session_says (N.book names.now) (S.ids sessions.now) first.now words.entry) }
 {
-    match first {
-        [b'%', ..] => parse_asking(names, asked_of_word(first), words),
-        _ => parse_session(names, first, words),
+    if let [b'%', ..] = first {
+        return parse_asking(sessions, first, words);
     }
+    let name = Name::new(first).ok_or(LineFault::BadName)?;
+    let command = parse_command(names, words)?;
+    let id = sessions.session(&name).ok_or(LineFault::NotOpen)?;
+    Ok(Line::Run(name, id, command))
 }
 
-/// Returns what a word asks of the open session whose name comes next, by that name alone.
+/// Returns what the words after one that asks something of an open session say.
+#[tactic(auto, unfolding(crate::specs::Says::asks_says))]
+fn parse_asking<S: Sessions>(sessions: &S, word: &[u8], mut words: Words) -> Result<Line, LineFault>
+    ensures { result ≡ asking_says (S.ids sessions.now) (asked_by word.now) words.entry }
+{
+    let asking = asking_by(word).ok_or(LineFault::UnknownCommand)?;
+    let name = words.next().and_then(Name::new).ok_or(LineFault::BadName)?;
+    let asked = parse_asked(asking, words)?;
+    let id = sessions.session(&name).ok_or(LineFault::NotOpen)?;
+    Ok(asked.line(name, id))
+}
+
+/// Returns what a word asks of the open session whose name comes next.
 #[tactic(auto, unfolding(crate::specs::Says::asked_by))]
-fn asked_of_word(word: &[u8]) -> Option<Asked>
+fn asking_by(word: &[u8]) -> Option<Asking>
     ensures { result ≡ asked_by word.now }
 {
-    if word == b"%close".as_slice() {
-        Some(Asked::Close)
+    if word == b"%why".as_slice() {
+        Some(Asking::Why)
+    } else if word == b"%steps".as_slice() {
+        Some(Asking::Steps)
+    } else if word == b"%close".as_slice() {
+        Some(Asking::Alone(Asked::Close))
     } else if word == b"%step".as_slice() {
-        Some(Asked::Step)
+        Some(Asking::Alone(Asked::Step))
     } else if word == b"%audit".as_slice() {
-        Some(Asked::Audit)
+        Some(Asking::Alone(Asked::Audit))
     } else if word == b"%save".as_slice() {
-        Some(Asked::Look(Look::Save))
+        Some(Asking::Alone(Asked::Look(Look::Save)))
     } else if word == b"%stat".as_slice() {
-        Some(Asked::Look(Look::Status))
+        Some(Asking::Alone(Asked::Look(Look::Status)))
     } else if word == b"%uses".as_slice() {
-        Some(Asked::Look(Look::Uses))
+        Some(Asking::Alone(Asked::Look(Look::Uses)))
     } else if word == b"%marks".as_slice() {
-        Some(Asked::Look(Look::Marks))
+        Some(Asking::Alone(Asked::Look(Look::Marks)))
     } else if word == b"%journal".as_slice() {
-        Some(Asked::Look(Look::Journal))
+        Some(Asking::Alone(Asked::Look(Look::Journal)))
     } else {
         None
     }
 }
 
-/// Returns what the words after one that asks something of an open session say.
-fn parse_asking<N: Names>(names: &N, asked: Option<Asked>, words: Words) -> Result<Line, LineFault>
-    ensures { result ≡ asking_says (N.book names.now) asked words.entry }
+/// Returns what the words after the session's name ask.
+fn parse_asked(asking: Asking, words: Words) -> Result<Asked, LineFault>
+    ensures { result ≡ asked_in asking words.entry }
 {
-    match asked {
-        Some(asked) => parse_asked(names, words, asked),
-        None => Err(LineFault::UnknownCommand),
+    match asking {
+        Asking::Alone(asked) => parse_end(asked, words),
+        Asking::Why => parse_why(words),
+        Asking::Steps => parse_steps(words),
+    }
+}
+
+/// Returns what was said so far, if no words follow.
+fn parse_end<T: Drop>(said: T, mut words: Words) -> Result<T, LineFault>
+    ensures { result ≡ alone_says said words.entry }
+{
+    match words.next() {
+        None => Ok(said),
+        Some(_) => Err(LineFault::UnknownCommand),
     }
 }
 
@@ -137,50 +193,25 @@ fn parse_open(mut words: Words) -> Result<Line, LineFault>
     }
 }
 
-/// Returns what the words after one that asks this of an open session say.
-#[tactic(auto, unfolding(crate::specs::Says::asks_says))]
-fn parse_asked<N: Names>(names: &N, mut words: Words, asked: Asked) -> Result<Line, LineFault>
-    ensures { result ≡ asks_says (N.book names.now) (asked_line asked) words.entry }
+/// Returns the look at why a square between the lines of the words is forbidden.
+fn parse_why(words: Words) -> Result<Asked, LineFault>
+    ensures { result ≡ why_says words.entry }
 {
-    let name = words.next().and_then(Name::new).ok_or(LineFault::BadName)?;
-    if words.next().is_some() {
-        return Err(LineFault::UnknownCommand);
-    }
-    let id = names.session(&name).ok_or(LineFault::NotOpen)?;
-    Ok(asked.line(name, id))
+    let sides = parse_sides(words)?;
+    Ok(Asked::Look(Look::Why {
+        left: sides.left,
+        bottom: sides.bottom,
+        right: sides.right,
+        top: sides.top,
+    }))
 }
 
-/// Returns what the words after `%why` say.
-#[tactic(auto, unfolding(crate::specs::Says::why_says))]
-fn parse_why<N: Names>(names: &N, mut words: Words) -> Result<Line, LineFault>
-    ensures { result ≡ why_says (N.book names.now) words.entry }
+/// Returns the check steps whose number the words spell.
+fn parse_steps(words: Words) -> Result<Asked, LineFault>
+    ensures { result ≡ steps_say words.entry }
 {
-    let name = words.next().and_then(Name::new).ok_or(LineFault::BadName)?;
-    let Sides {
-        left,
-        bottom,
-        right,
-        top,
-    } = parse_sides(words)?;
-    let id = names.session(&name).ok_or(LineFault::NotOpen)?;
-    let look = Look::Why {
-        left,
-        bottom,
-        right,
-        top,
-    };
-    Ok(Line::Look(name, id, look))
-}
-
-/// Returns what the words after `%steps` say.
-#[tactic(auto, unfolding(crate::specs::Says::steps_says))]
-fn parse_steps<N: Names>(names: &N, mut words: Words) -> Result<Line, LineFault>
-    ensures { result ≡ steps_says (N.book names.now) words.entry }
-{
-    let name = words.next().and_then(Name::new).ok_or(LineFault::BadName)?;
     let most = parse_count(words)?;
-    let id = names.session(&name).ok_or(LineFault::NotOpen)?;
-    Ok(Line::Steps(name, id, most))
+    Ok(Asked::Steps(most))
 }
 
 /// Returns the count that the words spell.
@@ -193,17 +224,6 @@ fn parse_count(mut words: Words) -> Result<u64, LineFault>
     count_of(word).ok_or(LineFault::BadNumber)
 }
 
-/// Returns what a session's name and the words after it say.
-#[tactic(auto, unfolding(crate::specs::Says::session_says))]
-fn parse_session<N: Names>(names: &N, name: &[u8], words: Words) -> Result<Line, LineFault>
-    ensures { result ≡ session_says (N.book names.now) name.now words.entry }
-{
-    let name = Name::new(name).ok_or(LineFault::BadName)?;
-    let command = parse_command(names, words)?;
-    let id = names.session(&name).ok_or(LineFault::NotOpen)?;
-    Ok(Line::Run(name, id, command))
-}
-
 /// Returns the command of the words after a session's name.
 #[tactic(auto, unfolding(crate::specs::Says::command_of))]
 fn parse_command<N: Names>(names: &N, mut words: Words) -> Result<Command, LineFault>
@@ -212,8 +232,8 @@ fn parse_command<N: Names>(names: &N, mut words: Words) -> Result<Command, LineF
     match words.next() {
         None => Err(LineFault::UnknownCommand),
         Some(b"box") => parse_box(words),
-        Some(b"what") => parse_what(words),
-        Some(b"save") => parse_save(words),
+        Some(b"what") => parse_end(Command::What, words),
+        Some(b"save") => parse_end(Command::Save, words),
         Some(b"drc") => parse_drc(words),
         Some(verb) => parse_edit(names, verb, words),
     }
@@ -224,19 +244,11 @@ fn parse_command<N: Names>(names: &N, mut words: Words) -> Result<Command, LineF
 fn parse_edit<N: Names>(names: &N, verb: &[u8], words: Words) -> Result<Command, LineFault>
     ensures { result ≡ edit_of (N.book names.now) verb.now words.entry }
 {
-    match verb {
-        b"paint" => parse_paint(names, words),
-        b"erase" => parse_erase(names, words),
-        verb => parse_cell_edit(names, verb, words),
-    }
-}
-
-/// Returns the command of `dump` or `getcell`, and of the words after it.
-#[tactic(auto, unfolding(crate::specs::Says::cell_edit_of))]
-fn parse_cell_edit<N: Names>(names: &N, verb: &[u8], words: Words) -> Result<Command, LineFault>
-    ensures { result ≡ cell_edit_of (N.book names.now) verb.now words.entry }
-{
-    if verb == b"dump".as_slice() {
+    if verb == b"paint".as_slice() {
+        parse_paint(names, words)
+    } else if verb == b"erase".as_slice() {
+        parse_erase(names, words)
+    } else if verb == b"dump".as_slice() {
         parse_dump(names, words)
     } else if verb == b"getcell".as_slice() {
         parse_getcell(names, words)
@@ -249,17 +261,12 @@ fn parse_cell_edit<N: Names>(names: &N, verb: &[u8], words: Words) -> Result<Com
 fn parse_box(words: Words) -> Result<Command, LineFault>
     ensures { result ≡ box_says words.entry }
 {
-    let Sides {
-        left,
-        bottom,
-        right,
-        top,
-    } = parse_sides(words)?;
+    let sides = parse_sides(words)?;
     Ok(Command::Box {
-        left,
-        bottom,
-        right,
-        top,
+        left: sides.left,
+        bottom: sides.bottom,
+        right: sides.right,
+        top: sides.top,
     })
 }
 
@@ -268,13 +275,10 @@ fn parse_box(words: Words) -> Result<Command, LineFault>
 fn parse_sides(mut words: Words) -> Result<Sides, LineFault>
     ensures { result ≡ sides_say words.entry }
 {
-    let (Some(left), Some(bottom), Some(right), Some(top), None) = (
-        words.next(),
-        words.next(),
-        words.next(),
-        words.next(),
-        words.next(),
-    ) else {
+    let (Some(left), Some(bottom)) = (words.next(), words.next()) else {
+        return Err(LineFault::UnknownCommand);
+    };
+    let (Some(right), Some(top), None) = (words.next(), words.next(), words.next()) else {
         return Err(LineFault::UnknownCommand);
     };
     match (
@@ -346,12 +350,10 @@ fn parse_getcell<N: Names>(names: &N, words: Words) -> Result<Command, LineFault
 fn parse_moved_cell<N: Names>(names: &N, mut words: Words) -> Result<MovedCell, LineFault>
     ensures { result ≡ moved_cell_says (N.book names.now) words.entry }
 {
-    let (Some(name), Some(dx), Some(dy), None) = (
-        words.next(),
-        words.next(),
-        words.next(),
-        words.next(),
-    ) else {
+    let Some(name) = words.next() else {
+        return Err(LineFault::UnknownCommand);
+    };
+    let (Some(dx), Some(dy), None) = (words.next(), words.next(), words.next()) else {
         return Err(LineFault::UnknownCommand);
     };
     match (number_of(dx), number_of(dy)) {
@@ -361,26 +363,6 @@ fn parse_moved_cell<N: Names>(names: &N, mut words: Words) -> Result<MovedCell, 
             dy,
         }),
         _ => Err(LineFault::BadNumber),
-    }
-}
-
-/// Returns the command of the words after `save`.
-fn parse_save(mut words: Words) -> Result<Command, LineFault>
-    ensures { result ≡ save_says words.entry }
-{
-    match words.next() {
-        None => Ok(Command::Save),
-        Some(_) => Err(LineFault::UnknownCommand),
-    }
-}
-
-/// Returns the command of the words after `what`.
-fn parse_what(mut words: Words) -> Result<Command, LineFault>
-    ensures { result ≡ what_says words.entry }
-{
-    match words.next() {
-        None => Ok(Command::What),
-        Some(_) => Err(LineFault::UnknownCommand),
     }
 }
 

@@ -6,7 +6,7 @@ ghost use Rattle.mls_text.specs.Lines.{IsUnbroken};
 ghost use Rattle.mls_wire.specs.LineReaders.{script_ahead, lines_left};
 ghost use Rattle.mls_wire.specs.Lines as spec;
 ghost use Rattle.mls_wire.specs.NextLines.{BeginsKnownLine, TakesKnownLine};
-ghost use Rattle.mls_wire.specs.Watches.{HasCause};
+ghost use Rattle.mls_wire.specs.Watches.{IsCalled};
 
 use crate::{ReadFault, ScriptLine, Watched};
 use mls_text::{line_feed_at, without_return};
@@ -97,10 +97,7 @@ impl LineReader {
         ensures within { OnOk result (length self.new.ahead ≤ AHEAD) }
         ensures needed { IsUnbroken self.old.ahead ⊎ (input.new ≡ input.old) }
         ensures fewer { OnOk result (lines_left self.new input.new < lines_left self.old input.old) }
-        ensures calls { input.new.calls_left ≤ input.old.calls_left }
-        ensures failed { OnOk result (input.new.failed ≡ input.old.failed) }
-        ensures cause { OnErr result (HasCause input.new) }
-        ensures lasting { IsTrue input.old.failed → IsTrue input.new.failed }
+        ensures called { IsCalled result input.old input.new }
     {
         self.clear();
         'chunks: while !self.take_to_newline() {
@@ -169,11 +166,8 @@ impl LineReader {
             → IsAtEnd (script_ahead self.new (R.remaining input.new.device))) }
         ensures none { OnErr result (self.new.ahead ≡ []) }
         ensures within { length self.new.ahead ≤ AHEAD }
-        ensures calls { input.new.calls_left ≤ input.old.calls_left }
         ensures fewer { OnOk result (input.new.calls_left < input.old.calls_left) }
-        ensures failed { OnOk result (input.new.failed ≡ input.old.failed) }
-        ensures cause { OnErr result (HasCause input.new) }
-        ensures lasting { IsTrue input.old.failed → IsTrue input.new.failed }
+        ensures called { IsCalled result input.old input.new }
     {
         let count = input.read_some(&mut self.bytes)?;
         self.start = 0;

@@ -2,9 +2,7 @@
 ghost use Rattle.std.specs.Prelude.{◌≡◌, ◌+◌, ◌++◌, ◌∷◌, ◌<◌, ◌≤◌, OnErr, OnOk, [], decimal, codes, length, vec_capacity, vec_len};
 ghost use Rattle.std.specs.Fmt.{signed_decimal};
 ghost use Rattle.std.specs.List.{flat_map};
-ghost use Rattle.std.specs.Option.{option_map, unwrap_or};
-ghost use Rattle.mls_edgerule.specs.RuleSets.{rules_in};
-ghost use Rattle.mls_kinds.specs.KindSets.{members};
+ghost use Rattle.std.specs.Option.{option_map};
 ghost use Rattle.mls_server.specs.Faults.{open_fault_number, open_fault_text};
 ghost use Rattle.mls_session.specs.Refusals.{refusal_number, refusal_text};
 ghost use Rattle.mls_wire.specs.Pushes.{Appends};
@@ -17,7 +15,7 @@ use crate::{Names, Response};
 use itoa::{Buffer, Integer};
 use mls_edgerule::RuleSet;
 use mls_errorplane::Stepped;
-use mls_kinds::KindSet;
+use mls_kinds::{Kind, KindSet};
 use mls_layout::CellUse;
 use mls_server::{Answer, Name, NotOpen, OpenFault};
 use mls_session::{Looked, Refusal, Reply, Status, StepRun};
@@ -38,18 +36,16 @@ pub fn push_response<N: Names>(
     response: &Response,
     out: &mut Vec<u8>,
 ) -> Result<(), AllocError>
-    ensures text { OnOk result (out.new.items ≡ out.old.items ++ spec.response_text (N.book names.now) n response.now) }
-    ensures room { OnErr result (vec_capacity out.old
-        < vec_len out.old + length (spec.response_text (N.book names.now) n response.now)) }
-    ensures capacity { vec_capacity out.old ≤ vec_capacity out.new }
+    ensures { Appends result out.old out.new (spec.response_text (N.book names.now) n response.now) }
 {
     match response {
         Response::Silent => Ok(()),
         Response::Fault(fault) => {
+            let (number, text) = fault.numbered();
             out.extend_from_slice(b"line ")?;
             push_decimal(n, out)?;
             out.extend_from_slice(b" fault ")?;
-            push_numbered(fault.number(), fault.text().as_bytes(), out)?;
+            push_numbered(number, text.as_bytes(), out)?;
             out.extend_from_slice(b"\n")
         }
         Response::Answered(name, answer) => push_answer(names, name, answer, out),
@@ -75,11 +71,8 @@ pub fn push_saved<N: Names>(
     text: &[u8],
     out: &mut Vec<u8>,
 ) -> Result<(), AllocError>
-    ensures text { OnOk result (out.new.items ≡ out.old.items
-        ++ spec.answer_text (N.book names.now) name.now (Answer.Saved saved text.now)) }
-    ensures room { OnErr result (vec_capacity out.old
-        < vec_len out.old + length (spec.answer_text (N.book names.now) name.now (Answer.Saved saved text.now))) }
-    ensures capacity { vec_capacity out.old ≤ vec_capacity out.new }
+    ensures { Appends result out.old out.new
+        (spec.answer_text (N.book names.now) name.now (Answer.Saved saved text.now)) }
 {
     match saved {
         Ok(reply) => push_replied(names, name, reply, text, out),
@@ -102,11 +95,8 @@ pub fn push_looked<N: Names>(
     text: &[u8],
     out: &mut Vec<u8>,
 ) -> Result<(), AllocError>
-    ensures text { OnOk result (out.new.items ≡ out.old.items
-        ++ spec.answer_text (N.book names.now) name.now (Answer.Looked looked.now text.now)) }
-    ensures room { OnErr result (vec_capacity out.old
-        < vec_len out.old + length (spec.answer_text (N.book names.now) name.now (Answer.Looked looked.now text.now))) }
-    ensures capacity { vec_capacity out.old ≤ vec_capacity out.new }
+    ensures appends { Appends result out.old out.new
+        (spec.answer_text (N.book names.now) name.now (Answer.Looked looked.now text.now)) }
     ensures reads_back { NamesReadBack (N.book names.now) → CommandsReadBack (N.book names.now) }
     ensures are_lines { NamesReadBack (N.book names.now) → CommandsAreLines (N.book names.now) }
     ensures steps_back { StepsReadBack (N.book names.now) }
@@ -126,9 +116,7 @@ pub fn push_looked<N: Names>(
 ///
 /// Out of memory, where the list had no room for the whole text.
 pub fn push_differs(name: &Name, out: &mut Vec<u8>) -> Result<(), AllocError>
-    ensures text { OnOk result (out.new.items ≡ out.old.items ++ differs_text name.now) }
-    ensures room { OnErr result (vec_capacity out.old < vec_len out.old + length (differs_text name.now)) }
-    ensures capacity { vec_capacity out.old ≤ vec_capacity out.new }
+    ensures { Appends result out.old out.new (differs_text name.now) }
 {
     push_words(name, b" differs\n", out)
 }
@@ -433,30 +421,31 @@ fn stepped_text(end: Stepped) -> &'static str
 fn without_space(kinds: KindSet) -> KindSet
     ensures { result ≡ spec.without_space kinds }
 {
-    kinds.difference(KindSet::single(0))
+    kinds.difference(KindSet::single(Kind::SPACE))
 }
 
 /// Appends the name of each type after a space, in the order of their numbers.
 fn push_types<N: Names>(names: &N, types: KindSet, out: &mut Vec<u8>) -> Pushed
-    ensures { Appends result out.old out.new (flat_map (spec.type_text (N.book names.now)) (members types)) }
+    ensures { Appends result out.old out.new (spec.types_text (N.book names.now) types) }
 {
     for kind in types.iter() {
-        push_type(names, kind, out)?;
+        push_after_space(names.type_name(kind), out)?;
     }
     Ok(())
 }
 
-/// Appends a space and the type's first name.
-fn push_type<N: Names>(names: &N, kind: u8, out: &mut Vec<u8>) -> Pushed
-    ensures { Appends result out.old out.new (spec.type_text (N.book names.now) kind) }
+/// Appends a space, and a text, if there is one.
+fn push_after_space(text: Option<&[u8]>, out: &mut Vec<u8>) -> Pushed
+    ensures { Appends result out.old out.new
+        (32 ∷ spec.text_if_any (option_map (λ words. words.now) text.entry)) }
 {
     out.push(b' ')?;
-    push_optional(names.type_name(kind), out)
+    push_optional(text, out)
 }
 
 /// Appends the text of each rule of the set, in rising order.
 fn push_rules<N: Names>(names: &N, rules: RuleSet, out: &mut Vec<u8>) -> Pushed
-    ensures { Appends result out.old out.new (flat_map (spec.rule_text (N.book names.now)) (rules_in rules)) }
+    ensures { Appends result out.old out.new (spec.rules_text (N.book names.now) rules) }
 {
     for n in rules.iter() {
         push_rule(names, n, out)?;
@@ -476,7 +465,7 @@ fn push_rule<N: Names>(names: &N, n: usize, out: &mut Vec<u8>) -> Pushed
 
 /// Appends a text, if there is one.
 fn push_optional(text: Option<&[u8]>, out: &mut Vec<u8>) -> Pushed
-    ensures { Appends result out.old out.new (unwrap_or (option_map (λ words. words.now) text.entry) []) }
+    ensures { Appends result out.old out.new (spec.text_if_any (option_map (λ words. words.now) text.entry)) }
 {
     match text {
         Some(text) => out.extend_from_slice(text),

@@ -1,9 +1,9 @@
 //! Devices whose calls are counted and whose failures are noted.
-ghost use Rattle.std.specs.Prelude.{◌≡◌, ◌-◌, ◌^◌, ◌<◌, ◌≤◌, ◌++◌, ℕ, List, [], true, false, length, IsTrue, IsOk, IfOk, OnOk, OnErr};
+ghost use Rattle.std.specs.Prelude.{◌≡◌, ◌-◌, ◌^◌, ◌<◌, ◌++◌, ℕ, List, [], true, false, length, IsOk, IfOk, OnOk, OnErr};
 ghost use Rattle.std.specs.Bool.{OnTrue, OnFalse};
 ghost use Rattle.std.specs.Io.{ReadsAtMost, WritesAtMost};
 ghost use Rattle.std.specs.Io.KnownBytes.{Keeps, Appends, ReadConsumes, WriteAppends};
-ghost use Rattle.mls_wire.specs.Watches.{HasCause};
+ghost use Rattle.mls_wire.specs.Watches.{IsCalled};
 
 use crate::ServeFault;
 use std::io;
@@ -77,11 +77,8 @@ impl<R: Read> Watched<R> {
         ensures bound { ReadsAtMost result buffer.new }
         ensures bytes { ReadConsumes (R.remaining self.old.device) (R.remaining self.new.device)
             result buffer.new }
-        ensures calls { self.new.calls_left ≤ self.old.calls_left }
         ensures fewer { OnOk result (self.new.calls_left < self.old.calls_left) }
-        ensures failed { OnOk result (self.new.failed ≡ self.old.failed) }
-        ensures cause { OnErr result (HasCause self.new) }
-        ensures lasting { IsTrue self.old.failed → IsTrue self.new.failed }
+        ensures called { IsCalled result self.old self.new }
     {
         'tries: while self.calls_left > 0 {
             self.calls_left -= 1;
@@ -106,10 +103,7 @@ impl<W: Write> Watched<W> {
         ensures err { OnErr result ((front missing : List ℕ) × (bytes.now ≡ front ++ missing)
             × Appends (W.contents self.old.device) (W.contents self.new.device) front) }
         ensures empty { bytes.now ≡ [] → IsOk result × (self.new ≡ self.old) }
-        ensures calls { self.new.calls_left ≤ self.old.calls_left }
-        ensures failed { OnOk result (self.new.failed ≡ self.old.failed) }
-        ensures cause { OnErr result (HasCause self.new) }
-        ensures lasting { IsTrue self.old.failed → IsTrue self.new.failed }
+        ensures called { IsCalled result self.old self.new }
     {
         let mut rest = bytes;
         'chunks: while !rest.is_empty() {
@@ -126,10 +120,7 @@ impl<W: Write> Watched<W> {
         ensures some { IfOk result (λ count. 0 < count) }
         ensures bytes { WriteAppends (W.contents self.old.device) (W.contents self.new.device)
             result bytes.now }
-        ensures calls { self.new.calls_left ≤ self.old.calls_left }
-        ensures failed { OnOk result (self.new.failed ≡ self.old.failed) }
-        ensures cause { OnErr result (HasCause self.new) }
-        ensures lasting { IsTrue self.old.failed → IsTrue self.new.failed }
+        ensures called { IsCalled result self.old self.new }
     {
         'tries: while self.calls_left > 0 {
             self.calls_left -= 1;
@@ -152,11 +143,8 @@ impl<W: Write> Watched<W> {
     /// Flushes the device.
     pub fn flush(&mut self) -> Result<(), WriteFault>
         ensures bytes { Keeps (W.contents self.old.device) (W.contents self.new.device) }
-        ensures calls { self.new.calls_left ≤ self.old.calls_left }
         ensures fewer { OnOk result (self.new.calls_left < self.old.calls_left) }
-        ensures failed { OnOk result (self.new.failed ≡ self.old.failed) }
-        ensures cause { OnErr result (HasCause self.new) }
-        ensures lasting { IsTrue self.old.failed → IsTrue self.new.failed }
+        ensures called { IsCalled result self.old self.new }
     {
         'tries: while self.calls_left > 0 {
             self.calls_left -= 1;

@@ -15,7 +15,7 @@ returns g c =
       sorts = c.in_ok-sorting.ensures.sorts;
       groups = groups;
       gives = c.in_ok-groups.ensures;
-      order = text ∙ ap (λ (head : List ℕ). head ++ flat_map text_of c.deref.result.now) c.head.ensures
+      order = text ∙ ap (λ (head : List ℕ). head ++ flat_map text_of c.deref.result.now) c.into_head.ensures
           ∙ ap (λ (texts : List GroupText). sorted.head ++ flat_map text_of texts) c.deref.ensures.value;
       all = audited ∙ ap (λ (texts : List GroupText). list_all audited_of texts) c.deref.ensures.value;
     }) c.gather.ensures.text c.gather.ensures.audited

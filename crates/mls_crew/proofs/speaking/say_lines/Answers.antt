@@ -1,6 +1,6 @@
 use Rattle.std.proofs.Common.{◌++◌, ℕ, List, [], append_assoc, append-nil, refl, sym, ap, ◌∙◌}
 use Rattle.mls_live.specs.Lists.{list_of}
-use Rattle.mls_crew.specs.Books.{labels_of}
+use Rattle.mls_seat_lines.specs.Glossaries.{book_in}
 use Rattle.mls_crew.proofs.LineLists.{says_mine, says_other}
 use Rattle.mls_crew.proofs.speaking.say_lines.Goals.{then-handed-part+in_ok-say_line, else-handed-part}
 use Rattle.mls_crew.proofs.speaking.say_lines.Goals as goal
@@ -12,7 +12,7 @@ pub loop-handed-preserved : goal.loop-handed-preserved
 loop-handed-preserved g c =
     let (out, ran, is) = c.loop-handed.invariant in
     let terms = g.N.Naming.terms in
-    let book = labels_of c.args.part.now.labels.now in
+    let book = book_in c.args.part.now.glossary.now in
     let name = c.args.name.now in
     let session = c.args.part.now.session in
     let lines = c.handed-lines.result.now in
@@ -22,11 +22,11 @@ loop-handed-preserved g c =
     let mid = list_of c.loop-handed.seat in
     elim c.if-handed-part.branch [
       | then-handed-part+in_ok-say_line w ↦
-          let (text, says, more, room) = w.in_ok-say_line.ensures in
+          let (text, says, appended) = w.in_ok-say_line.ensures in
           rw (w.seat-is, w.out-is) (
             out ++ text,
             says_mine terms book name session lines index handed c.loop-handed-test.true c.handed-item.is first mid (list_of w.say_line.new.seat) out text w.if-handed-part.true ran says,
-            more ∙ ap (λ (o : List ℕ). o ++ text) is ∙ append_assoc c.args.out.now.items out text,
+            appended.text ∙ ap (λ (o : List ℕ). o ++ text) is ∙ append_assoc c.args.out.now.items out text,
           )
       | else-handed-part w ↦
           rw (w.seat-is, w.out-is) (

@@ -1,6 +1,6 @@
 use Rattle.std.proofs.Common.{rules, ◌≡◌, ◌+◌, ℕ, length, vec_len, refl, sym, subst, ◌∙◌, arith}
 use Rattle.std.specs.Result.{IfOk}
-use Rattle.mls_crew.specs.Books.{labels_of}
+use Rattle.mls_seat_lines.specs.Glossaries.{book_in}
 use Rattle.mls_crew.specs.Groups.{GroupText}
 use Rattle.mls_crew.specs.Scripts.{GivesPart, no_text}
 use Rattle.mls_crew.specs.declared.speaking.Part.{Part}
@@ -24,7 +24,7 @@ loop-speaker-preserved-in-Ok g c =
     let part = c.args.spoken.part in
     let done = vec_len c.loop-speaker.spoken.seats in
     let one : vec_len c.push_reserved.new.self ≡ done + 1 = c.push_reserved.ensures.len in
-    let gives = λ (session : ℕ) (group : GroupText). GivesPart g.N.Naming.terms (labels_of part.labels.now) part.sorting.now session group in
+    let gives = λ (session : ℕ) (group : GroupText). GivesPart g.N.Naming.terms (book_in part.glossary.now) part.sorting.now session group in
     record {
       part = was.part;
       count = search rules;
@@ -36,7 +36,7 @@ loop-speaker-preserved-in-Ok g c =
           let mine : c.in-Some.speaker.promise ≡ record part { session = done } =
           counts_last c.pop.new.self.items c.in-Some.speaker c.in-Some.ensures.items (was.wanted all) in
           let kept : IfOk c.join-seat.result.group (gives done) =
-          subst (λ (p : Part). IfOk c.join-seat.result.group (GivesPart g.N.Naming.terms (labels_of p.labels.now) p.sorting.now p.session)) mine c.join-seat.ensures in
+          subst (λ (p : Part). IfOk c.join-seat.result.group (GivesPart g.N.Naming.terms (book_in p.glossary.now) p.sorting.now p.session)) mine c.join-seat.ensures in
           let here : gives done c.in-Ok.group = rw c.in-Ok.is at kept in
           let before = was.groups all ok in
           let same : length c.loop-speaker.spoken.groups.items ≡ done = sym c.loop-speaker.spoken.groups.ok.0 ∙ before.0 in

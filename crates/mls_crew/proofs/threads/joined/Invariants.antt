@@ -1,5 +1,5 @@
 use Rattle.std.proofs.Common.{◌≡◌, ◌+◌, ◌≤◌, ◌<◌, ℕ, false, get_or, length, vec_len, vec_capacity}
-use Rattle.mls_crew.specs.Books.{labels_of}
+use Rattle.mls_seat_lines.specs.Glossaries.{book_in}
 use Rattle.mls_crew.specs.Countdowns.{CountsDown}
 use Rattle.mls_crew.specs.Scripts.{GivesPart, no_text}
 use Rattle.mls_crew.proofs.threads.joined.Given as goal
@@ -15,7 +15,7 @@ invariant-loop-speaker g l = record {
       → CountsDown (λ session speaker. speaker.promise ≡ record l.fn.spoken.part { session = session }) (vec_len l.spoken.seats) l.speakers.items;
   groups : vec_len l.fn.speakers ≡ length l.fn.spoken.part.sorting.now.opened → l.spoken.failed ≡ false → (vec_len l.spoken.groups ≡ vec_len l.spoken.seats)
       × ((session : ℕ) → session < vec_len l.spoken.groups
-      → GivesPart g.N.Naming.terms (labels_of l.fn.spoken.part.labels.now) l.fn.spoken.part.sorting.now session (get_or l.spoken.groups.items session no_text));
+      → GivesPart g.N.Naming.terms (book_in l.fn.spoken.part.glossary.now) l.fn.spoken.part.sorting.now session (get_or l.spoken.groups.items session no_text));
 }
 
 abbrev pub decreases-loop-speaker : goal.decreases-loop-speaker

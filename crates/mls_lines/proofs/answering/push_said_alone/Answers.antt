@@ -1,46 +1,24 @@
-use Rattle.std.proofs.Common.{[], Err, inr, refl, sym, append-nil}
+use Rattle.std.proofs.Common.{[], None, Ok, Err, true, inr, refl, subst, sym}
 use Rattle.mls_server.specs.declared.answer.Answer.TheVariants.{Opened}
 use Rattle.mls_server.specs.declared.fault.OpenFault.TheVariants.{SessionsFull}
 use Rattle.mls_wire.specs.Replies.{answer_text, response_text}
-use Rattle.mls_wire.specs.declared.line.LineFault.TheVariants.{NotOpen, UnknownCommand}
+use Rattle.mls_wire.specs.declared.line.LineFault.{LineFault}
 use Rattle.mls_wire.specs.declared.response.Response.TheVariants.{Fault}
-use Rattle.mls_lines.specs.Glossaries.{book_in}
+use Rattle.mls_seat_lines.specs.Glossaries.{book_in}
+use Rattle.mls_lines.specs.Answers.{AnswersLine}
+use Rattle.mls_lines.proofs.AnswerLemmas.{answers_alone, appends_none}
 use Rattle.mls_lines.proofs.answering.push_said_alone.Goals as goal
 
 pub returns-in-Silent : goal.returns-in-Silent
-returns-in-Silent g c = rw c.in-Silent.is ([], (refl, refl), sym (append-nil c.args.out.now.items), tt)
+returns-in-Silent g c = rw c.in-Silent.is ([], (refl, refl), appends_none c.args.out.now)
 
 pub returns-in-Open : goal.returns-in-Open
 returns-in-Open g c =
     let text = answer_text (book_in g.N.Scripted.glossary) c.in-Open.name (Opened (Err SessionsFull)) in
-    rw c.in-Open.is (text, inr (SessionsFull, refl, refl), c.push_answer.ensures.ok, c.push_answer.ensures.room)
+    rw c.in-Open.is (text, inr (SessionsFull, refl, refl), c.push_answer.ensures)
 
-pub returns-in-Step : goal.returns-in-Step
-returns-in-Step g c =
-    let text = response_text (book_in g.N.Scripted.glossary) c.args.n (Fault UnknownCommand) in
-    rw c.in-Step.is (text, (refl, refl), c.push_fault.ensures.ok, c.push_fault.ensures.room)
-
-pub returns-in-Steps : goal.returns-in-Steps
-returns-in-Steps g c =
-    let text = response_text (book_in g.N.Scripted.glossary) c.args.n (Fault UnknownCommand) in
-    rw c.in-Steps.is (text, (refl, refl), c.push_fault-in-Steps.ensures.ok, c.push_fault-in-Steps.ensures.room)
-
-pub returns-in-Close : goal.returns-in-Close
-returns-in-Close g c =
-    let text = response_text (book_in g.N.Scripted.glossary) c.args.n (Fault NotOpen) in
-    rw c.in-Close.is (text, (refl, refl), c.push_fault-in-Close.ensures.ok, c.push_fault-in-Close.ensures.room)
-
-pub returns-in-Audit : goal.returns-in-Audit
-returns-in-Audit g c =
-    let text = response_text (book_in g.N.Scripted.glossary) c.args.n (Fault NotOpen) in
-    rw c.in-Audit.is (text, (refl, refl), c.push_fault-in-Audit.ensures.ok, c.push_fault-in-Audit.ensures.room)
-
-pub returns-in-Look : goal.returns-in-Look
-returns-in-Look g c =
-    let text = response_text (book_in g.N.Scripted.glossary) c.args.n (Fault NotOpen) in
-    rw c.in-Look.is (text, (refl, refl), c.push_fault-in-Look.ensures.ok, c.push_fault-in-Look.ensures.room)
-
-pub returns-in-Run : goal.returns-in-Run
-returns-in-Run g c =
-    let text = response_text (book_in g.N.Scripted.glossary) c.args.n (Fault NotOpen) in
-    rw c.in-Run.is (text, (refl, refl), c.push_fault-in-Run.ensures.ok, c.push_fault-in-Run.ensures.room)
+pub returns-in_default : goal.returns-in_default
+returns-in_default g c =
+    let book = book_in g.N.Scripted.glossary in
+    let answers = λ (fault : LineFault). AnswersLine g.N.Naming.terms book c.args.n (Ok c.args.said.now) None (response_text book c.args.n (Fault fault)) true None in
+    (_, subst answers (sym c.fault_alone.ensures) (answers_alone g.N.Naming.terms book c.args.n c.args.said.now c.in_default.not-Silent c.in_default.not-Open), c.push_fault.ensures)

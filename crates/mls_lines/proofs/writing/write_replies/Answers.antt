@@ -1,7 +1,7 @@
 use Rattle.std.proofs.Common.{ℕ, List, subst}
 use Rattle.std.specs.Io.KnownBytes.{Appends}
 use Rattle.mls_wire.specs.Serving.{AppendsFront}
-use Rattle.mls_lines.specs.Glossaries.{book_in}
+use Rattle.mls_seat_lines.specs.Glossaries.{book_in}
 use Rattle.mls_lines.proofs.ReplyLemmas.{replies_front, replies_more, replies_none}
 use Rattle.mls_lines.proofs.writing.write_replies.Goals as goal
 

@@ -1,5 +1,5 @@
 use Rattle.mls_wire.specs.Serving.{Gains}
-use Rattle.mls_lines.specs.Glossaries.{book_in}
+use Rattle.mls_seat_lines.specs.Glossaries.{book_in}
 use Rattle.mls_lines.specs.Scripts.{AreReplies}
 use Rattle.mls_lines.proofs.writing.write_replies.Given as goal
 

@@ -7,4 +7,4 @@ pub returns-in-Ok : goal.returns-in-Ok
 returns-in-Ok g c =
     let audited = λ (entries : ℕ). response_text (g.B.Names.book c.args.voice.now.names.now) 0 (Audited c.args.name.now entries) in
     let text = audited c.in-Ok.audited.entries in
-    (text, inl (ap audited c.in-Ok.ensures.entries, c.in-Ok.ensures.legal), c.push_response.ensures.text, c.push_response.ensures.room)
+    (text, inl (ap audited c.in-Ok.ensures.entries, c.in-Ok.ensures.legal), c.push_response.ensures)

@@ -11,4 +11,4 @@ returns g c =
     let shown = c.deref.result.now in
     let same : text ≡ shown = sym (c.deref.ensures.value ∙ is ∙ ap (λ (before : List ℕ). before ++ text) c.new-shown.ensures.items) in
     let said = answer_text (g.B.Names.book c.args.voice.now.names.now) c.args.name.now (Looked result shown) in
-    (said, (result, shown, refl, subst (CanLookAt g.N.Naming.terms c.args.look result) same can), c.push_looked.ensures.text, c.push_looked.ensures.room)
+    (said, (result, shown, refl, subst (CanLookAt g.N.Naming.terms c.args.look result) same can), c.push_looked.ensures.appends)

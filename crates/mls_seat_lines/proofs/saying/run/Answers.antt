@@ -12,4 +12,4 @@ returns g c =
     let text = answer_text book c.args.name.now (Commanded c.call-result.result) in
     let says = says_command g.N.Naming.terms book c.args.name.now (list_of c.args.seat.now) (list_of c.call-result.new.self) c.args.command c.call-result.result text
     (sym c.is_save.ensures ∙ c.if-is_save.false) c.call-result.ensures.list refl c.call-result.ensures.replied in
-    (text, says, c.push_response.ensures.text, c.push_response.ensures.room)
+    (text, says, c.push_response.ensures)

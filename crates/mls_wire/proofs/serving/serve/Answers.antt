@@ -18,12 +18,12 @@ returns-in-LastLine-clause-run g c =
     _ _ _ _ _ c.lines.invariant.served c.serve_line.result _ (rw c.in-LastLine.is at c.in_ok-next_line.ensures.taken) c.serve_line.ensures.done
 
 pub returns-in-End-clause-sound : goal.returns-in-End-clause-sound
-returns-in-End-clause-sound g c = (c.in_ok-next_line.ensures.failed ∙ c.lines.invariant.input_sound, c.lines.invariant.output_sound)
+returns-in-End-clause-sound g c = (c.in_ok-next_line.ensures.called.failed ∙ c.lines.invariant.input_sound, c.lines.invariant.output_sound)
 
 pub returns-in-LastLine-clause-sound : goal.returns-in-LastLine-clause-sound
 returns-in-LastLine-clause-sound g c =
     on_ok_weaker c.serve_line.result
-    (λ same. (c.in_ok-next_line.ensures.failed ∙ c.lines.invariant.input_sound, same ∙ c.lines.invariant.output_sound))
+    (λ same. (c.in_ok-next_line.ensures.called.failed ∙ c.lines.invariant.input_sound, same ∙ c.lines.invariant.output_sound))
     c.serve_line.ensures.failed
 
 pub returns-in-LastLine-clause-cut : goal.returns-in-LastLine-clause-cut
@@ -45,7 +45,7 @@ lines-preserved g c = record {
   marks_right = c.serve_line-in-Line.ensures.marks_right;
   marks_exact = c.serve_line-in-Line.ensures.marks_exact;
   setting = c.serve_line-in-Line.ensures.setting ∙ c.lines.invariant.setting;
-  input_sound = c.in_ok-next_line.ensures.failed ∙ c.lines.invariant.input_sound;
+  input_sound = c.in_ok-next_line.ensures.called.failed ∙ c.lines.invariant.input_sound;
   output_sound = c.in_ok-serve_line-in-Line.ensures.failed ∙ c.lines.invariant.output_sound;
   numbered = omega (arith, c.in_ok-next_line.ensures.fewer);
 }

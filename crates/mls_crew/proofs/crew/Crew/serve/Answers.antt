@@ -1,8 +1,6 @@
-use Rattle.std.proofs.Common.{◌≡◌, ℕ, List, Result, ap, subst, sym}
+use Rattle.std.proofs.Common.{List, Result, subst, sym}
 use Rattle.std.specs.Io.KnownBytes.{Appends}
 use Rattle.mls_server.specs.Servers.{world_of}
-use Rattle.mls_server.specs.Settings.{cell_names}
-use Rattle.mls_tech.specs.Readings.{Tech}
 use Rattle.mls_wire.proofs.Results.{if_err}
 use Rattle.mls_wire.specs.Ahead.{SaysScript}
 use Rattle.mls_wire.specs.NameBooks.{book_of}
@@ -10,7 +8,6 @@ use Rattle.mls_wire.specs.Serving.{AppendsFront}
 use Rattle.mls_wire.specs.declared.line.Line.{Line}
 use Rattle.mls_wire.specs.declared.line.LineFault.{LineFault}
 use Rattle.mls_wire.specs.declared.serving.ServeFault.TheVariants.{Write}
-use Rattle.mls_crew.specs.Books.{Labels, labels_in}
 use Rattle.mls_crew.specs.Scripts.{FailsCrew}
 use Rattle.mls_crew.proofs.Outputs.{crew_begins, crew_writes, reading_fails}
 use Rattle.mls_crew.proofs.crew.Crew.serve.Goals as goal
@@ -26,29 +23,19 @@ returns-in_err-script-clause-failed g c =
 pub returns-in_err-send-clause-failed : goal.returns-in_err-send-clause-failed
 returns-in_err-send-clause-failed g c =
     let on = world_of c.args.self.server in
-    let script = g.R.Read.remaining c.args.input.now.device in
-    let written = g.W.Write.contents c.args.output.now.device in
-    let now = g.W.Write.contents c.send.new.output.device in
     let replies = c.in_ok-replies.replies in
-    let labels : Labels = record { tech = c.args.self.tech; cells = cell_names on.setting } in
-    let same : labels ≡ labels_in on.setting = ap (λ (tech : Tech). record { tech = tech; cells = cell_names on.setting }) c.requires.tech in
+    let script = g.R.Read.remaining c.args.input.now.device in
     let says = subst (λ (said : List (Result Line LineFault)). SaysScript (book_of on) script said) (sym c.deref.ensures.value) c.in_ok-script.ensures.said in
-    let front = subst (λ (bytes : List ℕ). AppendsFront written now bytes) c.deref-2.ensures.value c.in_err-send.ensures.err in
+    let front = subst (AppendsFront (g.W.Write.contents c.args.output.now.device) (g.W.Write.contents c.send.new.output.device)) c.deref-2.ensures.value c.in_err-send.ensures.err in
     if_err c.from_residual-in_err-send.result Write (λ given. FailsCrew on given script c.read_script.new.input g.W.Write.contents c.args.output.now c.send.new.output)
-    c.from_residual-in_err-send.ensures (
-      c.in_err-send.ensures.cause,
-      crew_begins on labels c.deref.result.now replies.audited replies.text.items same c.in_ok-replies.ensures script written now says front,
-    )
+    c.from_residual-in_err-send.ensures
+    (c.in_err-send.ensures.cause, crew_begins on c.deref.result.now replies.audited replies.text.items c.in_ok-replies.ensures script _ _ says front)
 
 pub returns-clause-served : goal.returns-clause-served
 returns-clause-served g c =
     let on = world_of c.args.self.server in
-    let script = g.R.Read.remaining c.args.input.now.device in
-    let written = g.W.Write.contents c.args.output.now.device in
-    let now = g.W.Write.contents c.send.new.output.device in
     let replies = c.in_ok-replies.replies in
-    let labels : Labels = record { tech = c.args.self.tech; cells = cell_names on.setting } in
-    let same : labels ≡ labels_in on.setting = ap (λ (tech : Tech). record { tech = tech; cells = cell_names on.setting }) c.requires.tech in
+    let script = g.R.Read.remaining c.args.input.now.device in
     let says = subst (λ (said : List (Result Line LineFault)). SaysScript (book_of on) script said) (sym c.deref.ensures.value) c.in_ok-script.ensures.said in
-    let gained = subst (λ (bytes : List ℕ). Appends written now bytes) c.deref-2.ensures.value c.in_ok-send.ensures.ok in
-    crew_writes on labels c.deref.result.now replies.audited replies.text.items same c.in_ok-replies.ensures script written now says gained
+    crew_writes on c.deref.result.now replies.audited replies.text.items c.in_ok-replies.ensures script _ _ says
+    (subst (Appends (g.W.Write.contents c.args.output.now.device) (g.W.Write.contents c.send.new.output.device)) c.deref-2.ensures.value c.in_ok-send.ensures.ok)

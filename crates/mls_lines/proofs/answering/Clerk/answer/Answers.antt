@@ -6,8 +6,9 @@ use Rattle.mls_wire.specs.declared.line.Line.{Line}
 use Rattle.mls_wire.specs.declared.line.LineFault.{LineFault}
 use Rattle.mls_wire.specs.declared.response.Response.TheVariants.{Fault}
 use Rattle.mls_lines.specs.Answers.{held_by, name_held}
-use Rattle.mls_lines.specs.Glossaries.{book_in, says_beside}
-use Rattle.mls_lines.proofs.AnswerLemmas.{done_gives}
+use Rattle.mls_seat_lines.specs.Glossaries.{book_in}
+use Rattle.mls_lines.specs.Beside.{says_beside}
+use Rattle.mls_lines.proofs.AnswerLemmas.{appends_as}
 use Rattle.mls_lines.proofs.answering.Clerk.answer.Goals as goal
 
 -- the name was read, and then what the line says where a session of that name is open
@@ -20,8 +21,7 @@ returns-in-Err g c =
     let book = book_in g.N.Scripted.glossary in
     let says = says_held book (name_held (held_by c.args.sitting.now)) c.name_of.result (text_of c.args.line.now.line) c.says.result (Err c.in-Err.fault) c.name_of.ensures c.says.ensures c.in-Err.is in
     let text = response_text book c.args.line.now.n (Fault c.in-Err.fault) in
-    let (ok, err) = done_gives c.push_fault.result c.done.result true _ _ c.done.ensures.same c.done.ensures.known c.push_fault.ensures.ok c.push_fault.ensures.room in
-    rw says (text, true, (refl, refl), ok, err)
+    rw says (text, true, (refl, refl), c.done.ensures.known, appends_as c.push_fault.result c.done.result _ _ _ c.done.ensures.same c.push_fault.ensures)
 
 pub returns-in-Ok : goal.returns-in-Ok
 returns-in-Ok g c =

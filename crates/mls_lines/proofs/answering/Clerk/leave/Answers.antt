@@ -2,15 +2,13 @@ use Rattle.std.proofs.Common.{sym, ◌∙◌}
 use Rattle.mls_live.specs.Lists.{list_of}
 use Rattle.mls_server.specs.LegalLists.{IsLegalList}
 use Rattle.mls_seat_lines.proofs.Results.{ok_holds}
-use Rattle.mls_lines.proofs.AnswerLemmas.{done_gives}
+use Rattle.mls_lines.proofs.AnswerLemmas.{appends_as}
 use Rattle.mls_lines.proofs.answering.Clerk.leave.Goals as goal
 
 pub returns : goal.returns
-returns g c =
-    let audited = c.is_ok-audited.result in
-    let (ok, err) = done_gives c.push_answer.result c.done.result audited _ _ c.done.ensures.same c.done.ensures.known c.push_answer.ensures.ok c.push_answer.ensures.room in (
-      audited,
-      λ yes. ok_holds c.audit.result (IsLegalList g.N.Naming.terms (list_of c.args.sitting.seat)) (sym c.is_ok-audited.ensures.value ∙ yes) c.audit.ensures.legal,
-      ok,
-      err,
-    )
+returns g c = (
+  c.is_ok-audited.result,
+  λ yes. ok_holds c.audit.result (IsLegalList g.N.Naming.terms (list_of c.args.sitting.seat)) (sym c.is_ok-audited.ensures.value ∙ yes) c.audit.ensures.legal,
+  c.done.ensures.known,
+  appends_as c.push_answer.result c.done.result _ _ _ c.done.ensures.same c.push_answer.ensures,
+)

@@ -2,7 +2,7 @@ use Rattle.std.proofs.Common.{◌≡◌, IfErr, OnOk, subst}
 use Rattle.mls_server.specs.Servers.{world_of}
 use Rattle.mls_server.specs.Settings.{terms_for}
 use Rattle.mls_wire.specs.Serving.{Gains}
-use Rattle.mls_lines.specs.Glossaries.{Glossary, book_in}
+use Rattle.mls_seat_lines.specs.Glossaries.{Glossary, book_in}
 use Rattle.mls_lines.specs.Scripts.{AreReplies, EndsLines}
 use Rattle.mls_lines.proofs.lines.Lines.serve.Goals as goal
 

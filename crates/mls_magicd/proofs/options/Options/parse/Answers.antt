@@ -3,9 +3,8 @@ use Rattle.std.proofs.lemmas.Result.{err_from_is_err_and}
 use Rattle.clap.specs.Words.{Text, found_of}
 use Rattle.mls_magicd.proofs.CellWords.{named-not_bad}
 use Rattle.mls_magicd.proofs.OptionLemmas.{cells-named, file-named, live-named, number-parsed, refused-for_fault, refused-for_word, taken-no_fault}
-use Rattle.mls_magicd.proofs.NumberLemmas.{IsFoundNumber, found-number}
 use Rattle.mls_magicd.proofs.NumberTexts.{StandsAt, cell_tiles_stands, journal_stands, pool_stands, quota_stands, workers_stands}
-use Rattle.mls_magicd.specs.CommandLines.{NamesFiles, NumberOption, cell_tiles_option, file_of, journal_option, pool_option, quota_option, workers_option}
+use Rattle.mls_magicd.specs.CommandLines.{IsFoundNumber, NamesFiles, NumberOption, cell_tiles_option, file_of, journal_option, pool_option, quota_option, workers_option}
 use Rattle.mls_magicd.proofs.options.Options.parse.Goals as goal
 
 pub returns-in_ok-cells-in-Ok : goal.returns-in_ok-cells-in-Ok
@@ -22,21 +21,11 @@ returns-in_ok-cells-in-Ok g c =
     record {
       taken = (taken-no_fault _ command built taken.kinds, named-not_bad _ files named);
       tech = c.get_str.ensures ∙ file-named _ command m built taken.matches;
-      quota = number quota_option 1 c.unwrap_or_default.result quota_stands
-          (found-number quota_option c.get_one.result c.and_then.result _ c.and_then.ensures c.unwrap_or_default.ensures (found_of m)
-          c.get_one.ensures.none c.get_one.ensures.value (omega arith));
-      pool = number pool_option 2 c.unwrap_or_default-in-Ok.result pool_stands
-          (found-number pool_option c.get_one-in-Ok.result c.and_then-in-Ok.result _ c.and_then-in-Ok.ensures c.unwrap_or_default-in-Ok.ensures (found_of m)
-          c.get_one-in-Ok.ensures.none c.get_one-in-Ok.ensures.value (omega arith));
-      journal = number journal_option 3 c.unwrap_or_default-in-Ok-2.result journal_stands
-          (found-number journal_option c.get_one-in-Ok-2.result c.and_then-in-Ok-2.result _ c.and_then-in-Ok-2.ensures c.unwrap_or_default-in-Ok-2.ensures (found_of m)
-          c.get_one-in-Ok-2.ensures.none c.get_one-in-Ok-2.ensures.value (omega arith));
-      cell_tiles = number cell_tiles_option 4 c.unwrap_or_default-in-Ok-3.result cell_tiles_stands
-          (found-number cell_tiles_option c.get_one-in-Ok-3.result c.and_then-in-Ok-3.result _ c.and_then-in-Ok-3.ensures c.unwrap_or_default-in-Ok-3.ensures (found_of m)
-          c.get_one-in-Ok-3.ensures.none c.get_one-in-Ok-3.ensures.value (omega arith));
-      workers = number workers_option 5 c.unwrap_or_default-in-Ok-4.result workers_stands
-          (found-number workers_option c.get_one-in-Ok-4.result c.and_then-in-Ok-4.result _ c.and_then-in-Ok-4.ensures c.unwrap_or_default-in-Ok-4.ensures (found_of m)
-          c.get_one-in-Ok-4.ensures.none c.get_one-in-Ok-4.ensures.value (omega arith));
+      quota = number quota_option 1 c.number_of.result quota_stands (c.number_of.ensures (omega arith));
+      pool = number pool_option 2 c.number_of-in-Ok.result pool_stands (c.number_of-in-Ok.ensures (omega arith));
+      journal = number journal_option 3 c.number_of-in-Ok-2.result journal_stands (c.number_of-in-Ok-2.ensures (omega arith));
+      cell_tiles = number cell_tiles_option 4 c.number_of-in-Ok-3.result cell_tiles_stands (c.number_of-in-Ok-3.ensures (omega arith));
+      workers = number workers_option 5 c.number_of-in-Ok-4.result workers_stands (c.number_of-in-Ok-4.ensures (omega arith));
       live = λ asks. c.get_flag.ensures.value (live-named _ command m built taken.matches ∙ asks);
       batch = λ asks. elim asks [
         | inl none ↦ c.get_flag.ensures.none (live-named _ command m built taken.matches ∙ none)

@@ -24,8 +24,8 @@ chunks-preserved g c =
       came = came_so_far g (goal.at.chunks-preserved g c).In_ok-read_ahead;
       needed = inl (⊎_elim (λ unbroken. unbroken) (λ same. subst IsUnbroken same.1 c.chunks-test.ensures.all.0) before.needed);
       lines = omega (arith, read.within, read.fewer);
-      calls = omega (arith, read.calls);
-      failed = read.failed ∙ before.failed;
+      calls = omega (arith, read.called.calls);
+      failed = read.called.failed ∙ before.failed;
     }
 
 pub returns-clause-needed : goal.returns-clause-needed

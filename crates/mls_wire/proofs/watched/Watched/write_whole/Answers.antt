@@ -16,6 +16,6 @@ chunks-preserved g c =
       whole = next_of_rest _ before.front rest count before.whole;
       written = Appends-trans (held c.args.self.now.device) (held c.chunks.self.device) (held c.write_some.new.self.device) _ _ before.written part.bytes;
       empty = λ none. absurd (omega (arith, part.some, part.bound, simp length-append at (ap length (sym before.whole ∙ none))));
-      failed = part.failed ∙ before.failed;
-      calls = omega arith;
+      failed = part.called.failed ∙ before.failed;
+      calls = omega (arith, part.called.calls, before.calls);
     }

@@ -1,6 +1,6 @@
 use Rattle.std.proofs.Common.{◌≡◌, false}
 use Rattle.std.proofs.lemmas.Result.{IfOk-weaker}
-use Rattle.mls_crew.specs.Books.{labels_of}
+use Rattle.mls_seat_lines.specs.Glossaries.{book_in}
 use Rattle.mls_crew.specs.Scripts.{GivesGroups}
 use Rattle.mls_crew.proofs.threads.fn.say_groups.scope.Goals as goal
 
@@ -9,4 +9,4 @@ returns g c =
     let spoken = c.in_ok-spoken.spoken in
     let part = c.captures.part in
     IfOk-weaker c.retired.result (λ groups. (spoken.failed ≡ false) × (groups ≡ spoken.groups))
-    (λ groups. GivesGroups g.N.Naming.terms (labels_of part.labels.now) part.sorting.now groups.items) (λ told h. rw (h.1) (c.in_ok-spoken.ensures (h.0))) c.retired.ensures
+    (λ groups. GivesGroups g.N.Naming.terms (book_in part.glossary.now) part.sorting.now groups.items) (λ told h. rw (h.1) (c.in_ok-spoken.ensures (h.0))) c.retired.ensures

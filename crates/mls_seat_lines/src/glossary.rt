@@ -3,17 +3,17 @@ ghost use Rattle.std.specs.Prelude.{◌≡◌, IfOk, map, position};
 ghost use Rattle.mls_server.specs.Servers.{world_of};
 ghost use Rattle.mls_server.specs.Settings.{cell_names};
 ghost use Rattle.mls_text.specs.Words.{same_word};
-ghost use Rattle.mls_lines.specs.Glossaries.{cell_named, glossary_of};
+ghost use Rattle.mls_seat_lines.specs.Glossaries.{cell_named, glossary_of};
 
+use mls_kinds::Kind;
 use mls_library::CellId;
-use mls_server::{Name, Server, SessionId};
+use mls_server::Server;
 use mls_tech::Tech;
 use mls_wire::Names;
 use std::alloc::{AllocError, Global};
 use std::marker::Model;
 
-/// What the names of types and cells mean, and what types, rules and cells are called in replies. No session has a name
-/// in it.
+/// What the names of types and cells mean, and what types, rules and cells are called in replies.
 #[derive(Drop)]
 pub struct Glossary {
     tech: Tech,
@@ -25,7 +25,7 @@ pub struct Glossary {
 
 impl Model for Glossary {
     ghost use Rattle.std.specs.Prelude.{◌≡◌, map};
-    ghost use Rattle.mls_lines.specs.Glossaries.{Glossary, cell_named};
+    ghost use Rattle.mls_seat_lines.specs.Glossaries.{Glossary, cell_named};
 
     ghost Value = { Glossary };
 
@@ -79,11 +79,11 @@ fn cells_of(
 }
 
 impl Names for Glossary {
-    ghost use Rattle.mls_lines.specs.Glossaries.{book_in};
+    ghost use Rattle.mls_seat_lines.specs.Glossaries.{book_in};
 
     ghost book = { λ glossary. book_in glossary };
 
-    fn type_of(&self, word: &[u8]) -> Option<u8> {
+    fn type_of(&self, word: &[u8]) -> Option<Kind> {
         self.tech.type_of(word)
     }
 
@@ -100,19 +100,15 @@ impl Names for Glossary {
         Some(name.as_slice())
     }
 
-    fn type_name(&self, kind: u8) -> Option<&[u8]> {
+    fn type_name(&self, kind: Kind) -> Option<&[u8]> {
         self.tech.type_name(kind)
     }
 
-    fn short_type_name(&self, kind: u8) -> Option<&[u8]> {
+    fn short_type_name(&self, kind: Kind) -> Option<&[u8]> {
         self.tech.short_type_name(kind)
     }
 
     fn why_text(&self, n: usize) -> Option<&[u8]> {
         self.tech.why(n)
-    }
-
-    fn session(&self, _name: &Name) -> Option<SessionId> {
-        None
     }
 }

@@ -3,9 +3,9 @@ use Rattle.std.specs.List.{position}
 use Rattle.std.proofs.lemmas.Bool.Decides.{Decides-ltb}
 use Rattle.std.proofs.lemmas.Option.{get_or_from_slice_get, slice_get_within}
 use Rattle.mls_text.specs.Words.{same_word}
-use Rattle.mls_lines.specs.Glossaries.{Glossary, cell_named}
-use Rattle.mls_lines.proofs.GlossaryLemmas.{cell_at, position-map}
-use Rattle.mls_lines.proofs.glossary.Glossary.cell_named.Goals as goal
+use Rattle.mls_seat_lines.specs.Glossaries.{Glossary, cell_named}
+use Rattle.mls_seat_lines.proofs.GlossaryLemmas.{cell_at, position-map}
+use Rattle.mls_seat_lines.proofs.glossary.Glossary.cell_named.Goals as goal
 
 pub returns-in_err-place : goal.returns-in_err-place
 returns-in_err-place c =

@@ -3,9 +3,9 @@ use Rattle.std.specs.List.{position}
 use Rattle.mls_server.specs.Servers.{world_of}
 use Rattle.mls_server.specs.Settings.{NamedLayout, cell_names}
 use Rattle.mls_text.specs.Words.{same_word}
-use Rattle.mls_lines.specs.Glossaries.{cell_named}
-use Rattle.mls_lines.proofs.GlossaryLemmas.{map_next, position-map}
-use Rattle.mls_lines.proofs.glossary.cells_of.Goals as goal
+use Rattle.mls_seat_lines.specs.Glossaries.{cell_named}
+use Rattle.mls_seat_lines.proofs.GlossaryLemmas.{map_next, position-map}
+use Rattle.mls_seat_lines.proofs.glossary.cells_of.Goals as goal
 
 pub loop-name-preserved : goal.loop-name-preserved
 loop-name-preserved c =
