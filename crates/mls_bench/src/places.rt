@@ -1,6 +1,7 @@
 //! Grids of squares, and where the steps look and paint on them.
 use anyhow::Result;
 use mls_geom::{Piece, Point, Rect, RectFault};
+use mls_kinds::Kind;
 use std::alloc::Global;
 
 /// The kind of the squares of a grid.
@@ -33,7 +34,7 @@ pub fn grid(alloc: Global, k: u8) -> Result<Vec<Piece>> {
             let left = 2 * SIDE * i32::from(column);
             squares.push(Piece {
                 rect: square(left, bottom, SIDE)?,
-                kind: GRID_KIND,
+                kind: Kind::new(GRID_KIND),
             })?;
         }
     }

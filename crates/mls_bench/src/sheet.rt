@@ -7,6 +7,7 @@ use crate::places::{Places, grid};
 use crate::steps::Step;
 use anyhow::{Result, ensure};
 use mls_geom::{Piece, Point, Rect, Scratch as Sweep, strips};
+use mls_kinds::Kind;
 use mls_paint::{Scratch, find_area, overlay, tile_count};
 use mls_stitch::{Plane, Scratch as Tiles};
 use mls_tilepool::Pool;
@@ -147,10 +148,13 @@ impl Sheet {
         let before = self.count();
         self.paint(Piece {
             rect,
-            kind: PAINTED_KIND,
+            kind: Kind::new(PAINTED_KIND),
         })?;
         let painted = self.count();
-        self.paint(Piece { rect, kind: 0 })?;
+        self.paint(Piece {
+            rect,
+            kind: Kind::SPACE,
+        })?;
         Ok(painted.saturating_sub(before))
     }
 

@@ -1,14 +1,14 @@
 //! Calls of a server.
 use crate::scene::Scene;
 use crate::servers::{
-    CELL_TILES, command, grab, id_a, id_b, load, look, open, print_look, print_reply, run,
-    run_steps, save, server_after, step, stocked_server,
+    CELL_TILES, act, id_a, id_b, load, look, print_answer, print_look, save, server_after,
+    stocked_server,
 };
 use crate::shown::{print_joined, show_server};
 use anyhow::{Context, Result};
 use mls_library::{CellFault, CellId};
-use mls_server::{Answer, Event, GrabFault, Name, NotOpen, Server, SessionId};
-use mls_session::{Command, Job, Look, Looked, Reply};
+use mls_server::{Answer, Event, Name, NotOpen, Server, SessionId};
+use mls_session::{Command, Look, Looked, Reply};
 use std::alloc::{AllocError, Global};
 
 /// A call of a server.
@@ -146,20 +146,17 @@ impl<R: Print> Scene<R> for ServerScene {
             Call::Why => commanded(alloc, server, Command::Why),
             Call::What => commanded(alloc, server, Command::What),
             Call::CatchUp => commanded(alloc, server, Command::CatchUp),
-            Call::Grab => Returned::Answered(b'a', Answer::Grabbed(grab(alloc, server, id_a()))),
-            Call::Step => Returned::Answered(b'a', Answer::Stepped(step(alloc, server, id_a()))),
-            Call::RunSteps(most) => {
-                let stepped = run_steps(alloc, server, id_a(), most);
-                Returned::Answered(b'a', Answer::SteppedTimes(stepped))
-            }
+            Call::Grab => acted(alloc, server, Event::Grab(id_a())),
+            Call::Step => acted(alloc, server, Event::Step(id_a())),
+            Call::RunSteps(most) => acted(alloc, server, Event::Steps(id_a(), most)),
             Call::Steps(count) => {
                 for _ in 0..count {
-                    let _ = step(alloc, server, id_a());
+                    let _ = act(alloc, server, Event::Step(id_a()));
                 }
                 Returned::LeftOut
             }
-            Call::Run(_) if turn == 0 => Returned::Ran(run(alloc, server, &self.first_events)),
-            Call::Run(_) => Returned::Ran(run(alloc, server, &self.all_events)),
+            Call::Run(_) if turn == 0 => ran(alloc, server, &self.first_events),
+            Call::Run(_) => ran(alloc, server, &self.all_events),
         }
     }
 
@@ -174,7 +171,7 @@ impl<R: Print> Scene<R> for ServerScene {
                 answer,
             ),
             Returned::Saved(saved) => {
-                print_reply(rt, alloc, &self.server, b'a', Answer::Commanded(saved))?;
+                print_answer(rt, alloc, &self.server, b'a', Answer::Commanded(saved))?;
                 print_joined(rt, &self.out)
             }
             Returned::Looked(looked) => {
@@ -196,15 +193,24 @@ impl<R: Print> Scene<R> for ServerScene {
 /// Opens session c.
 fn open_c(alloc: Global, server: &mut Server) -> Returned {
     match Name::new(b"c") {
-        Some(name) => Returned::Answered(b'c', Answer::Opened(open(alloc, server, name))),
+        Some(name) => Returned::Answered(b'c', act(alloc, server, Event::Open(name))),
         None => Returned::LeftOut,
     }
 }
 
 /// Carries out a command in session a.
 fn commanded(alloc: Global, server: &mut Server, asked: Command) -> Returned {
-    let reply = command(alloc, server, id_a(), asked);
-    Returned::Answered(b'a', Answer::Commanded(reply))
+    acted(alloc, server, Event::Command(id_a(), asked))
+}
+
+/// Does what an event on session a asks for.
+fn acted(alloc: Global, server: &mut Server, event: Event) -> Returned {
+    Returned::Answered(b'a', act(alloc, server, event))
+}
+
+/// Answers events.
+fn ran(alloc: Global, server: &mut Server, events: &[Event]) -> Returned {
+    Returned::Ran(server.run(alloc, events))
 }
 
 /// Prints how loading a cell ended.
@@ -216,40 +222,6 @@ fn print_loaded<R: Print>(rt: &R, loaded: Option<Result<CellId, CellFault>>) -> 
             println!(rt; "line {line} fault {number} {text}")?;
         }
         None => println!(rt; "not idle")?,
-    }
-    Ok(())
-}
-
-/// Prints the answer to an event on a session.
-fn print_answer<R: Print>(
-    rt: &R,
-    alloc: Global,
-    server: &Server,
-    letter: u8,
-    answer: Answer,
-) -> Result<()> {
-    match answer {
-        Answer::Grabbed(grabbed) => print_grabbed(rt, letter, grabbed),
-        Answer::Closed(_) => Ok(println!(rt; "left out")?),
-        answer => print_reply(rt, alloc, server, letter, answer),
-    }
-}
-
-/// Prints the piece of a job.
-fn print_grabbed<R: Print>(
-    rt: &R,
-    letter: u8,
-    grabbed: Result<Option<Job>, GrabFault>,
-) -> Result<()> {
-    let name = char::from(letter);
-    match grabbed {
-        Ok(Some(job)) => {
-            let (left, bottom) = (job.piece.left(), job.piece.bottom());
-            let (right, top) = (job.piece.right(), job.piece.top());
-            println!(rt; "{name} grab {left} {bottom} {right} {top}")?;
-        }
-        Ok(None) => println!(rt; "{name} grab none")?,
-        Err(fault) => println!(rt; "{name} grab {fault}")?,
     }
     Ok(())
 }

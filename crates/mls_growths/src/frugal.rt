@@ -1,15 +1,13 @@
 //! Calls that take no memory.
 use crate::ready::Ready;
 use crate::scene::Scene;
-use crate::servers::{
-    CELL_NAME, close, command, finish, finish_ref, id_a, print_reply, server_after,
-};
+use crate::servers::{CELL_NAME, id_a, print_answer, server_after};
 use crate::shown::show_server;
 use anyhow::Result;
 use arrayvec::ArrayVec;
 use mls_checker::Finding;
 use mls_errorplane::Outcome;
-use mls_kinds::KindSet;
+use mls_kinds::{Kind, KindSet};
 use mls_library::CellId;
 use mls_server::{Answer, NotOpen, Server};
 use mls_session::{Command, Reply};
@@ -84,7 +82,7 @@ impl FrugalScene {
                 right,
                 top,
             },
-            FrugalCall::Paint(kind) => Command::Paint(Some(kind)),
+            FrugalCall::Paint(kind) => Command::Paint(Some(Kind::new(kind))),
             FrugalCall::Erase(kind) => Command::Erase(single(kind)),
             FrugalCall::Dump => Command::Dump {
                 cell: self.cell,
@@ -102,17 +100,25 @@ impl FrugalScene {
             FrugalCall::Count => Command::Count,
             FrugalCall::FinishRef => return self.finish_ref(),
             FrugalCall::Finish => return self.finish(),
-            FrugalCall::Close => return FrugalAnswer::Closed(close(&mut self.server, id_a())),
+            FrugalCall::Close => return self.close(),
         };
-        FrugalAnswer::Replied(command(alloc, &mut self.server, id_a(), asked))
+        self.command(alloc, asked)
+    }
+
+    /// Carries out a command.
+    fn command(&mut self, alloc: Global, asked: Command) -> FrugalAnswer {
+        FrugalAnswer::Replied(self.server.command(alloc, id_a(), asked))
+    }
+
+    /// Closes the session.
+    fn close(&mut self) -> FrugalAnswer {
+        FrugalAnswer::Closed(self.server.close(id_a()))
     }
 
     /// Finishes the check, and keeps what it found.
     fn finish_ref(&mut self) -> FrugalAnswer {
         match &self.finding {
-            Some(finding) => {
-                FrugalAnswer::Finished(finish_ref(&mut self.server, id_a(), finding))
-            }
+            Some(finding) => FrugalAnswer::Finished(self.server.finish_ref(id_a(), finding)),
             None => FrugalAnswer::NoFinding,
         }
     }
@@ -120,15 +126,15 @@ impl FrugalScene {
     /// Finishes the check.
     fn finish(&mut self) -> FrugalAnswer {
         match self.finding.take() {
-            Some(finding) => FrugalAnswer::Finished(finish(&mut self.server, id_a(), finding)),
+            Some(finding) => FrugalAnswer::Finished(self.server.finish(id_a(), finding)),
             None => FrugalAnswer::NoFinding,
         }
     }
 }
 
-/// Returns the set of a type alone, if it is a type.
+/// Returns the set of the type of this number alone, if it is that of a type.
 fn single(kind: u8) -> Option<KindSet> {
-    (kind < 64).then(|| KindSet::single(kind))
+    (kind < 64).then(|| KindSet::single(Kind::new(kind)))
 }
 
 impl<R: Print> Scene<R> for FrugalScene {
@@ -159,7 +165,7 @@ impl<R: Print> Scene<R> for FrugalScene {
 fn print_made<R: Print>(rt: &R, alloc: Global, server: &Server, made: FrugalAnswer) -> Result<()> {
     match made {
         FrugalAnswer::Replied(Ok(reply)) => {
-            print_reply(rt, alloc, server, b'a', Answer::Commanded(Ok(reply)))
+            print_answer(rt, alloc, server, b'a', Answer::Commanded(Ok(reply)))
         }
         FrugalAnswer::Finished(Ok(outcome)) => Ok(println!(rt; "a finish {outcome:?}")?),
         FrugalAnswer::Closed(Ok(())) => Ok(println!(rt; "a closed")?),

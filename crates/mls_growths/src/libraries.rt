@@ -7,6 +7,7 @@ use crate::scene::Scene;
 use crate::servers::{CELL, CELL_NAME};
 use anyhow::{Result, ensure};
 use mls_geom::{Piece, Rect};
+use mls_kinds::Kind;
 use mls_library::{CellFault, CellFile, CellId, CellTiles, Library};
 use mls_paint::{Scratch, overlay, space_plane, strips_of};
 use mls_stitch::Plane;
@@ -39,7 +40,10 @@ fn painted(alloc: Global, pool: &mut Pool) -> Result<Stranger> {
     overlay(
         pool,
         &mut plane,
-        &[Piece { rect, kind: 1 }],
+        &[Piece {
+            rect,
+            kind: Kind::new(1),
+        }],
         ROOM,
         &mut scratch,
     )?;
@@ -150,7 +154,7 @@ fn print_tile<R: Print>(rt: &R, id: TileId, tile: Option<Tile>) -> Result<()> {
     };
     let x = i64::from(tile.corner.column()) - ORIGIN;
     let y = i64::from(tile.corner.row()) - ORIGIN;
-    let kind = tile.kind;
+    let kind = tile.kind.number();
     print!(rt; "{key} {x} {y} {kind}")?;
     for stitch in [tile.lb, tile.bl, tile.tr, tile.rt] {
         match stitch {

@@ -21,20 +21,20 @@ const FILE: &[u8] = b"tech
   growths
 end
 planes
-  active,a
-  metal1
+  device,d
+  metal2
 end
 types
-  active poly,p
-  active ndiff
-  metal1 m1
+  device gate,g
+  device drain
+  metal2 m2
 end
 drc
-  width poly 2 \"poly width\"
-  spacing poly (ndiff,p) 3 \\
+  width gate 2 \"gate width\"
+  spacing gate (drain,g) 3 \\
     touching_illegal \"spacing\"
-  edge4way ~poly/active poly 2 poly poly 0 \"edge\"
-  overhang poly ndiff 2 \"overhang\"
+  edge4way ~gate/device gate 2 gate gate 0 \"edge\"
+  overhang gate drain 2 \"overhang\"
 end
 ";
 

@@ -1,6 +1,9 @@
 //! The rows.
 use crate::calls::{Call, Change, ServerScene};
 use crate::checks::CheckScene;
+use crate::frugal::FrugalCall::{
+    Box, Check, Close, Count, Dump, Erase, Finish, FinishRef, GetCell, Paint, Save, What,
+};
 use crate::frugal::{FrugalCall, FrugalScene};
 use crate::libraries::LibraryScene;
 use crate::making::{Made, Making};
@@ -95,67 +98,67 @@ const BAR: &[u8] = b"%open a\na box 0 0 1 10\na paint poly\n";
 
 /// A square under the least quota, one beside it, and one apart from them, which is refused.
 const SMALLEST_QUOTA: [FrugalCall; 8] = [
-    FrugalCall::Box(0, 0, 10, 10),
-    FrugalCall::Paint(1),
-    FrugalCall::Box(10, 0, 20, 10),
-    FrugalCall::Paint(1),
-    FrugalCall::Box(0, 20, 1, 21),
-    FrugalCall::Paint(1),
-    FrugalCall::What,
-    FrugalCall::Count,
+    Box(0, 0, 10, 10),
+    Paint(1),
+    Box(10, 0, 20, 10),
+    Paint(1),
+    Box(0, 20, 1, 21),
+    Paint(1),
+    What,
+    Count,
 ];
 
 /// The whole world under the least quota, two of its corners, and a square in its middle, which is refused.
 const WHOLE_WORLD: [FrugalCall; 9] = [
-    FrugalCall::Box(-1_048_576, -1_048_576, 1_048_576, 1_048_576),
-    FrugalCall::Paint(1),
-    FrugalCall::Box(-1_048_576, -1_048_576, -1_048_575, -1_048_575),
-    FrugalCall::Paint(2),
-    FrugalCall::Box(1_048_575, 1_048_575, 1_048_576, 1_048_576),
-    FrugalCall::Paint(2),
-    FrugalCall::Count,
-    FrugalCall::Box(0, 0, 1, 1),
-    FrugalCall::Paint(2),
+    Box(-1_048_576, -1_048_576, 1_048_576, 1_048_576),
+    Paint(1),
+    Box(-1_048_576, -1_048_576, -1_048_575, -1_048_575),
+    Paint(2),
+    Box(1_048_575, 1_048_575, 1_048_576, 1_048_576),
+    Paint(2),
+    Count,
+    Box(0, 0, 1, 1),
+    Paint(2),
 ];
 
 /// Each other call that takes no memory.
 const OTHERS: [FrugalCall; 14] = [
-    FrugalCall::FinishRef,
-    FrugalCall::Count,
-    FrugalCall::FinishRef,
-    FrugalCall::Box(0, 0, 10, 10),
-    FrugalCall::Erase(1),
-    FrugalCall::Dump,
-    FrugalCall::What,
-    FrugalCall::Check,
-    FrugalCall::Count,
-    FrugalCall::Save,
-    FrugalCall::Finish,
-    FrugalCall::Close,
-    FrugalCall::What,
-    FrugalCall::Close,
+    FinishRef,
+    Count,
+    FinishRef,
+    Box(0, 0, 10, 10),
+    Erase(1),
+    Dump,
+    What,
+    Check,
+    Count,
+    Save,
+    Finish,
+    Close,
+    What,
+    Close,
 ];
 
 /// A placed cell, of which the check is made before the calls.
 const PLACED_ALONE: &[u8] = b"%open a\na getcell c 0 0\n";
 
-/// The same cell placed over itself, which leaves the check fresh, to the right, which doesn't, and beyond the world; and
-/// own paint over it.
+/// The same cell placed over itself, which leaves the check fresh, to the right, which doesn't, and beyond the world;
+/// and own paint over it.
 const PLACED_CELLS: [FrugalCall; 14] = [
-    FrugalCall::FinishRef,
-    FrugalCall::Count,
-    FrugalCall::GetCell(0),
-    FrugalCall::FinishRef,
-    FrugalCall::GetCell(8),
-    FrugalCall::FinishRef,
-    FrugalCall::GetCell(1_048_573),
-    FrugalCall::Box(0, 0, 4, 4),
-    FrugalCall::Erase(1),
-    FrugalCall::Dump,
-    FrugalCall::Check,
-    FrugalCall::Count,
-    FrugalCall::Save,
-    FrugalCall::Finish,
+    FinishRef,
+    Count,
+    GetCell(0),
+    FinishRef,
+    GetCell(8),
+    FinishRef,
+    GetCell(1_048_573),
+    Box(0, 0, 4, 4),
+    Erase(1),
+    Dump,
+    Check,
+    Count,
+    Save,
+    Finish,
 ];
 
 /// Reads a row, and sets it up and makes its call once for each number of calls.

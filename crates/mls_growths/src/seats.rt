@@ -7,6 +7,7 @@ use crate::scene::{Scene, play};
 use crate::shown::print_joined;
 use anyhow::Result;
 use crossbeam_channel::Receiver;
+use mls_kinds::Kind;
 use mls_live::{Live, Naming, Plain, Retired, Seat, Worked, work};
 use mls_server::{Name, NotOpen, OpenFault, Server, SessionId};
 use mls_session::{Command, Look, Looked, Reply};
@@ -130,12 +131,11 @@ fn play_retired<'l, N: Naming, R: Print + Wait>(
 /// Prints how many seats had the list of the journal, and how the journals stand to the lists.
 fn print_retired<R: Print>(rt: &R, retired: (usize, Retired)) -> Result<()> {
     let (alike, retired) = retired;
-    let Retired {
-        entries,
-        listed,
-        out,
-    } = retired;
-    println!(rt; "{alike} audited: {entries} entries {listed} listed {out} out")?;
+    let (entries, listed) = (retired.entries, retired.listed);
+    println!(rt;
+        "{alike} audited: {entries} entries {listed} listed {} out",
+        retired.out
+    )?;
     Ok(())
 }
 
@@ -150,7 +150,7 @@ fn painted<'l, N: Naming, R: Wait>(
         Some(opened) => opened?,
         None => anyhow::bail!("no name"),
     };
-    for command in [BAR, Command::Paint(Some(1))] {
+    for command in [BAR, Command::Paint(Some(Kind::new(1)))] {
         let _ = called(rt, alloc, &mut seat, command);
     }
     Ok(seat)

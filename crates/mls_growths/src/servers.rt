@@ -6,17 +6,13 @@ ghost use Rattle.std.specs.Prelude.{◌≡◌, [], IfOk};
 ghost use Rattle.mls_server.specs.Servers.{world_of};
 
 use anyhow::{Context, Result};
-use mls_checker::Finding;
 use mls_edgerule::compile;
-use mls_errorplane::{Outcome, Stepped};
 use mls_library::{CellFault, CellId};
-use mls_server::{
-    Answer, Capacity, Event, GrabFault, Limits, Name, NotOpen, OpenFault, Server, SessionId,
-};
-use mls_session::{Command, Job, Look, Looked, Quota, Reply, StepRun};
+use mls_server::{Answer, Capacity, Event, GrabFault, Limits, Name, NotOpen, Server, SessionId};
+use mls_session::{Job, Look, Looked, Quota, Reply};
 use mls_tech::{TECHNOLOGY_M, Tech};
 use mls_wire::{Response, ServeFault, Watched, push_looked, push_response, serve};
-use std::alloc::{AllocError, Global};
+use std::alloc::Global;
 
 /// How many tiles a session reserves under the least quota: 69 for each of three planes.
 const SESSION: u32 = 3 * 69;
@@ -108,24 +104,9 @@ pub fn load(alloc: Global, server: &mut Server, name: &[u8]) -> Option<Result<Ce
     Some(server.load(alloc, name, CELL))
 }
 
-/// Opens a session.
-pub fn open(alloc: Global, server: &mut Server, name: Name) -> Result<SessionId, OpenFault> {
-    server.open(alloc, name)
-}
-
-/// Closes a session.
-pub fn close(server: &mut Server, id: SessionId) -> Result<(), NotOpen> {
-    server.close(id)
-}
-
-/// Carries out a command.
-pub fn command(
-    alloc: Global,
-    server: &mut Server,
-    id: SessionId,
-    command: Command,
-) -> Result<Reply, NotOpen> {
-    server.command(alloc, id, command)
+/// Does what an event asks for.
+pub fn act(alloc: Global, server: &mut Server, event: Event) -> Answer {
+    server.act(alloc, &event)
 }
 
 /// Saves a layout.
@@ -144,49 +125,6 @@ pub fn look(
     server.look(alloc, id, asked, out)
 }
 
-/// Grabs a job.
-pub fn grab(alloc: Global, server: &mut Server, id: SessionId) -> Result<Option<Job>, GrabFault> {
-    server.grab(alloc, id)
-}
-
-/// Does a check step.
-pub fn step(alloc: Global, server: &mut Server, id: SessionId) -> Result<Stepped, NotOpen> {
-    server.step(alloc, id)
-}
-
-/// Does at most so many check steps.
-pub fn run_steps(
-    alloc: Global,
-    server: &mut Server,
-    id: SessionId,
-    most: u64,
-) -> Result<StepRun, NotOpen> {
-    server.run_steps(alloc, id, most)
-}
-
-/// Finishes a check.
-pub fn finish(server: &mut Server, id: SessionId, finding: Finding) -> Result<Outcome, NotOpen> {
-    server.finish(id, finding)
-}
-
-/// Finishes a check, and leaves what it found to the caller.
-pub fn finish_ref(
-    server: &mut Server,
-    id: SessionId,
-    finding: &Finding,
-) -> Result<Outcome, NotOpen> {
-    server.finish_ref(id, finding)
-}
-
-/// Answers events.
-pub fn run(
-    alloc: Global,
-    server: &mut Server,
-    events: &[Event],
-) -> Result<Vec<Answer>, AllocError> {
-    server.run(alloc, events)
-}
-
 /// Prints the reply line to a look at a session, without the text that comes with it.
 pub fn print_look<R: Print>(
     rt: &R,
@@ -202,8 +140,8 @@ pub fn print_look<R: Print>(
     Ok(())
 }
 
-/// Prints the reply line of a session's answer.
-pub fn print_reply<R: Print>(
+/// Prints the answer to an event on a session: the piece of a job, or else the reply line.
+pub fn print_answer<R: Print>(
     rt: &R,
     alloc: Global,
     server: &Server,
@@ -212,7 +150,30 @@ pub fn print_reply<R: Print>(
 ) -> Result<()> {
     let name = Name::new(&[letter]).context("no name")?;
     let mut text = Vec::new(alloc);
-    push_response(server, 1, &Response::Answered(name, answer), &mut text)?;
+    match answer {
+        Answer::Grabbed(grabbed) => return print_grabbed(rt, letter, grabbed),
+        Answer::Closed(_) => return Ok(println!(rt; "left out")?),
+        answer => push_response(server, 1, &Response::Answered(name, answer), &mut text)?,
+    }
     rt.write_all(&text)?;
+    Ok(())
+}
+
+/// Prints the piece of a job.
+fn print_grabbed<R: Print>(
+    rt: &R,
+    letter: u8,
+    grabbed: Result<Option<Job>, GrabFault>,
+) -> Result<()> {
+    let name = char::from(letter);
+    match grabbed {
+        Ok(Some(job)) => {
+            let (left, bottom) = (job.piece.left(), job.piece.bottom());
+            let (right, top) = (job.piece.right(), job.piece.top());
+            println!(rt; "{name} grab {left} {bottom} {right} {top}")?;
+        }
+        Ok(None) => println!(rt; "{name} grab none")?,
+        Err(fault) => println!(rt; "{name} grab {fault}")?,
+    }
     Ok(())
 }

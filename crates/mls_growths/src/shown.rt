@@ -1,5 +1,5 @@
 //! What stands on a server.
-use crate::servers::{grab, replies};
+use crate::servers::replies;
 use anyhow::{Context, Result};
 use mls_geom::Rect;
 use mls_server::{GrabFault, Name, Server, SessionId};
@@ -59,8 +59,8 @@ fn print_ids<R: Print>(rt: &R, server: &Server) -> Result<()> {
     Ok(())
 }
 
-/// Prints what a session of this name shows, its areas and marks among it; then what each check of its pieces leaves, and
-/// the marks once all are checked.
+/// Prints what a session of this name shows, its areas and marks among it; then what each check of its pieces leaves,
+/// and the marks once all are checked.
 fn show_session<R: Print>(rt: &R, alloc: Global, server: &mut Server, letter: u8) -> Result<()> {
     let Some(id) = id_of(server, letter)? else {
         return Ok(());
@@ -106,7 +106,7 @@ fn print_journal<R: Print>(rt: &R, server: &Server, letter: u8, id: SessionId) -
 
 /// Returns the first piece of a session that awaits checking.
 fn first_piece(alloc: Global, server: &mut Server, id: SessionId) -> Result<Option<Rect>> {
-    match grab(alloc, server, id) {
+    match server.grab(alloc, id) {
         Ok(Some(job)) => Ok(Some(job.piece)),
         Ok(None) => Ok(None),
         Err(GrabFault::NotOpen) => Ok(None),

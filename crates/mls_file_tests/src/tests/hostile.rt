@@ -2,6 +2,7 @@
 //! known.
 use crate::tests::plain_tech::{Named, PlainFault, PlainTech, read_plain};
 use crate::tests::plain_text::last_line;
+use mls_kinds::{Kind, PlaneNumber};
 use mls_tech::{TECHNOLOGY_M, Tech};
 use std::alloc::Global;
 use std::process::Abort;
@@ -56,8 +57,9 @@ fn is_same(tech: &Tech, plain: &PlainTech) -> bool {
 fn has_types(tech: &Tech, plain: &PlainTech) -> bool {
     let mut planes = plain.type_planes.iter().zip(1..64u8);
     tech.types() == plain.type_planes.len()
-        && tech.plane_of(0).is_none()
-        && planes.all(|(plane, kind)| tech.plane_of(kind) == Some(*plane))
+        && tech.plane_of(Kind::SPACE).is_none()
+        && planes.all(|(plane, kind)| tech.plane_of(Kind::new(kind))
+            == Some(PlaneNumber::new(*plane)))
         && plain
             .types
             .iter()
@@ -67,8 +69,9 @@ fn has_types(tech: &Tech, plain: &PlainTech) -> bool {
 /// Returns whether a technology has a name for its type, and prints the first of these.
 fn has_name(tech: &Tech, names: &[Named], named: &Named) -> bool {
     let first = names.iter().find(|other| other.number == named.number);
-    tech.type_of(&named.name) == Some(named.number)
-        && tech.type_name(named.number) == first.map(|first| first.name.as_slice())
+    let kind = Kind::new(named.number);
+    tech.type_of(&named.name) == Some(kind)
+        && tech.type_name(kind) == first.map(|first| first.name.as_slice())
 }
 
 /// Returns whether a technology has these rules.

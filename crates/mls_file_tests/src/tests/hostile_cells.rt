@@ -154,7 +154,7 @@ fn list_tiles(
     for tile in scratch.tiles() {
         let rect = tile.piece.rect;
         tiles.push(PlainRect {
-            kind: tile.piece.kind,
+            kind: tile.piece.kind.number(),
             plane: number,
             left: rect.left(),
             bottom: rect.bottom(),

@@ -1,5 +1,6 @@
 //! Rule lines for the plain reading.
 use crate::tests::plain_list::{Fault, Sets, plain_list};
+use mls_kinds::PlaneNumber;
 use mls_tech::{Adjacency, Edge, Rule};
 use std::alloc::Global;
 
@@ -47,12 +48,10 @@ pub fn form_of(keyword: &[u8], words: &[Vec<u8>]) -> Option<Form> {
 }
 
 fn adjacency_of(word: &[u8]) -> Option<Adjacency> {
-    if word == b"touching_ok".as_slice() {
-        Some(Adjacency::TouchingOk)
-    } else if word == b"touching_illegal".as_slice() {
-        Some(Adjacency::TouchingIllegal)
-    } else {
-        None
+    match word {
+        b"touching_ok" => Some(Adjacency::TouchingOk),
+        b"touching_illegal" => Some(Adjacency::TouchingIllegal),
+        _ => None,
     }
 }
 
@@ -111,37 +110,32 @@ pub fn read_form<S: Sets>(
 
 /// Reads the words of an `edge` line.
 fn read_edge<S: Sets>(alloc: Global, sets: &S, words: &[Vec<u8>]) -> Result<Edge, Fault> {
-    let [
-        types1,
-        types2,
-        distance,
-        ok_types,
-        corner_types,
-        corner_distance,
-        _,
-        plane @ ..,
-    ] = words
-    else {
-        return Err(Fault(8));
-    };
     Ok(Edge {
-        types1: plain_list(alloc, sets, types1)?,
-        types2: plain_list(alloc, sets, types2)?,
-        distance: number_in(distance, 1)?,
-        ok_types: plain_list(alloc, sets, ok_types)?,
-        corner_types: plain_list(alloc, sets, corner_types)?,
-        corner_distance: number_in(corner_distance, 0)?,
-        plane: read_plane(sets, plane)?,
+        types1: plain_list(alloc, sets, word_at(words, 0)?)?,
+        types2: plain_list(alloc, sets, word_at(words, 1)?)?,
+        distance: number_in(word_at(words, 2)?, 1)?,
+        ok_types: plain_list(alloc, sets, word_at(words, 3)?)?,
+        corner_types: plain_list(alloc, sets, word_at(words, 4)?)?,
+        corner_distance: number_in(word_at(words, 5)?, 0)?,
+        plane: read_plane(sets, words.get(7))?,
     })
 }
 
+/// Returns the word at a place of a line.
+fn word_at(words: &[Vec<u8>], place: usize) -> Result<&[u8], Fault> {
+    match words.get(place) {
+        Some(word) => Ok(word),
+        None => Err(Fault(8)),
+    }
+}
+
 /// Reads the last word of an `edge` line, if there is one.
-fn read_plane<S: Sets>(sets: &S, words: &[Vec<u8>]) -> Result<Option<u8>, Fault> {
-    let [word, ..] = words else {
+fn read_plane<S: Sets>(sets: &S, word: Option<&Vec<u8>>) -> Result<Option<PlaneNumber>, Fault> {
+    let Some(word) = word else {
         return Ok(None);
     };
     match sets.plane(word) {
-        Some(plane) => Ok(Some(plane)),
+        Some(plane) => Ok(Some(PlaneNumber::new(plane))),
         None => Err(Fault(3)),
     }
 }

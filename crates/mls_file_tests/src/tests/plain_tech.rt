@@ -2,7 +2,7 @@
 use crate::tests::plain_list::{Fault, Sets, is_name};
 use crate::tests::plain_rule::{form_of, read_form, why_of};
 use crate::tests::plain_text::{PlainLine, first_bad_line, plain_lines, plain_words, quoted_words};
-use mls_kinds::KindSet;
+use mls_kinds::{Kind, KindSet};
 use mls_tech::Rule;
 use std::alloc::{AllocError, Global};
 
@@ -346,7 +346,7 @@ impl Sets for PlainTech {
 /// Returns the set of one kind.
 fn set_of(kind: u8) -> KindSet {
     if kind < 64 {
-        KindSet::single(kind)
+        KindSet::single(Kind::new(kind))
     } else {
         KindSet::empty()
     }

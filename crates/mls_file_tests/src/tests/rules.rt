@@ -14,7 +14,7 @@ pub fn rules_of(alloc: Global, file: &[u8]) -> Option<Result<Rules, RuleFault>> 
 }
 
 /// Where a rule looks: its directions, trigger plane and check plane.
-type Planes = (Directions, u8, u8);
+type Planes = (Directions, usize, usize);
 
 /// Lines put in after the rules of technology M, and where the fifth rule looks. `None` is rule
 /// fault 1 of line 18.
@@ -62,10 +62,16 @@ fn is_fault(rules: &Result<Rules, RuleFault>, number: u8, line: usize) -> bool {
     }
 }
 
+/// Returns where a rule looks.
+fn planes_of(rule: &EdgeRule) -> Planes {
+    let (trigger, check) = (rule.trigger_plane, rule.check_plane);
+    (rule.directions, trigger.index(), check.index())
+}
+
 /// Returns whether rule `n` has these directions and planes.
 fn looks_at(rules: &Rules, n: usize, planes: Planes) -> bool {
     match rules.get(n) {
-        Some(rule) => (rule.directions, rule.trigger_plane, rule.check_plane) == planes,
+        Some(rule) => planes_of(&rule) == planes,
         None => false,
     }
 }
@@ -113,10 +119,7 @@ fn technology_m(rt: HostRuntime) -> Result<(), Fail> {
         assert_eq!(rt; bits(rule), types);
         assert_eq!(rt; rule.distance, distance);
         assert_eq!(rt; rule.corner_distance, distance);
-        assert_eq!(rt;
-            (rule.directions, rule.trigger_plane, rule.check_plane),
-            planes
-        );
+        assert_eq!(rt; planes_of(rule), planes);
     }
     assert_eq!(rt; rules.halo(), 4);
     Ok(())

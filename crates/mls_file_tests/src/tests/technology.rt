@@ -1,5 +1,6 @@
 //! Whole technology files.
 use crate::tests::changed::with_line;
+use mls_kinds::{Kind, PlaneNumber};
 use mls_tech::{TECHNOLOGY_M, Tech, TechFault};
 use std::alloc::Global;
 use std::process::Abort;
@@ -151,7 +152,8 @@ fn has_types_of_m(tech: &Tech) -> bool {
 
 /// Returns whether a type has this plane and these two names, the first of which is printed.
 fn is_type(tech: &Tech, kind: u8, plane: Option<u8>, name: &[u8], other: &[u8]) -> bool {
-    tech.plane_of(kind) == plane
+    let kind = Kind::new(kind);
+    tech.plane_of(kind) == plane.map(|number| PlaneNumber::new(number))
         && tech.type_name(kind) == Some(name)
         && tech.type_of(name) == Some(kind)
         && tech.type_of(other) == Some(kind)

@@ -1,4 +1,5 @@
 //! Commands that several tests make.
+use mls_kinds::Kind;
 use mls_session::Command;
 
 /// The number of poly and of n-diffusion in technology M.
@@ -23,7 +24,7 @@ impl Bar {
             right,
             top,
         };
-        [set, Command::Paint(Some(self.kind))]
+        [set, Command::Paint(Some(Kind::new(self.kind)))]
     }
 }
 

@@ -30,7 +30,8 @@ fn name_of(number: u8) -> [u8; 2] {
     [b'a'.wrapping_add(number / 8), b'a'.wrapping_add(number % 8)]
 }
 
-/// How often a session was refused because one of its name is open, and then because sessions are full, until it was opened.
+/// How often a session was refused because one of its name is open, and then because sessions are full, until it was
+/// opened.
 #[derive(Clone, Copy, Debug)]
 struct Refusals {
     already: u32,

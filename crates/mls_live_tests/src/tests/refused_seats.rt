@@ -10,8 +10,6 @@ use mls_session::{Command, Look, Looked, Refusal, Reply};
 use std::process::Abort;
 use std::sync::Wait;
 use std::test::Fail;
-use std::thread::Threads;
-use std::time::Clock;
 
 /// Room in the pool for two sessions, and a journal of two commands.
 pub const TWO: Room = Room {
@@ -24,9 +22,7 @@ pub const TWO: Room = Room {
 const SAVED_BAR: &[u8] = b"magic\ntech M\n<< poly >>\nrect 0 0 1 10\n<< end >>\n";
 
 /// A name is open already, or the pool is full. A list that is full refuses, though not a look.
-pub fn refuse_seats<N: Naming + Send + Sync, R: Threads + Wait + Clock + Abort + Sync>(
-    stage: &Stage<'_, N, R>,
-) -> Result<(), Fail>
+pub fn refuse_seats<N: Naming, R: Wait + Abort>(stage: &Stage<'_, N, R>) -> Result<(), Fail>
     requires { N.parts ≡ 65 }
 {
     let mut a = stage.seat(b"a")?;
@@ -80,9 +76,7 @@ fn shown<N: Naming, R: Wait>(
 }
 
 /// A layout is saved, and the save is listed.
-pub fn save<N: Naming + Send + Sync, R: Threads + Wait + Clock + Abort + Sync>(
-    stage: &Stage<'_, N, R>,
-) -> Result<(), Fail>
+pub fn save<N: Naming, R: Wait + Abort>(stage: &Stage<'_, N, R>) -> Result<(), Fail>
     requires { N.parts ≡ 65 }
 {
     let mut a = stage.bar_seat(b"a")?;
@@ -93,9 +87,7 @@ pub fn save<N: Naming + Send + Sync, R: Threads + Wait + Clock + Abort + Sync>(
 }
 
 /// A worker that may not work leaves the notice to the next one.
-pub fn end_worker<N: Naming + Send + Sync, R: Threads + Wait + Clock + Abort + Sync>(
-    stage: &Stage<'_, N, R>,
-) -> Result<(), Fail>
+pub fn end_worker<N: Naming, R: Wait + Abort>(stage: &Stage<'_, N, R>) -> Result<(), Fail>
     requires { N.parts ≡ 65 }
 {
     let mut a = stage.seat(b"a")?;

@@ -8,10 +8,9 @@ use mls_session::Command;
 use std::process::Abort;
 use std::sync::Wait;
 use std::test::Fail;
-use std::thread::Threads;
-use std::time::Clock;
 
-/// What a seat draws, how many squares are then forbidden, and how many commands are journalled with a catching up and a count.
+/// What a seat draws, how many squares are then forbidden, and how many commands are journalled with a catching up and
+/// a count.
 struct Drawing {
     name: &'static [u8],
     poly: &'static [[i32; 4]],
@@ -53,9 +52,7 @@ const DRAWINGS: [Drawing; 4] = [
 ];
 
 /// Four seats draw, catch up and count, and are retired two by two.
-pub fn retire_four<N: Naming + Send + Sync, R: Threads + Wait + Clock + Abort + Sync>(
-    stage: &Stage<'_, N, R>,
-) -> Result<(), Fail>
+pub fn retire_four<N: Naming, R: Wait + Abort>(stage: &Stage<'_, N, R>) -> Result<(), Fail>
     requires { N.parts ≡ 65 }
 {
     let [a, b, c, d] = &DRAWINGS;

@@ -7,8 +7,6 @@ use mls_session::Command;
 use std::process::Abort;
 use std::sync::Wait;
 use std::test::Fail;
-use std::thread::Threads;
-use std::time::Clock;
 
 /// Sets the box to the whole world.
 const WORLD: Command = Command::Box {
@@ -22,9 +20,7 @@ const WORLD: Command = Command::Box {
 const PIECES: u64 = 8192 * 8192;
 
 /// An empty world is done after its first piece, by a worker in one turn, and then by the seat.
-pub fn settle<N: Naming + Send + Sync, R: Threads + Wait + Clock + Abort + Sync>(
-    stage: &Stage<'_, N, R>,
-) -> Result<(), Fail>
+pub fn settle<N: Naming, R: Wait + Abort>(stage: &Stage<'_, N, R>) -> Result<(), Fail>
     requires { N.parts ≡ 65 }
 {
     let mut a = stage.seat(b"a")?;

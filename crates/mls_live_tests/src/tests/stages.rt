@@ -1,7 +1,7 @@
 //! A server under a lock, and what a test asks of it and of its seats.
 //!
-//! What a call of a seat ensures speaks of its whole list. Each call stands apart, in a function that returns a plain value and
-//! ensures nothing, so that no proof carries it further.
+//! What a call of a seat ensures speaks of its whole list. Each call stands apart, in a function that returns a plain
+//! value and ensures nothing, so that no proof carries it further.
 ghost use Rattle.std.specs.Prelude.{◌≡◌};
 
 use crate::tests::commands::{Bar, THIN_BAR};
@@ -121,7 +121,8 @@ impl<'s, N: Naming, R: Wait + Abort> Stage<'s, N, R> {
         Ok(self.retire(seats))
     }
 
-    /// Asserts what the retirement of the last seat says, by whose list and those before it so many commands were journalled.
+    /// Asserts what the retirement of the last seat says, by whose list and those before it so many commands were
+    /// journalled.
     pub fn expect_retired(&self, seat: Seat<'_, N>, entries: u128) -> Result<(), Fail>
         requires { N.parts ≡ 65 }
     {

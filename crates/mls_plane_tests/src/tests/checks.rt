@@ -4,6 +4,7 @@ use crate::tests::rule_files::{TWO_PLANES, rules_of, rules_of_lines};
 use mls_checker::{Finding, check, why};
 use mls_edgerule::Rules;
 use mls_geom::{Piece, Point, Rect, RectFault};
+use mls_kinds::Kind;
 use mls_tech::TECHNOLOGY_M;
 use std::alloc::{AllocError, Global};
 use std::process::Abort;
@@ -27,11 +28,11 @@ fn rect(sides: Sides) -> Result<Rect, RectFault> {
     Rect::new(left, bottom, right, top)
 }
 
-/// A rectangle of squares of one kind.
+/// A rectangle of squares of the kind of this number.
 pub fn piece(kind: u8, sides: Sides) -> Result<Piece, RectFault> {
     Ok(Piece {
         rect: rect(sides)?,
-        kind,
+        kind: Kind::new(kind),
     })
 }
 
@@ -65,8 +66,8 @@ fn expect_marked(
     Ok(())
 }
 
-/// Asserts that the marked squares of a piece are those of its squares that lie in the rectangles, and that the copy that
-/// is checked is the same as the layout.
+/// Asserts that the marked squares of a piece are those of its squares that lie in the rectangles, and that the copy
+/// that is checked is the same as the layout.
 fn expect_in_piece(
     rt: &impl Abort,
     alloc: Global,

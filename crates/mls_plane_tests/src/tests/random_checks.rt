@@ -9,6 +9,7 @@ use crate::tests::rule_files::{ONE_PLANE, TWO_PLANES, rules_of, rules_of_lines};
 use mls_checker::{Finding, Snapshot, check, why};
 use mls_edgerule::Rules;
 use mls_geom::{Piece, Point, Rect, RectFault};
+use mls_kinds::PlaneNumber;
 use mls_plain_check::{Forbidden, Square, Squares, find};
 use mls_tech::TECHNOLOGY_M;
 use std::alloc::Global;
@@ -180,7 +181,7 @@ fn with_random_plane(
     alloc: Global,
     layout: Layout,
     squares: &mut Squares,
-    plane: u8,
+    plane: PlaneNumber,
     types: Types,
     dice: &mut Dice,
     field: Field,
@@ -201,7 +202,15 @@ fn random_layout(
     let mut layout = Layout::new(alloc)?;
     let mut plane = 0u8;
     for types in planes {
-        layout = with_random_plane(alloc, layout, squares, plane, *types, dice, field)?;
+        layout = with_random_plane(
+            alloc,
+            layout,
+            squares,
+            PlaneNumber::new(plane),
+            *types,
+            dice,
+            field,
+        )?;
         plane = plane.saturating_add(1);
     }
     Ok(layout)

@@ -3,6 +3,7 @@ use crate::tests::checks::piece;
 use crate::tests::dice::Dice;
 use crate::tests::grid::{Grid, SIZE};
 use mls_geom::{Piece, Rect, RectFault, Scratch, TooMany, fresh_strips, strips};
+use mls_kinds::Kind;
 use std::alloc::Global;
 use std::process::Abort;
 use std::test::Fail;
@@ -79,7 +80,7 @@ fn random_pieces(alloc: Global, dice: &mut Dice, grid: &mut Grid) -> Result<Vec<
 fn expect_strips(rt: &impl Abort, alloc: Global, grid: &Grid, found: &[Piece]) -> Result<(), Fail> {
     let mut others = Vec::new(alloc);
     for strip in found {
-        if strip.kind != 0 {
+        if strip.kind != Kind::SPACE {
             others.push(*strip)?;
         }
     }
@@ -171,7 +172,10 @@ fn diagonal(alloc: Global, count: i32) -> Result<Vec<Piece>, Fail> {
         let low = step.saturating_mul(4).saturating_sub(16000);
         let high = low.saturating_add(2);
         let rect = Rect::new(low, low, high, high)?;
-        pieces.push(Piece { rect, kind: 7 })?;
+        pieces.push(Piece {
+            rect,
+            kind: Kind::new(7),
+        })?;
     }
     Ok(pieces)
 }

@@ -6,7 +6,7 @@ use crate::tests::servers::{
 use mls_checker::Finding;
 use mls_errorplane::Outcome;
 use mls_geom::Rect;
-use mls_kinds::KindSet;
+use mls_kinds::{Kind, KindSet};
 use mls_server::{Answer, Event, GrabFault, Name, NotOpen, Server, SessionId};
 use mls_session::{Command, Quota, Reply};
 use mls_tech::TECHNOLOGY_M;
@@ -36,7 +36,7 @@ fn paint(
         top,
     };
     command(alloc, server, id, set)?;
-    command(alloc, server, id, Command::Paint(Some(kind)))
+    command(alloc, server, id, Command::Paint(Some(Kind::new(kind))))
 }
 
 /// Asserts that a command was carried out.
@@ -237,7 +237,7 @@ fn expect_finished_after_erasing(
 ) -> Result<(), Fail> {
     let (id, finding) = found_in_bar(rt, alloc, server, b"a")?;
     expect_done(rt, paint(alloc, server, id, 2, 4, 10, POLY));
-    let erase = Command::Erase(Some(KindSet::single(POLY)));
+    let erase = Command::Erase(Some(KindSet::single(Kind::new(POLY))));
     expect_done(rt, command(alloc, server, id, erase));
     expect_outcome(rt, finish(server, id, finding), Outcome::Finished);
     expect_count(rt, alloc, server, id, 10, 2);

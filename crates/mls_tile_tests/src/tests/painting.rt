@@ -3,7 +3,7 @@ ghost use Rattle.std.specs.Prelude.{◌≤◌, length};
 
 use crate::tests::pieces::{Sides, piece};
 use mls_geom::{Piece, Rect, RectFault};
-use mls_kinds::KindSet;
+use mls_kinds::{Kind, KindSet};
 use mls_paint::{
     Scratch, TooManyTiles, find_area, fits, kinds, overlay, overlay_within, space_plane, strips_of,
     tile_count,
@@ -272,7 +272,7 @@ fn expect_corners(rt: &impl Abort, canvas: &mut Canvas) -> Result<(), Fail> {
         let corner = piece(kind, sides)?;
         let found = canvas.kinds(corner.rect);
         assert_eq!(rt; found.len(), 1, "at {sides:?}");
-        assert!(rt; found.contains(kind), "at {sides:?}");
+        assert!(rt; found.contains(Kind::new(kind)), "at {sides:?}");
     }
     let all = canvas.kinds(Rect::world());
     assert_eq!(rt; all.bits(), 0x8000_0000_0000_000F);
@@ -329,7 +329,7 @@ fn expect_refused(
     assert_eq!(rt; canvas.paint(pieces, 16_000), Err(TooManyTiles));
     let space = Piece {
         rect: Rect::world(),
-        kind: 0,
+        kind: Kind::SPACE,
     };
     assert_eq!(rt; canvas.pieces(alloc)?.as_slice(), [space].as_slice());
     Ok(())

@@ -3,6 +3,7 @@ ghost use Rattle.std.specs.Prelude.{ℕ, ◌≤◌, IfOk};
 ghost use Rattle.mls_tilepool.specs.Pools.{IsOwner};
 
 use mls_geom::Rect;
+use mls_kinds::Kind;
 use mls_tilepool::{NoRoom, Owner, Pool, PoolFull, Tile, TileId};
 use std::alloc::Global;
 use std::marker::Model;
@@ -44,7 +45,7 @@ fn two_halves_fill_a_pool(rt: HostRuntime) -> Result<(), Fail> {
 }
 
 /// Returns a tile with no stitches.
-fn lone_tile(kind: u8) -> Tile {
+fn lone_tile(kind: Kind) -> Tile {
     Tile {
         corner: Rect::world().corner(),
         kind,
@@ -84,7 +85,7 @@ impl Holding {
     }
 
     /// Adds a tile of a kind.
-    fn add(&mut self, kind: u8) -> Result<TileId, NoRoom> {
+    fn add(&mut self, kind: Kind) -> Result<TileId, NoRoom> {
         self.pool.add(&self.owner, lone_tile(kind))
     }
 
@@ -94,19 +95,19 @@ impl Holding {
     }
 
     /// Returns the kind of a tile, if it is one of the owner's.
-    fn kind(&self, id: TileId) -> Option<u8> {
+    fn kind(&self, id: TileId) -> Option<Kind> {
         Some(self.pool.get(&self.owner, id)?.kind)
     }
 
     /// Gives a tile another kind, if it is one of the owner's.
-    fn paint(&mut self, id: TileId, kind: u8) -> Option<()> {
+    fn paint(&mut self, id: TileId, kind: Kind) -> Option<()> {
         let tile = self.pool.get(&self.owner, id)?;
         self.pool.set(&self.owner, id, Tile { kind, ..tile });
         Some(())
     }
 
     /// Removes a tile, if it is one of the owner's, and returns its kind.
-    fn remove(&mut self, id: TileId) -> Option<u8> {
+    fn remove(&mut self, id: TileId) -> Option<Kind> {
         let _tile = self.pool.get(&self.owner, id)?;
         Some(self.pool.remove(&self.owner, id).kind)
     }
@@ -123,10 +124,10 @@ impl Holding {
 fn full_pool_gives_all_back(rt: HostRuntime) -> Result<(), Fail> {
     let mut holding = Holding::of(rt.alloc(), 3)?;
     for kind in 0..3 {
-        holding.add(kind)?;
+        holding.add(Kind::new(kind))?;
     }
     assert_eq!(rt; holding.counts(), (3, 3));
-    assert_eq!(rt; holding.add(3).err(), Some(NoRoom));
+    assert_eq!(rt; holding.add(Kind::new(3)).err(), Some(NoRoom));
     let pool = holding.release();
     assert_eq!(rt; pool.unreserved(), 3);
     assert_eq!(rt; pool.capacity(), 3);
@@ -135,14 +136,15 @@ fn full_pool_gives_all_back(rt: HostRuntime) -> Result<(), Fail> {
 
 /// Asserts what an owner's tiles are, of two that are added and one of which is removed.
 fn expect_changes(rt: &impl Abort, holding: &mut Holding) -> Result<(), NoRoom> {
-    let first = holding.add(1)?;
-    let second = holding.add(2)?;
-    assert_eq!(rt; holding.paint(second, 3), Some(()));
-    assert_eq!(rt; holding.kind(first), Some(1));
-    assert_eq!(rt; holding.kind(second), Some(3));
-    assert_eq!(rt; holding.remove(second), Some(3));
+    let third = Kind::new(3);
+    let first = holding.add(Kind::new(1))?;
+    let second = holding.add(Kind::new(2))?;
+    assert_eq!(rt; holding.paint(second, third), Some(()));
+    assert_eq!(rt; holding.kind(first), Some(Kind::new(1)));
+    assert_eq!(rt; holding.kind(second), Some(third));
+    assert_eq!(rt; holding.remove(second), Some(third));
     assert_eq!(rt; holding.kind(second), None);
-    assert_eq!(rt; holding.paint(second, 3), None);
+    assert_eq!(rt; holding.paint(second, third), None);
     assert_eq!(rt; holding.remove(second), None);
     assert_eq!(rt; holding.counts(), (1, 3));
     Ok(())

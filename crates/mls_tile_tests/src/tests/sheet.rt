@@ -10,7 +10,8 @@ ghost use Rattle.mls_tilepool.specs.Pools.{count_of, tiles_of};
 
 use crate::tests::pieces::{Sides, sides_of};
 use mls_geom::{Piece, Point, Rect, Scratch as Sweep, fresh_strips, strips};
-use mls_stitch::{Axis, LaidTile, Plane, Scratch};
+use mls_kinds::Kind;
+use mls_stitch::{LaidTile, Plane, Scratch};
 use mls_tilepool::{Pool, Tile, TileId};
 use std::alloc::{AllocError, Global};
 use std::marker::Model;
@@ -26,7 +27,7 @@ pub type Square = (i32, i32);
 #[derive(Clone, Copy, Debug, PartialEq, Eq)]
 pub struct Row {
     pub sides: Sides,
-    pub kind: u8,
+    pub kind: Kind,
     pub stitches: [Option<Square>; 4],
 }
 
@@ -62,6 +63,7 @@ fn read(piece: Piece)
     ensures kind { piece.kind < uncovered }
     ensures legal { IsRectangleIn world piece.rect }
 {
+    let _kind = piece.kind.number();
     let _area = piece.rect.area();
 }
 
@@ -308,11 +310,11 @@ impl Sheet {
         match line {
             Line::Left if has_room && cuts_x(&piece, column) => {
                 self.plane
-                    .split(&mut self.pool, id, Axis::X, column, &mut self.scratch)?;
+                    .split_x(&mut self.pool, id, column, &mut self.scratch)?;
             }
             Line::Bottom if has_room && cuts_y(&piece, row) => {
                 self.plane
-                    .split(&mut self.pool, id, Axis::Y, row, &mut self.scratch)?;
+                    .split_y(&mut self.pool, id, row, &mut self.scratch)?;
             }
             _ => return Err(Fail::new("no line to split at")),
         }
@@ -337,11 +339,11 @@ impl Sheet {
         match line {
             Line::Left if join_in_x(&a, &b) => {
                 self.plane
-                    .join(&mut self.pool, first, second, Axis::X, &mut self.scratch);
+                    .join_x(&mut self.pool, first, second, &mut self.scratch);
             }
             Line::Bottom if join_in_y(&a, &b) => {
                 self.plane
-                    .join(&mut self.pool, first, second, Axis::Y, &mut self.scratch);
+                    .join_y(&mut self.pool, first, second, &mut self.scratch);
             }
             _ => return Err(Fail::new("no side to join at")),
         }

@@ -2,6 +2,7 @@
 use crate::tests::pieces::{Sides, piece};
 use crate::tests::sheet::{Line, Row, Sheet, Square};
 use mls_geom::{Piece, RectFault};
+use mls_kinds::Kind;
 use std::alloc::Global;
 use std::process::Abort;
 use std::test::Fail;
@@ -27,7 +28,7 @@ const M: Option<Square> = Some((-9, 0));
 const fn row(sides: Sides, kind: u8, stitches: [Option<Square>; 4]) -> Row {
     Row {
         sides,
-        kind,
+        kind: Kind::new(kind),
         stitches,
     }
 }
