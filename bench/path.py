@@ -1,8 +1,8 @@
 """Counts the product functions that the call graph of a `paint` of one type names, from `serve`'s read of the line to
 the write of its reply, in the sources of this tree: python3 bench/path.py [--list | --calls]
 
-Calls are resolved by the types of fields, parameters and results. Where a `match` decides what the line is, only the
-arm in TAKEN is followed; all other branches count. Conversions by `?`, drops and derived code don't.
+Calls are resolved by the types of fields, parameters and results. Where a `match`, or a chain of comparisons with
+words, decides what the line is, only the arm in TAKEN is followed; all other branches count. Conversions by `?`, drops and derived code don't.
 `--list` has the functions by file, `--calls` who names them too."""
 import collections, pathlib, re, sys
 
@@ -12,7 +12,7 @@ START = 'mls_wire', 'serve'
 TAKEN = {'ScriptLine': 'Text', 'Line': 'Run', 'Event': 'Command', 'Command': 'Paint', 'Response': 'Answered',
          'Answer': 'Commanded', 'Reply': 'Done', 'b"paint"': None}
 # The type that stands for a parameter with this bound.
-BOUNDS = {'Names': ('mls_server', 'Server')}
+BOUNDS = {'Names': ('mls_server', 'Server'), 'Sessions': ('mls_server', 'Server')}
 TESTS = re.compile(r'.*_tests|mls_bench|mls_growths|mls_plain_check')
 TOKEN = re.compile(r'b?"(?:\\.|[^"\\])*"|b?\'(?:\\.|[^\'\\])\'|\'\w+|[A-Za-z_]\w*!?|\d\w*|->|=>|::|\.\.=?|&&|\|\||\S')
 WORD, LITERAL = re.compile(r'[A-Za-z_]\w*$'), re.compile(r'b["\']')
@@ -120,8 +120,31 @@ class Tree:
             f.read()
 
 
+def compared(body):
+    """A body without the branches of each comparison with words that the line doesn't take."""
+    at = 0
+    while at < len(body):
+        opening = until(body, at + 1, ('{', '=>')) if body[at] == 'if' else at
+        if body[opening:opening + 1] == ['{'] and opening > at:
+            stop, branches = at, []
+            while body[stop:stop + 1] == ['if']:
+                brace = until(body, stop + 1, ('{',))
+                branches.append((body[stop + 1:brace], body[brace:end(body, brace)]))
+                stop = end(body, brace)
+                stop += body[stop:stop + 2] == ['else', 'if']
+            tests = [[t for t in test if t.startswith('b"') or t.startswith("b'") and test[:2] == ['let', '[']]
+                     for test, _ in branches]
+            if all(tests):
+                last = body[stop + 1:end(body, stop + 1)] if body[stop:stop + 1] == ['else'] else []
+                taken = [block for test, (_, block) in zip(tests, branches) if any(t in TAKEN for t in test)]
+                body = body[:at] + (taken[0] if taken else last) + body[stop + 1 + len(last) if last else stop:]
+        at += 1
+    return body
+
+
 def followed(body):
     """A body without the arms of each `match` that the line doesn't take."""
+    body = compared(body)
     for at in range(len(body)):
         if body[at:at + 1] == ['match']:
             brace = at
