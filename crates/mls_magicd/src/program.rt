@@ -319,7 +319,6 @@ fn serve_live<'a, T: Threads + Wait + Sync, F: Files, R: Read, W: Write + Send, 
 
 /// Does what comes before lines that are carried out as they come: makes the server, loads cells, and notes what
 /// names mean.
-/// mean.
 fn start_lines<'a, F: Files, E: Write>(
     alloc: Global,
     files: &F,
