@@ -137,12 +137,17 @@ fn violated_in(
     Ok(why(rules, &snapshot, looked).bits())
 }
 
+/// The rules of technology M that forbid a square of a rectangle, in a layout.
+fn violated_by_m(alloc: Global, layout: &mut Layout, looked: Rect) -> Result<u128, Fail> {
+    let rules = rules_of(alloc, TECHNOLOGY_M)?;
+    Ok(violated_in(alloc, &rules, layout, looked)?)
+}
+
 /// The rules of technology M that forbid a square of a rectangle, in a layout of these pieces.
 fn violated(alloc: Global, pieces: &[Piece], sides: Sides) -> Result<u128, Fail> {
     let looked = rect(sides)?;
-    let rules = rules_of(alloc, TECHNOLOGY_M)?;
     let mut layout = active(alloc, pieces)?;
-    Ok(violated_in(alloc, &rules, &mut layout, looked)?)
+    violated_by_m(alloc, &mut layout, looked)
 }
 
 #[test]

@@ -2,7 +2,7 @@
 use crate::tests::checks::piece;
 use crate::tests::layouts::Layout;
 use crate::tests::rule_files::{TWO_PLANES, rules_of_lines};
-use mls_checker::{check, why};
+use mls_checker::{Marks, check, why};
 use mls_edgerule::{RuleSet, Rules};
 use mls_geom::{Piece, Point, Rect};
 use std::alloc::{AllocError, Global};
@@ -50,6 +50,24 @@ fn lattice(alloc: Global, from: i32, to: i32) -> Result<Layout, Fail> {
     Layout::new(alloc)?.with(&columns)?.with(&rows)
 }
 
+/// Asserts that a square is marked, and the one below or above it is not.
+fn expect_alone(rt: &impl Abort, marks: &Marks, x: i32, y: i32) -> Result<(), Fail> {
+    let square = Point::new(x, y).ok_or("no square")?;
+    let beside = Point::new(x, y ^ 1).ok_or("no square")?;
+    assert!(rt; marks.is_marked(square), "at {x}, {y}");
+    assert!(rt; !marks.is_marked(beside), "below or above {x}, {y}");
+    Ok(())
+}
+
+/// Asserts that marks are every second square of a piece.
+fn expect_chequered(rt: &impl Abort, marks: &Marks) -> Result<(), Fail> {
+    assert_eq!(rt; marks.areas().len(), 33_800);
+    for (x, y) in [(0, 0), (1, 1), (100, 100), (257, 257), (259, 259), (259, 1)] {
+        expect_alone(rt, marks, x, y)?;
+    }
+    Ok(())
+}
+
 /// Asserts that every second square of a piece is marked, as on a chequer.
 fn expect_chequer(
     rt: &impl Abort,
@@ -61,17 +79,7 @@ fn expect_chequer(
     let snapshot = layout.snapshot(alloc, looked.grow(rules.halo()))?;
     assert_eq!(rt; why(rules, &snapshot, looked).bits(), 0b11);
     let finding = check(alloc, rules, snapshot, looked)?;
-    assert_eq!(rt; finding.marks().areas().len(), 33_800);
-    for (x, y) in [(0, 0), (1, 1), (100, 100), (257, 257), (259, 259), (259, 1)] {
-        let square = Point::new(x, y).ok_or("no square")?;
-        let beside = Point::new(x, y ^ 1).ok_or("no square")?;
-        assert!(rt; finding.marks().is_marked(square), "at {x}, {y}");
-        assert!(rt;
-            !finding.marks().is_marked(beside),
-            "below or above {x}, {y}"
-        );
-    }
-    Ok(())
+    expect_chequered(rt, finding.marks())
 }
 
 #[test]

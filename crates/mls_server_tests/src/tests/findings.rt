@@ -167,13 +167,18 @@ fn expect_strangers(rt: &impl Abort, alloc: Global, server: &mut Server) -> Resu
     Ok(())
 }
 
+/// Findings are judged by what a session shows, and ids that were never given are open nowhere.
+fn expect_others(rt: &impl Abort, alloc: Global, server: &mut Server) -> Result<(), Fail> {
+    expect_strangers(rt, alloc, server)?;
+    expect_not_open(rt, alloc, server, SessionId::of(0));
+    expect_not_open(rt, alloc, server, SessionId::of(5));
+    Ok(())
+}
+
 #[test]
 fn findings_of_other_sessions(rt: HostRuntime) -> Result<(), Fail> {
     let mut server = usual_server(rt.alloc())?;
-    expect_strangers(&rt, rt.alloc(), &mut server)?;
-    expect_not_open(&rt, rt.alloc(), &mut server, SessionId::of(0));
-    expect_not_open(&rt, rt.alloc(), &mut server, SessionId::of(5));
-    Ok(())
+    expect_others(&rt, rt.alloc(), &mut server)
 }
 
 /// Asserts that a finding is stale in a session with the bar that it was made for.
@@ -188,20 +193,30 @@ const OTHER_RULES: &[u8] = b"planes\nactive\nmetal1\nend\n\
     types\nactive poly\nactive ndiff\nmetal1 m1\nend\n\
     drc\nwidth poly 3 \"poly width\"\nend\n";
 
-/// Returns what a server with other rules finds in the bar.
-fn found_under_other_rules(rt: &impl Abort, alloc: Global) -> Result<Finding, Fail> {
-    let mut other = new_server(alloc, OTHER_RULES, Quota::default())?;
-    let (_, finding) = found_in_bar(rt, alloc, &mut other, b"other")?;
+/// Returns what is found in the bar and the halo round it.
+fn found_round_bar(rt: &impl Abort, alloc: Global, server: &mut Server) -> Result<Finding, Fail> {
+    let (_, finding) = found_in_bar(rt, alloc, server, b"other")?;
     assert_eq!(rt; Ok(finding.piece()), Rect::new(-4, -4, 5, 14));
     Ok(finding)
 }
 
+/// Returns what a server with other rules finds in the bar.
+fn found_under_other_rules(rt: &impl Abort, alloc: Global) -> Result<Finding, Fail> {
+    let mut other = new_server(alloc, OTHER_RULES, Quota::default())?;
+    found_round_bar(rt, alloc, &mut other)
+}
+
+/// Asserts that what a server with other rules finds in the bar is stale.
+fn expect_stale_rules(rt: &impl Abort, alloc: Global, server: &mut Server) -> Result<(), Fail> {
+    let finding = found_under_other_rules(rt, alloc)?;
+    expect_stale_in_same(rt, alloc, server, finding);
+    Ok(())
+}
+
 #[test]
 fn finding_under_other_rules(rt: HostRuntime) -> Result<(), Fail> {
-    let finding = found_under_other_rules(&rt, rt.alloc())?;
     let mut server = usual_server(rt.alloc())?;
-    expect_stale_in_same(&rt, rt.alloc(), &mut server, finding);
-    Ok(())
+    expect_stale_rules(&rt, rt.alloc(), &mut server)
 }
 
 /// Returns what is found in a part of the bar, once the whole of it has been checked.
@@ -221,12 +236,17 @@ fn found_in_part(rt: &impl Abort, alloc: Global, server: &mut Server) -> Result<
     Ok(finding)
 }
 
+/// Asserts that what is found in a part of the bar is stale in the whole of it.
+fn expect_stale_part(rt: &impl Abort, alloc: Global, server: &mut Server) -> Result<(), Fail> {
+    let finding = found_in_part(rt, alloc, server)?;
+    expect_stale_in_same(rt, alloc, server, finding);
+    Ok(())
+}
+
 #[test]
 fn finding_of_a_smaller_piece(rt: HostRuntime) -> Result<(), Fail> {
     let mut server = usual_server(rt.alloc())?;
-    let finding = found_in_part(&rt, rt.alloc(), &mut server)?;
-    expect_stale_in_same(&rt, rt.alloc(), &mut server, finding);
-    Ok(())
+    expect_stale_part(&rt, rt.alloc(), &mut server)
 }
 
 /// Asserts that a finding is marked where its zone was painted and erased back meanwhile.
@@ -330,13 +350,18 @@ fn expect_finished_below(rt: &impl Abort, alloc: Global, server: &mut Server) ->
     Ok(())
 }
 
+/// Asserts how finishing ends where cells are placed.
+fn expect_placed(rt: &impl Abort, alloc: Global, server: &mut Server) -> Result<(), Fail> {
+    for row in PLACED {
+        expect_judged(rt, alloc, server, row)?;
+    }
+    expect_finished_below(rt, alloc, server)
+}
+
 #[test]
 fn findings_beside_placed_cells(rt: HostRuntime) -> Result<(), Fail> {
     let mut server = stocked_server(rt.alloc(), NAME, CELL)?;
-    for row in PLACED {
-        expect_judged(&rt, rt.alloc(), &mut server, row)?;
-    }
-    expect_finished_below(&rt, rt.alloc(), &mut server)
+    expect_placed(&rt, rt.alloc(), &mut server)
 }
 
 /// Asserts that an id that was never given is open nowhere.

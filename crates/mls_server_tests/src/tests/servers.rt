@@ -7,9 +7,9 @@ ghost use Rattle.std.specs.Prelude.{◌≡◌, [], IfOk};
 ghost use Rattle.mls_server.specs.Servers.{world_of};
 
 use mls_checker::{Finding, check};
-use mls_edgerule::compile;
+use mls_edgerule::{Rules, compile};
 use mls_errorplane::{Outcome, Stepped};
-use mls_library::CellId;
+use mls_library::{CellFault, CellId};
 use mls_server::{Answer, Capacity, Event, GrabFault, Limits, Name, NotOpen, Server, SessionId};
 use mls_session::{Command, Job, Quota, Reply};
 use mls_tech::{TECHNOLOGY_M, Tech};
@@ -18,16 +18,22 @@ use std::alloc::{AllocError, Global};
 use std::io::{Read, Write};
 use std::test::Fail;
 
+/// Starts a server on which no session is open.
+fn start(alloc: Global, tech: Tech, rules: Rules, limits: Limits) -> Result<Server, AllocError>
+    ensures { IfOk result (λ server. (world_of server).seats ≡ []) }
+{
+    Server::new(alloc, tech, rules, Capacity::default(), limits)
+}
+
 /// A server with the technology of a file.
 pub fn new_server(alloc: Global, file: &[u8], quota: Quota) -> Result<Server, Fail> {
     let tech = Tech::read(alloc, file)?;
     let rules = compile(&tech)?;
-    let capacity = Capacity::default();
     let limits = Limits {
         quota,
         ..Limits::default()
     };
-    Ok(Server::new(alloc, tech, rules, capacity, limits)?)
+    Ok(start(alloc, tech, rules, limits)?)
 }
 
 /// A server with technology M, on which no session is open.
@@ -36,14 +42,20 @@ fn idle_server(alloc: Global) -> Result<Server, Fail>
 {
     let tech = Tech::read(alloc, TECHNOLOGY_M)?;
     let rules = compile(&tech)?;
-    let capacity = Capacity::default();
-    Ok(Server::new(alloc, tech, rules, capacity, Limits::default())?)
+    Ok(start(alloc, tech, rules, Limits::default())?)
+}
+
+/// Loads a cell.
+fn load(alloc: Global, server: &mut Server, name: &[u8], file: &[u8]) -> Result<CellId, CellFault>
+    requires idle { (world_of server.old).seats ≡ [] }
+{
+    server.load(alloc, name, file)
 }
 
 /// A server with technology M and a cell.
 pub fn stocked_server(alloc: Global, name: &[u8], file: &[u8]) -> Result<Server, Fail> {
     let mut server = idle_server(alloc)?;
-    server.load(alloc, name, file)?;
+    load(alloc, &mut server, name, file)?;
     Ok(server)
 }
 

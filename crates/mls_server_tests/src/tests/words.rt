@@ -6,6 +6,18 @@ use std::fmt::Display;
 use std::process::Abort;
 use std::test::Fail;
 
+/// Asserts the text of a fault.
+fn expect_text<T: Display>(
+    rt: &impl Abort,
+    alloc: Global,
+    fault: &T,
+    text: &str,
+) -> Result<(), Fail> {
+    let shown = format!(in alloc; "{fault}")?;
+    assert_eq!(rt; shown.as_str(), text);
+    Ok(())
+}
+
 /// Asserts the text of each fault.
 fn expect_texts<T: Display + Copy>(
     rt: &impl Abort,
@@ -13,8 +25,7 @@ fn expect_texts<T: Display + Copy>(
     rows: &[(T, &str)],
 ) -> Result<(), Fail> {
     for (fault, text) in rows {
-        let shown = format!(in alloc; "{fault}")?;
-        assert_eq!(rt; shown.as_str(), *text);
+        expect_text(rt, alloc, fault, text)?;
     }
     Ok(())
 }
