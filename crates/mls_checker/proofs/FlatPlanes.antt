@@ -12,7 +12,7 @@ use Rattle.mls_library.specs.Libraries.{Library}
 use Rattle.mls_layout.specs.Uses.{HasCells, HasFlatPlane, HasLayout, flat_layout, flat_plane}
 use Rattle.mls_layout.specs.declared.uses.Uses.{Uses}
 use Rattle.mls_layout.proofs.FlatLayouts.{flat_layout-beyond, flat_layout-plane}
-use Rattle.mls_checker.specs.Copies.{IsOfZone, PlaneTiles, no_plane, picture_of}
+use Rattle.mls_checker.specs.Copies.{IsOfZone, PlaneTiles, no_plane, plane_picture}
 use Rattle.mls_checker.specs.FlatZones.{planes_layout}
 use Rattle.mls_checker.specs.ZoneLayouts.{within}
 use Rattle.mls_checker.proofs.Copying.{cut}
@@ -40,7 +40,7 @@ pub flat-by_copies :
 flat-by_copies pool uses owners zone copies cells as_many each = fun_ext (λ plane. elim (cases_lt plane (length owners)) [
   | inl below ↦ each plane below
   | inr past ↦ fun_ext (λ x. fun_ext (λ y.
-      ap (λ slot. picture_of (unwrap_or slot no_plane) x y) (slice_get_past copies plane (omega (arith, past, as_many))) ∙ no_plane-space x y
+      ap (λ slot. plane_picture (unwrap_or slot no_plane) x y) (slice_get_past copies plane (omega (arith, past, as_many))) ∙ no_plane-space x y
       ∙ sym (elim (cases_Bool (holds zone x y)) [
         | inl here ↦ cond-true (holds zone x y) (flat_layout pool uses owners plane x y) 0 here ∙ flat_layout-beyond pool uses owners plane cells past x y
         | inr outside ↦ cond-false (holds zone x y) (flat_layout pool uses owners plane x y) 0 outside
@@ -48,21 +48,21 @@ flat-by_copies pool uses owners zone copies cells as_many each = fun_ext (λ pla
 ])
 
 -- a plane among copies
-pub planes_layout-at : (copies : List PlaneTiles) (plane : ℕ) (copied : PlaneTiles) → slice_get copies plane ≡ Some copied → planes_layout copies plane ≡ picture_of copied
-planes_layout-at copies plane copied is = ap (λ slot. picture_of (unwrap_or slot no_plane)) is
+pub planes_layout-at : (copies : List PlaneTiles) (plane : ℕ) (copied : PlaneTiles) → slice_get copies plane ≡ Some copied → planes_layout copies plane ≡ plane_picture copied
+planes_layout-at copies plane copied is = ap (λ slot. plane_picture (unwrap_or slot no_plane)) is
 
 -- so a copy shows what its plane has exactly if the copies show there what the layout has
 pub copy-at :
     (pool now : Pool) (uses : Uses) (owners given : List ℕ) (zone : Rect) (copies : List PlaneTiles) (plane : ℕ) (copied : PlaneTiles) (owner : ℕ) → now ≡ pool
     → given ≡ owners → length copies ≡ length owners → plane < length copies → copied ≡ get_or copies plane copied → owner ≡ get_or given plane owner
-    → (picture_of copied ≡ cut (flat_plane now uses plane owner) zone) ↔ (planes_layout copies plane ≡ within zone (flat_layout pool uses owners) plane)
+    → (plane_picture copied ≡ cut (flat_plane now uses plane owner) zone) ↔ (planes_layout copies plane ≡ within zone (flat_layout pool uses owners) plane)
 copy-at pool now uses owners given zone copies plane copied owner same_pool same as_many below is_copied is_owner =
     let copy = planes_layout-at copies plane copied (slice_get_read copies (length copies) plane copied refl below is_copied) in
     let flat = flat-at pool now uses owners given zone plane owner same_pool same (omega (arith, below, as_many)) is_owner in
     (λ shown. copy ∙ shown ∙ flat, λ shown. sym copy ∙ shown ∙ sym flat)
 
 -- a copy of what a picture has in the zone shows space outside it
-pub cut-IsOfZone : (zone : Rect) (copied : PlaneTiles) (picture : Picture) → picture_of copied ≡ cut picture zone → IsOfZone zone copied
+pub cut-IsOfZone : (zone : Rect) (copied : PlaneTiles) (picture : Picture) → plane_picture copied ≡ cut picture zone → IsOfZone zone copied
 cut-IsOfZone zone copied picture is x y outside = ap (λ (p : Picture). p x y) is ∙ cond-false (holds zone x y) (picture x y) 0 outside
 
 -- ---- one copy more
@@ -77,10 +77,10 @@ push-last (y ∷ xs) x = push-last xs x
 
 pub planes_layout-push :
     (copies : List PlaneTiles) (copied : PlaneTiles) (layout : Layout) (count : ℕ) → length copies ≡ count
-    → ((plane : ℕ) → plane < count → planes_layout copies plane ≡ layout plane) → picture_of copied ≡ layout count
+    → ((plane : ℕ) → plane < count → planes_layout copies plane ≡ layout plane) → plane_picture copied ≡ layout count
     → (plane : ℕ) → plane < count + 1 → planes_layout (copies ++ copied ∷ []) plane ≡ layout plane
 planes_layout-push copies copied layout count many so_far more plane below = elim (cases_lt plane count) [
-  | inl before ↦ ap (λ slot. picture_of (unwrap_or slot no_plane)) (push-before copies copied plane (omega (arith, before, many))) ∙ so_far plane before
+  | inl before ↦ ap (λ slot. plane_picture (unwrap_or slot no_plane)) (push-before copies copied plane (omega (arith, before, many))) ∙ so_far plane before
   | inr last ↦
       (let here : plane ≡ length copies = omega (arith, below, last, many) in
       let there : plane ≡ count = omega (arith, below, last) in

@@ -8,7 +8,7 @@ use Rattle.mls_geom.specs.declared.piece.Piece.{Piece}
 use Rattle.mls_geom.proofs.Ascending.{Contains-map}
 use Rattle.mls_geom.proofs.Holds.{holds_common}
 use Rattle.mls_geom.proofs.JoinedLists.{Any-append_left, Any-append_right}
-use Rattle.mls_layout.specs.Grids.{Appends, CoverBlock}
+use Rattle.mls_layout.specs.Grids.{AppendsCover, CoverBlock}
 use Rattle.mls_checker.specs.FlatZones.{found_tiles, piece_tiles}
 use Rattle.mls_checker.specs.Tiles.{AreTiles, HasTile, IsAmid, Tile, clipped_tile, space_round}
 use Rattle.mls_checker.proofs.Copying.{cut}
@@ -47,8 +47,8 @@ pieces-AreTiles extent zone picture pieces amid cover =
     }
 
 -- pieces appended to none
-pub Appends-none : (zone : Rect) (picture : Picture) (old new : List Piece) → old ≡ [] → Appends zone picture old new → CoverBlock zone picture new
-Appends-none zone picture old new none (more, is, cover) =
+pub AppendsCover-none : (zone : Rect) (picture : Picture) (old new : List Piece) → old ≡ [] → AppendsCover zone picture old new → CoverBlock zone picture new
+AppendsCover-none zone picture old new none (more, is, cover) =
     subst (CoverBlock zone picture) (sym (is ∙ ap (λ (pieces : List Piece). pieces ++ more) none)) cover
 
 -- one more found is one tile more

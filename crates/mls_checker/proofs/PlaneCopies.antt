@@ -12,7 +12,7 @@ use Rattle.mls_stitch.specs.Areas.{MeetArea}
 use Rattle.mls_stitch.specs.Tilings.{HasPlane, block_at}
 use Rattle.mls_stitch.specs.declared.laid_tile.LaidTile.{LaidTile}
 use Rattle.mls_paint.specs.Planes.{picture_in}
-use Rattle.mls_layout.specs.Grids.{Appends, CoverBlock}
+use Rattle.mls_layout.specs.Grids.{AppendsCover, CoverBlock}
 use Rattle.mls_layout.specs.Uses.{cell_layouts, flat_plane, uses_layout}
 use Rattle.mls_layout.specs.declared.uses.Uses.{Uses}
 use Rattle.mls_layout.proofs.FlatLayouts.{over-space}
@@ -20,7 +20,7 @@ use Rattle.mls_checker.specs.FlatZones.{piece_tiles}
 use Rattle.mls_checker.specs.Tiles.{AreTiles, HasTile, Tile, clipped_tile, outer, zone_tiles}
 use Rattle.mls_checker.proofs.Copying.{HasPiece, cut, found-HasPiece}
 use Rattle.mls_checker.proofs.FlatBlocks.{cut-same}
-use Rattle.mls_checker.proofs.FlatTiles.{Appends-none, pieces-AreTiles}
+use Rattle.mls_checker.proofs.FlatTiles.{AppendsCover-none, pieces-AreTiles}
 use Rattle.mls_checker.proofs.ZoneTiles.{amid-outer, cut_by_found, zone-AreTiles}
 
 -- where no use shows anything in the zone, a plane shows its own paint there
@@ -34,10 +34,10 @@ own-cut pool uses number owner zone apart =
 
 -- tiles made of pieces that leave no square of the zone out
 pub pieces-copied :
-    (zone : Rect) (picture : Picture) (old new pieces : List Piece) (tiles : List Tile) → IsRectangleIn world zone → old ≡ [] → Appends zone picture old new
+    (zone : Rect) (picture : Picture) (old new pieces : List Piece) (tiles : List Tile) → IsRectangleIn world zone → old ≡ [] → AppendsCover zone picture old new
     → pieces ≡ new → tiles ≡ piece_tiles outer zone pieces → AreTiles outer (cut picture zone) tiles
 pieces-copied zone picture old new pieces tiles legal none appended same are =
-    let cover = subst (CoverBlock zone picture) (sym same) (Appends-none zone picture old new none appended) in
+    let cover = subst (CoverBlock zone picture) (sym same) (AppendsCover-none zone picture old new none appended) in
     subst (AreTiles outer (cut picture zone)) (sym are) (pieces-AreTiles outer zone picture pieces (amid-outer zone legal) cover)
 
 -- the tiles that a search finds

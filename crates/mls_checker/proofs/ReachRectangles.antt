@@ -12,9 +12,9 @@ use Rattle.mls_geom.specs.declared.direction.Direction.TheVariants.{Right, Up, L
 use Rattle.mls_geom.proofs.Across.{crosses, found_across}
 use Rattle.mls_geom.proofs.Holds.{between_holds, has_squares_lines, holds_between}
 use Rattle.mls_geom.proofs.ShiftedSquares.{positive_lt}
-use Rattle.mls_kinds.specs.KindSets.{holds as has_type}
+use Rattle.mls_kinds.specs.KindSets.{has_bit as has_type}
 use Rattle.mls_checker.proofs.BlockSquares.{HasSquares, LinesHold}
-use Rattle.mls_checker.specs.Sides.{blocks_hold, blocks_of, flank_blocks, flank_of, reach_of, rows_hold, side_reaches, tile_blocks, widened}
+use Rattle.mls_checker.specs.Sides.{blocks_hold, corner_blocks, flank_blocks, flank_of, reach_of, rows_hold, side_reaches, tile_blocks, widened}
 use Rattle.mls_checker.specs.Tiles.{Tile}
 
 -- the rectangle round the rows and corner blocks of edges along a side
@@ -30,7 +30,7 @@ rows_round direction d c far side x y few here = grind (arith, nat_tests)
 -- and corner blocks
 blocks_lines :
     (direction flank : Direction) (c far : ℕ) (side area : Rect) (x y : ℕ) → crosses direction flank ≡ true → c - 1 ≤ far → 0 < c
-    → HasSquares (common (flank_of direction flank side) area) → LinesHold (blocks_of direction flank c (common (flank_of direction flank side) area)) x y
+    → HasSquares (common (flank_of direction flank side) area) → LinesHold (corner_blocks direction flank c (common (flank_of direction flank side) area)) x y
     → LinesHold (Round direction far c side) x y
 blocks_lines Right flank c far side area x y cross few some squares here = grind arith
 blocks_lines Up flank c far side area x y cross few some squares here = grind arith
@@ -54,9 +54,9 @@ reached_in rule tiles direction side x y reaching =
           let (k, tile, within, is, held) = Any-from_list_any (tile_blocks rule direction side x y flank.0) tiles flank.2 in
           let part = common (flank_of direction flank.0 side) tile.area in
           let parts = and_parts (has_type rule.corner_types tile.kind) (blocks_hold direction flank.0 c part x y) held in
-          let squares = and_parts (has_squares part) (nat_lt 0 c && holds (blocks_of direction flank.0 c part) x y) parts.1 in
-          let blocks = and_parts (nat_lt 0 c) (holds (blocks_of direction flank.0 c part) x y) squares.1 in
+          let squares = and_parts (has_squares part) (nat_lt 0 c && holds (corner_blocks direction flank.0 c part) x y) parts.1 in
+          let blocks = and_parts (nat_lt 0 c) (holds (corner_blocks direction flank.0 c part) x y) squares.1 in
           let round = blocks_lines direction flank.0 c (max d c - 1) side tile.area x y flank.1 (omega arith) (positive_lt c blocks.0)
-          (has_squares_lines part squares.0) (holds_between (blocks_of direction flank.0 c part) x y blocks.1) in
+          (has_squares_lines part squares.0) (holds_between (corner_blocks direction flank.0 c part) x y blocks.1) in
           between_holds (reach_of rule direction side) x y round.0 round.1 round.2 round.3)
     ]

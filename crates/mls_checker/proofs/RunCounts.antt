@@ -6,8 +6,8 @@ use Rattle.std.proofs.lemmas.List.{take_all}
 use Rattle.std.proofs.lemmas.List.Sums.{sum_by_more}
 use Rattle.std.proofs.lemmas.Nat.{mul-le}
 use Rattle.mls_geom.specs.Rects.{Rect}
-use Rattle.mls_kinds.specs.KindSets.{holds as has_bit}
-use Rattle.mls_checker.specs.Grids.{Band, IsBand, IsGrid, IsRun}
+use Rattle.mls_kinds.specs.KindSets.{has_bit}
+use Rattle.mls_checker.specs.Grids.{Band, IsBand, IsGrid, IsBitRun}
 use Rattle.mls_checker.specs.Marking.{runs_of_row, runs_of_rows}
 
 -- the runs so far: each column that is still to come lies beyond twice their number, and a row has twice as many columns but one
@@ -19,7 +19,7 @@ pub FewRuns-none : (word width : ℕ) → FewRuns word 0 width 0
 FewRuns-none word width = record { next = λ column on has. omega arith; all = omega arith }
 
 -- after a run its end is a gap
-pub FewRuns-more : (word from start «end» width runs : ℕ) → IsRun word from start «end» → «end» ≤ width → FewRuns word from width runs → FewRuns word «end» width (runs + 1)
+pub FewRuns-more : (word from start «end» width runs : ℕ) → IsBitRun word from start «end» → «end» ≤ width → FewRuns word from width runs → FewRuns word «end» width (runs + 1)
 FewRuns-more word from start «end» width runs run short few =
     let first = few.next start run.after (run.all start (omega arith) run.some) in
     record {

@@ -5,8 +5,8 @@ use Rattle.std.proofs.Math.Bool.{and-false, or-false}
 use Rattle.std.proofs.lemmas.Bool.{cases_lt, false≢true}
 use Rattle.std.proofs.lemmas.Bool.Decides.{nat_tests}
 use Rattle.std.proofs.lemmas.List.{append-nil, drop_all, get_or-replicate, get_or_append_left, get_or_past, get_or_push, length_push, length-replicate, length-take-le, take_all, take_more}
-use Rattle.mls_kinds.specs.KindSets.{holds as has_bit}
-use Rattle.mls_kinds.proofs.BitLemmas.{holds-zero}
+use Rattle.mls_kinds.specs.KindSets.{has_bit}
+use Rattle.mls_kinds.proofs.BitLemmas.{has_bit-zero}
 use Rattle.mls_checker.specs.Grids.{RowWords, has_column, has_lifted, has_square, is_between, stacked}
 use Rattle.mls_checker.proofs.Gathering.{two_gains}
 use Rattle.mls_checker.proofs.WordRows.{fill-row, past-end}
@@ -140,8 +140,8 @@ lay-none old stacks r c =
 -- ---- without columns
 zero-row : (n r c : ℕ) → has_column (replicate n 0) r c ≡ false
 zero-row n r c = elim (cases_lt r n) [
-  | inl below ↦ ap (λ k. has_bit k c) (get_or-replicate n r 0 0 below) ∙ holds-zero c
-  | inr above ↦ ap (λ k. has_bit k c) (get_or_past (replicate n 0) r 0 (omega (arith, length-replicate {A = ℕ} n 0))) ∙ holds-zero c
+  | inl below ↦ ap (λ k. has_bit k c) (get_or-replicate n r 0 0 below) ∙ has_bit-zero c
+  | inr above ↦ ap (λ k. has_bit k c) (get_or_past (replicate n 0) r 0 (omega (arith, length-replicate {A = ℕ} n 0))) ∙ has_bit-zero c
 ]
 
 pub none-stacked : (height n r c : ℕ) → stacked height (replicate n 0) r c ≡ false

@@ -5,7 +5,7 @@ use Rattle.mls_geom.specs.Layouts.{Layout}
 use Rattle.mls_geom.specs.Pictures.{Picture}
 use Rattle.mls_geom.specs.Rects.{Rect, common, holds}
 use Rattle.mls_geom.specs.declared.piece.Piece.{Piece}
-use Rattle.mls_checker.specs.Copies.{AreOfZone, PlaneTiles, no_plane, picture_of}
+use Rattle.mls_checker.specs.Copies.{AreOfZone, PlaneTiles, no_plane, plane_picture}
 use Rattle.mls_checker.specs.Tiles.{Tile, clipped_tile, space_round}
 
 -- space round the zone, and what is found in it, each where a piece is, as far as that lies in it
@@ -18,7 +18,7 @@ piece_tiles extent zone pieces = found_tiles (λ piece. piece) extent zone piece
 
 -- the layout that these planes show
 abbrev pub planes_layout : List PlaneTiles → Layout
-planes_layout planes plane = picture_of (unwrap_or (slice_get planes plane) no_plane)
+planes_layout planes plane = plane_picture (unwrap_or (slice_get planes plane) no_plane)
 
 -- as many planes as these, which show this layout, and space outside the zone
 pub record AreCopies (zone : Rect) (count : ℕ) (layout : Layout) (planes : List PlaneTiles) : Type 0 where

@@ -1,7 +1,7 @@
 //! Rows of up to 64 columns, where many rows above each other gain the same columns at once.
 ghost use Rattle.std.specs.Prelude.{◌≡◌, ◌≤◌, ◌||◌, ◌&&◌, ℕ, false, not, length, IfOk};
 ghost use Rattle.mls_checker.specs.Grids.{has_column, has_square, is_between, stacked};
-ghost use Rattle.mls_kinds.specs.KindSets.{holds as has_bit};
+ghost use Rattle.mls_kinds.specs.KindSets.{has_bit};
 
 use crate::words::{STACK, clear, fill, join, lay_out, stack};
 use std::alloc::{AllocError, Global};

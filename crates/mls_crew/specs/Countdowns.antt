@@ -2,10 +2,10 @@
 use Rattle.std.specs.Prelude.{ℕ, ◌+◌, List, [], ◌∷◌, length, ⊤}
 
 -- the last item has this number, the one before it the next, and so on to the first
-abbrev pub Counts : {X : Type 0} → (ℕ → X → Type 0) → ℕ → List X → Type 0
-Counts has n [] = ⊤
-Counts has n (x ∷ xs) = has (n + length xs) x × Counts has n xs
+abbrev pub AreCountedFrom : {X : Type 0} → (ℕ → X → Type 0) → ℕ → List X → Type 0
+AreCountedFrom has n [] = ⊤
+AreCountedFrom has n (x ∷ xs) = has (n + length xs) x × AreCountedFrom has n xs
 
 -- the list counts down to this number
 pub record CountsDown {X : Type 0} (has : ℕ → X → Type 0) (n : ℕ) (xs : List X) : Type 0 where
-  pub counts : Counts has n xs
+  pub counts : AreCountedFrom has n xs

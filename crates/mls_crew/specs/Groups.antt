@@ -12,8 +12,8 @@ use Rattle.mls_seat_lines.specs.declared.seat_line.SeatLine.{SeatLine}
 use Rattle.mls_crew.specs.declared.handed.Handed.{Handed}
 
 -- the lines that were handed to the session of this number, in order
-abbrev pub lines_of : ℕ → List Handed → List SeatLine
-lines_of session handed = map (λ line. line.line) (filter (λ line. line.session == session) handed)
+abbrev pub lines_handed : ℕ → List Handed → List SeatLine
+lines_handed session handed = map (λ line. line.line) (filter (λ line. line.session == session) handed)
 
 -- the lines are said one after another
 abbrev pub SaysLines : Terms → Names → List ℕ → List Said → List SeatLine → List ℕ → List Said → Type 0

@@ -14,7 +14,7 @@ use Rattle.mls_wire.specs.declared.line.LineFault.{LineFault}
 use Rattle.mls_wire.specs.declared.serving.ServeFault.{ServeFault}
 use Rattle.mls_wire.specs.declared.serving.ServeFault.TheVariants.{Read, Write, Memory}
 use Rattle.mls_seat_lines.specs.Glossaries.{book_in, glossary_of}
-use Rattle.mls_crew.specs.Groups.{GivesGroup, GroupText, lines_of}
+use Rattle.mls_crew.specs.Groups.{GivesGroup, GroupText, lines_handed}
 use Rattle.mls_crew.specs.Sorting.{Sorted, Sorts}
 
 -- no text at all
@@ -23,7 +23,7 @@ no_text = record { text = []; audited = false }
 
 -- the session of this number has its text
 abbrev pub GivesPart : Terms → Names → Sorted → ℕ → GroupText → Type 0
-GivesPart terms book sorted session group = GivesGroup terms book (slice_index_or sorted.opened session []) (lines_of session sorted.handed) group
+GivesPart terms book sorted session group = GivesGroup terms book (slice_index_or sorted.opened session []) (lines_handed session sorted.handed) group
 
 -- each session that was opened has its text
 pub record GivesGroups (terms : Terms) (book : Names) (sorted : Sorted) (groups : List GroupText) : Type 0 where

@@ -17,8 +17,8 @@ use Rattle.mls_seat_lines.specs.declared.seat_line.SeatLine.{SeatLine}
 use Rattle.mls_seat_lines.specs.declared.seat_line.SeatLine.TheVariants.{Audit as AuditLine, Look as LookLine, Run as RunLine}
 
 -- the number of the session of this name, in the order of opening
-abbrev pub session_of : List (List ℕ) → List ℕ → Option ℕ
-session_of opened name = position (λ other. same_word name other) opened
+abbrev pub number_of_session : List (List ℕ) → List ℕ → Option ℕ
+number_of_session opened name = position (λ other. same_word name other) opened
 
 -- what becomes of a line, given the names of the sessions that were opened before it: the text that is written at the head of the output, what is handed to a
 -- session, and the names of the sessions opened up to here
@@ -28,8 +28,8 @@ pub record Sorted : Type 0 where
   pub opened : List (List ℕ)
 
 -- what was sorted before, and then this
-abbrev pub added : Sorted → Sorted → Sorted
-added before next = record { head = before.head ++ next.head; handed = before.handed ++ next.handed; opened = next.opened }
+abbrev pub followed_by : Sorted → Sorted → Sorted
+followed_by before next = record { head = before.head ++ next.head; handed = before.handed ++ next.handed; opened = next.opened }
 
 -- the line has its reply at once, with this text
 abbrev pub at_once : List (List ℕ) → List ℕ → Sorted
@@ -45,27 +45,27 @@ handed_to book n opened (Some session) line = record { head = []; handed = recor
 handed_to book n opened None line = faulty book n NotOpen opened
 
 -- a session of this name was opened, where none had been; or opening is refused by a fault, the first where one had been
-abbrev pub Opens : Names → ℕ → List (List ℕ) → List ℕ → Sorted → Type 0
-Opens book n opened name sorted =
-    ((session_of opened name ≡ None) × (sorted ≡ record { head = []; handed = []; opened = opened ++ name ∷ [] }))
-    ⊎ ((fault : OpenFault) × (((session_of opened name ≡ None) ⊎ (fault ≡ OpenAlready)))
+abbrev pub SortsOpening : Names → ℕ → List (List ℕ) → List ℕ → Sorted → Type 0
+SortsOpening book n opened name sorted =
+    ((number_of_session opened name ≡ None) × (sorted ≡ record { head = []; handed = []; opened = opened ++ name ∷ [] }))
+    ⊎ ((fault : OpenFault) × (((number_of_session opened name ≡ None) ⊎ (fault ≡ OpenAlready)))
     × (sorted ≡ at_once opened (response_text book n (Answered name (Opened (Err fault))))))
 
 -- what line n says is sorted
 abbrev pub SortsLine : Names → ℕ → List (List ℕ) → Result Line LineFault → Sorted → Type 0
 SortsLine book n opened (Err fault) sorted = sorted ≡ faulty book n fault opened
 SortsLine book n opened (Ok Silent) sorted = sorted ≡ at_once opened []
-SortsLine book n opened (Ok (Open name)) sorted = Opens book n opened name sorted
+SortsLine book n opened (Ok (Open name)) sorted = SortsOpening book n opened name sorted
 SortsLine book n opened (Ok (Close name id)) sorted = sorted ≡ faulty book n UnknownCommand opened
 SortsLine book n opened (Ok (Step name id)) sorted = sorted ≡ faulty book n UnknownCommand opened
 SortsLine book n opened (Ok (Steps name id most)) sorted = sorted ≡ faulty book n UnknownCommand opened
-SortsLine book n opened (Ok (Audit name id)) sorted = sorted ≡ handed_to book n opened (session_of opened name) AuditLine
-SortsLine book n opened (Ok (Look name id look)) sorted = sorted ≡ handed_to book n opened (session_of opened name) (LookLine look)
-SortsLine book n opened (Ok (Run name id command)) sorted = sorted ≡ handed_to book n opened (session_of opened name) (RunLine command)
+SortsLine book n opened (Ok (Audit name id)) sorted = sorted ≡ handed_to book n opened (number_of_session opened name) AuditLine
+SortsLine book n opened (Ok (Look name id look)) sorted = sorted ≡ handed_to book n opened (number_of_session opened name) (LookLine look)
+SortsLine book n opened (Ok (Run name id command)) sorted = sorted ≡ handed_to book n opened (number_of_session opened name) (RunLine command)
 
 -- the lines from line n on are sorted one after another
 abbrev pub Sorts : Names → ℕ → List (List ℕ) → List (Result Line LineFault) → Sorted → Type 0
 Sorts book n opened [] sorted = sorted ≡ at_once opened []
 Sorts book n opened (said ∷ lines) sorted =
     (first : Sorted) × (rest : Sorted) × SortsLine book n opened said first × Sorts book (n + 1) first.opened lines rest
-    × (sorted ≡ added first rest)
+    × (sorted ≡ followed_by first rest)

@@ -2,7 +2,7 @@
 ghost use Rattle.std.specs.Prelude.{◌≡◌, ◌+◌, ◌<◌, [], IfOk, Ok, OnOk, length, slice_index_or, vec_len};
 ghost use Rattle.mls_live.specs.Lists.{list_of};
 ghost use Rattle.mls_seat_lines.specs.Glossaries.{book_in};
-ghost use Rattle.mls_crew.specs.Sorting.{Opens, Sorts, SortsLine, added, at_once, faulty, handed_to, session_of};
+ghost use Rattle.mls_crew.specs.Sorting.{SortsOpening, Sorts, SortsLine, followed_by, at_once, faulty, handed_to, number_of_session};
 ghost use Rattle.mls_wire.specs.Replies.{response_text};
 
 use crate::Handed;
@@ -84,7 +84,7 @@ impl Sorting {
 
     /// Returns the number of the session of this name.
     fn session(&self, name: &Name) -> Option<usize>
-        ensures { result ≡ session_of self.now.opened name.now }
+        ensures { result ≡ number_of_session self.now.opened name.now }
     {
         self.names.iter().position(|other| name == other)
     }
@@ -100,7 +100,8 @@ impl Sorting {
     ) -> Result<(), AllocError>
         requires paired { length self.old.opened ≡ vec_len seats.old }
         ensures sorts { OnOk result ((sorted : _) × SortsLine
-            (book_in desk.now.glossary.now) n self.old.opened said.now sorted × (self.new ≡ added self.old sorted)) }
+            (book_in desk.now.glossary.now) n self.old.opened said.now sorted
+            × (self.new ≡ followed_by self.old sorted)) }
         ensures paired { OnOk result (length self.new.opened ≡ vec_len seats.new) }
     {
         match said {
@@ -120,7 +121,7 @@ impl Sorting {
     ) -> Result<(), AllocError>
         requires paired { length self.old.opened ≡ vec_len seats.old }
         ensures sorts { OnOk result ((sorted : _) × SortsLine (book_in desk.now.glossary.now) n self.old.opened
-            (Ok line.now) sorted × (self.new ≡ added self.old sorted)) }
+            (Ok line.now) sorted × (self.new ≡ followed_by self.old sorted)) }
         ensures paired { OnOk result (length self.new.opened ≡ vec_len seats.new) }
     {
         match line {
@@ -142,7 +143,7 @@ impl Sorting {
         n: u128,
         response: &Response,
     ) -> Result<(), AllocError>
-        ensures { OnOk result (self.new ≡ added self.old
+        ensures { OnOk result (self.new ≡ followed_by self.old
             (at_once self.old.opened (response_text (book_in desk.now.glossary.now) n response.now))) }
     {
         push_response(desk.glossary, n, response, &mut self.head)
@@ -155,7 +156,7 @@ impl Sorting {
         n: u128,
         fault: LineFault,
     ) -> Result<(), AllocError>
-        ensures { OnOk result (self.new ≡ added self.old
+        ensures { OnOk result (self.new ≡ followed_by self.old
             (faulty (book_in desk.now.glossary.now) n fault self.old.opened)) }
     {
         self.answer(desk, n, &Response::Fault(fault))
@@ -169,8 +170,9 @@ impl Sorting {
         name: &Name,
         line: SeatLine,
     ) -> Result<(), AllocError>
-        ensures { OnOk result (self.new ≡ added self.old
-            (handed_to (book_in desk.now.glossary.now) n self.old.opened (session_of self.old.opened name.now) line)) }
+        ensures { OnOk result (self.new ≡ followed_by self.old
+            (handed_to (book_in desk.now.glossary.now) n self.old.opened
+            (number_of_session self.old.opened name.now) line)) }
     {
         let Some(session) = self.session(name) else {
             return self.refuse(desk, n, LineFault::NotOpen);
@@ -189,8 +191,9 @@ impl Sorting {
         seats: &mut Vec<Fresh<'l, N>>,
     ) -> Result<(), AllocError>
         requires paired { length self.old.opened ≡ vec_len seats.old }
-        ensures opens { OnOk result ((sorted : _) × Opens
-            (book_in desk.now.glossary.now) n self.old.opened name.now sorted × (self.new ≡ added self.old sorted)) }
+        ensures opens { OnOk result ((sorted : _) × SortsOpening
+            (book_in desk.now.glossary.now) n self.old.opened name.now sorted
+            × (self.new ≡ followed_by self.old sorted)) }
         ensures paired { OnOk result (length self.new.opened ≡ vec_len seats.new) }
     {
         if self.session(name).is_some() {
@@ -214,7 +217,7 @@ impl Sorting {
         name: &Name,
         fault: OpenFault,
     ) -> Result<(), AllocError>
-        ensures { OnOk result (self.new ≡ added self.old
+        ensures { OnOk result (self.new ≡ followed_by self.old
             (at_once self.old.opened (response_text (book_in desk.now.glossary.now) n
             (Response.Answered name.now (Answer.Opened (Err fault)))))) }
     {

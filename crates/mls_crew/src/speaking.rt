@@ -2,7 +2,7 @@
 ghost use Rattle.std.specs.Prelude.{◌≡◌, ◌++◌, ℕ, List, [], IfOk, OnOk, length};
 ghost use Rattle.mls_live.specs.Lists.{list_of};
 ghost use Rattle.mls_seat_lines.specs.Glossaries.{book_in};
-ghost use Rattle.mls_crew.specs.Groups.{SaysLines, GivesGroup, lines_of};
+ghost use Rattle.mls_crew.specs.Groups.{SaysLines, GivesGroup, lines_handed};
 
 use crate::sorting::{Fresh, Sorting};
 use mls_live::{Naming, Seat};
@@ -77,7 +77,7 @@ pub fn speak<'l, N: Naming, R: Wait>(
     fresh: Fresh<'l, N>,
 ) -> Spoken<'l, N>
     ensures { IfOk result.group (GivesGroup N.terms (book_in part.entry.glossary.now) name
-        (lines_of part.entry.session part.entry.sorting.now.handed)) }
+        (lines_handed part.entry.session part.entry.sorting.now.handed)) }
 {
     let Fresh { mut seat } = fresh;
     let group = say_group(rt, &part, &name, &mut seat);
@@ -93,7 +93,7 @@ fn say_group<N: Naming, R: Wait>(
 ) -> Result<GroupText, AllocError>
     requires { length (list_of seat.old) ≡ 0 }
     ensures { IfOk result (GivesGroup N.terms (book_in part.now.glossary.now) name.now
-        (lines_of part.now.session part.now.sorting.now.handed)) }
+        (lines_handed part.now.session part.now.sorting.now.handed)) }
 {
     let mut text = Vec::new(part.alloc);
     let opened = Response::Answered(*name, Answer::Opened(Ok(seat.id())));
@@ -113,7 +113,7 @@ fn say_lines<N: Naming, R: Wait>(
 ) -> Result<(), AllocError>
     ensures { OnOk result ((text : List ℕ) × SaysLines N.terms (book_in part.now.glossary.now) name.now
         (list_of seat.old)
-        (lines_of part.now.session part.now.sorting.now.handed) text (list_of seat.new)
+        (lines_handed part.now.session part.now.sorting.now.handed) text (list_of seat.new)
         × (out.new.items ≡ out.old.items ++ text)) }
 {
     let voice = Voice {

@@ -3,7 +3,7 @@ use Rattle.std.proofs.Common.{◌≡◌, ℕ, ◌+◌, ◌<◌, true, false, nat
 use Rattle.std.proofs.lemmas.List.{drop_more}
 use Rattle.mls_tech.specs.Readings.{Tech}
 use Rattle.mls_tech.specs.declared.rule_line.RuleLine.{RuleLine}
-use Rattle.mls_edgerule.specs.Compiling.{rule_of, rule_before, fault_at, with_rule, compiled_after, compiled}
+use Rattle.mls_edgerule.specs.Compiling.{rule_of, rule_before, rule_fault, with_rule, compiled_after, compiled}
 use Rattle.mls_edgerule.specs.declared.edge_rule.EdgeRule.{EdgeRule}
 use Rattle.mls_edgerule.specs.declared.fault.RuleFault.{RuleFault}
 use Rattle.mls_edgerule.specs.declared.fault.RuleFaultKind.TheVariants.{Planes, TooManyRules}
@@ -33,7 +33,7 @@ pub continued-end : (tech : Tech) (rules : List EdgeRule) → continued tech rul
 unfolding compiled_after
 continued-end tech rules = ap Ok (append-nil rules)
 
-after-full : (tech : Tech) (n : ℕ) (line : RuleLine) (lines : List RuleLine) → nat_le 128 n ≡ true → compiled_after tech n (line ∷ lines) ≡ Err (fault_at line TooManyRules)
+after-full : (tech : Tech) (n : ℕ) (line : RuleLine) (lines : List RuleLine) → nat_le 128 n ≡ true → compiled_after tech n (line ∷ lines) ≡ Err (rule_fault line TooManyRules)
 unfolding compiled_after
 after-full tech n line lines full = rw full refl
 
@@ -47,10 +47,10 @@ module _ (tech : Tech) (rules : List EdgeRule) (lines : List RuleLine) (i : ℕ)
   lines-from : drop i lines ≡ line ∷ drop (i + 1) lines
   lines-from = drop_more lines i line inside ∙ ap (λ first. first ∷ drop (i + 1) lines) (sym here)
 
-  pub continued-full : nat_le 128 (length rules) ≡ true → continued tech rules (drop i lines) ≡ Err (fault_at line TooManyRules)
+  pub continued-full : nat_le 128 (length rules) ≡ true → continued tech rules (drop i lines) ≡ Err (rule_fault line TooManyRules)
   continued-full full = rw (lines-from, after-full tech (length rules) line (drop (i + 1) lines) full) refl
 
-  pub continued-planes : nat_le 128 (length rules) ≡ false → rule_of tech line.rule ≡ None → continued tech rules (drop i lines) ≡ Err (fault_at line Planes)
+  pub continued-planes : nat_le 128 (length rules) ≡ false → rule_of tech line.rule ≡ None → continued tech rules (drop i lines) ≡ Err (rule_fault line Planes)
   continued-planes room none = rw (lines-from, after-room tech (length rules) line (drop (i + 1) lines) room, none) refl
 
   pub continued-rule : (rule : EdgeRule) → nat_le 128 (length rules) ≡ false → rule_of tech line.rule ≡ Some rule →

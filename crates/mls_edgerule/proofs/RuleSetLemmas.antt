@@ -7,8 +7,8 @@ use Rattle.std.specs.List.{filter, range_with_len}
 use Rattle.std.proofs.lemmas.List.{length-map}
 use Rattle.std.proofs.lemmas.Nat.{one_shl, pow_below}
 use Rattle.std.proofs.lemmas.Nat.Bits.{bit_at-trailing_zeros}
-use Rattle.mls_kinds.specs.KindSets.{bits_where, holds as has_bit}
-use Rattle.mls_kinds.proofs.BitLemmas.{bits_where-lt, bits_where_and, bits_where_more_yes, bits_where_or, bits_where_same, count_ones-holds, filter_first, filter_none, holds-bits_where, holds-not, holds-pow, holds-zero, with_bit_or}
+use Rattle.mls_kinds.specs.KindSets.{bits_where, has_bit}
+use Rattle.mls_kinds.proofs.BitLemmas.{bits_where-lt, bits_where_and, bits_where_more_yes, bits_where_or, bits_where_same, count_ones-has_bit, filter_first, filter_none, has_bit-bits_where, has_bit-not, has_bit-pow, has_bit-zero, with_bit_or}
 use Rattle.mls_edgerule.specs.RuleSets.{rules_in, union, with_rule, without_rule}
 
 -- ---- operations on machine words
@@ -25,7 +25,7 @@ unfolding without_rule
 without_rule_is set n fits first last =
     let below : n - 1 < 128 = omega arith in
     ap (λ bit. bit_and set (bit_not w128 bit)) (one_shl (n - 1) 128 below) ∙ bits_where_and 128 set (bit_not w128 (2 ^ (n - 1))) fits
-    ∙ bits_where_same 128 _ _ (λ k within. ap (λ b. has_bit set k && b) (holds-not w128 (2 ^ (n - 1)) k (pow_below (n - 1) 128 below) within ∙ ap not (holds-pow (n - 1) k)))
+    ∙ bits_where_same 128 _ _ (λ k within. ap (λ b. has_bit set k && b) (has_bit-not w128 (2 ^ (n - 1)) k (pow_below (n - 1) 128 below) within ∙ ap not (has_bit-pow (n - 1) k)))
 
 -- ---- sets by tests
 -- the next rule of those that pass a test
@@ -41,7 +41,7 @@ pub union-bits_where : (test other : ℕ → Bool) → union (bits_where test 12
 unfolding union
 union-bits_where test other =
     bits_where_same 128 (λ k. has_bit (bits_where test 128) k || has_bit (bits_where other 128) k) (λ k. test k || other k)
-    (λ k below. rw (holds-bits_where test 128 k below, holds-bits_where other 128 k below) refl)
+    (λ k below. rw (has_bit-bits_where test 128 k below, has_bit-bits_where other 128 k below) refl)
 
 -- ---- the numbers of the rules in rising order
 -- the number of a rule is one more than that of its bit
@@ -62,10 +62,10 @@ unfolding rules_in
 rules_in-bits set = filter_moved (has_bit set) 0 128
 
 pub len_is : (set : ℕ) → set < 2 ^ 128 → count_ones set ≡ length (rules_in set)
-len_is set fits = count_ones-holds 128 set fits ∙ sym (ap length (rules_in-bits set) ∙ length-map (filter (has_bit set) (range_with_len 0 128)) (λ k. k + 1))
+len_is set fits = count_ones-has_bit 128 set fits ∙ sym (ap length (rules_in-bits set) ∙ length-map (filter (has_bit set) (range_with_len 0 128)) (λ k. k + 1))
 
 no_rules : rules_in 0 ≡ []
-no_rules = rules_in-bits 0 ∙ ap (map (λ k. k + 1)) (filter_none (has_bit 0) 0 128 (λ k _ _. holds-zero k))
+no_rules = rules_in-bits 0 ∙ ap (map (λ k. k + 1)) (filter_none (has_bit 0) 0 128 (λ k _ _. has_bit-zero k))
 
 pub no_rules_at : (set : ℕ) → set ≡ 0 → rules_in set ≡ []
 no_rules_at set none = ap rules_in none ∙ no_rules
@@ -76,7 +76,7 @@ rules_first set k below there none =
     let here : k + 1 - 1 ≡ k = omega arith in
     rules_in-bits set
     ∙ ap (map (λ i. i + 1)) (filter_first (has_bit set) (has_bit (without_rule set (k + 1))) k 0 128 (omega arith) below there none
-    (λ other lower. holds-bits_where (λ i. has_bit set i && not (i == k + 1 - 1)) 128 other lower ∙ ap (λ n. has_bit set other && not (other == n)) here))
+    (λ other lower. has_bit-bits_where (λ i. has_bit set i && not (i == k + 1 - 1)) 128 other lower ∙ ap (λ n. has_bit set other && not (other == n)) here))
     ∙ ap (λ rest. (k + 1) ∷ rest) (sym (rules_in-bits (without_rule set (k + 1))))
 
 pub lowest_is : (set : ℕ) → 0 < set → set < 2 ^ 128

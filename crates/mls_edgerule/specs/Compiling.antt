@@ -64,8 +64,8 @@ edge_line_rule tech directions edge plane check_plane = record {
 abbrev pub touching_ok : Tech → ℕ → ℕ → ℕ → ℕ → Option EdgeRule
 touching_ok tech a b d plane = if is_on_plane tech b plane then Some (touching_ok_rule tech a b d plane) else None
 
-abbrev pub edge_line : Tech → Directions → EdgeWords → Option EdgeRule
-edge_line tech directions edge =
+abbrev pub compiled_edge : Tech → Directions → EdgeWords → Option EdgeRule
+compiled_edge tech directions edge =
     option_map (λ plane. edge_line_rule tech directions edge plane (unwrap_or edge.plane plane)) (trigger_plane tech edge.types1 edge.types2)
 
 unfoldable pub rule_of : Tech → Rule → Option EdgeRule
@@ -73,12 +73,12 @@ rule_of tech (Width set d) = option_map (width_rule tech set d) (plane_of_set te
 rule_of tech (Spacing a b d TouchingOk) = option_and_then (touching_ok tech a b d) (plane_of_set tech a)
 rule_of tech (Spacing a b d TouchingIllegal) =
     option_and_then (λ plane. option_map (touching_illegal_rule tech a b d plane) (plane_of_set tech b)) (plane_of_set tech a)
-rule_of tech (Edge edge) = edge_line tech RightAndUp edge
-rule_of tech (Edge4Way edge) = edge_line tech Four edge
+rule_of tech (Edge edge) = compiled_edge tech RightAndUp edge
+rule_of tech (Edge4Way edge) = compiled_edge tech Four edge
 
 -- ---- all lines
-abbrev pub fault_at : RuleLine → RuleFaultKind → RuleFault
-fault_at line kind = record { line = line.line; kind = kind }
+abbrev pub rule_fault : RuleLine → RuleFaultKind → RuleFault
+rule_fault line kind = record { line = line.line; kind = kind }
 
 -- one rule more at the front
 abbrev pub rule_before : EdgeRule → Result (List EdgeRule) RuleFault → Result (List EdgeRule) RuleFault
@@ -86,14 +86,14 @@ rule_before rule (Ok rules) = Ok (rule ∷ rules)
 rule_before rule (Err fault) = Err fault
 
 abbrev pub with_rule : RuleLine → Option EdgeRule → Result (List EdgeRule) RuleFault → Result (List EdgeRule) RuleFault
-with_rule line None others = Err (fault_at line Planes)
+with_rule line None others = Err (rule_fault line Planes)
 with_rule line (Some rule) others = rule_before rule others
 
 -- the rules of the lines from here on, where n lines stand before them, or the first fault
 unfoldable pub compiled_after : Tech → ℕ → List RuleLine → Result (List EdgeRule) RuleFault
 compiled_after tech n [] = Ok []
 compiled_after tech n (line ∷ lines) =
-    if nat_le rule_limit n then Err (fault_at line TooManyRules)
+    if nat_le rule_limit n then Err (rule_fault line TooManyRules)
     else with_rule line (rule_of tech line.rule) (compiled_after tech (n + 1) lines)
 
 -- one rule for each line of the technology, in the order of lines

@@ -2,7 +2,7 @@
 use Rattle.std.specs.Prelude.{ℕ, ◌==◌, Bool, not, ◌&&◌, Option, Some, None, List, [], ◌∷◌, find}
 use Rattle.std.specs.List.{filter, range_with_len}
 use Rattle.mls_tech.specs.Readings.{Tech, lies_on_plane}
-use Rattle.mls_kinds.specs.KindSets.{holds, set_of, intersection, difference}
+use Rattle.mls_kinds.specs.KindSets.{has_bit, set_of, intersection, difference}
 
 -- the types of the plane, space among them
 unfoldable pub types_on : Tech → ℕ → ℕ
@@ -13,7 +13,7 @@ planes_of tech = range_with_len 0 tech.plane_count
 
 -- the set isn't empty, is without space, and has only types of the plane
 abbrev pub is_on_plane : Tech → ℕ → ℕ → Bool
-is_on_plane tech set plane = not (set == 0) && not (holds set 0) && difference set (types_on tech plane) == 0
+is_on_plane tech set plane = not (set == 0) && not (has_bit set 0) && difference set (types_on tech plane) == 0
 
 -- the plane that has all types of the set, if the set isn't empty and is without space
 unfoldable pub plane_of_set : Tech → ℕ → Option ℕ

@@ -1,7 +1,7 @@
 -- Sets of rules as numbers: rule n, counted from 1, is in a set where the number's bit n - 1 is 1. This project's own.
 use Rattle.std.specs.Prelude.{ℕ, ◌-◌, ◌==◌, not, ◌||◌, ◌&&◌, List}
 use Rattle.std.specs.List.{filter, range_with_len}
-use Rattle.mls_kinds.specs.KindSets.{bits_where, holds as has_bit}
+use Rattle.mls_kinds.specs.KindSets.{bits_where, has_bit}
 use Rattle.mls_edgerule.specs.RuleLists.{rule_limit}
 
 -- the numbers of the rules in a set, in rising order

@@ -20,18 +20,18 @@ pub fn compile(tech: &Tech) -> Result<Rules, RuleFault>
     let lines = tech.lines();
     for line in lines {
         if rules.is_full() {
-            return Err(fault_at(line, RuleFaultKind::TooManyRules));
+            return Err(rule_fault(line, RuleFaultKind::TooManyRules));
         }
         let Some(rule) = rule_of(tech, line.rule) else {
-            return Err(fault_at(line, RuleFaultKind::Planes));
+            return Err(rule_fault(line, RuleFaultKind::Planes));
         };
         rules.push(rule);
     }
     Ok(rules)
 }
 
-fn fault_at(line: &RuleLine, kind: RuleFaultKind) -> RuleFault
-    ensures { result ≡ spec.fault_at line.now kind }
+fn rule_fault(line: &RuleLine, kind: RuleFaultKind) -> RuleFault
+    ensures { result ≡ spec.rule_fault line.now kind }
 {
     RuleFault {
         line: line.line,
@@ -50,8 +50,8 @@ fn rule_of(tech: &Tech, rule: Rule) -> Option<EdgeRule>
             Adjacency::TouchingOk => touching_ok(tech, from, to, distance),
             Adjacency::TouchingIllegal => touching_illegal(tech, from, to, distance),
         },
-        Rule::Edge(edge) => edge_line(tech, Directions::RightAndUp, edge),
-        Rule::Edge4Way(edge) => edge_line(tech, Directions::Four, edge),
+        Rule::Edge(edge) => compiled_edge(tech, Directions::RightAndUp, edge),
+        Rule::Edge4Way(edge) => compiled_edge(tech, Directions::Four, edge),
     }
 }
 
@@ -165,8 +165,8 @@ fn spacing_rule(
 }
 
 /// The rule of an `edge` or `edge4way` line, or `None` if no plane or several planes have its edges.
-fn edge_line(tech: &Tech, directions: Directions, edge: Edge) -> Option<EdgeRule>
-    ensures { result ≡ spec.edge_line tech.now directions edge }
+fn compiled_edge(tech: &Tech, directions: Directions, edge: Edge) -> Option<EdgeRule>
+    ensures { result ≡ spec.compiled_edge tech.now directions edge }
 {
     let plane = trigger_plane(tech, edge.types1, edge.types2)?;
     let check_plane = edge.plane.unwrap_or(plane);

@@ -12,7 +12,7 @@ use Rattle.mls_geom.specs.declared.direction.Direction.TheVariants.{Right, Up, L
 use Rattle.mls_checker.specs.Forbids.{forbidden, forbids, in_block, in_row, is_disallowed, reaches}
 use Rattle.mls_checker.proofs.ListTests.{list_any_same}
 use Rattle.mls_checker.proofs.Locality.{forbidden_same_in}
-use Rattle.mls_kinds.specs.KindSets.{holds as has_type}
+use Rattle.mls_kinds.specs.KindSets.{has_bit as has_type}
 use Rattle.mls_layout.specs.Likenesses.{like_column, like_row}
 use Rattle.mls_errorplane.specs.Stretches.{IsAlike}
 use Rattle.mls_layout.specs.declared.likeness.Likeness.{Likeness}

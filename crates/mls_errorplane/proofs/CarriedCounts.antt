@@ -14,7 +14,7 @@ use Rattle.mls_stitch.specs.declared.laid_tile.LaidTile.{LaidTile}
 use Rattle.mls_paint.specs.Planes.{HasStrips, picture_in}
 use Rattle.mls_checker.specs.Marking.{SquareSet}
 use Rattle.mls_checker.proofs.Copying.{found-HasPiece}
-use Rattle.mls_errorplane.specs.Carrying.{AreCarried, AreFew, GoUp, LeavesRoom, RunsThrough, carries_up, told}
+use Rattle.mls_errorplane.specs.Carrying.{AreCarried, AreFew, GoUp, LeavesRoom, RunsThrough, carries_up, likened}
 use Rattle.mls_errorplane.specs.DirtyLists.{piece_side}
 use Rattle.mls_errorplane.specs.ErrorPlanes.{marks_picture}
 use Rattle.mls_errorplane.specs.MarkPlanes.{is_marked, remarked}
@@ -74,10 +74,10 @@ marked_as true = refl
 marked_as false = refl
 
 pub AreCarried-remarked :
-    (likeness : Likeness) (from rect : Rect) (old new : Picture) → new ≡ remarked old rect (told likeness from (is_marked old))
+    (likeness : Likeness) (from rect : Rect) (old new : Picture) → new ≡ remarked old rect (likened likeness from (is_marked old))
     → AreCarried likeness from rect (is_marked old) (is_marked new)
 AreCarried-remarked likeness from rect old new is =
-    let set = told likeness from (is_marked old) in
+    let set = likened likeness from (is_marked old) in
     let mark = λ (x y : ℕ) (inside : Bool). not (cond {A = ℕ} inside (cond {A = ℕ} (set x y) 1 0) (old x y) == 0) in
     let each = λ (x y : ℕ). ap (λ (p : Picture). is_marked p x y) is in
     record {
@@ -86,10 +86,10 @@ AreCarried-remarked likeness from rect old new is =
     }
 
 -- what is carried up is the same in all rows
-told-up : (likeness : Likeness) (from : Rect) (set : SquareSet) (x y z : ℕ) → carries_up likeness ≡ true → told likeness from set x y ≡ told likeness from set x z
-told-up OneKind from set x y z up = refl
-told-up Columns from set x y z up = refl
-told-up Rows from set x y z up = absurd (cc up)
+likened-up : (likeness : Likeness) (from : Rect) (set : SquareSet) (x y z : ℕ) → carries_up likeness ≡ true → likened likeness from set x y ≡ likened likeness from set x z
+likened-up OneKind from set x y z up = refl
+likened-up Columns from set x y z up = refl
+likened-up Rows from set x y z up = absurd (cc up)
 
 -- so marks that go up do so after others are carried up
 GoUp-carried :
@@ -101,7 +101,7 @@ GoUp-carried likeness from rect old new legal carried up go_up x y here =
       | inl inside ↦ (
           let sides = holds_between rect x y inside in
           let low = between_holds rect x rect.bottom sides.0 sides.1 (le_refl rect.bottom) legal.tall in
-          carried.there x y inside ∙ told-up likeness from old x y rect.bottom up ∙ sym (carried.there x rect.bottom low))
+          carried.there x y inside ∙ likened-up likeness from old x y rect.bottom up ∙ sym (carried.there x rect.bottom low))
       | inr outside ↦ (
           let outside' = false_from_ne_true (holds rect x rect.bottom)
           (λ held. let sides = holds_between rect x rect.bottom held in both_ways (holds rect x y) outside (between_holds rect x y sides.0 sides.1 lines.2 lines.3)) in

@@ -25,7 +25,7 @@ use Rattle.mls_checker.specs.Marking.{SquareSet}
 use Rattle.mls_errorplane.specs.ErrorPlanes.{exceeds, marks_picture}
 use Rattle.mls_errorplane.specs.MarkPlanes.{is_marked, marked_count, remarked}
 use Rattle.mls_errorplane.specs.PaintedMarks.{Paints}
-use Rattle.mls_errorplane.specs.Carrying.{AreCarried, AreFew, edge_of, part_like, piece_like, told}
+use Rattle.mls_errorplane.specs.Carrying.{AreCarried, AreFew, edge_of, part_like, piece_like, likened}
 use Rattle.mls_layout.specs.Likenesses.{like_column, like_row}
 use Rattle.mls_errorplane.specs.Stretches.{AreRight, AreRightIn, IsAlike, Tells}
 use Rattle.mls_errorplane.specs.declared.checked.Checked.{Checked}
@@ -158,7 +158,7 @@ module _
     (shows : picture_in pool owner ≡ marks_picture (is_marked (picture_in pool owner)))
     (are : AreInArea (block_at (tiles_of pool owner)) (edge_of likeness from rect) found) where
   abbrev set : SquareSet
-  set = told likeness from (is_marked (picture_in pool owner))
+  set = likened likeness from (is_marked (picture_in pool owner))
 
   -- a tile's part has the tile's kind where the set has it as a mark
   part-agrees : (k : ℕ) (d : LaidTile) (x y : ℕ) → k < length found → Agrees x y (if set x y then 1 else 0) (piece_like likeness rect (get_or found k d))

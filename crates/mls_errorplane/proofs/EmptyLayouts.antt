@@ -9,7 +9,7 @@ use Rattle.mls_edgerule.specs.Directions.{directions_in}
 use Rattle.mls_edgerule.specs.declared.directions.Directions.{Directions}
 use Rattle.mls_edgerule.specs.declared.directions.Directions.TheVariants.{RightAndUp, Four}
 use Rattle.mls_edgerule.specs.declared.edge_rule.EdgeRule.{EdgeRule}
-use Rattle.mls_kinds.specs.KindSets.{holds as has_type}
+use Rattle.mls_kinds.specs.KindSets.{has_bit as has_type}
 use Rattle.mls_geom.specs.Directions.{across}
 use Rattle.mls_geom.specs.Layouts.{Layout}
 use Rattle.mls_geom.specs.Pictures.{columns, empty_picture}

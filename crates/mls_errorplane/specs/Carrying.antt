@@ -15,12 +15,12 @@ use Rattle.mls_layout.specs.declared.likeness.Likeness.{Likeness}
 use Rattle.mls_layout.specs.declared.likeness.Likeness.TheVariants.{OneKind, Columns, Rows}
 
 -- the set that has a square where another one has the square in which a rectangle shows what it shows in this one
-abbrev pub told : Likeness → Rect → SquareSet → SquareSet
-told likeness from set x y = set (like_column likeness from x) (like_row likeness from y)
+abbrev pub likened : Likeness → Rect → SquareSet → SquareSet
+likened likeness from set x y = set (like_column likeness from x) (like_row likeness from y)
 
 -- in the rectangle the marks are as another one tells, and elsewhere as they were
 pub record AreCarried (likeness : Likeness) (from rect : Rect) (old new : SquareSet) : Type 0 where
-  pub there : (x y : ℕ) → holds rect x y ≡ true → new x y ≡ told likeness from old x y
+  pub there : (x y : ℕ) → holds rect x y ≡ true → new x y ≡ likened likeness from old x y
   pub elsewhere : (x y : ℕ) → holds rect x y ≡ false → new x y ≡ old x y
 
 -- in all rows of the rectangle the marks are those of its lowest row, from one side of the world to the other

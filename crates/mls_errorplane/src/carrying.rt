@@ -14,7 +14,7 @@ ghost use Rattle.mls_errorplane.specs.ErrorPlanes.{HasMarks, ShowsMarks, checkin
 ghost use Rattle.mls_errorplane.specs.MarkPlanes.{is_marked, marked_count};
 ghost use Rattle.mls_errorplane.specs.PaintedMarks.{Paints};
 ghost use Rattle.mls_errorplane.specs.Carrying as spec;
-ghost use Rattle.mls_errorplane.specs.Carrying.{AreCarried, AreFew, LeavesRoom, RunsThrough, piece_like, told};
+ghost use Rattle.mls_errorplane.specs.Carrying.{AreCarried, AreFew, LeavesRoom, RunsThrough, piece_like, likened};
 
 use crate::checked::Source;
 use crate::dirty::{PIECE_SIDE, lies_in_world};
@@ -188,7 +188,7 @@ fn list_carried(
     requires list_fits { IfSome (room_of pool.now plane.old) (λ room. room ≤ vec_capacity pieces.old) }
     requires kinds { picture_in pool.now plane.old ≡ marks_picture (is_marked (picture_in pool.now plane.old)) }
     ensures painted { Paints pieces.new.items rect
-        (told source.likeness source.rect (is_marked (picture_in pool.now plane.old))) }
+        (likened source.likeness source.rect (is_marked (picture_in pool.now plane.old))) }
     ensures few { IfSome (room_of pool.now plane.old) (λ room. length pieces.new.items ≤ room) }
     ensures room { vec_capacity pieces.new ≡ vec_capacity pieces.old }
     ensures plane { plane.new ≡ plane.old }

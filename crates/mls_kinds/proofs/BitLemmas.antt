@@ -17,7 +17,7 @@ use Rattle.std.proofs.lemmas.List.Sums.{length-filter}
 use Rattle.std.proofs.lemmas.Nat.{pow_pos, or_lt, and_le_l, one_shl, pow_below}
 use Rattle.std.proofs.lemmas.Nat.Bits.{bit_at-lt, bit_at-zero, bit_at_above, bit_at_or, bit_at_and, bit_at_not, bit_at-pow_same, bit_at-pow_other, bit_at_cat_low, bit_at_cat_high, same_from_bits_below}
 use Rattle.std.proofs.lemmas.Simd.{mask_l-lt, bit_mask_l, ones-mask_l}
-use Rattle.mls_kinds.specs.KindSets.{holds, bits_where}
+use Rattle.mls_kinds.specs.KindSets.{has_bit, bits_where}
 
 -- 1 where the test passes
 abbrev pub bit : Bool → ℕ
@@ -90,54 +90,54 @@ bit_at-bits_where test (suc n) k below =
           ∙ ap (λ i. bit (test i)) (sym there)
     ]
 
-pub holds-bits_where : (test : ℕ → Bool) (n k : ℕ) → k < n → holds (bits_where test n) k ≡ test k
-holds-bits_where test n k below = ap (λ b. b == 1) (bit_at-bits_where test n k below) ∙ bit-is_one (test k)
+pub has_bit-bits_where : (test : ℕ → Bool) (n k : ℕ) → k < n → has_bit (bits_where test n) k ≡ test k
+has_bit-bits_where test n k below = ap (λ b. b == 1) (bit_at-bits_where test n k below) ∙ bit-is_one (test k)
 
-pub holds_above : (n set k : ℕ) → set < 2 ^ n → n ≤ k → holds set k ≡ false
-holds_above n set k fits above = ap (λ b. b == 1) (bit_at_above set n k fits above)
+pub has_bit_above : (n set k : ℕ) → set < 2 ^ n → n ≤ k → has_bit set k ≡ false
+has_bit_above n set k fits above = ap (λ b. b == 1) (bit_at_above set n k fits above)
 
-pub bit-holds : (set k : ℕ) → bit_at set k ≡ bit (holds set k)
-bit-holds set k = is_one-bit _ (bit_at-lt set k)
+pub bit-has_bit : (set k : ℕ) → bit_at set k ≡ bit (has_bit set k)
+bit-has_bit set k = is_one-bit _ (bit_at-lt set k)
 
 -- a number of n bits is the set of its bits
-pub is_bits_where : (n set : ℕ) (test : ℕ → Bool) → set < 2 ^ n → ((k : ℕ) → k < n → holds set k ≡ test k) → set ≡ bits_where test n
+pub is_bits_where : (n set : ℕ) (test : ℕ → Bool) → set < 2 ^ n → ((k : ℕ) → k < n → has_bit set k ≡ test k) → set ≡ bits_where test n
 is_bits_where n set test fits same =
     same_from_bits_below n set (bits_where test n) fits (bits_where-lt test n)
-    (λ k below. bit-holds set k ∙ ap bit (same k below) ∙ sym (bit_at-bits_where test n k below))
+    (λ k below. bit-has_bit set k ∙ ap bit (same k below) ∙ sym (bit_at-bits_where test n k below))
 
 pub bits_where_same : (n : ℕ) (test other : ℕ → Bool) → ((k : ℕ) → k < n → test k ≡ other k) → bits_where test n ≡ bits_where other n
-bits_where_same n test other same = is_bits_where n (bits_where test n) other (bits_where-lt test n) (λ k below. holds-bits_where test n k below ∙ same k below)
+bits_where_same n test other same = is_bits_where n (bits_where test n) other (bits_where-lt test n) (λ k below. has_bit-bits_where test n k below ∙ same k below)
 
 -- ---- operations on numbers
-pub holds-zero : (k : ℕ) → holds 0 k ≡ false
-holds-zero k = ap (λ b. b == 1) (bit_at-zero k)
+pub has_bit-zero : (k : ℕ) → has_bit 0 k ≡ false
+has_bit-zero k = ap (λ b. b == 1) (bit_at-zero k)
 
-pub holds-pow : (k i : ℕ) → holds (2 ^ k) i ≡ (i == k)
-holds-pow k i = elim (cases_eq i k) [
+pub has_bit-pow : (k i : ℕ) → has_bit (2 ^ k) i ≡ (i == k)
+has_bit-pow k i = elim (cases_eq i k) [
   | inl same ↦ rw same (ap (λ b. b == 1) (bit_at-pow_same k) ∙ sym (eq-eqb k k refl))
   | inr other ↦ ap (λ b. b == 1) (bit_at-pow_other k i other) ∙ sym (ne_eqb i k other)
 ]
 
-pub holds-or : (a b k : ℕ) → holds (bit_or a b) k ≡ (holds a k || holds b k)
-holds-or a b k = ap (λ b. b == 1) (bit_at_or a b k) ∙ is_one-max (bit_at a k) (bit_at b k) (bit_at-lt a k) (bit_at-lt b k)
+pub has_bit-or : (a b k : ℕ) → has_bit (bit_or a b) k ≡ (has_bit a k || has_bit b k)
+has_bit-or a b k = ap (λ b. b == 1) (bit_at_or a b k) ∙ is_one-max (bit_at a k) (bit_at b k) (bit_at-lt a k) (bit_at-lt b k)
 
-pub holds-and : (a b k : ℕ) → holds (bit_and a b) k ≡ (holds a k && holds b k)
-holds-and a b k = ap (λ b. b == 1) (bit_at_and a b k) ∙ is_one-min (bit_at a k) (bit_at b k) (bit_at-lt a k) (bit_at-lt b k)
+pub has_bit-and : (a b k : ℕ) → has_bit (bit_and a b) k ≡ (has_bit a k && has_bit b k)
+has_bit-and a b k = ap (λ b. b == 1) (bit_at_and a b k) ∙ is_one-min (bit_at a k) (bit_at b k) (bit_at-lt a k) (bit_at-lt b k)
 
-pub holds-not : (w : Width) (set k : ℕ) → set < 2 ^ bits w → k < bits w → holds (bit_not w set) k ≡ not (holds set k)
-holds-not w set k fits below = ap (λ b. b == 1) (bit_at_not w set k fits below) ∙ is_one-not (bit_at set k) (bit_at-lt set k)
+pub has_bit-not : (w : Width) (set k : ℕ) → set < 2 ^ bits w → k < bits w → has_bit (bit_not w set) k ≡ not (has_bit set k)
+has_bit-not w set k fits below = ap (λ b. b == 1) (bit_at_not w set k fits below) ∙ is_one-not (bit_at set k) (bit_at-lt set k)
 
 pub bits_where_none : (n : ℕ) → 0 ≡ bits_where (λ k. false) n
-bits_where_none n = is_bits_where n 0 (λ k. false) (pow_pos n) (λ k below. holds-zero k)
+bits_where_none n = is_bits_where n 0 (λ k. false) (pow_pos n) (λ k below. has_bit-zero k)
 
 pub bits_where_one : (n k : ℕ) → k < n → 1 * 2 ^ k % 2 ^ n ≡ bits_where (λ i. i == k) n
-bits_where_one n k below = one_shl k n below ∙ is_bits_where n _ (λ i. i == k) (pow_below k n below) (λ i _. holds-pow k i)
+bits_where_one n k below = one_shl k n below ∙ is_bits_where n _ (λ i. i == k) (pow_below k n below) (λ i _. has_bit-pow k i)
 
-pub bits_where_or : (n a b : ℕ) → a < 2 ^ n → b < 2 ^ n → bit_or a b ≡ bits_where (λ k. holds a k || holds b k) n
-bits_where_or n a b a_fits b_fits = is_bits_where n _ _ (or_lt n a b a_fits b_fits) (λ k below. holds-or a b k)
+pub bits_where_or : (n a b : ℕ) → a < 2 ^ n → b < 2 ^ n → bit_or a b ≡ bits_where (λ k. has_bit a k || has_bit b k) n
+bits_where_or n a b a_fits b_fits = is_bits_where n _ _ (or_lt n a b a_fits b_fits) (λ k below. has_bit-or a b k)
 
-pub bits_where_and : (n a b : ℕ) → a < 2 ^ n → bit_and a b ≡ bits_where (λ k. holds a k && holds b k) n
-bits_where_and n a b fits = is_bits_where n _ _ (omega (arith, and_le_l a b)) (λ k below. holds-and a b k)
+pub bits_where_and : (n a b : ℕ) → a < 2 ^ n → bit_and a b ≡ bits_where (λ k. has_bit a k && has_bit b k) n
+bits_where_and n a b fits = is_bits_where n _ _ (omega (arith, and_le_l a b)) (λ k below. has_bit-and a b k)
 
 -- ---- one test more, by a machine word of w bits
 pub bits_where_more_yes : (w : ℕ) (test : ℕ → Bool) (n : ℕ) → n < w → test n ≡ true → bit_or (bits_where test n) (1 * 2 ^ n % 2 ^ w) ≡ bits_where test (n + 1)
@@ -145,13 +145,13 @@ bits_where_more_yes w test n within passes =
     let top : 2 ^ n < 2 ^ (n + 1) = pow_below n (n + 1) (omega arith) in
     ap (bit_or (bits_where test n)) (one_shl n w within)
     ∙ is_bits_where (n + 1) _ test (or_lt (n + 1) (bits_where test n) (2 ^ n) (omega (arith, bits_where-lt test n)) top)
-    (λ k below. holds-or (bits_where test n) (2 ^ n) k ∙ ap (λ b. holds (bits_where test n) k || b) (holds-pow n k)
+    (λ k below. has_bit-or (bits_where test n) (2 ^ n) k ∙ ap (λ b. has_bit (bits_where test n) k || b) (has_bit-pow n k)
     ∙ elim (cases_lt k n) [
-      | inl lower ↦ ap (λ b. holds (bits_where test n) k || b) (ne_eqb k n (λ same. omega arith)) ∙ or-false (holds (bits_where test n) k) ∙ holds-bits_where test n k lower
+      | inl lower ↦ ap (λ b. has_bit (bits_where test n) k || b) (ne_eqb k n (λ same. omega arith)) ∙ or-false (has_bit (bits_where test n) k) ∙ has_bit-bits_where test n k lower
       | inr last ↦
           let there : k ≡ n = omega arith in
           let held : test k ≡ true = ap test there ∙ passes in
-          rw (holds_above n (bits_where test n) k (bits_where-lt test n) last, eq-eqb k n there) (sym held)
+          rw (has_bit_above n (bits_where test n) k (bits_where-lt test n) last, eq-eqb k n there) (sym held)
     ])
 
 pub bits_where_more_no : (test : ℕ → Bool) (n : ℕ) → test n ≡ false → bits_where test n ≡ bits_where test (n + 1)
@@ -160,14 +160,14 @@ bits_where_more_no test n fails = let no_bit = rw fails at (bits_where_more test
 -- ---- gathering
 -- the bits with one more
 abbrev pub with_bit : ℕ → ℕ → ℕ → ℕ
-with_bit n set k = bits_where (λ i. holds set i || i == k) n
+with_bit n set k = bits_where (λ i. has_bit set i || i == k) n
 
 pub with_bit_or : (n set k : ℕ) → set < 2 ^ n → k < n → bit_or set (1 * 2 ^ k % 2 ^ n) ≡ with_bit n set k
 with_bit_or n set k fits below =
-    ap (bit_or set) (one_shl k n below) ∙ is_bits_where n _ _ (or_lt n set (2 ^ k) fits (pow_below k n below)) (λ i _. holds-or set (2 ^ k) i ∙ ap (λ b. holds set i || b) (holds-pow k i))
+    ap (bit_or set) (one_shl k n below) ∙ is_bits_where n _ _ (or_lt n set (2 ^ k) fits (pow_below k n below)) (λ i _. has_bit-or set (2 ^ k) i ∙ ap (λ b. has_bit set i || b) (has_bit-pow k i))
 
 with_bit-bits_where : (test : ℕ → Bool) (n k : ℕ) → with_bit n (bits_where test n) k ≡ bits_where (λ i. test i || i == k) n
-with_bit-bits_where test n k = bits_where_same n _ _ (λ i below. ap (λ b. b || i == k) (holds-bits_where test n i below))
+with_bit-bits_where test n k = bits_where_same n _ _ (λ i below. ap (λ b. b || i == k) (has_bit-bits_where test n i below))
 
 eq-turned : (a b : ℕ) → (a == b) ≡ (b == a)
 eq-turned a b = grind (arith, nat_tests)
@@ -182,16 +182,16 @@ fold-with_bit bit_of test n (thing ∷ things) =
     ∙ ap (λ t. bits_where t n) (fun_ext (λ k. ap (λ b. (test k || b) || list_any (λ thing. bit_of thing == k) things) (eq-turned k (bit_of thing)) ∙ or_assoc (test k) (bit_of thing == k) _))
 
 -- ---- the places of the bits that are 1
-same_mask : (n set : ℕ) → set < 2 ^ n → set ≡ mask_l (map (holds set) (range_with_len 0 n))
+same_mask : (n set : ℕ) → set < 2 ^ n → set ≡ mask_l (map (has_bit set) (range_with_len 0 n))
 same_mask n set fits =
-    let wide = ap (λ w. 2 ^ w) (length-map-range_with_len (holds set) 0 n) in
-    let mask = mask_l (map (holds set) (range_with_len 0 n)) in
-    same_from_bits_below n set mask fits (omega (arith, mask_l-lt (map (holds set) (range_with_len 0 n)), wide))
-    (λ k below. bit-holds set k ∙ sym (bit_mask_l (map (holds set) (range_with_len 0 n)) k ∙ ap bit (get_or-map-range_with_len (holds set) 0 n k k false below (omega arith))))
+    let wide = ap (λ w. 2 ^ w) (length-map-range_with_len (has_bit set) 0 n) in
+    let mask = mask_l (map (has_bit set) (range_with_len 0 n)) in
+    same_from_bits_below n set mask fits (omega (arith, mask_l-lt (map (has_bit set) (range_with_len 0 n)), wide))
+    (λ k below. bit-has_bit set k ∙ sym (bit_mask_l (map (has_bit set) (range_with_len 0 n)) k ∙ ap bit (get_or-map-range_with_len (has_bit set) 0 n k k false below (omega arith))))
 
-pub count_ones-holds : (n set : ℕ) → set < 2 ^ n → count_ones set ≡ length (filter (holds set) (range_with_len 0 n))
-count_ones-holds n set fits =
-    ap count_ones (same_mask n set fits) ∙ ones-mask_l (holds set) (range_with_len 0 n) ∙ sym (length-filter (holds set) (range_with_len 0 n))
+pub count_ones-has_bit : (n set : ℕ) → set < 2 ^ n → count_ones set ≡ length (filter (has_bit set) (range_with_len 0 n))
+count_ones-has_bit n set fits =
+    ap count_ones (same_mask n set fits) ∙ ones-mask_l (has_bit set) (range_with_len 0 n) ∙ sym (length-filter (has_bit set) (range_with_len 0 n))
 
 filter_same : (p q : ℕ → Bool) (a n : ℕ) → ((k : ℕ) → a ≤ k → k < a + n → p k ≡ q k) → filter p (range_with_len a n) ≡ filter q (range_with_len a n)
 filter_same p q a zero same = refl

@@ -7,20 +7,20 @@ use Rattle.std.specs.Int.RustNames.{count_ones}
 use Rattle.std.proofs.lemmas.Bool.{cases_eq}
 use Rattle.std.proofs.lemmas.Bool.Decides.{nat_tests}
 use Rattle.std.proofs.lemmas.Nat.Bits.{bit_at-trailing_zeros}
-use Rattle.mls_kinds.specs.KindSets.{holds, set_of, union, intersection, difference, members, with_kind}
-use Rattle.mls_kinds.proofs.BitLemmas.{count_ones-holds, fold-with_bit, filter_first, filter_none, bits_where-lt, bits_where_none, bits_where_one, bits_where_or, bits_where_and, bits_where_same, holds-bits_where, holds-not, holds-zero, holds_above, is_bits_where}
+use Rattle.mls_kinds.specs.KindSets.{has_bit, set_of, union, intersection, difference, members, with_kind}
+use Rattle.mls_kinds.proofs.BitLemmas.{count_ones-has_bit, fold-with_bit, filter_first, filter_none, bits_where-lt, bits_where_none, bits_where_one, bits_where_or, bits_where_and, bits_where_same, has_bit-bits_where, has_bit-not, has_bit-zero, has_bit_above, is_bits_where}
 
 -- ---- sets by tests
-pub holds-set_of : (test : ℕ → Bool) (kind : ℕ) → kind < 64 → holds (set_of test) kind ≡ test kind
+pub has_bit-set_of : (test : ℕ → Bool) (kind : ℕ) → kind < 64 → has_bit (set_of test) kind ≡ test kind
 unfolding set_of
-holds-set_of test kind below = holds-bits_where test 64 kind below
+has_bit-set_of test kind below = has_bit-bits_where test 64 kind below
 
 pub set_of-lt : (test : ℕ → Bool) → set_of test < 2 ^ 64
 unfolding set_of
 set_of-lt test = bits_where-lt test 64
 
 -- a number of 64 bits is the set of its kinds
-pub is_set_of : (set : ℕ) (test : ℕ → Bool) → set < 2 ^ 64 → ((kind : ℕ) → kind < 64 → holds set kind ≡ test kind) → set ≡ set_of test
+pub is_set_of : (set : ℕ) (test : ℕ → Bool) → set < 2 ^ 64 → ((kind : ℕ) → kind < 64 → has_bit set kind ≡ test kind) → set ≡ set_of test
 unfolding set_of
 is_set_of set test fits same = is_bits_where 64 set test fits same
 
@@ -34,24 +34,24 @@ set_of_none = bits_where_none 64
 
 pub union-set_of : (test other : ℕ → Bool) → union (set_of test) (set_of other) ≡ set_of (λ kind. test kind || other kind)
 unfolding union
-union-set_of test other = set_of_same _ _ (λ kind h. rw (holds-set_of test kind h, holds-set_of other kind h))
+union-set_of test other = set_of_same _ _ (λ kind h. rw (has_bit-set_of test kind h, has_bit-set_of other kind h))
 
 pub intersection-set_of : (test other : ℕ → Bool) → intersection (set_of test) (set_of other) ≡ set_of (λ kind. test kind && other kind)
 unfolding intersection
-intersection-set_of test other = set_of_same _ _ (λ kind h. rw (holds-set_of test kind h, holds-set_of other kind h))
+intersection-set_of test other = set_of_same _ _ (λ kind h. rw (has_bit-set_of test kind h, has_bit-set_of other kind h))
 
 pub difference-set_of : (test other : ℕ → Bool) → difference (set_of test) (set_of other) ≡ set_of (λ kind. test kind && not (other kind))
 unfolding difference
-difference-set_of test other = set_of_same _ _ (λ kind h. rw (holds-set_of test kind h, holds-set_of other kind h))
+difference-set_of test other = set_of_same _ _ (λ kind h. rw (has_bit-set_of test kind h, has_bit-set_of other kind h))
 
 pub insert_is : (set kind : ℕ) → union set (set_of (λ other. other == kind)) ≡ with_kind set kind
 unfolding union
-insert_is set kind = set_of_same _ _ (λ other h. ap (λ held. holds set other || held) (holds-set_of (λ other. other == kind) other h))
+insert_is set kind = set_of_same _ _ (λ other h. ap (λ held. has_bit set other || held) (has_bit-set_of (λ other. other == kind) other h))
 
 -- no set takes a kind from 64 on
 pub insert_none : (set kind : ℕ) → 64 ≤ kind → union set 0 ≡ with_kind set kind
 unfolding union set_of
-insert_none set kind above = set_of_same _ _ (λ other below. ap (λ held. holds set other || held) (holds-zero other ∙ not_among other below))
+insert_none set kind above = set_of_same _ _ (λ other below. ap (λ held. has_bit set other || held) (has_bit-zero other ∙ not_among other below))
   where
     not_among : (other : ℕ) → other < 64 → false ≡ (other == kind)
     not_among other below = grind (arith, nat_tests)
@@ -65,7 +65,7 @@ fold-with_kind kind_of test things = fold-with_bit kind_of test 64 things
 -- ---- laws
 pub union_none : (set : ℕ) → set < 2 ^ 64 → union 0 set ≡ set
 unfolding union
-union_none set fits = sym (is_set_of set _ fits (λ kind h. rw (holds-zero kind)))
+union_none set fits = sym (is_set_of set _ fits (λ kind h. rw (has_bit-zero kind)))
 
 or-assoc : (x y z : Bool) → ((x || y) || z) ≡ (x || (y || z))
 or-assoc true y z = refl
@@ -73,7 +73,7 @@ or-assoc false y z = refl
 
 pub union_assoc : (a b c : ℕ) → union (union a b) c ≡ union a (union b c)
 unfolding union
-union_assoc a b c = set_of_same _ _ (λ kind h. rw (holds-set_of _ kind h, holds-set_of _ kind h) (or-assoc (holds a kind) (holds b kind) (holds c kind)))
+union_assoc a b c = set_of_same _ _ (λ kind h. rw (has_bit-set_of _ kind h, has_bit-set_of _ kind h) (or-assoc (has_bit a kind) (has_bit b kind) (has_bit c kind)))
 
 left_out_thrice : (x y : Bool) → (x && not (x && not (x && not y))) ≡ (x && not y)
 left_out_thrice true true = refl
@@ -82,7 +82,7 @@ left_out_thrice false y = refl
 
 pub difference_thrice : (all set : ℕ) → difference all (difference all (difference all set)) ≡ difference all set
 unfolding difference
-difference_thrice all set = set_of_same _ _ (λ kind h. rw (holds-set_of _ kind h, holds-set_of _ kind h) (left_out_thrice (holds all kind) (holds set kind)))
+difference_thrice all set = set_of_same _ _ (λ kind h. rw (has_bit-set_of _ kind h, has_bit-set_of _ kind h) (left_out_thrice (has_bit all kind) (has_bit set kind)))
 
 -- ---- operations on machine words
 pub single_is : (kind : ℕ) → kind < 64 → 1 * 2 ^ kind % 2 ^ 64 ≡ set_of (λ other. other == kind)
@@ -100,22 +100,22 @@ intersection_is a b fits = bits_where_and 64 a b fits
 pub difference_is : (a b : ℕ) → a < 2 ^ 64 → b < 2 ^ 64 → bit_and a (bit_not w64 b) ≡ difference a b
 unfolding intersection difference
 difference_is a b a_fits b_fits =
-    intersection_is a _ a_fits ∙ (set_of_same _ _ (λ kind h. ap (λ held. holds a kind && held) (holds-not w64 b kind b_fits h)))
+    intersection_is a _ a_fits ∙ (set_of_same _ _ (λ kind h. ap (λ held. has_bit a kind && held) (has_bit-not w64 b kind b_fits h)))
 
-pub holds_from_64 : (set kind : ℕ) → set < 2 ^ 64 → 64 ≤ kind → holds set kind ≡ false
-holds_from_64 set kind fits above = holds_above 64 set kind fits above
+pub has_bit_from_64 : (set kind : ℕ) → set < 2 ^ 64 → 64 ≤ kind → has_bit set kind ≡ false
+has_bit_from_64 set kind fits above = has_bit_above 64 set kind fits above
 
 -- ---- the kinds in ascending order
 pub members_none : members 0 ≡ []
 unfolding members
-members_none = filter_none (holds 0) 0 64 (λ kind _ _. holds-zero kind)
+members_none = filter_none (has_bit 0) 0 64 (λ kind _ _. has_bit-zero kind)
 
-pub members_first : (set kind : ℕ) → kind < 64 → holds set kind ≡ true → ((other : ℕ) → other < kind → holds set other ≡ false)
+pub members_first : (set kind : ℕ) → kind < 64 → has_bit set kind ≡ true → ((other : ℕ) → other < kind → has_bit set other ≡ false)
     → members set ≡ kind ∷ members (difference set (set_of (λ other. other == kind)))
 unfolding members difference
 members_first set kind below there none =
-    filter_first (holds set) (holds (difference set (set_of (λ other. other == kind)))) kind 0 64 (omega arith) below there none
-    (λ other lower. holds-set_of _ other lower ∙ ap (λ held. holds set other && not held) (holds-set_of (λ other. other == kind) other lower))
+    filter_first (has_bit set) (has_bit (difference set (set_of (λ other. other == kind)))) kind 0 64 (omega arith) below there none
+    (λ other lower. has_bit-set_of _ other lower ∙ ap (λ held. has_bit set other && not held) (has_bit-set_of (λ other. other == kind) other lower))
 
 pub lowest_is : (set : ℕ) → 0 < set → set < 2 ^ 64
     → (trailing_zeros w64 set < 64) × (members set ≡ trailing_zeros w64 set ∷ members (difference set (set_of (λ other. other == trailing_zeros w64 set))))
@@ -134,7 +134,7 @@ members_none_at set none = ap members none ∙ members_none
 
 pub len_is : (set : ℕ) → set < 2 ^ 64 → count_ones set ≡ length (members set)
 unfolding members
-len_is set fits = count_ones-holds 64 set fits
+len_is set fits = count_ones-has_bit 64 set fits
 
 pub ruleset empty_is = (none_from_members, members_none_at)
 

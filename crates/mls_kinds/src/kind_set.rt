@@ -1,7 +1,7 @@
 //! Sets of kinds, a bit for each.
 ghost use Rattle.std.specs.Iterator.{YieldsFirstBy, item_count};
 ghost use Rattle.std.specs.Prelude.{◌≡◌, ◌<◌, ◌==◌, ◌↔◌, not, length, [], ◌∷◌, IfSome, IsTrue, MatchOption};
-ghost use Rattle.mls_kinds.specs.KindSets.{holds, set_of, union, intersection, difference, members, with_kind};
+ghost use Rattle.mls_kinds.specs.KindSets.{has_bit, set_of, union, intersection, difference, members, with_kind};
 
 use crate::Kind;
 use std::marker::Model;
@@ -53,7 +53,7 @@ impl KindSet {
     /// Adds a kind, and returns whether the set was without it. Kinds from 64 on aren't added.
     pub fn insert(&mut self, kind: Kind) -> bool
         ensures set { self.new ≡ with_kind self.old kind }
-        ensures new { result ≡ not (holds self.old kind) }
+        ensures new { result ≡ not (has_bit self.old kind) }
     {
         let is_new = !self.contains(kind);
         let added = if kind.number() < 64 {
@@ -66,9 +66,9 @@ impl KindSet {
     }
 
     /// Whether the kind is in the set. No kind from 64 on is.
-    #[tactic(auto, using(crate::proofs::KindSetLemmas::holds_from_64))]
+    #[tactic(auto, using(crate::proofs::KindSetLemmas::has_bit_from_64))]
     pub fn contains(self, kind: Kind) -> bool
-        ensures { result ≡ holds self kind }
+        ensures { result ≡ has_bit self kind }
     {
         kind.number() < 64 && (self.bits >> kind.number()) & 1 == 1
     }

@@ -17,7 +17,7 @@ use Rattle.mls_paint.specs.Planes.{layout_in, picture_at, picture_in}
 use Rattle.mls_library.specs.Libraries.{Library, NamedCell}
 use Rattle.mls_layout.specs.Inner.{in_world}
 use Rattle.mls_layout.specs.Likenesses.{ShowsAlike, Spans, like_column, like_row}
-use Rattle.mls_layout.specs.Moves.{IsPartOf, holds_at, is_moved, kind_at, moved, moves_into}
+use Rattle.mls_layout.specs.Moves.{IsPartOf, holds_at, is_moved, kind_or_space, moved_picture, moves_into}
 use Rattle.mls_layout.specs.Uses.{cell_layouts, flat_layout, flattened, over, use_layout, uses_layout}
 use Rattle.mls_layout.specs.declared.likeness.Likeness.{Likeness}
 use Rattle.mls_layout.specs.declared.likeness.Likeness.TheVariants.{OneKind, Columns, Rows}
@@ -26,7 +26,7 @@ use Rattle.mls_layout.specs.declared.uses.Uses.{Uses}
 use Rattle.mls_layout.proofs.AlikePlanes.{alike-extent, in_zone, one_kind-alike, one_kind-found}
 use Rattle.mls_layout.proofs.LikeSquares.{alike-same, grown-holds}
 use Rattle.mls_layout.proofs.ShownUses.{inside_world}
-use Rattle.mls_layout.proofs.UsedCells.{cell_shown-owner, moved-outside, nowhere, use_layout-beyond}
+use Rattle.mls_layout.proofs.UsedCells.{cell_shown-owner, moved_picture-outside, nowhere, use_layout-beyond}
 
 -- ---- squares that are moved
 -- a square that a rectangle has, at a column and a row
@@ -60,20 +60,20 @@ like_row-moved Rows rect part y y' b b' d same at at' = one_line y y' b b' d sam
 module _ (pool : Pool) (owner : ℕ) (plane : HasPlane pool owner) (dx dy : ℤ) where
   -- what it shows where it is placed
   abbrev placed : Picture
-  placed = in_world (moved (picture_in pool owner) dx dy)
+  placed = in_world (moved_picture (picture_in pool owner) dx dy)
 
   -- it shows nothing where nothing of the world comes to lie
   placed-beyond : (x y : ℕ) → is_moved world dx dy x y ≡ false → placed x y ≡ 0
   placed-beyond x y out =
-      nowhere (holds world x y) (moved (picture_in pool owner) dx dy x y)
-      (moved-outside (Some world) (picture_in pool owner) dx dy x y (λ a b outside. shown-outside (tiles_of pool owner) a b plane.plane (KeysDiffer-tiles_of pool owner) outside) out)
+      nowhere (holds world x y) (moved_picture (picture_in pool owner) dx dy x y)
+      (moved_picture-outside (Some world) (picture_in pool owner) dx dy x y (λ a b outside. shown-outside (tiles_of pool owner) a b plane.plane (KeysDiffer-tiles_of pool owner) outside) out)
 
   module _ (h : ℕ) (rect zone part : Rect) (is : zone ≡ common (grown h rect) world) (into : IsPartOf world (moves_into zone dx dy) (Some part)) where
     -- elsewhere it shows what the plane does in the part that comes to lie in the zone
     placed-part :
         (x y : ℕ) → holds (grown h rect) x y ≡ true → holds world x y ≡ true → is_moved world dx dy x y ≡ true
         → (a : ℕ) × (b : ℕ) × (pos x -ℤ dx ≡ pos a) × (pos y -ℤ dy ≡ pos b) × (holds part a b ≡ true) × (placed x y ≡ picture_in pool owner a b)
-    unfolding moved
+    unfolding moved_picture
     placed-part x y here inside from =
         let (a, b, column, row, there) = held_at world (pos x -ℤ dx) (pos y -ℤ dy) from in
         let lands : moves_into zone dx dy a b ≡ true =
@@ -83,14 +83,14 @@ module _ (pool : Pool) (owner : ℕ) (plane : HasPlane pool owner) (dx dy : ℤ)
           column,
           row,
           into.1 a b there ∙ lands,
-          cond-true (holds world x y) (moved (picture_in pool owner) dx dy x y) 0 inside
-              ∙ ap (λ (z : ℤ). kind_at (picture_in pool owner) z (pos y -ℤ dy)) column ∙ ap (kind_at (picture_in pool owner) (pos a)) row,
+          cond-true (holds world x y) (moved_picture (picture_in pool owner) dx dy x y) 0 inside
+              ∙ ap (λ (z : ℤ). kind_or_space (picture_in pool owner) z (pos y -ℤ dy)) column ∙ ap (kind_or_space (picture_in pool owner) (pos a)) row,
         )
 
     -- where the part is space, it shows nothing round the rectangle
     placed-space : ((a b : ℕ) → holds part a b ≡ true → picture_in pool owner a b ≡ 0) → (x y : ℕ) → holds (grown h rect) x y ≡ true → placed x y ≡ 0
     placed-space space x y here = elim (cases_Bool (holds world x y)) [
-      | inr outside ↦ cond-false (holds world x y) (moved (picture_in pool owner) dx dy x y) 0 outside
+      | inr outside ↦ cond-false (holds world x y) (moved_picture (picture_in pool owner) dx dy x y) 0 outside
       | inl inside ↦ elim (cases_Bool (is_moved world dx dy x y)) [
         | inr beyond ↦ placed-beyond x y beyond
         | inl from ↦ (
@@ -107,7 +107,7 @@ module _ (pool : Pool) (owner : ℕ) (plane : HasPlane pool owner) (dx dy : ℤ)
         alike-extent likeness h rect both placed legal spans
         (λ x y outside. elim (cases_Bool (holds world x y)) [
           | inl inside ↦ placed-beyond x y (sym (are.1 x y inside) ∙ outside)
-          | inr beyond ↦ cond-false (holds world x y) (moved (picture_in pool owner) dx dy x y) 0 beyond
+          | inr beyond ↦ cond-false (holds world x y) (moved_picture (picture_in pool owner) dx dy x y) 0 beyond
         ])
         (λ x y x' y' columns rows here here' within within'.
         let inside = inside_world both x y are.0 within in
@@ -145,16 +145,16 @@ module _ (likeness : Likeness) (h : ℕ) (rect : Rect) where
   -- the planes of a cell have it, and so have those of a use of it
   pub ShowsAlike-use :
       (pool : Pool) (cells : Library) (cell_use : CellUse) (cell : NamedCell) → IsRectangleIn world rect → slice_get cells cell_use.cell ≡ Some cell
-      → All (λ owner. ShowsAlike likeness h rect (in_world (moved (picture_in pool owner) cell_use.dx cell_use.dy))) cell.planes
+      → All (λ owner. ShowsAlike likeness h rect (in_world (moved_picture (picture_in pool owner) cell_use.dx cell_use.dy))) cell.planes
       → (plane : ℕ) → ShowsAlike likeness h rect (use_layout (cell_layouts pool cells) cell_use plane)
   ShowsAlike-use pool cells cell_use cell legal is each plane = by (slice_get cell.planes plane) refl
     where
       by : (at : Option ℕ) → slice_get cell.planes plane ≡ at → ShowsAlike likeness h rect (use_layout (cell_layouts pool cells) cell_use plane)
       by None at = one_kind-alike likeness h 0 rect (use_layout (cell_layouts pool cells) cell_use plane) legal (λ x y here. use_layout-beyond pool cells cell_use cell is plane x y at)
       by (Some owner) at =
-          let alike = subst (λ (o : ℕ). ShowsAlike likeness h rect (in_world (moved (picture_in pool o) cell_use.dx cell_use.dy))) (get_or_from_slice_get cell.planes plane owner owner at)
+          let alike = subst (λ (o : ℕ). ShowsAlike likeness h rect (in_world (moved_picture (picture_in pool o) cell_use.dx cell_use.dy))) (get_or_from_slice_get cell.planes plane owner owner at)
           (each plane owner (slice_get_within cell.planes plane owner at)) in
-          subst (λ (picture : Picture). ShowsAlike likeness h rect (in_world (moved picture cell_use.dx cell_use.dy))) (sym (cell_shown-owner pool cells cell_use cell is plane owner at)) alike
+          subst (λ (picture : Picture). ShowsAlike likeness h rect (in_world (moved_picture picture cell_use.dx cell_use.dy))) (sym (cell_shown-owner pool cells cell_use cell is plane owner at)) alike
 
   -- each use has it, and so have all together
   pub ShowsAlike-uses :

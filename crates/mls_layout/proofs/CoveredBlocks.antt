@@ -13,7 +13,7 @@ use Rattle.mls_geom.proofs.InnerRects.{IsRectangleIn-through}
 use Rattle.mls_geom.proofs.JoinedLists.{Any-append_left, Any-append_right}
 use Rattle.mls_stitch.specs.Areas.{MeetArea}
 use Rattle.mls_stitch.specs.declared.laid_tile.LaidTile.{LaidTile}
-use Rattle.mls_layout.specs.Grids.{Appends, CoverBlock, Shows}
+use Rattle.mls_layout.specs.Grids.{AppendsCover, CoverBlock, Shows}
 
 abbrev Has : ℕ → ℕ → Piece → Type 0
 Has x y piece = holds piece.rect x y ≡ true
@@ -35,11 +35,11 @@ CoverBlock-joined extent one other picture first second in_one in_other parts co
   ];
 }
 
-pub Appends-joined :
+pub AppendsCover-joined :
     (extent one other : Rect) (picture : Picture) (old mid new : List Piece) → IsWithin extent one → IsWithin extent other
-    → ((x y : ℕ) → holds extent x y ≡ true → (holds one x y ≡ true) ⊎ (holds other x y ≡ true)) → Appends one picture old mid → Appends other picture mid new
-    → Appends extent picture old new
-Appends-joined extent one other picture old mid new in_one in_other parts (first, is, cover) (second, next, covers) =
+    → ((x y : ℕ) → holds extent x y ≡ true → (holds one x y ≡ true) ⊎ (holds other x y ≡ true)) → AppendsCover one picture old mid → AppendsCover other picture mid new
+    → AppendsCover extent picture old new
+AppendsCover-joined extent one other picture old mid new in_one in_other parts (first, is, cover) (second, next, covers) =
     (first ++ second, next ∙ ap (λ list. list ++ second) is ∙ append_assoc old first second, CoverBlock-joined extent one other picture first second in_one in_other parts cover covers)
 
 -- ---- pictures that agree
@@ -51,10 +51,10 @@ agreeing extent one other piece agree legal has x y here =
     ∙ has x y here
 
 -- pieces of a picture are pieces of one that agrees with it in the extent
-pub Appends-agree :
-    (extent : Rect) (one other : Picture) (old new : List Piece) → ((x y : ℕ) → holds extent x y ≡ true → one x y ≡ other x y) → Appends extent one old new
-    → Appends extent other old new
-Appends-agree extent one other old new agree (more, is, cover) = (
+pub AppendsCover-agree :
+    (extent : Rect) (one other : Picture) (old new : List Piece) → ((x y : ℕ) → holds extent x y ≡ true → one x y ≡ other x y) → AppendsCover extent one old new
+    → AppendsCover extent other old new
+AppendsCover-agree extent one other old new agree (more, is, cover) = (
   more,
   is,
   record {

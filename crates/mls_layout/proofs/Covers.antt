@@ -12,7 +12,7 @@ use Rattle.mls_geom.specs.Rects.{Rect, IsRectangleIn, holds}
 use Rattle.mls_geom.specs.declared.piece.Piece.{Piece}
 use Rattle.mls_geom.proofs.Holds.{holds_between, between_holds}
 use Rattle.mls_layout.proofs.Places.{rows_to}
-use Rattle.mls_layout.specs.Grids.{Appends, CoverSquares, GainArea, IsRunFrom, LiesOn, Raises, Shows, grid_picture, raised, row_of}
+use Rattle.mls_layout.specs.Grids.{AppendsCover, CoverSquares, GainArea, IsRunFrom, LiesOn, Raises, Shows, grid_picture, raised, row_of}
 
 -- the columns of a row before one
 abbrev pub row_to : ℕ → ℕ → Rect → Rect
@@ -170,7 +170,7 @@ pub gain-first : (extent : Rect) (picture : Picture) (first : ℕ) (area : Rect)
 gain-first extent picture first area old new on gain = omega (arith, length-take first old, length-take first new, ap length gain.before)
 
 -- all squares of the extent
-pub gain-all : (extent : Rect) (picture : Picture) (old new : List Piece) → GainArea extent picture (length old) extent old new → Appends extent picture old new
+pub gain-all : (extent : Rect) (picture : Picture) (old new : List Piece) → GainArea extent picture (length old) extent old new → AppendsCover extent picture old new
 gain-all extent picture old new gain =
     let none : CoverSquares extent picture (λ x y. false) (drop (length old) old) = record {
       bounded = λ k d within. absurd (omega (arith, length-drop (length old) old));
@@ -230,5 +230,5 @@ rows-more lent squares lines block from first row old middle new is same begins 
 
 pub all-rows :
     (block : Rect) (picture : Picture) (row : ℕ) (old new : List Piece) → row ≡ block.top → GainArea block picture (length old) (rows_to row block) old new
-    → Appends block picture old new
+    → AppendsCover block picture old new
 all-rows block picture row old new is gain = gain-all block picture old new (subst (λ line. GainArea block picture (length old) (rows_to line block) old new) is gain)

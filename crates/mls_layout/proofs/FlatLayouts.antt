@@ -15,7 +15,7 @@ use Rattle.mls_paint.specs.Owners.{ChangesAmong}
 use Rattle.mls_paint.specs.Planes.{layout_in, picture_at}
 use Rattle.mls_library.specs.Libraries.{Library, NamedCell, cell_layout}
 use Rattle.mls_library.proofs.KeptCells.{IsCellApart, IsHome-ChangesAmong, cell_layout-ChangesAmong}
-use Rattle.mls_layout.specs.Moves.{kind_at, moved}
+use Rattle.mls_layout.specs.Moves.{kind_or_space, moved_picture}
 use Rattle.mls_layout.specs.Uses.{HasCells, cell_layouts, cell_shown, flat_layout, flat_plane, flattened, over, use_layout, uses_layout}
 use Rattle.mls_layout.specs.declared.uses.CellUse.{CellUse}
 use Rattle.mls_layout.specs.declared.uses.Uses.{Uses}
@@ -29,14 +29,14 @@ pub over-space : (upper lower : Picture) (x y : ℕ) → lower x y ≡ 0 → ove
 over-space upper lower x y none = over_kind (upper x y) (lower x y) none
 
 -- ---- squares where uses show nothing
-pub kind_at-space : (picture : Picture) (x y : ℤ) → ((x y : ℕ) → picture x y ≡ 0) → kind_at picture x y ≡ 0
-kind_at-space picture (pos x) (pos y) none = none x y
-kind_at-space picture (pos x) (negsuc y) none = refl
-kind_at-space picture (negsuc x) y none = refl
+pub kind_or_space-space : (picture : Picture) (x y : ℤ) → ((x y : ℕ) → picture x y ≡ 0) → kind_or_space picture x y ≡ 0
+kind_or_space-space picture (pos x) (pos y) none = none x y
+kind_or_space-space picture (pos x) (negsuc y) none = refl
+kind_or_space-space picture (negsuc x) y none = refl
 
-pub moved-space : (picture : Picture) (dx dy : ℤ) (x y : ℕ) → ((x y : ℕ) → picture x y ≡ 0) → moved picture dx dy x y ≡ 0
-unfolding moved
-moved-space picture dx dy x y none = kind_at-space picture (pos x -ℤ dx) (pos y -ℤ dy) none
+pub moved_picture-space : (picture : Picture) (dx dy : ℤ) (x y : ℕ) → ((x y : ℕ) → picture x y ≡ 0) → moved_picture picture dx dy x y ≡ 0
+unfolding moved_picture
+moved_picture-space picture dx dy x y none = kind_or_space-space picture (pos x -ℤ dx) (pos y -ℤ dy) none
 
 -- the layout shows nothing on this plane
 abbrev pub IsSpaceOn : ℕ → Layout → Type 0
@@ -49,9 +49,9 @@ cell_shown-space (first ∷ cells) (suc cell) plane none x y = cell_shown-space 
 
 use_layout-space : (cells : List Layout) (cell_use : CellUse) (plane : ℕ) → All (IsSpaceOn plane) cells → IsSpaceOn plane (use_layout cells cell_use)
 use_layout-space cells cell_use plane none x y = elim (cases_Bool (holds world x y)) [
-  | inl inside ↦ cond-true (holds world x y) (moved (cell_shown cells cell_use.cell plane) cell_use.dx cell_use.dy x y) 0 inside
-      ∙ moved-space (cell_shown cells cell_use.cell plane) cell_use.dx cell_use.dy x y (cell_shown-space cells cell_use.cell plane none)
-  | inr outside ↦ cond-false (holds world x y) (moved (cell_shown cells cell_use.cell plane) cell_use.dx cell_use.dy x y) 0 outside
+  | inl inside ↦ cond-true (holds world x y) (moved_picture (cell_shown cells cell_use.cell plane) cell_use.dx cell_use.dy x y) 0 inside
+      ∙ moved_picture-space (cell_shown cells cell_use.cell plane) cell_use.dx cell_use.dy x y (cell_shown-space cells cell_use.cell plane none)
+  | inr outside ↦ cond-false (holds world x y) (moved_picture (cell_shown cells cell_use.cell plane) cell_use.dx cell_use.dy x y) 0 outside
 ]
 
 -- where no cell shows anything on a plane, no use does
@@ -66,7 +66,7 @@ pub uses_layout-outside : (cells : List Layout) (uses : List CellUse) (plane x y
 uses_layout-outside cells [] plane x y outside = refl
 uses_layout-outside cells (first ∷ later) plane x y outside =
     over-space (uses_layout cells later plane) (use_layout cells first plane) x y
-    (cond-false (holds world x y) (moved (cell_shown cells first.cell plane) first.dx first.dy x y) 0 outside)
+    (cond-false (holds world x y) (moved_picture (cell_shown cells first.cell plane) first.dx first.dy x y) 0 outside)
     ∙ uses_layout-outside cells later plane x y outside
 
 -- ---- planes that no cell has

@@ -13,7 +13,7 @@ use Rattle.mls_stitch.proofs.ShownTiles.{KeysDiffer-tiles_of, shown-inside, show
 use Rattle.mls_paint.specs.Planes.{picture_in}
 use Rattle.mls_layout.specs.Inner.{ShowMoved}
 use Rattle.mls_layout.specs.Grids.{Shows}
-use Rattle.mls_layout.specs.Moves.{IsPartOf, holds_at, kind_at, moved, moves_into}
+use Rattle.mls_layout.specs.Moves.{IsPartOf, holds_at, kind_or_space, moved_picture, moves_into}
 
 module _ (pool : Pool) (owner : ℕ) (plane : HasPlane pool owner) where
   -- each tile that was found shows what the plane does
@@ -36,7 +36,7 @@ module _ (pool : Pool) (owner : ℕ) (plane : HasPlane pool owner) where
 
     -- a square of the block that shows something, moved, is one of the world that moves into the block
     comes_from :
-        (x y : ℕ) (zx zy : ℤ) → pos x -ℤ dx ≡ zx → pos y -ℤ dy ≡ zy → holds block x y ≡ true → kind_at (picture_in pool owner) zx zy ≢ 0
+        (x y : ℕ) (zx zy : ℤ) → pos x -ℤ dx ≡ zx → pos y -ℤ dy ≡ zy → holds block x y ≡ true → kind_or_space (picture_in pool owner) zx zy ≢ 0
         → (a : ℕ) × (b : ℕ) × (zx ≡ pos a) × (zy ≡ pos b) × (holds world a b ≡ true) × (moves_into block dx dy a b ≡ true)
     comes_from x y (pos a) (pos b) column row inside some =
         (a, b, refl, refl, in_world a b some, ap (λ (z : ℤ). holds_at block z (pos b +ℤ dy)) (back x a dx column) ∙ ap (holds_at block (pos x)) (back y b dy row) ∙ inside)
@@ -47,7 +47,7 @@ module _ (pool : Pool) (owner : ℕ) (plane : HasPlane pool owner) where
     pub ShowMoved-found :
         (area : Rect) (found : List LaidTile) → IsPartOf world (moves_into block dx dy) (Some area) → MeetArea (block_at (tiles_of pool owner)) area found
         → ShowMoved (picture_in pool owner) dx dy block found
-    unfolding moved
+    unfolding moved_picture
     ShowMoved-found area found part are = record {
       each = found-Shows area found are;
       whole = λ x y inside some.
@@ -58,11 +58,11 @@ module _ (pool : Pool) (owner : ℕ) (plane : HasPlane pool owner) where
 
     -- and where it comes from nowhere in the world, nothing is shown in it
     pub moved-nowhere :
-        IsPartOf world (moves_into block dx dy) None → (x y : ℕ) → holds block x y ≡ true → moved (picture_in pool owner) dx dy x y ≡ 0
-    unfolding moved
+        IsPartOf world (moves_into block dx dy) None → (x y : ℕ) → holds block x y ≡ true → moved_picture (picture_in pool owner) dx dy x y ≡ 0
+    unfolding moved_picture
     moved-nowhere none x y inside = by (pos x -ℤ dx) (pos y -ℤ dy) refl refl
       where
-        by : (zx zy : ℤ) → pos x -ℤ dx ≡ zx → pos y -ℤ dy ≡ zy → kind_at (picture_in pool owner) zx zy ≡ 0
+        by : (zx zy : ℤ) → pos x -ℤ dx ≡ zx → pos y -ℤ dy ≡ zy → kind_or_space (picture_in pool owner) zx zy ≡ 0
         by (pos a) (pos b) column row = is_space (picture_in pool owner a b == 0) refl
           where
             is_space : (zero : Bool) → (picture_in pool owner a b == 0) ≡ zero → picture_in pool owner a b ≡ 0
@@ -77,9 +77,9 @@ module _ (pool : Pool) (owner : ℕ) (plane : HasPlane pool owner) where
   minus-zero : (x : ℕ) → pos x -ℤ pos 0 ≡ pos x
   minus-zero x = omega (arith, ints)
 
-  pub moved-zero : (x y : ℕ) → moved (picture_in pool owner) (pos 0) (pos 0) x y ≡ picture_in pool owner x y
-  unfolding moved
-  moved-zero x y = ap (λ (z : ℤ). kind_at (picture_in pool owner) z (pos y -ℤ pos 0)) (minus-zero x) ∙ ap (kind_at (picture_in pool owner) (pos x)) (minus-zero y)
+  pub moved-zero : (x y : ℕ) → moved_picture (picture_in pool owner) (pos 0) (pos 0) x y ≡ picture_in pool owner x y
+  unfolding moved_picture
+  moved-zero x y = ap (λ (z : ℤ). kind_or_space (picture_in pool owner) z (pos y -ℤ pos 0)) (minus-zero x) ∙ ap (kind_or_space (picture_in pool owner) (pos x)) (minus-zero y)
 
   pub ShowMoved-here :
       (block : Rect) (found : List LaidTile) → MeetArea (block_at (tiles_of pool owner)) block found → ShowMoved (picture_in pool owner) (pos 0) (pos 0) block found

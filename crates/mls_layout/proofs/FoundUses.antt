@@ -10,7 +10,7 @@ use Rattle.mls_stitch.specs.declared.laid_tile.LaidTile.{LaidTile}
 use Rattle.mls_paint.specs.Planes.{picture_in}
 use Rattle.mls_library.specs.Libraries.{IsHome, NamedCell}
 use Rattle.mls_layout.specs.Inner.{FindsUse, ShowMoved, bounds_hold, later_uses}
-use Rattle.mls_layout.specs.Moves.{moved}
+use Rattle.mls_layout.specs.Moves.{moved_picture}
 use Rattle.mls_layout.specs.Uses.{cell_layouts, over, use_layout}
 use Rattle.mls_layout.specs.declared.uses.CellUse.{CellUse}
 use Rattle.mls_layout.specs.declared.uses.Uses.{Uses}
@@ -48,13 +48,13 @@ module _ (pool : Pool) (uses : Uses) (index number : ℕ) (cell_use : CellUse) (
 
     -- and the plane of the number among them
     module _ (owner : ℕ) (rect : Rect) (there : number < length planes) (is_owner : owner ≡ get_or planes number owner) (legal : IsRectangleIn world rect) where
-      shows : (x y : ℕ) → holds rect x y ≡ true → use_layout (cell_layouts pool uses.library.now) cell_use number x y ≡ moved (picture_in pool owner) cell_use.dx cell_use.dy x y
+      shows : (x y : ℕ) → holds rect x y ≡ true → use_layout (cell_layouts pool uses.library.now) cell_use number x y ≡ moved_picture (picture_in pool owner) cell_use.dx cell_use.dy x y
       shows x y inside =
           let (cell, is, same, around) = found in
           let at = slice_get_read cell.planes (length cell.planes) number owner refl (omega (arith, there, ap length same)) (is_owner ∙ ap (λ (list : List ℕ). get_or list number owner) (sym same)) in
           use_layout-plane pool uses.library.now cell_use cell is number owner x y at (inside_world rect x y legal inside)
 
-      pub hidden-nowhere : (x y : ℕ) → holds rect x y ≡ true → moved (picture_in pool owner) cell_use.dx cell_use.dy x y ≡ 0 → IsHidden x y
+      pub hidden-nowhere : (x y : ℕ) → holds rect x y ≡ true → moved_picture (picture_in pool owner) cell_use.dx cell_use.dy x y ≡ 0 → IsHidden x y
       hidden-nowhere x y inside none = hidden-space x y (shows x y inside ∙ none)
 
       pub FindsUse-found : (tiles : List LaidTile) → ShowMoved (picture_in pool owner) cell_use.dx cell_use.dy rect tiles → FindsUse pool uses index number rect cell_use.dx cell_use.dy tiles
@@ -63,5 +63,5 @@ module _ (pool : Pool) (uses : Uses) (index number : ℕ) (cell_use : CellUse) (
         show = show;
         painted = λ below above x y inside painted.
             under_later-painted (cell_layouts pool uses.library.now) uses.list.now index cell_use within is_listed number x y below above
-            (painted ∙ over-as (moved (picture_in pool owner) cell_use.dx cell_use.dy) (use_layout (cell_layouts pool uses.library.now) cell_use number) below below x y (sym (shows x y inside)) refl);
+            (painted ∙ over-as (moved_picture (picture_in pool owner) cell_use.dx cell_use.dy) (use_layout (cell_layouts pool uses.library.now) cell_use number) below below x y (sym (shows x y inside)) refl);
       }

@@ -9,7 +9,7 @@ use Rattle.mls_stitch.specs.Tilings.{HasPlane, block_at}
 use Rattle.mls_stitch.specs.declared.laid_tile.LaidTile.{LaidTile}
 use Rattle.mls_paint.specs.Planes.{picture_in}
 use Rattle.mls_layout.specs.Inner.{ShowMoved, later_uses}
-use Rattle.mls_layout.specs.Moves.{moved}
+use Rattle.mls_layout.specs.Moves.{moved_picture}
 use Rattle.mls_layout.specs.Uses.{cell_layouts, flat_plane, over, uses_layout}
 use Rattle.mls_layout.specs.declared.uses.CellUse.{CellUse}
 use Rattle.mls_layout.specs.declared.uses.Uses.{Uses}
@@ -38,10 +38,10 @@ module _ (pool : Pool) (uses : Uses) (number index : ℕ) where
   pub flat_plane-painted :
       (owner : ℕ) (below new : Picture) (x y : ℕ) → HasPlane pool owner → length uses.list.now ≤ index
       → over (later_uses pool uses index number) below x y ≡ uses_layout (cell_layouts pool uses.library.now) uses.list.now number x y
-      → new x y ≡ over (moved (picture_in pool owner) (pos 0) (pos 0)) below x y → new x y ≡ flat_plane pool uses number owner x y
+      → new x y ≡ over (moved_picture (picture_in pool owner) (pos 0) (pos 0)) below x y → new x y ≡ flat_plane pool uses number owner x y
   flat_plane-painted owner below new x y plane last so_far own =
       let cells = cell_layouts pool uses.library.now in
       let none = ap (λ (list : List CellUse). over (uses_layout cells list number) below x y) (drop_of_length-le uses.list.now {i = index} last) in
       own
-      ∙ over-as (moved (picture_in pool owner) (pos 0) (pos 0)) (picture_in pool owner) below (uses_layout cells uses.list.now number) x y (moved-zero pool owner plane x y)
+      ∙ over-as (moved_picture (picture_in pool owner) (pos 0) (pos 0)) (picture_in pool owner) below (uses_layout cells uses.list.now number) x y (moved-zero pool owner plane x y)
       (sym none ∙ so_far)

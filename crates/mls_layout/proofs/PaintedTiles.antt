@@ -10,7 +10,7 @@ use Rattle.mls_geom.specs.declared.piece.Piece.{Piece}
 use Rattle.mls_stitch.specs.declared.laid_tile.LaidTile.{LaidTile}
 use Rattle.mls_layout.specs.Inner.{ShowMoved, dumps}
 use Rattle.mls_layout.specs.Grids.{Shows}
-use Rattle.mls_layout.specs.Moves.{holds_at, is_moved, kind_at, moved}
+use Rattle.mls_layout.specs.Moves.{holds_at, is_moved, kind_or_space, moved_picture}
 use Rattle.mls_layout.specs.Uses.{over}
 
 -- some tile of the list, moved, shows something at the square
@@ -18,14 +18,14 @@ abbrev pub some_dumps : List LaidTile → ℤ → ℤ → ℕ → ℕ → Bool
 some_dumps tiles dx dy x y = list_any (λ tile. dumps tile.piece dx dy x y) tiles
 
 module _ (picture : Picture) (dx dy : ℤ) where
-  kind_there : (piece : Piece) → Shows picture piece → (zx zy : ℤ) → holds_at piece.rect zx zy ≡ true → kind_at picture zx zy ≡ piece.kind
+  kind_there : (piece : Piece) → Shows picture piece → (zx zy : ℤ) → holds_at piece.rect zx zy ≡ true → kind_or_space picture zx zy ≡ piece.kind
   kind_there piece has (pos a) (pos b) here = has a b here
   kind_there piece has (pos a) (negsuc b) here = absurd (cc here)
   kind_there piece has (negsuc a) zy here = absurd (cc here)
 
   -- a moved piece's square has the piece's kind in the moved picture
-  pub kind-moved : (piece : Piece) (x y : ℕ) → Shows picture piece → is_moved piece.rect dx dy x y ≡ true → moved picture dx dy x y ≡ piece.kind
-  unfolding moved
+  pub kind-moved : (piece : Piece) (x y : ℕ) → Shows picture piece → is_moved piece.rect dx dy x y ≡ true → moved_picture picture dx dy x y ≡ piece.kind
+  unfolding moved_picture
   kind-moved piece x y has here = kind_there piece has (pos x -ℤ dx) (pos y -ℤ dy) here
 
   -- ---- one tile more
@@ -37,16 +37,16 @@ module _ (picture : Picture) (dx dy : ℤ) where
 
   pub painted-more :
       (tiles : List LaidTile) (n : ℕ) (tile : LaidTile) (x y old now next : ℕ) → n < length tiles → tile ≡ get_or tiles n tile → Shows picture tile.piece
-      → now ≡ (if some_dumps (take n tiles) dx dy x y then moved picture dx dy x y else old)
+      → now ≡ (if some_dumps (take n tiles) dx dy x y then moved_picture picture dx dy x y else old)
       → next ≡ (if dumps tile.piece dx dy x y then tile.piece.kind else now)
-      → next ≡ (if some_dumps (take (n + 1) tiles) dx dy x y then moved picture dx dy x y else old)
+      → next ≡ (if some_dumps (take (n + 1) tiles) dx dy x y then moved_picture picture dx dy x y else old)
   painted-more tiles n tile x y old now next within is has so_far after =
       let test : LaidTile → Bool = λ t. dumps t.piece dx dy x y in
       let more : list_any test (take (n + 1) tiles) ≡ (list_any test (take n tiles) || test tile) =
       list_any_more test tiles n tile within ∙ ap (λ t. list_any test (take n tiles) || test t) (sym is) in
-      joined tile.piece.kind (moved picture dx dy x y) old now next (list_any test (take n tiles)) (test tile) so_far after
+      joined tile.piece.kind (moved_picture picture dx dy x y) old now next (list_any test (take n tiles)) (test tile) so_far after
       (λ dumped. kind-moved tile.piece x y has (and_parts (is_moved tile.piece.rect dx dy x y) (not (tile.piece.kind == 0)) dumped).0)
-      ∙ ap (λ (b : Bool). if b then moved picture dx dy x y else old) (sym more)
+      ∙ ap (λ (b : Bool). if b then moved_picture picture dx dy x y else old) (sym more)
 
   -- ---- all tiles
   not_zero : (kind : ℕ) → not (kind == 0) ≡ true → (kind == 0) ≡ false
@@ -68,7 +68,7 @@ module _ (picture : Picture) (dx dy : ℤ) where
 
   module _ (block : Rect) (tiles : List LaidTile) (x y : ℕ) (show : ShowMoved picture dx dy block tiles) where
     -- what some tile shows isn't space
-    dumped : some_dumps tiles dx dy x y ≡ true → (moved picture dx dy x y == 0) ≡ false
+    dumped : some_dumps tiles dx dy x y ≡ true → (moved_picture picture dx dy x y == 0) ≡ false
     dumped some =
         let (k, tile, within, is, here) = Any-from_list_any (λ (t : LaidTile). dumps t.piece dx dy x y) tiles some in
         let both = and_parts (is_moved tile.piece.rect dx dy x y) (not (tile.piece.kind == 0)) here in
@@ -76,10 +76,10 @@ module _ (picture : Picture) (dx dy : ℤ) where
         ap (λ (kind : ℕ). kind == 0) (kind-moved tile.piece x y has both.0) ∙ not_zero tile.piece.kind both.1
 
     -- and where none does all is space
-    undumped : holds block x y ≡ true → some_dumps tiles dx dy x y ≡ false → (moved picture dx dy x y == 0) ≡ true
-    undumped inside none = by (moved picture dx dy x y == 0) refl
+    undumped : holds block x y ≡ true → some_dumps tiles dx dy x y ≡ false → (moved_picture picture dx dy x y == 0) ≡ true
+    undumped inside none = by (moved_picture picture dx dy x y == 0) refl
       where
-        by : (zero : Bool) → (moved picture dx dy x y == 0) ≡ zero → zero ≡ true
+        by : (zero : Bool) → (moved_picture picture dx dy x y == 0) ≡ zero → zero ≡ true
         by true at = refl
         by false at =
             let (k, tile, within, is, here) = show.whole x y inside (λ space. true≢false (sym (ap (λ (kind : ℕ). kind == 0) space) ∙ at)) in
@@ -90,10 +90,10 @@ module _ (picture : Picture) (dx dy : ℤ) where
 
     -- so the tiles lie over what was below
     pub painted-all :
-        (below : Picture) (now : ℕ) → holds block x y ≡ true → now ≡ (if some_dumps tiles dx dy x y then moved picture dx dy x y else below x y)
-        → now ≡ over (moved picture dx dy) below x y
+        (below : Picture) (now : ℕ) → holds block x y ≡ true → now ≡ (if some_dumps tiles dx dy x y then moved_picture picture dx dy x y else below x y)
+        → now ≡ over (moved_picture picture dx dy) below x y
     painted-all below now inside is =
         is ∙ elim (cases_Bool (some_dumps tiles dx dy x y)) [
-          | inl some ↦ chosen (moved picture dx dy x y) (below x y) (some_dumps tiles dx dy x y) (moved picture dx dy x y == 0) some refl (dumped some)
-          | inr none ↦ left_out (moved picture dx dy x y) (below x y) (some_dumps tiles dx dy x y) (moved picture dx dy x y == 0) none (undumped inside none)
+          | inl some ↦ chosen (moved_picture picture dx dy x y) (below x y) (some_dumps tiles dx dy x y) (moved_picture picture dx dy x y == 0) some refl (dumped some)
+          | inr none ↦ left_out (moved_picture picture dx dy x y) (below x y) (some_dumps tiles dx dy x y) (moved_picture picture dx dy x y == 0) none (undumped inside none)
         ]

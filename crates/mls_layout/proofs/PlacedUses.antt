@@ -7,7 +7,7 @@ use Rattle.mls_geom.specs.Layouts.{Layout}
 use Rattle.mls_geom.specs.Pictures.{empty_picture}
 use Rattle.mls_geom.specs.Rects.{holds}
 use Rattle.mls_geom.specs.World.{world}
-use Rattle.mls_layout.specs.Moves.{moved}
+use Rattle.mls_layout.specs.Moves.{moved_picture}
 use Rattle.mls_layout.specs.Uses.{cell_shown, flattened, over, use_layout, uses_layout}
 use Rattle.mls_layout.specs.declared.uses.CellUse.{CellUse}
 
@@ -39,12 +39,12 @@ uses_layout-placed cells (first ∷ later) placed plane x y =
 -- it shows nothing where its cell, moved, is space
 pub use_layout-moved :
     (cells : List Layout) (placed : CellUse) (cell : Layout) (plane x y : ℕ) → slice_get cells placed.cell ≡ Some cell
-    → moved (cell plane) placed.dx placed.dy x y ≡ 0 → use_layout cells placed plane x y ≡ 0
+    → moved_picture (cell plane) placed.dx placed.dy x y ≡ 0 → use_layout cells placed plane x y ≡ 0
 use_layout-moved cells placed cell plane x y there space = by (holds world x y)
   where
-    by : (inside : Bool) → (if inside then moved (cell_shown cells placed.cell plane) placed.dx placed.dy x y else 0) ≡ 0
+    by : (inside : Bool) → (if inside then moved_picture (cell_shown cells placed.cell plane) placed.dx placed.dy x y else 0) ≡ 0
     by true =
-        ap (λ (found : Option Layout). moved (unwrap_or found (λ number. empty_picture) plane) placed.dx placed.dy x y) there ∙ space
+        ap (λ (found : Option Layout). moved_picture (unwrap_or found (λ number. empty_picture) plane) placed.dx placed.dy x y) there ∙ space
     by false = refl
 
 -- ---- layouts

@@ -7,7 +7,7 @@ use Rattle.std.proofs.lemmas.List.{append-nil, drop_all, get_or-replicate, get_o
 use Rattle.mls_geom.specs.Pictures.{empty_picture, painted}
 use Rattle.mls_geom.specs.Rects.{Rect, IsRectangleIn, holds}
 use Rattle.mls_geom.specs.declared.piece.Piece.{Piece}
-use Rattle.mls_layout.specs.Grids.{grid_kind, grid_picture, place_in}
+use Rattle.mls_layout.specs.Grids.{grid_kind, grid_picture, place_in_block}
 
 -- the rows of an area before a line
 abbrev pub rows_to : ℕ → Rect → Rect
@@ -63,7 +63,7 @@ pub new-grid : (squares : List ℕ) (n : ℕ) (block : Rect) → squares ≡ rep
 unfolding grid_picture
 new-grid squares n block zeros =
     same_pictures _ _ (λ x y. ap (λ (ks : List ℕ). grid_picture ks block x y) zeros ∙ elim (holds block x y) as (λ b. (if b then grid_kind (replicate n 0) block x y else 0) ≡ 0) [
-      | true ↦ zero-at n (place_in block x y)
+      | true ↦ zero-at n (place_in_block block x y)
       | false ↦ refl
     ])
 

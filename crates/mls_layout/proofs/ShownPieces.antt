@@ -12,7 +12,7 @@ use Rattle.mls_tilepool.specs.Pools.{Pool, tiles_of}
 use Rattle.mls_stitch.specs.Tilings.{HasPlane}
 use Rattle.mls_stitch.proofs.ShownTiles.{KeysDiffer-tiles_of, shown-outside}
 use Rattle.mls_paint.specs.Planes.{picture_in}
-use Rattle.mls_layout.specs.Grids.{Appends, CoverBlock}
+use Rattle.mls_layout.specs.Grids.{AppendsCover, CoverBlock}
 use Rattle.mls_layout.specs.Uses.{cell_layouts, flat_plane, uses_layout}
 use Rattle.mls_layout.specs.declared.uses.Uses.{Uses}
 use Rattle.mls_layout.proofs.FlatLayouts.{over-space, uses_layout-outside}
@@ -26,7 +26,7 @@ picture_of-cover extent picture pieces cover empty = fun_ext (λ x. fun_ext (λ 
     (λ outside. space_outside extent pieces x y cover.bounded outside ∙ sym (empty x y outside)) (cases_Bool (holds extent x y))))
 
 -- pieces that were appended to none are all of them
-cover-appended : (extent : Rect) (picture : Picture) (old new : List Piece) → old ≡ [] → Appends extent picture old new → CoverBlock extent picture new
+cover-appended : (extent : Rect) (picture : Picture) (old new : List Piece) → old ≡ [] → AppendsCover extent picture old new → CoverBlock extent picture new
 cover-appended extent picture old new none (more, is, cover) =
     subst (CoverBlock extent picture) (sym (is ∙ ap (λ (list : List Piece). list ++ more) none)) cover
 
@@ -40,7 +40,7 @@ module _ (pool : Pool) (owner : ℕ) (uses : Uses) (number : ℕ) where
 
   -- so its pieces of the world show what it does
   pub picture_of-appended :
-      (old new : List Piece) → HasPlane pool owner → old ≡ [] → Appends world (flat_plane pool uses number owner) old new
+      (old new : List Piece) → HasPlane pool owner → old ≡ [] → AppendsCover world (flat_plane pool uses number owner) old new
       → picture_of new ≡ flat_plane pool uses number owner
   picture_of-appended old new plane none appended =
       picture_of-cover world (flat_plane pool uses number owner) new (cover-appended world (flat_plane pool uses number owner) old new none appended)

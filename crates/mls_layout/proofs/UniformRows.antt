@@ -5,7 +5,7 @@ use Rattle.std.proofs.lemmas.List.{get_or-take, get_or-drop, length-take, length
 use Rattle.std.proofs.lemmas.Bool.{cases_lt}
 use Rattle.mls_geom.specs.Rects.{Rect, IsRectangleIn, holds}
 use Rattle.mls_geom.proofs.Holds.{holds_between, between_holds}
-use Rattle.mls_layout.specs.Grids.{IsBlock, IsRunFrom, grid_kind, grid_picture, place_in}
+use Rattle.mls_layout.specs.Grids.{IsBlock, IsRunFrom, grid_kind, grid_picture, place_in_block}
 use Rattle.mls_layout.proofs.Places.{area-inside, grid-inside, rows_to}
 
 -- the elements of a part of a list
@@ -21,13 +21,13 @@ pub record IsRowOf (squares : List ℕ) (block area : Rect) (row from to : ℕ) 
   pub on : area.bottom ≤ row
   pub before : row < area.top
   pub within : to ≤ length squares
-  pub first : from ≡ place_in block area.left row
+  pub first : from ≡ place_in_block block area.left row
   pub last : to ≡ from + (area.right - area.left)
 
 -- as it is found by what was lent of the area
 pub row-found :
     (squares : List ℕ) (block area lent : Rect) (row from to : ℕ) → lent ≡ area → IsRectangleIn block area → lent.bottom ≤ row → row < lent.top
-    → from + (block.right - lent.left) ≤ length squares → from ≡ place_in block lent.left row → to ≡ from + (lent.right - lent.left) → IsRowOf squares block area row from to
+    → from + (block.right - lent.left) ≤ length squares → from ≡ place_in_block block lent.left row → to ≡ from + (lent.right - lent.left) → IsRowOf squares block area row from to
 row-found squares block area lent row from to is legal on before room first last =
     subst (λ (e : Rect). IsRectangleIn block e → IsRowOf squares block e row from to) is
     (λ legal. record { legal = legal; on = on; before = before; within = omega (arith, room, last, legal.right_in, legal.wide); first = first; last = last }) legal
@@ -45,7 +45,7 @@ module _ (squares : List ℕ) (block area : Rect) (row kind from to : ℕ) (is_r
         | inr above ↦
             let k = x - area.left in
             let few : k < to - from = omega (arith, lines, is_row.last) in
-            let place : from + k ≡ place_in block x y = omega (arith, lines, is_row.first, is_row.legal.left_in) in
+            let place : from + k ≡ place_in_block block x y = omega (arith, lines, is_row.first, is_row.legal.left_in) in
             ap (λ n. get_or squares n 0) (sym place) ∙ sym (part-element squares from to k few) ∙ each k (omega (arith, part-length squares from to is_row.within))
       ]
 
@@ -55,7 +55,7 @@ module _ (squares : List ℕ) (block area : Rect) (row kind from to : ℕ) (is_r
       → (k : ℕ) → k < length (take (to - from) (drop from squares)) → slice_index (take (to - from) (drop from squares)) k ≡ kind
   row-of-area all k inside =
       let few : k < to - from = omega (arith, part-length squares from to is_row.within) in
-      let place : from + k ≡ place_in block (area.left + k) row = omega (arith, is_row.first, is_row.legal.left_in) in
+      let place : from + k ≡ place_in_block block (area.left + k) row = omega (arith, is_row.first, is_row.legal.left_in) in
       part-element squares from to k few ∙ ap (λ n. get_or squares n 0) place
       ∙ all (area.left + k) row (between_holds area (area.left + k) row (omega arith) (omega (arith, is_row.last)) is_row.on is_row.before)
 
@@ -72,7 +72,7 @@ tells-picture squares block area kind result legal told = (
 
 -- a run of places of one kind is a run of squares
 pub run-found :
-    (squares : List ℕ) (block : Rect) (left row from «end» : ℕ) (rect : Rect) → IsBlock block → holds block left row ≡ true → from ≡ place_in block left row → from < «end»
+    (squares : List ℕ) (block : Rect) (left row from «end» : ℕ) (rect : Rect) → IsBlock block → holds block left row ≡ true → from ≡ place_in_block block left row → from < «end»
     → «end» ≤ from + (block.right - left) → rect ≡ record { left = left; bottom = row; right = left + («end» - from); top = row + 1 }
     → ((place : ℕ) → from ≤ place → place < «end» → slice_index squares place ≡ slice_index squares from)
     → IsRunFrom block (grid_picture squares block) left row (record { rect = rect; kind = slice_index squares from })
@@ -95,5 +95,5 @@ run-found squares block left row from «end» rect is_block inside is_from some 
       shown = λ x y here.
           let at = holds_between run x y here in
           grid-inside squares block x y (area-inside block run x y legal here)
-          ∙ alike (place_in block x y) (omega (arith, at, lines.0, is_from)) (omega (arith, at, lines.0, is_from));
+          ∙ alike (place_in_block block x y) (omega (arith, at, lines.0, is_from)) (omega (arith, at, lines.0, is_from));
     })

@@ -11,23 +11,23 @@ use Rattle.mls_tilepool.specs.Pools.{Pool}
 use Rattle.mls_paint.specs.Planes.{picture_at, picture_in}
 use Rattle.mls_library.specs.Libraries.{IsCellHome, IsHome, Library, NamedCell, ShowsWithin, cell_layout}
 use Rattle.mls_layout.specs.Inner.{bounds_hold}
-use Rattle.mls_layout.specs.Moves.{holds_at, kind_at, moved}
+use Rattle.mls_layout.specs.Moves.{holds_at, kind_or_space, moved_picture}
 use Rattle.mls_layout.specs.Uses.{cell_layouts, cell_shown, use_layout}
 use Rattle.mls_layout.specs.declared.uses.CellUse.{CellUse}
-use Rattle.mls_layout.proofs.FlatLayouts.{kind_at-space, moved-space}
+use Rattle.mls_layout.proofs.FlatLayouts.{kind_or_space-space, moved_picture-space}
 
 -- ---- moved pictures
 -- what lies outside a picture's bounds is space where it is moved
-outside_at : (bounds : Rect) (picture : Picture) (zx zy : ℤ) → ShowsWithin (Some bounds) picture → holds_at bounds zx zy ≡ false → kind_at picture zx zy ≡ 0
+outside_at : (bounds : Rect) (picture : Picture) (zx zy : ℤ) → ShowsWithin (Some bounds) picture → holds_at bounds zx zy ≡ false → kind_or_space picture zx zy ≡ 0
 outside_at bounds picture (pos a) (pos b) within out = within a b out
 outside_at bounds picture (pos a) (negsuc b) within out = refl
 outside_at bounds picture (negsuc a) zy within out = refl
 
-pub moved-outside :
-    (bounds : Option Rect) (picture : Picture) (dx dy : ℤ) (x y : ℕ) → ShowsWithin bounds picture → bounds_hold bounds dx dy x y ≡ false → moved picture dx dy x y ≡ 0
-unfolding moved
-moved-outside None picture dx dy x y within out = kind_at-space picture (pos x -ℤ dx) (pos y -ℤ dy) (λ x y. within x y refl)
-moved-outside (Some bounds) picture dx dy x y within out = outside_at bounds picture (pos x -ℤ dx) (pos y -ℤ dy) within out
+pub moved_picture-outside :
+    (bounds : Option Rect) (picture : Picture) (dx dy : ℤ) (x y : ℕ) → ShowsWithin bounds picture → bounds_hold bounds dx dy x y ≡ false → moved_picture picture dx dy x y ≡ 0
+unfolding moved_picture
+moved_picture-outside None picture dx dy x y within out = kind_or_space-space picture (pos x -ℤ dx) (pos y -ℤ dy) (λ x y. within x y refl)
+moved_picture-outside (Some bounds) picture dx dy x y within out = outside_at bounds picture (pos x -ℤ dx) (pos y -ℤ dy) within out
 
 -- ---- the cell of a number
 -- there is one with these planes and these bounds
@@ -54,8 +54,8 @@ module _ (pool : Pool) (cells : Library) (cell_use : CellUse) where
   -- of none it shows nothing
   pub use_layout-None : slice_get cells cell_use.cell ≡ None → (plane x y : ℕ) → use_layout (cell_layouts pool cells) cell_use plane x y ≡ 0
   use_layout-None none plane x y =
-      nowhere (holds world x y) (moved (cell_shown (cell_layouts pool cells) cell_use.cell plane) cell_use.dx cell_use.dy x y)
-      (ap (λ (layout : Layout). moved (layout plane) cell_use.dx cell_use.dy x y) (layout_there None none) ∙ moved-space empty_picture cell_use.dx cell_use.dy x y (λ x y. refl))
+      nowhere (holds world x y) (moved_picture (cell_shown (cell_layouts pool cells) cell_use.cell plane) cell_use.dx cell_use.dy x y)
+      (ap (λ (layout : Layout). moved_picture (layout plane) cell_use.dx cell_use.dy x y) (layout_there None none) ∙ moved_picture-space empty_picture cell_use.dx cell_use.dy x y (λ x y. refl))
 
   module _ (cell : NamedCell) (is : slice_get cells cell_use.cell ≡ Some cell) where
     shown : (plane : ℕ) → cell_shown (cell_layouts pool cells) cell_use.cell plane ≡ cell_layout pool cell plane
@@ -68,16 +68,16 @@ module _ (pool : Pool) (cells : Library) (cell_use : CellUse) where
     pub use_layout-outside :
         IsHome pool cells → (plane x y : ℕ) → bounds_hold cell.bounds cell_use.dx cell_use.dy x y ≡ false → use_layout (cell_layouts pool cells) cell_use plane x y ≡ 0
     use_layout-outside home plane x y out =
-        nowhere (holds world x y) (moved (cell_shown (cell_layouts pool cells) cell_use.cell plane) cell_use.dx cell_use.dy x y)
-        (ap (λ (picture : Picture). moved picture cell_use.dx cell_use.dy x y) (shown plane)
-        ∙ moved-outside cell.bounds (cell_layout pool cell plane) cell_use.dx cell_use.dy x y ((cell_home home).bounded plane) out)
+        nowhere (holds world x y) (moved_picture (cell_shown (cell_layouts pool cells) cell_use.cell plane) cell_use.dx cell_use.dy x y)
+        (ap (λ (picture : Picture). moved_picture picture cell_use.dx cell_use.dy x y) (shown plane)
+        ∙ moved_picture-outside cell.bounds (cell_layout pool cell plane) cell_use.dx cell_use.dy x y ((cell_home home).bounded plane) out)
 
     -- nor on a plane that the cell doesn't have
     pub use_layout-beyond : (plane x y : ℕ) → slice_get cell.planes plane ≡ None → use_layout (cell_layouts pool cells) cell_use plane x y ≡ 0
     use_layout-beyond plane x y none =
-        nowhere (holds world x y) (moved (cell_shown (cell_layouts pool cells) cell_use.cell plane) cell_use.dx cell_use.dy x y)
-        (ap (λ (picture : Picture). moved picture cell_use.dx cell_use.dy x y) (shown plane ∙ ap (picture_at pool) none)
-        ∙ moved-space empty_picture cell_use.dx cell_use.dy x y (λ x y. refl))
+        nowhere (holds world x y) (moved_picture (cell_shown (cell_layouts pool cells) cell_use.cell plane) cell_use.dx cell_use.dy x y)
+        (ap (λ (picture : Picture). moved_picture picture cell_use.dx cell_use.dy x y) (shown plane ∙ ap (picture_at pool) none)
+        ∙ moved_picture-space empty_picture cell_use.dx cell_use.dy x y (λ x y. refl))
 
     -- the cell shows on each plane what the plane does
     pub cell_shown-owner : (plane owner : ℕ) → slice_get cell.planes plane ≡ Some owner → cell_shown (cell_layouts pool cells) cell_use.cell plane ≡ picture_in pool owner
@@ -86,7 +86,7 @@ module _ (pool : Pool) (cells : Library) (cell_use : CellUse) where
     -- in the world it shows what the cell's plane does, moved
     pub use_layout-plane :
         (plane owner x y : ℕ) → slice_get cell.planes plane ≡ Some owner → holds world x y ≡ true
-        → use_layout (cell_layouts pool cells) cell_use plane x y ≡ moved (picture_in pool owner) cell_use.dx cell_use.dy x y
+        → use_layout (cell_layouts pool cells) cell_use plane x y ≡ moved_picture (picture_in pool owner) cell_use.dx cell_use.dy x y
     use_layout-plane plane owner x y there inside =
-        cond-true (holds world x y) (moved (cell_shown (cell_layouts pool cells) cell_use.cell plane) cell_use.dx cell_use.dy x y) 0 inside
-        ∙ ap (λ (picture : Picture). moved picture cell_use.dx cell_use.dy x y) (cell_shown-owner plane owner there)
+        cond-true (holds world x y) (moved_picture (cell_shown (cell_layouts pool cells) cell_use.cell plane) cell_use.dx cell_use.dy x y) 0 inside
+        ∙ ap (λ (picture : Picture). moved_picture picture cell_use.dx cell_use.dy x y) (cell_shown-owner plane owner there)

@@ -17,12 +17,12 @@ abbrev pub grid_size : ℕ
 grid_size = 262144
 
 -- where a square of the block stands in the list
-abbrev pub place_in : Rect → ℕ → ℕ → ℕ
-place_in block x y = (y - block.bottom) * 512 + (x - block.left)
+abbrev pub place_in_block : Rect → ℕ → ℕ → ℕ
+place_in_block block x y = (y - block.bottom) * 512 + (x - block.left)
 
 -- the kind of a square of the block
 abbrev pub grid_kind : List ℕ → Rect → ℕ → ℕ → ℕ
-grid_kind squares block x y = slice_index squares (place_in block x y)
+grid_kind squares block x y = slice_index squares (place_in_block block x y)
 
 -- the kinds of the squares of the block, and space round it
 unfoldable pub grid_picture : List ℕ → Rect → Picture
@@ -39,8 +39,8 @@ pub record CoverBlock (extent : Rect) (picture : Picture) (pieces : List Piece) 
   pub whole : (x y : ℕ) → holds extent x y ≡ true → Any (λ piece. holds piece.rect x y ≡ true) pieces
 
 -- the list gained pieces that cover the extent
-abbrev pub Appends : Rect → Picture → List Piece → List Piece → Type 0
-Appends extent picture old new = (more : List Piece) × (new ≡ old ++ more) × CoverBlock extent picture more
+abbrev pub AppendsCover : Rect → Picture → List Piece → List Piece → Type 0
+AppendsCover extent picture old new = (more : List Piece) × (new ≡ old ++ more) × CoverBlock extent picture more
 
 -- ---- pieces that are found row by row
 -- each piece lies in the extent and shows what the picture has, and each square of the set lies in a piece

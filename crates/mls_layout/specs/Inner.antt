@@ -10,7 +10,7 @@ use Rattle.mls_layout.specs.Grids.{Shows}
 use Rattle.mls_tilepool.specs.Pools.{Pool}
 use Rattle.mls_layout.specs.Uses.{cell_layouts, over, uses_layout}
 use Rattle.mls_layout.specs.declared.uses.Uses.{Uses}
-use Rattle.mls_layout.specs.Moves.{is_moved, moved}
+use Rattle.mls_layout.specs.Moves.{is_moved, moved_picture}
 
 -- the square is one of the piece's, moved, and the piece isn't space
 abbrev pub dumps : Piece → ℤ → ℤ → ℕ → ℕ → Bool
@@ -28,7 +28,7 @@ in_world picture x y = if holds world x y then picture x y else 0
 -- the tiles show what the picture has, and among them, moved, are all squares of the block that show something of the picture, moved
 pub record ShowMoved (picture : Picture) (dx dy : ℤ) (block : Rect) (tiles : List LaidTile) : Type 0 where
   pub each : All (λ tile. Shows picture tile.piece) tiles
-  pub whole : (x y : ℕ) → holds block x y ≡ true → moved picture dx dy x y ≢ 0 → Any (λ tile. is_moved tile.piece.rect dx dy x y ≡ true) tiles
+  pub whole : (x y : ℕ) → holds block x y ≡ true → moved_picture picture dx dy x y ≢ 0 → Any (λ tile. is_moved tile.piece.rect dx dy x y ≡ true) tiles
 
 -- what the uses from this one on show, a later one over those before
 abbrev pub later_uses : Pool → Uses → ℕ → ℕ → Picture
@@ -39,11 +39,11 @@ pub record FindsUse (pool : Pool) (uses : Uses) (index number : ℕ) (rect : Rec
   pub picture : Picture
   pub show : ShowMoved picture dx dy rect tiles
   pub painted :
-      (below above : Picture) (x y : ℕ) → holds rect x y ≡ true → above x y ≡ over (moved picture dx dy) below x y
+      (below above : Picture) (x y : ℕ) → holds rect x y ≡ true → above x y ≡ over (moved_picture picture dx dy) below x y
       → over (later_uses pool uses (index + 1) number) above x y ≡ over (later_uses pool uses index number) below x y
 
 -- two smaller rectangles that lie in one, and have each of its squares
-pub record AreParts (e one other : Rect) : Type 0 where
+pub record AreSmallerParts (e one other : Rect) : Type 0 where
   pub one_in : IsRectangleIn e one
   pub other_in : IsRectangleIn e other
   pub whole : (x y : ℕ) → holds e x y ≡ true → (holds one x y ≡ true) ⊎ (holds other x y ≡ true)

@@ -4,13 +4,13 @@ use Rattle.mls_geom.specs.Pictures.{Picture}
 use Rattle.mls_geom.specs.Rects.{Rect, IsRectangleIn, holds}
 
 -- the kind of the square at a column and a row, which may lie below 0, where all is space
-abbrev pub kind_at : Picture → ℤ → ℤ → ℕ
-kind_at picture (pos x) (pos y) = picture x y
-kind_at picture x y = 0
+abbrev pub kind_or_space : Picture → ℤ → ℤ → ℕ
+kind_or_space picture (pos x) (pos y) = picture x y
+kind_or_space picture x y = 0
 
 -- the picture moved to the right by dx columns and up by dy rows
-unfoldable pub moved : Picture → ℤ → ℤ → Picture
-moved picture dx dy x y = kind_at picture (pos x -ℤ dx) (pos y -ℤ dy)
+unfoldable pub moved_picture : Picture → ℤ → ℤ → Picture
+moved_picture picture dx dy x y = kind_or_space picture (pos x -ℤ dx) (pos y -ℤ dy)
 
 -- the rectangle has the square at a column and a row, which may lie below 0
 abbrev pub holds_at : Rect → ℤ → ℤ → Bool

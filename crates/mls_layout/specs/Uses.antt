@@ -10,7 +10,7 @@ use Rattle.mls_library.specs.Libraries.{IsHome, Library, cell_layout}
 use Rattle.mls_paint.specs.Planes.{layout_in, picture_in}
 use Rattle.mls_stitch.specs.Tilings.{HasPlane}
 use Rattle.mls_tilepool.specs.Pools.{Pool}
-use Rattle.mls_layout.specs.Moves.{moved}
+use Rattle.mls_layout.specs.Moves.{moved_picture}
 use Rattle.mls_layout.specs.Workspaces.{FitsWorkspace}
 use Rattle.mls_layout.specs.declared.uses.CellUse.{CellUse}
 use Rattle.mls_layout.specs.declared.uses.Uses.{Uses}
@@ -27,7 +27,7 @@ cell_shown cells cell = unwrap_or (slice_get cells cell) (λ plane. empty_pictur
 -- the squares of a use's cell, moved to where it is placed; outside the world all is space
 abbrev pub use_layout : List Layout → CellUse → Layout
 use_layout cells cell_use plane x y =
-    if holds world x y then moved (cell_shown cells cell_use.cell plane) cell_use.dx cell_use.dy x y else 0
+    if holds world x y then moved_picture (cell_shown cells cell_use.cell plane) cell_use.dx cell_use.dy x y else 0
 
 -- the upper picture where it isn't space, and else the lower one
 abbrev pub over : Picture → Picture → Picture

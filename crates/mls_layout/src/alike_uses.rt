@@ -5,7 +5,7 @@ ghost use Rattle.mls_geom.specs.Rects.{Rect, grown};
 ghost use Rattle.mls_geom.specs.World.{world};
 ghost use Rattle.mls_layout.specs.Inner.{in_world};
 ghost use Rattle.mls_layout.specs.Likenesses.{ShowsAlike, Spans};
-ghost use Rattle.mls_layout.specs.Moves.{IsPartOf, is_moved, moved};
+ghost use Rattle.mls_layout.specs.Moves.{IsPartOf, is_moved, moved_picture};
 ghost use Rattle.mls_layout.specs.Uses.{cell_layouts, use_layout, uses_layout};
 ghost use Rattle.mls_library.specs.Libraries.{IsFrozen, IsHome};
 ghost use Rattle.mls_paint.specs.Planes.{picture_in};
@@ -73,7 +73,8 @@ fn cell_is_alike(
     requires frozen { All (IsFrozen workspace.old.pool) cell.now.planes }
     requires near { zone.now.halo ≤ 256 }
     ensures alike { IsTrue result → All (λ owner. ShowsAlike zone.now.likeness zone.now.halo zone.now.rect
-        (in_world (moved (picture_in workspace.old.pool owner) cell_use.now.dx cell_use.now.dy))) cell.now.planes }
+        (in_world (moved_picture (picture_in workspace.old.pool owner) cell_use.now.dx cell_use.now.dy)))
+        cell.now.planes }
     ensures pool { workspace.new.pool ≡ workspace.old.pool }
 {
     for plane in cell.planes() {
@@ -95,7 +96,7 @@ fn plane_is_alike(
     requires frozen { IsFrozen workspace.old.pool plane.now }
     requires near { zone.now.halo ≤ 256 }
     ensures alike { IsTrue result → ShowsAlike zone.now.likeness zone.now.halo zone.now.rect
-        (in_world (moved (picture_in workspace.old.pool plane.now) cell_use.now.dx cell_use.now.dy)) }
+        (in_world (moved_picture (picture_in workspace.old.pool plane.now) cell_use.now.dx cell_use.now.dy)) }
     ensures pool { workspace.new.pool ≡ workspace.old.pool }
 {
     lies_in_world(zone.rect);

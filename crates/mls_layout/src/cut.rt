@@ -1,6 +1,6 @@
 //! Rectangles in two parts.
 ghost use Rattle.std.specs.Prelude.{◌≡◌, ◌+◌, ◌<◌, ◌⊎◌};
-ghost use Rattle.mls_layout.specs.Inner.{AreParts};
+ghost use Rattle.mls_layout.specs.Inner.{AreSmallerParts};
 
 use mls_geom::Rect;
 
@@ -8,7 +8,7 @@ use mls_geom::Rect;
 /// rectangle that goes through it, or else across its longer side, in the middle.
 pub(crate) fn cut(rect: Rect, other: Rect) -> (Rect, Rect)
     requires large { (rect.left + 512 < rect.right) ⊎ (rect.bottom + 512 < rect.top) }
-    ensures { AreParts rect result.0 result.1 }
+    ensures { AreSmallerParts rect result.0 result.1 }
 {
     let lines = rect.area();
     let edges = other.area();
@@ -31,7 +31,7 @@ pub(crate) fn cut(rect: Rect, other: Rect) -> (Rect, Rect)
 fn at_column(rect: Rect, column: u32) -> (Rect, Rect)
     requires from { rect.left < column }
     requires to { column < rect.right }
-    ensures { AreParts rect result.0 result.1 }
+    ensures { AreSmallerParts rect result.0 result.1 }
 {
     let lines = rect.area();
     (
@@ -44,7 +44,7 @@ fn at_column(rect: Rect, column: u32) -> (Rect, Rect)
 fn at_row(rect: Rect, row: u32) -> (Rect, Rect)
     requires from { rect.bottom < row }
     requires to { row < rect.top }
-    ensures { AreParts rect result.0 result.1 }
+    ensures { AreSmallerParts rect result.0 result.1 }
 {
     let lines = rect.area();
     (

@@ -2,7 +2,7 @@
 ghost use Rattle.std.specs.Prelude.{◌≡◌, ◌↔◌, ℕ, true, IfOk, IsTrue, OnOk};
 ghost use Rattle.mls_geom.specs.Pictures.{empty_picture, painted};
 ghost use Rattle.mls_geom.specs.Rects.{IsRectangleIn, Rect, holds};
-ghost use Rattle.mls_layout.specs.Grids.{Appends, IsBlock, grid_picture};
+ghost use Rattle.mls_layout.specs.Grids.{AppendsCover, IsBlock, grid_picture};
 
 use crate::front::Front;
 use crate::grid_pieces::push_row;
@@ -84,7 +84,7 @@ impl KindGrid {
     /// appended some of the pieces then.
     pub fn push_pieces(&self, block: Rect, out: &mut Vec<Piece>) -> Result<(), AllocError>
         requires { IsBlock block }
-        ensures { OnOk result (Appends block (grid_picture self.now block) out.old.items out.new.items) }
+        ensures { OnOk result (AppendsCover block (grid_picture self.now block) out.old.items out.new.items) }
     {
         let lines = block.area();
         let first = out.len();

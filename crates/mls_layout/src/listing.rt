@@ -6,7 +6,7 @@ ghost use Rattle.mls_geom.specs.Pictures.{Picture};
 ghost use Rattle.mls_geom.specs.Rects.{IsRectangleIn, holds};
 ghost use Rattle.mls_geom.specs.World.{world};
 ghost use Rattle.mls_layout.specs.Inner.{ShowMoved, dumps, later_uses};
-ghost use Rattle.mls_layout.specs.Moves.{moved};
+ghost use Rattle.mls_layout.specs.Moves.{moved_picture};
 ghost use Rattle.mls_layout.specs.Uses.{HasFlatPlane, flat_plane, over};
 ghost use Rattle.mls_library.specs.Libraries.{IsHome};
 
@@ -139,7 +139,7 @@ fn push_tiles(
     requires room { most ≤ vec_capacity pieces.old }
     ensures laid { result ≡ true → (picture : Picture) → ShowMoved picture dx dy rect tiles.now
         → (x y : ℕ) → holds rect x y ≡ true
-        → laid pieces.new.items x y ≡ over (moved picture dx dy) (laid pieces.old.items) x y }
+        → laid pieces.new.items x y ≡ over (moved_picture picture dx dy) (laid pieces.old.items) x y }
     ensures inside { All (λ piece. IsRectangleIn rect piece.rect) pieces.old.items
         → All (λ piece. IsRectangleIn rect piece.rect) pieces.new.items }
     ensures covered { (x y : ℕ) → laid pieces.old.items x y ≢ uncovered → laid pieces.new.items x y ≢ uncovered }

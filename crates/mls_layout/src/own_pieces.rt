@@ -1,6 +1,6 @@
 //! Pieces of a plane's own paint.
 ghost use Rattle.std.specs.Prelude.{◌≡◌, OnOk};
-ghost use Rattle.mls_layout.specs.Grids.{Appends};
+ghost use Rattle.mls_layout.specs.Grids.{AppendsCover};
 ghost use Rattle.mls_paint.specs.Planes.{picture_in};
 ghost use Rattle.mls_paint.specs.Scratches.{HasRoomFor, KeepsRoom};
 ghost use Rattle.mls_stitch.specs.Tilings.{HasPlane};
@@ -21,7 +21,7 @@ pub(crate) fn push_own(
 ) -> Result<(), AllocError>
     requires plane { HasPlane pool.now plane.old }
     requires room { HasRoomFor pool.now plane.old scratch.old }
-    ensures appended { OnOk result (Appends rect (picture_in pool.now plane.old) out.old.items out.new.items) }
+    ensures appended { OnOk result (AppendsCover rect (picture_in pool.now plane.old) out.old.items out.new.items) }
     ensures owner { plane.new ≡ plane.old }
     ensures rooms { KeepsRoom scratch.old scratch.new }
 {

@@ -4,7 +4,7 @@ ghost use Rattle.mls_geom.specs.Pictures.{Picture};
 ghost use Rattle.mls_geom.specs.Rects.{holds};
 ghost use Rattle.mls_layout.specs.Grids.{IsBlock, grid_picture};
 ghost use Rattle.mls_layout.specs.Inner.{ShowMoved, dumps};
-ghost use Rattle.mls_layout.specs.Moves.{moved};
+ghost use Rattle.mls_layout.specs.Moves.{moved_picture};
 ghost use Rattle.mls_layout.specs.Uses.{over};
 
 use crate::KindGrid;
@@ -18,7 +18,7 @@ pub(crate) fn paint_tiles(tiles: &[LaidTile], dx: i32, dy: i32, block: Rect, gri
     requires block { IsBlock block }
     ensures painted { (picture : Picture) → ShowMoved picture dx dy block tiles.now
         → (x y : ℕ) → holds block x y ≡ true
-        → grid_picture grid.new block x y ≡ over (moved picture dx dy) (grid_picture grid.old block) x y }
+        → grid_picture grid.new block x y ≡ over (moved_picture picture dx dy) (grid_picture grid.old block) x y }
 {
     for tile in tiles {
         paint_piece(&tile.piece, dx, dy, block, grid);

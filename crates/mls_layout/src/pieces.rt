@@ -1,6 +1,6 @@
 //! Pieces of what a plane shows with the cells that are placed in its layout.
 ghost use Rattle.std.specs.Prelude.{◌≡◌, IfOk, OnOk, false, true};
-ghost use Rattle.mls_layout.specs.Grids.{Appends, IsBlock};
+ghost use Rattle.mls_layout.specs.Grids.{AppendsCover, IsBlock};
 ghost use Rattle.mls_layout.specs.Uses.{flat_plane};
 ghost use Rattle.mls_layout.specs.Workspaces.{FitsWorkspace};
 ghost use Rattle.mls_library.specs.Libraries.{IsHome};
@@ -38,7 +38,7 @@ pub fn push_flat(
     requires plane { HasPlane workspace.old.pool plane.old }
     requires plane_fits { FitsWorkspace workspace.old.pool plane.old }
     requires cells { IsHome workspace.old.pool uses.now.library.now }
-    ensures appended { OnOk result (Appends zone (flat_plane workspace.old.pool uses.now number plane.old)
+    ensures appended { OnOk result (AppendsCover zone (flat_plane workspace.old.pool uses.now number plane.old)
         out.old.items out.new.items) }
     ensures owner { plane.new ≡ plane.old }
     ensures pool { workspace.new.pool ≡ workspace.old.pool }
@@ -73,7 +73,7 @@ fn push_block(
     requires plane { HasPlane workspace.old.pool plane.old }
     requires plane_fits { FitsWorkspace workspace.old.pool plane.old }
     requires cells { IsHome workspace.old.pool uses.now.library.now }
-    ensures appended { OnOk result (Appends block (flat_plane workspace.old.pool uses.now number plane.old)
+    ensures appended { OnOk result (AppendsCover block (flat_plane workspace.old.pool uses.now number plane.old)
         out.old.items out.new.items) }
     ensures owner { plane.new ≡ plane.old }
     ensures pool { workspace.new.pool ≡ workspace.old.pool }
@@ -99,7 +99,7 @@ fn push_swept(
     requires plane_fits { FitsWorkspace workspace.old.pool plane.old }
     requires cells { IsHome workspace.old.pool uses.now.library.now }
     ensures appended { IfOk result (λ done. done ≡ true
-        → Appends rect (flat_plane workspace.old.pool uses.now number plane.old) out.old.items out.new.items) }
+        → AppendsCover rect (flat_plane workspace.old.pool uses.now number plane.old) out.old.items out.new.items) }
     ensures none { IfOk result (λ done. done ≡ false → out.new.items ≡ out.old.items) }
     ensures owner { plane.new ≡ plane.old }
     ensures pool { workspace.new.pool ≡ workspace.old.pool }

@@ -1,7 +1,7 @@
 //! Rows of the squares of a grid.
 ghost use Rattle.std.specs.Prelude.{◌≡◌, ◌↔◌, ◌+◌, ◌-◌, ◌<◌, ◌≤◌, ◌&&◌, ℕ, nat_le, nat_lt, true, if◌then◌else◌, EachIndex, IsTrue, length, slice_index};
 ghost use Rattle.mls_geom.specs.Rects.{IsRectangleIn, holds};
-ghost use Rattle.mls_layout.specs.Grids.{IsBlock, grid_kind, grid_size, place_in};
+ghost use Rattle.mls_layout.specs.Grids.{IsBlock, grid_kind, grid_size, place_in_block};
 
 use mls_geom::Area;
 use mls_kinds::Kind;
@@ -13,7 +13,7 @@ pub(crate) const STRIDE: usize = 512;
 pub(crate) fn place_of(block: &Area, column: u32, row: u32) -> usize
     requires block { IsBlock block.now }
     requires inside { holds block.now column row ≡ true }
-    ensures value { result ≡ place_in block.now column row }
+    ensures value { result ≡ place_in_block block.now column row }
     ensures room { result + (block.now.right - column) ≤ grid_size }
 {
     (row - block.bottom) as usize * STRIDE + (column - block.left) as usize

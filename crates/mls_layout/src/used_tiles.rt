@@ -5,7 +5,7 @@ ghost use Rattle.mls_geom.specs.Pictures.{Picture};
 ghost use Rattle.mls_geom.specs.Rects.{IsRectangleIn, holds};
 ghost use Rattle.mls_geom.specs.World.{world};
 ghost use Rattle.mls_layout.specs.Inner.{FindsUse, ShowMoved, later_uses};
-ghost use Rattle.mls_layout.specs.Moves.{IsPartOf, moved, moves_into};
+ghost use Rattle.mls_layout.specs.Moves.{IsPartOf, moved_picture, moves_into};
 ghost use Rattle.mls_layout.specs.Uses.{over};
 ghost use Rattle.mls_library.specs.Libraries.{IsFrozen, IsHome};
 ghost use Rattle.mls_paint.specs.Planes.{picture_in};
@@ -65,7 +65,7 @@ fn find_moved(plane: &Plane, cell_use: &CellUse, rect: Rect, workspace: &mut Wor
     ensures found { result ≡ true → ShowMoved (picture_in workspace.old.pool plane.now)
         cell_use.now.dx cell_use.now.dy rect workspace.new.scratch.tiles }
     ensures nowhere { result ≡ false → (x y : ℕ) → holds rect x y ≡ true
-        → moved (picture_in workspace.old.pool plane.now) cell_use.now.dx cell_use.now.dy x y ≡ 0 }
+        → moved_picture (picture_in workspace.old.pool plane.now) cell_use.now.dx cell_use.now.dy x y ≡ 0 }
     ensures pool { workspace.new.pool ≡ workspace.old.pool }
     ensures pieces { workspace.new.pieces ≡ workspace.old.pieces }
     ensures grid { workspace.new.grid ≡ workspace.old.grid }

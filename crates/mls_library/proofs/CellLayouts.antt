@@ -6,7 +6,7 @@ use Rattle.mls_geom.specs.Layouts.{Layout}
 use Rattle.mls_geom.specs.Pictures.{empty_picture, picture_of}
 use Rattle.mls_tilepool.specs.Pools.{Pool}
 use Rattle.mls_paint.specs.Planes.{layout_in, picture_in}
-use Rattle.mls_library.specs.CellFiles.{layout_of, pieces_on}
+use Rattle.mls_library.specs.CellFiles.{layout_of_rects, pieces_on}
 use Rattle.mls_library.specs.declared.cell_rect.CellRect.{CellRect}
 
 -- planes that show those of a layout, beyond which it is space
@@ -30,6 +30,6 @@ pieces_on-beyond planes plane (rect ∷ rects) known past =
 
 pub layout_in-rects :
     (pool : Pool) (owners : List ℕ) (rects : List CellRect) → All (λ painted. painted.plane < length owners) rects
-    → ((k d : ℕ) → k < length owners → picture_in pool (get_or owners k d) ≡ layout_of rects k) → layout_in pool owners ≡ layout_of rects
+    → ((k d : ℕ) → k < length owners → picture_in pool (get_or owners k d) ≡ layout_of_rects rects k) → layout_in pool owners ≡ layout_of_rects rects
 layout_in-rects pool owners rects known each =
-    fun_ext (layout_in-at pool owners (layout_of rects) each (λ k past. ap picture_of (pieces_on-beyond (length owners) k rects known past)))
+    fun_ext (layout_in-at pool owners (layout_of_rects rects) each (λ k past. ap picture_of (pieces_on-beyond (length owners) k rects known past)))

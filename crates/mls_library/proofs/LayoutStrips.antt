@@ -8,7 +8,7 @@ use Rattle.std.proofs.lemmas.List.Elements.{All-push}
 use Rattle.mls_geom.specs.TileCounts.{tile_count}
 use Rattle.mls_geom.specs.World.{world}
 use Rattle.mls_geom.specs.declared.piece.Piece.{Piece}
-use Rattle.mls_library.specs.CellFiles.{layout_of}
+use Rattle.mls_library.specs.CellFiles.{layout_of_rects}
 use Rattle.mls_library.specs.Faults.{UnlessMemory}
 use Rattle.mls_library.specs.Inner.{AreLayoutStrips, ArePlaneStrips, IsFrozenList}
 use Rattle.mls_library.specs.Libraries.{tile_counts}
@@ -19,7 +19,7 @@ use Rattle.mls_library.proofs.Ranges.{range-push}
 
 module _ (most : ℕ) (rects : List CellRect) where
   abbrev count_at : ℕ → ℕ
-  count_at plane = tile_count world (layout_of rects plane)
+  count_at plane = tile_count world (layout_of_rects rects plane)
 
   tile_counts-push : (n : ℕ) → tile_counts (suc n) rects ≡ tile_counts n rects ++ count_at n ∷ []
   tile_counts-push n =
@@ -32,7 +32,7 @@ module _ (most : ℕ) (rects : List CellRect) where
 
     -- one plane more
     pub AreLayoutStrips-push :
-        AreLayoutStrips most rects lists → ArePlaneStrips (layout_of rects (length lists)) list → length list ≤ most → length list ≡ count_at (length lists)
+        AreLayoutStrips most rects lists → ArePlaneStrips (layout_of_rects rects (length lists)) list → length list ≤ most → length list ≡ count_at (length lists)
         → AreLayoutStrips most rects (lists ++ list ∷ [])
     AreLayoutStrips-push before strips few count = record {
       each = each;
@@ -42,14 +42,14 @@ module _ (most : ℕ) (rects : List CellRect) where
           ∙ sym (tile_counts-push (length lists)) ∙ ap (λ n. tile_counts n rects) (sym longer);
     }
       where
-        each : (plane : ℕ) (d : List Piece) → plane < length (lists ++ list ∷ []) → ArePlaneStrips (layout_of rects plane) (get_or (lists ++ list ∷ []) plane d)
+        each : (plane : ℕ) (d : List Piece) → plane < length (lists ++ list ∷ []) → ArePlaneStrips (layout_of_rects rects plane) (get_or (lists ++ list ∷ []) plane d)
         each plane d within = elim (cases_eq plane (length lists)) [
           | inl same ↦
-              subst (ArePlaneStrips (layout_of rects plane)) (sym (get_or_push lists list d plane (sym same)))
-              (subst (λ p. ArePlaneStrips (layout_of rects p) list) (sym same) strips)
+              subst (ArePlaneStrips (layout_of_rects rects plane)) (sym (get_or_push lists list d plane (sym same)))
+              (subst (λ p. ArePlaneStrips (layout_of_rects rects p) list) (sym same) strips)
           | inr differ ↦
               let before_it : plane < length lists = omega (arith, within, longer, differ) in
-              subst (ArePlaneStrips (layout_of rects plane)) (sym (get_or_append_left lists (list ∷ []) d plane before_it)) (before.each plane d before_it)
+              subst (ArePlaneStrips (layout_of_rects rects plane)) (sym (get_or_append_left lists (list ∷ []) d plane before_it)) (before.each plane d before_it)
         ]
 
 -- a plane that has too many tiles is found
@@ -66,11 +66,11 @@ any-in_range f p a (suc n) (suc k) within e =
     or-true (p (f a)) (list_any p (map f (range_with_len (a + 1) n)))
     (any-in_range f p (a + 1) n k (omega (arith, within)) (subst (λ x. p (f x) ≡ true) (omega arith) e))
 
-pub tile_counts-any : (most : ℕ) (rects : List CellRect) (planes plane : ℕ) → plane < planes → most < tile_count world (layout_of rects plane)
+pub tile_counts-any : (most : ℕ) (rects : List CellRect) (planes plane : ℕ) → plane < planes → most < tile_count world (layout_of_rects rects plane)
     → list_any (λ count. nat_lt most count) (tile_counts planes rects) ≡ true
 tile_counts-any most rects planes plane within many =
-    any-in_range (λ p. tile_count world (layout_of rects p)) (λ count. nat_lt most count) 0 planes plane within
-    (lt-ltb most _ (subst (λ p. most < tile_count world (layout_of rects p)) (omega arith) many))
+    any-in_range (λ p. tile_count world (layout_of_rects rects p)) (λ count. nat_lt most count) 0 planes plane within
+    (lt-ltb most _ (subst (λ p. most < tile_count world (layout_of_rects rects p)) (omega arith) many))
 
 -- and is the fault of the cell
 pub too_many : {A P : Type 0} (result : Result A CellFault) → IsErrAnd result (λ fault. fault ≡ record { line = 0; kind = TooManyTiles }) → P

@@ -14,7 +14,7 @@ use Rattle.mls_tech.specs.Readings.{HasNames, Tech}
 use Rattle.mls_text.specs.Lines.{IsUnbroken}
 use Rattle.mls_library.specs.CellFiles.{line_meaning, plain_line, section_named, skipped_line}
 use Rattle.mls_library.specs.MarkedCells.{dirty_lines, mark_lines, marked, marked_text, rect_lines, rects_section}
-use Rattle.mls_library.specs.SavedCells.{HoldsOwnTypes, ReadsAs, of_kind, rect_words, section_lines, section_words, spaced, strip_lines, strips_on, types_of}
+use Rattle.mls_library.specs.SavedCells.{HoldsOwnTypes, ReadsAs, of_kind, rect_words, section_lines, section_words, spaced, strip_lines, strips_on, type_numbers}
 use Rattle.mls_library.specs.declared.cell_rect.CellRect.{CellRect}
 use Rattle.mls_library.specs.declared.meaning.Meaning.TheVariants.{Nothing, Enters}
 use Rattle.mls_library.specs.declared.place.Place.TheVariants.{Skipped}
@@ -106,7 +106,7 @@ module _ (tech : Tech) (areas : List Rect) (legal : All (IsRectangleIn world) ar
   pub marked-reads-back : (layout : Layout) → HasNames tech.types tech.type_planes → IfSome tech.name IsUnbroken → HoldsOwnTypes tech layout
       → ReadsAs tech (marked_text tech layout areas marks) layout
   marked-reads-back layout names unbroken own =
-      let rects = layers_rects tech (strips_on layout) (types_of tech) in
+      let rects = layers_rects tech (strips_on layout) (type_numbers tech) in
       let legal_layers = λ (plane : ℕ). legal_strips (layout plane) in
       let named = named_types tech names in (
         rects,

@@ -16,8 +16,8 @@ use Rattle.mls_geom.proofs.Overlays.{Agrees, overlaid_agreed, overlaid_stays}
 use Rattle.mls_geom.proofs.Squares.{Contains-range_with_len, range_with_len-Contains}
 use Rattle.mls_geom.proofs.StripPictures.{kind-IsStrip}
 use Rattle.mls_tech.specs.Readings.{Tech, plane_of_type}
-use Rattle.mls_library.specs.CellFiles.{layout_of, pieces_on}
-use Rattle.mls_library.specs.SavedCells.{HoldsOwnTypes, of_kind, types_of}
+use Rattle.mls_library.specs.CellFiles.{layout_of_rects, pieces_on}
+use Rattle.mls_library.specs.SavedCells.{HoldsOwnTypes, of_kind, type_numbers}
 use Rattle.mls_library.specs.declared.cell_rect.CellRect.{CellRect}
 use Rattle.mls_library.proofs.SavedReading.{layer_rects, layers_rects, on_plane}
 
@@ -87,17 +87,17 @@ type_within type_planes (suc kind) plane place =
     let within = slice_get_within type_planes (suc kind - 1) plane found in
     (omega arith, omega (arith, within))
 
-Contains-types_of : (tech : Tech) (kind plane : ℕ) → plane_of_type tech.type_planes kind ≡ Some plane → Contains (types_of tech) kind
-Contains-types_of tech kind plane place =
+Contains-type_numbers : (tech : Tech) (kind plane : ℕ) → plane_of_type tech.type_planes kind ≡ Some plane → Contains (type_numbers tech) kind
+Contains-type_numbers tech kind plane place =
     let within = type_within tech.type_planes kind plane place in
     let count : 1 + length tech.type_planes - 1 ≡ length tech.type_planes = omega arith in
     subst (λ n. Contains (range_with_len 1 n) kind) count (Contains-range_with_len 1 (1 + length tech.type_planes) kind within.0 (omega (arith, within.1)))
 
-pub types_of-within : (tech : Tech) → All (λ kind. (1 ≤ kind) × (kind ≤ length tech.type_planes)) (types_of tech)
-types_of-within tech k d within =
+pub type_numbers-within : (tech : Tech) → All (λ kind. (1 ≤ kind) × (kind ≤ length tech.type_planes)) (type_numbers tech)
+type_numbers-within tech k d within =
     let count : length tech.type_planes ≡ 1 + length tech.type_planes - 1 = omega arith in
-    let kind = get_or (types_of tech) k d in
-    let inside = range_with_len-Contains 1 (1 + length tech.type_planes) kind (subst (λ n. Contains (range_with_len 1 n) kind) count (Contains-get_or (types_of tech) k d within)) in
+    let kind = get_or (type_numbers tech) k d in
+    let inside = range_with_len-Contains 1 (1 + length tech.type_planes) kind (subst (λ n. Contains (range_with_len 1 n) kind) count (Contains-get_or (type_numbers tech) k d within)) in
     (inside.0, omega (arith, inside.1))
 
 -- ---- what the rectangles show
@@ -111,10 +111,10 @@ module _ (tech : Tech) (layout : Layout) (strips : ℕ → List Piece) (are : (p
       All-map IsLaidOut (on_plane plane) (of_kind kind (strips plane)) (All-filter (λ strip. strip.kind == kind) (IsStrip world (layout plane)) (strips plane) (are plane).each)
 
   abbrev rects : List CellRect
-  rects = layers_rects tech strips (types_of tech)
+  rects = layers_rects tech strips (type_numbers tech)
 
   laid_out : All IsLaidOut rects
-  laid_out = All-flat_map IsLaidOut (λ kind. layer_rects strips kind (plane_of_type tech.type_planes kind)) (types_of tech) (λ kind. laid_out_layer kind (plane_of_type tech.type_planes kind))
+  laid_out = All-flat_map IsLaidOut (λ kind. layer_rects strips kind (plane_of_type tech.type_planes kind)) (type_numbers tech) (λ kind. laid_out_layer kind (plane_of_type tech.type_planes kind))
 
   module _ (plane x y : ℕ) where
     abbrev kind : ℕ
@@ -142,7 +142,7 @@ module _ (tech : Tech) (layout : Layout) (strips : ℕ → List Piece) (are : (p
         let place = own.own plane x y solid in
         let Q = λ (painted : CellRect). ((painted.plane == plane) ≡ true) × (holds painted.piece.rect x y ≡ true) in
         Any-pieces_on (λ piece. holds piece.rect x y ≡ true) plane rects
-        (Any-flat_map Q (λ k. layer_rects strips k (plane_of_type tech.type_planes k)) (types_of tech) kind (Contains-types_of tech kind plane place)
+        (Any-flat_map Q (λ k. layer_rects strips k (plane_of_type tech.type_planes k)) (type_numbers tech) kind (Contains-type_numbers tech kind plane place)
         (subst (λ p. Any Q (layer_rects strips kind p)) (sym place) (found_layer inside)))
 
     shown : HoldsOwnTypes tech layout → picture_of (pieces_on plane rects) x y ≡ kind
@@ -152,5 +152,5 @@ module _ (tech : Tech) (layout : Layout) (strips : ℕ → List Piece) (are : (p
         (cases_eq kind 0)
 
   -- the rectangles of a layout's strips show it
-  pub layout_of-layers_rects : HoldsOwnTypes tech layout → layout_of rects ≡ layout
+  pub layout_of-layers_rects : HoldsOwnTypes tech layout → layout_of_rects rects ≡ layout
   layout_of-layers_rects own = fun_ext (λ plane. fun_ext (λ x. fun_ext (λ y. shown plane x y own)))

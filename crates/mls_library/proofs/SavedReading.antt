@@ -12,7 +12,7 @@ use Rattle.mls_tech.specs.Readings.{Tech, plane_of_type}
 use Rattle.mls_text.specs.Lines.{IsUnbroken, raw_lines, without_return}
 use Rattle.mls_text.specs.Words.{words_of}
 use Rattle.mls_library.specs.CellFiles.{◌>>=◌, first_line, header_line, is_start, layer_line, line_meaning, painted_by, plain_line, read_lines, reading_of, rect_between, rect_line, section_line, section_named}
-use Rattle.mls_library.specs.SavedCells.{coordinate_text, end_lines, file_lines, first_name, header_lines, layer_lines, layers_lines, of_kind, rect_words, section_lines, section_words, spaced, strip_lines, text_of, types_of}
+use Rattle.mls_library.specs.SavedCells.{coordinate_text, end_lines, file_lines, first_name, header_lines, layer_lines, layers_lines, of_kind, rect_words, section_lines, section_words, spaced, strip_lines, text_of, type_numbers}
 use Rattle.mls_library.specs.declared.cell_rect.CellRect.{CellRect}
 use Rattle.mls_library.specs.declared.fault.CellFaultKind.{CellFaultKind}
 use Rattle.mls_library.specs.declared.fault.CellFaultKind.TheVariants.{Form}
@@ -294,19 +294,19 @@ module _ (tech : Tech) (unbroken : IfSome tech.name IsUnbroken) (lines : List (L
       [] 0
 
 -- the sections of all types, and the file's last line
-module _ (tech : Tech) (strips : ℕ → List Piece) (legal : (plane : ℕ) → All (λ strip. IsRectangleIn world strip.rect) (strips plane)) (named : All (IsNamed tech) (types_of tech)) where
+module _ (tech : Tech) (strips : ℕ → List Piece) (legal : (plane : ℕ) → All (λ strip. IsRectangleIn world strip.rect) (strips plane)) (named : All (IsNamed tech) (type_numbers tech)) where
   abbrev pub layers_to_end : List (List ℕ)
-  layers_to_end = layers_lines tech strips (types_of tech) ++ end_lines
+  layers_to_end = layers_lines tech strips (type_numbers tech) ++ end_lines
 
   pub IsKept-layers_to_end : All IsKept layers_to_end
-  IsKept-layers_to_end = All-append IsKept (layers_lines tech strips (types_of tech)) end_lines (IsKept-layers tech strips legal (types_of tech) named) IsKept-end_lines
+  IsKept-layers_to_end = All-append IsKept (layers_lines tech strips (type_numbers tech)) end_lines (IsKept-layers tech strips legal (type_numbers tech) named) IsKept-end_lines
 
-  pub Reads-layers_to_end : ReadsLater tech layers_to_end (layers_rects tech strips (types_of tech))
+  pub Reads-layers_to_end : ReadsLater tech layers_to_end (layers_rects tech strips (type_numbers tech))
   Reads-layers_to_end =
-      subst (ReadsLater tech layers_to_end) (append-nil (layers_rects tech strips (types_of tech)))
-      (Reads-layers tech strips legal (types_of tech) named end_lines [] (Reads-end tech))
+      subst (ReadsLater tech layers_to_end) (append-nil (layers_rects tech strips (type_numbers tech)))
+      (Reads-layers tech strips legal (type_numbers tech) named end_lines [] (Reads-end tech))
 
   -- the text is read as the rectangles of its types, in order
-  pub reading_of-file_lines : IfSome tech.name IsUnbroken → reading_of tech (text_of (file_lines tech strips)) ≡ Ok (layers_rects tech strips (types_of tech))
+  pub reading_of-file_lines : IfSome tech.name IsUnbroken → reading_of tech (text_of (file_lines tech strips)) ≡ Ok (layers_rects tech strips (type_numbers tech))
   reading_of-file_lines unbroken =
-      reading_of-after_header tech unbroken layers_to_end IsKept-layers_to_end (layers_rects tech strips (types_of tech)) Reads-layers_to_end
+      reading_of-after_header tech unbroken layers_to_end IsKept-layers_to_end (layers_rects tech strips (type_numbers tech)) Reads-layers_to_end

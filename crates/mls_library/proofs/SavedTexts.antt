@@ -15,7 +15,7 @@ use Rattle.mls_geom.specs.Rects.{Rect, IsRectangleIn}
 use Rattle.mls_geom.specs.World.{origin, world}
 use Rattle.mls_geom.specs.declared.piece.Piece.{Piece}
 use Rattle.mls_tech.specs.Readings.{Tech, plane_of_type}
-use Rattle.mls_library.specs.SavedCells.{Extends, coordinate_text, end_lines, layer_lines, layers_lines, of_kind, rect_words, section_lines, section_words, spaced, strip_lines, text_of, types_of}
+use Rattle.mls_library.specs.SavedCells.{Extends, coordinate_text, end_lines, layer_lines, layers_lines, of_kind, rect_words, section_lines, section_words, spaced, strip_lines, text_of, type_numbers}
 use Rattle.mls_library.proofs.Ranges.{range-push}
 use Rattle.mls_library.proofs.SavedNumbers.{short_line, user_line}
 
@@ -190,7 +190,7 @@ lines_up_to front tech strips types = front ++ layers_lines tech strips (range_w
 
 -- lines, and after them the sections of all types and the file's last line
 abbrev pub lines_with_layers : List (List ℕ) → Tech → (ℕ → List Piece) → List (List ℕ)
-lines_with_layers front tech strips = front ++ (layers_lines tech strips (types_of tech) ++ end_lines)
+lines_with_layers front tech strips = front ++ (layers_lines tech strips (type_numbers tech) ++ end_lines)
 
 module _ (tech : Tech) (strips : ℕ → List Piece) where
   abbrev pub type_lines : ℕ → List (List ℕ)
@@ -230,7 +230,7 @@ module _ (front : List (List ℕ)) (tech : Tech) (strips : ℕ → List Piece) w
 
   -- all types
   pub lines_up_to-all : up_to (length tech.type_planes) ++ end_lines ≡ lines_with_layers front tech strips
-  lines_up_to-all = append_assoc front (layers_lines tech strips (types_of tech)) end_lines
+  lines_up_to-all = append_assoc front (layers_lines tech strips (type_numbers tech)) end_lines
 
   -- ---- for a loop over the types that appends to a text and counts its lines
   pub text_up_to-more : (base old new : List ℕ) (types plane : ℕ) (list : List Piece) → plane_of_type tech.type_planes (types + 1) ≡ Some plane → list ≡ strips plane

@@ -166,5 +166,5 @@ abbrev pub pieces_on : ℕ → List CellRect → List Piece
 pieces_on plane rects = map (λ painted. painted.piece) (filter (λ painted. painted.plane == plane) rects)
 
 -- a later rectangle wins
-abbrev pub layout_of : List CellRect → Layout
-layout_of rects plane = picture_of (pieces_on plane rects)
+abbrev pub layout_of_rects : List CellRect → Layout
+layout_of_rects rects plane = picture_of (pieces_on plane rects)

@@ -9,7 +9,7 @@ use Rattle.mls_text.specs.Digits.{value_at_most}
 use Rattle.mls_tilepool.specs.Pools.{Pool}
 use Rattle.mls_paint.specs.Owners.{AddsOwners}
 use Rattle.mls_paint.specs.Planes.{picture_in}
-use Rattle.mls_library.specs.CellFiles.{or_fault, layout_of}
+use Rattle.mls_library.specs.CellFiles.{or_fault, layout_of_rects}
 use Rattle.mls_library.specs.Libraries.{Cell, IsFrozen, NamedCell, most_tiles, tile_counts, total}
 use Rattle.mls_library.specs.declared.cell_rect.CellRect.{CellRect}
 use Rattle.mls_library.specs.declared.fault.CellFaultKind.{CellFaultKind}
@@ -57,7 +57,7 @@ pub record ArePlaneStrips (picture : Picture) (list : List Piece) : Type 0 where
 
 -- for each of the first planes of a layout a list of its strips, no more than `most`
 pub record AreLayoutStrips (most : ℕ) (rects : List CellRect) (lists : List (List Piece)) : Type 0 where
-  pub each : (plane : ℕ) (d : List Piece) → plane < length lists → ArePlaneStrips (layout_of rects plane) (slice_index_or lists plane d)
+  pub each : (plane : ℕ) (d : List Piece) → plane < length lists → ArePlaneStrips (layout_of_rects rects plane) (slice_index_or lists plane d)
   pub few : All (λ list. length list ≤ most) lists
   pub counts : map (λ list. length list) lists ≡ tile_counts (length lists) rects
 

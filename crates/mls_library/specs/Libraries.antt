@@ -12,7 +12,7 @@ use Rattle.mls_tilepool.specs.Pools.{Pool, room_of, unreserved}
 use Rattle.mls_paint.specs.Owners.{AddsOwners}
 use Rattle.mls_paint.specs.Planes.{HasStrips, layout_in, picture_in}
 use Rattle.mls_library.specs.Bounds.{painted_bounds}
-use Rattle.mls_library.specs.CellFiles.{layout_of, reading_of}
+use Rattle.mls_library.specs.CellFiles.{layout_of_rects, reading_of}
 use Rattle.mls_library.specs.Faults.{UnlessMemory}
 use Rattle.mls_library.specs.declared.cell_rect.CellRect.{CellRect}
 use Rattle.mls_library.specs.declared.fault.CellFault.{CellFault}
@@ -112,7 +112,7 @@ name_fault names name =
 
 -- how many tiles each plane has
 abbrev pub tile_counts : ℕ → List CellRect → List ℕ
-tile_counts planes rects = map (λ plane. tile_count world (layout_of rects plane)) (range_with_len 0 planes)
+tile_counts planes rects = map (λ plane. tile_count world (layout_of_rects rects plane)) (range_with_len 0 planes)
 
 abbrev pub total : List ℕ → ℕ
 total counts = sum_by (λ count. count) counts
@@ -151,7 +151,7 @@ pub record AddsCell (tech : Tech) (before after : Pool) (cells more : Library) (
   pub number : id ≡ length cells
   pub added : more ≡ cells ++ cell ∷ []
   pub planes : length cell.planes ≡ tech.plane_count
-  pub shows : cell_layout after cell ≡ layout_of rects
+  pub shows : cell_layout after cell ≡ layout_of_rects rects
   pub reserves : AddsOwners before after cell.planes (total (tile_counts tech.plane_count rects))
 
 -- loading gives the cell that the definition reads, or its fault, unless memory ran out

@@ -9,7 +9,7 @@ use Rattle.mls_geom.specs.StripLists.{strips_of}
 use Rattle.mls_geom.specs.World.{world}
 use Rattle.mls_geom.specs.declared.piece.Piece.{Piece}
 use Rattle.mls_tech.specs.Readings.{Tech}
-use Rattle.mls_library.specs.SavedCells.{end_lines, header_lines, layers_lines, of_kind, rect_words, section_lines, section_words, spaced, strips_on, text_of, types_of}
+use Rattle.mls_library.specs.SavedCells.{end_lines, header_lines, layers_lines, of_kind, rect_words, section_lines, section_words, spaced, strips_on, text_of, type_numbers}
 
 -- ---- the two sections
 abbrev pub rect_lines : List Rect → List (List ℕ)
@@ -39,7 +39,7 @@ lines_before_layers tech areas marks = header_lines tech ++ (dirty_lines areas +
 
 -- the file, where the planes and the marks have these strips
 abbrev pub marked_file_lines : Tech → (ℕ → List Piece) → List Rect → List Piece → List (List ℕ)
-marked_file_lines tech strips areas marks = lines_before_layers tech areas marks ++ (layers_lines tech strips (types_of tech) ++ end_lines)
+marked_file_lines tech strips areas marks = lines_before_layers tech areas marks ++ (layers_lines tech strips (type_numbers tech) ++ end_lines)
 
 abbrev pub marked_lines : Tech → Layout → List Rect → Picture → List (List ℕ)
 marked_lines tech layout areas marks = marked_file_lines tech (strips_on layout) areas (strips_of world marks)

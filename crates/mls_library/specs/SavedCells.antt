@@ -10,7 +10,7 @@ use Rattle.mls_geom.specs.StripLists.{strips_of}
 use Rattle.mls_geom.specs.World.{origin, world}
 use Rattle.mls_geom.specs.declared.piece.Piece.{Piece}
 use Rattle.mls_tech.specs.Readings.{Tech, name_of, plane_of_type}
-use Rattle.mls_library.specs.CellFiles.{layout_of, reading_of}
+use Rattle.mls_library.specs.CellFiles.{layout_of_rects, reading_of}
 use Rattle.mls_library.specs.declared.cell_rect.CellRect.{CellRect}
 
 -- ---- lines
@@ -57,8 +57,8 @@ abbrev pub end_lines : List (List ℕ)
 end_lines = spaced (section_words (codes "end")) ∷ []
 
 -- the types other than space, in order
-abbrev pub types_of : Tech → List ℕ
-types_of tech = range_with_len 1 (length tech.type_planes)
+abbrev pub type_numbers : Tech → List ℕ
+type_numbers tech = range_with_len 1 (length tech.type_planes)
 
 -- the sections of types, where the planes have these strips
 unfoldable pub layers_lines : Tech → (ℕ → List Piece) → List ℕ → List (List ℕ)
@@ -66,7 +66,7 @@ layers_lines tech strips kinds = flat_map (λ kind. layer_lines tech kind (optio
 
 -- the file, where the planes have these strips
 abbrev pub file_lines : Tech → (ℕ → List Piece) → List (List ℕ)
-file_lines tech strips = header_lines tech ++ (layers_lines tech strips (types_of tech) ++ end_lines)
+file_lines tech strips = header_lines tech ++ (layers_lines tech strips (type_numbers tech) ++ end_lines)
 
 abbrev pub strips_on : Layout → ℕ → List Piece
 strips_on layout plane = strips_of world (layout plane)
@@ -92,7 +92,7 @@ pub record HoldsOwnTypes (tech : Tech) (layout : Layout) : Type 0 where
 
 -- the text reads as rectangles that show the layout
 abbrev pub ReadsAs : Tech → List ℕ → Layout → Type 0
-ReadsAs tech text layout = (rects : List CellRect) × (reading_of tech text ≡ Ok rects) × (layout_of rects ≡ layout)
+ReadsAs tech text layout = (rects : List CellRect) × (reading_of tech text ≡ Ok rects) × (layout_of_rects rects ≡ layout)
 
 -- ---- writing
 -- what was there is still in front

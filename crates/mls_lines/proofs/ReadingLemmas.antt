@@ -3,10 +3,10 @@ use Rattle.std.proofs.Common.{◌≡◌, ℕ, suc, ◌+◌, ◌-◌, Option, Som
 use Rattle.std.specs.Prelude.{⊤, slice_get}
 use Rattle.std.specs.Io.KnownBytes.{prepend_known}
 use Rattle.mls_text.proofs.LineLemmas.{lines_of-fed, lines_of-last}
-use Rattle.mls_wire.specs.Lines.{read_line, script_of}
+use Rattle.mls_wire.specs.Lines.{line_if_short, script_of}
 use Rattle.mls_wire.specs.NextLines.{TakesKnownLine}
 use Rattle.mls_wire.specs.declared.reader.NextLine.TheVariants.{Line, LastLine}
-use Rattle.mls_lines.specs.Scripts.{IsLineOf}
+use Rattle.mls_lines.specs.Scripts.{IsScriptLine}
 
 -- line n is the first of those that are ahead
 abbrev pub IsReadTo : Option (List ℕ) → Option (List ℕ) → ℕ → Type 0
@@ -19,13 +19,13 @@ read_none None = tt
 read_none (Some script) = ([], refl, refl)
 
 -- the first line ahead ends with a line feed
-first_fed : (old new kept : List ℕ) → TakesKnownLine (Some old) (Some new) Line kept → script_of old ≡ read_line kept ∷ script_of new
+first_fed : (old new kept : List ℕ) → TakesKnownLine (Some old) (Some new) Line kept → script_of old ≡ line_if_short kept ∷ script_of new
 first_fed old new kept (line, unbroken, split, same) =
-    ap script_of split ∙ ap (map read_line) (lines_of-fed line new unbroken) ∙ ap (λ l. l ∷ script_of new) (sym same)
+    ap script_of split ∙ ap (map line_if_short) (lines_of-fed line new unbroken) ∙ ap (λ l. l ∷ script_of new) (sym same)
 
 -- it ends with the script
-first_last : (old new kept : List ℕ) → TakesKnownLine (Some old) (Some new) LastLine kept → script_of old ≡ read_line kept ∷ []
-first_last old new kept (unbroken, some, none, same) = ap (map read_line) (lines_of-last old unbroken some) ∙ ap (λ l. l ∷ []) (sym same)
+first_last : (old new kept : List ℕ) → TakesKnownLine (Some old) (Some new) LastLine kept → script_of old ≡ line_if_short kept ∷ []
+first_last old new kept (unbroken, some, none, same) = ap (map line_if_short) (lines_of-last old unbroken some) ∙ ap (λ l. l ∷ []) (sym same)
 
 -- the element after so many
 after_all : {X : Type 0} (before : List X) (x : X) (after : List X) (n : ℕ) → n ≡ length before + 1 → slice_get (before ++ x ∷ after) (n - 1) ≡ Some x
@@ -35,28 +35,28 @@ after_all (b ∷ before) x after n is =
     let rest : n - 1 ≡ length before + 1 = omega (arith, is) in
     ap (slice_get (b ∷ before ++ x ∷ after)) at ∙ after_all before x after (n - 1) rest
 
-pub line_next : (script old new : Option (List ℕ)) (n : ℕ) (kept : List ℕ) → IsReadTo script old n → TakesKnownLine old new Line kept → IsLineOf script n (read_line kept)
+pub line_next : (script old new : Option (List ℕ)) (n : ℕ) (kept : List ℕ) → IsReadTo script old n → TakesKnownLine old new Line kept → IsScriptLine script n (line_if_short kept)
 line_next None old new n kept to takes = refl
 line_next (Some script) None new n kept to takes = absurd to
 line_next (Some script) (Some old) None n kept to takes = absurd takes
 line_next (Some script) (Some old) (Some new) n kept (before, at, split) takes =
-    let lines : script_of script ≡ before ++ read_line kept ∷ script_of new = split ∙ ap (λ l. before ++ l) (first_fed old new kept takes) in
-    ap Some (ap (λ l. slice_get l (n - 1)) lines ∙ after_all before (read_line kept) (script_of new) n at)
+    let lines : script_of script ≡ before ++ line_if_short kept ∷ script_of new = split ∙ ap (λ l. before ++ l) (first_fed old new kept takes) in
+    ap Some (ap (λ l. slice_get l (n - 1)) lines ∙ after_all before (line_if_short kept) (script_of new) n at)
 
-pub line_last : (script old new : Option (List ℕ)) (n : ℕ) (kept : List ℕ) → IsReadTo script old n → TakesKnownLine old new LastLine kept → IsLineOf script n (read_line kept)
+pub line_last : (script old new : Option (List ℕ)) (n : ℕ) (kept : List ℕ) → IsReadTo script old n → TakesKnownLine old new LastLine kept → IsScriptLine script n (line_if_short kept)
 line_last None old new n kept to takes = refl
 line_last (Some script) None new n kept to takes = absurd to
 line_last (Some script) (Some old) None n kept to takes = absurd takes
 line_last (Some script) (Some old) (Some new) n kept (before, at, split) takes =
-    let lines : script_of script ≡ before ++ read_line kept ∷ [] = split ∙ ap (λ l. before ++ l) (first_last old new kept takes) in
-    ap Some (ap (λ l. slice_get l (n - 1)) lines ∙ after_all before (read_line kept) [] n at)
+    let lines : script_of script ≡ before ++ line_if_short kept ∷ [] = split ∙ ap (λ l. before ++ l) (first_last old new kept takes) in
+    ap Some (ap (λ l. slice_get l (n - 1)) lines ∙ after_all before (line_if_short kept) [] n at)
 
 pub read_next : (script old new : Option (List ℕ)) (n : ℕ) (kept : List ℕ) → IsReadTo script old n → TakesKnownLine old new Line kept → IsReadTo script new (n + 1)
 read_next None old new n kept to takes = tt
 read_next (Some script) None new n kept to takes = absurd to
 read_next (Some script) (Some old) None n kept to takes = absurd takes
 read_next (Some script) (Some old) (Some new) n kept (before, at, split) takes = (
-  before ++ read_line kept ∷ [],
-  omega (arith, at, length-append before (read_line kept ∷ [])),
-  split ∙ ap (λ l. before ++ l) (first_fed old new kept takes) ∙ sym (append_assoc before (read_line kept ∷ []) (script_of new)),
+  before ++ line_if_short kept ∷ [],
+  omega (arith, at, length-append before (line_if_short kept ∷ [])),
+  split ∙ ap (λ l. before ++ l) (first_fed old new kept takes) ∙ sym (append_assoc before (line_if_short kept ∷ []) (script_of new)),
 )

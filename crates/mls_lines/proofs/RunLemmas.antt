@@ -3,40 +3,40 @@ use Rattle.std.proofs.Common.{◌≡◌, ◌<◌, ℕ, Bool, Option, Some, None,
 use Rattle.std.proofs.Math.Logic.{∥∥₁_elim}
 use Rattle.mls_session.specs.OwnSteps.{Terms}
 use Rattle.mls_wire.specs.NameBooks.{Names}
-use Rattle.mls_lines.specs.Answers.{AnswersLine, Held, name_held}
+use Rattle.mls_lines.specs.Answers.{AnswersLine, OpenSeat, name_held}
 use Rattle.mls_lines.specs.Beside.{says_beside}
-use Rattle.mls_lines.specs.Scripts.{Answered, AnswersLines, HasAnswered, IsLineOf, IsReply}
+use Rattle.mls_lines.specs.Scripts.{Answered, AnswersLines, HasAnswered, IsScriptLine, IsReply}
 
 module _ (terms : Terms) (book : Names) (script : Option (List ℕ)) where
   -- the line leads from this session to that one
-  abbrev Answers : Option Held → Answered → Type 0
+  abbrev Answers : Option OpenSeat → Answered → Type 0
   Answers before one = AnswersLine terms book one.n (says_beside book (name_held before) one.line) before one.text one.audited one.after
 
-  answers_more : (from : ℕ) (before : Option Held) (run : List Answered) (to : ℕ) (mid : Option Held) (last : Answered)
-      → AnswersLines terms book script from before run to mid → to < last.n → IsLineOf script last.n last.line → Answers mid last
+  answers_more : (from : ℕ) (before : Option OpenSeat) (run : List Answered) (to : ℕ) (mid : Option OpenSeat) (last : Answered)
+      → AnswersLines terms book script from before run to mid → to < last.n → IsScriptLine script last.n last.line → Answers mid last
       → AnswersLines terms book script from before (run ++ last ∷ []) last.n last.after
   answers_more from before [] to mid last (at, is) later stands answers =
-      (omega (arith, at, later), stands, subst (λ (held : Option Held). Answers held last) is answers, (refl, refl))
+      (omega (arith, at, later), stands, subst (λ (held : Option OpenSeat). Answers held last) is answers, (refl, refl))
   answers_more from before (one ∷ more) to mid last (later_one, stands_one, answers_one, rest) later stands answers =
       (later_one, stands_one, answers_one, answers_more one.n one.after more to mid last rest later stands answers)
 
   -- a line more was carried out
-  answered_more : (to : ℕ) (mid : Option Held) (last : Answered)
-      → ∥ HasAnswered terms book script to mid ∥₁ → to < last.n → IsLineOf script last.n last.line → Answers mid last
+  answered_more : (to : ℕ) (mid : Option OpenSeat) (last : Answered)
+      → ∥ HasAnswered terms book script to mid ∥₁ → to < last.n → IsScriptLine script last.n last.line → Answers mid last
       → ∥ HasAnswered terms book script last.n last.after ∥₁
   answered_more to mid last has later stands answers =
       ∥∥₁_elim has squash₁ (λ (run, answered). ∣ (run ++ last ∷ [], answers_more 0 None run to mid last answered later stands answers) ∣₁)
 
   -- its text is a reply
-  pub answered_last : (to : ℕ) (mid : Option Held) (last : Answered)
-      → ∥ HasAnswered terms book script to mid ∥₁ → to < last.n → IsLineOf script last.n last.line → Answers mid last
+  pub answered_last : (to : ℕ) (mid : Option OpenSeat) (last : Answered)
+      → ∥ HasAnswered terms book script to mid ∥₁ → to < last.n → IsScriptLine script last.n last.line → Answers mid last
       → ∥ IsReply terms book script last.text ∥₁
   answered_last to mid last has later stands answers =
       ∥∥₁_elim has squash₁ (λ (run, answered). ∣ (run, last, answers_more 0 None run to mid last answered later stands answers, refl) ∣₁)
 
   -- both of a line that was read as line n
-  pub answered_line : (to : ℕ) (mid : Option Held) (n : ℕ) (line : Option (List ℕ)) (text : List ℕ) (audited : Bool) (after : Option Held)
-      → ∥ HasAnswered terms book script to mid ∥₁ → to < n → IsLineOf script n line → AnswersLine terms book n (says_beside book (name_held mid) line) mid text audited after
+  pub answered_line : (to : ℕ) (mid : Option OpenSeat) (n : ℕ) (line : Option (List ℕ)) (text : List ℕ) (audited : Bool) (after : Option OpenSeat)
+      → ∥ HasAnswered terms book script to mid ∥₁ → to < n → IsScriptLine script n line → AnswersLine terms book n (says_beside book (name_held mid) line) mid text audited after
       → ∥ HasAnswered terms book script n after ∥₁ × ∥ IsReply terms book script text ∥₁
   answered_line to mid n line text audited after has later stands answers =
       let last : Answered = record { n = n; line = line; text = text; audited = audited; after = after } in
@@ -47,5 +47,5 @@ module _ (terms : Terms) (book : Names) (script : Option (List ℕ)) where
   answered_none = ∣ ([], (refl, refl)) ∣₁
 
   -- the text of a line before which none was carried out is a reply
-  pub answered_first : (last : Answered) → 0 < last.n → IsLineOf script last.n last.line → Answers None last → ∥ IsReply terms book script last.text ∥₁
+  pub answered_first : (last : Answered) → 0 < last.n → IsScriptLine script last.n last.line → Answers None last → ∥ IsReply terms book script last.text ∥₁
   answered_first last = answered_last 0 None last answered_none

@@ -24,19 +24,19 @@ use Rattle.mls_lines.specs.declared.seating.Sitting.{Sitting}
 use Rattle.mls_live.specs.declared.naming.Naming.{Ghosts}
 
 -- the session that is open: its name, and the list of its seat
-pub record Held : Type 0 where
+pub record OpenSeat : Type 0 where
   pub name : List ℕ
   pub said : List Said
 
-abbrev pub held_by : {X : Type 0} {N : Ghosts X} → Option (Sitting X N) → Option Held
-held_by sitting = option_map (λ s. let held : Held = record { name = s.name; said = list_of s.seat } in held) sitting
+abbrev pub held_by : {X : Type 0} {N : Ghosts X} → Option (Sitting X N) → Option OpenSeat
+held_by sitting = option_map (λ s. let held : OpenSeat = record { name = s.name; said = list_of s.seat } in held) sitting
 
 -- the name of the session that is open
-abbrev pub name_held : Option Held → Option (List ℕ)
+abbrev pub name_held : Option OpenSeat → Option (List ℕ)
 name_held held = option_map (λ h. h.name) held
 
 -- line n has this fault, and nothing changes
-abbrev pub IsFaulty : Names → ℕ → LineFault → Option Held → List ℕ → Option Held → Type 0
+abbrev pub IsFaulty : Names → ℕ → LineFault → Option OpenSeat → List ℕ → Option OpenSeat → Type 0
 IsFaulty book n fault held text now = (text ≡ response_text book n (Fault fault)) × (now ≡ held)
 
 -- the fault of a line where no session of its name is open
@@ -50,7 +50,7 @@ abbrev pub refused_text : Names → List ℕ → OpenFault → List ℕ
 refused_text book name fault = answer_text book name (Opened (Err fault))
 
 -- a session of this name is opened, with a new list, or is refused. It is refused where one is open
-abbrev pub OpensAt : Names → List ℕ → Option Held → List ℕ → Option Held → Type 0
+abbrev pub OpensAt : Names → List ℕ → Option OpenSeat → List ℕ → Option OpenSeat → Type 0
 OpensAt book name None text now =
     ((id : ℕ) × (text ≡ answer_text book name (Opened (Ok id))) × (now ≡ Some (record { name = name; said = [] })))
     ⊎ ((fault : OpenFault) × (text ≡ refused_text book name fault) × (now ≡ None))
@@ -58,19 +58,19 @@ OpensAt book name (Some held) text now =
     (now ≡ Some held) × MatchBool (same_word held.name name) (text ≡ refused_text book name OpenAlready) (text ≡ refused_text book name SessionsFull)
 
 -- the session is closed. Where its list was audited, it is that of a legal journal
-abbrev pub ClosesAt : Terms → Names → ℕ → List ℕ → Option Held → List ℕ → Bool → Option Held → Type 0
+abbrev pub ClosesAt : Terms → Names → ℕ → List ℕ → Option OpenSeat → List ℕ → Bool → Option OpenSeat → Type 0
 ClosesAt terms book n name None text audited now = IsFaulty book n NotOpen None text now
 ClosesAt terms book n name (Some held) text audited now =
     (text ≡ answer_text book name (Closed (Ok tt))) × (now ≡ None) × (audited ≡ true → IsLegalList terms held.said)
 
 -- the line is said at the seat
-abbrev pub SaysAt : Terms → Names → ℕ → SeatLine → Option Held → List ℕ → Option Held → Type 0
+abbrev pub SaysAt : Terms → Names → ℕ → SeatLine → Option OpenSeat → List ℕ → Option OpenSeat → Type 0
 SaysAt terms book n line None text now = IsFaulty book n NotOpen None text now
 SaysAt terms book n line (Some held) text now =
     (said : List Said) × SaysLine terms book held.name held.said line text said × (now ≡ Some (record held { said = said }))
 
 -- line n, which says this, has this text and leaves this session; where one is closed, its list was audited, or not. Check steps are no lines here
-abbrev pub AnswersLine : Terms → Names → ℕ → Result Line LineFault → Option Held → List ℕ → Bool → Option Held → Type 0
+abbrev pub AnswersLine : Terms → Names → ℕ → Result Line LineFault → Option OpenSeat → List ℕ → Bool → Option OpenSeat → Type 0
 AnswersLine terms book n (Err fault) held text audited now = IsFaulty book n fault held text now
 AnswersLine terms book n (Ok Silent) held text audited now = (text ≡ []) × (now ≡ held)
 AnswersLine terms book n (Ok (Open name)) held text audited now = OpensAt book name held text now

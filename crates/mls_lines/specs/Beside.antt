@@ -13,11 +13,11 @@ ids_beside None name = None
 ids_beside (Some held) name = if same_word held name then Some 0 else None
 
 -- the line begins with a word that stands for check steps, which the workers do here
-abbrev pub is_stepwise : List (List ℕ) → Bool
-is_stepwise [] = false
-is_stepwise (word ∷ words) = same_word word (codes "%step") || same_word word (codes "%steps")
+abbrev pub is_check_line : List (List ℕ) → Bool
+is_check_line [] = false
+is_check_line (word ∷ words) = same_word word (codes "%step") || same_word word (codes "%steps")
 
 -- what a line says then, or its first fault
 unfoldable pub says_beside : Names → Option (List ℕ) → Option (List ℕ) → Result Line LineFault
 says_beside book held None = Err UnknownCommand
-says_beside book held (Some bytes) = if is_stepwise (words_of bytes) then Err UnknownCommand else line_says book (ids_beside held) (Some bytes)
+says_beside book held (Some bytes) = if is_check_line (words_of bytes) then Err UnknownCommand else line_says book (ids_beside held) (Some bytes)

@@ -5,13 +5,13 @@ use Rattle.mls_text.specs.Words.{begins_with, same_word, words_of}
 use Rattle.mls_lines.specs.declared.roster.Entry.{Entry}
 
 -- the thread is that of this name
-abbrev pub is_of : List ℕ → Option Entry → Bool
-is_of name None = false
-is_of name (Some entry) = same_word entry.name name
+abbrev pub is_called : List ℕ → Option Entry → Bool
+is_called name None = false
+is_called name (Some entry) = same_word entry.name name
 
 -- the number of the thread that the name has
 abbrev pub thread_of : List ℕ → List (Option Entry) → Option ℕ
-thread_of name entries = position (is_of name) entries
+thread_of name entries = position (is_called name) entries
 
 -- the one for a line of this name: where it has none and the line opens a session, the first that no name has
 abbrev pub thread_or_free : Option ℕ → Bool → List (Option Entry) → Option ℕ

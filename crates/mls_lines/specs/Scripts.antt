@@ -10,13 +10,13 @@ use Rattle.mls_wire.specs.Serving.{AppendsFront, Gains}
 use Rattle.mls_wire.specs.Watches.{HasCause, Watched}
 use Rattle.mls_wire.specs.declared.serving.ServeFault.{ServeFault}
 use Rattle.mls_wire.specs.declared.serving.ServeFault.TheVariants.{Read, Write, Memory}
-use Rattle.mls_lines.specs.Answers.{AnswersLine, Held, name_held}
+use Rattle.mls_lines.specs.Answers.{AnswersLine, OpenSeat, name_held}
 use Rattle.mls_seat_lines.specs.Glossaries.{book_in, glossary_of}
 use Rattle.mls_lines.specs.Beside.{says_beside}
 
 -- where the script's bytes are known, its n-th line, from 1, is this one
-abbrev pub IsLineOf : Option (List ℕ) → ℕ → Option (List ℕ) → Type 0
-IsLineOf script n line = option_map (λ bytes. slice_get (script_of bytes) (n - 1)) script ≡ option_map (λ bytes. Some line) script
+abbrev pub IsScriptLine : Option (List ℕ) → ℕ → Option (List ℕ) → Type 0
+IsScriptLine script n line = option_map (λ bytes. slice_get (script_of bytes) (n - 1)) script ≡ option_map (λ bytes. Some line) script
 
 -- a line that has its reply: its number, its bytes, its text, whether a list was audited where it closed a session, and the session that is open after it
 pub record Answered : Type 0 where
@@ -24,18 +24,18 @@ pub record Answered : Type 0 where
   pub line : Option (List ℕ)
   pub text : List ℕ
   pub audited : Bool
-  pub after : Option Held
+  pub after : Option OpenSeat
 
 -- lines of the script, all after line `from` and each after the one before, are carried out at a seat one after another; line `to` comes last
-abbrev pub AnswersLines : Terms → Names → Option (List ℕ) → ℕ → Option Held → List Answered → ℕ → Option Held → Type 0
+abbrev pub AnswersLines : Terms → Names → Option (List ℕ) → ℕ → Option OpenSeat → List Answered → ℕ → Option OpenSeat → Type 0
 AnswersLines terms book script from before [] to after = (to ≡ from) × (after ≡ before)
 AnswersLines terms book script from before (one ∷ more) to after =
-    (from < one.n) × IsLineOf script one.n one.line
+    (from < one.n) × IsScriptLine script one.n one.line
     × AnswersLine terms book one.n (says_beside book (name_held before) one.line) before one.text one.audited one.after
     × AnswersLines terms book script one.n one.after more to after
 
 -- some lines of the script were carried out in their order at a seat, at which first no session is open; this is the last of them, and this session is open then
-abbrev pub HasAnswered : Terms → Names → Option (List ℕ) → ℕ → Option Held → Type 0
+abbrev pub HasAnswered : Terms → Names → Option (List ℕ) → ℕ → Option OpenSeat → Type 0
 HasAnswered terms book script to after = (answered : List Answered) × AnswersLines terms book script 0 None answered to after
 
 -- the text is that of the last of some lines of the script, which are carried out in their order at a seat, at which first no session is open

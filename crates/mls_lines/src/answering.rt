@@ -4,7 +4,7 @@ ghost use Rattle.mls_live.specs.Lists.{list_of};
 ghost use Rattle.mls_server.specs.LegalLists.{IsLegalList};
 ghost use Rattle.mls_wire.specs.Pushes.{Appends};
 ghost use Rattle.mls_wire.specs.Replies.{answer_text, response_text};
-ghost use Rattle.mls_wire.specs.ScriptLines.{text_of};
+ghost use Rattle.mls_wire.specs.ScriptLines.{bytes_of_line};
 ghost use Rattle.mls_lines.specs.Answers.{AnswersLine, ClosesAt, OpensAt, SaysAt, fault_alone, held_by, name_held};
 ghost use Rattle.mls_seat_lines.specs.Glossaries.{book_in};
 ghost use Rattle.mls_lines.specs.Beside.{says_beside};
@@ -40,7 +40,7 @@ pub struct Numbered<'b> {
 impl<'b> Numbered<'b> {
     /// Returns a line with its number.
     pub fn new(n: u128, line: ScriptLine<'b>) -> Numbered<'b>
-        ensures { (result.n ≡ n) × (text_of result.line ≡ text_of line.entry) }
+        ensures { (result.n ≡ n) × (bytes_of_line result.line ≡ bytes_of_line line.entry) }
     {
         Numbered { n, line }
     }
@@ -62,7 +62,7 @@ impl<'l, N: Scripted> Clerk<'l, N> {
     ) -> Result<bool, AllocError>
         requires parts { N.parts ≡ 65 }
         ensures { (text : List ℕ) × (audited : Bool) × AnswersLine N.terms (book_in N.glossary) line.now.n
-            (says_beside (book_in N.glossary) (name_held (held_by sitting.old)) (text_of line.now.line))
+            (says_beside (book_in N.glossary) (name_held (held_by sitting.old)) (bytes_of_line line.now.line))
             (held_by sitting.old) text audited (held_by sitting.new)
             × IfOk result (λ known. known ≡ audited) × Appends result out.old out.new text }
     {
@@ -244,7 +244,7 @@ fn says<N: Scripted>(
     line: &Numbered<'_>,
 ) -> Result<Line, LineFault>
     requires { hall.now.glossary ≡ N.glossary }
-    ensures { result ≡ says_beside (book_in N.glossary) held (text_of line.now.line) }
+    ensures { result ≡ says_beside (book_in N.glossary) held (bytes_of_line line.now.line) }
 {
     parse(&hall.glossary, held, line.line)
 }
@@ -271,7 +271,7 @@ pub fn push_alone<N: Scripted>(
 ) -> Result<(), AllocError>
     requires { hall.now.glossary ≡ N.glossary }
     ensures { (text : List ℕ) × AnswersLine N.terms (book_in N.glossary) line.now.n
-        (says_beside (book_in N.glossary) None (text_of line.now.line)) None text true None
+        (says_beside (book_in N.glossary) None (bytes_of_line line.now.line)) None text true None
         × Appends result out.old out.new text }
 {
     match says::<N>(hall, None, line) {

@@ -1,7 +1,7 @@
 //! What all threads share.
 ghost use Rattle.std.specs.Prelude.{◌≡◌, ℕ, List, Option, Some};
 ghost use Rattle.mls_seat_lines.specs.Glossaries.{Glossary, book_in};
-ghost use Rattle.mls_lines.specs.Scripts.{IsLineOf, IsReply};
+ghost use Rattle.mls_lines.specs.Scripts.{IsScriptLine, IsReply};
 
 use crate::Glossary;
 use crate::roster::Roster;
@@ -52,13 +52,13 @@ pub struct Queued<N: Scripted> {
     pub n: u128,
     pub bytes: Vec<u8>,
     of: PhantomData<N>,
-    pub ghost line: { IsLineOf N.script n (Some bytes.items) },
+    pub ghost line: { IsScriptLine N.script n (Some bytes.items) },
 }
 
 impl<N: Scripted> Queued<N> {
     /// Returns a line with its number.
     pub fn new(n: u128, bytes: Vec<u8>) -> Self
-        requires { IsLineOf N.script n (Some bytes.items) }
+        requires { IsScriptLine N.script n (Some bytes.items) }
     {
         Queued {
             n,

@@ -1,8 +1,8 @@
 //! The reader of lines.
 ghost use Rattle.std.specs.Prelude.{◌≡◌, ◌≢◌, ◌<◌, false, IfErr, IsFalse};
 ghost use Rattle.mls_lines.specs.Rosters as spec;
-ghost use Rattle.mls_lines.specs.Scripts.{IsLineOf};
-ghost use Rattle.mls_wire.specs.ScriptLines.{text_of};
+ghost use Rattle.mls_lines.specs.Scripts.{IsScriptLine};
+ghost use Rattle.mls_wire.specs.ScriptLines.{bytes_of_line};
 ghost use Rattle.mls_wire.specs.Watches.{HasCause};
 ghost use Rattle.mls_wire.specs.declared.serving.ServeFault.TheVariants.{Read as ReadFailed, Write as WriteFailed};
 
@@ -65,7 +65,7 @@ fn hand<N: Scripted, R: Wait>(
 ) -> Result<(), AllocError>
     requires called { hall.now.glossary ≡ N.glossary }
     requires numbered { 0 < line.n }
-    requires line { IsLineOf N.script line.n (text_of line.line) }
+    requires line { IsScriptLine N.script line.n (bytes_of_line line.line) }
 {
     match thread_for(rt, hall, line.line) {
         Some(thread) => queue(rt, hall, desk, thread, line),
@@ -82,7 +82,7 @@ fn thread_for<R: Wait>(rt: &R, hall: &Hall, line: ScriptLine<'_>) -> Option<usiz
 /// Returns the name of the session that a line is for. Only the first two words are looked at.
 #[tactic(auto, unfolding(crate::specs::Rosters::name_for))]
 fn name_for(line: ScriptLine<'_>) -> Option<Name>
-    ensures { result ≡ spec.name_for (text_of line.entry) }
+    ensures { result ≡ spec.name_for (bytes_of_line line.entry) }
 {
     match line {
         ScriptLine::TooLong => None,
@@ -124,7 +124,7 @@ fn queue<N: Scripted, R: Wait>(
     thread: usize,
     line: Numbered<'_>,
 ) -> Result<(), AllocError>
-    requires { IsLineOf N.script line.n (text_of line.line) }
+    requires { IsScriptLine N.script line.n (bytes_of_line line.line) }
 {
     let (Some(queue), ScriptLine::Text(bytes)) = (desk.queues.get(thread), line.line) else {
         return Err(AllocError);
@@ -142,7 +142,7 @@ fn reply<N: Scripted, R: Wait>(
 ) -> Result<(), AllocError>
     requires called { hall.now.glossary ≡ N.glossary }
     requires numbered { 0 < line.now.n }
-    requires line { IsLineOf N.script line.now.n (text_of line.now.line) }
+    requires line { IsScriptLine N.script line.now.n (bytes_of_line line.now.line) }
 {
     let mut text = Vec::new(hall.alloc);
     push_alone::<N>(hall, line, &mut text)?;

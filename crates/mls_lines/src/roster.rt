@@ -83,7 +83,7 @@ impl Roster {
         ensures thread { result ≡ spec.thread_of name.now self.now }
         ensures within { IfSome result (λ thread. thread < PLACES) }
     {
-        self.entries.iter().position(|entry| is_of(name, entry))
+        self.entries.iter().position(|entry| is_called(name, entry))
     }
 
     /// Returns the number of the first thread that no name has.
@@ -96,8 +96,8 @@ impl Roster {
 }
 
 /// Returns whether a thread is that of this name.
-fn is_of(name: &Name, entry: &Option<Entry>) -> bool
-    ensures { result ≡ spec.is_of name.now entry.now }
+fn is_called(name: &Name, entry: &Option<Entry>) -> bool
+    ensures { result ≡ spec.is_called name.now entry.now }
 {
     match entry {
         Some(entry) => entry.name == *name,

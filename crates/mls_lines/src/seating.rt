@@ -1,8 +1,8 @@
 //! The session of a name's thread.
 ghost use Rattle.std.specs.Prelude.{◌≡◌, Some};
 ghost use Rattle.mls_seat_lines.specs.Glossaries.{book_in};
-ghost use Rattle.mls_lines.specs.Beside.{is_stepwise, says_beside};
-ghost use Rattle.mls_wire.specs.ScriptLines.{text_of};
+ghost use Rattle.mls_lines.specs.Beside.{is_check_line, says_beside};
+ghost use Rattle.mls_wire.specs.ScriptLines.{bytes_of_line};
 
 use crate::Glossary;
 use mls_live::{Naming, Seat};
@@ -44,7 +44,7 @@ pub fn parse(
     held: Option<Name>,
     line: ScriptLine<'_>,
 ) -> Result<Line, LineFault>
-    ensures { result ≡ says_beside (book_in glossary.now) held (text_of line.entry) }
+    ensures { result ≡ says_beside (book_in glossary.now) held (bytes_of_line line.entry) }
 {
     match line {
         ScriptLine::TooLong => Err(LineFault::UnknownCommand),
@@ -65,7 +65,7 @@ fn parse_text(glossary: &Glossary, held: Option<Name>, bytes: &[u8]) -> Result<L
 
 /// Returns whether the first word is `%step` or `%steps`.
 fn begins_stepwise(mut words: Words) -> bool
-    ensures { result ≡ is_stepwise words.entry }
+    ensures { result ≡ is_check_line words.entry }
 {
     matches!(words.next(), Some(b"%step" | b"%steps"))
 }

@@ -3,7 +3,7 @@ use Rattle.std.proofs.Common.{◌≡◌, ◌∙◌, ◌<◌, ℕ, suc, ◌+◌, 
 use Rattle.std.specs.Prelude.{Result, Ok, Err}
 use Rattle.std.specs.Result.{IsOkAnd}
 use Rattle.std.proofs.lemmas.List.{map-append}
-use Rattle.mls_library.specs.CellFiles.{layout_of}
+use Rattle.mls_library.specs.CellFiles.{layout_of_rects}
 use Rattle.mls_library.specs.Libraries.{loading_of, tile_counts, total}
 use Rattle.mls_server.specs.Events.{LoadsCell, with_cell}
 use Rattle.mls_server.specs.Settings.{NamedLayout, cell_names}
@@ -23,7 +23,7 @@ loaded-keeps : {A : Type 0} (part : World → A) (old new : World) (name bytes :
     → LoadsCell old name bytes (Ok id) new → part new ≡ part old
 loaded-keeps part old new name bytes id kept loads =
     IsOkAnd-gives (loading_of old.setting.tech (cell_names old.setting) old.setting.cell_tiles old.room name bytes)
-    (λ rects. (id ≡ length old.setting.cells) × (new ≡ with_cell old (record { name = name; layout = layout_of rects }) (total (tile_counts old.setting.tech.plane_count rects))))
+    (λ rects. (id ≡ length old.setting.cells) × (new ≡ with_cell old (record { name = name; layout = layout_of_rects rects }) (total (tile_counts old.setting.tech.plane_count rects))))
     (part new ≡ part old) (λ rects is. ap part is.1 ∙ kept _ _) loads
 
 module _ (reads_as : List ℕ → List ℕ → Type 0) where

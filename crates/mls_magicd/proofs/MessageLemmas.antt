@@ -12,7 +12,7 @@ use Rattle.mls_wire.specs.Serving.{AppendsFront, serve_fault_text}
 use Rattle.mls_wire.specs.declared.serving.ServeFault.{ServeFault}
 use Rattle.mls_wire.specs.Watches.{Watched}
 use Rattle.mls_tech.specs.declared.rule_line.Skipped.{Skipped}
-use Rattle.mls_magicd.specs.Messages.{ReportsAll, Reports, bad_cell_line, faulty_line, serve_fault_line, skipped_line, unreadable_line}
+use Rattle.mls_magicd.specs.Messages.{ReportsAll, Reports, bad_cell_line, faulty_line, serve_fault_line, skipped_message, unreadable_line}
 
 -- the text of parts
 abbrev pub text_of : List (Bor (List ℕ)) → List ℕ
@@ -73,10 +73,10 @@ map-more f xs i x within is =
     rw (add-one, take-suc xs i x within) (map-append f (take i xs) (get_or xs i x ∷ []) ∙ ap (λ y. map f (take i xs) ++ f y ∷ []) (sym is))
 
 -- ---- the lines in their parts
-pub skipped_line-parts : (skipped : Skipped) (line keyword : List ℕ) → line ≡ decimal skipped.line → keyword ≡ skipped.keyword
-    → codes "magicd: tech line " ++ (line ++ (codes " skipped " ++ (keyword ++ 10 ∷ []))) ≡ skipped_line skipped
-unfolding skipped_line
-skipped_line-parts skipped line keyword line_is keyword_is = rw (line_is, keyword_is) (simp append_assoc)
+pub skipped_message-parts : (skipped : Skipped) (line keyword : List ℕ) → line ≡ decimal skipped.line → keyword ≡ skipped.keyword
+    → codes "magicd: tech line " ++ (line ++ (codes " skipped " ++ (keyword ++ 10 ∷ []))) ≡ skipped_message skipped
+unfolding skipped_message
+skipped_message-parts skipped line keyword line_is keyword_is = rw (line_is, keyword_is) (simp append_assoc)
 
 pub faulty_line-parts : (file name sort words : List ℕ) (n m : ℕ) (line number text : List ℕ) → line ≡ decimal n → number ≡ decimal m → text ≡ words
     → codes "magicd: " ++ (file ++ (name ++ (codes " line " ++ (line ++ (sort ++ (number ++ (32 ∷ [] ++ (text ++ 10 ∷ []))))))))

@@ -7,7 +7,7 @@ use Rattle.clap.specs.Words.{ReadsOne, Text, one_text}
 use Rattle.clap.proofs.CallerReads.{signed_reads}
 use Rattle.clap.specs.declared.parser.matches.Found.{Found}
 use Rattle.mls_bounded.specs.Ranges.{IsInRange}
-use Rattle.mls_magicd.specs.CommandLines.{IsFoundNumber, IsNumberFor, IsNumberOf, NumberOption, number_in, number_named}
+use Rattle.mls_magicd.specs.CommandLines.{IsFoundNumber, IsNumberFor, IsNumberOf, NumberOption, number_written, number_given}
 
 -- what a text gives that is read as a `u32`
 abbrev GivesNumber : List ℕ → Result ℕ ParseIntError → Type 0
@@ -26,8 +26,8 @@ module _ (option : NumberOption) (read made_of : Option ℕ) (value : ℕ)
       let not_made = subst (λ (o : Option ℕ). MatchOption o (made_of ≡ None) (λ m. SomeIff made_of (IsInRange option.least option.most m) m)) none makes in
       subst (λ (o : Option ℕ). UnwrapsOrElse o (λ n. n ≡ option.default) value) not_made unwrapped
 
-  value_of_text : (text : List ℕ) (n : ℕ) → ReadsOne GivesNumber text read → read ≡ Some n → IsInRange option.least option.most n → value ≡ number_in text
-  unfolding number_in
+  value_of_text : (text : List ℕ) (n : ℕ) → ReadsOne GivesNumber text read → read ≡ Some n → IsInRange option.least option.most n → value ≡ number_written text
+  unfolding number_written
   value_of_text text n reads is legal =
       let parsed = subst (λ (o : Option ℕ). ReadsOne GivesNumber text o) is reads in
       made (IsInRange option.least option.most) _ n made_of value legal (subst (λ (o : Option ℕ). MatchOption o (made_of ≡ None) (λ m. SomeIff made_of (IsInRange option.least option.most m) m)) is makes) unwrapped ∙ parsed.0.1
@@ -47,7 +47,7 @@ module _ (option : NumberOption) (read made_of : Option ℕ) (value : ℕ)
 
 -- the words name one number
 pub number-unique : (option : NumberOption) (words : List Text) (n m : ℕ) → IsNumberFor option words n → IsNumberFor option words m → n ≡ m
-number-unique option words n m = go (number_named option words)
+number-unique option words n m = go (number_given option words)
   where
     go : (o : Option Text) → IsNumberOf option o n → IsNumberOf option o m → n ≡ m
     go None is also = is ∙ sym also

@@ -12,7 +12,7 @@ use Rattle.clap.specs.declared.error.Error.{Error}
 use Rattle.clap.specs.declared.error.kind.ErrorKind.TheVariants.{OutOfMemory}
 use Rattle.clap.specs.declared.parser.matches.ArgMatches.{ArgMatches}
 use Rattle.mls_magicd.proofs.NumberTexts.{StandsAt, number-text}
-use Rattle.mls_magicd.specs.CommandLines.{IsOwnArg, IsOwnCommand, NumberOption, magicd, cell_words, bad_word, faults_in, words_found, IsBadWord, IsFoundNumber, IsNumberFor, IsNumberOf, IsNumberText, file_named, live_named, number_named, IsParserFault, IsRefusedBy}
+use Rattle.mls_magicd.specs.CommandLines.{IsOwnArg, IsOwnCommand, NumberOption, magicd, cell_words, bad_word, faults_in, words_found, IsBadWord, IsFoundNumber, IsNumberFor, IsNumberOf, IsNumberText, file_named, live_named, number_given, IsParserFault, IsRefusedBy}
 use Rattle.mls_magicd.specs.declared.options.OptionsFault.{OptionsFault}
 use Rattle.mls_magicd.specs.declared.options.OptionsFault.TheVariants.{Memory, Refused, BadCell}
 
@@ -62,8 +62,8 @@ file-named words command m built matches =
     first_value-rows (found_of m) (codes "tech") ∙ ap (first_of (codes "tech")) (rows-of_words words command m built matches)
 
 number-named : (option : NumberOption) (words : List Text) (command : Command) (m : ArgMatches) → app_of command ≡ magicd → HasMatchesOf (app_of command) words m
-    → one_text (found_of m) option.name ≡ number_named option words
-unfolding number_named
+    → one_text (found_of m) option.name ≡ number_given option words
+unfolding number_given
 number-named option words command m built matches =
     one_text-rows (found_of m) option.name ∙ ap (one_of option.name) (rows-of_words words command m built matches)
 
@@ -82,11 +82,11 @@ cells-named words command m built matches =
 
 -- the number is the one that the words name
 number-of_words : (option : NumberOption) (words : List Text) (m : ArgMatches) (number : ℕ)
-    → one_text (found_of m) option.name ≡ number_named option words
+    → one_text (found_of m) option.name ≡ number_given option words
     → IsFoundNumber option (found_of m) number
     → ((text : Text) → one_text (found_of m) option.name ≡ Some text → IsNumberText option text)
     → IsNumberFor option words number
-number-of_words option words m number read found is_text = go (number_named option words) read
+number-of_words option words m number read found is_text = go (number_given option words) read
   where
     go : (o : Option Text) → one_text (found_of m) option.name ≡ o → IsNumberOf option o number
     go None e = found.usual e

@@ -2,7 +2,7 @@
 use Rattle.std.proofs.Common.{◌≡◌, ℕ, List, Option, inl, inr, subst, arith}
 use Rattle.std.specs.String.{string_bytes}
 use Rattle.mls_wire.specs.Watches.{Watched}
-use Rattle.mls_magicd.specs.Messages.{Reports, bad_cell_line, fault_text}
+use Rattle.mls_magicd.specs.Messages.{Reports, bad_cell_line, fault_message}
 use Rattle.mls_magicd.specs.Programs.{FailsAtStart, RefusesWords, bad_command_line, status_after}
 use Rattle.mls_magicd.specs.declared.fault.Fault.{Fault}
 use Rattle.mls_magicd.specs.declared.fault.Fault.TheVariants.{Options, Technology, Rule, Cell, Memory, Serve, Differs}
@@ -11,7 +11,7 @@ use Rattle.mls_magicd.specs.declared.options.OptionsFault.TheVariants.{Refused, 
 -- a start that ends the program with the status 2 refuses the words
 pub refused-words : {E : Type 0} (reads_as : List ℕ → List ℕ → Type 0) (may_fail : List ℕ → Type 0) (words : List (List ℕ)) (contents : E → Option (List ℕ))
     → (old mid new : Watched E) (fault : Fault) → status_after fault ≡ bad_command_line → FailsAtStart reads_as may_fail words contents old mid fault
-    → Reports contents mid new (fault_text fault) → RefusesWords words contents old new
+    → Reports contents mid new (fault_message fault) → RefusesWords words contents old new
 refused-words {E} reads_as may_fail words contents old mid new (Options (Refused text)) is start reported =
     inl (start.0, (string_bytes text, subst (λ (watch : Watched E). Reports contents watch new (string_bytes text)) start.1 reported))
 refused-words {E} reads_as may_fail words contents old mid new (Options (BadCell word)) is start reported =

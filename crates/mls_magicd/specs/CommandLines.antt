@@ -11,7 +11,7 @@ use Rattle.clap.specs.declared.parser.matches.Found.{Found}
 use Rattle.mls_library.specs.Libraries.{default_cell_tiles, most_tiles as most_cell_tiles}
 use Rattle.mls_session.specs.JournalLimits.{most_entries, default_journal_limit}
 use Rattle.mls_session.specs.Quotas.{least_quota, most_quota, default_quota}
-use Rattle.mls_server.specs.Capacities.{most_tiles, default_capacity}
+use Rattle.mls_server.specs.Capacities.{greatest_capacity, default_capacity}
 use Rattle.mls_magicd.specs.WorkerCounts.{most_workers, default_workers}
 use Rattle.mls_magicd.specs.declared.cell_argument.CellArgument.{CellArgument}
 use Rattle.mls_magicd.specs.declared.options.Options.{Options}
@@ -33,7 +33,7 @@ abbrev pub quota_option : NumberOption
 quota_option = record { name = codes "quota"; least = least_quota; most = most_quota; default = default_quota }
 
 abbrev pub pool_option : NumberOption
-pool_option = record { name = codes "pool"; least = 1; most = most_tiles; default = default_capacity }
+pool_option = record { name = codes "pool"; least = 1; most = greatest_capacity; default = default_capacity }
 
 abbrev pub journal_option : NumberOption
 journal_option = record { name = codes "journal"; least = 1; most = most_entries; default = default_journal_limit }
@@ -82,8 +82,8 @@ unfoldable pub file_named : List Text → Option Text
 file_named words = first_of (codes "tech") (matches_of magicd words)
 
 -- the number after the option, as text
-unfoldable pub number_named : NumberOption → List Text → Option Text
-number_named option words = one_of option.name (matches_of magicd words)
+unfoldable pub number_given : NumberOption → List Text → Option Text
+number_given option words = one_of option.name (matches_of magicd words)
 
 -- what is noted of `--live`, as text
 unfoldable pub live_named : List Text → Option Text
@@ -108,17 +108,17 @@ words_found found = unwrap_or (option_map raw_values (matched_of found (codes "c
 -- ---- numbers
 
 -- the number that the digits write, which a plus may precede
-unfoldable pub number_in : Text → ℕ
-number_in text = digits_value 10 (without_leading_plus text)
+unfoldable pub number_written : Text → ℕ
+number_written text = digits_value 10 (without_leading_plus text)
 
 -- the number is the one that the text names, or else the option's default
 abbrev pub IsNumberOf : NumberOption → Option Text → ℕ → Type 0
 IsNumberOf option None number = number ≡ option.default
-IsNumberOf option (Some text) number = number ≡ number_in text
+IsNumberOf option (Some text) number = number ≡ number_written text
 
 -- it is the one that the words name
 abbrev pub IsNumberFor : NumberOption → List Text → ℕ → Type 0
-IsNumberFor option words number = IsNumberOf option (number_named option words) number
+IsNumberFor option words number = IsNumberOf option (number_given option words) number
 
 -- the parser takes the text for a number of the option
 abbrev pub IsNumberText : NumberOption → Text → Type 0
@@ -127,7 +127,7 @@ IsNumberText option text = (written : Text) × (text ≡ without_minus written) 
 -- the number is the one that a parse found, if the text after the option is one that the parser takes, or else the default
 pub record IsFoundNumber (option : NumberOption) (found : Found) (number : ℕ) : Type 0 where
   pub usual : one_text found option.name ≡ None → number ≡ option.default
-  pub named : (text : Text) → one_text found option.name ≡ Some text → IsNumberText option text → number ≡ number_in text
+  pub named : (text : Text) → one_text found option.name ≡ Some text → IsNumberText option text → number ≡ number_written text
 
 -- the option of this name that takes the numbers of a range with a default
 abbrev pub ranged_option : Text → ℕ → ℕ → ℕ → NumberOption

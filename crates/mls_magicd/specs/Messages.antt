@@ -75,18 +75,18 @@ options_fault_text (BadCell word) = bad_cell_line word.now
 options_fault_text OptionsMemory = memory_line
 
 -- the message for a fault of the program
-abbrev pub fault_text : Fault → List ℕ
-fault_text (Options fault) = options_fault_text fault
-fault_text (Technology fault) = technology_fault_line fault
-fault_text (Rule fault) = rule_fault_line fault
-fault_text (Cell fault) = load_fault_line fault
-fault_text Memory = memory_line
-fault_text (Serve fault) = serve_fault_line fault
-fault_text Differs = differs_line
+abbrev pub fault_message : Fault → List ℕ
+fault_message (Options fault) = options_fault_text fault
+fault_message (Technology fault) = technology_fault_line fault
+fault_message (Rule fault) = rule_fault_line fault
+fault_message (Cell fault) = load_fault_line fault
+fault_message Memory = memory_line
+fault_message (Serve fault) = serve_fault_line fault
+fault_message Differs = differs_line
 
 -- a skipped line of the technology
-unfoldable pub skipped_line : Skipped → List ℕ
-skipped_line skipped = codes "magicd: tech line " ++ decimal skipped.line ++ codes " skipped " ++ skipped.keyword ++ 10 ∷ []
+unfoldable pub skipped_message : Skipped → List ℕ
+skipped_message skipped = codes "magicd: tech line " ++ decimal skipped.line ++ codes " skipped " ++ skipped.keyword ++ 10 ∷ []
 
 -- ---- what is written of them
 

@@ -10,7 +10,7 @@ use Rattle.mls_wire.specs.Watches.{Watched}
 use Rattle.mls_wire.specs.declared.serving.ServeFault.{ServeFault}
 use Rattle.mls_magicd.specs.Cells.{LoadsCells, StopsAtCell}
 use Rattle.mls_magicd.specs.CommandLines.{AreTaken, NamedFile, NamesFiles, bad_word, cell_words, faults_in, file_named, quota_option, pool_option, journal_option, cell_tiles_option, IsNumberFor, IsRefusedBy}
-use Rattle.mls_magicd.specs.Messages.{Reports, ReportsAll, bad_cell_line, fault_text, serve_fault_line, skipped_line}
+use Rattle.mls_magicd.specs.Messages.{Reports, ReportsAll, bad_cell_line, fault_message, serve_fault_line, skipped_message}
 use Rattle.mls_magicd.specs.Technologies.{HasReading, LacksTechnology}
 use Rattle.mls_magicd.specs.declared.cells.LoadFault.{LoadFault}
 use Rattle.mls_magicd.specs.declared.fault.Fault.{Fault}
@@ -75,7 +75,7 @@ pub record IsStoppedBy (reads_as : List ℕ → List ℕ → Type 0) (may_fail :
 
 -- a line for each skipped line of the technology, in the order of the file
 abbrev pub skipped_lines : Tech → List (List ℕ)
-skipped_lines tech = map skipped_line tech.skipped
+skipped_lines tech = map skipped_message tech.skipped
 
 -- the start fails with this fault, and nothing was reported before it but the skipped lines of an accepted technology
 abbrev pub FailsAtStart : {E : Type 0} → (List ℕ → List ℕ → Type 0) → (List ℕ → Type 0) → List (List ℕ)
@@ -98,7 +98,7 @@ abbrev pub EndsAtStart : {E : Type 0} → (List ℕ → List ℕ → Type 0) →
     → (E → Option (List ℕ)) → Watched E → Watched E → Type 0
 EndsAtStart {E} reads_as may_fail words contents old new =
     (fault : Fault) × (before : Watched E) × (status_after fault ≡ failed)
-    × FailsAtStart reads_as may_fail words contents old before fault × Reports contents before new (fault_text fault)
+    × FailsAtStart reads_as may_fail words contents old before fault × Reports contents before new (fault_message fault)
 
 -- the words have a fault, and the parser's text was reported; or one that should name a cell has no `=`, and the first such word was reported
 abbrev pub RefusesWords : {E : Type 0} → List (List ℕ) → (E → Option (List ℕ)) → Watched E → Watched E → Type 0
@@ -135,7 +135,7 @@ EndsInScript old script rest written now input output contents before after =
 -- it failed so, and the fault was reported after the skipped lines
 abbrev pub ReportsEnd : {E : Type 0} → World → (Fault → Type 0) → (E → Option (List ℕ)) → Watched E → Watched E → Type 0
 ReportsEnd on fails messages before after =
-    (fault : Fault) × fails fault × ReportsAll messages before after (skipped_lines on.setting.tech ++ fault_text fault ∷ [])
+    (fault : Fault) × fails fault × ReportsAll messages before after (skipped_lines on.setting.tech ++ fault_message fault ∷ [])
 
 -- ---- the script, with workers
 

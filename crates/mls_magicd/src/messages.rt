@@ -24,7 +24,7 @@ const MESSAGE_ROOM: usize = 512;
 
 /// Reports a fault of the program.
 pub fn report_fault<E: Write>(faults: &mut Watched<E>, fault: &Fault<'_>)
-    ensures { spec.Reports E.contents faults.old faults.new (spec.fault_text fault.now) }
+    ensures { spec.Reports E.contents faults.old faults.new (spec.fault_message fault.now) }
 {
     match fault {
         Fault::Options(fault) => report_options_fault(faults, fault),
@@ -39,7 +39,7 @@ pub fn report_fault<E: Write>(faults: &mut Watched<E>, fault: &Fault<'_>)
 
 /// Reports each skipped line of a technology.
 pub fn report_skipped<E: Write>(faults: &mut Watched<E>, skipped: &[Skipped])
-    ensures { spec.ReportsAll E.contents faults.old faults.new (map spec.skipped_line skipped.now) }
+    ensures { spec.ReportsAll E.contents faults.old faults.new (map spec.skipped_message skipped.now) }
 {
     for line in skipped {
         report_skipped_line(faults, line);
@@ -171,7 +171,7 @@ fn report_faulty_line<'a, E: Write>(
 
 /// Reports a skipped line of the technology file.
 fn report_skipped_line<E: Write>(faults: &mut Watched<E>, skipped: &Skipped)
-    ensures { spec.Reports E.contents faults.old faults.new (spec.skipped_line skipped.now) }
+    ensures { spec.Reports E.contents faults.old faults.new (spec.skipped_message skipped.now) }
 {
     let mut line = Buffer::new();
     report(

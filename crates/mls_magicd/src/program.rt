@@ -7,7 +7,7 @@ ghost use Rattle.mls_server.specs.Worlds.{World};
 ghost use Rattle.mls_tech.specs.Readings.{reading_of};
 ghost use Rattle.mls_wire.specs.declared.serving.ServeFault.{ServeFault};
 ghost use Rattle.mls_magicd.specs.CommandLines.{AskForBatch, AskForLive, ParsesAs, IsNumberFor, workers_option};
-ghost use Rattle.mls_magicd.specs.Messages.{Reports, ReportsAll, fault_text};
+ghost use Rattle.mls_magicd.specs.Messages.{Reports, ReportsAll, fault_message};
 ghost use Rattle.mls_magicd.specs.Programs as spec;
 ghost use Rattle.mls_magicd.specs.Technologies.{text_in};
 ghost use Rattle.mls_lines.specs.Glossaries.{glossary_of};
@@ -125,7 +125,7 @@ pub fn run<T: Threads + Wait + Sync, S: AsStr, F: Files, R: Read, W: Write + Sen
 
 /// Reports a fault and returns the exit status that it ends the program with.
 pub fn fail<E: Write>(faults: &mut Watched<E>, fault: &Fault<'_>) -> u8
-    ensures reported { Reports E.contents faults.old faults.new (fault_text fault.now) }
+    ensures reported { Reports E.contents faults.old faults.new (fault_message fault.now) }
     ensures status { result ≡ spec.status_after fault.now }
 {
     report_fault(faults, fault);

@@ -17,7 +17,7 @@ use Rattle.mls_geom.specs.World.{world}
 use Rattle.mls_geom.specs.declared.piece.Piece.{Piece}
 use Rattle.mls_geom.proofs.Ascending.{AllPairs-map, Contains-filter, Contains-map}
 use Rattle.mls_stitch.specs.Pending.{keys_of}
-use Rattle.mls_stitch.specs.Replacements.{AreApart, IsHeld, TakePlace}
+use Rattle.mls_stitch.specs.Replacements.{AreDisjoint, IsHeld, TakePlace}
 use Rattle.mls_stitch.specs.Stitches.{HoldsAt}
 use Rattle.mls_stitch.specs.Tilings.{AreBlocks}
 use Rattle.mls_stitch.specs.declared.laid_tile.LaidTile.{LaidTile}
@@ -205,7 +205,7 @@ put_gone blocks touched over fresh at under whole (k, strip, within, is, here) =
     let held_there : HoldsAt blocks tile.id at = subst (λ n. HoldsAt blocks n at) (sym is_key) held in
     let here' : IsTrue (holds tile.piece.rect at.x at.y) = subst (λ o. IsSomeAnd o (λ block. IsTrue (holds block.rect at.x at.y))) is_tile held_there in
     let no_strip : ¬ (Contains fresh tile.piece) = λ found.
-    elim (AllPairs-either AreApart fresh tile.piece strip whole.apart found in_fresh) [
+    elim (AllPairs-either AreDisjoint fresh tile.piece strip whole.apart found in_fresh) [
       | inl same ↦ no_tile (subst (Contains (pieces_of touched)) same (Contains-map (λ t. t.piece) touched tile there))
       | inr either ↦
           elim either [
@@ -228,6 +228,6 @@ TakePlace-changes blocks touched over fresh tiling under whole =
       there = All-map (λ key. IsSome (blocks key)) (λ tile. tile.id) (gone_of touched fresh) (λ k d within. ap is_some (laid_gone k d within));
       once = AllPairs-map (λ a b. a ≢ b) (λ tile. tile.id) (gone_of touched fresh) (AllPairs-filter (λ p q. p.id ≢ q.id) goes touched under.once);
       legal = All-filter comes (λ piece. IsRectangleIn world piece.rect) fresh whole.legal;
-      apart = AllPairs-filter AreApart comes fresh whole.apart;
+      apart = AllPairs-filter AreDisjoint comes fresh whole.apart;
       same = λ at. (gone_put blocks touched over fresh at tiling under whole, put_gone blocks touched over fresh at under whole);
     }

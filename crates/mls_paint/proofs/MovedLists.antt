@@ -9,7 +9,7 @@ use Rattle.std.proofs.lemmas.Map.Keys.{IsDistinct-IsPermutation, IsDistinct-from
 use Rattle.mls_geom.specs.Rects.{IsRectangleIn, holds}
 use Rattle.mls_geom.specs.World.{world}
 use Rattle.mls_geom.specs.declared.piece.Piece.{Piece}
-use Rattle.mls_stitch.specs.Replacements.{AreApart, TakePlace}
+use Rattle.mls_stitch.specs.Replacements.{AreDisjoint, TakePlace}
 use Rattle.mls_stitch.specs.Stitches.{HoldsAt}
 use Rattle.mls_stitch.proofs.FreshTiles.{AllPairs-either}
 use Rattle.mls_stitch.proofs.MaximalTiles.{holds_corner}
@@ -39,7 +39,7 @@ AllPairs-moved {X} same R xs ys decides flips turns never moved pairs =
 Any-moved : {X : Type 0} (P : X → Type 0) (xs ys : List X) → IsPermutation xs ys → Any P xs → Any P ys
 Any-moved P xs ys moved (k, x, within, is, holding) = Any-contained P ys x (Contains-permutation xs ys x moved (k, within, is)) holding
 
-apart_back : (p q : Piece) → AreApart p q → AreApart q p
+apart_back : (p q : Piece) → AreDisjoint p q → AreDisjoint q p
 apart_back p q apart = λ at in_q in_p. apart at in_p in_q
 
 -- pieces take the place of tiles in any order
@@ -52,7 +52,7 @@ TakePlace-moved blocks touched names fresh put named moved takes = record {
       AllPairs-moved nat_eq (λ a b. a ≢ b) touched names (λ a b. (eqb-true a b, eq-eqb a b)) nat_eq_equiv.symm (λ a b differ same. differ (sym same)) (λ a there differ. differ refl) named takes.once;
   legal = All-permutation (λ piece. IsRectangleIn world piece.rect) fresh put moved takes.legal;
   apart =
-      AllPairs-moved is_same AreApart fresh put is_same-Decides is_same-flips apart_back
+      AllPairs-moved is_same AreDisjoint fresh put is_same-Decides is_same-flips apart_back
       (λ piece there apart.
       let corner = holds_corner world piece.rect (All-contains (λ p. IsRectangleIn world p.rect) fresh piece takes.legal there) in
       apart (record { x = piece.rect.left; y = piece.rect.bottom }) corner corner)

@@ -8,7 +8,7 @@ use Rattle.mls_errorplane.specs.declared.job.Job.{Job}
 use Rattle.mls_checker.specs.Findings.{Finding}
 use Rattle.mls_errorplane.specs.declared.error_plane.Outcome.{Outcome}
 use Rattle.mls_errorplane.specs.declared.error_plane.Stepped.{Stepped as StepEnd}
-use Rattle.mls_library.specs.CellFiles.{layout_of as layout_of_rects}
+use Rattle.mls_library.specs.CellFiles.{layout_of_rects}
 use Rattle.mls_library.specs.Faults.{UnlessMemory}
 use Rattle.mls_library.specs.Libraries.{loading_of, tile_counts, total}
 use Rattle.mls_library.specs.SavedCells.{saved_text}

@@ -3,12 +3,12 @@ use Rattle.std.specs.Prelude.{◌≡◌, ℕ, ◌-◌, ◌≤◌, List, ◌++◌
 use Rattle.mls_server.specs.SessionNames.{is_session_name}
 
 -- the word, and zeros after it
-abbrev pub padded : List ℕ → List ℕ
-padded word = word ++ replicate (32 - length word) 0
+abbrev pub padded_name : List ℕ → List ℕ
+padded_name word = word ++ replicate (32 - length word) 0
 
 -- the bytes begin with a name of this length, and have zeros after it
 pub record HoldsName (bytes : List ℕ) (len : ℕ) : Type 0 where
   pub name : IsTrue (is_session_name (take len bytes))
   pub within : len ≤ 32
   pub taken : length (take len bytes) ≡ len
-  pub zeros : padded (take len bytes) ≡ bytes
+  pub zeros : padded_name (take len bytes) ≡ bytes

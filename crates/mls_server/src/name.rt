@@ -27,13 +27,13 @@ impl Model for Name {
 
     ghost Value = { List ℕ };
 
-    ghost use Rattle.mls_server.specs.NameBytes.{padded, HoldsName};
+    ghost use Rattle.mls_server.specs.NameBytes.{padded_name, HoldsName};
 
     ghost view = { λ name. take name.len name.bytes };
 
     ghost invariant = { λ name. HoldsName name.bytes name.len };
 
-    ghost inverse = { λ word. record { bytes = padded word; len = length word } };
+    ghost inverse = { λ word. record { bytes = padded_name word; len = length word } };
 
     ghost inverse_ok = { λ name kept i. record { bytes = kept.zeros i; len = kept.taken i } };
 }

@@ -4,7 +4,7 @@ use Rattle.std.proofs.Math.Path.{fun_ext}
 use Rattle.std.proofs.lemmas.Bool.{cases_eq, cases_lt}
 use Rattle.std.proofs.lemmas.List.{get_or_default}
 use Rattle.std.proofs.lemmas.Option.{slice_get_past}
-use Rattle.mls_kinds.specs.KindSets.{holds as has_kind}
+use Rattle.mls_kinds.specs.KindSets.{has_bit as has_type}
 use Rattle.mls_geom.specs.Layouts.{Layout}
 use Rattle.mls_geom.specs.Pictures.{Picture, empty_picture}
 use Rattle.mls_geom.specs.Rects.{holds}
@@ -14,7 +14,7 @@ use Rattle.mls_stitch.specs.Tilings.{ChangesOnly, shown}
 use Rattle.mls_paint.specs.Owners.{ChangesAmong}
 use Rattle.mls_paint.specs.Planes.{HasStrips, layout_in, picture_at, picture_in}
 use Rattle.mls_paint.proofs.OwnerFrames.{ChangesAmong-ChangesOnly, ChangesAmong-refl, ChangesAmong-trans, layout_in-at}
-use Rattle.mls_layout.specs.Moves.{kind_at, moved}
+use Rattle.mls_layout.specs.Moves.{kind_or_space, moved_picture}
 use Rattle.mls_session.specs.Changes.{dumped}
 use Rattle.mls_session.specs.Inner.{ListsChange, ReadsAtMost, changed, changed_layout, painted_over}
 use Rattle.mls_session.specs.Designs.{AreAtHome, Design}
@@ -85,14 +85,14 @@ layout_in-IsMade old new design wanted count plane made all within =
 
 -- ---- all planes
 -- past the last plane there is space, also after the change
-kind_at-space : (x y : ℤ) → kind_at empty_picture x y ≡ 0
-kind_at-space (pos x) (pos y) = refl
-kind_at-space (pos x) (negsuc y) = refl
-kind_at-space (negsuc x) y = refl
+kind_or_space-space : (x y : ℤ) → kind_or_space empty_picture x y ≡ 0
+kind_or_space-space (pos x) (pos y) = refl
+kind_or_space-space (pos x) (negsuc y) = refl
+kind_or_space-space (negsuc x) y = refl
 
 dumped-space : (below : Picture) (dx dy : ℤ) → dumped below empty_picture dx dy ≡ below
-unfolding moved
-dumped-space below dx dy = fun_ext (λ x. fun_ext (λ y. ap (λ kind. if kind == 0 then below x y else kind) (kind_at-space (pos x -ℤ dx) (pos y -ℤ dy))))
+unfolding moved_picture
+dumped-space below dx dy = fun_ext (λ x. fun_ext (λ y. ap (λ kind. if kind == 0 then below x y else kind) (kind_or_space-space (pos x -ℤ dx) (pos y -ℤ dy))))
 
 space_either : (b : Bool) (kind : ℕ) → (if b then kind else kind) ≡ kind
 space_either true kind = refl
@@ -106,7 +106,7 @@ pub dumped-past : (pool : Pool) (owners : List ℕ) (plane : ℕ) (dx dy : ℤ) 
 dumped-past pool owners plane dx dy below past = ap (λ over. dumped below over dx dy) (layout_in-past pool owners plane past) ∙ dumped-space below dx dy
 
 changed-past : (pool : Pool) (change : Change) (count plane : ℕ) → ReadsAtMost count change → count ≤ plane → changed pool change plane empty_picture ≡ empty_picture
-changed-past pool (Erase rect kinds) count plane few past = fun_ext (λ x. fun_ext (λ y. space_either (holds rect x y && has_kind kinds 0) 0))
+changed-past pool (Erase rect kinds) count plane few past = fun_ext (λ x. fun_ext (λ y. space_either (holds rect x y && has_type kinds 0) 0))
 changed-past pool (Dump planes dx dy) count plane few past =
     dumped-past pool planes.now plane dx dy empty_picture (omega (arith, few, past))
 

@@ -12,15 +12,15 @@ use Rattle.mls_geom.specs.Rects.{Rect, holds}
 use Rattle.mls_geom.specs.World.{world}
 use Rattle.mls_geom.proofs.Holds.{holds_between}
 use Rattle.mls_geom.proofs.Squares.{range_with_len-Contains}
-use Rattle.mls_kinds.specs.KindSets.{holds as has_kind}
+use Rattle.mls_kinds.specs.KindSets.{has_bit as has_type}
 use Rattle.mls_checker.specs.ZoneLayouts.{AgreeOutside}
 use Rattle.mls_library.specs.Bounds.{has_paint, painted_bounds}
 use Rattle.mls_session.specs.Bounds.{dumped_rect, moved_rect}
-use Rattle.mls_layout.specs.Moves.{kind_at, moved}
-use Rattle.mls_session.specs.Changes.{has_square, layout_leaves_world, leaves_world}
+use Rattle.mls_layout.specs.Moves.{kind_or_space, moved_picture}
+use Rattle.mls_session.specs.Changes.{world_has, layout_leaves_world, leaves_world}
 use Rattle.mls_session.specs.Own.{dumped_layout, erased_layout, with_plane}
 use Rattle.mls_library.proofs.FirstPlanes.{any_at}
-use Rattle.mls_session.proofs.MovedRects.{IsMoved, IsMoved-moved_rect, has_square-to, holds-IsMoved, holds_at, lines_moved, moved_rect-is, none_of, not_beyond}
+use Rattle.mls_session.proofs.MovedRects.{IsMoved, IsMoved-moved_rect, world_has-to, holds-IsMoved, holds_at, lines_moved, moved_rect-is, none_of, not_beyond}
 use Rattle.mls_session.proofs.MovedTiles.{leaves_world-at}
 use Rattle.mls_library.proofs.SmallestRects.{IsBounds, IsBounds-bounds_of, IsSmallest, Passes}
 
@@ -37,7 +37,7 @@ AgreeOutside-painted layout plane e kind p x y outside = by (p == plane) refl
     by false same = refl
 
 pub AgreeOutside-erased : (layout : Layout) (e : Rect) (kinds : ℕ) → AgreeOutside e layout (erased_layout layout e kinds)
-AgreeOutside-erased layout e kinds plane x y outside = ap (λ inside. if inside && has_kind kinds (layout plane x y) then 0 else layout plane x y) (sym outside)
+AgreeOutside-erased layout e kinds plane x y outside = ap (λ inside. if inside && has_type kinds (layout plane x y) then 0 else layout plane x y) (sym outside)
 
 -- ---- dump
 -- a smallest rectangle has a square
@@ -62,10 +62,10 @@ module _ (planes : ℕ) (cell : Layout) (dx dy : ℤ) where
 
   -- ---- where no square leaves the world, the rectangle doesn't
   module _ (stays : layout_leaves_world planes cell dx dy ≡ false) where
-    lands : (x y : ℕ) → Passes (has_paint planes cell) x y → has_square (pos x +ℤ dx) (pos y +ℤ dy) ≡ true
+    lands : (x y : ℕ) → Passes (has_paint planes cell) x y → world_has (pos x +ℤ dx) (pos y +ℤ dy) ≡ true
     lands x y passes =
         let (plane, within, some) = plane_there x y passes.1 in
-        elim (cases_Bool (has_square (pos x +ℤ dx) (pos y +ℤ dy))) [
+        elim (cases_Bool (world_has (pos x +ℤ dx) (pos y +ℤ dy))) [
           | inl there ↦ there
           | inr lost ↦
               let leaves = leaves_world-at (cell plane) dx dy x y passes.0 (and_from _ _ some (ap not lost)) in
@@ -79,10 +79,10 @@ module _ (planes : ℕ) (cell : Layout) (dx dy : ℤ) where
         let (bx, on_bottom) = smallest.on_bottom in
         let (rx, ry, right, on_right) = smallest.on_right in
         let (tx, ty, top, on_top) = smallest.on_top in
-        let left_square = has_square-to (pos e.left +ℤ dx) (pos ly +ℤ dy) (lands e.left ly on_left) in
-        let bottom_square = has_square-to (pos bx +ℤ dx) (pos e.bottom +ℤ dy) (lands bx e.bottom on_bottom) in
-        let right_square = has_square-to (pos rx +ℤ dx) (pos ry +ℤ dy) (lands rx ry on_right) in
-        let top_square = has_square-to (pos tx +ℤ dx) (pos ty +ℤ dy) (lands tx ty on_top) in
+        let left_square = world_has-to (pos e.left +ℤ dx) (pos ly +ℤ dy) (lands e.left ly on_left) in
+        let bottom_square = world_has-to (pos bx +ℤ dx) (pos e.bottom +ℤ dy) (lands bx e.bottom on_bottom) in
+        let right_square = world_has-to (pos rx +ℤ dx) (pos ry +ℤ dy) (lands rx ry on_right) in
+        let top_square = world_has-to (pos tx +ℤ dx) (pos ty +ℤ dy) (lands tx ty on_top) in
         let inside =
         none_of _ _ _ _
         (not_beyond (pos e.left +ℤ dx) left_square.0 (omega (arith, ints, left_square.1)))
@@ -106,60 +106,60 @@ module _ (planes : ℕ) (cell : Layout) (dx dy : ℤ) where
     ]
 
     -- a cell without a square other than space shows nothing
-    none_at : ((a b : ℕ) → ¬ (Passes (has_paint planes cell) a b)) → (plane : ℕ) (zx zy : ℤ) → kind_at (cell plane) zx zy ≡ 0
+    none_at : ((a b : ℕ) → ¬ (Passes (has_paint planes cell) a b)) → (plane : ℕ) (zx zy : ℤ) → kind_or_space (cell plane) zx zy ≡ 0
     none_at none plane (pos a) (pos b) = space_at plane a b (none a b)
     none_at none plane (pos a) (negsuc b) = refl
     none_at none plane (negsuc a) zy = refl
 
-    moved-nothing : painted_bounds planes cell ≡ None → (plane x y : ℕ) → moved (cell plane) dx dy x y ≡ 0
-    unfolding moved
+    moved-nothing : painted_bounds planes cell ≡ None → (plane x y : ℕ) → moved_picture (cell plane) dx dy x y ≡ 0
+    unfolding moved_picture
     moved-nothing empty plane x y =
         none_at (subst (IsBounds (has_paint planes cell)) empty (IsBounds-bounds_of (has_paint planes cell))) plane (pos x -ℤ dx) (pos y -ℤ dy)
 
     -- and another one shows nothing outside its moved rectangle
-    none_outside : (e : Rect) → IsSmallest (has_paint planes cell) e → (plane : ℕ) (zx zy : ℤ) → holds_at e zx zy ≡ false → kind_at (cell plane) zx zy ≡ 0
+    none_outside : (e : Rect) → IsSmallest (has_paint planes cell) e → (plane : ℕ) (zx zy : ℤ) → holds_at e zx zy ≡ false → kind_or_space (cell plane) zx zy ≡ 0
     none_outside e smallest plane (pos a) (pos b) h = space_at plane a b (λ passes. absurd (cc (sym h ∙ smallest.each a b passes)))
     none_outside e smallest plane (pos a) (negsuc b) h = refl
     none_outside e smallest plane (negsuc a) zy h = refl
 
     outside_moved :
         (e rect : Rect) → IsSmallest (has_paint planes cell) e → IsMoved e rect dx dy → (plane x y : ℕ) → holds rect x y ≡ false
-        → moved (cell plane) dx dy x y ≡ 0
-    unfolding moved
+        → moved_picture (cell plane) dx dy x y ≡ 0
+    unfolding moved_picture
     outside_moved e rect smallest is plane x y out =
         none_outside e smallest plane (pos x -ℤ dx) (pos y -ℤ dy) (sym (holds-IsMoved e rect dx dy x y is) ∙ out)
 
     -- so it does outside the rectangle that is asked for
-    pub moved-outside : (rect : Rect) → dumped_rect planes cell dx dy ≡ Some rect → (plane x y : ℕ) → holds rect x y ≡ false → moved (cell plane) dx dy x y ≡ 0
-    moved-outside rect asked = by (painted_bounds planes cell) (IsBounds-bounds_of (has_paint planes cell)) asked
+    pub moved_picture-outside : (rect : Rect) → dumped_rect planes cell dx dy ≡ Some rect → (plane x y : ℕ) → holds rect x y ≡ false → moved_picture (cell plane) dx dy x y ≡ 0
+    moved_picture-outside rect asked = by (painted_bounds planes cell) (IsBounds-bounds_of (has_paint planes cell)) asked
       where
         by :
             (found : Option Rect) → IsBounds (has_paint planes cell) found → option_and_then (λ bounds. moved_rect bounds dx dy) found ≡ Some rect
-            → (plane x y : ℕ) → holds rect x y ≡ false → moved (cell plane) dx dy x y ≡ 0
+            → (plane x y : ℕ) → holds rect x y ≡ false → moved_picture (cell plane) dx dy x y ≡ 0
         by None none h = absurd (cc h)
         by (Some bounds) smallest h =
             let size = sized (has_paint planes cell) bounds smallest in
             outside_moved bounds rect smallest (IsMoved-moved_rect bounds rect dx dy size.0 size.1 h)
 
     -- and where there is none, it shows nothing
-    pub moved-None : layout_leaves_world planes cell dx dy ≡ false → dumped_rect planes cell dx dy ≡ None → (plane x y : ℕ) → moved (cell plane) dx dy x y ≡ 0
+    pub moved-None : layout_leaves_world planes cell dx dy ≡ false → dumped_rect planes cell dx dy ≡ None → (plane x y : ℕ) → moved_picture (cell plane) dx dy x y ≡ 0
     moved-None stays asked = by (painted_bounds planes cell) refl asked
       where
         by :
             (found : Option Rect) → painted_bounds planes cell ≡ found → option_and_then (λ bounds. moved_rect bounds dx dy) found ≡ None
-            → (plane x y : ℕ) → moved (cell plane) dx dy x y ≡ 0
+            → (plane x y : ℕ) → moved_picture (cell plane) dx dy x y ≡ 0
         by None empty h = moved-nothing empty
         by (Some bounds) found h =
             let smallest = bounds_there (has_paint planes cell) (painted_bounds planes cell) bounds (IsBounds-bounds_of (has_paint planes cell)) found in
             absurd (cc (sym h ∙ moved_rect-smallest stays bounds smallest))
 
     -- ---- what a dump of it changes
-    kept_square : (layout : Layout) (plane x y : ℕ) → moved (cell plane) dx dy x y ≡ 0 → layout plane x y ≡ dumped_layout layout cell dx dy plane x y
+    kept_square : (layout : Layout) (plane x y : ℕ) → moved_picture (cell plane) dx dy x y ≡ 0 → layout plane x y ≡ dumped_layout layout cell dx dy plane x y
     kept_square layout plane x y space = ap (λ kind. if kind == 0 then layout plane x y else kind) (sym space)
 
     -- squares of the rectangle that is asked for
     pub AgreeOutside-dumped : (layout : Layout) (rect : Rect) → dumped_rect planes cell dx dy ≡ Some rect → AgreeOutside rect layout (dumped_layout layout cell dx dy)
-    AgreeOutside-dumped layout rect asked plane x y out = kept_square layout plane x y (moved-outside rect asked plane x y out)
+    AgreeOutside-dumped layout rect asked plane x y out = kept_square layout plane x y (moved_picture-outside rect asked plane x y out)
 
     -- and nothing, where there is none
     pub dumped-None : (layout : Layout) → layout_leaves_world planes cell dx dy ≡ false → dumped_rect planes cell dx dy ≡ None → dumped_layout layout cell dx dy ≡ layout

@@ -9,7 +9,7 @@ use Rattle.mls_geom.specs.StripLists.{strips_of}
 use Rattle.mls_geom.specs.World.{world}
 use Rattle.mls_geom.specs.declared.piece.Piece.{Piece}
 use Rattle.mls_library.specs.MarkedCells.{dirty_lines, mark_lines, marked, marked_line_count, marked_text}
-use Rattle.mls_library.specs.SavedCells.{end_lines, header_lines, layers_lines, rect_words, spaced, strips_on, text_of, types_of}
+use Rattle.mls_library.specs.SavedCells.{end_lines, header_lines, layers_lines, rect_words, spaced, strips_on, text_of, type_numbers}
 use Rattle.mls_library.proofs.SavedTexts.{text_of-append}
 use Rattle.mls_tech.specs.Readings.{Tech}
 use Rattle.mls_session.proofs.SavedCounts.{kind_lines-few, strips_few}
@@ -24,28 +24,28 @@ module _ (tech : Tech) (layout : Layout) (areas : List Rect) (picture : Picture)
   -- the first two lines, the areas, the marks, the types, and the last line
   pub marked_text-appended :
       (o0 o1 o2 o3 o4 o5 : List ℕ) → o1 ≡ o0 ++ text_of (header_lines tech) → o2 ≡ o1 ++ text_of (dirty_lines areas) → o3 ≡ o2 ++ text_of (mark_lines marks)
-      → o4 ≡ o3 ++ text_of (layers_lines tech (strips_on layout) (types_of tech)) → o5 ≡ o4 ++ text_of end_lines → o5 ≡ o0 ++ marked_text tech layout areas picture
+      → o4 ≡ o3 ++ text_of (layers_lines tech (strips_on layout) (type_numbers tech)) → o5 ≡ o4 ++ text_of end_lines → o5 ≡ o0 ++ marked_text tech layout areas picture
   marked_text-appended o0 o1 o2 o3 o4 o5 e1 e2 e3 e4 e5 =
       let header = text_of (header_lines tech) in
       let dirty = text_of (dirty_lines areas) in
       let marks_text = text_of (mark_lines (strips_of world picture)) in
-      let layers = text_of (layers_lines tech (strips_on layout) (types_of tech)) in
+      let layers = text_of (layers_lines tech (strips_on layout) (type_numbers tech)) in
       let last = text_of end_lines in
       let add = λ (text : List ℕ) (o : List ℕ). o ++ text in
       let listed = e3 ∙ ap (λ (list : List Piece). o2 ++ text_of (mark_lines list)) are in
       e5 ∙ ap (add last) (e4 ∙ ap (add layers) (listed ∙ ap (add marks_text) (e2 ∙ ap (add dirty) e1))) ∙ five_parts o0 header dirty marks_text layers last
       ∙ ap (λ text. o0 ++ text)
-      (sym (five_texts (header_lines tech) (dirty_lines areas) (mark_lines (strips_of world picture)) (layers_lines tech (strips_on layout) (types_of tech)) end_lines))
+      (sym (five_texts (header_lines tech) (dirty_lines areas) (mark_lines (strips_of world picture)) (layers_lines tech (strips_on layout) (type_numbers tech)) end_lines))
 
   -- and how many lines these have
   pub marked_line_count-sum :
-      3 + length (dirty_lines areas) + length (mark_lines marks) + length (layers_lines tech (strips_on layout) (types_of tech))
+      3 + length (dirty_lines areas) + length (mark_lines marks) + length (layers_lines tech (strips_on layout) (type_numbers tech))
       ≡ marked_line_count tech layout areas picture
   marked_line_count-sum =
       let header = header_lines tech in
       let dirty = dirty_lines areas in
       let shown = mark_lines (strips_of world picture) in
-      let layers = layers_lines tech (strips_on layout) (types_of tech) in
+      let layers = layers_lines tech (strips_on layout) (type_numbers tech) in
       omega (
         arith,
         ap (λ (list : List Piece). length (mark_lines list)) are,

@@ -13,7 +13,7 @@ use Rattle.mls_geom.specs.World.{coordinate_of, is_outside, origin, rect_of, wor
 use Rattle.mls_geom.specs.declared.rect.RectFault.{RectFault}
 use Rattle.mls_geom.specs.declared.rect.RectFault.TheVariants.{Empty, Outside}
 use Rattle.mls_geom.proofs.Holds.{between_holds, holds_between}
-use Rattle.mls_session.specs.Changes.{has_square}
+use Rattle.mls_session.specs.Changes.{world_has}
 use Rattle.mls_session.specs.Bounds.{moved_line, moved_rect, or_none}
 
 -- ---- lines
@@ -231,17 +231,17 @@ module _ (e r : Rect) (dx dy : ℤ) (x y : ℕ) (moved : IsMoved e r dx dy) wher
   holds-IsMoved = holds-at (pos x -ℤ dx) (pos y -ℤ dy) refl refl
 
 -- ---- squares that leave the world
-has_square-from : (x y : ℤ) → pos 3145728 ≤ℤ x → x <ℤ pos 5242880 → pos 3145728 ≤ℤ y → y <ℤ pos 5242880 → has_square x y ≡ true
-has_square-from x y a b c d = grind (arith, ints)
+world_has-from : (x y : ℤ) → pos 3145728 ≤ℤ x → x <ℤ pos 5242880 → pos 3145728 ≤ℤ y → y <ℤ pos 5242880 → world_has x y ≡ true
+world_has-from x y a b c d = grind (arith, ints)
 
-pub has_square-to : (x y : ℤ) → has_square x y ≡ true → (pos 3145728 ≤ℤ x) × (x <ℤ pos 5242880) × (pos 3145728 ≤ℤ y) × (y <ℤ pos 5242880)
-has_square-to x y h = (grind (arith, ints), grind (arith, ints), grind (arith, ints), grind (arith, ints))
+pub world_has-to : (x y : ℤ) → world_has x y ≡ true → (pos 3145728 ≤ℤ x) × (x <ℤ pos 5242880) × (pos 3145728 ≤ℤ y) × (y <ℤ pos 5242880)
+world_has-to x y h = (grind (arith, ints), grind (arith, ints), grind (arith, ints), grind (arith, ints))
 
 -- the world has each square of a rectangle that stays
-pub has_square-IsMoved : (e r : Rect) (dx dy : ℤ) (x y : ℕ) → IsMoved e r dx dy → holds e x y ≡ true → has_square (pos x +ℤ dx) (pos y +ℤ dy) ≡ true
-has_square-IsMoved e r dx dy x y moved inside =
+pub world_has-IsMoved : (e r : Rect) (dx dy : ℤ) (x y : ℕ) → IsMoved e r dx dy → holds e x y ≡ true → world_has (pos x +ℤ dx) (pos y +ℤ dy) ≡ true
+world_has-IsMoved e r dx dy x y moved inside =
     let lines = holds_between e x y inside in
-    has_square-from (pos x +ℤ dx) (pos y +ℤ dy)
+    world_has-from (pos x +ℤ dx) (pos y +ℤ dy)
     (omega (arith, ints, lines.0, moved.left, moved.legal.left_in))
     (omega (arith, ints, lines.1, moved.right, moved.legal.right_in))
     (omega (arith, ints, lines.2, moved.bottom, moved.legal.bottom_in))
@@ -256,10 +256,10 @@ none_of a b c d ha hb hc hd = rw (ha, hb, hc, hd) refl
 -- and lacks one of the squares of a rectangle that doesn't
 pub square-leaves :
     (e : Rect) (dx dy : ℤ) → e.left < e.right → e.bottom < e.top → moved_rect e dx dy ≡ None
-    → (x : ℕ) × (y : ℕ) × (holds e x y ≡ true) × (has_square (pos x +ℤ dx) (pos y +ℤ dy) ≡ false)
-square-leaves e dx dy wide tall none = elim (cases_Bool (has_square (pos e.left +ℤ dx) (pos e.bottom +ℤ dy))) [
+    → (x : ℕ) × (y : ℕ) × (holds e x y ≡ true) × (world_has (pos x +ℤ dx) (pos y +ℤ dy) ≡ false)
+square-leaves e dx dy wide tall none = elim (cases_Bool (world_has (pos e.left +ℤ dx) (pos e.bottom +ℤ dy))) [
   | inr low ↦ (e.left, e.bottom, between_holds e e.left e.bottom (omega arith) wide (omega arith) tall, low)
-  | inl low ↦ elim (cases_Bool (has_square (pos (e.right - 1) +ℤ dx) (pos (e.top - 1) +ℤ dy))) [
+  | inl low ↦ elim (cases_Bool (world_has (pos (e.right - 1) +ℤ dx) (pos (e.top - 1) +ℤ dy))) [
     | inr high ↦ (
       e.right - 1,
       e.top - 1,
@@ -267,8 +267,8 @@ square-leaves e dx dy wide tall none = elim (cases_Bool (has_square (pos e.left 
       high,
     )
     | inl high ↦
-        let lower = has_square-to (pos e.left +ℤ dx) (pos e.bottom +ℤ dy) low in
-        let upper = has_square-to (pos (e.right - 1) +ℤ dx) (pos (e.top - 1) +ℤ dy) high in
+        let lower = world_has-to (pos e.left +ℤ dx) (pos e.bottom +ℤ dy) low in
+        let upper = world_has-to (pos (e.right - 1) +ℤ dx) (pos (e.top - 1) +ℤ dy) high in
         let beyond = lost (goes_beyond e dx dy) (lines_moved e dx dy) (sym (moved_rect-is e dx dy wide tall) ∙ none) in
         let stays =
         none_of (is_beyond (pos e.left +ℤ dx)) (is_beyond (pos e.bottom +ℤ dy)) (is_beyond (pos e.right +ℤ dx)) (is_beyond (pos e.top +ℤ dy))

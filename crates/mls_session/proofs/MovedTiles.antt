@@ -24,8 +24,8 @@ use Rattle.mls_stitch.specs.Tilings.{IsPlane, block_at, shown}
 use Rattle.mls_stitch.specs.declared.laid_tile.LaidTile.{LaidTile}
 use Rattle.mls_stitch.proofs.ShownTiles.{KeysDiffer, shown-inside, shown-outside}
 use Rattle.mls_stitch.proofs.Sides.{legal-AreBlocks}
-use Rattle.mls_layout.specs.Moves.{kind_at, moved}
-use Rattle.mls_session.specs.Changes.{dumped, has_square, leaves_world}
+use Rattle.mls_layout.specs.Moves.{kind_or_space, moved_picture}
+use Rattle.mls_session.specs.Changes.{dumped, world_has, leaves_world}
 use Rattle.mls_session.specs.Bounds.{moved_rect}
 use Rattle.mls_session.proofs.MovedRects.{IsMoved-moved_rect, holds-IsMoved, holds_at, square-leaves}
 use Rattle.mls_session.proofs.FoundTiles.{length-strips}
@@ -41,11 +41,11 @@ either_way false more less = refl
 
 -- ---- a piece for a tile that isn't space
 pub holds-moved :
-    (dx dy : ℤ) (tile : LaidTile) (moved : Rect) → IsRectangleIn world tile.piece.rect → moved_rect tile.piece.rect dx dy ≡ Some moved → tile.piece.kind ≢ 0
-    → (x y : ℕ) → holds moved x y ≡ dumps dx dy tile x y
-holds-moved dx dy tile moved legal is some x y =
+    (dx dy : ℤ) (tile : LaidTile) (moved_picture : Rect) → IsRectangleIn world tile.piece.rect → moved_rect tile.piece.rect dx dy ≡ Some moved_picture → tile.piece.kind ≢ 0
+    → (x y : ℕ) → holds moved_picture x y ≡ dumps dx dy tile x y
+holds-moved dx dy tile moved_picture legal is some x y =
     let there = holds_at tile.piece.rect (pos x -ℤ dx) (pos y -ℤ dy) in
-    holds-IsMoved tile.piece.rect moved dx dy x y (IsMoved-moved_rect tile.piece.rect moved dx dy legal.wide legal.tall is)
+    holds-IsMoved tile.piece.rect moved_picture dx dy x y (IsMoved-moved_rect tile.piece.rect moved_picture dx dy legal.wide legal.tall is)
     ∙ sym (and-true there) ∙ ap (λ b. there && b) (sym (ap not (ne_eqb tile.piece.kind 0 some)))
 
 pub dumps-space : (dx dy : ℤ) (tile : LaidTile) → tile.piece.kind ≡ 0 → (x y : ℕ) → dumps dx dy tile x y ≡ false
@@ -56,33 +56,33 @@ dumps-space dx dy tile space x y =
 -- ---- how many pieces
 pub few-dumped :
     (pool : Pool) (owner : ℕ) (list items : List LaidTile) (dx dy : ℤ) (i : ℕ) (pieces : List Piece) → AreStrips world (picture_in pool owner) (map (λ tile. tile.piece) list) → items ≡ list
-    → ArePatches (dumps dx dy) (moved (shown (tiles_of pool owner)) dx dy) (take i items) pieces
+    → ArePatches (dumps dx dy) (moved_picture (shown (tiles_of pool owner)) dx dy) (take i items) pieces
     → (length pieces ≤ min i (length items)) × (length items ≡ tile_count world (picture_in pool owner))
 few-dumped pool owner list items dx dy i pieces strips same patches = (
-  few-ArePatches (dumps dx dy) (moved (shown (tiles_of pool owner)) dx dy) items i pieces patches,
+  few-ArePatches (dumps dx dy) (moved_picture (shown (tiles_of pool owner)) dx dy) items i pieces patches,
   ap length same ∙ length-strips pool owner list strips,
 )
 
 -- ---- the test for squares that leave the world
 -- a square of the world passes it
 pub leaves_world-at :
-    (picture : Picture) (dx dy : ℤ) (x y : ℕ) → holds world x y ≡ true → (not (picture x y == 0) && not (has_square (pos x +ℤ dx) (pos y +ℤ dy))) ≡ true
+    (picture : Picture) (dx dy : ℤ) (x y : ℕ) → holds world x y ≡ true → (not (picture x y == 0) && not (world_has (pos x +ℤ dx) (pos y +ℤ dy))) ≡ true
     → leaves_world picture dx dy ≡ true
 unfolding leaves_world
 leaves_world-at picture dx dy x y inside leaves =
     let lines = holds_between world x y inside in
     let (i, row_within, row_is) = Contains-range_with_len world.bottom world.top y lines.2 lines.3 in
     let (j, column_within, column_is) = Contains-range_with_len world.left world.right x lines.0 lines.1 in
-    let test : ℕ → ℕ → Bool = λ x y. not (picture x y == 0) && not (has_square (pos x +ℤ dx) (pos y +ℤ dy)) in
+    let test : ℕ → ℕ → Bool = λ x y. not (picture x y == 0) && not (world_has (pos x +ℤ dx) (pos y +ℤ dy)) in
     list_any-from_Any (λ y. list_any (λ x. test x y) (columns world)) (rows world)
     (i, y, row_within, row_is, list_any-from_Any (λ x. test x y) (columns world) (j, x, column_within, column_is, leaves))
 
 pub at-leaves_world :
     (picture : Picture) (dx dy : ℤ) → leaves_world picture dx dy ≡ true
-    → (x : ℕ) × (y : ℕ) × (holds world x y ≡ true) × ((not (picture x y == 0) && not (has_square (pos x +ℤ dx) (pos y +ℤ dy))) ≡ true)
+    → (x : ℕ) × (y : ℕ) × (holds world x y ≡ true) × ((not (picture x y == 0) && not (world_has (pos x +ℤ dx) (pos y +ℤ dy))) ≡ true)
 unfolding leaves_world
 at-leaves_world picture dx dy h =
-    let test : ℕ → ℕ → Bool = λ x y. not (picture x y == 0) && not (has_square (pos x +ℤ dx) (pos y +ℤ dy)) in
+    let test : ℕ → ℕ → Bool = λ x y. not (picture x y == 0) && not (world_has (pos x +ℤ dx) (pos y +ℤ dy)) in
     let (i, y, row_within, row_is, in_row) = Any-from_list_any (λ y. list_any (λ x. test x y) (columns world)) (rows world) h in
     let (j, x, column_within, column_is, leaves) = Any-from_list_any (λ x. test x y) (columns world) in_row in
     let row = range_with_len-Contains world.bottom world.top y (i, row_within, row_is) in
@@ -110,18 +110,18 @@ module _ (tiles : List (ℕ × Tile)) (list : List LaidTile) (plane : IsPlane ti
   ]
 
   -- the pieces show what the plane does, moved
-  pub kind-dumps : (dx dy : ℤ) (tile : LaidTile) (x y : ℕ) → Contains list tile → dumps dx dy tile x y ≡ true → tile.piece.kind ≡ moved (shown tiles) dx dy x y
-  unfolding moved
+  pub kind-dumps : (dx dy : ℤ) (tile : LaidTile) (x y : ℕ) → Contains list tile → dumps dx dy tile x y ≡ true → tile.piece.kind ≡ moved_picture (shown tiles) dx dy x y
+  unfolding moved_picture
   kind-dumps dx dy tile x y there covered =
       at (pos x -ℤ dx) (pos y -ℤ dy) (and_parts (holds_at tile.piece.rect (pos x -ℤ dx) (pos y -ℤ dy)) (not (tile.piece.kind == 0)) covered).0
     where
-      at : (zx zy : ℤ) → holds_at tile.piece.rect zx zy ≡ true → tile.piece.kind ≡ kind_at (shown tiles) zx zy
+      at : (zx zy : ℤ) → holds_at tile.piece.rect zx zy ≡ true → tile.piece.kind ≡ kind_or_space (shown tiles) zx zy
       at (pos a) (pos b) inside = sym (shows_there tile a b there inside)
       at (pos a) (negsuc b) inside = absurd (cc inside)
       at (negsuc a) zy inside = absurd (cc inside)
 
   -- the tiles have the moved squares that aren't space
-  some_there : (zx zy : ℤ) → list_any (λ tile. holds_at tile.piece.rect zx zy && not (tile.piece.kind == 0)) list ≡ true → not (kind_at (shown tiles) zx zy == 0) ≡ true
+  some_there : (zx zy : ℤ) → list_any (λ tile. holds_at tile.piece.rect zx zy && not (tile.piece.kind == 0)) list ≡ true → not (kind_or_space (shown tiles) zx zy == 0) ≡ true
   some_there (pos a) (pos b) h =
       let (k, tile, within, is, covered) = Any-from_list_any (λ t. holds t.piece.rect a b && not (t.piece.kind == 0)) list h in
       let at = and_parts (holds tile.piece.rect a b) (not (tile.piece.kind == 0)) covered in
@@ -133,7 +133,7 @@ module _ (tiles : List (ℕ × Tile)) (list : List LaidTile) (plane : IsPlane ti
       let (k, tile, within, is, covered) = Any-from_list_any (λ (t : LaidTile). false) list h in
       absurd (cc covered)
 
-  there_some : (zx zy : ℤ) → not (kind_at (shown tiles) zx zy == 0) ≡ true → list_any (λ tile. holds_at tile.piece.rect zx zy && not (tile.piece.kind == 0)) list ≡ true
+  there_some : (zx zy : ℤ) → not (kind_or_space (shown tiles) zx zy == 0) ≡ true → list_any (λ tile. holds_at tile.piece.rect zx zy && not (tile.piece.kind == 0)) list ≡ true
   there_some (pos a) (pos b) some =
       let (tile, there, inside) = tile_there a b some in
       list_any-from_Any (λ t. holds t.piece.rect a b && not (t.piece.kind == 0)) list
@@ -141,21 +141,21 @@ module _ (tiles : List (ℕ × Tile)) (list : List LaidTile) (plane : IsPlane ti
   there_some (pos a) (negsuc b) some = absurd (cc some)
   there_some (negsuc a) zy some = absurd (cc some)
 
-  is_covered-dumps : (dx dy : ℤ) (x y : ℕ) → is_covered (dumps dx dy) list x y ≡ not (moved (shown tiles) dx dy x y == 0)
-  unfolding moved
+  is_covered-dumps : (dx dy : ℤ) (x y : ℕ) → is_covered (dumps dx dy) list x y ≡ not (moved_picture (shown tiles) dx dy x y == 0)
+  unfolding moved_picture
   is_covered-dumps dx dy x y =
       let zx = pos x -ℤ dx in
       let zy = pos y -ℤ dy in
-      same_from_decides {P = not (kind_at (shown tiles) zx zy == 0) ≡ true} (is_covered (dumps dx dy) list x y) (not (kind_at (shown tiles) zx zy == 0))
+      same_from_decides {P = not (kind_or_space (shown tiles) zx zy == 0) ≡ true} (is_covered (dumps dx dy) list x y) (not (kind_or_space (shown tiles) zx zy == 0))
       (some_there zx zy, there_some zx zy) (λ h. h, λ h. h)
 
   pub overlaid-dumps :
-      (dx dy : ℤ) (pieces : List Piece) (below : Picture) → ArePatches (dumps dx dy) (moved (shown tiles) dx dy) list pieces
+      (dx dy : ℤ) (pieces : List Piece) (below : Picture) → ArePatches (dumps dx dy) (moved_picture (shown tiles) dx dy) list pieces
       → overlaid below pieces ≡ dumped below (shown tiles) dx dy
   overlaid-dumps dx dy pieces below patches =
       patches.paint below
       ∙ fun_ext (λ x. fun_ext (λ y.
-      let over = moved (shown tiles) dx dy x y in
+      let over = moved_picture (shown tiles) dx dy x y in
       ap (λ covered. if covered then over else below x y) (is_covered-dumps dx dy x y) ∙ either_way (over == 0) over (below x y)))
 
   -- ---- what leaves the world

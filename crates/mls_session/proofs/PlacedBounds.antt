@@ -15,25 +15,25 @@ use Rattle.mls_library.specs.Bounds.{has_paint, painted_bounds}
 use Rattle.mls_library.proofs.FirstPlanes.{any_at}
 use Rattle.mls_library.proofs.SmallestRects.{IsBounds, IsBounds-bounds_of}
 use Rattle.mls_session.specs.Bounds.{dumped_rect, moved_rect}
-use Rattle.mls_session.specs.Changes.{has_square, layout_leaves_world, leaves_world}
-use Rattle.mls_session.specs.Inner.{placed_at, placed_bounds}
+use Rattle.mls_session.specs.Changes.{world_has, layout_leaves_world, leaves_world}
+use Rattle.mls_session.specs.Inner.{bounds_placed, placed_bounds}
 use Rattle.mls_session.specs.declared.refusal.Refusal.{Refusal}
 use Rattle.mls_session.specs.declared.refusal.Refusal.TheVariants.{CellOutside}
 use Rattle.mls_session.proofs.EditedSquares.{bounds_there, moved_rect-smallest, sized}
-use Rattle.mls_session.proofs.MovedRects.{IsMoved-moved_rect, has_square-IsMoved}
+use Rattle.mls_session.proofs.MovedRects.{IsMoved-moved_rect, world_has-IsMoved}
 use Rattle.mls_session.proofs.MovedTiles.{at-leaves_world}
 
 module _ (planes : ℕ) (cell : Layout) (dx dy : ℤ) where
   -- a square that leaves
   leaving :
       layout_leaves_world planes cell dx dy ≡ true
-      → (x : ℕ) × (y : ℕ) × (holds world x y ≡ true) × (has_paint planes cell x y ≡ true) × (not (has_square (pos x +ℤ dx) (pos y +ℤ dy)) ≡ true)
+      → (x : ℕ) × (y : ℕ) × (holds world x y ≡ true) × (has_paint planes cell x y ≡ true) × (not (world_has (pos x +ℤ dx) (pos y +ℤ dy)) ≡ true)
   leaving leaves =
       let (i, plane, within, is, here) = Any-from_list_any (λ plane. leaves_world (cell plane) dx dy) (range_with_len 0 planes) leaves in
       let count : planes ≡ planes - 0 = omega arith in
       let lines = range_with_len-Contains 0 planes plane (subst (λ n. Contains (range_with_len 0 n) plane) count (i, within, is)) in
       let (x, y, inside, out) = at-leaves_world (cell plane) dx dy here in
-      let tests = and_parts (not (cell plane x y == 0)) (not (has_square (pos x +ℤ dx) (pos y +ℤ dy))) out in
+      let tests = and_parts (not (cell plane x y == 0)) (not (world_has (pos x +ℤ dx) (pos y +ℤ dy))) out in
       (x, y, inside, any_at (λ plane. not (cell plane x y == 0)) planes plane lines.1 tests.0, tests.1)
 
   -- none does where there are no bounds
@@ -49,7 +49,7 @@ module _ (planes : ℕ) (cell : Layout) (dx dy : ℤ) where
         let (x, y, inside, some, out) = leaving leaves in
         let smallest = bounds_there (has_paint planes cell) (painted_bounds planes cell) e (IsBounds-bounds_of (has_paint planes cell)) found in
         let size = sized (has_paint planes cell) e smallest in
-        let there = has_square-IsMoved e r dx dy x y (IsMoved-moved_rect e r dx dy size.0 size.1 kept) (smallest.each x y (inside, some)) in
+        let there = world_has-IsMoved e r dx dy x y (IsMoved-moved_rect e r dx dy size.0 size.1 kept) (smallest.each x y (inside, some)) in
         absurd (cc (sym out ∙ ap not there)))
 
     -- and one does where they leave
@@ -64,7 +64,7 @@ module _ (planes : ℕ) (cell : Layout) (dx dy : ℤ) where
   abbrev placed : Bool → Result (Option Rect) Refusal
   placed leaves = if leaves then Err CellOutside else Ok (dumped_rect planes cell dx dy)
 
-  placed_at-is : (e : Rect) (moved : Option Rect) → painted_bounds planes cell ≡ Some e → moved_rect e dx dy ≡ moved → placed_at moved ≡ placed (layout_leaves_world planes cell dx dy)
+  placed_at-is : (e : Rect) (moved : Option Rect) → painted_bounds planes cell ≡ Some e → moved_rect e dx dy ≡ moved → bounds_placed moved ≡ placed (layout_leaves_world planes cell dx dy)
   placed_at-is e None found lost = sym (ap placed (leaves-None e found lost))
   placed_at-is e (Some r) found kept =
       let rect : dumped_rect planes cell dx dy ≡ Some r = ap (option_and_then (λ bounds. moved_rect bounds dx dy)) found ∙ kept in

@@ -27,7 +27,7 @@ use Rattle.mls_errorplane.specs.declared.error_plane.Outcome.TheVariants as outc
 use Rattle.mls_errorplane.specs.declared.error_plane.Stepped.{Stepped}
 use Rattle.mls_errorplane.specs.declared.error_plane.Stepped.TheVariants as stepped
 use Rattle.mls_errorplane.proofs.CheckedSquares.{edit-IsChecked, step-IsChecked}
-use Rattle.mls_layout.specs.Moves.{moved}
+use Rattle.mls_layout.specs.Moves.{moved_picture}
 use Rattle.mls_layout.specs.Uses.{cell_layouts, flattened, most_uses}
 use Rattle.mls_layout.specs.declared.uses.CellUse.{CellUse}
 use Rattle.mls_layout.proofs.PlacedUses.{flattened-agrees, flattened-placed, use_layout-moved}
@@ -43,7 +43,7 @@ use Rattle.mls_session.specs.declared.reply.Reply.{Reply}
 use Rattle.mls_session.specs.declared.reply.Reply.TheVariants.{Done, Kinds, Saved, Count as Counted, Why as WhyRules, Refused, Stopped}
 use Rattle.mls_session.proofs.CheckedDesigns.{checked_some}
 use Rattle.mls_session.proofs.DumpedRects.{layout_in-beyond, layout_in-outside}
-use Rattle.mls_session.proofs.EditedSquares.{AgreeOutside-dumped, AgreeOutside-erased, AgreeOutside-painted, dumped-None, moved-None, moved-outside}
+use Rattle.mls_session.proofs.EditedSquares.{AgreeOutside-dumped, AgreeOutside-erased, AgreeOutside-painted, dumped-None, moved-None, moved_picture-outside}
 
 -- ---- edits
 -- a step leaves the layout, or it is accepted and changes squares of its rectangle alone
@@ -170,7 +170,7 @@ module _ (config : Config) (drawn : Drawn) (id : ℕ) (cell : Layout) (dx dy : �
   abbrev with_use : Drawn
   with_use = record drawn { uses = drawn.uses ++ record { cell = id; dx = dx; dy = dy } ∷ [] }
 
-  same_square : (plane x y : ℕ) → moved (cell plane) dx dy x y ≡ 0 → layout_of config drawn plane x y ≡ layout_of config with_use plane x y
+  same_square : (plane x y : ℕ) → moved_picture (cell plane) dx dy x y ≡ 0 → layout_of config drawn plane x y ≡ layout_of config with_use plane x y
   same_square plane x y space =
       let placed : CellUse = record { cell = id; dx = dx; dy = dy } in
       flattened-placed config.cells drawn.uses placed drawn.paint plane x y (use_layout-moved config.cells placed cell plane x y there space)
@@ -181,7 +181,7 @@ module _ (config : Config) (drawn : Drawn) (id : ℕ) (cell : Layout) (dx dy : �
   place_edit_in None stays at =
       inl (sym (fun_ext (λ plane. fun_ext (λ x. fun_ext (λ y. same_square plane x y (moved-None config.tech.plane_count cell dx dy is.beyond is.outside stays at plane x y))))))
   place_edit_in (Some e) stays at =
-      inr (e, refl, refl, λ plane x y out. same_square plane x y (moved-outside config.tech.plane_count cell dx dy is.beyond is.outside e at plane x y out))
+      inr (e, refl, refl, λ plane x y out. same_square plane x y (moved_picture-outside config.tech.plane_count cell dx dy is.beyond is.outside e at plane x y out))
 
   place_edit :
       (leaves many : Bool) → layout_leaves_world config.tech.plane_count cell dx dy ≡ leaves

@@ -38,13 +38,13 @@ use Rattle.mls_session.specs.declared.reply.Reply.{Reply}
 use Rattle.mls_session.specs.declared.reply.Reply.TheVariants.{Done, Stopped}
 
 -- where bounds lie that are moved, unless they leave the world
-abbrev pub placed_at : Option Rect → Result (Option Rect) Refusal
-placed_at None = Err CellOutside
-placed_at (Some rect) = Ok (Some rect)
+abbrev pub bounds_placed : Option Rect → Result (Option Rect) Refusal
+bounds_placed None = Err CellOutside
+bounds_placed (Some rect) = Ok (Some rect)
 
 abbrev pub placed_bounds : Option Rect → ℤ → ℤ → Result (Option Rect) Refusal
 placed_bounds None dx dy = Ok None
-placed_bounds (Some bounds) dx dy = placed_at (moved_rect bounds dx dy)
+placed_bounds (Some bounds) dx dy = bounds_placed (moved_rect bounds dx dy)
 
 -- what a change makes of what a plane shows
 abbrev pub changed : Pool → Change → ℕ → Picture → Picture

@@ -184,12 +184,12 @@ check_in drawn (Some e) = (drawn, Done)
 
 -- ---- marks
 -- the number of marked squares of the world
-unfoldable pub marked_squares : SquareSet → ℕ
-marked_squares marks = sum_by (λ y. count_by (λ x. marks x y) (columns world)) (rows world)
+unfoldable pub total_marks : SquareSet → ℕ
+total_marks marks = sum_by (λ y. count_by (λ x. marks x y) (columns world)) (rows world)
 
 -- how many squares are marked, and how many areas await checking
 abbrev pub count_step : Designed → Designed × Reply
-count_step own = (own, Counted (marked_squares own.checking.marks) (length own.checking.dirty))
+count_step own = (own, Counted (total_marks own.checking.marks) (length own.checking.dirty))
 
 -- the rules that forbid a square of the box, in the layout as it is now
 abbrev pub why_step : Config → Designed → Option Rect → Designed × Reply

@@ -11,7 +11,7 @@ ghost use Rattle.mls_layout.specs.Uses.{flat_layout};
 ghost use Rattle.mls_layout.specs.Workspaces.{FitsWorkspace};
 ghost use Rattle.mls_library.specs.Libraries.{IsHome};
 ghost use Rattle.mls_library.specs.MarkedCells.{marked_line_count, marked_text};
-ghost use Rattle.mls_library.specs.SavedCells.{Extends, layers_lines, strips_on, text_of, types_of};
+ghost use Rattle.mls_library.specs.SavedCells.{Extends, layers_lines, strips_on, text_of, type_numbers};
 ghost use Rattle.mls_session.specs.Inner.{ListsPlanes};
 ghost use Rattle.mls_session.specs.Own.{exceeds_tiles};
 ghost use Rattle.mls_stitch.specs.Tilings.{HasPlane};
@@ -78,7 +78,7 @@ fn strips_for<'a>(tech: &Tech, layers: &'a [FlatStrips], kind: Kind) -> &'a [Pie
 fn push_layers(tech: &Tech, layers: &[FlatStrips], out: &mut Vec<u8>) -> Result<(), AllocError>
     requires count { length layers.now ≡ tech.now.plane_count }
     ensures text { OnOk result ((layout : Layout) → ListsPlanes layout layers.now → out.new.items
-        ≡ out.old.items ++ text_of (layers_lines tech.now (strips_on layout) (types_of tech.now))) }
+        ≡ out.old.items ++ text_of (layers_lines tech.now (strips_on layout) (type_numbers tech.now))) }
     ensures kept { Extends out.old.items out.new.items }
 {
     let types = tech.types() as u8;
@@ -94,7 +94,7 @@ fn count_layers(tech: &Tech, layers: &[FlatStrips]) -> usize
     requires count { length layers.now ≡ tech.now.plane_count }
     requires listed { (layout : Layout) × ListsPlanes layout layers.now }
     ensures count { (layout : Layout) → ListsPlanes layout layers.now
-        → result ≡ length (layers_lines tech.now (strips_on layout) (types_of tech.now)) }
+        → result ≡ length (layers_lines tech.now (strips_on layout) (type_numbers tech.now)) }
     ensures few { result ≤ 2 ^ 49 }
 {
     let types = tech.types() as u8;

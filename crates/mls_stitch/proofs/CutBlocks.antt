@@ -9,8 +9,8 @@ use Rattle.mls_geom.specs.World.{world}
 use Rattle.mls_geom.specs.declared.piece.Piece.{Piece}
 use Rattle.mls_geom.proofs.Ascending.{Contains-first, Contains-rest}
 use Rattle.mls_geom.proofs.Holds.{between_holds, holds_between}
-use Rattle.mls_stitch.specs.Replacements.{AreApart, TakePlace}
-use Rattle.mls_stitch.specs.Splits.{IsCutAt, JoinAlong, JoinInX, JoinInY, first_part, joined_along, joined_x, joined_y, left_of, lower_of, right_of, second_part, upper_of}
+use Rattle.mls_stitch.specs.Replacements.{AreDisjoint, TakePlace}
+use Rattle.mls_stitch.specs.Splits.{IsCutAt, JoinAlong, JoinInX, JoinInY, first_part, joined_along, joined_x, joined_y, left_part, lower_of, right_part, second_part, upper_of}
 use Rattle.mls_stitch.specs.Stitches.{HoldsAt}
 use Rattle.mls_stitch.specs.Tilings.{AreBlocks}
 use Rattle.mls_stitch.specs.declared.split.Axis.{Axis}
@@ -24,39 +24,39 @@ pub record AreParts (whole first second : Piece) : Type 0 where
   pub in_first : (at : Point) → holds first.rect at.x at.y ≡ true → holds whole.rect at.x at.y ≡ true
   pub in_second : (at : Point) → holds second.rect at.x at.y ≡ true → holds whole.rect at.x at.y ≡ true
   pub either : (at : Point) → holds whole.rect at.x at.y ≡ true → (holds first.rect at.x at.y ≡ true) ⊎ (holds second.rect at.x at.y ≡ true)
-  pub apart : AreApart first second
+  pub apart : AreDisjoint first second
   pub first_kind : first.kind ≡ whole.kind
   pub second_kind : second.kind ≡ whole.kind
 
 -- two pieces on either side of a line have no square in common
-apart_x : (a b : Piece) → a.rect.right ≤ b.rect.left → AreApart a b
+apart_x : (a b : Piece) → a.rect.right ≤ b.rect.left → AreDisjoint a b
 apart_x a b before at in_a in_b =
     let lines = holds_between a.rect at.x at.y in_a in
     let lines' = holds_between b.rect at.x at.y in_b in
     omega (arith, lines.1, lines'.0, before)
 
-apart_y : (a b : Piece) → a.rect.top ≤ b.rect.bottom → AreApart a b
+apart_y : (a b : Piece) → a.rect.top ≤ b.rect.bottom → AreDisjoint a b
 apart_y a b before at in_a in_b =
     let lines = holds_between a.rect at.x at.y in_a in
     let lines' = holds_between b.rect at.x at.y in_b in
     omega (arith, lines.3, lines'.2, before)
 
 -- a line through a block cuts it into two parts
-parts_x : (block : Piece) (x : ℕ) → block.rect.left < x → x < block.rect.right → AreParts block (left_of x block) (right_of x block)
+parts_x : (block : Piece) (x : ℕ) → block.rect.left < x → x < block.rect.right → AreParts block (left_part x block) (right_part x block)
 parts_x block x after before = record {
   in_first = λ at inside.
-      let lines = holds_between (left_of x block).rect at.x at.y inside in
+      let lines = holds_between (left_part x block).rect at.x at.y inside in
       between_holds block.rect at.x at.y lines.0 (omega (arith, lines.1, before)) lines.2 lines.3;
   in_second = λ at inside.
-      let lines = holds_between (right_of x block).rect at.x at.y inside in
+      let lines = holds_between (right_part x block).rect at.x at.y inside in
       between_holds block.rect at.x at.y (omega (arith, lines.0, after)) lines.1 lines.2 lines.3;
   either = λ at inside.
       let lines = holds_between block.rect at.x at.y inside in
       elim (cases_lt at.x x) [
-        | inl below ↦ inl (between_holds (left_of x block).rect at.x at.y lines.0 below lines.2 lines.3)
-        | inr above ↦ inr (between_holds (right_of x block).rect at.x at.y above lines.1 lines.2 lines.3)
+        | inl below ↦ inl (between_holds (left_part x block).rect at.x at.y lines.0 below lines.2 lines.3)
+        | inr above ↦ inr (between_holds (right_part x block).rect at.x at.y above lines.1 lines.2 lines.3)
       ];
-  apart = apart_x (left_of x block) (right_of x block) (omega arith);
+  apart = apart_x (left_part x block) (right_part x block) (omega arith);
   first_kind = refl;
   second_kind = refl;
 }
@@ -83,7 +83,7 @@ parts_y block y after before = record {
 -- which are rectangles of the world where the block is one
 legal-parts_x :
     (block : Piece) (x : ℕ) → IsRectangleIn world block.rect → block.rect.left < x → x < block.rect.right
-    → IsRectangleIn world (left_of x block).rect × IsRectangleIn world (right_of x block).rect
+    → IsRectangleIn world (left_part x block).rect × IsRectangleIn world (right_part x block).rect
 legal-parts_x block x legal after before = (
   record { left_in = legal.left_in; wide = after; right_in = omega (arith, legal.right_in, before); bottom_in = legal.bottom_in; tall = legal.tall; top_in = legal.top_in },
   record { left_in = omega (arith, legal.left_in, after); wide = before; right_in = legal.right_in; bottom_in = legal.bottom_in; tall = legal.tall; top_in = legal.top_in },
@@ -204,7 +204,7 @@ TakePlace-parts blocks tile whole first second is parts legal_first legal_second
   there = All-one (λ key. IsSome (blocks key)) tile (IsSome-there (blocks tile) whole is);
   once = AllPairs-one (λ a b. a ≢ b) tile;
   legal = All-two (λ p. IsRectangleIn world p.rect) first second legal_first legal_second;
-  apart = AllPairs-two AreApart first second parts.apart;
+  apart = AllPairs-two AreDisjoint first second parts.apart;
   same = λ at. (
     λ held.
         let inside = holds-HoldsAt blocks tile whole at is (Any-one (λ key. HoldsAt blocks key at) tile held) in
@@ -229,7 +229,7 @@ TakePlace-whole blocks a b whole first second is_first is_second differ parts le
   there = All-two (λ key. IsSome (blocks key)) a b (IsSome-there (blocks a) first is_first) (IsSome-there (blocks b) second is_second);
   once = AllPairs-two (λ k l. k ≢ l) a b differ;
   legal = All-one (λ p. IsRectangleIn world p.rect) whole legal;
-  apart = AllPairs-one AreApart whole;
+  apart = AllPairs-one AreDisjoint whole;
   same = λ at. (
     λ held.
         let inside : holds whole.rect at.x at.y ≡ true = elim (Any-two (λ key. HoldsAt blocks key at) a b held) [

@@ -20,7 +20,7 @@ use Rattle.mls_geom.proofs.TouchedStrips.{holder, one_strip, overlaid_covered}
 use Rattle.mls_tilepool.specs.declared.tile.Tile.{Tile}
 use Rattle.mls_stitch.specs.Areas.{AreInArea, comes_first}
 use Rattle.mls_stitch.specs.Pending.{keys_of}
-use Rattle.mls_stitch.specs.Replacements.{AreApart, IsHeld, TakePlace}
+use Rattle.mls_stitch.specs.Replacements.{AreDisjoint, IsHeld, TakePlace}
 use Rattle.mls_stitch.specs.Stitches.{HoldsAt}
 use Rattle.mls_stitch.specs.Tilings.{AreBlocks, IsPlane, block_at}
 use Rattle.mls_stitch.specs.declared.laid_tile.LaidTile.{LaidTile}
@@ -60,7 +60,7 @@ IsRectangleIn-IsStrip extent picture strip is =
 
 -- strips in order share no square
 pub strips_apart :
-    (extent : Rect) (picture : Picture) (p q : Piece) → IsStrip extent picture p → IsStrip extent picture q → IsTrue (comes_before p q) → AreApart p q
+    (extent : Rect) (picture : Picture) (p q : Piece) → IsStrip extent picture p → IsStrip extent picture q → IsTrue (comes_before p q) → AreDisjoint p q
 strips_apart extent picture p q is other before at here there =
     let same = one_strip extent picture p q at.x at.y is other here there in
     let itself : comes_before q q ≡ true = subst (λ r. comes_before r q ≡ true) same before in

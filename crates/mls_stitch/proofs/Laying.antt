@@ -10,7 +10,7 @@ use Rattle.mls_geom.proofs.Ascending.{AllPairs-append, Contains-first}
 use Rattle.mls_tilepool.specs.Pools.{Changes, IsOwner, Pool, count_of, room_of, tile_at, tile_in, tiles_of}
 use Rattle.mls_tilepool.specs.declared.tile.Tile.{Tile}
 use Rattle.mls_stitch.specs.Pending.{keys_of}
-use Rattle.mls_stitch.specs.Placing.{GiveWay, Lays, moved, placed_at, unstitched}
+use Rattle.mls_stitch.specs.Placing.{GiveWay, Lays, moved_tile, placed_at, unstitched}
 use Rattle.mls_stitch.specs.Tilings.{ChangesOnly}
 use Rattle.mls_stitch.specs.declared.laid_tile.LaidTile.{LaidTile}
 use Rattle.mls_stitch.proofs.DistinctNumbers.{cases_Contains}
@@ -173,7 +173,7 @@ GiveWay-add old new owner key piece none changes count = record {
 
 -- the tile under a key moves to a piece
 pub GiveWay-set :
-    (old new : Pool) (owner key : ℕ) (piece : Piece) (tile : Tile) → tile_at old owner key ≡ Some tile → Changes old new owner key (Some (moved piece tile)) → count_of new owner ≡ count_of old owner
+    (old new : Pool) (owner key : ℕ) (piece : Piece) (tile : Tile) → tile_at old owner key ≡ Some tile → Changes old new owner key (Some (moved_tile piece tile)) → count_of new owner ≡ count_of old owner
     → GiveWay (tiles_of old owner) (tiles_of new owner) (key ∷ []) (laid_tile key piece ∷ [])
 GiveWay-set old new owner key piece tile here changes count = record {
   placed = one (IsLaidIn (tiles_of old owner) (tiles_of new owner)) (laid_tile key piece) (rw here changes.changed);

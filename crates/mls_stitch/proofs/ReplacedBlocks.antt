@@ -11,7 +11,7 @@ use Rattle.mls_geom.specs.declared.piece.Piece.{Piece}
 use Rattle.mls_geom.proofs.Ascending.{Contains-map}
 use Rattle.mls_stitch.specs.Fresh.{MayReplace, fresh_at, replaced, untouched}
 use Rattle.mls_stitch.specs.Pending.{keys_of}
-use Rattle.mls_stitch.specs.Replacements.{AreApart, IsHeld}
+use Rattle.mls_stitch.specs.Replacements.{AreDisjoint, IsHeld}
 use Rattle.mls_stitch.specs.Stitches.{HoldsAt}
 use Rattle.mls_stitch.specs.Tilings.{AreBlocks}
 use Rattle.mls_stitch.specs.declared.laid_tile.LaidTile.{LaidTile}
@@ -119,7 +119,7 @@ module _ (blocks : ℕ → Option Piece) (touched : List ℕ) (laid : List LaidT
   pub one_entry :
       (p q : LaidTile) (at : Point) → Contains laid p → Contains laid q → holds p.piece.rect at.x at.y ≡ true → holds q.piece.rect at.x at.y ≡ true → p ≡ q
   one_entry p q at found_p found_q in_p in_q =
-      elim (AllPairs-either (λ e f. AreApart e.piece f.piece) laid p q (AllPairs-from_map AreApart piece_of laid may.takes.apart) found_p found_q) [
+      elim (AllPairs-either (λ e f. AreDisjoint e.piece f.piece) laid p q (AllPairs-from_map AreDisjoint piece_of laid may.takes.apart) found_p found_q) [
         | inl same ↦ same
         | inr (inl apart) ↦ absurd (apart at in_p in_q)
         | inr (inr apart) ↦ absurd (apart at in_q in_p)

@@ -12,7 +12,7 @@ use Rattle.mls_tilepool.specs.Pools.{tile_in}
 use Rattle.mls_tilepool.specs.declared.tile.Tile.{Tile}
 use Rattle.mls_stitch.specs.Fresh.{MayReplace, replaced}
 use Rattle.mls_stitch.specs.Pending.{AreListed, AwaitStitches, IsRightOrListed, keys_of}
-use Rattle.mls_stitch.specs.Placing.{AreClose, GiveWay, Surround, inside_only, moved, placed_at, unstitched}
+use Rattle.mls_stitch.specs.Placing.{AreClose, GiveWay, Surround, inside_only, moved_tile, placed_at, unstitched}
 use Rattle.mls_stitch.specs.Replacements.{IsHeld, TakePlace}
 use Rattle.mls_stitch.specs.Stitches.{HoldsAt, LeadsTo, beyond, stitch_of}
 use Rattle.mls_stitch.specs.Tilings.{AreTiledAs, ArePlaced}
@@ -41,14 +41,14 @@ no_stitch tiles laid entry tile stitch placed found is =
     ap (stitch_of stitch) (same_Some tile (unstitched entry.piece) (sym is ∙ fresh)) ∙ stitch_of-unstitched stitch entry.piece
 
 -- one that moves has those that lead into the world
-stitch_of-moved : (stitch : Stitch) (piece : Piece) (tile : Tile) → stitch_of stitch (moved piece tile) ≡ inside_only (beyond stitch piece.rect) (stitch_of stitch tile)
+stitch_of-moved : (stitch : Stitch) (piece : Piece) (tile : Tile) → stitch_of stitch (moved_tile piece tile) ≡ inside_only (beyond stitch piece.rect) (stitch_of stitch tile)
 stitch_of-moved Lb piece tile = refl
 stitch_of-moved Bl piece tile = refl
 stitch_of-moved Tr piece tile = refl
 stitch_of-moved Rt piece tile = refl
 
 -- each lies where its piece does
-ArePlaced-moved : (slot : Option Tile) (block : Option Piece) (piece : Piece) (tile : Tile) → slot ≡ Some (moved piece tile) → block ≡ Some piece → ArePlaced slot block
+ArePlaced-moved : (slot : Option Tile) (block : Option Piece) (piece : Piece) (tile : Tile) → slot ≡ Some (moved_tile piece tile) → block ≡ Some piece → ArePlaced slot block
 ArePlaced-moved slot block piece tile slot_is block_is =
     subst₂ ArePlaced (sym slot_is) (sym block_is) (piece, refl, record { left = refl; bottom = refl; kind = refl })
 
@@ -252,7 +252,7 @@ module _ (old new : List (ℕ × Tile)) (blocks : ℕ → Option Piece) (touched
           let is : tile ≡ unstitched entry.piece = same_Some tile (unstitched entry.piece) (sym is_tile ∙ placed-tile entry found ∙ ap (λ o. Some (placed_at entry.piece o)) unused) in
           pending-new entry tile stitch found unused (ap (stitch_of stitch) is ∙ stitch_of-unstitched stitch entry.piece)
       | inr (before, there) ↦
-          let is : tile ≡ moved entry.piece before = same_Some tile (moved entry.piece before) (sym is_tile ∙ placed-tile entry found ∙ ap (λ o. Some (placed_at entry.piece o)) there) in
+          let is : tile ≡ moved_tile entry.piece before = same_Some tile (moved_tile entry.piece before) (sym is_tile ∙ placed-tile entry found ∙ ap (λ o. Some (placed_at entry.piece o)) there) in
           let (block, here, placed) = placed_block old blocks entry.id before (tiled.placed entry.id) there in
           pending-moved entry tile before block stitch found here (tiled.stitched entry.id before block stitch there here) (ap (stitch_of stitch) is ∙ stitch_of-moved stitch entry.piece before)
     ]

@@ -12,7 +12,7 @@ use Rattle.mls_stitch.proofs.FreshTiles.{entry-keys_of}
 use Rattle.mls_stitch.proofs.SettingStitches.{AreLed-later, IsSet, KeepStitches-refl, KeepStitches-set, KeepStitches-trans, set_is_right}
 use Rattle.mls_stitch.proofs.Sides.{HoldsAt-block, placed_tile}
 use Rattle.mls_stitch.proofs.TilesBeyond.{back_early, back_later, last_has_beyond}
-use Rattle.mls_stitch.specs.Lookups.{ArePartedAt, AreSortedFor, HasNoLastWith, IsLastWith, back_of, leads_to}
+use Rattle.mls_stitch.specs.Lookups.{BeginUpTo, AreSortedFor, HasNoLastWith, IsLastWith, back_of, leads_to}
 use Rattle.mls_stitch.specs.Pending.{AreInPlace, AreLed, AreListed, AreSewn, AwaitStitches, IsLed, IsSewn, IsStitchedAt, KeepStitches}
 use Rattle.mls_stitch.specs.Stitches.{HoldsAt, LeadsTo, beyond, stitch_of}
 use Rattle.mls_stitch.specs.Tilings.{AreTiledAs}
@@ -34,7 +34,7 @@ last_laid blocks test entries count id d listed bound last = ap blocks (sym (las
 
 module _
     {blocks : ℕ → Option Piece} (stitch : Stitch) (tile : LaidTile) (entries : List LaidTile) (count : ℕ) (listed : All (IsLaid blocks) entries) (laid : IsLaid blocks tile)
-    (sorted : AreSortedFor stitch entries) (parted : ArePartedAt stitch tile.piece.rect entries count)
+    (sorted : AreSortedFor stitch entries) (parted : BeginUpTo stitch tile.piece.rect entries count)
   where
     -- a tile whose stitch is to lead to the last of the first ones leads to each to which it is to lead, once it is set
     pub onward_set :

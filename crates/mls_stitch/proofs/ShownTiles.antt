@@ -14,7 +14,7 @@ use Rattle.mls_geom.proofs.PiecePictures.{space_outside}
 use Rattle.mls_tilepool.proofs.TileLists.{tile_in_contains, tiles_of-ascend}
 use Rattle.mls_tilepool.specs.Pools.{Pool, tile_in, tiles_of}
 use Rattle.mls_tilepool.specs.declared.tile.Tile.{Tile}
-use Rattle.mls_stitch.specs.Replacements.{AreApart}
+use Rattle.mls_stitch.specs.Replacements.{AreDisjoint}
 use Rattle.mls_stitch.specs.Tilings.{IsPlane, block_at, block_of, blocks_of, shown}
 use Rattle.mls_stitch.proofs.Sides.{HoldsAt-block, legal-AreBlocks, one_block, there-IsSomeAnd}
 
@@ -90,9 +90,9 @@ whole-blocks_of tiles x y plane inside =
     let found = block_with tiles x y plane inside in
     Any-blocks_of tiles found.0 found.1 x y found.2 found.3
 
-pub apart-blocks_of : (tiles : List (ℕ × Tile)) → IsPlane tiles → KeysDiffer tiles → AllPairs AreApart (blocks_of tiles)
+pub apart-blocks_of : (tiles : List (ℕ × Tile)) → IsPlane tiles → KeysDiffer tiles → AllPairs AreDisjoint (blocks_of tiles)
 apart-blocks_of tiles plane differ =
-    AllPairs-map AreApart (λ e. block_of tiles e.1) tiles
+    AllPairs-map AreDisjoint (λ e. block_of tiles e.1) tiles
     (λ i j d before within at in_p in_q.
     let p = get_or tiles i d in
     let q = get_or tiles j d in

@@ -13,7 +13,7 @@ use Rattle.mls_geom.proofs.Overlays.{Agrees, overlaid_stays}
 use Rattle.mls_tilepool.specs.Pools.{tile_in}
 use Rattle.mls_tilepool.specs.declared.tile.Tile.{Tile}
 use Rattle.mls_stitch.specs.Replacements.{Replaces}
-use Rattle.mls_stitch.specs.Splits.{IsCutAt, Joins, Splits, first_part, joined_along, right_of, second_part, upper_of}
+use Rattle.mls_stitch.specs.Splits.{IsCutAt, Joins, Splits, first_part, joined_along, right_part, second_part, upper_of}
 use Rattle.mls_stitch.specs.Stitches.{HoldsAt}
 use Rattle.mls_stitch.specs.Tilings.{IsPlane, block_at, shown}
 use Rattle.mls_stitch.specs.declared.split.Axis.{Axis}
@@ -98,7 +98,7 @@ Joins-Replaces old new a b whole first second plane differ is_first is_second ap
 -- so it is with a tile that a line cuts; the new tile is the one that has the second part's lower-left square
 second_corner : (axis : Axis) (block : Piece) (at : ℕ) → IsRectangleIn world block.rect → IsCutAt axis at block
     → holds (second_part axis at block).rect (second_part axis at block).rect.left (second_part axis at block).rect.bottom ≡ true
-second_corner X block x legal (after, before) = between_holds (right_of x block).rect x block.rect.bottom (omega arith) before (omega arith) legal.tall
+second_corner X block x legal (after, before) = between_holds (right_part x block).rect x block.rect.bottom (omega arith) before (omega arith) legal.tall
 second_corner Y block y legal (after, before) = between_holds (upper_of y block).rect block.rect.left y (omega arith) legal.wide (omega arith) before
 
 pub Splits-cut :

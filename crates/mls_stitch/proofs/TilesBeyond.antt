@@ -13,7 +13,7 @@ use Rattle.mls_geom.specs.World.{world}
 use Rattle.mls_geom.specs.declared.piece.Piece.{Piece}
 use Rattle.mls_geom.proofs.Holds.{holds_between, between_holds}
 use Rattle.mls_stitch.proofs.Sides.{left_neighbour, legal-AreBlocks, lower_neighbour, one_block, right_neighbour, upper_neighbour}
-use Rattle.mls_stitch.specs.Lookups.{ArePartedAt, AreSortedFor, back_of, first_square, from_end, is_up_to, leads_to, place_beyond, start_of}
+use Rattle.mls_stitch.specs.Lookups.{BeginUpTo, AreSortedFor, back_of, first_square, from_end, is_up_to, leads_to, place_beyond, start_of}
 use Rattle.mls_stitch.specs.Stitches.{beyond}
 use Rattle.mls_stitch.specs.Tilings.{AreBlocks}
 use Rattle.mls_stitch.specs.Walks.{IsLaid}
@@ -207,7 +207,7 @@ up_to_later stitch entries sorted j k d order within = elim (cases_lt j k) [
 
 module _
     {blocks : ℕ → Option Piece} (stitch : Stitch) (tile : LaidTile) (entries : List LaidTile) (count : ℕ) (tiling : AreBlocks blocks) (listed : All (IsLaid blocks) entries)
-    (laid : IsLaid blocks tile) (sorted : AreSortedFor stitch entries) (parted : ArePartedAt stitch tile.piece.rect entries count)
+    (laid : IsLaid blocks tile) (sorted : AreSortedFor stitch entries) (parted : BeginUpTo stitch tile.piece.rect entries count)
   where
     -- a tile that begins at the square beyond or before it is one of the first
     is_early : (k : ℕ) (d : LaidTile) → k < length entries → is_up_to (start_of stitch (get_or entries k d).piece.rect) (place_beyond stitch tile.piece.rect) ≡ true → k < count

@@ -54,7 +54,7 @@ abbrev pub leads_to : Stitch → LaidTile → LaidTile → Bool
 leads_to stitch from to = holds to.piece.rect (beyond stitch from.piece.rect).x (beyond stitch from.piece.rect).y
 
 -- the first tiles are those that begin at the square beyond the rectangle or before it
-pub record ArePartedAt (stitch : Stitch) (rect : Rect) (entries : List LaidTile) (count : ℕ) : Type 0 where
+pub record BeginUpTo (stitch : Stitch) (rect : Rect) (entries : List LaidTile) (count : ℕ) : Type 0 where
   pub bound : count ≤ length entries
   pub before : AllWithin (λ entry. is_up_to (start_of stitch entry.piece.rect) (place_beyond stitch rect) ≡ true) entries 0 count
   pub after : AllWithin (λ entry. is_up_to (start_of stitch entry.piece.rect) (place_beyond stitch rect) ≡ false) entries count (length entries)

@@ -21,8 +21,8 @@ abbrev pub inside_only : Point → Option ℕ → Option ℕ
 inside_only at to = if holds world at.x at.y then to else None
 
 -- the tile with the corner and the kind of a piece, and with those of its stitches that lead into the world from there
-abbrev pub moved : Piece → Tile → Tile
-moved piece tile = record {
+abbrev pub moved_tile : Piece → Tile → Tile
+moved_tile piece tile = record {
   corner = record { x = piece.rect.left; y = piece.rect.bottom };
   kind = piece.kind;
   lb = inside_only (beyond Lb piece.rect) tile.lb;
@@ -34,7 +34,7 @@ moved piece tile = record {
 -- the tile of a piece under a key: the one that was there has moved to it, and where there was none it has no stitch
 abbrev pub placed_at : Piece → Option Tile → Tile
 placed_at piece None = unstitched piece
-placed_at piece (Some tile) = moved piece tile
+placed_at piece (Some tile) = moved_tile piece tile
 
 -- the tiles under the touched keys have given way to these, each of which lies where its piece does; all others are as they were
 pub record GiveWay (old new : List (ℕ × Tile)) (touched : List ℕ) (laid : List LaidTile) : Type 0 where

@@ -13,8 +13,8 @@ use Rattle.mls_stitch.specs.Tilings.{IsPlane, block_at, shown}
 use Rattle.mls_stitch.specs.declared.stitch.Stitch.{Stitch}
 
 -- the rectangles share no square
-abbrev pub AreApart : Piece → Piece → Type 0
-AreApart p q = (at : Point) → IsTrue (holds p.rect at.x at.y) → IsTrue (holds q.rect at.x at.y) → ⊥
+abbrev pub AreDisjoint : Piece → Piece → Type 0
+AreDisjoint p q = (at : Point) → IsTrue (holds p.rect at.x at.y) → IsTrue (holds q.rect at.x at.y) → ⊥
 
 -- a key of the list has a block with the square
 abbrev pub IsHeld : (ℕ → Option Piece) → List ℕ → Point → Type 0
@@ -25,7 +25,7 @@ pub record TakePlace (blocks : ℕ → Option Piece) (touched : List ℕ) (fresh
   pub there : All (λ key. IsSome (blocks key)) touched
   pub once : AllPairs (λ a b. a ≢ b) touched
   pub legal : All (λ piece. IsRectangleIn world piece.rect) fresh
-  pub apart : AllPairs AreApart fresh
+  pub apart : AllPairs AreDisjoint fresh
   pub same : (at : Point) → IsHeld blocks touched at ↔ Any (λ piece. IsTrue (holds piece.rect at.x at.y)) fresh
 
 -- the stitch is as it was, or led to one of these keys

@@ -9,11 +9,11 @@ use Rattle.mls_stitch.specs.declared.split.Axis.{Axis}
 use Rattle.mls_stitch.specs.declared.split.Axis.TheVariants.{X, Y}
 
 -- the part of a block to the left of the line x, and the part to its right
-abbrev pub left_of : ℕ → Piece → Piece
-left_of x block = record { rect = record { left = block.rect.left; bottom = block.rect.bottom; right = x; top = block.rect.top }; kind = block.kind }
+abbrev pub left_part : ℕ → Piece → Piece
+left_part x block = record { rect = record { left = block.rect.left; bottom = block.rect.bottom; right = x; top = block.rect.top }; kind = block.kind }
 
-abbrev pub right_of : ℕ → Piece → Piece
-right_of x block = record { rect = record { left = x; bottom = block.rect.bottom; right = block.rect.right; top = block.rect.top }; kind = block.kind }
+abbrev pub right_part : ℕ → Piece → Piece
+right_part x block = record { rect = record { left = x; bottom = block.rect.bottom; right = block.rect.right; top = block.rect.top }; kind = block.kind }
 
 -- the part below the line y, and the part above it
 abbrev pub lower_of : ℕ → Piece → Piece
@@ -51,11 +51,11 @@ IsCutAt Y y block = (block.rect.bottom < y) × (y < block.rect.top)
 
 -- the part before the line, and the part behind it
 abbrev pub first_part : Axis → ℕ → Piece → Piece
-first_part X = left_of
+first_part X = left_part
 first_part Y = lower_of
 
 abbrev pub second_part : Axis → ℕ → Piece → Piece
-second_part X = right_of
+second_part X = right_part
 second_part Y = upper_of
 
 -- two blocks that share a whole side, and both as one

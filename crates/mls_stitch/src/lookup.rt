@@ -4,7 +4,7 @@ ghost use Rattle.std.specs.List.{AllWithin};
 ghost use Rattle.std.specs.List.Sorted.{IsPermutation};
 ghost use Rattle.mls_geom.specs.Rects.{holds};
 ghost use Rattle.mls_stitch.specs.Placing.{inside_only};
-ghost use Rattle.mls_stitch.specs.Lookups.{ArePartedAt, AreSortedFor, HasNoLastWith, IsLastWith, back_of, first_square, is_up_to, leads_to, place_of, start_of};
+ghost use Rattle.mls_stitch.specs.Lookups.{BeginUpTo, AreSortedFor, HasNoLastWith, IsLastWith, back_of, first_square, is_up_to, leads_to, place_of, start_of};
 ghost use Rattle.mls_stitch.specs.Stitches.{beyond};
 
 use crate::{LaidTile, Stitch};
@@ -191,7 +191,7 @@ pub(crate) fn count_beyond(
     near: usize,
 ) -> usize
     requires { AreSortedFor stitch entries.now }
-    ensures { ArePartedAt stitch tile.now.piece.rect entries.now result }
+    ensures { BeginUpTo stitch tile.now.piece.rect entries.now result }
 {
     let square = Square::beyond(stitch, tile.piece.rect);
     count_up_to(entries, stitch, Place::of(stitch, square), near)

@@ -2,7 +2,7 @@
 ghost use Rattle.std.specs.Prelude.{◌≡◌, ◌≢◌, ◌+◌, ◌≤◌, [], IfSome, IsSome, length, vec_len, vec_capacity};
 ghost use Rattle.std.specs.List.{All, AllPairs};
 ghost use Rattle.mls_tilepool.specs.Pools.{IsOwner, count_of, room_of, tile_at, tiles_of};
-ghost use Rattle.mls_stitch.specs.Placing.{GiveWay, Lays, moved, unstitched};
+ghost use Rattle.mls_stitch.specs.Placing.{GiveWay, Lays, moved_tile, unstitched};
 ghost use Rattle.mls_stitch.specs.Tilings.{ChangesOnly};
 
 use crate::lookup::inside_only;
@@ -27,7 +27,7 @@ fn unstitched_tile(piece: &Piece) -> Tile
 /// Returns the tile with the corner and the kind of the piece, and those of its stitches that lead into the world from
 /// there.
 fn moved_tile(tile: &Tile, piece: &Piece) -> Tile
-    ensures { result ≡ moved piece.now tile.now }
+    ensures { result ≡ moved_tile piece.now tile.now }
 {
     let rect = piece.rect;
     Tile {

@@ -1,7 +1,7 @@
 //! Splitting tiles and joining them.
 ghost use Rattle.std.specs.Prelude.{◌≡◌, ◌<◌, ◌≤◌, ◌↔◌, Some, IfOk, IfSome, IsErr, IsSomeAnd, OnErr};
 ghost use Rattle.mls_tilepool.specs.Pools.{count_of, room_of, tiles_of};
-ghost use Rattle.mls_stitch.specs.Splits.{IsCutAt, JoinAlong, JoinInX, JoinInY, Joins, Splits, first_part, joined_along, joined_x, joined_y, left_of, lower_of, right_of, second_part, upper_of};
+ghost use Rattle.mls_stitch.specs.Splits.{IsCutAt, JoinAlong, JoinInX, JoinInY, Joins, Splits, first_part, joined_along, joined_x, joined_y, left_part, lower_of, right_part, second_part, upper_of};
 ghost use Rattle.mls_stitch.specs.Tilings.{ChangesOnly, HasPlane, block_at};
 
 use crate::laid_tile::laid;
@@ -137,8 +137,8 @@ impl Plane {
         requires pieces_fit { 2 ≤ scratch.old.room }
         ensures no_room { IsErr result ↔ (room_of pool.old self.old ≡ Some (count_of pool.old self.old)) }
         ensures split { IfOk result (λ id. IfSome (block_at (tiles_of pool.old self.old) tile) (λ block.
-            Splits (tiles_of pool.old self.old) (tiles_of pool.new self.old) tile id (left_of x block)
-            (right_of x block))) }
+            Splits (tiles_of pool.old self.old) (tiles_of pool.new self.old) tile id (left_part x block)
+            (right_part x block))) }
         ensures refused { OnErr result (pool.new ≡ pool.old) }
         ensures plane { self.new ≡ self.old }
         ensures home { HasPlane pool.new self.old }

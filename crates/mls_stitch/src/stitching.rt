@@ -4,7 +4,7 @@ ghost use Rattle.std.specs.List.{All};
 ghost use Rattle.std.specs.List.Sorted.{IsPermutation};
 ghost use Rattle.mls_geom.specs.declared.piece.Piece.{Piece};
 ghost use Rattle.mls_tilepool.specs.Pools.{Changes, count_of, tile_at, tiles_of};
-ghost use Rattle.mls_stitch.specs.Lookups.{ArePartedAt, AreSortedFor, back_of};
+ghost use Rattle.mls_stitch.specs.Lookups.{BeginUpTo, AreSortedFor, back_of};
 ghost use Rattle.mls_stitch.specs.Pending.{AreInPlace, AreSewn, AwaitStitches, IsLed, IsSewn, KeepStitches};
 ghost use Rattle.mls_stitch.specs.Stitches.{stitch_of, with_stitch};
 ghost use Rattle.mls_stitch.specs.Tilings.{AreTiledAs, ChangesOnly};
@@ -51,7 +51,7 @@ fn stitch_onward(
     count: usize,
 )
     requires sorted { AreSortedFor stitch fresh.now }
-    requires parted { ArePartedAt stitch tile.now.piece.rect fresh.now count }
+    requires parted { BeginUpTo stitch tile.now.piece.rect fresh.now count }
     requires place { (blocks : ℕ → Option Piece) × AreInPlace (tiles_of pool.old owner.now) blocks
         × IsLaid blocks tile.now × All (IsLaid blocks) fresh.now }
     ensures led { (blocks : ℕ → Option Piece) → AreInPlace (tiles_of pool.old owner.now) blocks
@@ -77,7 +77,7 @@ fn stitch_back(
     count: usize,
 )
     requires sorted { AreSortedFor stitch fresh.now }
-    requires parted { ArePartedAt stitch tile.now.piece.rect fresh.now count }
+    requires parted { BeginUpTo stitch tile.now.piece.rect fresh.now count }
     requires place { (blocks : ℕ → Option Piece) × AreInPlace (tiles_of pool.old owner.now) blocks
         × IsLaid blocks tile.now × All (IsLaid blocks) fresh.now }
     ensures led { (blocks : ℕ → Option Piece) → AreInPlace (tiles_of pool.old owner.now) blocks

@@ -3,7 +3,7 @@ use Rattle.std.proofs.Common.{◌≡◌, ℕ, suc, zero, ◌+◌, ◌*◌, ◌<�
 use Rattle.std.specs.Option.{option_and_then, option_map}
 use Rattle.mls_tech.specs.Names.{is_name}
 use Rattle.mls_text.specs.Words.{same_word}
-use Rattle.mls_tech.specs.TypeLists.{Scope, Token, Comma, Slash, Tilde, Opening, Closing, Word, TypeList, AllBut, Both, Spelled, Term, WholeList, spelled, closed, with_plane, word_term, or_fault, ◌>>=◌, whole, list_in, types_of, types_in, bits_in, tokens_of}
+use Rattle.mls_tech.specs.TypeLists.{Scope, Token, Comma, Slash, Tilde, Opening, Closing, Word, TypeList, AllBut, Both, Spelled, Term, WholeList, spelled, closed, spelled_on_plane, word_term, or_fault, ◌>>=◌, whole, list_in, types_of, types_spelled, bits_in, tokens_of}
 use Rattle.mls_kinds.specs.KindSets.{set_of}
 use Rattle.mls_kinds.specs.KindSets.{union, difference}
 use Rattle.mls_tech.specs.Inner.ListReaders.{reader, tilde_more, after_tildes, first_fault, step, finish, at_first}
@@ -15,7 +15,7 @@ use Rattle.mls_tech.specs.declared.list_reader.Position.TheVariants.{BeforeTerm,
 use Rattle.mls_tech.specs.declared.list_reader.OuterList.{OuterList}
 use Rattle.mls_kinds.proofs.KindSetLemmas.{union_assoc, union_none, difference_thrice}
 use Rattle.mls_tech.proofs.ReaderLemmas.{read_from}
-use Rattle.mls_tech.proofs.SpelledLists.{IsShorter, NoComma, more_items, spelled-shorter, spelled-no_comma, with_plane-shorter}
+use Rattle.mls_tech.proofs.SpelledLists.{IsShorter, NoComma, more_items, spelled-shorter, spelled-no_comma, spelled_on_plane-shorter}
 use Rattle.mls_tech.proofs.ListSets.{set_in, unknown_in, set_in-lt, types_of-is}
 
 first_fault-assoc : (a b c : Option TechFaultKind) → first_fault (first_fault a b) c ≡ first_fault a (first_fault b c)
@@ -65,7 +65,7 @@ module _ (scope : Scope) (room : ℕ) where
 
   -- a plane may follow a term
   plane_read : (outer : List OuterList) (items : ℕ) (unknown : Option TechFaultKind) (term : TypeList) (tokens : List Token) →
-      term_gives outer items NoTilde unknown (term, tokens) ≡ (or_fault BadList (with_plane (term, tokens)) >>= list_gives outer items unknown)
+      term_gives outer items NoTilde unknown (term, tokens) ≡ (or_fault BadList (spelled_on_plane (term, tokens)) >>= list_gives outer items unknown)
   unfolding read_from step finish term_gives list_gives
   plane_read outer items unknown term [] = refl
   plane_read outer items unknown term (Slash ∷ []) = refl
@@ -92,7 +92,7 @@ module _ (scope : Scope) (room : ℕ) where
 
   -- the plane of each term that is spelled
   planes_read : (outer : List OuterList) (items : ℕ) (unknown : Option TechFaultKind) (term : Spelled) →
-      (or_fault BadList term >>= term_gives outer items NoTilde unknown) ≡ (or_fault BadList (option_and_then with_plane term) >>= list_gives outer items unknown)
+      (or_fault BadList term >>= term_gives outer items NoTilde unknown) ≡ (or_fault BadList (option_and_then spelled_on_plane term) >>= list_gives outer items unknown)
   planes_read outer items unknown None = refl
   planes_read outer items unknown (Some (term, tokens)) = plane_read outer items unknown term tokens
 
@@ -100,7 +100,7 @@ module _ (scope : Scope) (room : ℕ) where
   unfolding ReadsTerm ReadsList spelled
   list_read n reads_term reads_list tokens enough outer items unknown =
       reads_term tokens (omega arith) outer items NoTilde unknown ∙ planes_read outer items unknown (spelled n Term tokens)
-      ∙ items_read n (length tokens) reads_list (omega arith) outer items unknown (option_and_then with_plane (spelled n Term tokens)) (with_plane-shorter _ _ (spelled-shorter n Term tokens))
+      ∙ items_read n (length tokens) reads_list (omega arith) outer items unknown (option_and_then spelled_on_plane (spelled n Term tokens)) (spelled_on_plane-shorter _ _ (spelled-shorter n Term tokens))
 
   -- a list in parentheses, and the one parenthesis that closes it
   closing_read : (outer : List OuterList) (items : ℕ) (tildes : Tildes) (unknown : Option TechFaultKind) (list : Spelled) → NoComma list →
@@ -149,7 +149,7 @@ module _ (scope : Scope) (room : ℕ) where
   whole_read (Some (list, (token ∷ tokens))) ends = refl
 
   pub read_from-is_bits_in : (word : List ℕ) → read_from scope (at_first room) (tokens_of word) ≡ bits_in scope word
-  unfolding bits_in types_in list_in ReadsList
+  unfolding bits_in types_spelled list_in ReadsList
   read_from-is_bits_in word =
       let n : ℕ = 2 * length (tokens_of word) + 2 in
       (both_read n).1 (tokens_of word) (omega arith) [] 0 None ∙ whole_read (spelled n WholeList (tokens_of word)) (spelled-no_comma n (tokens_of word))

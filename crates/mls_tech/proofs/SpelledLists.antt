@@ -3,7 +3,7 @@ use Rattle.std.proofs.Common.{◌≡◌, ℕ, suc, zero, ◌≤◌, Bool, true, 
 use Rattle.std.specs.Option.{option_and_then, option_map}
 use Rattle.mls_tech.specs.Names.{is_name}
 use Rattle.mls_text.specs.Words.{same_word}
-use Rattle.mls_tech.specs.TypeLists.{Token, Comma, Slash, Tilde, Opening, Closing, Word, TypeList, Nothing, Named, AllBut, Both, OnPlane, Spelled, Term, WholeList, Part, spelled, closed, with_plane, at_comma, after_first, word_term}
+use Rattle.mls_tech.specs.TypeLists.{Token, Comma, Slash, Tilde, Opening, Closing, Word, TypeList, Nothing, Named, AllBut, Both, OnPlane, Spelled, Term, WholeList, Part, spelled, closed, spelled_on_plane, at_comma, after_first, word_term}
 
 -- no more tokens are left than there were
 abbrev pub IsShorter : ℕ → Spelled → Type 0
@@ -24,14 +24,14 @@ word_term-shorter word tokens =
     if-shorter _ (same_word word (codes "0")) (Some (Nothing, tokens)) (if is_name word then Some (Named word, tokens) else None) (omega arith)
     (if-shorter _ (is_name word) (Some (Named word, tokens)) None (omega arith) tt)
 
-pub with_plane-shorter : (n : ℕ) (term : Spelled) → IsShorter n term → IsShorter n (option_and_then with_plane term)
-with_plane-shorter n None h = tt
-with_plane-shorter n (Some (term, [])) h = h
-with_plane-shorter n (Some (term, (Slash ∷ []))) h = tt
-with_plane-shorter n (Some (term, (Slash ∷ Word plane ∷ tokens))) h =
+pub spelled_on_plane-shorter : (n : ℕ) (term : Spelled) → IsShorter n term → IsShorter n (option_and_then spelled_on_plane term)
+spelled_on_plane-shorter n None h = tt
+spelled_on_plane-shorter n (Some (term, [])) h = h
+spelled_on_plane-shorter n (Some (term, (Slash ∷ []))) h = tt
+spelled_on_plane-shorter n (Some (term, (Slash ∷ Word plane ∷ tokens))) h =
     if-shorter n (is_name plane) (Some (OnPlane term plane, tokens)) None (omega (arith, h)) tt
-with_plane-shorter n (Some (term, (Slash ∷ token ∷ tokens))) h = tt
-with_plane-shorter n (Some (term, (token ∷ tokens))) h = h
+spelled_on_plane-shorter n (Some (term, (Slash ∷ token ∷ tokens))) h = tt
+spelled_on_plane-shorter n (Some (term, (token ∷ tokens))) h = h
 
 closed-shorter : (n : ℕ) (list : Spelled) → IsShorter n list → IsShorter (suc n) (option_and_then closed list)
 closed-shorter n None h = tt
@@ -62,7 +62,7 @@ spelled-shorter (suc n) Term (Tilde ∷ tokens) = mapped-shorter (length tokens)
 spelled-shorter (suc n) Term (Opening ∷ tokens) = closed-shorter (length tokens) (spelled n WholeList tokens) (spelled-shorter n WholeList tokens)
 spelled-shorter (suc n) Term (token ∷ tokens) = tt
 spelled-shorter (suc n) WholeList tokens =
-    more_items-shorter n (length tokens) (spelled-shorter n WholeList) _ (with_plane-shorter (length tokens) (spelled n Term tokens) (spelled-shorter n Term tokens))
+    more_items-shorter n (length tokens) (spelled-shorter n WholeList) _ (spelled_on_plane-shorter (length tokens) (spelled n Term tokens) (spelled-shorter n Term tokens))
 
 mapped-no_comma : (f : TypeList → TypeList) (found : Spelled) → NoComma found → NoComma (option_map (λ found. (f found.0, found.1)) found)
 mapped-no_comma f None h = tt
@@ -79,4 +79,4 @@ more_items-no_comma n ih (Some (item, (token ∷ tokens))) = refl
 pub spelled-no_comma : (n : ℕ) (tokens : List Token) → NoComma (spelled n WholeList tokens)
 unfolding spelled
 spelled-no_comma zero tokens = tt
-spelled-no_comma (suc n) tokens = more_items-no_comma n (spelled-no_comma n) (option_and_then with_plane (spelled n Term tokens))
+spelled-no_comma (suc n) tokens = more_items-no_comma n (spelled-no_comma n) (option_and_then spelled_on_plane (spelled n Term tokens))

@@ -57,10 +57,10 @@ closed (list, (Closing ∷ tokens)) = Some (list, tokens)
 closed (list, tokens) = None
 
 -- a term, and the plane that may follow it
-abbrev pub with_plane : TypeList × List Token → Spelled
-with_plane (term, (Slash ∷ Word plane ∷ tokens)) = if is_name plane then Some (OnPlane term plane, tokens) else None
-with_plane (term, (Slash ∷ tokens)) = None
-with_plane (term, tokens) = Some (term, tokens)
+abbrev pub spelled_on_plane : TypeList × List Token → Spelled
+spelled_on_plane (term, (Slash ∷ Word plane ∷ tokens)) = if is_name plane then Some (OnPlane term plane, tokens) else None
+spelled_on_plane (term, (Slash ∷ tokens)) = None
+spelled_on_plane (term, tokens) = Some (term, tokens)
 
 abbrev pub at_comma : TypeList × List Token → Bool
 at_comma (item, (Comma ∷ tokens)) = true
@@ -84,7 +84,7 @@ spelled (suc n) Term (Opening ∷ tokens) = option_and_then closed (spelled n Wh
 spelled (suc n) Term (token ∷ tokens) = None
 spelled (suc n) WholeList tokens =
     option_and_then (λ item. if at_comma item then option_map (λ others. (Both item.0 others.0, others.1)) (spelled n WholeList (after_first item.1)) else Some item)
-    (option_and_then with_plane (spelled n Term tokens))
+    (option_and_then spelled_on_plane (spelled n Term tokens))
 
 -- the list that the whole word spells: two steps for each token are enough
 abbrev pub whole : TypeList × List Token → Option TypeList
@@ -123,9 +123,9 @@ types_of scope (Both first others) = types_of scope first >>= λ xs. types_of sc
 types_of scope (OnPlane term plane) = types_of scope term >>= λ set. or_fault UnknownPlane (scope.plane_of plane) >>= λ known. Ok (λ kind. set kind && scope.lies_on known kind)
 
 -- the set that a word spells, where a fault of its spelling comes first
-unfoldable pub types_in : Scope → List ℕ → Result TypeTest TechFaultKind
-types_in scope word = or_fault BadList (list_in word) >>= types_of scope
+unfoldable pub types_spelled : Scope → List ℕ → Result TypeTest TechFaultKind
+types_spelled scope word = or_fault BadList (list_in word) >>= types_of scope
 
 -- the set that a word spells, as a number whose bit k is 1 for each type k
 unfoldable pub bits_in : Scope → List ℕ → Result ℕ TechFaultKind
-bits_in scope word = types_in scope word >>= λ set. Ok (set_of set)
+bits_in scope word = types_spelled scope word >>= λ set. Ok (set_of set)

@@ -93,7 +93,7 @@ impl Model for ListReader {
 
 impl ListReader {
     ghost use Rattle.std.specs.Prelude.{◌≡◌, ◌<◌, ◌≤◌, length, IfOk};
-    ghost use Rattle.mls_tech.specs.Inner.ListReaders.{HasRoom, Steps, openings};
+    ghost use Rattle.mls_tech.specs.Inner.ListReaders.{HasRoom, Advances, openings};
     ghost use Rattle.mls_tech.specs.Inner.Tokens.{token_of};
     ghost use Rattle.mls_tech.specs.TypeLists.{bits_in};
 
@@ -137,7 +137,7 @@ impl ListReader {
     #[tactic(auto, unfolding(crate::specs::Inner::ListReaders::step))]
     fn take(&mut self, tech: &Tech, token: Token<'_>) -> Result<(), TechFaultKind>
         requires { HasRoom self.old (token_of token) }
-        ensures { Steps (spec.step (scope_of tech.now) self.old (token_of token.entry)) result self.new }
+        ensures { Advances (spec.step (scope_of tech.now) self.old (token_of token.entry)) result self.new }
     {
         let position = self.position;
         match position {
@@ -173,7 +173,7 @@ impl ListReader {
         token: Token<'_>,
     ) -> Result<(), TechFaultKind>
         requires { HasRoom self.old (token_of token) }
-        ensures { Steps (spec.term_step (scope_of tech.now) self.old tildes (token_of token.entry)) result self.new }
+        ensures { Advances (spec.term_step (scope_of tech.now) self.old tildes (token_of token.entry)) result self.new }
     {
         match token {
             Token::Tilde => {
@@ -205,7 +205,7 @@ impl ListReader {
 
     /// Reads a term of one word.
     fn take_word(&mut self, tech: &Tech, tildes: Tildes, word: &[u8]) -> Result<(), TechFaultKind>
-        ensures { Steps (spec.word_step (scope_of tech.now) self.old tildes word.now) result self.new }
+        ensures { Advances (spec.word_step (scope_of tech.now) self.old tildes word.now) result self.new }
     {
         if word == b"0".as_slice() {
             self.end_term(tech, tildes, KindSet::empty());
@@ -226,7 +226,7 @@ impl ListReader {
         set: KindSet,
         token: Token<'_>,
     ) -> Result<(), TechFaultKind>
-        ensures { Steps (spec.after_step (scope_of tech.now) self.old set (token_of token.entry)) result self.new }
+        ensures { Advances (spec.after_step (scope_of tech.now) self.old set (token_of token.entry)) result self.new }
     {
         if let Token::Slash = token {
             self.position = Position::BeforePlane(set);
@@ -243,7 +243,7 @@ impl ListReader {
         set: KindSet,
         token: Token<'_>,
     ) -> Result<(), TechFaultKind>
-        ensures { Steps (spec.plane_step (scope_of tech.now) self.old set (token_of token.entry)) result self.new }
+        ensures { Advances (spec.plane_step (scope_of tech.now) self.old set (token_of token.entry)) result self.new }
     {
         let Token::Word(word) = token else {
             return Err(TechFaultKind::BadList);
@@ -259,7 +259,7 @@ impl ListReader {
 
     /// Reads a token that follows an item.
     fn take_after_item(&mut self, tech: &Tech, token: Token<'_>) -> Result<(), TechFaultKind>
-        ensures { Steps (spec.item_step (scope_of tech.now) self.old (token_of token.entry)) result self.new }
+        ensures { Advances (spec.item_step (scope_of tech.now) self.old (token_of token.entry)) result self.new }
     {
         match token {
             Token::Comma => {
@@ -273,7 +273,7 @@ impl ListReader {
 
     /// Ends a list in parentheses.
     fn close(&mut self, tech: &Tech) -> Result<(), TechFaultKind>
-        ensures { Steps (spec.closing_step (scope_of tech.now) self.old self.old.outer) result self.new }
+        ensures { Advances (spec.closing_step (scope_of tech.now) self.old self.old.outer) result self.new }
     {
         let Some(list) = self.outer.pop() else {
             return Err(TechFaultKind::BadList);

@@ -4,11 +4,11 @@ use Rattle.std.specs.Option.{option_map}
 use Rattle.std.proofs.lemmas.Bool.{cases_eq, cases_Bool, cond-true, cond-false, eq-eqb, ne_eqb, false_from_ne_true}
 use Rattle.slab.proofs.SlabLemmas.{Contains-cons}
 use Rattle.mls_tilepool.specs.Pools.{owned}
-use Rattle.mls_tilepool.specs.Chains.{IsRow, held_of, leads_to}
+use Rattle.mls_tilepool.specs.Chains.{IsRow, held_of, links_to}
 use Rattle.mls_tilepool.specs.declared.chain.Place.{Place}
 use Rattle.mls_tilepool.specs.declared.chain.Row.{Row}
 use Rattle.mls_tilepool.specs.declared.tile.Tile.{Tile}
-use Rattle.mls_tilepool.proofs.Chains.{IsChain-head, IsChain-owner, leads_to-true, option_map-some}
+use Rattle.mls_tilepool.proofs.Chains.{IsChain-head, IsChain-owner, links_to-true, option_map-some}
 use Rattle.mls_tilepool.proofs.Relinking.{IsChain-relinked, linked, linked-false, with_previous}
 use Rattle.mls_tilepool.proofs.PoolChanges.{owned_count-change, owned-own, tile_count}
 use Rattle.mls_tilepool.proofs.Rows.{IsOwn, IsOwn-held, OthersStay}
@@ -36,11 +36,11 @@ vacant_apart places owner row is key vacant inside =
     let found = there.1 in
     cc
 
-vacant_unlinked : (places : List (Option Place)) (owner : ℕ) (row : Row) → IsRow places owner row → (key : ℕ) → get_or places key None ≡ None → leads_to row.first key ≡ false
+vacant_unlinked : (places : List (Option Place)) (owner : ℕ) (row : Row) → IsRow places owner row → (key : ℕ) → get_or places key None ≡ None → links_to row.first key ≡ false
 vacant_unlinked places owner row is key vacant =
-    false_from_ne_true (leads_to row.first key) (λ leads.
+    false_from_ne_true (links_to row.first key) (λ leads.
     vacant_apart places owner row is key vacant
-    (IsChain-head places owner None row.first is.keys key is.chain (leads_to-true row.first key leads)))
+    (IsChain-head places owner None row.first is.keys key is.chain (links_to-true row.first key leads)))
 
 module _ (old new : List (Option Place)) (owner : ℕ) (row : Row) (key : ℕ) (tile : Tile) where
   -- what stands under the new key
@@ -58,7 +58,7 @@ module _ (old new : List (Option Place)) (owner : ℕ) (row : Row) (key : ℕ) (
       → (k : ℕ) → k ≢ key → held_of (get_or new k None) ≡ held_of (get_or old k None)
   added_held adds k differs =
       ap held_of (adds k)
-      ∙ held_of-linked (with_previous (Some key)) (leads_to row.first k) _ (λ place. refl)
+      ∙ held_of-linked (with_previous (Some key)) (links_to row.first k) _ (λ place. refl)
       ∙ ap held_of (cond-false (eqb k key) (Some (fresh_place owner tile row.first)) (get_or old k None) (ne_eqb k key differs))
 
   -- places of other owners stay
@@ -79,10 +79,10 @@ module _ (old new : List (Option Place)) (owner : ℕ) (row : Row) (key : ℕ) (
         | inr differs ↦
             let slot = get_or old k None in
             let kept = cond-false (eqb k key) (Some (fresh_place owner tile row.first)) slot (ne_eqb k key differs) in
-            elim (cases_Bool (leads_to row.first k)) [
+            elim (cases_Bool (links_to row.first k)) [
               | inl leads ↦
                   let there = IsChain-owner old owner None row.first is.keys k is.chain
-                  (IsChain-head old owner None row.first is.keys k is.chain (leads_to-true row.first k leads)) in
+                  (IsChain-head old owner None row.first is.keys k is.chain (links_to-true row.first k leads)) in
                   let own : IsOwn owner slot = λ place found.
                   let both : Some there.0 ≡ Some place = sym there.1 ∙ found in
                   let same : there.0 ≡ place = cc in

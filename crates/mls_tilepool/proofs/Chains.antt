@@ -3,7 +3,7 @@ use Rattle.std.proofs.Common.{◌≡◌, ◌≢◌, ℕ, true, false, List, [], 
 use Rattle.std.specs.Option.{option_map}
 use Rattle.std.proofs.lemmas.Bool.{eq-eqb, eqb-true, ne_eqb, false≢true}
 use Rattle.slab.proofs.SlabLemmas.{Contains-cons, Contains-cons_cases}
-use Rattle.mls_tilepool.specs.Chains.{IsChain, leads_to}
+use Rattle.mls_tilepool.specs.Chains.{IsChain, links_to}
 use Rattle.mls_tilepool.specs.declared.chain.Place.{Place}
 
 -- a place without its tile
@@ -18,15 +18,15 @@ option_map-some f None y found = cc
 option_map-some f (Some x) y found = (x, refl, cc)
 
 -- a link leads to no other key than its own
-pub leads_to-same : (link : Option ℕ) (key : ℕ) → link ≡ Some key → leads_to link key ≡ true
-leads_to-same link key same = ap (λ l. leads_to l key) same ∙ eq-eqb key key refl
+pub links_to-same : (link : Option ℕ) (key : ℕ) → link ≡ Some key → links_to link key ≡ true
+links_to-same link key same = ap (λ l. links_to l key) same ∙ eq-eqb key key refl
 
-pub leads_to-other : (link : Option ℕ) (own key : ℕ) → link ≡ Some own → own ≢ key → leads_to link key ≡ false
-leads_to-other link own key same differs = ap (λ l. leads_to l key) same ∙ ne_eqb own key differs
+pub links_to-other : (link : Option ℕ) (own key : ℕ) → link ≡ Some own → own ≢ key → links_to link key ≡ false
+links_to-other link own key same differs = ap (λ l. links_to l key) same ∙ ne_eqb own key differs
 
-pub leads_to-true : (link : Option ℕ) (key : ℕ) → leads_to link key ≡ true → link ≡ Some key
-leads_to-true None key leads = absurd (false≢true leads)
-leads_to-true (Some own) key leads = ap Some (eqb-true own key leads)
+pub links_to-true : (link : Option ℕ) (key : ℕ) → links_to link key ≡ true → link ≡ Some key
+links_to-true None key leads = absurd (false≢true leads)
+links_to-true (Some own) key leads = ap Some (eqb-true own key leads)
 
 -- a chain stays where the places under its keys keep their owners and links
 pub IsChain-same :

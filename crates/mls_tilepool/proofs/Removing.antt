@@ -4,10 +4,10 @@ use Rattle.std.specs.Option.{option_map}
 use Rattle.std.proofs.lemmas.Bool.{cases_eq, cases_Bool, cond-true, cond-false, eq-eqb, ne_eqb}
 use Rattle.slab.proofs.SlabLemmas.{Contains-cons_cases}
 use Rattle.mls_tilepool.specs.Pools.{owned}
-use Rattle.mls_tilepool.specs.Chains.{IsChain, IsRow, held_of, leads_to}
+use Rattle.mls_tilepool.specs.Chains.{IsChain, IsRow, held_of, links_to}
 use Rattle.mls_tilepool.specs.declared.chain.Place.{Place}
 use Rattle.mls_tilepool.specs.declared.chain.Row.{Row}
-use Rattle.mls_tilepool.proofs.Chains.{IsChain-next, IsChain-owner, IsChain-previous, leads_to-other, leads_to-same, leads_to-true, option_map-some}
+use Rattle.mls_tilepool.proofs.Chains.{IsChain-next, IsChain-owner, IsChain-previous, links_to-other, links_to-same, links_to-true, option_map-some}
 use Rattle.mls_tilepool.proofs.Relinking.{Contains-without, IsChain-unlinked, length-without, linked, linked-false, unlinked, with_next, with_previous, without}
 use Rattle.mls_tilepool.proofs.PoolChanges.{owned_count-change, owned-own, tile_count}
 use Rattle.mls_tilepool.proofs.Rows.{IsOwn, IsOwn-held, OthersStay}
@@ -39,7 +39,7 @@ first_after-none (Some own) next link none = cc
 first_leads :
     (places : List (Option Place)) (owner : ℕ) (link : Option ℕ) (keys : List ℕ) (gone : ℕ) (place : Place)
     → IsChain places owner None link keys → Contains keys gone → get_or places gone None ≡ Some place
-    → cond (leads_to link gone) place.next link ≡ first_after place.previous place.next link
+    → cond (links_to link gone) place.next link ≡ first_after place.previous place.next link
 first_leads places owner link [] gone place chain inside found = absurd (omega (arith, inside.1))
 first_leads places owner link (own ∷ rest) gone place chain inside found =
     elim (cases_eq own gone) [
@@ -47,10 +47,10 @@ first_leads places owner link (own ∷ rest) gone place chain inside found =
           let found' = ap (λ k. get_or places k None) same ∙ found in
           let there = chain.3 in
           let both : chain.2 ≡ place = cc in
-          cond-true (leads_to link gone) place.next link (leads_to-same link gone (chain.0 ∙ ap Some same))
+          cond-true (links_to link gone) place.next link (links_to-same link gone (chain.0 ∙ ap Some same))
           ∙ sym (first_after-none place.previous place.next link (ap (λ p. p.previous) (sym both) ∙ chain.5))
       | inr other ↦
-          cond-false (leads_to link gone) place.next link (leads_to-other link own gone chain.0 other)
+          cond-false (links_to link gone) place.next link (links_to-other link own gone chain.0 other)
           ∙ elim (Contains-cons_cases own gone rest inside) [
             | inl here ↦ absurd (other here)
             | inr later ↦
@@ -68,21 +68,21 @@ module _ (old new : List (Option Place)) (owner : ℕ) (row : Row) (gone : ℕ) 
       removes gone
       ∙ ap (λ s. linked (with_previous place.previous) place.next gone (linked (with_next place.next) place.previous gone s))
       (cond-true (eqb gone gone) None (get_or old gone None) (eq-eqb gone gone refl))
-      ∙ ap (linked (with_previous place.previous) place.next gone) (linked-none (with_next place.next) (leads_to place.previous gone))
-      ∙ linked-none (with_previous place.previous) (leads_to place.next gone)
+      ∙ ap (linked (with_previous place.previous) place.next gone) (linked-none (with_next place.next) (links_to place.previous gone))
+      ∙ linked-none (with_previous place.previous) (links_to place.next gone)
 
   -- every other key has the owner and the tile that it had
   pub removed_held : RemovesPlace old new gone place → (k : ℕ) → k ≢ gone → held_of (get_or new k None) ≡ held_of (get_or old k None)
   removed_held removes k differs =
       ap held_of (removes k)
-      ∙ held_of-linked (with_previous place.previous) (leads_to place.next k) _ (λ p. refl)
-      ∙ held_of-linked (with_next place.next) (leads_to place.previous k) _ (λ p. refl)
+      ∙ held_of-linked (with_previous place.previous) (links_to place.next k) _ (λ p. refl)
+      ∙ held_of-linked (with_next place.next) (links_to place.previous k) _ (λ p. refl)
       ∙ ap held_of (cond-false (eqb k gone) None (get_or old k None) (ne_eqb k gone differs))
 
   -- a link of the place's leads to a place of its owner's
-  previous_own : (is : IsRow old owner row) → Contains is.keys gone → get_or old gone None ≡ Some place → (k : ℕ) → leads_to place.previous k ≡ true → Contains is.keys k
+  previous_own : (is : IsRow old owner row) → Contains is.keys gone → get_or old gone None ≡ Some place → (k : ℕ) → links_to place.previous k ≡ true → Contains is.keys k
   previous_own is inside found k leads =
-      let link = leads_to-true place.previous k leads in
+      let link = links_to-true place.previous k leads in
       elim (IsChain-previous old owner None row.first is.keys gone place is.chain inside found) [
         | inl none ↦ absurd (cc)
         | inr back ↦ let links = back.2 in let same : back.0 ≡ k = cc in rw same at back.1
@@ -108,10 +108,10 @@ module _ (old new : List (Option Place)) (owner : ℕ) (row : Row) (gone : ℕ) 
             let after : get_or new k None ≡ None = ap (λ x. get_or new x None) same ∙ removed_here removes in
             inr (chain_own is k (rw same inside), λ p there. absurd (cc))
         | inr differs ↦
-            elim (cases_Bool (leads_to place.next k)) [
-              | inl leads ↦ own_there (IsChain-next old owner None row.first is.keys gone k place is.chain inside found (leads_to-true place.next k leads)) differs
+            elim (cases_Bool (links_to place.next k)) [
+              | inl leads ↦ own_there (IsChain-next old owner None row.first is.keys gone k place is.chain inside found (links_to-true place.next k leads)) differs
               | inr no_next ↦
-                  elim (cases_Bool (leads_to place.previous k)) [
+                  elim (cases_Bool (links_to place.previous k)) [
                     | inl leads ↦ own_there (previous_own is inside found k leads) differs
                     | inr no_previous ↦
                         inl (removes k

@@ -78,12 +78,12 @@ pub record IsPool (capacity reserved : ℕ) (places : Slab Place) (rows : Slab R
   pub each : (key : ℕ) (place : Place) → get places key ≡ Some place → ContainsKey rows place.owner
 
 -- the link leads to this key
-abbrev pub leads_to : Option ℕ → ℕ → Bool
-leads_to None key = false
-leads_to (Some other) key = other == key
+abbrev pub links_to : Option ℕ → ℕ → Bool
+links_to None key = false
+links_to (Some other) key = other == key
 
 -- the place to which the link leads, if there is one, is changed so, and the others are as they were
 pub record Links (change : Place → Place) (link : Option ℕ) (old new : Slab Place) : Type 0 where
-  pub places : (key : ℕ) → get new key ≡ (if leads_to link key then option_map change (get old key) else get old key)
+  pub places : (key : ℕ) → get new key ≡ (if links_to link key then option_map change (get old key) else get old key)
   pub len : slab_len new ≡ slab_len old
   pub capacity : new.capacity ≡ old.capacity

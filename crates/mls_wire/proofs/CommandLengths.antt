@@ -6,7 +6,7 @@ use Rattle.std.specs.Option.{unwrap_or}
 use Rattle.std.proofs.lemmas.Bool.{cond_both}
 use Rattle.std.proofs.lemmas.List.Elements.{All-head, All-tail}
 use Rattle.std.proofs.lemmas.Slice.Eq.{bytes_eq-Decides}
-use Rattle.mls_kinds.specs.KindSets.{holds, members}
+use Rattle.mls_kinds.specs.KindSets.{has_bit, members}
 use Rattle.mls_library.proofs.SavedLines.{IsWord}
 use Rattle.mls_session.specs.declared.command.Command.{Command}
 use Rattle.mls_session.specs.declared.command.Command.TheVariants.{Dump, GetCell, What, Save, Check, CatchUp, Why, Count}
@@ -60,12 +60,12 @@ module _ (book : Names) (names : NamesReadBack book) where
   paint-within (word ∷ more ∷ words) are = tt
 
   -- the names of the types of a set that words name
-  joined-within : (kinds : ℕ) (words : List (List ℕ)) → ((kind : ℕ) → holds kinds kind ≡ true → list_any (names_type book kind) words ≡ true)
+  joined-within : (kinds : ℕ) (words : List (List ℕ)) → ((kind : ℕ) → has_bit kinds kind ≡ true → list_any (names_type book kind) words ≡ true)
       → HasTypes book kinds → suc (length (types_word book (Some kinds))) ≤ width words
   unfolding members
   joined-within kinds words named has =
       let word_of = λ (k : ℕ). type_word book (Some k) in
-      let all = width-named word_of book.type_of names.shortest (holds kinds) words named in
+      let all = width-named word_of book.type_of names.shortest (has_bit kinds) words named in
       let list = ap (listed_types book) has.some in
       let joined = length-joined 44 (word_of has.first) (map word_of has.rest) in
       let same = ap (λ (l : List ℕ). width (map word_of l)) has.some in

@@ -20,19 +20,19 @@ use Rattle.mls_text.specs.Lines.{IsUnbroken}
 use Rattle.mls_text.specs.Words.{is_blank, words_of}
 use Rattle.mls_wire.specs.JournalLines.{cell_word, command_line, command_words, listed_types, said_text, shielded, steps_line, type_word, types_word}
 use Rattle.mls_wire.specs.ReadBack.{CommandsAreLines, CommandsReadBack, HasShortName, IsListable, NamesReadBack, StepsReadBack}
-use Rattle.mls_wire.specs.Lines.{line_limit, read_line}
+use Rattle.mls_wire.specs.Lines.{line_limit, line_if_short}
 use Rattle.mls_wire.specs.NameBooks.{Names, SessionIds, no_name}
 use Rattle.mls_wire.specs.Numbers.{number_of}
-use Rattle.mls_wire.specs.Says.{asked_by, asked_of, asks_says, box_of, command_of, drc_of, dump_of, edit_of, getcell_of, line_asking, line_says, line_with, moved_by, moved_cell_says, names_type, run_by, session_says, sides_of, sides_say, steps_of, steps_say, types_named, words_say}
+use Rattle.mls_wire.specs.Says.{asked_by, asked_of, asks_says, box_of, command_of, drc_of, dump_of, edit_of, getcell_of, line_asking, line_says, line_with, moved_by, moved_cell_says, names_type, run_by, session_says, sides_of, sides_say, asks_steps, steps_say, types_named, words_say}
 use Rattle.mls_wire.specs.declared.line.Line.TheVariants.{Silent, Steps, Run}
 use Rattle.mls_wire.specs.declared.line.LineFault.TheVariants.{BadName, BadNumber}
 use Rattle.mls_wire.specs.declared.parse.Asked.TheVariants.{Steps as AsksSteps}
 use Rattle.mls_wire.specs.declared.parse.Asking.TheVariants.{Steps as ByCount}
 use Rattle.mls_wire.proofs.RunLines.{IsPart, IsRun, line-run}
-use Rattle.mls_wire.proofs.ShieldedLines.{kept-shielded, length-shielded, read_line-kept, unbroken-shielded, without_return-word, words_of-shielded}
+use Rattle.mls_wire.proofs.ShieldedLines.{kept-shielded, length-shielded, line_if_short-kept, unbroken-shielded, without_return-word, words_of-shielded}
 use Rattle.mls_wire.proofs.SpelledCommands.{HasCell, HasType, HasTypes, HasTypesIfAny, IsSpelled, any-members}
 use Rattle.mls_wire.proofs.TypeLists.{types_from-none, types_named-from}
-use Rattle.mls_wire.proofs.WrittenNumbers.{IsShort, count_of-decimal, decimal_plain, number_of-signed_decimal}
+use Rattle.mls_wire.proofs.WrittenNumbers.{IsShort, count_written-decimal, decimal_plain, number_of-signed_decimal}
 use Rattle.mls_wire.proofs.WrittenWords.{fields_of-joined, solid-joined, some-joined, unbroken-joined}
 use Rattle.mls_wire.proofs.WrittenLengths.{length-joined, width}
 use Rattle.std.proofs.lemmas.Fmt.{length-decimal-le}
@@ -211,10 +211,10 @@ module _ (Is : List ℕ → Type 0) (is-word : (word : List ℕ) → Is word →
       omega (arith, all, words, bare, whole, more)
 
   command_line-read : (name : List ℕ) (command : Command) → IsSpelled book Is command → width (name ∷ command_words book command) ≤ line_limit
-      → read_line (command_line book name command) ≡ Some (command_line book name command)
+      → line_if_short (command_line book name command) ≡ Some (command_line book name command)
   command_line-read name command spelled within =
       let short = command_line-length name command spelled in
-      read_line-kept (command_line book name command) (kept-shielded name 32 (spaced (command_words book command))) (omega (arith, short, within))
+      line_if_short-kept (command_line book name command) (kept-shielded name 32 (spaced (command_words book command))) (omega (arith, short, within))
 
   command_line-says : (ids : SessionIds) (name : List ℕ) (id : ℕ) (command : Command) → is_session_name name ≡ true → ids name ≡ Some id → IsSpelled book Is command
       → line_says book ids (Some (command_line book name command)) ≡ Ok (Run name id command)
@@ -306,7 +306,7 @@ module _ (book : Names) where
   unfolding words_say asked_by
   words_say-steps ids words = refl
 
-  steps_line-read : (name : List ℕ) (steps : ℕ) → is_session_name name ≡ true → steps < 2 ^ 64 → read_line (steps_line name steps) ≡ Some (steps_line name steps)
+  steps_line-read : (name : List ℕ) (steps : ℕ) → is_session_name name ≡ true → steps < 2 ^ 64 → line_if_short (steps_line name steps) ≡ Some (steps_line name steps)
   steps_line-read name steps is fits =
       let number = decimal_plain steps fits in
       let front = codes "%steps" ++ 32 ∷ name in
@@ -315,7 +315,7 @@ module _ (book : Names) where
       let digits = length-decimal-le 20 steps (omega arith) (omega (arith, fits)) fits in
       let all = length-append front (32 ∷ decimal steps) in
       let named = length-append (codes "%steps") (32 ∷ name) in
-      read_line-kept (steps_line name steps) kept (omega (arith, most, digits, all, named))
+      line_if_short-kept (steps_line name steps) kept (omega (arith, most, digits, all, named))
 
   steps_line-says : (ids : SessionIds) (name : List ℕ) (id steps : ℕ) → is_session_name name ≡ true → ids name ≡ Some id → 1 ≤ steps → steps < 2 ^ 64
       → line_says book ids (Some (steps_line name steps)) ≡ Ok (Steps name id steps)
@@ -328,7 +328,7 @@ module _ (book : Names) where
       (All-from_recursion IsWord (codes "%steps" ∷ words) (IsWord-steps, (IsWord-name name is, (IsWord-plain (decimal steps) number.1 number.0, tt)))))
       ∙ words_say-steps ids words
       ∙ ap (λ (t : Bool). cond t (line_asking ids name (steps_say (decimal steps ∷ []))) (Err BadName)) is
-      ∙ ap (λ (o : Option ℕ). line_asking ids name (steps_of (ok_or o BadNumber))) (count_of-decimal steps some fits)
+      ∙ ap (λ (o : Option ℕ). line_asking ids name (asks_steps (ok_or o BadNumber))) (count_written-decimal steps some fits)
       ∙ ap (asked_of (AsksSteps steps) name) opened
 
   pub steps-read-back : StepsReadBack book

@@ -5,11 +5,11 @@ use Rattle.std.proofs.lemmas.List.{append-nil, length-take, nil_from_length}
 use Rattle.std.proofs.lemmas.List.Elements.{All-append}
 use Rattle.std.specs.Io.KnownBytes.{Consumes, Keeps, IsAtEnd, prepend_known}
 use Rattle.mls_text.specs.Lines.{IsUnbroken}
-use Rattle.mls_wire.specs.Lines.{read_line}
+use Rattle.mls_wire.specs.Lines.{line_if_short}
 use Rattle.mls_wire.specs.NextLines.{BeginsKnownLine, TakesKnownLine}
 use Rattle.mls_wire.specs.declared.reader.NextLine.TheVariants.{End, Line, LastLine}
 use Rattle.mls_wire.proofs.Chunks.{take-take_append}
-use Rattle.mls_wire.proofs.ScriptTexts.{read_line-take}
+use Rattle.mls_wire.proofs.ScriptTexts.{line_if_short-take}
 
 -- a beginning of a line came since the start, of which these bytes are kept
 pub record HasCome (start now : Option (List ℕ)) (kept : List ℕ) : Type 0 where
@@ -45,15 +45,15 @@ HasCome-all remaining new ahead rest old kept h unbroken none first same =
     record { came = all.came; unbroken = all.unbroken; first = all.first; taken = Consumes-kept _ _ new all.came all.taken same }
 
 -- the bytes that are kept of a line are enough to read it
-read_line-kept : (line kept : List ℕ) → kept ≡ take 1026 line → read_line kept ≡ read_line line
-read_line-kept line kept first = ap read_line first ∙ read_line-take line
+line_if_short-kept : (line kept : List ℕ) → kept ≡ take 1026 line → line_if_short kept ≡ line_if_short line
+line_if_short-kept line kept first = ap line_if_short first ∙ line_if_short-take line
 
 -- the line's line feed is next
 pub TakesKnownLine-fed : (start remaining : Option (List ℕ)) (rest kept : List ℕ) → HasCome start (prepend_known (10 ∷ rest) remaining) kept
     → TakesKnownLine start (prepend_known rest remaining) Line kept
 TakesKnownLine-fed None remaining rest kept h = tt
 TakesKnownLine-fed (Some xs) None rest kept h = h.taken
-TakesKnownLine-fed (Some xs) (Some ys) rest kept h = (h.came, h.unbroken, h.taken, read_line-kept h.came kept h.first)
+TakesKnownLine-fed (Some xs) (Some ys) rest kept h = (h.came, h.unbroken, h.taken, line_if_short-kept h.came kept h.first)
 
 -- the script ends with the line
 pub TakesKnownLine-last : (start now : Option (List ℕ)) (kept : List ℕ) → HasCome start now kept → IsAtEnd now → 0 < length kept
@@ -65,7 +65,7 @@ TakesKnownLine-last (Some xs) (Some ys) kept h end some =
       subst IsUnbroken (sym text) h.unbroken,
       omega (arith, simp length-take at (ap length h.first), ap length text),
       end,
-      read_line-kept xs kept (h.first ∙ ap (take 1026) (sym text)),
+      line_if_short-kept xs kept (h.first ∙ ap (take 1026) (sym text)),
     )
 
 -- the script has ended

@@ -7,16 +7,16 @@ use Rattle.std.proofs.lemmas.List.{length-take, take_all}
 use Rattle.mls_text.proofs.LastBytes.{length-without_return}
 use Rattle.mls_text.proofs.LineLemmas.{lines_of-fed}
 use Rattle.mls_text.specs.Lines.{IsUnbroken, lines_of}
-use Rattle.mls_wire.specs.Lines.{onto_whole, read_line, whole_lines_of}
+use Rattle.mls_wire.specs.Lines.{onto_whole, line_if_short, whole_lines_of}
 
-pub read_line-long : (line : List ℕ) → 1025 < length line → read_line line ≡ None
-read_line-long line long = let h = length-without_return line in grind (arith, nat_tests)
+pub line_if_short-long : (line : List ℕ) → 1025 < length line → line_if_short line ≡ None
+line_if_short-long line long = let h = length-without_return line in grind (arith, nat_tests)
 
 -- its first 1026 bytes tell how a line is read
-pub read_line-take : (line : List ℕ) → read_line (take 1026 line) ≡ read_line line
-read_line-take line =
-    ⊎_elim (λ (long : 1026 < length line). read_line-long (take 1026 line) (omega (arith, length-take {A = ℕ})) ∙ sym (read_line-long line (omega arith)))
-    (λ (short : length line ≤ 1026). ap read_line (take_all 1026 line short))
+pub line_if_short-take : (line : List ℕ) → line_if_short (take 1026 line) ≡ line_if_short line
+line_if_short-take line =
+    ⊎_elim (λ (long : 1026 < length line). line_if_short-long (take 1026 line) (omega (arith, length-take {A = ℕ})) ∙ sym (line_if_short-long line (omega arith)))
+    (λ (short : length line ≤ 1026). ap line_if_short (take_all 1026 line short))
     (cases_lt 1026 (length line))
 
 -- a text of whole lines

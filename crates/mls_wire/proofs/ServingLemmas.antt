@@ -10,7 +10,7 @@ use Rattle.mls_text.specs.Lines.{IsUnbroken, lines_of}
 use Rattle.mls_server.specs.Worlds.{IsNumbered, JournalsAreLegal, MarksAreExact, MarksAreRight, World}
 use Rattle.mls_server.specs.declared.answer.Answer.{Answer}
 use Rattle.mls_server.specs.declared.event.Event.{Event}
-use Rattle.mls_wire.specs.Lines.{read_line, script_of}
+use Rattle.mls_wire.specs.Lines.{line_if_short, script_of}
 use Rattle.mls_wire.specs.NextLines.{BeginsKnownLine, TakesLine, TakesKnownLine}
 use Rattle.mls_wire.specs.Runs.{IsSound, RunsLine, RunsLines, RunsScript, RunsUpTo}
 use Rattle.mls_wire.specs.Serving.{AppendsFront, Gains, StopsAtLine, WritesRun, WritesCutRun, WritesLine, WritesCutLine}
@@ -65,7 +65,7 @@ pub record IsServed (old : World) (script : List ℕ) (n : ℕ) (left out : List
   pub lines : List (List ℕ)
   pub split : script ≡ fed lines ++ left
   pub unbroken : All IsUnbroken lines
-  pub run : HasRun old n (map read_line lines) out session
+  pub run : HasRun old n (map line_if_short lines) out session
 
 -- the same where the script is known; where it isn't, some lines were
 abbrev pub Serves : World → Option (List ℕ) → Option (List ℕ) → ℕ → Option (List ℕ) → Option (List ℕ) → World → Type 0
@@ -133,11 +133,11 @@ record HasTaken (script left : List ℕ) (before : List (List ℕ)) (line : Opti
   pub taken : List ℕ
   pub split : script ≡ taken ++ left
   pub whole : lines_of script ≡ lines_of taken ++ lines_of left
-  pub lines : script_of taken ≡ map read_line before ++ line ∷ []
+  pub lines : script_of taken ≡ map line_if_short before ++ line ∷ []
 
 -- a line with its line feed
 taken_line : (script left next kept : List ℕ) (lines : List (List ℕ)) → script ≡ fed lines ++ left → All IsUnbroken lines → TakesLine left next Line kept
-    → HasTaken script next lines (read_line kept)
+    → HasTaken script next lines (line_if_short kept)
 taken_line script left next kept lines split unbroken taken =
     let line = taken.0 in
     let all = lines ++ line ∷ [] in
@@ -148,7 +148,7 @@ taken_line script left next kept lines split unbroken taken =
       taken = fed all;
       split = text;
       whole = ap lines_of text ∙ lines_of-whole all next each ∙ ap (λ l. l ++ lines_of next) (sym same);
-      lines = ap (map read_line) same ∙ map-append read_line lines (line ∷ []) ∙ ap (λ l. map read_line lines ++ l ∷ []) (sym taken.3);
+      lines = ap (map line_if_short) same ∙ map-append line_if_short lines (line ∷ []) ∙ ap (λ l. map line_if_short lines ++ l ∷ []) (sym taken.3);
     }
 
 -- the last line of the script, without one
@@ -158,13 +158,13 @@ lines_of_script script left lines split unbroken last some =
     ap lines_of split ∙ lines_of-whole lines left unbroken ∙ ap (λ l. lines ++ l) (lines_of-last left last some)
 
 script_of_last : (script left next kept : List ℕ) (lines : List (List ℕ)) → script ≡ fed lines ++ left → All IsUnbroken lines → TakesLine left next LastLine kept
-    → script_of script ≡ map read_line lines ++ read_line kept ∷ []
+    → script_of script ≡ map line_if_short lines ++ line_if_short kept ∷ []
 script_of_last script left next kept lines split unbroken taken =
-    ap (map read_line) (lines_of_script script left lines split unbroken taken.0 taken.1) ∙ map-append read_line lines (left ∷ [])
-    ∙ ap (λ l. map read_line lines ++ l ∷ []) (sym taken.3)
+    ap (map line_if_short) (lines_of_script script left lines split unbroken taken.0 taken.1) ∙ map-append line_if_short lines (left ∷ [])
+    ∙ ap (λ l. map line_if_short lines ++ l ∷ []) (sym taken.3)
 
 taken_last : (script left next kept : List ℕ) (lines : List (List ℕ)) → script ≡ fed lines ++ left → All IsUnbroken lines → TakesLine left next LastLine kept
-    → HasTaken script next lines (read_line kept)
+    → HasTaken script next lines (line_if_short kept)
 taken_last script left next kept lines split unbroken taken =
     record {
       taken = script;
@@ -175,35 +175,35 @@ taken_last script left next kept lines split unbroken taken =
 
 -- a line with its line feed was served
 pub served_more : (old session new : World) (n : ℕ) (kept : List ℕ) (script written left next now then : Option (List ℕ))
-    → Serves old script written n left now session → TakesKnownLine left next Line kept → WritesLine session n (read_line kept) now then new
+    → Serves old script written n left now session → TakesKnownLine left next Line kept → WritesLine session n (line_if_short kept) now then new
     → Serves old script written (n + 1) next then new
 served_more old session new n kept None written left next now then s t w =
-    (s.0 ++ w.0, (s.1.0 ++ read_line kept ∷ [], run_more old session n s.1.0 s.0 s.1.1 new (read_line kept) w.1.0 w.1.1 w.0 w.1.2), Appends-trans written now then s.0 w.0 s.2 w.2)
+    (s.0 ++ w.0, (s.1.0 ++ line_if_short kept ∷ [], run_more old session n s.1.0 s.0 s.1.1 new (line_if_short kept) w.1.0 w.1.1 w.0 w.1.2), Appends-trans written now then s.0 w.0 s.2 w.2)
 served_more old session new n kept (Some script) written None next now then s t w = absurd s
 served_more old session new n kept (Some script) written (Some left) None now then s t w = absurd t
 served_more old session new n kept (Some script) written (Some left) (Some next) now then s t w =
     let served = s.1 in
     let line = t.0 in
-    let lines : map read_line (served.lines ++ line ∷ []) ≡ map read_line served.lines ++ read_line kept ∷ [] =
-    map-append read_line served.lines (line ∷ []) ∙ ap (λ l. map read_line served.lines ++ l ∷ []) (sym t.3) in (
+    let lines : map line_if_short (served.lines ++ line ∷ []) ≡ map line_if_short served.lines ++ line_if_short kept ∷ [] =
+    map-append line_if_short served.lines (line ∷ []) ∙ ap (λ l. map line_if_short served.lines ++ l ∷ []) (sym t.3) in (
       s.0 ++ w.0,
       record {
         lines = served.lines ++ line ∷ [];
         split = served.split ∙ ap (λ l. fed served.lines ++ l) t.2 ∙ fed-snoc served.lines line next;
         unbroken = All-append IsUnbroken served.lines (line ∷ []) served.unbroken (All-cons IsUnbroken line [] t.1 (All-nil IsUnbroken));
         run = subst (λ all. HasRun old (n + 1) all (s.0 ++ w.0) new) (sym lines)
-            (run_more old session n (map read_line served.lines) s.0 served.run new (read_line kept) w.1.0 w.1.1 w.0 w.1.2);
+            (run_more old session n (map line_if_short served.lines) s.0 served.run new (line_if_short kept) w.1.0 w.1.1 w.0 w.1.2);
       },
       Appends-trans written now then s.0 w.0 s.2 w.2,
     )
 
 -- the last line was served, and the script ends with it
 pub served_last : (old session new : World) (n : ℕ) (kept : List ℕ) (script written left next now then : Option (List ℕ))
-    → Serves old script written n left now session → TakesKnownLine left next LastLine kept → WritesLine session n (read_line kept) now then new
+    → Serves old script written n left now session → TakesKnownLine left next LastLine kept → WritesLine session n (line_if_short kept) now then new
     → WritesRun old script written then new
 served_last old session new n kept None written left next now then s t w =
-    let ran = run_more old session n s.1.0 s.0 s.1.1 new (read_line kept) w.1.0 w.1.1 w.0 w.1.2 in
-    (s.0 ++ w.0, (s.1.0 ++ read_line kept ∷ [], run_whole old new (n + 1) _ _ ran), Appends-trans written now then s.0 w.0 s.2 w.2)
+    let ran = run_more old session n s.1.0 s.0 s.1.1 new (line_if_short kept) w.1.0 w.1.1 w.0 w.1.2 in
+    (s.0 ++ w.0, (s.1.0 ++ line_if_short kept ∷ [], run_whole old new (n + 1) _ _ ran), Appends-trans written now then s.0 w.0 s.2 w.2)
 served_last old session new n kept (Some script) written None next now then s t w = absurd s
 served_last old session new n kept (Some script) written (Some left) None now then s t w = absurd t
 served_last old session new n kept (Some script) written (Some left) (Some next) now then s t w =
@@ -211,7 +211,7 @@ served_last old session new n kept (Some script) written (Some left) (Some next)
     let lines = script_of_last script left next kept served.lines served.split served.unbroken t in (
       s.0 ++ w.0,
       subst (λ all. RunsScript old all (s.0 ++ w.0) new) (sym lines)
-          (run_whole old new (n + 1) _ _ (run_more old session n (map read_line served.lines) s.0 served.run new (read_line kept) w.1.0 w.1.1 w.0 w.1.2)),
+          (run_whole old new (n + 1) _ _ (run_more old session n (map line_if_short served.lines) s.0 served.run new (line_if_short kept) w.1.0 w.1.1 w.0 w.1.2)),
       Appends-trans written now then s.0 w.0 s.2 w.2,
     )
 
@@ -224,7 +224,7 @@ served_all old session n kept (Some script) written (Some left) None now s t = a
 served_all old session n kept (Some script) written (Some left) (Some next) now s t =
     let served = s.1 in
     let lines : lines_of script ≡ served.lines = ap lines_of (served.split ∙ ap (λ l. fed served.lines ++ l) t.0) ∙ lines_of-whole served.lines [] served.unbroken ∙ append-nil served.lines in
-    (s.0, subst (λ all. RunsScript old all s.0 session) (sym (ap (map read_line) lines)) (run_whole old session n _ _ served.run), s.2)
+    (s.0, subst (λ all. RunsScript old all s.0 session) (sym (ap (map line_if_short) lines)) (run_whole old session n _ _ served.run), s.2)
 
 -- the input failed within a line
 served_begun : (old session : World) (n : ℕ) (script written left rest now : Option (List ℕ))
@@ -239,7 +239,7 @@ served_begun old session n (Some script) written (Some left) (Some rest) now s t
       record {
         consumed = fed served.lines ++ t.0;
         split = served.split ∙ ap (λ l. fed served.lines ++ l) t.2 ∙ sym (append_assoc (fed served.lines) t.0 rest);
-        runs = subst (λ all. RunsScript old all s.0 session) (sym (ap (map read_line) lines)) (run_whole old session n _ _ served.run);
+        runs = subst (λ all. RunsScript old all s.0 session) (sym (ap (map line_if_short) lines)) (run_whole old session n _ _ served.run);
       },
       s.2,
     )
@@ -255,7 +255,7 @@ cut_line : (old session new : World) (n : ℕ) (script left ahead rest out front
     → (served : IsServed old script n left out session) → HasTaken script (ahead ++ rest) served.lines line → length ahead ≤ 4096
     → RunsLine session n line (front ++ missing) asked answered new → StopsAtLine old script rest front (out ++ front) new
 cut_line old session new n script left ahead rest out front missing asked answered line served has near run =
-    let cut = run_cut old session n (map read_line served.lines) out served.run new line asked answered front missing run in
+    let cut = run_cut old session n (map line_if_short served.lines) out served.run new line asked answered front missing run in
     record {
       taken = has.taken;
       ahead = ahead;
@@ -270,30 +270,30 @@ abbrev IsTaken : NextLine → Type 0
 IsTaken next = next ≢ End
 
 has_taken : (script left rest kept : List ℕ) (lines : List (List ℕ)) (next : NextLine) → IsTaken next → script ≡ fed lines ++ left → All IsUnbroken lines → TakesLine left rest next kept
-    → HasTaken script rest lines (read_line kept)
+    → HasTaken script rest lines (line_if_short kept)
 has_taken script left rest kept lines End some split unbroken t = absurd (some refl)
 has_taken script left rest kept lines Line some split unbroken t = taken_line script left rest kept lines split unbroken t
 has_taken script left rest kept lines LastLine some split unbroken t = taken_last script left rest kept lines split unbroken t
 
 served_within : (old session new : World) (n : ℕ) (ahead kept : List ℕ) (script written left rest now then : Option (List ℕ))
     (next : NextLine) (fault : ServeFault) → next ≢ End → fault ≢ Read → length ahead ≤ 4096 → Serves old script written n left now session
-    → TakesKnownLine left (prepend_known ahead rest) next kept → WritesCutLine session n (read_line kept) fault now then new
+    → TakesKnownLine left (prepend_known ahead rest) next kept → WritesCutLine session n (line_if_short kept) fault now then new
     → WritesCutRun old fault script rest written then new
 served_within old session new n ahead kept None written left rest now then next Read some other near s t w = absurd (other refl)
 served_within old session new n ahead kept None written left rest now then next Write some other near s t w =
-    let cut = run_cut old session n s.1.0 s.0 s.1.1 new (read_line kept) w.1.0.1 w.1.0.2 w.0 w.1.0.0 w.1.0.3 in
-    (s.0 ++ w.0, (s.1.0 ++ read_line kept ∷ [], w.0, cut), Appends-trans written now then s.0 w.0 s.2 w.2)
+    let cut = run_cut old session n s.1.0 s.0 s.1.1 new (line_if_short kept) w.1.0.1 w.1.0.2 w.0 w.1.0.0 w.1.0.3 in
+    (s.0 ++ w.0, (s.1.0 ++ line_if_short kept ∷ [], w.0, cut), Appends-trans written now then s.0 w.0 s.2 w.2)
 served_within old session new n ahead kept None written left rest now then next Memory some other near s t w =
-    let cut = run_cut old session n s.1.0 s.0 s.1.1 new (read_line kept) w.1.0.1 w.1.0.2 w.0 w.1.0.0 w.1.0.3 in
+    let cut = run_cut old session n s.1.0 s.0 s.1.1 new (line_if_short kept) w.1.0.1 w.1.0.2 w.0 w.1.0.0 w.1.0.3 in
     let none : w.0 ≡ [] = w.1.1 refl in
-    (s.0 ++ w.0, (s.1.0 ++ read_line kept ∷ [], subst (λ front. RunsUpTo old (s.1.0 ++ read_line kept ∷ []) front (s.0 ++ w.0) new) none cut), Appends-trans written now then s.0 w.0 s.2 w.2)
+    (s.0 ++ w.0, (s.1.0 ++ line_if_short kept ∷ [], subst (λ front. RunsUpTo old (s.1.0 ++ line_if_short kept ∷ []) front (s.0 ++ w.0) new) none cut), Appends-trans written now then s.0 w.0 s.2 w.2)
 served_within old session new n ahead kept (Some script) written None rest now then next fault some other near s t w = absurd s
 served_within old session new n ahead kept (Some script) written (Some left) None now then next fault some other near s t w = absurd t
 served_within old session new n ahead kept (Some script) written (Some left) (Some rest) now then next Read some other near s t w = absurd (other refl)
 served_within old session new n ahead kept (Some script) written (Some left) (Some rest) now then next Write some other near s t w =
     let has = has_taken script left (ahead ++ rest) kept s.1.lines next some s.1.split s.1.unbroken t in (
       s.0 ++ w.0,
-      (w.0, cut_line old session new n script left ahead rest s.0 w.0 w.1.0.0 w.1.0.1 w.1.0.2 (read_line kept) s.1 has near w.1.0.3),
+      (w.0, cut_line old session new n script left ahead rest s.0 w.0 w.1.0.0 w.1.0.1 w.1.0.2 (line_if_short kept) s.1 has near w.1.0.3),
       Appends-trans written now then s.0 w.0 s.2 w.2,
     )
 served_within old session new n ahead kept (Some script) written (Some left) (Some rest) now then next Memory some other near s t w =
@@ -301,18 +301,18 @@ served_within old session new n ahead kept (Some script) written (Some left) (So
     let none : w.0 ≡ [] = w.1.1 refl in (
       s.0 ++ w.0,
       subst (λ front. StopsAtLine old script rest front (s.0 ++ w.0) new) none
-          (cut_line old session new n script left ahead rest s.0 w.0 w.1.0.0 w.1.0.1 w.1.0.2 (read_line kept) s.1 has near w.1.0.3),
+          (cut_line old session new n script left ahead rest s.0 w.0 w.1.0.0 w.1.0.1 w.1.0.2 (line_if_short kept) s.1 has near w.1.0.3),
       Appends-trans written now then s.0 w.0 s.2 w.2,
     )
 
 -- ---- the results of a line
 
-module _ (old session new : World) (n : ℕ) (kept : List ℕ) (line : Option (List ℕ)) (same : line ≡ read_line kept)
+module _ (old session new : World) (n : ℕ) (kept : List ℕ) (line : Option (List ℕ)) (same : line ≡ line_if_short kept)
     (script written left now then : Option (List ℕ)) (served : Serves old script written n left now session) where
-  read_whole : WritesLine session n line now then new → WritesLine session n (read_line kept) now then new
+  read_whole : WritesLine session n line now then new → WritesLine session n (line_if_short kept) now then new
   read_whole w = subst (λ l. WritesLine session n l now then new) same w
 
-  read_cut : (fault : ServeFault) → WritesCutLine session n line fault now then new → WritesCutLine session n (read_line kept) fault now then new
+  read_cut : (fault : ServeFault) → WritesCutLine session n line fault now then new → WritesCutLine session n (line_if_short kept) fault now then new
   read_cut fault w = subst (λ l. WritesCutLine session n l fault now then new) same w
 
   -- a line with its line feed

@@ -7,7 +7,7 @@ use Rattle.mls_library.proofs.SavedLines.{IsKept-plain, IsPlain, without_return-
 use Rattle.mls_text.specs.Lines.{IsUnbroken, without_return}
 use Rattle.mls_text.specs.Words.{begins_with_word, is_blank, onto_first, words_of}
 use Rattle.mls_wire.specs.JournalLines.{shielded, shielded_after}
-use Rattle.mls_wire.specs.Lines.{line_limit, read_line}
+use Rattle.mls_wire.specs.Lines.{line_limit, line_if_short}
 
 -- ---- a carriage return at the end
 -- the line is read as it is
@@ -97,8 +97,8 @@ without_return-word front (b ∷ word) some plain =
     without_return-append front 32 (b ∷ word) (without_return-append (32 ∷ []) b word ends)
 
 -- a line that isn't too long
-pub read_line-kept : (line : List ℕ) → without_return line ≡ line → length line ≤ line_limit → read_line line ≡ Some line
-read_line-kept line kept short =
+pub line_if_short-kept : (line : List ℕ) → without_return line ≡ line → length line ≤ line_limit → line_if_short line ≡ Some line
+line_if_short-kept line kept short =
     let within : nat_lt line_limit (length line) ≡ false = grind (arith, nat_tests, short) in
     ap (λ (l : List ℕ). cond (nat_lt line_limit (length l)) None (Some l)) kept ∙ ap (λ (t : Bool). cond t None (Some line)) within
 

@@ -7,9 +7,9 @@ use Rattle.std.proofs.Math.Bool.{and-true}
 use Rattle.std.proofs.lemmas.Bool.{and_parts, cases_eq, cases_lt, cond_both, eqb-true, ne_eqb}
 use Rattle.std.proofs.lemmas.List.Elements.{All-head, All-tail, filter_passes}
 use Rattle.std.proofs.lemmas.Map.Views.{any-filter_same}
-use Rattle.mls_kinds.specs.KindSets.{holds, members, set_of}
-use Rattle.mls_kinds.proofs.BitLemmas.{holds-zero}
-use Rattle.mls_kinds.proofs.KindSetLemmas.{holds-set_of, holds_from_64, none_from_members, set_of-lt}
+use Rattle.mls_kinds.specs.KindSets.{has_bit, members, set_of}
+use Rattle.mls_kinds.proofs.BitLemmas.{has_bit-zero}
+use Rattle.mls_kinds.proofs.KindSetLemmas.{has_bit-set_of, has_bit_from_64, none_from_members, set_of-lt}
 use Rattle.mls_session.specs.declared.command.Command.{Command}
 use Rattle.mls_session.specs.declared.command.Command.TheVariants.{Box, Paint, Erase, Dump, GetCell, What, Save, Check, CatchUp, Why, Count}
 use Rattle.mls_text.specs.Fields.{fields_of}
@@ -94,20 +94,20 @@ fields_of-field (b ∷ text) =
 
 -- ---- sets of types
 -- a set with a kind has a first one
-members-first : (kinds kind : ℕ) → kinds < 2 ^ 64 → holds kinds kind ≡ true → (first : ℕ) × (rest : List ℕ) × (members kinds ≡ first ∷ rest)
+members-first : (kinds kind : ℕ) → kinds < 2 ^ 64 → has_bit kinds kind ≡ true → (first : ℕ) × (rest : List ℕ) × (members kinds ≡ first ∷ rest)
 members-first kinds kind fits there = by (members kinds) refl
   where
     by : (list : List ℕ) → members kinds ≡ list → (first : ℕ) × (rest : List ℕ) × (list ≡ first ∷ rest)
     by [] none =
         let same : kinds ≡ 0 = none_from_members kinds fits none in
-        let bad : holds kinds kind ≡ false = ap (λ (set : ℕ). holds set kind) same ∙ holds-zero kind in
+        let bad : has_bit kinds kind ≡ false = ap (λ (set : ℕ). has_bit set kind) same ∙ has_bit-zero kind in
         absurd cc
     by (first ∷ rest) is = (first, rest, refl)
 
 -- what holds of each kind of the set holds of each member
-All-members : (P : ℕ → Type 0) (kinds : ℕ) → ((kind : ℕ) → holds kinds kind ≡ true → P kind) → All P (members kinds)
+All-members : (P : ℕ → Type 0) (kinds : ℕ) → ((kind : ℕ) → has_bit kinds kind ≡ true → P kind) → All P (members kinds)
 unfolding members
-All-members P kinds each k d within = each _ (filter_passes (holds kinds) (range_with_len 0 64) k d within)
+All-members P kinds each k d within = each _ (filter_passes (has_bit kinds) (range_with_len 0 64) k d within)
 
 in-range : (kind a n : ℕ) → a ≤ kind → kind < a + n → list_any (λ m. kind == m) (range_with_len a n) ≡ true
 in-range kind a zero from to = absurd (omega (arith, from, to))
@@ -121,12 +121,12 @@ in-range kind a (suc n) from to =
     (cases_eq kind a)
 
 -- a kind is a member where the set holds it
-pub any-members : (kinds kind : ℕ) → kind < 64 → list_any (λ m. kind == m) (members kinds) ≡ holds kinds kind
+pub any-members : (kinds kind : ℕ) → kind < 64 → list_any (λ m. kind == m) (members kinds) ≡ has_bit kinds kind
 unfolding members
 any-members kinds kind below =
-    any-filter_same (λ m. kind == m) (holds kinds) (holds kinds kind) (λ m same. ap (holds kinds) (sym (eqb-true kind m same))) (range_with_len 0 64)
-    ∙ ap (λ (t : Bool). holds kinds kind && t) (in-range kind 0 64 (omega arith) below)
-    ∙ and-true (holds kinds kind)
+    any-filter_same (λ m. kind == m) (has_bit kinds) (has_bit kinds kind) (λ m same. ap (has_bit kinds) (sym (eqb-true kind m same))) (range_with_len 0 64)
+    ∙ ap (λ (t : Bool). has_bit kinds kind && t) (in-range kind 0 64 (omega arith) below)
+    ∙ and-true (has_bit kinds kind)
 
 module _ (Is : List ℕ → Type 0) (book : Names) (names : NamesReadBack book) where
   -- ---- what lines say
@@ -161,33 +161,33 @@ module _ (Is : List ℕ → Type 0) (book : Names) (names : NamesReadBack book) 
     abbrev pub said_set : ℕ
     said_set = set_of (λ kind. list_any (names_type book kind) words)
 
-    said-any : (kind : ℕ) → holds said_set kind ≡ true → list_any (names_type book kind) words ≡ true
+    said-any : (kind : ℕ) → has_bit said_set kind ≡ true → list_any (names_type book kind) words ≡ true
     said-any kind there =
         ⊎_elim
-        (λ (below : kind < 64). sym (holds-set_of (λ k. list_any (names_type book k) words) kind below) ∙ there)
-        (λ (above : 64 ≤ kind). let none = holds_from_64 said_set kind (set_of-lt (λ k. list_any (names_type book k) words)) above in absurd cc)
+        (λ (below : kind < 64). sym (has_bit-set_of (λ k. list_any (names_type book k) words) kind below) ∙ there)
+        (λ (above : 64 ≤ kind). let none = has_bit_from_64 said_set kind (set_of-lt (λ k. list_any (names_type book k) words)) above in absurd cc)
         (cases_lt kind 64)
 
-    said-named : (kind : ℕ) → holds said_set kind ≡ true → HasShortName book kind
+    said-named : (kind : ℕ) → has_bit said_set kind ≡ true → HasShortName book kind
     said-named kind there = named-any kind words (said-any kind there)
 
     -- a type of the set is that of one of the names
-    pub types_named-any : (kinds kind : ℕ) → types_named book words ≡ Some kinds → holds kinds kind ≡ true → list_any (names_type book kind) words ≡ true
+    pub types_named-any : (kinds kind : ℕ) → types_named book words ≡ Some kinds → has_bit kinds kind ≡ true → list_any (names_type book kind) words ≡ true
     unfolding types_named
-    types_named-any kinds kind is there = said-any kind (subst (λ (set : ℕ). holds set kind ≡ true) (sym (by (list_all (λ name. is_some (book.type_of name)) words) is)) there)
+    types_named-any kinds kind is there = said-any kind (subst (λ (set : ℕ). has_bit set kind ≡ true) (sym (by (list_all (λ name. is_some (book.type_of name)) words) is)) there)
       where
         by : (all : Bool) → cond all (Some said_set) None ≡ Some kinds → said_set ≡ kinds
         by true same = cc
         by false same = absurd cc
 
   module _ (words : List (List ℕ)) (field : List ℕ) (others : List (List ℕ)) (begins : words ≡ field ∷ others) where
-    said-first : (found : Option ℕ) → book.type_of field ≡ found → IsType found → is_some found ≡ true → (kind : ℕ) × (holds (said_set words) kind ≡ true)
+    said-first : (found : Option ℕ) → book.type_of field ≡ found → IsType found → is_some found ≡ true → (kind : ℕ) × (has_bit (said_set words) kind ≡ true)
     said-first None is type some = absurd cc
     said-first (Some kind) is type some =
         let one : names_type book kind field ≡ true = ap (λ (f : Option ℕ). option_map_or (λ named. kind == named) f false) is ∙ eq-eqb kind kind refl in
         let any : list_any (names_type book kind) words ≡ true =
         ap (list_any (names_type book kind)) begins ∙ ap (λ (t : Bool). t || list_any (names_type book kind) others) one in
-        (kind, holds-set_of (λ k. list_any (names_type book k) words) kind type.0 ∙ any)
+        (kind, has_bit-set_of (λ k. list_any (names_type book k) words) kind type.0 ∙ any)
 
     pub types_named-spelled : HasTypesIfAny book (types_named book words)
     unfolding types_named

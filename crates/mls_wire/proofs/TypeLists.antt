@@ -3,9 +3,9 @@ use Rattle.std.proofs.Common.{◌≡◌, ℕ, ◌^◌, ◌<◌, ◌==◌, Bool, 
 use Rattle.std.specs.List.{list_all, list_any}
 use Rattle.std.specs.Option.{option_map_or}
 use Rattle.std.proofs.Math.Bool.{or-false}
-use Rattle.mls_kinds.specs.KindSets.{holds, set_of, with_kind}
-use Rattle.mls_kinds.proofs.BitLemmas.{holds-zero}
-use Rattle.mls_kinds.proofs.KindSetLemmas.{holds-set_of, is_set_of, set_of_same}
+use Rattle.mls_kinds.specs.KindSets.{has_bit, set_of, with_kind}
+use Rattle.mls_kinds.proofs.BitLemmas.{has_bit-zero}
+use Rattle.mls_kinds.proofs.KindSetLemmas.{has_bit-set_of, is_set_of, set_of_same}
 use Rattle.mls_wire.specs.NameBooks.{Names}
 use Rattle.mls_wire.specs.Says.{names_type, types_named}
 
@@ -18,7 +18,7 @@ module _ (book : Names) where
   are_types names = list_all (λ name. is_some (book.type_of name)) names
 
   abbrev set_with : ℕ → List (List ℕ) → ℕ
-  set_with set names = set_of (λ kind. holds set kind || list_any (names_type book kind) names)
+  set_with set names = set_of (λ kind. has_bit set kind || list_any (names_type book kind) names)
 
   -- the set with the types of these names, or none where a name is of no type
   abbrev pub types_from : ℕ → List (List ℕ) → Option ℕ
@@ -28,11 +28,11 @@ module _ (book : Names) where
   unfolding types_named
   types_named-from names =
       ap (λ set. cond (are_types names) (Some set) None)
-      (set_of_same _ _ (λ kind below. sym (ap (λ held. held || list_any (names_type book kind) names) (holds-zero kind))))
+      (set_of_same _ _ (λ kind below. sym (ap (λ held. held || list_any (names_type book kind) names) (has_bit-zero kind))))
 
   -- no name is left
   types_from-nil : (set : ℕ) → set < 2 ^ 64 → types_from set [] ≡ Some set
-  types_from-nil set fits = ap Some (sym (is_set_of set _ fits (λ kind below. sym (or-false (holds set kind)))))
+  types_from-nil set fits = ap Some (sym (is_set_of set _ fits (λ kind below. sym (or-false (has_bit set kind)))))
 
   pub types_from-all : (left : List (List ℕ)) (set : ℕ) (types : Option ℕ) → left ≡ [] → set < 2 ^ 64 → types ≡ types_from set left → Some set ≡ types
   types_from-all left set types none fits all = sym (all ∙ ap (types_from set) none ∙ types_from-nil set fits)
@@ -49,12 +49,12 @@ module _ (book : Names) where
       same_set = set_of_same _ _ same_at
         where
           same_at : (k : ℕ) → k < 64
-              → (holds set k || (names_type book k name || list_any (names_type book k) names)) ≡ (holds (with_kind set kind) k || list_any (names_type book k) names)
+              → (has_bit set k || (names_type book k name || list_any (names_type book k) names)) ≡ (has_bit (with_kind set kind) k || list_any (names_type book k) names)
           same_at k below =
               let rest = list_any (names_type book k) names in
-              ap (λ found. holds set k || (option_map_or (λ other. k == other) found false || rest)) named
-              ∙ sym (or-assoc (holds set k) (k == kind) rest)
-              ∙ ap (λ held. held || rest) (sym (holds-set_of (λ other. holds set other || other == kind) k below))
+              ap (λ found. has_bit set k || (option_map_or (λ other. k == other) found false || rest)) named
+              ∙ sym (or-assoc (has_bit set k) (k == kind) rest)
+              ∙ ap (λ held. held || rest) (sym (has_bit-set_of (λ other. has_bit set other || other == kind) k below))
 
       -- a name of this type
       types_from-some : types_from set (name ∷ names) ≡ types_from (with_kind set kind) names

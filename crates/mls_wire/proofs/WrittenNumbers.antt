@@ -10,7 +10,7 @@ use Rattle.std.proofs.lemmas.Fmt.{decimal_nonempty, length-decimal-le}
 use Rattle.mls_text.specs.Digits.{is_digit, is_number, value_at_most, value_of}
 use Rattle.mls_library.proofs.SavedLines.{IsPlain}
 use Rattle.mls_library.proofs.SavedNumbers.{IsPlain-digits, decimal_digits, decimal_value}
-use Rattle.mls_wire.specs.Numbers.{count_of, magnitude_of, number_of}
+use Rattle.mls_wire.specs.Numbers.{count_written, magnitude_of, number_of}
 
 -- ---- what is written is read
 is_number-digits : (ds : List ℕ) → 0 < length ds → list_all is_digit ds ≡ true → is_number ds ≡ true
@@ -78,9 +78,9 @@ number_of-short (b ∷ word) =
 pub decimal_plain : (n : ℕ) → n < 2 ^ 64 → IsPlain (decimal n) × (0 < length (decimal n))
 decimal_plain n fits = (IsPlain-digits (decimal n) (decimal_digits n fits), decimal_nonempty n fits)
 
-pub count_of-decimal : (n : ℕ) → 1 ≤ n → n < 2 ^ 64 → count_of (decimal n) ≡ Some n
-unfolding count_of
-count_of-decimal n some fits =
+pub count_written-decimal : (n : ℕ) → 1 ≤ n → n < 2 ^ 64 → count_written (decimal n) ≡ Some n
+unfolding count_written
+count_written-decimal n some fits =
     let ds = decimal n in
     let small : n < 10 ^ 20 = omega (arith, fits) in
     ap (λ (t : Bool). cond (t && is_number ds && nat_le 1 (value_of ds) && nat_le (value_of ds) (2 ^ 64 - 1)) (Some (value_of ds)) None)

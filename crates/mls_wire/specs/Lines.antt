@@ -7,12 +7,12 @@ abbrev pub line_limit : ℕ
 line_limit = 1024
 
 -- a line as it is read: none where it is too long
-abbrev pub read_line : List ℕ → Option (List ℕ)
-read_line line = if nat_lt line_limit (length (without_return line)) then None else Some (without_return line)
+abbrev pub line_if_short : List ℕ → Option (List ℕ)
+line_if_short line = if nat_lt line_limit (length (without_return line)) then None else Some (without_return line)
 
 -- the lines of a script, each as it is read
 abbrev pub script_of : List ℕ → List (Option (List ℕ))
-script_of text = map read_line (lines_of text)
+script_of text = map line_if_short (lines_of text)
 
 -- the lists with a byte in front of the first, if there is one
 abbrev pub onto_whole : ℕ → List (List ℕ) → List (List ℕ)
@@ -26,4 +26,4 @@ whole_lines_of (b ∷ bytes) = if b == 10 then [] ∷ whole_lines_of bytes else 
 
 -- these lines, each as it is read
 abbrev pub whole_script_of : List ℕ → List (Option (List ℕ))
-whole_script_of text = map read_line (whole_lines_of text)
+whole_script_of text = map line_if_short (whole_lines_of text)

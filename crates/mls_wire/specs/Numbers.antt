@@ -14,6 +14,6 @@ number_of (b ∷ word) =
     else option_map pos (magnitude_of (2 ^ 31 - 1) (b ∷ word))
 
 -- how many times: one to twenty digits, at least 1 and within a u64
-unfoldable pub count_of : List ℕ → Option ℕ
-count_of word =
+unfoldable pub count_written : List ℕ → Option ℕ
+count_written word =
     if nat_le (length word) 20 && is_number word && nat_le 1 (value_of word) && nat_le (value_of word) (2 ^ 64 - 1) then Some (value_of word) else None

@@ -9,7 +9,7 @@ use Rattle.mls_tech.specs.Readings.{short_name_of}
 use Rattle.mls_text.specs.Lines.{IsUnbroken}
 use Rattle.mls_text.specs.Words.{is_blank}
 use Rattle.mls_wire.specs.JournalLines.{command_line, steps_line, type_word}
-use Rattle.mls_wire.specs.Lines.{line_limit, read_line}
+use Rattle.mls_wire.specs.Lines.{line_limit, line_if_short}
 use Rattle.mls_wire.specs.NameBooks.{Names, SessionIds, book_of, no_name}
 use Rattle.mls_wire.specs.PlayedJournals.{PlaysAgain}
 use Rattle.mls_wire.specs.Says.{line_says}
@@ -41,7 +41,7 @@ pub record NamesReadBack (book : Names) : Type 0 where
 abbrev pub CommandsReadBack : Names → Type 0
 CommandsReadBack book =
     (ids : SessionIds) (line name : List ℕ) (id : ℕ) (command : Command) → length line < line_limit → line_says book ids (Some line) ≡ Ok (Run name id command)
-    → line_says book ids (read_line (command_line book name command)) ≡ Ok (Run name id command)
+    → line_says book ids (line_if_short (command_line book name command)) ≡ Ok (Run name id command)
 
 -- it is one line, where that is one
 abbrev pub CommandsAreLines : Names → Type 0
@@ -53,7 +53,7 @@ CommandsAreLines book =
 abbrev pub StepsReadBack : Names → Type 0
 StepsReadBack book =
     (ids : SessionIds) (name : List ℕ) (id steps : ℕ) → is_session_name name ≡ true → ids name ≡ Some id → 1 ≤ steps → steps < 2 ^ 64
-    → line_says book ids (read_line (steps_line name steps)) ≡ Ok (Steps name id steps)
+    → line_says book ids (line_if_short (steps_line name steps)) ≡ Ok (Steps name id steps)
 
 -- types and cells are called as they are in this setting
 pub record CallsAs (book : Names) (setting : Setting) : Type 0 where

@@ -8,7 +8,7 @@ use Rattle.mls_session.specs.declared.command.Command.TheVariants.{Box, Paint, E
 use Rattle.mls_session.specs.declared.look.Look.{Look}
 use Rattle.mls_session.specs.declared.look.Look.TheVariants.{Save as SaveLook, Why as WhyLook, Status as StatusLook, Uses as UsesLook, Marks as MarksLook, Journal as JournalLook}
 use Rattle.mls_wire.specs.NameBooks.{Names, SessionIds}
-use Rattle.mls_wire.specs.Numbers.{count_of, number_of}
+use Rattle.mls_wire.specs.Numbers.{count_written, number_of}
 use Rattle.mls_text.specs.Fields.{fields_of}
 use Rattle.mls_text.specs.Words.{begins_with, words_of, same_word}
 use Rattle.mls_server.specs.SessionNames.{is_session_name}
@@ -145,25 +145,25 @@ asked_line AsksAudit name id = Audit name id
 asked_line (AsksLook look) name id = LookAt name id look
 
 -- why a square between these lines is forbidden
-abbrev pub why_of : Result Sides LineFault → Result Asked LineFault
-why_of (Ok sides) = Ok (AsksLook (WhyLook sides.left sides.bottom sides.right sides.top))
-why_of (Err fault) = Err fault
+abbrev pub asks_why : Result Sides LineFault → Result Asked LineFault
+asks_why (Ok sides) = Ok (AsksLook (WhyLook sides.left sides.bottom sides.right sides.top))
+asks_why (Err fault) = Err fault
 
 abbrev pub why_says : List (List ℕ) → Result Asked LineFault
-why_says words = why_of (sides_say words)
+why_says words = asks_why (sides_say words)
 
 -- how many times something is done
 abbrev pub count_says : List (List ℕ) → Result ℕ LineFault
-count_says (word ∷ []) = ok_or (count_of word) BadNumber
+count_says (word ∷ []) = ok_or (count_written word) BadNumber
 count_says _ = Err UnknownCommand
 
 -- at most so many check steps
-abbrev pub steps_of : Result ℕ LineFault → Result Asked LineFault
-steps_of (Ok most) = Ok (AsksSteps most)
-steps_of (Err fault) = Err fault
+abbrev pub asks_steps : Result ℕ LineFault → Result Asked LineFault
+asks_steps (Ok most) = Ok (AsksSteps most)
+asks_steps (Err fault) = Err fault
 
 abbrev pub steps_say : List (List ℕ) → Result Asked LineFault
-steps_say words = steps_of (count_says words)
+steps_say words = asks_steps (count_says words)
 
 -- what the words after the session's name ask
 abbrev pub asked_in : Asking → List (List ℕ) → Result Asked LineFault

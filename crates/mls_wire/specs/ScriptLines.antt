@@ -4,6 +4,6 @@ use Rattle.mls_wire.specs.declared.script_line.ScriptLine.{ScriptLine}
 use Rattle.mls_wire.specs.declared.script_line.ScriptLine.TheVariants.{TooLong, Text}
 
 -- the line's bytes: none where it is too long
-abbrev pub text_of : ScriptLine → Option (List ℕ)
-text_of TooLong = None
-text_of (Text bytes) = Some bytes.now
+abbrev pub bytes_of_line : ScriptLine → Option (List ℕ)
+bytes_of_line TooLong = None
+bytes_of_line (Text bytes) = Some bytes.now

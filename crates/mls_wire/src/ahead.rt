@@ -2,7 +2,7 @@
 ghost use Rattle.std.specs.Prelude.{◌≡◌, ◌++◌, ◌∷◌, [], Some, IfOk, IfErr, OnOk};
 ghost use Rattle.mls_text.specs.Words.{words_of};
 ghost use Rattle.mls_wire.specs.Ahead.{SaysScript, StopsReading, ahead_says, is_stepwise};
-ghost use Rattle.mls_wire.specs.ScriptLines.{text_of};
+ghost use Rattle.mls_wire.specs.ScriptLines.{bytes_of_line};
 
 use crate::reader::{LineReader, NextLine};
 use crate::{Line, LineFault, Names, ScriptLine, ServeFault, Sessions, Watched, parse_line};
@@ -61,7 +61,8 @@ fn push_said<N: Names>(
     line: ScriptLine<'_>,
     said: &mut Vec<Result<Line, LineFault>>,
 ) -> Result<(), AllocError>
-    ensures { OnOk result (said.new.items ≡ said.old.items ++ ahead_says (N.book names.now) (text_of line.entry) ∷ []) }
+    ensures { OnOk result (said.new.items ≡ said.old.items
+        ++ ahead_says (N.book names.now) (bytes_of_line line.entry) ∷ []) }
 {
     said.push(parse_ahead(names, line))?;
     Ok(())
@@ -70,7 +71,7 @@ fn push_said<N: Names>(
 /// Returns what a line says before any session is open, or its first fault.
 #[tactic(auto, unfolding(crate::specs::Ahead::ahead_says))]
 fn parse_ahead<N: Names>(names: &N, line: ScriptLine<'_>) -> Result<Line, LineFault>
-    ensures { result ≡ ahead_says (N.book names.now) (text_of line.entry) }
+    ensures { result ≡ ahead_says (N.book names.now) (bytes_of_line line.entry) }
 {
     match line {
         ScriptLine::TooLong => Err(LineFault::UnknownCommand),

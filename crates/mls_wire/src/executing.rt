@@ -5,7 +5,7 @@ ghost use Rattle.mls_server.specs.Servers.{world_of};
 ghost use Rattle.mls_server.specs.Worlds.{kept_in};
 ghost use Rattle.mls_wire.specs.Runs as runs;
 ghost use Rattle.mls_wire.specs.Runs.{Asks, CanExecute, Executes, says_in};
-ghost use Rattle.mls_wire.specs.ScriptLines.{text_of};
+ghost use Rattle.mls_wire.specs.ScriptLines.{bytes_of_line};
 
 use crate::{Line, Response, ScriptLine, parse_line};
 use mls_server::{Event, Name, Server, SessionId};
@@ -15,7 +15,7 @@ use std::alloc::Global;
 /// Executes a line, and returns the response to it.
 pub fn respond(alloc: Global, server: &mut Server, line: ScriptLine<'_>) -> Response
     ensures executes { Executes (world_of server.old)
-        (says_in (world_of server.old) (text_of line.entry)) result (world_of server.new) }
+        (says_in (world_of server.old) (bytes_of_line line.entry)) result (world_of server.new) }
     ensures setting { (world_of server.new).setting ≡ (world_of server.old).setting }
 {
     match parse_line(server, server, line) {

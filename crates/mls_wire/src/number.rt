@@ -23,9 +23,9 @@ pub fn number_of(word: &[u8]) -> Option<i32>
 }
 
 /// Returns the count that a word spells: one to twenty digits, at least 1 and within a `u64`.
-#[tactic(auto, unfolding(crate::specs::Numbers::count_of))]
-pub fn count_of(word: &[u8]) -> Option<u64>
-    ensures { result ≡ spec.count_of word.now }
+#[tactic(auto, unfolding(crate::specs::Numbers::count_written))]
+pub fn count_written(word: &[u8]) -> Option<u64>
+    ensures { result ≡ spec.count_written word.now }
 {
     if word.len() > COUNT_DIGITS_LIMIT || !is_number(word) {
         return None;

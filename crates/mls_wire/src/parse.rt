@@ -3,9 +3,9 @@ ghost use Rattle.std.specs.Prelude.{◌≡◌, if◌then◌else◌};
 ghost use Rattle.mls_text.specs.Fields.{fields_of};
 ghost use Rattle.mls_text.specs.Words.{begins_with};
 ghost use Rattle.mls_wire.specs.Says.{alone_says, asked_by, asked_in, asked_line, asking_says, box_says, command_of, count_says, drc_says, dump_says, edit_of, erase_says, getcell_says, line_says, moved_cell_says, open_says, paint_says, session_says, sides_say, steps_say, types_named, why_says, words_say};
-ghost use Rattle.mls_wire.specs.ScriptLines.{text_of};
+ghost use Rattle.mls_wire.specs.ScriptLines.{bytes_of_line};
 
-use crate::number::{count_of, number_of};
+use crate::number::{count_written, number_of};
 use crate::{Line, LineFault, Names, ScriptLine, Sessions};
 use mls_kinds::KindSet;
 use mls_library::CellId;
@@ -72,7 +72,7 @@ pub fn parse_line<N: Names, S: Sessions>(
     sessions: &S,
     line: ScriptLine<'_>,
 ) -> Result<Line, LineFault>
-    ensures { result ≡ line_says (N.book names.now) (S.ids sessions.now) (text_of line.entry) }
+    ensures { result ≡ line_says (N.book names.now) (S.ids sessions.now) (bytes_of_line line.entry) }
 {
     match line {
         ScriptLine::TooLong => Err(LineFault::UnknownCommand),
@@ -221,7 +221,7 @@ fn parse_count(mut words: Words) -> Result<u64, LineFault>
     let (Some(word), None) = (words.next(), words.next()) else {
         return Err(LineFault::UnknownCommand);
     };
-    count_of(word).ok_or(LineFault::BadNumber)
+    count_written(word).ok_or(LineFault::BadNumber)
 }
 
 /// Returns the command of the words after a session's name.

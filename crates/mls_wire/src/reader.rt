@@ -60,7 +60,7 @@ impl Model for LineReader {
 }
 
 impl LineReader {
-    ghost use Rattle.mls_wire.specs.ScriptLines.{text_of};
+    ghost use Rattle.mls_wire.specs.ScriptLines.{bytes_of_line};
 
     /// Creates a reader that has read nothing yet.
     pub fn new() -> LineReader
@@ -77,7 +77,7 @@ impl LineReader {
 
     /// Returns the line that was read last.
     pub fn line(&self) -> ScriptLine<'_>
-        ensures { text_of result ≡ spec.read_line self.now.line }
+        ensures { bytes_of_line result ≡ spec.line_if_short self.now.line }
     {
         let line = without_return(&self.kept[..self.len]);
         if line.len() > LINE_LIMIT {

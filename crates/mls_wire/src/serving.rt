@@ -4,7 +4,7 @@ ghost use Rattle.std.specs.Io.KnownBytes.{Appends};
 ghost use Rattle.mls_server.specs.Servers.{world_of};
 ghost use Rattle.mls_server.specs.Worlds.{MarksAreExact, MarksAreRight};
 ghost use Rattle.mls_wire.specs.ReadBack.{JournalsReadBack};
-ghost use Rattle.mls_wire.specs.ScriptLines.{text_of};
+ghost use Rattle.mls_wire.specs.ScriptLines.{bytes_of_line};
 ghost use Rattle.mls_wire.specs.Serving.{AppendsFront, WritesRun, WritesCutRun, WritesLine, WritesCutLine, HasReason};
 ghost use Rattle.mls_wire.specs.Watches.{HasCause};
 
@@ -138,9 +138,9 @@ fn serve_line<W: Write>(
     text: &mut Vec<u8>,
     output: &mut Watched<W>,
 ) -> Result<(), ServeFault>
-    ensures done { OnOk result (WritesLine (world_of server.old) n (text_of line.entry)
+    ensures done { OnOk result (WritesLine (world_of server.old) n (bytes_of_line line.entry)
         (W.contents output.old.device) (W.contents output.new.device) (world_of server.new)) }
-    ensures cut { IfErr result (λ fault. WritesCutLine (world_of server.old) n (text_of line.entry) fault
+    ensures cut { IfErr result (λ fault. WritesCutLine (world_of server.old) n (bytes_of_line line.entry) fault
         (W.contents output.old.device) (W.contents output.new.device) (world_of server.new)) }
     ensures marks_right { MarksAreRight (world_of server.new) }
     ensures marks_exact { MarksAreExact (world_of server.new) }

@@ -225,7 +225,7 @@ impl Design {
     }
 
     /// Returns how many squares are marked, and how many areas await checking.
-    #[tactic(auto, unfolding(crate::specs::Own::marked_squares, mls_errorplane::specs::MarkPlanes::marked_count))]
+    #[tactic(auto, unfolding(crate::specs::Own::total_marks, mls_errorplane::specs::MarkPlanes::marked_count))]
     pub fn count(&self) -> Reply
         ensures { (pool : Pool) → IsHome pool self.now
             → count_step (designed_of pool self.now) ≡ (designed_of pool self.now, result) }

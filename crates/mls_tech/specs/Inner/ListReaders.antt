@@ -131,9 +131,9 @@ unfoldable pub step : Scope → Reader → Token → Option Reader
 step scope r token = step_at scope r r.position token
 
 -- the next reader is the new one, or there is none, and the list is a bad one
-abbrev pub Steps : Option Reader → Result (Unit {0}) TechFaultKind → Reader → Type 0
-Steps next (Ok _) new = next ≡ Some new
-Steps next (Err fault) new = (fault ≡ BadList) × (next ≡ None)
+abbrev pub Advances : Option Reader → Result (Unit {0}) TechFaultKind → Reader → Type 0
+Advances next (Ok _) new = next ≡ Some new
+Advances next (Err fault) new = (fault ≡ BadList) × (next ≡ None)
 
 -- ---- the end of the word
 abbrev pub unless_unknown : Option TechFaultKind → ℕ → Result ℕ TechFaultKind

@@ -1,5 +1,5 @@
 use Rattle.std.proofs.Common.{◌+◌, ◌-◌, refl, arith}
-use Rattle.mls_kinds.specs.KindSets.{holds as has_bit}
+use Rattle.mls_kinds.specs.KindSets.{has_bit}
 use Rattle.mls_checker.specs.Grids.{stacked}
 use Rattle.mls_checker.proofs.Stacks.{no-stack, stack-more}
 use Rattle.mls_checker.proofs.words.stack.Goals as goal

@@ -1,5 +1,5 @@
 use Rattle.std.proofs.Common.{◌≡◌, ℕ, ◌-◌, ◌≤◌, ◌||◌, ◌&&◌}
-use Rattle.mls_kinds.specs.KindSets.{holds as has_bit}
+use Rattle.mls_kinds.specs.KindSets.{has_bit}
 use Rattle.mls_checker.specs.Grids.{is_between, stacked}
 use Rattle.mls_checker.proofs.words.stack.Given as goal
 

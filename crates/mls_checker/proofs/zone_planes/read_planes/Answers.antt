@@ -1,7 +1,7 @@
 use Rattle.std.proofs.Common.{◌≡◌, ◌<◌, [], ◌∷◌, length, length-append, ap, ◌∙◌, arith}
 use Rattle.std.proofs.lemmas.List.Elements.{All-push}
 use Rattle.mls_layout.specs.Uses.{flat_layout, flat_plane}
-use Rattle.mls_checker.specs.Copies.{IsOfZone, picture_of}
+use Rattle.mls_checker.specs.Copies.{IsOfZone, plane_picture}
 use Rattle.mls_checker.specs.ZoneLayouts.{within}
 use Rattle.mls_checker.proofs.Copying.{cut}
 use Rattle.mls_checker.proofs.FlatPlanes.{cut-IsOfZone, flat-at, flat-by_copies, planes_layout-push}
@@ -20,7 +20,7 @@ loop-index-preserved c =
     let index = c.loop-index.index in
     let now = c.loop-index.workspace.pool in
     let below : index < length owners = omega (arith, ap length so_far.owners) in
-    let here : picture_of copy ≡ cut (flat_plane now uses index owner) zone = rw (← c.index-planes-index.is) at c.in_ok-read.ensures.picture in
+    let here : plane_picture copy ≡ cut (flat_plane now uses index owner) zone = rw (← c.index-planes-index.is) at c.in_ok-read.ensures.picture in
     let flat = flat-at c.args.workspace.now.pool now uses owners c.loop-index.planes zone index owner so_far.pool so_far.owners below c.index-planes-index.is in
     rw c.in_ok-push.ensures.items
     (record {

@@ -4,7 +4,7 @@ use Rattle.mls_server.specs.LegalLists.{IsLegalList}
 use Rattle.mls_session.specs.declared.journal.Said.{Said}
 use Rattle.mls_wire.specs.Replies.{response_text}
 use Rattle.mls_seat_lines.specs.Glossaries.{book_in}
-use Rattle.mls_crew.specs.Groups.{SaysLines, lines_of}
+use Rattle.mls_crew.specs.Groups.{SaysLines, lines_handed}
 use Rattle.mls_crew.proofs.LineLists.{none_said}
 use Rattle.mls_seat_lines.proofs.Results.{ok_holds}
 use Rattle.mls_crew.proofs.speaking.say_group.Goals as goal
@@ -15,7 +15,7 @@ returns g c =
     let (more, ran, added) = c.in_ok-say_lines.ensures in
     let terms = g.N.Naming.terms in
     let book = book_in c.args.part.now.glossary.now in
-    let lines = lines_of c.args.part.now.session c.args.part.now.sorting.now.handed in
+    let lines = lines_handed c.args.part.now.session c.args.part.now.sorting.now.handed in
     let last = list_of c.say_lines.new.seat in
     let said = subst (λ (said : List Said). SaysLines terms book c.args.name.now said lines more last) (none_said (list_of c.args.seat.now) c.requires) ran in
     let opened = rw c.new-text.ensures.items at c.in_ok-push_response.ensures.text in (

@@ -1,11 +1,11 @@
 use Rattle.std.proofs.Common.{◌≡◌, ◌++◌, ℕ, List, take}
 use Rattle.mls_live.specs.Lists.{list_of}
 use Rattle.mls_seat_lines.specs.Glossaries.{book_in}
-use Rattle.mls_crew.specs.Groups.{SaysLines, lines_of}
+use Rattle.mls_crew.specs.Groups.{SaysLines, lines_handed}
 use Rattle.mls_crew.proofs.speaking.say_lines.Given as goal
 
 -- the lines so far gave this text
 abbrev pub invariant-loop-handed : goal.invariant-loop-handed
 invariant-loop-handed g l =
-    (text : List ℕ) × SaysLines g.N.Naming.terms (book_in l.part.glossary.now) l.name (list_of l.fn.seat) (lines_of l.part.session (take l.handed-index l.lines)) text (list_of l.seat)
+    (text : List ℕ) × SaysLines g.N.Naming.terms (book_in l.part.glossary.now) l.name (list_of l.fn.seat) (lines_handed l.part.session (take l.handed-index l.lines)) text (list_of l.seat)
     × (l.out.items ≡ l.fn.out.items ++ text)

@@ -8,12 +8,12 @@ loop-line-init c = rw (c.new-rules.ensures, c.lines-lines.ensures) (continued-st
 
 pub returns-then-is_full : goal.returns-then-is_full
 returns-then-is_full c =
-    ap Err c.fault_at.ensures
+    ap Err c.rule_fault.ensures
     ∙ sym (continued-full _ _ _ _ _ c.loop-line-test.true c.line-item.is (sym c.is_full.ensures ∙ c.if-is_full.true)) ∙ c.loop-line.invariant
 
 pub returns-in_default : goal.returns-in_default
 returns-in_default c =
-    ap Err c.fault_at-in_default.ensures
+    ap Err c.rule_fault-in_default.ensures
     ∙ sym (continued-planes _ _ _ _ _ c.loop-line-test.true c.line-item.is (sym c.is_full.ensures ∙ c.if-is_full.false) (sym c.rule_of.ensures ∙ c.in_default.is))
     ∙ c.loop-line.invariant
 

@@ -5,7 +5,7 @@ use Rattle.mls_tilepool.specs.Pools.{Pool}
 use Rattle.mls_paint.specs.Planes.{picture_in}
 use Rattle.mls_layout.specs.Inner.{in_world}
 use Rattle.mls_layout.specs.Likenesses.{ShowsAlike}
-use Rattle.mls_layout.specs.Moves.{moved}
+use Rattle.mls_layout.specs.Moves.{moved_picture}
 use Rattle.mls_layout.proofs.alike_uses.cell_is_alike.Goals as goal
 
 pub loop-plane-preserved : goal.loop-plane-preserved
@@ -14,7 +14,7 @@ loop-plane-preserved c =
     let index = c.loop-plane.plane-index in
     let owner = c.plane-item.result in
     let so_far = c.loop-plane.invariant in
-    let P : Pool → ℕ → Type 0 = λ pool owner. ShowsAlike c.args.zone.now.likeness c.args.zone.now.halo c.args.zone.now.rect (in_world (moved (picture_in pool owner) c.args.cell_use.now.dx c.args.cell_use.now.dy)) in
+    let P : Pool → ℕ → Type 0 = λ pool owner. ShowsAlike c.args.zone.now.likeness c.args.zone.now.halo c.args.zone.now.rect (in_world (moved_picture (picture_in pool owner) c.args.cell_use.now.dx c.args.cell_use.now.dy)) in
     let here = subst (λ (pool : Pool). P pool owner) so_far.pool (c.if-not-plane_is_alike.ensures.alike refl) in
     let within : index < length planes = omega (arith, c.loop-plane-test.true, ap length c.planes-plane-items.ensures) in
     let is = c.plane-item.is ∙ ap (λ (list : List ℕ). get_or list index owner) c.planes-plane-items.ensures in

@@ -2,7 +2,7 @@ use Rattle.std.proofs.Common.{◌≡◌, List, All, refl, subst}
 use Rattle.mls_paint.specs.Planes.{picture_in}
 use Rattle.mls_stitch.specs.declared.laid_tile.LaidTile.{LaidTile}
 use Rattle.mls_layout.specs.Inner.{in_world}
-use Rattle.mls_layout.specs.Moves.{moved}
+use Rattle.mls_layout.specs.Moves.{moved_picture}
 use Rattle.mls_layout.proofs.AlikePlanes.{zone-space}
 use Rattle.mls_layout.proofs.AlikeUses.{in_world-outside, in_world-space, placed-alike, placed-space-found}
 use Rattle.mls_layout.proofs.FoundTiles.{moved-nowhere}
@@ -15,7 +15,7 @@ returns-in_default-clause-alike c = λ _.
     let dx = c.args.cell_use.now.dx in
     let dy = c.args.cell_use.now.dy in
     let zone = c.grow.result in
-    let shown = moved (picture_in pool owner) dx dy in
+    let shown = moved_picture (picture_in pool owner) dx dy in
     zone-space c.args.zone.now.likeness c.args.zone.now.halo c.args.zone.now.rect zone (in_world shown) c.lies_in_world.ensures c.grow.ensures.value
     (λ x y inside. in_world-space shown x y (moved-nowhere pool owner c.requires.frozen.strips.plane dx dy zone c.in_default.ensures x y inside)) (in_world-outside shown)
 

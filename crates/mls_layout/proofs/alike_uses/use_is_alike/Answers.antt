@@ -4,7 +4,7 @@ use Rattle.mls_library.proofs.FoundCells.{IsFrozen-found}
 use Rattle.mls_paint.specs.Planes.{picture_in}
 use Rattle.mls_layout.specs.Inner.{bounds_hold, in_world}
 use Rattle.mls_layout.specs.Likenesses.{ShowsAlike}
-use Rattle.mls_layout.specs.Moves.{moved}
+use Rattle.mls_layout.specs.Moves.{moved_picture}
 use Rattle.mls_layout.specs.Uses.{cell_layouts, cell_shown, use_layout}
 use Rattle.mls_layout.proofs.AlikePlanes.{one_kind-alike, zone-space}
 use Rattle.mls_layout.proofs.AlikeUses.{ShowsAlike-use, in_world-outside}
@@ -29,7 +29,7 @@ returns-then-not-reaches-clause-alike c = λ _ plane.
     zone-space c.args.zone.now.likeness c.args.zone.now.halo c.args.zone.now.rect c.grow.result (use_layout (cell_layouts pool cells) cell_use plane) c.lies_in_world.ensures c.grow.ensures.value
     (λ x y inside. use_layout-outside pool cells cell_use cell is c.requires.cells plane x y
     (ap (λ (b : Option Rect). bounds_hold b cell_use.dx cell_use.dy x y) bounds ∙ c.reaches.ensures c.if-not-reaches.true x y inside))
-    (in_world-outside (moved (cell_shown (cell_layouts pool cells) cell_use.cell plane) cell_use.dx cell_use.dy))
+    (in_world-outside (moved_picture (cell_shown (cell_layouts pool cells) cell_use.cell plane) cell_use.dx cell_use.dy))
 
 pub cell_is_alike-requires-clause-frozen : goal.cell_is_alike-requires-clause-frozen
 cell_is_alike-requires-clause-frozen c =
@@ -43,4 +43,4 @@ returns-clause-alike c = λ yes plane.
     let got = c.in-Some.ensures in
     let (cell, is, planes, bounds) = cell_there (slice_get cells cell_use.cell) c.in-Some.cell.now.planes c.in-Some.cell.now.bounds got.planes got.bounds in
     ShowsAlike-use c.args.zone.now.likeness c.args.zone.now.halo c.args.zone.now.rect pool cells cell_use cell c.lies_in_world.ensures is
-    (subst (All (λ owner. ShowsAlike c.args.zone.now.likeness c.args.zone.now.halo c.args.zone.now.rect (in_world (moved (picture_in pool owner) cell_use.dx cell_use.dy)))) (sym planes) (c.cell_is_alike.ensures.alike yes)) plane
+    (subst (All (λ owner. ShowsAlike c.args.zone.now.likeness c.args.zone.now.halo c.args.zone.now.rect (in_world (moved_picture (picture_in pool owner) cell_use.dx cell_use.dy)))) (sym planes) (c.cell_is_alike.ensures.alike yes)) plane

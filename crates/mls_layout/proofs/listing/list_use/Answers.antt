@@ -5,7 +5,7 @@ use Rattle.std.proofs.lemmas.Int.{to_z-of_z}
 use Rattle.mls_geom.specs.Locality.{laid}
 use Rattle.mls_stitch.specs.declared.laid_tile.LaidTile.{LaidTile}
 use Rattle.mls_layout.specs.Inner.{ShowMoved}
-use Rattle.mls_layout.specs.Moves.{moved}
+use Rattle.mls_layout.specs.Moves.{moved_picture}
 use Rattle.mls_layout.specs.Uses.{over}
 use Rattle.mls_layout.proofs.listing.list_use.Goals as goal
 
@@ -20,4 +20,4 @@ returns-clause-laid c = λ done x y inside.
     let all = simp to_z-of_z at c.push_tiles.ensures.laid in
     found.painted (laid c.args.workspace.now.pieces.items) (laid c.push_tiles.new.pieces.items) x y inside
     (all done found.picture show x y inside
-    ∙ ap (λ pieces. over (moved found.picture dx dy) (laid pieces.items) x y) c.in-Some.ensures.pieces)
+    ∙ ap (λ pieces. over (moved_picture found.picture dx dy) (laid pieces.items) x y) c.in-Some.ensures.pieces)

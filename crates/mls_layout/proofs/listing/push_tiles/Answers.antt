@@ -4,7 +4,7 @@ use Rattle.std.proofs.lemmas.List.{take_all}
 use Rattle.mls_geom.specs.Locality.{laid}
 use Rattle.mls_stitch.specs.declared.laid_tile.LaidTile.{LaidTile}
 use Rattle.mls_layout.specs.Grids.{Shows}
-use Rattle.mls_layout.specs.Moves.{moved}
+use Rattle.mls_layout.specs.Moves.{moved_picture}
 use Rattle.mls_layout.proofs.PaintedTiles.{painted-all, painted-more, some_dumps}
 use Rattle.mls_layout.proofs.listing.push_tiles.Goals as goal
 
@@ -31,7 +31,7 @@ returns-clause-laid c = λ done picture show x y inside.
     let dx = c.args.dx in
     let dy = c.args.dy in
     let so_far = simp to_z-of_z at (c.loop-tile.invariant.shown picture show.each x y inside) in
-    let all = ap (λ (list : List LaidTile). if some_dumps list dx dy x y then moved picture dx dy x y else laid c.args.pieces.now.items x y)
+    let all = ap (λ (list : List LaidTile). if some_dumps list dx dy x y then moved_picture picture dx dy x y else laid c.args.pieces.now.items x y)
     (take_all c.loop-tile.tile-index tiles c.loop-tile-test.false) in
     painted-all picture dx dy c.args.rect tiles x y show (laid c.args.pieces.now.items) _ inside (so_far ∙ all)
 

@@ -3,7 +3,7 @@ use Rattle.std.proofs.lemmas.Int.{to_z-of_z}
 use Rattle.std.proofs.lemmas.List.{take_all}
 use Rattle.mls_stitch.specs.declared.laid_tile.LaidTile.{LaidTile}
 use Rattle.mls_layout.specs.Grids.{Shows, grid_picture}
-use Rattle.mls_layout.specs.Moves.{moved}
+use Rattle.mls_layout.specs.Moves.{moved_picture}
 use Rattle.mls_layout.proofs.PaintedTiles.{painted-all, painted-more, some_dumps}
 use Rattle.mls_layout.proofs.painting.paint_tiles.Goals as goal
 
@@ -25,7 +25,7 @@ returns c = record {
       let dx = c.args.dx in
       let dy = c.args.dy in
       let so_far = simp to_z-of_z at (c.loop-tile.invariant picture show.each x y inside) in
-      let all = ap (λ (list : List LaidTile). if some_dumps list dx dy x y then moved picture dx dy x y else grid_picture c.args.grid.now c.args.block x y)
+      let all = ap (λ (list : List LaidTile). if some_dumps list dx dy x y then moved_picture picture dx dy x y else grid_picture c.args.grid.now c.args.block x y)
       (take_all c.loop-tile.tile-index tiles c.loop-tile-test.false) in
       painted-all picture dx dy c.args.block tiles x y show (grid_picture c.args.grid.now c.args.block) _ inside (so_far ∙ all);
 }

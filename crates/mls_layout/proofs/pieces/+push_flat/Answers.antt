@@ -4,9 +4,9 @@ use Rattle.mls_geom.specs.Rects.{IsRectangleIn, IsWithin, Rect}
 use Rattle.mls_geom.specs.declared.piece.Piece.{Piece}
 use Rattle.mls_tilepool.specs.Pools.{Pool}
 use Rattle.mls_paint.specs.Planes.{picture_in}
-use Rattle.mls_layout.specs.Grids.{Appends}
+use Rattle.mls_layout.specs.Grids.{AppendsCover}
 use Rattle.mls_layout.specs.Uses.{cell_layouts, flat_plane, uses_layout}
-use Rattle.mls_layout.proofs.CoveredBlocks.{Appends-agree, Appends-joined}
+use Rattle.mls_layout.proofs.CoveredBlocks.{AppendsCover-agree, AppendsCover-joined}
 use Rattle.mls_layout.proofs.FlatLayouts.{over-space}
 use Rattle.mls_layout.proofs.pieces.+push_flat.Goals as goal
 use Rattle.mls_layout.proofs.pieces.+push_flat.Goals.{else-eq-via-then-eq+in_ok-push_swept+else-branch, else-eq-via-else-eq}
@@ -21,7 +21,7 @@ returns-then-not-meet-clause-appended t c =
     let own = picture_in pool c.args.plane.now in
     let others = uses_layout (cell_layouts pool uses.library.now) uses.list.now c.args.number in
     on_ok_weaker c.push_own.result
-    (Appends-agree c.args.zone own (flat_plane pool uses c.args.number c.args.plane.now) c.args.out.now.items c.push_own.new.out.items
+    (AppendsCover-agree c.args.zone own (flat_plane pool uses c.args.number c.args.plane.now) c.args.out.now.items c.push_own.new.out.items
     (λ x y inside. sym (over-space own others x y (c.meet.ensures.apart c.if-not-meet.true pool c.requires.cells c.args.number x y inside))))
     c.push_own.ensures.appended
 
@@ -51,12 +51,12 @@ returns-clause-appended t c =
       | else-eq-via-then-eq+in_ok-push_swept+else-branch w ↦ ap (λ out. out.items) w.out-is ∙ w.in_ok-push_swept.ensures.none w.if-branch.false
       | else-eq-via-else-eq w ↦ ap (λ out. out.items) w.out-is
     ] in
-    let first = subst (λ (list : List Piece). Appends one picture list mid) same_out
-    (subst (λ (p : Pool). Appends one (flat_plane p uses number owner) c.else-eq.out.items mid) same_pool
-    (subst (λ (o : ℕ). Appends one (flat_plane c.else-eq.workspace.pool uses number o) c.else-eq.out.items mid) same_owner c.in_ok-push_flat.ensures.appended)) in
+    let first = subst (λ (list : List Piece). AppendsCover one picture list mid) same_out
+    (subst (λ (p : Pool). AppendsCover one (flat_plane p uses number owner) c.else-eq.out.items mid) same_pool
+    (subst (λ (o : ℕ). AppendsCover one (flat_plane c.else-eq.workspace.pool uses number o) c.else-eq.out.items mid) same_owner c.in_ok-push_flat.ensures.appended)) in
     on_ok_weaker c.push_flat-2.result
     (λ appended.
-    Appends-joined zone one other picture old mid new (within zone one parts.one_in) (within zone other parts.other_in) parts.whole first
-    (subst (λ (p : Pool). Appends other (flat_plane p uses number owner) mid new) (c.in_ok-push_flat.ensures.pool ∙ same_pool)
-    (subst (λ (o : ℕ). Appends other (flat_plane c.push_flat.new.workspace.pool uses number o) mid new) (c.in_ok-push_flat.ensures.owner ∙ same_owner) appended)))
+    AppendsCover-joined zone one other picture old mid new (within zone one parts.one_in) (within zone other parts.other_in) parts.whole first
+    (subst (λ (p : Pool). AppendsCover other (flat_plane p uses number owner) mid new) (c.in_ok-push_flat.ensures.pool ∙ same_pool)
+    (subst (λ (o : ℕ). AppendsCover other (flat_plane c.push_flat.new.workspace.pool uses number o) mid new) (c.in_ok-push_flat.ensures.owner ∙ same_owner) appended)))
     c.push_flat-2.ensures.appended

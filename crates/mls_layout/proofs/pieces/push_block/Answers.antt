@@ -4,9 +4,9 @@ use Rattle.std.proofs.lemmas.Result.{on_ok_weaker}
 use Rattle.mls_geom.specs.Pictures.{Picture}
 use Rattle.mls_geom.specs.Rects.{holds}
 use Rattle.mls_tilepool.specs.Pools.{Pool}
-use Rattle.mls_layout.specs.Grids.{Appends, grid_picture}
+use Rattle.mls_layout.specs.Grids.{AppendsCover, grid_picture}
 use Rattle.mls_layout.specs.Uses.{flat_plane}
-use Rattle.mls_layout.proofs.CoveredBlocks.{Appends-agree}
+use Rattle.mls_layout.proofs.CoveredBlocks.{AppendsCover-agree}
 use Rattle.mls_layout.proofs.pieces.push_block.Goals as goal
 
 pub returns-clause-appended : goal.returns-clause-appended
@@ -22,7 +22,7 @@ returns-clause-appended c =
     ∙ ap (λ (owner : ℕ). flat_plane c.args.workspace.now.pool c.args.uses.now c.args.number owner x y) swept.owner in
     on_ok_weaker c.push_pieces.result
     (λ appended.
-    subst (λ old. Appends block picture old c.push_pieces.new.out.items) (swept.none c.if-branch.false)
-    (Appends-agree block grid picture c.push_swept.new.out.items c.push_pieces.new.out.items
+    subst (λ old. AppendsCover block picture old c.push_pieces.new.out.items) (swept.none c.if-branch.false)
+    (AppendsCover-agree block grid picture c.push_swept.new.out.items c.push_pieces.new.out.items
     shown appended))
     c.push_pieces.ensures

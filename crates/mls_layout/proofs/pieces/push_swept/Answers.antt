@@ -3,7 +3,7 @@ use Rattle.std.proofs.lemmas.Result.{IfOk-weaker}
 use Rattle.mls_geom.specs.Locality.{AreCoveredStrips, laid}
 use Rattle.mls_geom.specs.World.{world}
 use Rattle.mls_geom.specs.declared.piece.Piece.{Piece}
-use Rattle.mls_layout.specs.Grids.{Appends}
+use Rattle.mls_layout.specs.Grids.{AppendsCover}
 use Rattle.mls_layout.specs.Uses.{flat_plane}
 use Rattle.mls_layout.proofs.SweptPieces.{CoverBlock-strips}
 use Rattle.mls_layout.proofs.pieces.push_swept.Goals as goal
@@ -20,7 +20,7 @@ returns-clause-appended c =
     let listed = c.if-not-list_pieces.ensures in
     let legal = c.area.ensures.legal in
     IfOk-weaker c.push_covered.result
-    (λ done. done ≡ true → (strips : List Piece) × (new ≡ old ++ strips) × AreCoveredStrips world (laid pieces) strips) (λ done. done ≡ true → Appends rect picture old new)
+    (λ done. done ≡ true → (strips : List Piece) × (new ≡ old ++ strips) × AreCoveredStrips world (laid pieces) strips) (λ done. done ≡ true → AppendsCover rect picture old new)
     (λ pushed swept is.
     let (strips, added, are) = swept is in
     (strips, added, CoverBlock-strips rect pieces (listed.inside refl) picture strips legal (listed.laid refl) (listed.covered refl) are))

@@ -5,7 +5,7 @@ use Rattle.mls_geom.specs.TileCounts.{tile_count}
 use Rattle.mls_geom.specs.World.{world}
 use Rattle.mls_geom.specs.declared.piece.Piece.{Piece}
 use Rattle.mls_geom.proofs.StripPictures.{AreUnorderedStrips-ordered}
-use Rattle.mls_library.specs.CellFiles.{layout_of, pieces_on}
+use Rattle.mls_library.specs.CellFiles.{layout_of_rects, pieces_on}
 use Rattle.mls_library.specs.Inner.{AreLayoutStrips, ArePlaneStrips}
 use Rattle.mls_library.proofs.LayoutStrips.{AreLayoutStrips-push, tile_counts-any, too_many}
 use Rattle.mls_library.proofs.plane_strips.find_plane_strips.Goals as goal
@@ -20,12 +20,12 @@ loop-number-preserved c =
     let number : length lists ≡ plane = length-map _ _ ∙ c.loop-number.invariant.count in
     let over : c.deref.result.now ≡ pieces_on plane rects = c.deref.ensures.value ∙ c.in_ok-list_pieces.ensures.items ∙ ap (λ plane. pieces_on plane rects) c.new.ensures in
     let same : list ≡ c.strips.new.scratch.strips = c.in_ok-from_slice.ensures.items ∙ c.strips-in-loop-number.ensures in
-    let count : length list ≡ tile_count world (layout_of rects plane) = rw (same, ← over) (sym c.in_ok-strips.ensures.count.0 ∙ c.in_ok-strips.ensures.count.1) in
+    let count : length list ≡ tile_count world (layout_of_rects rects plane) = rw (same, ← over) (sym c.in_ok-strips.ensures.count.0 ∙ c.in_ok-strips.ensures.count.1) in
     let few : length list ≤ c.args.limit = elim (cases_lt c.args.limit (length list)) [
       | inl many ↦ absurd (cc (c.in_ok-strips.ensures.too_many.1 (rw (c.get.ensures.value, over, ← count) many)))
       | inr within ↦ within
     ] in
-    let strips : ArePlaneStrips (layout_of rects plane) list =
+    let strips : ArePlaneStrips (layout_of_rects rects plane) list =
     rw (same, ← over) (record { strips = AreUnorderedStrips-ordered world _ _ c.in_ok-strips.ensures.strips; shows = c.in_ok-strips.ensures.picture })
     in
     let pushed : AreLayoutStrips c.args.limit rects (lists ++ list ∷ []) =

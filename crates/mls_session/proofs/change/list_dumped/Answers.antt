@@ -8,7 +8,7 @@ use Rattle.mls_tilepool.specs.Pools.{tiles_of}
 use Rattle.mls_stitch.specs.Areas.{AreInArea}
 use Rattle.mls_stitch.specs.Tilings.{block_at, shown}
 use Rattle.mls_stitch.proofs.ShownTiles.{KeysDiffer-tiles_of}
-use Rattle.mls_layout.specs.Moves.{moved}
+use Rattle.mls_layout.specs.Moves.{moved_picture}
 use Rattle.mls_session.proofs.MovedTiles.{dumps, dumps-space, few-dumped, holds-moved, kind-dumps, legal_there, moved_rect-some, overlaid-dumps}
 use Rattle.mls_session.proofs.TilePieces.{ArePatches, ArePatches-left, ArePatches-made}
 use Rattle.mls_session.proofs.change.list_dumped.Goals as goal
@@ -27,8 +27,8 @@ unwrap-rect-requires c =
     let found = subst (AreInArea (block_at tiles) world) (sym c.tiles-tile-items.ensures) c.strips_of.ensures.found in
     let along = c.ranges.dx in
     let up = c.ranges.dy in
-    let moved = simp to_z-of_z at c.moved_rect.ensures in
-    rw moved (moved_rect-some tiles items c.requires.cell.strips.plane.plane (KeysDiffer-tiles_of c.args.pool.now c.args.cell.now) found c.args.dx c.args.dy c.tile-item.result
+    let moved_picture = simp to_z-of_z at c.moved_rect.ensures in
+    rw moved_picture (moved_rect-some tiles items c.requires.cell.strips.plane.plane (KeysDiffer-tiles_of c.args.pool.now c.args.cell.now) found c.args.dx c.args.dy c.tile-item.result
     (c.loop-tile.tile-index, c.loop-tile-test.true, sym c.tile-item.is) (painted c.tile-item.result.piece.kind c.ne.result c.ne.ensures c.if-ne.true) c.requires.stays)
 
 pub push_reserved-requires : goal.push_reserved-requires
@@ -47,7 +47,7 @@ loop-tile-preserved c =
     let i = c.loop-tile.tile-index in
     let tile = c.tile-item.result in
     let so_far = c.loop-tile.invariant in
-    let over = moved (shown tiles) dx dy in
+    let over = moved_picture (shown tiles) dx dy in
     let found = subst (AreInArea (block_at tiles) world) (sym c.tiles-tile-items.ensures) c.strips_of.ensures.found in
     let plane = c.requires.cell.strips.plane.plane in
     let differ = KeysDiffer-tiles_of pool owner in
@@ -83,7 +83,7 @@ returns-clause-picture c = λ below.
     let up = c.ranges.dy in
     let so_far = simp to_z-of_z at c.loop-tile.invariant.patches in
     let patches =
-    subst (λ list. ArePatches (dumps c.args.dx c.args.dy) (moved (shown tiles) c.args.dx c.args.dy) list pieces) (take_all c.loop-tile.tile-index items c.loop-tile-test.false) so_far in
+    subst (λ list. ArePatches (dumps c.args.dx c.args.dy) (moved_picture (shown tiles) c.args.dx c.args.dy) list pieces) (take_all c.loop-tile.tile-index items c.loop-tile-test.false) so_far in
     overlaid-dumps tiles items c.requires.cell.strips.plane.plane (KeysDiffer-tiles_of pool owner) found c.args.dx c.args.dy pieces below patches
 
 pub returns-clause-few : goal.returns-clause-few

@@ -1,5 +1,5 @@
 use Rattle.std.proofs.Common.{not, ◌&&◌, ◌++◌, length, take, drop, ap, ◌∙◌}
-use Rattle.mls_kinds.specs.KindSets.{holds as has_bit}
+use Rattle.mls_kinds.specs.KindSets.{has_bit}
 use Rattle.mls_checker.specs.Grids.{RowWords, has_column, has_square, is_between, stacked}
 use Rattle.mls_checker.proofs.Stacks.{given-back, words-lose}
 use Rattle.mls_checker.proofs.row_words.RowWords.clear.Goals as goal

@@ -1,5 +1,5 @@
 use Rattle.std.proofs.Common.{◌≡◌, ◌≤◌, ◌||◌, ◌&&◌, ◌++◌, length, take, drop, ap, refl, subst, arith}
-use Rattle.mls_kinds.specs.KindSets.{holds as has_bit}
+use Rattle.mls_kinds.specs.KindSets.{has_bit}
 use Rattle.mls_checker.specs.Grids.{RowWords, has_square, is_between}
 use Rattle.mls_checker.proofs.Stacks.{given-back, stacks-gain, words-gain}
 use Rattle.mls_checker.proofs.row_words.RowWords.fill.Goals as goal

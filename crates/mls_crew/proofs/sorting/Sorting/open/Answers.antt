@@ -5,7 +5,7 @@ use Rattle.mls_wire.proofs.Results.{on_ok-map}
 use Rattle.mls_wire.specs.Replies.{response_text}
 use Rattle.mls_wire.specs.declared.response.Response.TheVariants.{Answered}
 use Rattle.mls_seat_lines.specs.Glossaries.{book_in}
-use Rattle.mls_crew.specs.Sorting.{Sorted, at_once, session_of}
+use Rattle.mls_crew.specs.Sorting.{Sorted, at_once, number_of_session}
 use Rattle.mls_crew.proofs.SortedLines.{none_named, opened_after}
 use Rattle.mls_crew.proofs.sorting.Sorting.open.Goals as goal
 
@@ -17,12 +17,12 @@ returns-then-is_some-clause-opens g c =
 pub returns-in-Err-clause-opens : goal.returns-in-Err-clause-opens
 returns-in-Err-clause-opens g c =
     let text = response_text (book_in c.args.desk.now.glossary.now) c.args.n (Answered c.args.name.now (Opened (Err c.in-Err.fault))) in
-    let free : session_of c.args.self.now.opened c.args.name.now ≡ None = sym c.session.ensures ∙ none_named c.session.result (sym c.is_some.ensures ∙ c.if-is_some.false) in
+    let free : number_of_session c.args.self.now.opened c.args.name.now ≡ None = sym c.session.ensures ∙ none_named c.session.result (sym c.is_some.ensures ∙ c.if-is_some.false) in
     on_ok-map c.answer_opening-in-Err.result _ _ (λ is. (at_once c.args.self.now.opened text, inr (c.in-Err.fault, inl free, refl), is)) c.answer_opening-in-Err.ensures
 
 pub returns-in_ok-push-in-Ok-2-clause-opens : goal.returns-in_ok-push-in-Ok-2-clause-opens
 returns-in_ok-push-in-Ok-2-clause-opens g c =
-    let free : session_of c.args.self.now.opened c.args.name.now ≡ None = sym c.session.ensures ∙ none_named c.session.result (sym c.is_some.ensures ∙ c.if-is_some.false) in
+    let free : number_of_session c.args.self.now.opened c.args.name.now ≡ None = sym c.session.ensures ∙ none_named c.session.result (sym c.is_some.ensures ∙ c.if-is_some.false) in
     let named : Sorted = record { head = []; handed = []; opened = c.args.self.now.opened ++ c.args.name.now ∷ [] } in (
       named,
       inl (free, refl),

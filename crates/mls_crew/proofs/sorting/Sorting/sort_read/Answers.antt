@@ -3,11 +3,11 @@ use Rattle.mls_wire.proofs.Results.{on_ok-map}
 use Rattle.mls_wire.specs.declared.line.LineFault.TheVariants.{UnknownCommand}
 use Rattle.mls_seat_lines.specs.Glossaries.{book_in}
 use Rattle.mls_crew.specs.Sorting.{at_once, faulty}
-use Rattle.mls_crew.proofs.SortedLines.{added_none}
+use Rattle.mls_crew.proofs.SortedLines.{followed_by_none}
 use Rattle.mls_crew.proofs.sorting.Sorting.sort_read.Goals as goal
 
 pub returns-in-Silent-clause-sorts : goal.returns-in-Silent-clause-sorts
-returns-in-Silent-clause-sorts g c = rw c.in-Silent.is (at_once c.args.self.now.opened [], refl, added_none c.args.self.now)
+returns-in-Silent-clause-sorts g c = rw c.in-Silent.is (at_once c.args.self.now.opened [], refl, followed_by_none c.args.self.now)
 
 pub returns-in-Close-clause-sorts : goal.returns-in-Close-clause-sorts
 returns-in-Close-clause-sorts g c =

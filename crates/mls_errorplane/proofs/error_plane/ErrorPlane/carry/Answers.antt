@@ -4,7 +4,7 @@ use Rattle.mls_geom.specs.TileCounts.{tile_count}
 use Rattle.mls_geom.specs.World.{world}
 use Rattle.mls_paint.specs.Planes.{HasStrips, picture_in}
 use Rattle.mls_checker.specs.Marking.{SquareSet}
-use Rattle.mls_errorplane.specs.Carrying.{AreFew, told}
+use Rattle.mls_errorplane.specs.Carrying.{AreFew, likened}
 use Rattle.mls_errorplane.specs.ErrorPlanes.{ErrorPlane, marks_picture}
 use Rattle.mls_errorplane.specs.MarkPlanes.{is_marked, marked_count, remarked}
 use Rattle.mls_errorplane.proofs.CarriedCounts.{AreCarried-remarked, AreFew-carried}
@@ -23,7 +23,7 @@ module _ (c : In-Ok) where
 
   -- the set that the source tells
   abbrev set : SquareSet
-  set = told c.args.source.likeness c.args.source.rect (is_marked old)
+  set = likened c.args.source.likeness c.args.source.rect (is_marked old)
 
   -- the rectangle is marked as it tells
   is : new ≡ remarked old c.args.rect set

@@ -1,5 +1,5 @@
 use Rattle.std.proofs.Common.{ℕ, ap, ◌∙◌, sym, length}
-use Rattle.mls_session.specs.Own.{Designed, marked_squares}
+use Rattle.mls_session.specs.Own.{Designed, total_marks}
 use Rattle.mls_errorplane.specs.MarkPlanes.{marked_count}
 use Rattle.mls_session.specs.Designs.{Design, designed_of}
 use Rattle.mls_session.specs.declared.reply.Reply.{Reply}
@@ -7,7 +7,7 @@ use Rattle.mls_session.specs.declared.reply.Reply.TheVariants.{Count}
 use Rattle.mls_session.proofs.design.Design.count.Goals as goal
 
 pub returns : goal.returns
-unfolding marked_squares marked_count
+unfolding total_marks marked_count
 returns c = λ pool home.
     let own = designed_of pool c.args.self.now in
     let marked = c.marked-errors.ensures ∙ ap (λ (s : Design). s.errors.marked) c.self.view_is ∙ home.errors.marks.counted in
