@@ -3,7 +3,8 @@ the write of its reply, in the sources of this tree: python3 bench/path.py [--li
 
 Calls are resolved by the types of fields, parameters and results. Where a `match`, or a chain of comparisons with
 words, decides what the line is, only the arm in TAKEN is followed; all other branches count. Conversions by `?`, drops and derived code don't.
-`--list` has the functions by file, `--calls` who names them too."""
+Those with a loop or several callers are counted too: with one loop a function and nothing written twice there can't be
+fewer. `--list` has the functions by file, `--calls` who names them too."""
 import collections, pathlib, re, sys
 
 TOP = pathlib.Path(__file__).resolve().parent.parent
@@ -204,15 +205,18 @@ def named(tree, fn):
 
 def main():
     tree = Tree()
-    calls, queue = {}, tree.functions[START]
+    calls, loops, queue = {}, set(), tree.functions[START]
     while queue:
         fn, *queue = queue
         if fn.key not in calls:
             found = named(tree, fn)
             calls[fn.key] = set(found)
+            loops |= {fn.key} if {'for', 'while', 'loop'} & set(fn.body) else set()
             queue += found.values()
+    callers = collections.Counter(key for found in calls.values() for key in found)
+    needed = sum(key in loops or callers[key] > 1 for key in calls)
     crates = collections.Counter(path.split('/')[1] for path, _, _ in calls)
-    print(len(calls), 'product functions:', ', '.join(f'{crate} {n}' for crate, n in crates.most_common()))
+    print(len(calls), 'product functions,', needed, 'with a loop or several callers:', ', '.join(f'{crate} {n}' for crate, n in crates.most_common()))
     for key in sorted(calls, key=str) if sys.argv[1:] else []:
         names = sorted({by[2] for by in calls if key in calls[by]}) if '--calls' in sys.argv else []
         print(key[0], (key[1][1] + '::' if key[1] else '') + key[2], *names)
