@@ -216,7 +216,8 @@ def main():
     callers = collections.Counter(key for found in calls.values() for key in found)
     needed = sum(key in loops or callers[key] > 1 for key in calls)
     crates = collections.Counter(path.split('/')[1] for path, _, _ in calls)
-    print(len(calls), 'product functions,', needed, 'with a loop or several callers:', ', '.join(f'{crate} {n}' for crate, n in crates.most_common()))
+    by_crate = ', '.join(f'{crate} {n}' for crate, n in crates.most_common())
+    print(len(calls), 'product functions,', needed, 'with a loop or several callers:', by_crate)
     for key in sorted(calls, key=str) if sys.argv[1:] else []:
         names = sorted({by[2] for by in calls if key in calls[by]}) if '--calls' in sys.argv else []
         print(key[0], (key[1][1] + '::' if key[1] else '') + key[2], *names)
