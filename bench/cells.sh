@@ -13,7 +13,7 @@
 # Each time is the difference of two scripts or of two command lines, of each the least of five runs. They take turns with
 # the script of the first step, and the last column is how many times as long a step takes as the paint of one square.
 set -eu
-here=$(cd "$(dirname "${BASH_SOURCE[0]}")/.." && pwd)
+. "$(dirname "${BASH_SOURCE[0]}")/head.sh"
 work=$(mktemp -d)
 trap 'rm -rf "$work"' EXIT
 
@@ -99,8 +99,6 @@ row() {
         }'
 }
 
-"$here/magicd" < /dev/null
-program=$here/crates/magicd/out/magicd
 printf '%s\t%s\t%s\t%s\n' step size us paints
 squares=$((88 * 88))
 erase 88 0 > "$work/paint"

@@ -22,7 +22,7 @@
 # It runs the program that it builds, or PROGRAM.
 set -eu
 TIMEFORMAT='%U %S'
-here=$(cd "$(dirname "${BASH_SOURCE[0]}")/.." && pwd)
+. "$(dirname "${BASH_SOURCE[0]}")/head.sh"
 work=$(mktemp -d)
 trap 'rm -rf "$work"' EXIT
 
@@ -90,11 +90,6 @@ row() {
     }'
 }
 
-program=${PROGRAM:-}
-if [ -z "$program" ]; then
-    "$here/magicd" < /dev/null
-    program=$here/crates/magicd/out/magicd
-fi
 forty_rules > "$work/forty"
 printf '%s\t%s\t%s\t%s\n' step rules strips us
 for rules in 4 40; do

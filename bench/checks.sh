@@ -19,7 +19,7 @@
 # Each time is the difference of two scripts, of each the least of five runs that take turns. The rows of scatters have the
 # number of marked squares at the end.
 set -eu
-here=$(cd "$(dirname "${BASH_SOURCE[0]}")/.." && pwd)
+. "$(dirname "${BASH_SOURCE[0]}")/head.sh"
 work=$(mktemp -d)
 trap 'rm -rf "$work"' EXIT
 
@@ -107,8 +107,6 @@ row() {
     }'
 }
 
-"$here/magicd" < /dev/null
-program=$here/crates/magicd/out/magicd
 printf '%s\t%s\t%s\t%s\n' step size errors us
 
 for size in '8900 1160' '16000 800' '4000 500'; do

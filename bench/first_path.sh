@@ -9,7 +9,7 @@
 # look at each. The last rows paint all 16,000 rectangles, once the quota is full those that still fit, and have 60,000 lines
 # that only set a box, and 200,000 blank ones.
 set -eu
-here=$(cd "$(dirname "${BASH_SOURCE[0]}")/.." && pwd)
+. "$(dirname "${BASH_SOURCE[0]}")/head.sh"
 scripts=$(mktemp -d)
 trap 'rm -rf "$scripts"' EXIT
 
@@ -93,7 +93,7 @@ seconds() {
     local best= start end took
     for _ in 1 2 3; do
         start=$(date +%s%N)
-        "$here/magicd" --quota 16384 --journal 65536 < "$1" > "$scripts/out"
+        "$program" --quota 16384 --journal 65536 < "$1" > "$scripts/out"
         end=$(date +%s%N)
         took=$((end - start))
         if [ -z "$best" ] || [ "$took" -lt "$best" ]; then best=$took; fi
@@ -118,7 +118,6 @@ row() {
         'BEGIN { print shape, tiles, sprintf("%.0f", 3e6 / us), us }'
 }
 
-"$here/magicd" < /dev/null
 printf '%s\t%s\t%s\t%s\n' shape tiles lines/s us/round
 for k in 7 12 22 34; do
     grid_us=$(micros grid "$k" 3333)

@@ -53,6 +53,8 @@ PLAIN = {
     "look_stat": ["a refused 9 memory", "kept"],
     "look_uses": ["a refused 9 memory", "kept"],
     "look_marks": ["a refused 9 memory", "kept"],
+    "look_errors": ["a refused 9 memory", "kept"],
+    "look_violations": ["a refused 9 memory", "kept"],
     "look_journal": ["a refused 9 memory", "kept"],
     "why": ["a refused 9 memory"],
     "what": ["a refused 9 memory"],
@@ -203,6 +205,8 @@ a what
 %marks b
 %journal b
 %why b 0 0 300 1
+%errors b 0 0 300 20
+%violations b 0 0 300 20
 %audit a
 b box 0 0 400 20
 b what
@@ -242,6 +246,8 @@ three drc why
 three drc catchup
 three save
 %marks three
+%errors three 0 0 4 4
+%violations three 0 0 4 4
 three what
 """
 # Each count follows a catchup, so that it depends on no check step of the workers.
@@ -385,7 +391,7 @@ def replies_in(out):
         raise Failed("its last line has no end")
     lines, replies = text.split("\n")[:-1], []
     while lines:
-        count = int(found[1]) if (found := re.fullmatch(r"\w+ (?:saved|marked|uses|journal) (\d+)", lines[0])) else 0
+        count = int(found[1]) if (found := re.fullmatch(r"\w+ (?:saved|marked|errors|violations|uses|journal) (\d+)", lines[0])) else 0
         if len(lines) < count + 1:
             raise Failed("a saved text is cut")
         replies.append("\n".join(lines[: count + 1]))
@@ -401,7 +407,7 @@ SAYS = {
     "what": (r"(\w+) what", r"{} refused 9 memory"),
     "catchup": (r"(\w+) drc catchup", r"{} refused 9 memory (\d+) pending"),
     "step": (r"%step (\w+)", r"{} step memory"),
-    "look": (r"%(?:save|why|stat|uses|marks|journal) (\w+).*", r"{} refused 9 memory"),
+    "look": (r"%(?:save|why|stat|uses|marks|errors|violations|journal) (\w+).*", r"{} refused 9 memory"),
 }
 MOST_STEPS = 12
 

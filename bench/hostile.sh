@@ -17,9 +17,7 @@
 # column is how many times as long 16 megabytes take as 8; the bench fails where that is more than 3, or a run has
 # another message or status than is wanted. The program is crates/magicd/out/magicd, or PROGRAM.
 set -eu
-here=$(cd "$(dirname "${BASH_SOURCE[0]}")/.." && pwd)
-program=${PROGRAM:-$here/crates/magicd/out/magicd}
-[ -x "$program" ] || { echo "no program: ./magicd builds it" >&2; exit 1; }
+. "$(dirname "${BASH_SOURCE[0]}")/head.sh"
 folder=$(mktemp -d)
 trap 'rm -rf "$folder"' EXIT
 megabyte=1000000

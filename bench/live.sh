@@ -17,9 +17,8 @@
 #
 # Rows have the median and the 99th of the hundred. The last rows have what that of the scatter took, and how often.
 set -eu
-here=$(cd "$(dirname "${BASH_SOURCE[0]}")/.." && pwd)
-"$here/magicd" < /dev/null
-exec python3 /dev/fd/3 "$here/crates/magicd/out/magicd" 3<<'PY'
+. "$(dirname "${BASH_SOURCE[0]}")/head.sh"
+exec python3 /dev/fd/3 "$program" 3<<'PY'
 import queue
 import subprocess
 import sys

@@ -14,7 +14,7 @@ TAKEN = {'ScriptLine': 'Text', 'Line': 'Run', 'Event': 'Command', 'Command': 'Pa
          'Answer': 'Commanded', 'Reply': 'Done', 'b"paint"': None}
 # The type that stands for a parameter with this bound.
 BOUNDS = {'Names': ('mls_server', 'Server'), 'Sessions': ('mls_server', 'Server')}
-TESTS = re.compile(r'.*_tests|mls_bench|mls_growths|mls_plain_check')
+TESTS = re.compile(r'.*_tests|mls_growths|mls_plain_check')
 TOKEN = re.compile(r'b?"(?:\\.|[^"\\])*"|b?\'(?:\\.|[^\'\\])\'|\'\w+|[A-Za-z_]\w*!?|\d\w*|->|=>|::|\.\.=?|&&|\|\||\S')
 WORD, LITERAL = re.compile(r'[A-Za-z_]\w*$'), re.compile(r'b["\']')
 CLOSE = {'(': ')', '[': ']', '{': '}', '<': '>'}

@@ -9,7 +9,7 @@
 # the script and of one that opens the sessions alone, of each the least of five runs. A last row has 64 sessions of which
 # one paints, and the others are open.
 set -eu
-here=$(cd "$(dirname "${BASH_SOURCE[0]}")/.." && pwd)
+. "$(dirname "${BASH_SOURCE[0]}")/head.sh"
 work=$(mktemp -d)
 trap 'rm -rf "$work"' EXIT
 
@@ -80,8 +80,6 @@ row() {
     }'
 }
 
-"$here/magicd" < /dev/null
-program=$here/crates/magicd/out/magicd
 alone=
 printf '%s\t%s\t%s\t%s\t%s\n' sessions lines us times MB
 row 1 1

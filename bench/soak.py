@@ -51,6 +51,8 @@ SAYS = {
     "%stat": "stat",
     "%uses": "uses",
     "%marks": "marked",
+    "%errors": "errors",
+    "%violations": "violations",
     "%journal": "journal",
     "%audit": "audited",
     "%close": "closed",
@@ -124,6 +126,8 @@ VERBS = {
     "%stat": 1,
     "%uses": 0.5,
     "%marks": 0.5,
+    "%errors": 1,
+    "%violations": 1,
     "%journal": 0.1,
 }
 
@@ -131,6 +135,8 @@ VERBS = {
 WORDS = {
     "box": Dice.box,
     "%why": Dice.box,
+    "%errors": Dice.box,
+    "%violations": Dice.box,
     "paint": Dice.kind,
     "erase": Dice.kinds,
     "dump": Dice.place,

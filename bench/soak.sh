@@ -23,10 +23,5 @@
 #
 # It runs the program that it builds, or PROGRAM. It needs Python 3. Nothing of it runs in the gate.
 set -eu
-here=$(cd "$(dirname "${BASH_SOURCE[0]}")/.." && pwd)
-program=${PROGRAM:-}
-if [ -z "$program" ]; then
-    "$here/magicd" < /dev/null
-    program=$here/crates/magicd/out/magicd
-fi
+. "$(dirname "${BASH_SOURCE[0]}")/head.sh"
 exec python3 -B "$here/bench/soak.py" "$program" "${1:-3600}"

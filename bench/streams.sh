@@ -6,10 +6,8 @@
 # crates/magicd/out/magicd, or PROGRAM. As root the file that may not be read is tried as another user (`setpriv`),
 # else as the one who runs this.
 set -u
-here=$(cd "$(dirname "${BASH_SOURCE[0]}")/.." && pwd)
-program=${PROGRAM:-$here/crates/magicd/out/magicd}
+. "$(dirname "${BASH_SOURCE[0]}")/head.sh"
 limit=${LIMIT:-20}
-[ -x "$program" ] || { echo "no program: ./magicd builds it" >&2; exit 1; }
 folder=$(mktemp -d)
 trap 'rm -rf "$folder"' EXIT
 chmod 755 "$folder"

@@ -9,7 +9,7 @@ import time
 LIMIT = 60
 
 # The first words of replies behind which so many more lines follow as their number says.
-LISTS = {"saved", "marked", "uses", "journal"}
+LISTS = {"saved", "marked", "errors", "violations", "uses", "journal"}
 
 
 class Failed(Exception):

@@ -7,7 +7,7 @@
 # the message `magicd: memory`, the status 1 and no reply; the last one with the replies of a run without the library.
 # The script has four sessions, with an area to check in each.
 set -eu
-here=$(cd "$(dirname "${BASH_SOURCE[0]}")/.." && pwd)
+. "$(dirname "${BASH_SOURCE[0]}")/head.sh"
 limit=${LIMIT:-20}
 folder=$(mktemp -d)
 trap 'rm -rf "$folder"' EXIT
@@ -46,10 +46,6 @@ for name in a b c d; do
     printf '%%open %s\n%s box 0 0 1 10\n%s paint poly\n%s drc catchup\n%s drc count\n%%audit %s\n' \
         "$name" "$name" "$name" "$name" "$name" "$name"
 done >"$folder/script"
-
-# What the launcher runs, once it is built, without the shell around it.
-"$here/magicd" <"$here/examples/first_run.txt" >"$folder/first"
-program=$here/crates/magicd/out/magicd
 
 failures=0
 fail() {

@@ -40,7 +40,7 @@
 # that it builds, or PROGRAM. With ROWS=PATTERN it takes only the rows whose text and layout have the pattern.
 set -eu
 TIMEFORMAT='%U %S'
-here=$(cd "$(dirname "${BASH_SOURCE[0]}")/.." && pwd)
+. "$(dirname "${BASH_SOURCE[0]}")/head.sh"
 work=$(mktemp -d)
 trap 'rm -rf "$work"' EXIT
 
@@ -198,11 +198,6 @@ wide() {
     done
 }
 
-program=${PROGRAM:-}
-if [ -z "$program" ]; then
-    "$here/magicd" < /dev/null
-    program=$here/crates/magicd/out/magicd
-fi
 cell 5 5 4 8 > "$work/small.mag"
 cell 88 23 1 2 > "$work/large.mag"
 printf '%s\n' magic '<< poly >>' 'rect -1048576 -1048576 -1048572 -1048572' 'rect 1048572 1048572 1048576 1048576' '<< end >>' \

@@ -25,10 +25,5 @@
 # Aims: 20 for empty; for strewn 1.2 of alone and empty together; 100 for the others; 64 checks as long as one. It runs the
 # program that it builds, or PROGRAM. It needs Python 3. Nothing of it runs in the gate.
 set -eu
-here=$(cd "$(dirname "${BASH_SOURCE[0]}")/.." && pwd)
-program=${PROGRAM:-}
-if [ -z "$program" ]; then
-    "$here/magicd" < /dev/null
-    program=$here/crates/magicd/out/magicd
-fi
+. "$(dirname "${BASH_SOURCE[0]}")/head.sh"
 exec python3 -B "$here/bench/world.py" "$program" "$@"

@@ -3,7 +3,7 @@
 #
 #     bench/worst.sh [PROGRAM ..]
 #
-# Without a program it builds this repository's own. With ROWS=PATTERN it takes only the rows whose text has the pattern. Each
+# Without a program it takes PROGRAM, or builds this repository's own. With ROWS=PATTERN it takes only the rows whose text has the pattern. Each
 # time is the processor's, in the program and in the system, and that of a script with the line less that of the script
 # without it, of each the least of three runs; a run that takes more than ten seconds is taken once, and one of more than 120
 # is cut off. Programs take turns, run by run. The columns are the row, its aim in milliseconds, the milliseconds of each
@@ -24,6 +24,7 @@
 #   rings                 4,000 squares within each other, of two kinds by turns
 #   columns               8,000 bars 2 wide and as high as the world, 4 from one to the next
 #   squares K             K by K squares of 2, 4 from one to the next
+#   grid K                K by K squares of 10, 20 from one to the next; with 200 narrow ones, 200 of them are 1 wide
 #   scatter               8,900 rectangles of 4 to 16 squares a side, half of them of poly and half of m1, strewn over
 #                         1,160 by 1,160 squares by a fixed generator (Park and Miller 1988)
 #   cells                 rows and columns of rectangles in 256 by 256 squares, apart from each other, as in bench/check.sh: 1,
@@ -37,7 +38,8 @@
 # and `drc why` of a box of 20 by 20.
 set -eu
 TIMEFORMAT='%U %S'
-here=$(cd "$(dirname "${BASH_SOURCE[0]}")/.." && pwd)
+PROGRAM=${PROGRAM:-${1:-}}
+. "$(dirname "${BASH_SOURCE[0]}")/head.sh"
 work=$(mktemp -d)
 trap 'rm -rf "$work"' EXIT
 
@@ -130,9 +132,10 @@ rectangles() {
                     put(kind_of(i), l, b, l + w, b + h)
                 }
                 world("poly")
-            } else if (shape == "grid") {
+            } else if (shape == "grid" || shape == "grid with 200 narrow ones") {
+                narrow = shape == "grid" ? 0 : 200
                 for (j = 0; j < n; j++) for (i = 0; i < n; i++)
-                    put("poly", 20 * i, 20 * j, 20 * i + 10, 20 * j + 10)
+                    put("poly", 20 * i, 20 * j, 20 * i + (n * j + i < narrow ? 1 : 10), 20 * j + 10)
             } else if (shape != "nothing") { print "no such shape: " shape > "/dev/stderr"; exit 1 }
         }'
 }
@@ -275,6 +278,18 @@ line() {
     row "$text" "$aim"
 }
 
+# looked AIM SHAPE N TIMES LINE: the row of a line that comes so many times, over a shape that was caught up with
+looked() {
+    local aim=$1 shape=$2 n=$3 times=$4 text="M: $2 $3: $5" i
+    if ! takes "$text"; then return 0; fi
+    technology M
+    less_words=("${words[@]}")
+    { layout "$shape" "$n"; echo 'a drc catchup'; } > "$work/less"
+    cp "$work/less" "$work/more"
+    for ((i = 0; i < times; i++)); do echo "$5"; done >> "$work/more"
+    row "$text" "$aim" "$times"
+}
+
 # loaded AIM SHAPE N: the row of loading the shape as a cell
 loaded() {
     local text="cell: $2 $3"
@@ -315,11 +330,9 @@ often() {
 }
 
 world='a box -1048576 -1048576 1048576 1048576'
+world_of_a=${world/box /}
 programs=("$@")
-if [ "${#programs[@]}" -eq 0 ]; then
-    "$here/magicd" < /dev/null
-    programs=("$here/crates/magicd/out/magicd")
-fi
+[ "${#programs[@]}" -gt 0 ] || programs=("$program")
 
 printf 'row\taim ms'
 for p in "${!programs[@]}"; do printf '\tms'; done
@@ -350,12 +363,22 @@ done
 # Catching up, and why
 line - M nothing '' "$world" 'a drc check' 'a drc catchup'
 line - M nothing '' "$world" 'a drc why'
+line - M nothing '' "$world" 'a paint poly' '%steps a 18446744073709551615'
 for shape in 'squares 60' 'squares 88' 'two kinds 126' 'scatter 8900' 'columns 8000' 'bars 8000' 'comb 2700' \
     'turned comb 2700' 'shelves ' 'steps 8000'; do
     line 60 M "${shape% *}" "${shape##* }" 'a drc catchup'
     line 'e + 100' M "${shape% *}" "${shape##* }" "$world" 'a drc check' 'a drc catchup'
     line 'e + 100' M "${shape% *}" "${shape##* }" "$world" 'a drc why'
 done
+
+# Looks at boxes
+looked 0.05 scatter 8900 3000 '%errors a 500 500 600 600'
+for look in %why %violations; do
+    looked - grid 84 1000 "$look a 100 100 200 200"
+    looked - 'grid with 200 narrow ones' 84 10 "$look $world_of_a"
+done
+line 200 M columns 8000 "%violations $world_of_a"
+line - 'R 128' squares 84 '%violations a 0 0 20 20'
 
 # Cells
 loaded 100 'nested, largest last' 8000

@@ -24,8 +24,17 @@ def fault_of(sides):
     return 1 if left >= right or bottom >= top else 2 * any(abs(side) > WORLD for side in sides)
 
 
+def common(sides, others):
+    """Returns what two areas have in common, which may be no area."""
+    return *map(max, sides[:2], others[:2]), *map(min, sides[2:], others[2:])
+
+
+def rects(areas):
+    return ["rect {} {} {} {}".format(*sides) for sides in areas]
+
+
 def section(name, areas):
-    return [f"<< {name} >>", *("rect {} {} {} {}".format(*sides) for sides in areas)] if areas else []
+    return [f"<< {name} >>", *rects(areas)] if areas else []
 
 
 def text(word, lines):
@@ -136,6 +145,20 @@ class Session:
     def look_marks(self):
         marks = section("error_p", self.window.strips(self.marks))
         return text("marked", section("checkpaint", self.areas) + marks + self.sections(self.layout()))
+
+    def look_errors(self, *words):
+        sides = tuple(map(int, words))
+        areas = [cut for cut in (common(area, sides) for area in self.areas) if not fault_of(cut)]
+        marks = self.window.strips(self.marks & self.window.area(sides))
+        return fault_of(sides) or text("errors", section("checkpaint", areas) + section("error_p", marks))
+
+    def look_violations(self, *words):
+        sides, lines = tuple(map(int, words)), []
+        area = self.window.area(sides)
+        for n, (rule, bad) in enumerate(zip(RULES, self.forbidden()), 1):
+            if bad & area:
+                lines += [f"rule {n} {rule.why}", *rects(self.window.strips(bad & area))]
+        return fault_of(sides) or "\n".join([f"violations {len(lines)}", *lines])
 
     def look_uses(self):
         return f"uses {len(self.uses)}" + "".join(self.uses)

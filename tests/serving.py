@@ -1,5 +1,6 @@
 """How a test runs the program, and how it reads what that wrote."""
 
+import concurrent.futures
 import itertools
 import os
 import pathlib
@@ -14,6 +15,9 @@ SERVER = os.path.abspath(os.environ.get("KOLASIEVE_SERVER", ROOT / "crates/magic
 
 # Two overlapping rectangles on two planes, as a cell.
 CELL = "magic\ntech M\ntimestamp 7\n<< poly >>\nrect 0 0 2 4\n<< m1 >>\nrect 1 0 4 3\n<< end >>\n"
+
+# Replies after which as many more lines follow as they say.
+TEXTS = "saved", "marked", "errors", "violations", "uses", "journal"
 
 FAULTS = {1: "unknown command", 2: "bad number", 3: "name", 4: "not open"}
 
@@ -62,6 +66,13 @@ def serve_by_bytes(words, script):
     return ending
 
 
+def in_parallel(check, cases):
+    """Calls a check of each case, as many at once as there are processors, and fails with the first that fails."""
+    with concurrent.futures.ThreadPoolExecutor(os.cpu_count()) as pool:
+        for _ in pool.map(check, cases):
+            pass
+
+
 def parted(rows):
     """Returns the script of rows, and the replies to it. A row is a line, and its reply or the number of its fault."""
     replies = [f"line {n} fault {it} {FAULTS[it]}" if it in FAULTS else it for n, (_, it) in enumerate(rows, 1)]
@@ -75,7 +86,7 @@ def replies_in(output):
     replies, lines = [], iter(lines)
     for head in lines:
         _, word, *words = head.split(" ")
-        count = int(words[0]) if word in ("saved", "marked", "uses", "journal") else 0
+        count = int(words[0]) if word in TEXTS else 0
         text = list(itertools.islice(lines, count))
         assert len(text) == count, f"half a text: {head}"
         replies.append("\n".join([head, *text]))

@@ -34,14 +34,15 @@ TABLES = [
 
 # Lines that can be read.
 READABLE = re.split(r"[|\n]", """%open a|%open b|%open c|%close a|%close b|%step a|%step b|%steps a 3|%audit a|%audit c
-%save a|%stat b|%uses a|%marks b|%journal b|%why c 0 0 9 9|a box 0 0 4 4|a box 3 0 9 9|b box 0 0 1 10|b box 5 5 5 9
+%save a|%stat b|%uses a|%marks b|%journal b|%why c 0 0 9 9|%errors a 0 0 9 9|%violations b 0 0 9 9|a box 0 0 4 4
+a box 3 0 9 9|b box 0 0 1 10|b box 5 5 5 9
 c box -1048576 0 -1048568 2|a paint poly|a paint ndiff|b paint m1|b paint gold|c paint p|a erase poly|b erase poly,m1
 c erase gold|a dump c 0 0|b getcell c 0 0|a what|b what|a save|c save|a drc check|b drc catchup|c drc why|a drc count
 b drc count""")
 
 # Words of the language, and some that have no place in it.
-WORDS = ["\t", *"""%open %close %step %steps %audit %save %stat %uses %marks %journal %why %foo a b c a-b box paint
-erase dump getcell what save drc check catchup why count poly m1 gold poly,m1 , 0 4 -5 99999999999 +1 #""".split()]
+WORDS = ["\t", *"""%open %close %step %steps %audit %save %stat %uses %marks %journal %why %errors %violations %foo a b c a-b
+box paint erase dump getcell what save drc check catchup why count poly m1 gold poly,m1 , 0 4 -5 99999999999 +1 #""".split()]
 
 
 def random_lines(count):

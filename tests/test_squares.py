@@ -20,7 +20,7 @@ MIDDLES += [(0, 0), (32768, -32768), (500, WORLD), (-WORLD, 7)]
 WAYS = [], ["--workers", "2"], ["--live", "--workers", "2"]
 
 # Lines whose replies depend on check steps.
-STEPPED = ["%marks a", "a drc count", "%step a\na drc count", "%steps a 3\na drc count"]
+STEPPED = ["%marks a", "%errors a {}", "a drc count", "%step a\na drc count", "%steps a 3\na drc count"]
 
 WHOLE = f"a box {-WORLD} {-WORLD} {WORLD} {WORLD}"
 
@@ -48,8 +48,9 @@ def random_lines(dice, x, y, is_plain):
         *[boxed.strip()] * 3, *[f"{boxed}a paint {kind}"] * 8, f"a paint {kind}", f"{boxed}a erase {kind},m1",
         "a erase poly", f"a dump {cell} {moves}", f"a getcell {cell} {moves}", f"{boxed}a drc check", f"{boxed}a what",
         *[f"{large}\na {command}\n{small}" for command in ("what", "drc why", "drc check")], "a what", "a drc why",
-        f"%why a {box(dice, x, y)}", "a save", "%save a", "%uses a", "%audit a", "a drc catchup\na drc count",
-        "a drc catchup\n%marks a", *(STEPPED if is_plain else []),
+        f"%why a {box(dice, x, y)}", f"%violations a {box(dice, x, y)}", "a save", "%save a", "%uses a", "%audit a", "a drc catchup\na drc count",
+        "a drc catchup\n%marks a", f"a drc catchup\n%errors a {box(dice, x, y)}",
+        *(line.format(box(dice, x, y)) for line in STEPPED if is_plain),
     ]).split("\n")
 
 

@@ -1,9 +1,8 @@
 """Who gets in over a network: certificates, both ways."""
 
-import logging
 import ssl
 
-log = logging.getLogger("relay")
+from kolasieve.messages import warn
 
 
 class CertificateFault(Exception):
@@ -24,14 +23,16 @@ class Handshake(ssl.SSLObject):
             if self.refused:
                 raise
             self.refused = True
-            log.warning("a connection is refused: %s", reason(fault))
+            warn(f"a connection is refused: {reason(fault)}")
             # asyncio sends what is there to be sent, the alert, only where a handshake waits for more. None comes.
             raise ssl.SSLWantReadError from None
 
 
 def reason(fault):
     """Returns why a handshake was refused, as OpenSSL has it."""
-    return getattr(fault, "verify_message", None) or fault.reason.lower().replace("_", " ")
+    if fault.reason == "WRONG_VERSION_NUMBER":
+        return "the port has no TLS"
+    return getattr(fault, "verify_message", None) or (fault.reason or str(fault)).lower().replace("_", " ")
 
 
 def of_server(certificate, key, clients):
@@ -63,6 +64,6 @@ def owner_of(connection):
     """Returns the designer at the other end of a secured connection: the common name in the certificate."""
     for part in connection.get_extra_info("peercert")["subject"]:
         for field, name in part:
-            if field == "commonName":
+            if field == "commonName" and name.isprintable():
                 return f"cert:{name}"
-    return "cert:"
+    raise CertificateFault("its certificate has no name")

@@ -6,8 +6,8 @@ import logging
 import time
 
 from kolasieve.etcd import created_at, delete, look, put
-from kolasieve.etcd_writes import row
-from kolasieve.log import Held, LogFault, kept
+from kolasieve.etcd_writes import put_row
+from kolasieve.log import Held, LogFault
 
 log = logging.getLogger("relay")
 
@@ -19,20 +19,19 @@ class HeldInEtcd(Held):
     """A session for which this relay has made the key `held`, at a revision that no other making has."""
 
     def __init__(self, in_log, name, record, revision):
-        super().__init__()
-        self.log = in_log
+        super().__init__(in_log, record["id"], record.get("under", ""))
         self.name = name
         self.record = record
-        self.key = in_log.key("held", record["id"])
+        self.key = in_log.key("held", self.id)
+        self.last_key = in_log.key("last", self.id)
         self.mine = created_at(self.key, revision)
         in_log.held.add(self)
 
-    def add(self, number, line, reply):
-        key = self.log.row_key(self.record["id"], number)
-        return self.log.writes.queue(self, row(key, time.time(), line, kept(reply)))
+    def put(self, row, before):
+        return self.log.writes.queue(self, put_row(self.log.row_key(self.id, row), row), row.chain)
 
     def confirm(self):
-        return self.log.writes.queue(self, None)
+        return self.log.writes.queue(self)
 
     def lose(self, why):
         """The relay doesn't hold the session any more, or not for certain: nothing that waits is passed on."""
@@ -41,22 +40,34 @@ class HeldInEtcd(Held):
             self.log.held.discard(self)
             self.log.writes.give_up(self)
 
-    async def lines(self):
+    async def read(self):
         # What was queued before is durable then, and what another relay had under way can't become durable any more.
         await self.confirm()
-        return await self.unless_lost(self.log.lines(self.record["id"]))
+        return await self.unless_lost(self.log.rows_of(self.id))
 
-    async def close(self):
-        closed = self.log.key("closed", self.record["id"])
+    async def rows(self):
+        rows = await super().rows()
+        # From now on the log has the hash of the last, where it is of before there were hashes.
+        await self.unless_lost(self.log.etcd.transact([self.mine], [put(self.last_key, self.last.encode())]))
+        return rows
+
+    async def free_name(self):
+        opened = self.log.key("open", self.name, self.record["owner"])
+        closed = self.log.key("closed", self.id)
         value = json.dumps(self.record | {"name": self.name.decode(), "closed": time.time()}).encode()
         reply = await self.unless_lost(self.log.etcd.transact(
-            [self.mine], [delete(self.log.key("open", self.name)), delete(self.key), put(closed, value)], [look(closed)]
+            [self.mine], [delete(opened), delete(self.key), put(closed, value)], [look(closed)]
         ))
         if not reply.succeeded and [each.value for each in reply.responses[0].response_range.kvs] != [value]:
             raise LogFault("another relay has it")
         self.log.held.discard(self)
 
     async def leave(self):
+        if not self.lost.done():
+            # Rows that are queued are durable first: without the key they wouldn't be.
+            confirmed = self.confirm()
+            confirmed.add_done_callback(asyncio.Future.exception)
+            await asyncio.wait([confirmed], timeout=LEASE)
         leaving = asyncio.create_task(self.delete_key())
         self.log.leaving.add(leaving)
         leaving.add_done_callback(self.log.leaving.discard)

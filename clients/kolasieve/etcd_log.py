@@ -1,10 +1,13 @@
 """The log that several relays share: keys in etcd.
 
     PREFIX/options          magicd's options, those of all relays
-    PREFIX/open/NAME        the record of a session that is open or left, and under which number its rows lie
+    PREFIX/open/NAME/OWNER  the record of a session that is open or left, and under which number its rows lie
     PREFIX/closed/ID        the record of one that was closed
     PREFIX/held/ID          which relay has the session in use: a key under the relay's lease
-    PREFIX/lines/ID/NUMBER  a row: when, the line, and the reply below it
+    PREFIX/lines/ID/NUMBER  a row: when, its hash, the line, and the reply below it; with a part NUMBER.PART
+    PREFIX/last/ID          the hash of the last row
+    PREFIX/texts/ID/HASH/I  the pieces of a text of a session, or under 0 of all
+    PREFIX/cells/NUMBER     a cell: its name and its text's hash
 
 A relay that takes a session first makes the key `held`, and reads the rows then. Each transaction for the session
 compares the revision at which that key was made. So once another relay has made the key, the one before it can add
@@ -19,8 +22,9 @@ import time
 
 from kolasieve.etcd import Etcd, after, created_at, delete, has_value, look, put
 from kolasieve.etcd_held import LEASE, HeldInEtcd
-from kolasieve.etcd_writes import Writes, fitting, row
-from kolasieve.log import OF_ANOTHER, Log, LogFault, Record, Row, Unavailable
+from kolasieve.etcd_writes import Waiting, Writes, fitting, put_row
+from kolasieve.log import OF_ALL, Log, LogFault, Record, Row, Unavailable
+from kolasieve.options import digest
 
 log = logging.getLogger("relay")
 
@@ -29,14 +33,16 @@ RENEWAL = 1
 
 PREFIX = "kolasieve"
 
+# How many bytes a piece of a text has at most.
+PIECE = 1 << 19
+
 
 class EtcdLog(Log):
     """The log as one of its relays has it."""
 
-    def __init__(self, etcd, prefix, options, place):
+    def __init__(self, etcd, prefix, place):
         self.etcd = etcd
         self.prefix = prefix.encode()
-        self.options = options
         self.place = place
         self.lease = 0
         self.leased = asyncio.Event()
@@ -47,31 +53,48 @@ class EtcdLog(Log):
         self.keeping = None
 
     @classmethod
-    async def start(cls, addresses, secured, options, place, prefix=PREFIX):
-        """Begins to use a log of these options, or, without any, one that is there.
+    async def start(cls, addresses, secured, wanted, place, prefix=PREFIX):
+        """Begins to use a log that agrees with what is wanted, or, without that, one that is there.
 
         Only who has a place can hold sessions.
         """
-        started = cls(Etcd(addresses, secured), prefix, options, place)
+        started = cls(Etcd(addresses, secured), prefix, place)
         started.etcd.on_silence = lambda: started.on_silence()
-        await started.keep_options()
+        await started.keep_options(wanted)
         if place is not None:
+            await started.move_records()
             started.keeping = asyncio.create_task(started.keep_lease())
         return started
 
     def key(self, *parts):
         return b"/".join([self.prefix, *(part if isinstance(part, bytes) else part.encode() for part in parts)])
 
-    async def keep_options(self):
+    async def keep_options(self, wanted):
+        """Agrees with the log on options; where another relay changes them meanwhile, once more."""
         key = self.key("options")
-        if self.options is not None:
-            await self.etcd.transact([created_at(key, 0)], [put(key, self.options.encode())])
-        found = await self.etcd.get(key)
-        if found is None:
-            raise LogFault(f"etcd: there is no log {self.prefix.decode()}")
-        if self.options not in (None, found.value.decode()):
-            raise LogFault(f"etcd: the log is of a server with other options: {found.value.decode()}")
-        self.options = found.value.decode()
+        while True:
+            found = await self.etcd.get(key)
+            if found is None and wanted is None:
+                raise LogFault(f"etcd: there is no log {self.prefix.decode()}")
+            self.options = found and found.value.decode()
+            if wanted is None:
+                return
+            try:
+                options = wanted.agree(self.options)
+            except LogFault as fault:
+                raise LogFault(f"etcd: {fault}") from None
+            unchanged = created_at(key, 0) if found is None else has_value(key, found.value)
+            if (await self.etcd.transact([unchanged], [put(key, options.encode())])).succeeded:
+                self.options = options
+                return
+
+    async def move_records(self):
+        """Moves the records of a log of before owners could have the same names."""
+        prefix = self.key("open", "")
+        for each in await self.etcd.get_all(prefix):
+            if b"/" not in each.key[len(prefix) :]:
+                moved = each.key + b"/" + json.loads(each.value)["owner"].encode()
+                await self.etcd.transact([has_value(each.key, each.value)], [delete(each.key), put(moved, each.value)])
 
     def same_options(self):
         return has_value(self.key("options"), self.options.encode())
@@ -121,22 +144,35 @@ class EtcdLog(Log):
 
     async def open(self, name, owner):
         await self.leased.wait()
-        record = {"id": new_id(name), "owner": owner, "opened": time.time()}
+        record = {"id": new_id(name), "owner": owner, "opened": time.time(), "under": self.under}
         return await self.hold(name, record, json.dumps(record).encode(), is_new=True)
 
     async def take(self, name, owner):
         await self.leased.wait()
-        found = await self.etcd.get(self.key("open", name))
+        found = await self.etcd.get(self.key("open", name, owner))
         if found is None:
             raise Unavailable("no such session")
-        record = json.loads(found.value)
-        if record["owner"] != owner:
-            raise Unavailable(OF_ANOTHER)
-        return await self.hold(name, record, found.value, is_new=False)
+        return await self.hold(name, json.loads(found.value), found.value, is_new=False)
+
+    async def reopen(self, name, owner):
+        closed = [(json.loads(each.value), each) for each in await self.etcd.get_all(self.key("closed", name + b"."))]
+        own = [(record["closed"], record, each) for record, each in closed if record["owner"] == owner]
+        opened = self.key("open", name, owner)
+        if not own:
+            raise Unavailable("no such session" if await self.etcd.get(opened) is None else "open already")
+        _, record, found = max(own, key=lambda each: each[0])
+        value = json.dumps({key: record[key] for key in record if key not in ("name", "closed")}).encode()
+        reply = await self.etcd.transact(
+            [self.same_options(), has_value(found.key, found.value), created_at(opened, 0)],
+            [delete(found.key), put(opened, value)],
+            [look(opened)],
+        )
+        if not reply.succeeded and [each.value for each in reply.responses[0].response_range.kvs] != [value]:
+            raise Unavailable("open already")
 
     async def hold(self, name, record, value, is_new):
         """Makes the key that holds a session, with the session's record where it is new, and returns it held."""
-        opened, held = self.key("open", name), self.key("held", record["id"])
+        opened, held = self.key("open", name, record["owner"]), self.key("held", record["id"])
         mine = json.dumps({"place": self.place, "taking": secrets.token_hex(6)}).encode()
         reply = await self.etcd.transact(
             [self.same_options(), created_at(held, 0), created_at(opened, 0) if is_new else has_value(opened, value)],
@@ -166,22 +202,29 @@ class EtcdLog(Log):
         records = [as_record(each, prefix) for each in await self.etcd.get_all(prefix)]
         return [Record(**each, place=places.get(each["id"])) for each in records]
 
-    async def lines(self, id):
-        return [as_row(each) for each in await self.etcd.get_all(self.key("lines", id, ""))]
+    async def rows(self, record):
+        return await self.rows_of(record.id)
 
-    def row_key(self, id, number):
-        return self.key("lines", id, f"{number:010d}")
+    async def rows_of(self, id):
+        last = await self.etcd.get(self.key("last", id))
+        return [as_row(each) for each in await self.etcd.get_all(self.key("lines", id, ""))], last and last.value.decode()
 
-    async def bring(self, record, owner, rows):
+    def row_key(self, id, row):
+        return self.key("lines", id, f"{row.number:010d}.{row.part:06d}" if row.part else f"{row.number:010d}")
+
+    async def bring(self, record, owner, rows, last, texts):
         """Keeps the rows first: without a record nobody sees them."""
         id = new_id(record.name)
-        puts = [row(self.row_key(id, each.number), each.at, each.line, each.reply) for each in rows]
-        while puts:
-            count = fitting(puts)
-            await self.etcd.transact([self.same_options()], puts[:count])
-            del puts[:count]
-        value = {"id": id, "owner": owner, "opened": record.opened}
-        key = self.key("open", record.name)
+        waiting = [Waiting(id, put_row(self.row_key(id, each), each)) for each in rows]
+        while waiting:
+            count = fitting(waiting)
+            await self.etcd.transact([self.same_options()], [each.put for each in waiting[:count]])
+            del waiting[:count]
+        for text in texts:
+            await self.keep_text(text, id)
+        await self.etcd.transact([self.same_options()], [put(self.key("last", id), last.encode())])
+        value = {"id": id, "owner": owner, "opened": record.opened, "under": record.under}
+        key = self.key("open", record.name, owner)
         if record.closed is not None:
             key = self.key("closed", id)
             value |= {"name": record.name.decode(), "closed": record.closed}
@@ -191,8 +234,44 @@ class EtcdLog(Log):
             raise Unavailable("open already")
 
     async def remove(self, record):
-        prefix = self.key("lines", record.id, "")
-        await self.etcd.transact([], [delete(prefix, after(prefix)), delete(self.key("closed", record.id))])
+        """Removes the record last: what is there without one is removed when it is tried again."""
+        for kind in ("lines", "texts"):
+            prefix = self.key(kind, record.id, "")
+            await self.etcd.transact([], [delete(prefix, after(prefix))])
+        await self.etcd.transact([], [delete(self.key(kind, record.id)) for kind in ("last", "closed")])
+
+    # ---- texts and cells
+
+    async def keep_text(self, text, id=OF_ALL):
+        """Keeps a text in pieces. It is there once they have its hash together."""
+        hash = digest(text)
+        for index, start in enumerate(range(0, max(len(text), 1), PIECE)):
+            key = self.key("texts", str(id), hash, f"{index:06d}")
+            await self.etcd.transact([], [put(key, text[start : start + PIECE])])
+        return hash
+
+    async def text(self, hash, id=OF_ALL):
+        pieces = await self.etcd.get_all(self.key("texts", str(id), hash, ""))
+        text = b"".join(each.value for each in pieces)
+        return text if digest(text) == hash else None
+
+    async def texts(self, id=OF_ALL):
+        texts = {}
+        for each in await self.etcd.get_all(self.key("texts", str(id), "")):
+            hash = each.key.split(b"/")[-2].decode()
+            texts[hash] = texts.get(hash, b"") + each.value
+        return [text for hash, text in texts.items() if digest(text) == hash]
+
+    async def cells(self):
+        found = [json.loads(each.value) for each in await self.etcd.get_all(self.key("cells", ""))]
+        return {each["name"]: each["hash"] for each in found}
+
+    async def add_cell(self, number, name, hash):
+        key = self.key("cells", f"{number:04d}")
+        value = json.dumps({"name": name, "hash": hash, "at": time.time()}).encode()
+        reply = await self.etcd.transact([created_at(key, 0)], [put(key, value)], [look(key)])
+        if not reply.succeeded and [each.value for each in reply.responses[0].response_range.kvs] != [value]:
+            raise Unavailable("another relay has loaded a cell meanwhile")
 
 
 def new_id(name):
@@ -203,10 +282,12 @@ def new_id(name):
 def as_record(found, prefix):
     """Returns the fields of a record; the name of an open one is its key's."""
     fields = json.loads(found.value)
-    return fields | {"name": fields.get("name", found.key[len(prefix) :].decode()).encode()}
+    return fields | {"name": fields.get("name", found.key[len(prefix) :].partition(b"/")[0].decode()).encode()}
 
 
 def as_row(found):
     head, _, reply = found.value.partition(b"\n")
-    at, _, line = head.partition(b" ")
-    return Row(int(found.key.rpartition(b"/")[2]), float(at), line, reply)
+    stamp, _, line = head.partition(b" ")
+    at, _, chain = stamp.partition(b":")
+    number, _, part = found.key.rpartition(b"/")[2].partition(b".")
+    return Row(int(number), int(part or 0), float(at), line, reply, chain.decode() or None)

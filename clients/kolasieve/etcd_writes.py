@@ -7,23 +7,26 @@ from kolasieve.etcd import look, put
 from kolasieve.log import LogFault, settle
 
 # etcd takes 128 operations and 1.5 megabytes in a transaction.
-MOST_ROWS = 100
+MOST_OPERATIONS = 120
 MOST_BYTES = 1 << 20
 
 
-def row(key, at, line, reply):
+def put_row(key, row):
     """Returns the operation that puts a row."""
-    return put(key, b"%.3f %s\n%s" % (at, line, reply))
+    chained = b"" if row.chain is None else b":" + row.chain.encode()
+    return put(key, b"%.3f%s %s\n%s" % (row.at, chained, row.line, row.reply))
 
 
-def fitting(rows):
-    """Returns how many of these, from the first, one transaction takes. None is a row of no size."""
+def fitting(waiting):
+    """Returns how many rows that wait, from the first, one transaction takes, with a last hash for each session."""
     size = 0
-    for count, each in enumerate(rows):
-        size += 0 if each is None else each.ByteSize()
-        if count == MOST_ROWS or (count > 0 and size > MOST_BYTES):
+    sessions = set()
+    for count, each in enumerate(waiting):
+        sessions.add(each.held)
+        size += 0 if each.put is None else each.put.ByteSize()
+        if count + len(sessions) == MOST_OPERATIONS or (count > 0 and size > MOST_BYTES):
             return count
-    return len(rows)
+    return len(waiting)
 
 
 @dataclass(eq=False)
@@ -31,8 +34,10 @@ class Waiting:
     """A row of a session, or none where it is only to be certain that the session is held."""
 
     held: object
-    row: object
-    done: asyncio.Future
+    put: object = None
+    # The row's hash.
+    last: str = None
+    done: asyncio.Future = None
 
 
 class Writes:
@@ -48,20 +53,20 @@ class Writes:
         self.under_way = []
         self.writing = None
 
-    def queue(self, held, put_row):
+    def queue(self, held, row_put=None, last=None):
         """Returns a future that has a result once the row is durable, and the session was held after this call."""
         done = asyncio.get_running_loop().create_future()
         if held.lost.done():
             done.set_exception(LogFault(held.lost.result()))
             return done
-        self.waiting.append(Waiting(held, put_row, done))
+        self.waiting.append(Waiting(held, row_put, last, done))
         if self.writing is None:
             self.writing = asyncio.create_task(self.write_all())
         return done
 
     async def write_all(self):
         while self.waiting:
-            count = fitting([each.row for each in self.waiting])
+            count = fitting(self.waiting)
             self.under_way, self.waiting = self.waiting[:count], self.waiting[count:]
             if not await self.write(self.under_way):
                 # Some session isn't held any more: it alone is lost.
@@ -74,11 +79,13 @@ class Writes:
         """Writes what waits for sessions that are held, all or nothing, and returns whether it is done."""
         batch = [each for each in batch if not each.held.lost.done()]
         sessions = {each.held for each in batch}
-        rows = [each.row for each in batch if each.row is not None]
         if not batch:
             return True
+        puts = [each.put for each in batch if each.put is not None]
+        lasts = {each.held.last_key: each.last for each in batch if each.put is not None}
+        puts += [put(key, last.encode()) for key, last in lasts.items()]
         try:
-            reply = await self.etcd.transact([each.mine for each in sessions], rows or [look(batch[0].held.key)])
+            reply = await self.etcd.transact([each.mine for each in sessions], puts or [look(batch[0].held.key)])
         except LogFault as fault:
             if len(sessions) == 1:
                 batch[0].held.lose(str(fault))

@@ -6,10 +6,19 @@ from dataclasses import dataclass
 # How many bytes of a line are kept. One that is longer is a fault for magicd whatever it holds.
 LONGEST_LINE = 1200
 
+# How many bytes a command has at most.
+LONGEST_COMMAND = 1024
+
+# The commands that name a cell.
+WITH_CELL = {b"dump", b"getcell"}
+
 NAME = re.compile(rb"[A-Za-z0-9_]{1,32}\Z")
 
 # Replies after which as many more lines follow as the third word says.
-TEXTS = {b"saved", b"marked", b"uses", b"journal"}
+TEXTS = {b"saved", b"marked", b"errors", b"violations", b"uses", b"journal"}
+
+# The lines that ask for them, beside `NAME save`.
+FOR_TEXTS = {b"%save", b"%marks", b"%errors", b"%violations", b"%uses", b"%journal", b"@show"}
 
 # The refusals after which a command has no entry in the journal: the journal is full, and out of memory.
 UNJOURNALLED = {b"6", b"9"}
@@ -41,6 +50,22 @@ class Line:
         return not self.is_silent and not self.words[0].startswith((b"%", b"@"))
 
     @property
+    def cell(self):
+        """The name of the cell that a command dumps or places, or None."""
+        return self.words[2] if len(self.words) == 5 and self.words[1] in WITH_CELL else None
+
+    def without_cell(self):
+        """Returns the line with a name that no cell has; one that is too long is a fault as it was."""
+        if len(self.text) > LONGEST_COMMAND:
+            return self
+        return Line.of(re.sub(rb"\A([ \t]*[^ \t]+[ \t]+[^ \t]+[ \t]+)[^ \t]+", rb"\1,", self.text))
+
+    @property
+    def is_for_text(self):
+        """Whether a reply that isn't a refusal has a text, which may be long."""
+        return self.words[0] in FOR_TEXTS or self.words[1:] == (b"save",)
+
+    @property
     def name(self):
         """The name of the session that the line is of, or None where it has none that is well formed."""
         if self.is_silent:
@@ -60,7 +85,7 @@ def fault_of(head):
 def lines_after(head):
     """Returns how many lines follow this first line of a reply."""
     words = head.split()
-    if fault_of(head) is None and len(words) == 3 and words[1] in TEXTS and words[2].isdigit():
+    if len(words) == 3 and words[1] in TEXTS and words[2].isdigit() and fault_of(head) is None:
         return int(words[2])
     return 0
 

@@ -3,14 +3,17 @@
 import abc
 import asyncio
 import hashlib
+import time
 from dataclasses import dataclass
+from typing import NamedTuple
+
+from kolasieve import chain
 
 # A longer reply is kept as its length and SHA-256.
 LONGEST_REPLY = 4096
 
-# Why a session can't be taken by who isn't its owner.
-OF_ANOTHER = "another's session"
-
+# In place of a session's number: texts that are of all.
+OF_ALL = 0
 
 class LogFault(Exception):
     """The log can't be used, or its rows can't be made durable."""
@@ -20,14 +23,20 @@ class Unavailable(Exception):
     """The log has no such session for this relay; the text says why."""
 
 
-@dataclass(frozen=True)
-class Row:
-    """A command that the session's journal has: its number among the session's lines, and its reply as it is kept."""
+class Row(NamedTuple):
+    """A command that the session's journal has, or what the relay did in its place, with the reply as it is kept.
+
+    Its number is that of the line among the session's lines. What the relay did without a line has the number of the line
+    before it, and a part, from 1.
+    """
 
     number: int
+    part: int
     at: float
     line: bytes
     reply: bytes
+    # The hash that chains it to the row before it; none in a row of before there were hashes.
+    chain: str = None
 
 
 @dataclass(frozen=True)
@@ -40,6 +49,19 @@ class Record:
     opened: float
     closed: float = None
     place: str = None
+    # The hash of its last row, where the log has it.
+    last: str = None
+    # Under which options it was opened; empty where that was in a log of before they could change.
+    under: str = ""
+
+    @property
+    def title(self):
+        return title(self.owner, self.name)
+
+
+def title(owner, name):
+    """Returns what a session is called where there are several owners: the name has no stroke."""
+    return f"{owner}/{name.decode()}"
 
 
 def kept(reply):
@@ -52,8 +74,14 @@ def kept(reply):
 class Log(abc.ABC):
     """The log of a relay. There are two forms: a file of one relay, and an etcd that several share.
 
-    A log is of one technology, cells, quota and journal limit: those of the relay that made it.
+    A log is of one technology, that of the relay that made it. It takes more cells, a greater quota and journal limit.
     """
+
+    # What it has of options.
+    options = None
+
+    # Under which options sessions are opened.
+    under = ""
 
     # Where other relays are told that a session of this one is in use, if there can be any.
     place = None
@@ -63,23 +91,47 @@ class Log(abc.ABC):
 
     @abc.abstractmethod
     async def open(self, name, owner):
-        """Keeps that a session was opened, and returns it held. Fails where the log has the name open or left."""
+        """Keeps that a session was opened, and returns it held. Fails where its owner has the name open or left."""
 
     @abc.abstractmethod
     async def take(self, name, owner):
         """Returns a left session held. Fails where there is none of this owner, or where it is in use."""
 
     @abc.abstractmethod
+    async def reopen(self, name, owner):
+        """Has the last closed session of this owner and name be a left one. Fails where there is none, or the name is taken."""
+
+    @abc.abstractmethod
     async def sessions(self, closed=False):
         """Returns the records of all sessions that aren't closed, or of those that are."""
 
     @abc.abstractmethod
-    async def lines(self, id):
-        """Returns the rows of a session, by their numbers."""
+    async def rows(self, record):
+        """Returns the rows of a session in their order, and the hash that the log has of the last, if it has one."""
 
     @abc.abstractmethod
-    async def bring(self, record, owner, rows):
-        """Keeps a session of another log, whole, as this owner's. Fails where this log has its name open or left."""
+    async def bring(self, record, owner, rows, last, texts):
+        """Keeps a session of another log, whole, as this owner's. Fails where this owner has its name open or left."""
+
+    @abc.abstractmethod
+    async def keep_text(self, text, id=OF_ALL):
+        """Keeps a text of a session, or of all, and returns its hash once it is durable."""
+
+    @abc.abstractmethod
+    async def text(self, hash, id=OF_ALL):
+        """Returns the text with this hash, or None where it isn't there whole."""
+
+    @abc.abstractmethod
+    async def texts(self, id=OF_ALL):
+        """Returns all texts of a session, or of all."""
+
+    @abc.abstractmethod
+    async def cells(self):
+        """Returns the hash of each cell's text by its name, in the order in which they came."""
+
+    @abc.abstractmethod
+    async def add_cell(self, number, name, hash):
+        """Keeps that there is a cell, as the one of this number, from 0. Fails where there is another of that number."""
 
     @abc.abstractmethod
     async def remove(self, record):
@@ -96,24 +148,65 @@ class Held(abc.ABC):
     `lost` has a result, which says why, once that has ended against the relay's will.
     """
 
-    def __init__(self):
+    def __init__(self, log, id, under):
+        self.log = log
+        self.id = id
+        # Under which options it was opened.
+        self.under = under
         self.lost = asyncio.get_running_loop().create_future()
+        # The number and the part of the last row, and its hash.
+        self.number = self.part = 0
+        self.last = chain.FIRST
+
+    def add(self, line, reply, number=None):
+        """Adds a row: it is durable once the returned future has a result. Without a number it is the relay's own."""
+        self.number, self.part = (self.number, self.part + 1) if number is None else (number, 0)
+        row = (self.number, self.part, round(time.time(), 3), line, kept(reply))
+        before, self.last = self.last, chain.link(self.last, *row)
+        return self.put(Row(*row, self.last), before)
 
     @abc.abstractmethod
-    def add(self, number, line, reply):
-        """Keeps a command with its reply: they are durable once the returned future has a result."""
+    def put(self, row, before):
+        """Queues a row behind the one with the hash `before`, and returns a future."""
+
+    async def rows(self):
+        """Returns all rows, those that were queued among them. Fails where they aren't those that were written."""
+        rows, last = await self.read()
+        try:
+            self.last = await chain.follow(rows, last)
+        except chain.Broken as fault:
+            raise LogFault(str(fault)) from None
+        if rows:
+            self.number, self.part = rows[-1].number, rows[-1].part
+        return rows
+
+    async def keep_text(self, text):
+        """Keeps a text of this session, and returns its hash once it is durable."""
+        return await self.log.keep_text(text, self.id)
+
+    async def text(self, hash):
+        """Returns the text with this hash. Fails where it isn't there whole."""
+        text = await self.log.text(hash, self.id)
+        if text is None:
+            raise LogFault(f"the text {hash[:12]} is missing")
+        return text
+
+    @abc.abstractmethod
+    async def read(self):
+        """Returns all rows, once those that were queued are durable, and the hash that the log has of the last."""
 
     @abc.abstractmethod
     def confirm(self):
         """Returns a future that has a result once it is certain that the relay held the session after this call."""
 
-    @abc.abstractmethod
-    async def lines(self):
-        """Returns all rows, those that were queued among them."""
+    async def close(self, line, reply):
+        """Keeps that the session was closed, by a last row: its rows stay, and its name is free."""
+        await self.add(line, reply)
+        await self.free_name()
 
     @abc.abstractmethod
-    async def close(self):
-        """Keeps that the session was closed: its rows stay, and its name is free."""
+    async def free_name(self):
+        """Keeps that the session is closed."""
 
     @abc.abstractmethod
     async def leave(self):

@@ -1,4 +1,4 @@
-"""A page: the sessions, and the layout and marks of one as a picture that follows it."""
+"""The page: the files of which it consists, and the connection over which it gets all that it shows."""
 
 import asyncio
 import hmac
@@ -6,137 +6,181 @@ import json
 import logging
 import pathlib
 
-from aiohttp import WSMsgType, web
+from aiohttp import WSCloseCode, WSMsgType, web
 
 from kolasieve.certificates import owner_of
-from kolasieve.lines import Line
-from kolasieve.log import LogFault
-from kolasieve.picture import Picture
-from kolasieve.program import Ended
+from kolasieve.limits import PAGE_CONNECTIONS, PAGE_CONNECTIONS_EACH
+from kolasieve.listener import Listener, listen_at_port
+from kolasieve.messages import warn
+from kolasieve.program import LONGEST_END
+from kolasieve.wall import Wall, Watcher
 
 log = logging.getLogger("relay")
 
-# How often a session is asked whether it has changed, in seconds.
-PERIOD = 0.5
+# What is replied to a connection that is ended before it has asked for anything.
+FORM = b"HTTP/1.1 400 Bad Request\r\nConnection: close\r\n\r\n%s\n"
 
-HTML = pathlib.Path(__file__).with_name("page.html")
+FILES = {"/": ("page.html", "text/html"), "/page.js": ("page.js", "text/javascript"), "/page.css": ("page.css", "text/css")}
+
+# A page may run its own files alone, stand in no other page, and tell nobody where it is.
+HEADERS = {
+    "Content-Security-Policy": "default-src 'none'; script-src 'self'; style-src 'self'; img-src data:; connect-src 'self'; "
+    "base-uri 'none'; form-action 'none'; frame-ancestors 'none'",
+    "Referrer-Policy": "no-referrer",
+    "X-Content-Type-Options": "nosniff",
+    "Cache-Control": "no-store",
+}
+
+# The protocol of the page's connection. Behind it stands the token: a browser sends no other header.
+PROTOCOL = "kolasieve"
+
+# The lines of the world lie between this and its negative.
+WORLD = 1048576
+
+# How long a message of a page may be, in bytes.
+LONGEST_MESSAGE = 2000
+
+# Whose all connections are that have shown the token.
+OF_ALL = "the page's users"
 
 
 class Page:
-    """Looks at sessions, and changes none: its lines are `%stat`, `%marks` and `%why`.
-
-    On the loopback address it shows all sessions to who has the token; with certificates, to each designer his own.
-    """
+    """Serves the page. It shows all sessions to who has the token; with certificates, to each designer his own."""
 
     def __init__(self, relay, token, tls=None):
-        self.relay = relay
         self.token = token
         self.tls = tls
-        self.port = None
+        self.listener = None
         self.runner = None
+        self.wall = Wall(relay)
 
     async def start(self, host, port):
         app = web.Application(middlewares=[self.guard])
-        app.add_routes([web.get("/", self.html), web.get("/sessions", self.sessions), web.get("/watch", self.watch)])
+        app.add_routes([*(web.get(path, self.file) for path in FILES), web.get("/token", self.has_token)])
+        app.add_routes([web.get("/watch", self.watch)])
+        app.on_response_prepare.append(add_headers)
+        logging.getLogger("aiohttp.server").addFilter(in_a_line)
         self.runner = web.AppRunner(app, access_log=None)
         await self.runner.setup()
-        site = web.TCPSite(self.runner, host, port, ssl_context=self.tls)
-        await site.start()
-        self.port = site._server.sockets[0].getsockname()[1]
+        each = PAGE_CONNECTIONS if self.tls is None else PAGE_CONNECTIONS_EACH
+        self.listener = Listener(
+            listen_at_port(host, port), lambda accepted: self.runner.server(), PAGE_CONNECTIONS, each, self.tls, FORM
+        )
         if self.tls is None:
-            log.info("the page is http://%s:%d/?token=%s", host, self.port, self.token)
+            log.info("the page is http://%s:%d/?token=%s", host, self.listener.port, self.token)
         else:
-            log.info("the page is https://%s:%d/", host, self.port)
+            log.info("the page is https://%s:%d/", host, self.listener.port)
 
     async def stop(self):
-        await self.runner.cleanup()
+        await self.listener.stop()
+        await self.wall.stop()
+        try:
+            await asyncio.wait_for(self.runner.cleanup(), LONGEST_END)
+        except TimeoutError:
+            pass
+
+    # ---- who gets in
 
     @web.middleware
     async def guard(self, request, handler):
-        """Lets in who has a certificate, or the token by a name of this machine; and scripts of this page alone."""
+        """Lets in who has a certificate, or the token by a name of this machine; and scripts of this page alone.
+
+        The page's files are no secret. They are shown without a token too, but not with a wrong one.
+        """
         here = {request.host}
         if self.tls is None:
-            here = {f"127.0.0.1:{self.port}", f"localhost:{self.port}"}
+            here = {f"127.0.0.1:{self.listener.port}", f"localhost:{self.listener.port}"}
             if request.host not in here:
                 raise web.HTTPForbidden(text="another host\n")
-            if not hmac.compare_digest(request.query.get("token", ""), self.token):
-                raise web.HTTPForbidden(text="no token\n")
+            shown = tokens_of(request)
+            if not all(map(self.is_token, shown)) or not (shown or request.path in FILES):
+                raise web.HTTPForbidden(text="no token, or another one\n")
         origin = request.headers.get("Origin")
-        if origin is not None and origin.partition("://")[2] not in here:
+        if origin is not None and origin not in {f"{'https' if self.tls else 'http'}://{each}" for each in here}:
             raise web.HTTPForbidden(text="another origin\n")
+        accepted = self.listener.accepted_as(request.transport)
+        refusal = accepted.let_in(self.owner(request) or OF_ALL) if accepted else "too many connections"
+        if refusal is not None:
+            raise web.HTTPServiceUnavailable(text=f"{refusal}\n")
         return await handler(request)
+
+    def is_token(self, word):
+        return hmac.compare_digest(word.encode("utf-8", "replace"), self.token.encode())
 
     def owner(self, request):
         """Returns whose sessions are shown, or None where all are."""
         return None if self.tls is None else owner_of(request.transport)
 
-    async def html(self, request):
-        return web.Response(text=HTML.read_text(), content_type="text/html")
+    # ---- what is served
 
-    # ---- looks
+    async def file(self, request):
+        name, kind = FILES[request.path]
+        reply = web.Response(text=pathlib.Path(__file__).with_name(name).read_text(encoding="utf-8"), content_type=kind)
+        reply.force_close()
+        return reply
 
-    async def look(self, owner, name, text):
-        """Returns the reply to a look at a session, or None where it isn't open here, or isn't this owner's."""
-        session = self.relay.sessions.get(name)
-        if session is None or session.program is None or owner not in (None, session.owner):
-            return None
-        try:
-            reply = await session.program.ask(Line.of(text))
-            if session.held is not None:
-                await session.held.confirm()
-        except (Ended, LogFault):
-            return None
-        return reply.decode()
-
-    async def sessions(self, request):
-        """Returns how far each session is: the numbers of `%stat`."""
-        rows = []
-        owner = self.owner(request)
-        for name, state in (await self.relay.states(owner)).items():
-            stat = await self.look(owner, name, b"%%stat %s" % name)
-            rows.append({"name": name.decode(), "state": state, "stat": stat and stat.strip().split(" stat ", 1)[-1]})
-        return web.json_response(rows)
+    async def has_token(self, request):
+        """Replies to a page that wants to know whether its connection was refused for its token."""
+        return web.Response(status=204)
 
     async def watch(self, request):
-        """Sends the picture of a session, again each time that it has changed, and what is asked of its marks."""
-        socket = web.WebSocketResponse()
+        """Sends all that is to be seen, and of one session, which the page may choose, its scene."""
+        socket = web.WebSocketResponse(
+            protocols=[PROTOCOL], compress=False, max_msg_size=LONGEST_MESSAGE, heartbeat=30, timeout=LONGEST_END
+        )
         await socket.prepare(request)
-        name = request.query.get("session", "").encode()
-        owner = self.owner(request)
-        showing = asyncio.create_task(self.show(socket, owner, name))
+        watcher = Watcher(self.wall, socket.send_str, self.owner(request))
+        self.wall.join(watcher)
+        telling = asyncio.create_task(watcher.tell_all())
         try:
             async for message in socket:
-                if message.type == WSMsgType.TEXT:
-                    await self.explain(socket, owner, name, message.data)
+                if message.type != WSMsgType.TEXT or not self.take(watcher, message.data):
+                    await socket.close(code=WSCloseCode.POLICY_VIOLATION, message=b"no message of the page")
         finally:
-            showing.cancel()
+            telling.cancel()
+            await asyncio.gather(telling, return_exceptions=True)
+            await self.wall.part(watcher)
         return socket
 
-    async def show(self, socket, owner, name):
-        shown = None
-        while not socket.closed:
-            stat = await self.look(owner, name, b"%%stat %s" % name)
-            if stat is not None and stat != shown:
-                shown = stat
-                reply = await self.look(owner, name, b"%%marks %s" % name) or ""
-                head, _, text = reply.partition("\n")
-                if " marked " in head:
-                    picture = Picture.of(text)
-                    await socket.send_json({"svg": picture.svg(), "bounds": picture.bounds(), "stat": stat.strip()})
-                else:
-                    await socket.send_json({"refused": head})
-            elif stat is None and shown != "":
-                shown = ""
-                await socket.send_json({"refused": "the session isn't open"})
-            await asyncio.sleep(PERIOD)
-
-    async def explain(self, socket, owner, name, data):
-        """Sends the rules that forbid a square."""
+    def take(self, watcher, text):
+        """Takes a message of a page, and returns whether it is one: which session is watched, or which box is looked at."""
         try:
-            square = json.loads(data)
-            column, row = int(square["column"]), int(square["row"])
-        except (ValueError, KeyError, TypeError):
-            return
-        reply = await self.look(owner, name, b"%%why %s %d %d %d %d" % (name, column, row, column + 1, row + 1))
-        if reply is not None:
-            await socket.send_json({"column": column, "row": row, "why": reply.strip().split(" why ", 1)[-1]})
+            (word, value), = json.loads(text).items()
+        except (ValueError, TypeError, AttributeError, RecursionError):
+            return False
+        if word == "watch" and isinstance(value, str):
+            owner, _, name = value.rpartition("/")
+            self.wall.watch(watcher, (owner, name.encode("utf-8", "replace")))
+        elif word == "near" and is_box(value):
+            watcher.look_near(value)
+        else:
+            return False
+        return True
+
+
+def is_box(value):
+    """Returns whether a value is four lines of the world with squares between them."""
+    if not isinstance(value, list) or len(value) != 4 or any(type(each) is not int for each in value):
+        return False
+    left, bottom, right, top = value
+    return -WORLD <= left < right <= WORLD and -WORLD <= bottom < top <= WORLD
+
+
+def tokens_of(request):
+    """Returns each token that a request shows: in its address, in a header, and behind the protocol of its connection."""
+    found = request.query.getall("token", [])
+    kind, _, word = request.headers.get("Authorization", "").partition(" ")
+    if kind == "Bearer":
+        found.append(word)
+    protocols = [each.strip() for each in request.headers.get("Sec-WebSocket-Protocol", "").split(",")]
+    return found + [each for each in protocols if each not in ("", PROTOCOL)]
+
+
+def in_a_line(record):
+    """Has a fault of a request said in one line, and counted; returns whether it is to be said otherwise."""
+    warn(f"the page: {record.exc_info[1]!r}" if record.exc_info else f"the page: {record.getMessage()}")
+    return False
+
+
+async def add_headers(request, reply):
+    reply.headers.update(HEADERS)

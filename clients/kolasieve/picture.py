@@ -1,64 +1,26 @@
 """A picture of a cell file: its layers in colours, its marks hatched, its unchecked areas outlined."""
 
-import re
-from dataclasses import dataclass, field
-from xml.sax.saxutils import escape
+from xml.sax.saxutils import escape, quoteattr
 
-UNCHECKED = "checkpaint"
-MARKS = "error_p"
+from kolasieve import rects
+from kolasieve.mag import MARKS, UNCHECKED
 
 # Colours that people who can't tell red from green tell apart too (Okabe and Ito 2008).
 COLOURS = ("#0072b2", "#d55e00", "#009e73", "#cc79a7", "#e69f00", "#56b4e9", "#f0e442", "#999999")
 
-RECT = re.compile(r"rect +(-?\d+) +(-?\d+) +(-?\d+) +(-?\d+)\Z")
-SECTION = re.compile(r"<< (\S+) >>\Z")
 
-
-class BadText(Exception):
-    """The text is no cell file."""
-
-
-@dataclass
 class Picture:
-    """The rectangles of each section of a cell file: left, bottom, right and top line of each."""
+    """The rectangles of each section of a cell file, as numbers of that file, and what rules forbid, if that is known."""
 
-    tech: str = ""
-    sections: dict = field(default_factory=dict)
-
-    @classmethod
-    def of(cls, text):
-        """Reads the text of `save`, `%save` or `%marks`."""
-        lines = text.splitlines()
-        if not lines or lines[0].strip() != "magic":
-            raise BadText("the first line isn't `magic`")
-        picture, section = cls(), None
-        for number, line in enumerate(lines[1:], 2):
-            line = line.strip()
-            if found := SECTION.match(line):
-                section = found[1]
-            elif line.startswith("tech "):
-                picture.tech = line[5:]
-            elif found := RECT.match(line):
-                if section is None:
-                    raise BadText(f"line {number}: a rectangle outside sections")
-                left, bottom, right, top = map(int, found.groups())
-                picture.sections.setdefault(section, []).append((left, bottom, right, top))
-        return picture
-
-    @property
-    def layers(self):
-        return [name for name in self.sections if name not in (UNCHECKED, MARKS)]
+    def __init__(self, cell, rules=()):
+        self.sections = cell.sections
+        self.rules = rules
+        self.layers = list(cell.layers)
 
     def bounds(self):
         """Returns the lines round all rectangles but those of unchecked areas, which may be large; a default for none."""
-        shown = [rect for name, rects in self.sections.items() if name != UNCHECKED for rect in rects]
-        shown = shown or self.sections.get(UNCHECKED, []) or [(0, 0, 10, 10)]
-        return (
-            min(rect[0] for rect in shown),
-            min(rect[1] for rect in shown),
-            max(rect[2] for rect in shown),
-            max(rect[3] for rect in shown),
-        )
+        shown = [rect for name, section in self.sections.items() if name != UNCHECKED for rect in section]
+        return rects.bounds(shown or self.sections.get(UNCHECKED, []) or [(0, 0, 10, 10)])
 
     def svg(self, width=900):
         """Returns the picture as SVG. A square of the layout is a unit; up is up."""
@@ -68,7 +30,7 @@ class Picture:
         unit = max(right - left, top - bottom) / width
         height = (top - bottom) / unit
         out = [
-            f'<svg xmlns="http://www.w3.org/2000/svg" width="{width}" height="{height + 24 * (len(self.layers) + 3):.0f}">',
+            f'<svg xmlns="http://www.w3.org/2000/svg" width="{width}" height="{height + 24 * (len(self.layers) + len(self.rules) + 3):.0f}">',
             # Patterns are drawn in units of where they lie: of the layout, and of the legend.
             f"<defs>{hatch('marked', unit)}{hatch('hatch', 1)}</defs>",
             f'<svg class="layout" width="{width}" height="{height:.0f}" viewBox="{left} {-top} {right - left} {top - bottom}">',
@@ -76,7 +38,7 @@ class Picture:
         ]
         for index, name in enumerate(self.layers):
             colour = COLOURS[index % len(COLOURS)]
-            out.append(f'<g fill="{colour}" fill-opacity="0.6" data-layer="{escape(name)}">')
+            out.append(f'<g fill="{colour}" fill-opacity="0.6" data-layer={quoteattr(name)}>')
             out.extend(box(rect) for rect in self.sections[name])
             out.append("</g>")
         out.append(f'<g fill="url(#marked)" stroke="#b00000" stroke-width="{unit}" class="marks">')
@@ -92,6 +54,7 @@ class Picture:
         rows = [(name, f'fill="{COLOURS[index % len(COLOURS)]}" fill-opacity="0.6"') for index, name in enumerate(self.layers)]
         rows.append((f"marks ({len(self.sections.get(MARKS, []))} strips)", 'fill="url(#hatch)" stroke="#b00000"'))
         rows.append((f"unchecked ({len(self.sections.get(UNCHECKED, []))} areas)", 'fill="none" stroke="#555" stroke-dasharray="4 3"'))
+        rows.extend((f"[{number}] {text} ({len(strips)} strips)", 'fill="none"') for number, text, strips in self.rules)
         for index, (name, style) in enumerate(rows):
             y = height + 24 * index + 8
             yield f'<rect x="8" y="{y:.0f}" width="24" height="14" {style}/>'

@@ -6,7 +6,8 @@ import subprocess
 import tempfile
 
 from kolasieve import certificates
-from tests.serving import HERE
+from tests.etcds import free_port
+from tests.serving import HERE, SERVER, Client, RelayCase
 
 HAVE_OPENSSL = shutil.which("openssl") is not None
 
@@ -34,11 +35,55 @@ class Team:
 
     def ended(self, name):
         """Makes a certificate that has ended, and returns the files."""
+        return self.make_again(name, f"/CN={name}", days=-1)
+
+    def without_name(self):
+        """Makes a certificate that names nobody, and returns the files."""
+        return self.make_again("people", "/O=people", days=1)
+
+    def make_again(self, name, subject, days):
         certificate, key, authority = self.make(name)
         request, signing = self.folder / "request", ["-CA", authority, "-CAkey", self.folder / "ca.key"]
         for words in (
-            ["req", "-new", "-key", key, "-subj", f"/CN={name}", "-out", request],
-            ["x509", "-req", "-in", request, *signing, "-days", "-1", "-out", certificate],
+            ["req", "-new", "-key", key, "-subj", subject, "-out", request],
+            ["x509", "-req", "-in", request, *signing, "-days", str(days), "-out", certificate],
         ):
             subprocess.run(["openssl", *words], check=True, stderr=subprocess.DEVNULL)
         return [certificate, key, authority]
+
+
+class CertifiedCase(RelayCase):
+    """A relay at a port for who has a certificate."""
+
+    log = True
+
+    @classmethod
+    def setUpClass(cls):
+        cls.team = Team(cls)
+        cls.strangers = Team(cls)
+
+    def command(self, *words):
+        certificate, key, authority = self.team.machine()
+        return [
+            HERE.parent / "relay", "--listen", f"127.0.0.1:{self.port}", "--page", str(self.page),
+            "--tls", certificate, key, "--clients", authority, "--server", SERVER,
+            "--log", str(self.folder / "log"), *self.words, *words,
+        ]
+
+    def start(self, *words):
+        self.port, self.page = free_port(), free_port()
+        self.relay = subprocess.Popen(self.command(*words), stderr=self.messages, start_new_session=True)
+
+        def is_there():
+            try:
+                self.designer("nobody").close()
+                return True
+            except OSError:
+                return False
+
+        self.until(is_there)
+
+    def designer(self, name):
+        client = Client(("127.0.0.1", self.port), self.team.context(name))
+        self.addCleanup(client.close)
+        return client

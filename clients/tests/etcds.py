@@ -106,14 +106,16 @@ class Etcds:
     def rows(self, session, name="test"):
         """Returns the rows of a session that isn't closed: number, line and reply."""
         client = self.any()
-        record, _ = client.get(f"{name}/open/{session}")
-        if record is None:
+        records = [value for value, _ in client.get_prefix(f"{name}/open/{session}/")]
+        if not records:
             return None
-        id = record.decode().split('"id": "')[1].split('"')[0]
+        id = records[0].decode().split('"id": "')[1].split('"')[0]
         found = []
         for value, about in client.get_prefix(f"{name}/lines/{id}/", sort_order="ascend"):
             head, _, reply = value.partition(b"\n")
-            found.append((int(about.key.rpartition(b"/")[2]), head.partition(b" ")[2].decode(), reply.decode()))
+            number, _, part = about.key.rpartition(b"/")[2].partition(b".")
+            if not part:
+                found.append((int(number), head.partition(b" ")[2].decode(), reply.decode()))
         return found
 
 

@@ -4,17 +4,31 @@ Prints a table of times. They take some minutes.
 """
 
 import asyncio
+import json
 import os
 import random
+import re
 import statistics
 import sys
 import time
 import unittest
 
+import aiohttp
+
+from tests import test_magic
+from tests.days import DayWithoutEnd, KillsInEtcd, KillsInFile, RestoredFromEtcd, RestoredFromFile
+from tests.magics import flattened_by_magic, violations_by_magic, write_cell
 from tests.serving import RelayCase, alone, programs, random_lines
+from tests.test_chip import Comparing, reach_of
 from tests.test_etcd import EtcdCase
 from tests.test_log import LoggedCase, commands
 from tests.test_machines import MachinesCase
+from tests.test_page import OWNER
+from tests.test_process import TECHNOLOGIES
+from tests.test_process_beside import Beside, large, small
+
+from kolasieve.index import Index
+from kolasieve.rects import grown
 
 CLIENTS = 64
 LINES = 1000
@@ -124,6 +138,45 @@ class Machines(MachinesCase):
         print(*done, sep="\n", flush=True)
 
 
+class Processes(Beside):
+    def test_random_cells_of_each_technology(self):
+        for seed in range(10):
+            for technology in TECHNOLOGIES:
+                self.check(technology, seed, small, 3)
+                self.check(technology, seed, large, 1)
+
+
+class PaintingForLong(test_magic.Painting):
+    """500 random actions in Magic's window."""
+
+    COUNT = 500
+
+
+class PaintingOnManyPlanesForLong(test_magic.PaintingOnManyPlanes):
+    COUNT = 500
+
+
+class Pairs(Comparing):
+    def test_each_pair_of_types(self):
+        """Two types at a random distance, for each two: each rectangle of Magic lies within its rule's reach of our marks."""
+        dice, names, boxes = random.Random(1), [layer.name for layer in self.process.layers if not layer.parts], 0
+        for first in range(0, len(names), 19):
+            sections = {name: [] for name in names}
+            for column, one in enumerate(names[first : first + 19]):
+                for row, other in enumerate(names):
+                    x, y, width, height = 70 * column, 70 * row, dice.randrange(2, 14), dice.randrange(2, 14)
+                    left, bottom = x + dice.randrange(-13, width + 13), y + dice.randrange(-13, height + 13)
+                    sections[one].append((x, y, x + width, y + height))
+                    sections[other].append((left, bottom, left + dice.randrange(2, 14), bottom + dice.randrange(2, 14)))
+            write_cell(self.folder, "pairs", sections.items())
+            path = flattened_by_magic(self.folder, ["pairs"])["pairs"]
+            ours = {each.text: Index((strip, None) for strip in each.strips) for each in self.report(path).violations}
+            for text, found in violations_by_magic(self.folder, [path])[path].items():
+                reach, boxes = reach_of(self.process, text), boxes + len(found)
+                self.assertEqual([box for box in found if not ours[text].meeting(grown(box, reach))], [], text)
+        print("each pair of types of scmos:", boxes, "rectangles of Magic", flush=True)
+
+
 class WithLog(Many, LoggedCase):
     what = "SQLite"
 
@@ -142,6 +195,134 @@ class WithLog(Many, LoggedCase):
         self.start()
         for name in scripts:
             self.assertEqual(self.client().ask(f"@resume {name}"), [f"{name} resumed 1250"])
+
+
+class Stop(LoggedCase):
+    words = ("--journal", "65536")
+
+    def test_during_a_long_resume(self):
+        """Ctrl-C while 58,000 rows are played."""
+        client = self.client()
+        client.ask("%open a", *("a box 0 0 4 4" for _ in range(58000)))
+        self.end()
+        self.start()
+        client = self.client()
+        client.send("@resume a")
+        self.until(lambda: self.client().ask("@sessions") == ["@ sessions 1"], pause=0)
+        start = time.perf_counter()
+        self.end()
+        print(f"| Ctrl-C during a resume of 58,000 rows, s | {time.perf_counter() - start:.2f} |", flush=True)
+        self.start()
+        self.assertEqual(self.resumed(self.client(), "@resume a"), "a resumed 58000")
+
+
+async def watch_the_page(said, title):
+    """Watches a session at the page of a relay that has said this, until it is cancelled."""
+    found = re.search(r"(http://\S+)/\?token=(\S+)", said)
+    async with aiohttp.ClientSession() as http:
+        async with http.ws_connect(f"{found[1]}/watch", protocols=("kolasieve", found[2])) as socket:
+            await socket.send_str(json.dumps({"watch": title}))
+            while True:
+                await socket.receive()
+
+
+async def beside(others, measure):
+    """Returns what is measured while others are at work, a second after they have begun."""
+    tasks = [asyncio.create_task(each) for each in others]
+    await asyncio.sleep(1 if tasks else 0)
+    try:
+        return await measure
+    finally:
+        for task in tasks:
+            task.cancel()
+        await asyncio.gather(*tasks, return_exceptions=True)
+
+
+class Others(RelayCase):
+    """One client's lines, while nine sessions check the world, one reads 5,000 `%marks`, and twenty look at the page."""
+
+    words = ("--page", "0")
+
+    LINES = 2000
+
+    def measure(self, what, others):
+        times = []
+        lines = [f"%open {what}", *random_lines(what, self.LINES, 1), f"%close {what}"]
+        asyncio.run(beside(others, ask_each(self.path, "d", lines, times)))
+        times.sort()
+        print(f"| a line, {what} | {statistics.median(times) * 1e3:.2f} | {times[len(times) * 99 // 100] * 1e3:.2f} |", flush=True)
+
+    async def check_the_world(self, number):
+        lines = [f"%open w{number}"]
+        for bar in range(200):
+            lines += [f"w{number} box {bar * 9000 - 900000} -1000000 {bar * 9000 - 899999} 1000000", f"w{number} paint poly"]
+        lines += [f"w{number} box -1048576 -1048576 1048576 1048576"]
+        lines += [f"w{number} drc check", f"w{number} drc catchup"] * 1000
+        await ask_each(self.path, "w", lines, [])
+
+    async def read_marks(self):
+        lines = ["%open m"]
+        for bar in range(900):
+            lines += [f"m box {2 * bar} 0 {2 * bar + 1} 90", "m paint m1"]
+        await ask_each(self.path, "m", lines, [])
+        reader, writer = await asyncio.open_unix_connection(self.path, limit=1 << 22)
+        writer.write(b"%open l\n" + b"".join(b"l box %d 0 %d 90\nl paint m1\n" % (2 * i, 2 * i + 1) for i in range(300)))
+        writer.write(b"%marks l\n" * 5000)
+        while await reader.read(1 << 16):
+            pass
+
+    def test_others(self):
+        self.measure("alone", [])
+        world = [self.check_the_world(number) for number in range(9)]
+        watchers = [watch_the_page(self.said(), f"{OWNER}/w1") for _ in range(20)]
+        self.measure("beside", [*world, self.read_marks(), *watchers])
+
+
+class Watchers(RelayCase):
+    """Twenty watch a session of 900 squares that is edited; the same without a watcher."""
+
+    words = ("--page", "0", "--quota", "4096", "--journal", "65536")
+
+    SECONDS = 8
+
+    async def edit(self, name):
+        """Edits a session of 900 squares again and again, some forty times a second, each time once all is checked."""
+        reader, writer = await asyncio.open_unix_connection(self.path)
+
+        async def ask(*lines):
+            writer.writelines(f"{line}\n".encode() for line in lines)
+            for _ in lines:
+                await reader.readline()
+
+        try:
+            await ask(f"%open {name}")
+            for number in range(900):
+                left, bottom = number % 30 * 9, number // 30 * 9
+                await ask(f"{name} box {left} {bottom} {left + 5} {bottom + 5}", f"{name} paint m1")
+            await ask(f"{name} box 300 0 302 5")
+            while True:
+                for what in ("paint", "erase"):
+                    await ask(f"{name} {what} m1", f"{name} drc catchup")
+                    await asyncio.sleep(0.025)
+        finally:
+            writer.close()
+
+    async def measure(self):
+        """Returns how long each of many lines takes, and how much of a processor the relay has meanwhile."""
+        # By then the squares are there.
+        await asyncio.sleep(3)
+        times, before, start = [], processor_time(fields_of([self.relay.pid])), time.perf_counter()
+        while time.perf_counter() - start < self.SECONDS:
+            await ask_each(self.path, "d", ["%open d", *["d box 0 0 5 5"] * 100, "%close d"], times)
+            await asyncio.sleep(0.1)
+        return sorted(times), (processor_time(fields_of([self.relay.pid])) - before) / (time.perf_counter() - start)
+
+    def test_the_page(self):
+        for what, count in (("edited", 0), ("watched", 20)) * 3:
+            watchers = [watch_the_page(self.said(), f"{OWNER}/e") for _ in range(count)]
+            times, share = asyncio.run(beside([self.edit("e"), *watchers], self.measure()))
+            figures = f"{statistics.median(times) * 1e3:.2f} | {times[len(times) * 99 // 100] * 1e3:.2f}"
+            print(f"| a line, {what}; the relay has {share * 100:.1f} % of a processor | {figures} |", flush=True)
 
 
 if __name__ == "__main__":

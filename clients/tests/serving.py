@@ -18,6 +18,10 @@ SERVER = os.environ.get("KOLASIEVE_SERVER", str(ROOT / "crates/magicd/out/magicd
 sys.path.insert(0, str(HERE.parent))
 
 from kolasieve.lines import lines_after
+from tests.etcds import free_port
+
+# How long something is waited for that must come, in seconds: so long that it is there on a busy machine too.
+GENEROUS = 120
 
 
 class Client:
@@ -66,7 +70,8 @@ class RelayCase(unittest.TestCase):
         self.addCleanup(folder.cleanup)
         self.folder = pathlib.Path(folder.name)
         self.path = str(self.folder / "socket")
-        self.messages = open(self.folder / "messages", "w+")
+        # The relay appends to it wherever it is read.
+        self.messages = open(self.folder / "messages", "a+", encoding="utf-8")
         self.addCleanup(self.messages.close)
         self.relay = None
         self.addCleanup(self.end)
@@ -83,21 +88,43 @@ class RelayCase(unittest.TestCase):
         self.wait_for(self.path)
 
     def wait_for(self, address):
-        for _ in range(400):
+        def is_there():
+            if self.relay.poll() is not None:
+                self.fail("the relay doesn't listen: " + self.said())
             try:
                 client = Client(address)
-                # A fault, or a refused token: somebody is there.
-                replied = client.ask("?")[0] != ""
-                client.close()
-                if replied:
-                    return
+                try:
+                    # A fault, or a refused token: somebody is there.
+                    return client.ask("?")[0] != ""
+                finally:
+                    client.close()
             except OSError:
-                pass
-            if self.relay.poll() is not None:
-                break
-            time.sleep(0.05)
+                return False
+
+        self.until(is_there)
+
+    def until(self, found, pause=0.05):
+        """Returns what this finds, once it finds something."""
+        end = time.monotonic() + GENEROUS
+        while time.monotonic() < end:
+            if result := found():
+                return result
+            time.sleep(pause)
+        self.fail("it doesn't come; the relay's messages are: " + self.said())
+
+    def said(self):
+        """Returns all messages of the relay."""
         self.messages.seek(0)
-        self.fail("the relay doesn't listen: " + self.messages.read())
+        return self.messages.read()
+
+    def resumed(self, client, line):
+        """Returns the reply to this line, asked until the session isn't in use."""
+
+        def reply():
+            text = client.ask(line)[0]
+            return None if "in use" in text else text
+
+        return self.until(reply)
 
     def client(self):
         client = Client(self.path)
@@ -115,7 +142,29 @@ class RelayCase(unittest.TestCase):
     def end(self):
         if self.relay is not None and self.relay.poll() is None:
             self.relay.send_signal(signal.SIGINT)
-            self.assertEqual(self.relay.wait(30), 0)
+            self.assertEqual(self.relay.wait(GENEROUS), 0)
+
+
+class PortCase(RelayCase):
+    """A relay at a port, which wants a token."""
+
+    def command(self, *words):
+        self.token = self.folder / "token"
+        where = ["--listen", f"127.0.0.1:{self.port}", "--token", str(self.token)]
+        log = ["--log", str(self.folder / "log")] if self.log else []
+        return [str(HERE.parent / "relay"), *where, "--server", SERVER, *log, *self.words, *words]
+
+    def start(self, *words):
+        self.port = free_port()
+        self.relay = subprocess.Popen(self.command(*words), stderr=self.messages, start_new_session=True)
+        self.wait_for(("127.0.0.1", self.port))
+
+    def designer(self):
+        """Returns a connection that has shown the token."""
+        client = Client(("127.0.0.1", self.port))
+        self.addCleanup(client.close)
+        client.send(self.token.read_text().strip())
+        return client
 
 
 def programs(relay):

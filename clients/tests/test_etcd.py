@@ -1,8 +1,11 @@
 """Several relays at one etcd: nothing is lost or done twice, whatever is killed, stopped or cut off."""
 
+import getpass
+import json
 import pathlib
 import re
 import signal
+import socket
 import subprocess
 import tempfile
 import time
@@ -129,13 +132,67 @@ class SeveralRelays(EtcdCase):
         lines = ["%open a", *bars, *["a save"] * 600, *random_lines("a", 300, 5)]
         self.assertEqual(self.client(one).ask(*lines), alone(lines))
 
+    def test_rows_that_are_not_those_that_were_written(self):
+        """A row changed, and the last one gone: each is refused with its number."""
+        client = self.client(self.machine("one"))
+        etcd = self.etcds.any()
+        for name in "ab":
+            lines = [f"{name} box 0 0 1 10", f"{name} paint poly", f"{name} what"]
+            replies = client.ask(f"%open {name}", *lines, f"@leave {name}")
+            self.assertEqual(replies, [*alone([f"%open {name}", *lines]), f"{name} left"])
+        (changed,) = [about.key for _, about in etcd.get_prefix(f"{self.name}/lines/a.") if about.key.endswith(b"2")]
+        etcd.put(changed, etcd.get(changed)[0].replace(b"poly", b"ndiff"))
+        (last,) = [about.key for _, about in etcd.get_prefix(f"{self.name}/lines/b.") if about.key.endswith(b"3")]
+        etcd.delete(last)
+        self.assertEqual(client.ask("@resume a", "@resume b"), [
+            "a refused resume row 2 doesn't follow the rows before it",
+            "b refused resume behind row 2 rows are missing",
+        ])
+
+    def test_a_log_of_before_there_were_hashes(self):
+        """It is taken over: its rows count, and are chained from then on."""
+        etcd = self.etcds.any()
+        etcd.put(f"{self.name}/options", "--live")
+        owner = f"{getpass.getuser()}@{socket.gethostname()}"
+        etcd.put(f"{self.name}/open/a", json.dumps({"id": "a.0", "owner": owner, "opened": 1.0}))
+        for number, line in ((1, "box 0 0 1 10"), (3, "paint poly")):
+            etcd.put(f"{self.name}/lines/a.0/{number:010d}", f"1732.123 a {line}\na ok\n")
+        one = self.machine("one")
+        client = self.client(one)
+        self.assertEqual(client.ask("@resume a", "a what", "@leave a"), ["a resumed 3", "a what 1 poly", "a left"])
+        key = f"{self.name}/lines/a.0/{1:010d}"
+        etcd.put(key, etcd.get(key)[0].replace(b"10\n", b"20\n"))
+        self.assertEqual(client.ask("@resume a"), ["a refused resume row 4 doesn't follow the rows before it"])
+        etcd.put(key, etcd.get(key)[0].replace(b"20\n", b"10\n"))
+        self.assertEqual(client.ask("@resume a", "@undo a 3"), ["a resumed 4", "a undone 3: a paint poly"])
+
+    def test_a_checkpoint_and_a_cell_of_another_relay(self):
+        """Texts come in pieces, and a cell is there at each relay from the next line that names it."""
+        one, two = self.machine("one"), self.machine("two")
+        bar = self.folder / "bar.mag"
+        # A piece has half a megabyte.
+        bar.write_text("magic\n<< m1 >>\n" + "rect 0 0 3 9\n" * 100000 + "<< end >>\n")
+        client, other = self.client(one), self.client(two)
+        other.ask("%open b")
+        self.assertEqual(client.ask("%open a", f"@load bar {bar}", "a dump bar 0 0", "a box 0 0 2 20", "a paint poly"), [
+            "a opened", "@ loaded bar", "a ok", "a ok", "a ok",
+        ])
+        self.assertEqual(other.ask("b getcell bar 5 5", "b getcell foo 5 5"), ["b ok", "b refused 7 unknown cell"])
+        self.assertRegex(client.ask("@compact a")[0], "a compacted ")
+        saved = client.ask("%save a")
+        client.close()
+        self.assertEqual(self.resumed(other, "@resume a"), "a resumed 4")
+        self.assertEqual(other.ask("%save a", "@undo a 3", "a what", f"@load bar {bar}"), [
+            *saved, "a undone 3: a paint poly", "a what 1 m1", "@ refused load bar: name twice",
+        ])
+
     def test_other_options(self):
         self.machine("one")
         where = ["--socket", str(self.folder / "x"), "--log", self.etcds.log(name=self.name)]
         command = [HERE.parent / "relay", *where, "--quota", "99"]
         refused = subprocess.run(command, stderr=subprocess.PIPE, text=True, timeout=30, check=False)
         self.assertEqual(refused.returncode, 1)
-        self.assertIn("the log is of a server with other options", refused.stderr)
+        self.assertIn("it is of a server with other options", refused.stderr)
 
     def test_a_relay_that_was_stopped(self):
         """It can add nothing to a session that another has taken, nor has it a look at it.

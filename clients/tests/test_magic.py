@@ -1,49 +1,222 @@
-"""Two Magics at one relay: each paints, and sees its own marks and nobody else's."""
+"""Magic's own window, painted in with the mouse and by keys: the server has what it holds, and it shows what is forbidden."""
 
-import shutil
-import socket
-import subprocess
-import unittest
+import pathlib
+import random
 
-from tests.serving import HERE, SERVER, RelayCase
+from tests.followed import ServedCase
+from tests.magics import violations_by_magic
+from tests.serving import SERVER
+from tests.windows import Window, needs_window
+
+from kolasieve.check import Check
+from kolasieve.edges import LESS
+from kolasieve.flat import flattened
+from kolasieve.hierarchy import Library
+
+# What the file puts in the place of signs that Magic substitutes in the text of feedback.
+PLAIN = str.maketrans({"[": "(", "]": ")", "{": "(", "}": ")", "$": None, "\\": "/", '"': "'", ";": ","})
+
+# Where blocks of layers lie that the mouse paints with.
+PALETTE = ["polysilicon", "ndiffusion", "pdiffusion", "metal1", "metal2", "pwell", "polycontact", "ndcontact", "m2contact"]
+BLOCK = 10
 
 
+class MagicCase(ServedCase):
+    def setUp(self):
+        super().setUp()
+        self.window = Window(self, self.process.path)
+        self.window.tell("drc off")
 
-@unittest.skipUnless(shutil.which("magic"), "magic isn't installed")
-class Magic(RelayCase):
-    log = True
+    def connect(self, name="ben", *words):
+        self.window.tell(" ".join(["kolasieve", "connect", str(self.address), name, *words]))
 
-    def start(self):
-        probe = socket.socket()
-        probe.bind(("127.0.0.1", 0))
-        self.port = probe.getsockname()[1]
-        probe.close()
-        words = [
-            str(HERE.parent / "relay"), "--listen", f"127.0.0.1:{self.port}", "--token", str(self.folder / "token"),
-            "--server", SERVER, "--log", str(self.folder / "log"),
-        ]
-        self.relay = subprocess.Popen(words, stderr=self.messages, start_new_session=True)
-        self.wait_for(("127.0.0.1", self.port))
+    def written(self, cell):
+        """Has Magic write the cell that the window shows, and returns its file."""
+        path = self.window.tell(f"::magic::*bypass writeall force {cell}; ::magic::*bypass cellname list filepath {cell}")
+        return self.folder / f"{pathlib.Path(cell if path == 'default' else path).name}.mag"
 
-    def magic(self, name, *commands):
-        """Starts a Magic that connects as this session, and takes these commands."""
-        script = "\n".join([
-            f"source {HERE.parent / 'magic.tcl'}", f"kolasieve connect 127.0.0.1:{self.port} {name} {self.folder / 'token'}",
-            *commands, "quit -noprompt", "",
-        ])
-        return subprocess.Popen(
-            ["magic", "-dnull", "-noconsole", "-T", "scmos"], stdin=subprocess.PIPE, stdout=subprocess.PIPE,
-            stderr=subprocess.STDOUT, text=True, cwd=self.folder,
-        ), script
+    def is_followed(self, cell, session):
+        """Returns whether the sessions show what Magic has in a cell, and the window all that is forbidden there."""
+        path = self.written(cell)
+        if self.squares(session) != self.told(flattened(Library(self.process, str(path)))):
+            return False
+        if path.read_text() != getattr(self, "checked", None):
+            self.checked = path.read_text()
+            report = Check(self.process, SERVER, lambda text: None).report(str(path))
+            self.forbidden = {each.text.translate(PLAIN): sorted(each.strips) for each in report.violations}
+        return self.window.marks() == self.forbidden
 
-    def test_two_magics(self):
-        one, other = (
-            self.magic("one", "box 0i 0i 1i 10i", "paint poly", "kolasieve marks", "puts \"marks: [feedback why]\"", "feedback count"),
-            self.magic("other", "box 0i 0i 4i 10i", "paint poly", "erase m1", "undo", "kolasieve marks"),
-        )
-        said = [magic.communicate(script, timeout=60)[0] for magic, script in (one, other)]
-        self.assertIn("kolasieve: one opened", said[0])
-        self.assertIn("kolasieve: 1 strips of marked squares", said[0])
-        self.assertIn("kolasieve: other opened", said[1])
-        self.assertIn("kolasieve: 0 strips of marked squares", said[1])
-        self.assertIn("kolasieve: undo isn't sent", said[1])
+    def follow(self, cell="top", session="ben_top"):
+        self.until(lambda: self.is_followed(cell, session), 0.25)
+
+
+@needs_window
+class Painting(MagicCase):
+    COUNT = 50
+
+    def click_box(self, dice):
+        """Sets the box with the mouse."""
+        left, bottom = dice.randrange(50), dice.randrange(50)
+        self.window.click(1, left, bottom)
+        self.window.click(3, left + dice.randrange(1, 16), bottom + dice.randrange(1, 16))
+
+    def on_palette(self, dice):
+        place = dice.randrange(len(PALETTE))
+        return place * BLOCK + BLOCK / 2, 70 + BLOCK / 2
+
+    def act(self, dice):
+        """Does something with the mouse, by keys or by a command; returns what it was."""
+        kind = dice.choice(["paint"] * 8 + ["erase", "keys", "keys", "keys", "select", "select", "select", "command", "command"])
+        if kind == "keys":
+            key = dice.choice(["u", "u", "U"])
+            self.window.mouse("key", key)
+            return key
+        self.click_box(dice)
+        if kind == "paint":
+            self.window.click(2, *self.on_palette(dice))
+        elif kind == "erase":
+            self.window.click(2, *self.on_palette(dice), "shift")
+        elif kind == "select":
+            key = dice.choice(["m", "c", "M", "d", "r", "f", "F"])
+            self.window.mouse("key", "a")
+            x, y = self.window.pixel(dice.randrange(50), dice.randrange(50))
+            self.window.mouse("mousemove", x, y, "key", key)
+            return key
+        else:
+            x, y = dice.randrange(40), dice.randrange(40)
+            command = dice.choice([
+                "paint ndc", "paint pc", "paint poly,m1", "fill right", "fill up m1", "erase m1,poly", "label here", "erase *",
+                f"polygon m1 {x} {y} {x + 12} {y} {x + 12} {y + 9} {x + 6} {y + 9} {x + 6} {y + 4} {x} {y + 4}",
+                f"wire segment poly 2 {x} {y} {x + 12} {y} {x + 12} {y + 9}", "straighten l",
+            ])
+            self.window.tell(command)
+            return command
+        return kind
+
+    def test_random_actions(self):
+        self.window.tell("load top")
+        for place, layer in enumerate(PALETTE):
+            self.window.tell(f"box values {place * BLOCK} 70 {place * BLOCK + BLOCK - 2} 78; paint {layer}")
+        self.connect()
+        self.follow()
+        self.window.show(-2, -2, 92, 82)
+        dice, done = random.Random(1), []
+        for _ in range(self.COUNT):
+            done.append(self.act(dice))
+            try:
+                self.follow()
+            except AssertionError as fault:
+                raise AssertionError(f"after {done}; Magic has said {self.window.said}") from fault
+        path = str(self.written("top"))
+        less = {remark["line"] for remark in self.process.remarks if remark["side"] == LESS}
+        missed = {rule.why for group in self.process.groups for rule in group.rules if rule.line in less}
+        by_magic = set(violations_by_magic(self.folder, [path], self.process.path)[path]) - missed
+        self.assertEqual({text.translate(PLAIN) for text in by_magic} - set(self.forbidden), set())
+
+
+class PaintingOnManyPlanes(Painting):
+    """The same where a process has six groups."""
+
+    technology = "SCN4M_SUBM.20"
+    COUNT = 20
+
+
+@needs_window
+class Asking(MagicCase):
+    """What the designer asks for, and a layout that was edited while nobody followed it."""
+
+    WIDTH = "Polysilicon width must be at least 2 (MOSIS rule #3.1)"
+
+    def setUp(self):
+        super().setUp()
+        self.end()
+        self.words = ("--log", str(self.folder / "log"))
+        self.serve()
+
+    def test_words(self):
+        self.window.tell("load top; box values 0 0 1 20; paint poly")
+        self.connect()
+        self.follow()
+        self.window.said = []
+        self.window.tell("kolasieve list; kolasieve next; kolasieve why")
+        self.assertEqual(self.window.said, [f"1 strips: {self.WIDTH}", f"1 of 1: {self.WIDTH}", self.WIDTH])
+        self.assertEqual(self.window.tell("box values"), "1 0 2 20")
+        self.window.tell("box values 40 0 42 9; kolasieve why; paint m1")
+        self.assertEqual(self.window.said[-1], "nothing is forbidden in the box")
+        self.follow()
+        self.window.tell("kolasieve undo")
+        self.until(lambda: "metal1" not in self.written("top").read_text(), 0.25)
+        self.follow()
+        self.window.tell("kolasieve leave; box values 0 0 1 20; erase poly; box values 60 0 61 9; paint poly")
+        self.connect()
+        self.window.says("the window and the server differ")
+        self.window.tell("box values 80 0 81 9; paint poly; kolasieve fetch")
+        self.window.says("as the server has them")
+        self.follow()
+        self.assertRegex(self.written("top").read_text(), "<< polysilicon >>\nrect 0 0 1 20\nrect 80 0 81 9\n<<")
+
+
+@needs_window
+class OtherCells(MagicCase):
+    def test_cells_scales_and_restarts(self):
+        self.window.tell("load top; box values 0 0 1 20; paint poly; feedback add {of the designer} pale 50 50 60 60")
+        self.connect("none")
+        self.connect("ben")
+        self.follow()
+        self.window.said = []
+        self.connect_to_nothing()
+        self.connect("ben")
+        self.follow()
+        self.stays_as_it_was()
+        self.window.tell("load next; box values 0 0 2 9; paint m1")
+        self.follow("next", "ben_next")
+        self.window.tell("cellname rename next renamed; box values 20 0 22 9; paint m2")
+        self.follow("renamed", "ben_renamed")
+        self.window.tell("load top")
+        self.follow()
+        self.window.tell("scalegrid 1 2; box values 0i 0i 3i 3i; paint m1")
+        self.window.says("lambda is 2 squares in this window, and 1 of the server")
+        self.window.tell("undo; box values 40i 0i 44i 8i; paint m1")
+        self.follow_in_halves()
+        self.end()
+        self.window.tell("box values 20l 0l 21l 20l; paint poly")
+        self.window.says("the server can't be reached")
+        self.serve()
+        self.follow_in_halves()
+        self.use_cells()
+        self.window.tell("kolasieve leave")
+        self.until(lambda: self.squares("ben_user") == [None, None])
+        self.assertEqual(self.window.tell("feedback count"), "1")
+
+    def stays_as_it_was(self):
+        """Looks at the window change nothing of it: neither selection nor box, nor what undo takes back."""
+        asked = "list [what -list] [box values] [cellname list modified] [cellname list self]"
+        self.window.tell("box values 30 0 33 9; paint m2; box values 0 0 5 5; select area; box values 1 2 3 4")
+        before = self.window.tell(asked)
+        self.assertIn("polysilicon", before)
+        self.until(lambda: self.squares("ben_top") == self.told({"polysilicon": [(0, 0, 1, 20)], "metal2": [(30, 0, 33, 9)]}))
+        self.window.tell("::kolasieve::look; ::kolasieve::look")
+        self.assertEqual(self.window.tell(asked), before)
+        self.window.tell("select clear; box values 30 0 33 9; erase m2; undo; erase m2")
+        self.until(lambda: self.squares("ben_top") == self.told({"polysilicon": [(0, 0, 1, 20)]}))
+
+    def connect_to_nothing(self):
+        self.window.tell(f"kolasieve connect {self.folder}/nothing ben")
+        self.window.says("nothing: No such file or directory")
+        self.assertRaisesRegex(RuntimeError, "no cell is followed", self.window.tell, "kolasieve leave")
+
+    def follow_in_halves(self):
+        """The window's numbers are halves of lambda; those of the server and of files are whole."""
+        self.window.marks = lambda marks=self.window.marks: {
+            text: [tuple(at // 2 for at in box) for box in boxes] for text, boxes in marks().items()
+        }
+        self.follow()
+        del self.window.marks
+
+    def use_cells(self):
+        """A cell is used by another one, and edited in place."""
+        self.window.tell("scalegrid 2 1; load part; box values 0 0 2 9; paint poly; load user; box values 10 0 12 9; getcell part")
+        self.until(lambda: self.squares("ben_user") == self.told({"polysilicon": [(10, 0, 12, 9)]}))
+        self.window.tell("select cell part_0; edit; box values 11 0 12 9; erase poly")
+        self.until(lambda: self.squares("ben_user") == self.told({"polysilicon": [(10, 0, 11, 9)]}))
+        self.until(lambda: "(MOSIS rule #3.1)" in str(self.window.marks()))

@@ -6,9 +6,8 @@ import socket
 import stat
 import subprocess
 import threading
-import time
 
-from tests.serving import HERE, SERVER, Client, RelayCase, alone, random_lines
+from tests.serving import HERE, Client, PortCase, RelayCase, alone, random_lines
 
 
 def unnumbered(replies):
@@ -50,13 +49,11 @@ class ManyConnections(RelayCase):
         one.ask("%open a")
         one.close()
         other = self.client()
-        for _ in range(100):
-            if other.ask("%open a") == ["a opened"]:
-                return
-            time.sleep(0.05)
-        self.fail("the name is still taken")
+        self.until(lambda: other.ask("%open a") == ["a opened"])
 
     def test_a_second_server_where_one_is_full(self):
+        self.end()
+        self.start("--sessions-each", "100")
         client = self.client()
         self.assertEqual(client.ask(*(f"%open s{i}" for i in range(70))), [f"s{i} opened" for i in range(70)])
 
@@ -101,7 +98,8 @@ class ManyConnections(RelayCase):
 
     def test_a_second_relay_at_the_socket(self):
         second = subprocess.run(self.command(), stderr=subprocess.PIPE, text=True, timeout=20)
-        self.assertEqual((second.returncode, second.stderr), (1, f"relay: {self.path}: another relay listens there\n"))
+        self.assertEqual(second.returncode, 1)
+        self.assertRegex(second.stderr, rf"\A[-0-9]+ [:0-9]+ ERROR relay: {self.path}: another relay listens there\n\Z")
 
     def test_a_stale_socket(self):
         self.kill()
@@ -116,17 +114,7 @@ class ManyConnections(RelayCase):
         self.assertIn("magicd doesn't start", refused.stderr)
 
 
-class Ports(RelayCase):
-    def start(self):
-        probe = socket.socket()
-        probe.bind(("127.0.0.1", 0))
-        self.port = probe.getsockname()[1]
-        probe.close()
-        self.token = self.folder / "token"
-        words = [str(HERE.parent / "relay"), "--listen", f"127.0.0.1:{self.port}", "--token", str(self.token), "--server", SERVER]
-        self.relay = subprocess.Popen(words, stderr=self.messages, start_new_session=True)
-        self.wait_for(("127.0.0.1", self.port))
-
+class Ports(PortCase):
     def test_the_token_opens(self):
         self.assertEqual(stat.S_IMODE(os.stat(self.token).st_mode), 0o600)
         right, wrong = (Client(("127.0.0.1", self.port)) for _ in range(2))
@@ -141,7 +129,7 @@ class Ports(RelayCase):
         words = [str(HERE.parent / "relay"), "--listen", f"127.0.0.1:{self.port}", "--token", str(self.folder / "other")]
         second = subprocess.run(words, stderr=subprocess.PIPE, text=True, timeout=20)
         self.assertEqual(second.returncode, 1)
-        self.assertIn("address already in use", second.stderr)
+        self.assertIn(f"127.0.0.1:{self.port}: Address already in use", second.stderr)
 
     def test_another_address(self):
         words = [str(HERE.parent / "relay"), "--listen", "0.0.0.0:7777"]

@@ -34,6 +34,45 @@ class View(unittest.TestCase):
         legend = [each.text for each in tree.findall("s:text", spaces)]
         self.assertEqual(legend, ["poly", "m1", "marks (1 strips)", "unchecked (1 areas)", "5 squares"])
 
+    def test_what_rules_forbid_is_listed(self):
+        *_, errors, violations = alone([*BAR[:4], "%errors a 0 0 5 5", "%violations a 0 0 5 5"])
+        with tempfile.NamedTemporaryFile(suffix=".txt") as file:
+            file.write(f"{violations}\n".encode())
+            file.flush()
+            out = self.view(errors.split("\n", 1)[1] + "\n", "--violations", file.name).stdout
+        legend = [each.text for each in xml.etree.ElementTree.fromstring(out).findall("{http://www.w3.org/2000/svg}text")]
+        self.assertEqual(legend[:-1], ["marks (1 strips)", "unchecked (0 areas)", "[1] poly width (1 strips)"])
+        for other, fault in ((HERE / "none", "No such file or directory"), (HERE / "test_view.py", "no reply to %violations")):
+            out = self.view(marks(), "--violations", other)
+            self.assertEqual((out.returncode, out.stderr), (1, f"view: {other}: {fault}\n"))
+
+    def test_nothing_is_read_beyond_the_end(self):
+        more = marks() + "rect 500 500 900 900\n<< m1 >>\nrect 500 500 900 900\n"
+        first, second = (
+            subprocess.run([HERE.parent / "view", "-"], input=text, capture_output=True, text=True, check=True).stdout
+            for text in (marks(), more)
+        )
+        self.assertEqual(first, second)
+
+    def test_help(self):
+        out = subprocess.run([HERE.parent / "view", "--help"], capture_output=True, text=True, check=True).stdout
+        self.assertIn("the text of `%marks`, `%errors` or `save`", out)
+
+    def view(self, text, *words):
+        return subprocess.run([HERE.parent / "view", *words, "-"], input=text, capture_output=True, text=True, check=False)
+
+    def test_sizes_that_none_can_draw(self):
+        for width in ("0", "-5", "1000000000", "x"):
+            self.assertEqual(self.view(marks(), "--width", width).returncode, 2)
+        out = self.view("magic\ntech m\ntimestamp 0\n<< poly >>\nrect 0 0 99999999999 1\n<< end >>\n")
+        self.assertEqual((out.returncode, out.stderr), (1, "view: -: a rectangle beyond 2147483648\n"))
+
+    def test_quotes(self):
+        name = "\"'<&>"
+        out = self.view(f"magic\ntech m\ntimestamp 0\n<< {name} >>\nrect 0 0 1 1\n<< end >>\n").stdout
+        layers = [each.get("data-layer") for each in xml.etree.ElementTree.fromstring(out).iter() if each.get("data-layer")]
+        self.assertEqual(layers, [name])
+
     def test_a_file_that_is_none(self):
         for text, fault in (("", "the first line isn't `magic`"), ("magic\nrect 0 0 1 1\n", "line 2: a rectangle outside sections")):
             out = subprocess.run([HERE.parent / "view", "-"], input=text, capture_output=True, text=True, check=False)
@@ -56,7 +95,7 @@ class View(unittest.TestCase):
                     "    print(layout.get_info(index).name, round(region.area() * layout.dbu * layout.dbu))\n"
                 )
             out = subprocess.run(
-                ["klayout", "-b", "-r", f"{folder}/count.py"], capture_output=True, text=True, check=True, timeout=60
+                ["klayout", "-b", "-r", f"{folder}/count.py"], capture_output=True, text=True, check=True, timeout=600
             ).stdout
         areas = dict(line.rsplit(" ", 1) for line in out.splitlines() if " " in line)
         self.assertEqual((areas["poly"], areas["m1"], areas["error_p"]), ("10", "100", "10"))

@@ -138,7 +138,7 @@ lay-none old stacks r c =
     ∙ or-false (has_column old r c))
 
 -- ---- without columns
-zero-row : (n r c : ℕ) → has_column (replicate n 0) r c ≡ false
+pub zero-row : (n r c : ℕ) → has_column (replicate n 0) r c ≡ false
 zero-row n r c = elim (cases_lt r n) [
   | inl below ↦ ap (λ k. has_bit k c) (get_or-replicate n r 0 0 below) ∙ has_bit-zero c
   | inr above ↦ ap (λ k. has_bit k c) (get_or_past (replicate n 0) r 0 (omega (arith, length-replicate {A = ℕ} n 0))) ∙ has_bit-zero c

@@ -67,7 +67,7 @@ pub(crate) fn list_sides(rules: &[EdgeRule], snapshot: &Snapshot) -> Vec<SideLis
 }
 
 /// Lists the sides that the rule looks at, where they aren't listed yet.
-fn add_lists(
+pub(crate) fn add_lists(
     lists: &mut Vec<SideList>,
     rule: &EdgeRule,
     snapshot: &Snapshot,

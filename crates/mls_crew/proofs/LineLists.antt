@@ -4,9 +4,9 @@ use Rattle.std.proofs.lemmas.List.{map-append}
 use Rattle.std.proofs.lemmas.List.Elements.{filter-append}
 use Rattle.std.proofs.lemmas.Bool.Decides.{nat_tests}
 use Rattle.std.specs.List.{filter}
-use Rattle.mls_session.specs.OwnSteps.{Terms}
-use Rattle.mls_session.specs.declared.journal.Said.{Said}
-use Rattle.mls_wire.specs.NameBooks.{Names}
+use Rattle.mls_seat_lines.specs.mls_session.OwnSteps.{Terms}
+use Rattle.mls_seat_lines.specs.mls_session.declared.journal.Said.{Said}
+use Rattle.mls_seat_lines.specs.mls_wire.NameBooks.{Names}
 use Rattle.mls_seat_lines.specs.SeatLines.{SaysLine}
 use Rattle.mls_crew.specs.Groups.{SaysLines, lines_handed}
 use Rattle.mls_crew.specs.declared.handed.Handed.{Handed}

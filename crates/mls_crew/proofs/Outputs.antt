@@ -1,17 +1,17 @@
 -- What is written to a script, by cases on whether its bytes are known.
 use Rattle.std.proofs.Common.{◌≡◌, ℕ, Bool, Option, Some, None, Result, List, refl, subst}
 use Rattle.std.specs.Io.KnownBytes.{Appends}
-use Rattle.mls_server.specs.Settings.{terms_for}
-use Rattle.mls_server.specs.Worlds.{World}
-use Rattle.mls_wire.specs.Ahead.{SaysScript, StopsReading}
-use Rattle.mls_wire.specs.Lines.{script_of}
-use Rattle.mls_wire.specs.NameBooks.{book_of}
-use Rattle.mls_wire.specs.Serving.{AppendsFront}
-use Rattle.mls_wire.specs.Watches.{Watched}
-use Rattle.mls_wire.specs.declared.line.Line.{Line}
-use Rattle.mls_wire.specs.declared.line.LineFault.{LineFault}
-use Rattle.mls_wire.specs.declared.serving.ServeFault.{ServeFault}
-use Rattle.mls_wire.specs.declared.serving.ServeFault.TheVariants.{Read, Write, Memory}
+use Rattle.mls_seat_lines.specs.mls_server.Settings.{terms_for}
+use Rattle.mls_seat_lines.specs.mls_server.Worlds.{World}
+use Rattle.mls_seat_lines.specs.mls_wire.Ahead.{SaysScript, StopsReading}
+use Rattle.mls_seat_lines.specs.mls_wire.Lines.{script_of}
+use Rattle.mls_seat_lines.specs.mls_wire.NameBooks.{book_of}
+use Rattle.mls_seat_lines.specs.mls_wire.Serving.{AppendsFront}
+use Rattle.mls_seat_lines.specs.mls_wire.Watches.{Watched}
+use Rattle.mls_seat_lines.specs.mls_wire.declared.line.Line.{Line}
+use Rattle.mls_seat_lines.specs.mls_wire.declared.line.LineFault.{LineFault}
+use Rattle.mls_seat_lines.specs.mls_wire.declared.serving.ServeFault.{ServeFault}
+use Rattle.mls_seat_lines.specs.mls_wire.declared.serving.ServeFault.TheVariants.{Read, Write, Memory}
 use Rattle.mls_seat_lines.specs.Glossaries.{book_in, glossary_of}
 use Rattle.mls_crew.specs.Scripts.{FailsCrew, GivesLines, GivesScript, WritesCrew, WritesFront}
 

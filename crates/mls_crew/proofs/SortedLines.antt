@@ -1,8 +1,8 @@
 -- Lines that are sorted, one more at a time.
 use Rattle.std.proofs.Common.{Option, Some, None, is_some, false, ◌≡◌, ◌++◌, ◌+◌, ◌<◌, ℕ, suc, Result, List, [], ◌∷◌, get_or, length, length-take, take, take-suc, add-zero, append-nil, append_assoc, refl, sym, ap, ◌∙◌, subst, arith}
-use Rattle.mls_wire.specs.NameBooks.{Names}
-use Rattle.mls_wire.specs.declared.line.Line.{Line}
-use Rattle.mls_wire.specs.declared.line.LineFault.{LineFault}
+use Rattle.mls_seat_lines.specs.mls_wire.NameBooks.{Names}
+use Rattle.mls_seat_lines.specs.mls_wire.declared.line.Line.{Line}
+use Rattle.mls_seat_lines.specs.mls_wire.declared.line.LineFault.{LineFault}
 use Rattle.mls_crew.specs.Sorting.{Sorted, Sorts, SortsLine, followed_by}
 use Rattle.mls_crew.specs.declared.handed.Handed.{Handed}
 

@@ -1,12 +1,12 @@
 -- What the lines of a session give at its seat, whatever the other threads do meanwhile. This project's own.
 use Rattle.std.specs.Prelude.{◌≡◌, ◌==◌, ℕ, Bool, true, List, [], ◌∷◌, ◌++◌, map, Ok}
 use Rattle.std.specs.List.{filter}
-use Rattle.mls_session.specs.OwnSteps.{Terms}
-use Rattle.mls_session.specs.declared.journal.Said.{Said}
-use Rattle.mls_server.specs.LegalLists.{IsLegalList}
-use Rattle.mls_server.specs.declared.answer.Answer.TheVariants.{Opened}
-use Rattle.mls_wire.specs.NameBooks.{Names}
-use Rattle.mls_wire.specs.Replies.{answer_text}
+use Rattle.mls_seat_lines.specs.mls_session.OwnSteps.{Terms}
+use Rattle.mls_seat_lines.specs.mls_session.declared.journal.Said.{Said}
+use Rattle.mls_seat_lines.specs.mls_server.LegalLists.{IsLegalList}
+use Rattle.mls_seat_lines.specs.mls_server.declared.answer.Answer.TheVariants.{Opened}
+use Rattle.mls_seat_lines.specs.mls_wire.NameBooks.{Names}
+use Rattle.mls_seat_lines.specs.mls_wire.Replies.{answer_text}
 use Rattle.mls_seat_lines.specs.SeatLines.{SaysLine}
 use Rattle.mls_seat_lines.specs.declared.seat_line.SeatLine.{SeatLine}
 use Rattle.mls_crew.specs.declared.handed.Handed.{Handed}

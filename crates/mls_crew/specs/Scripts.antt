@@ -1,18 +1,18 @@
 -- What a script with workers writes. This project's own.
 use Rattle.std.specs.Prelude.{◌≡◌, ℕ, ◌<◌, Bool, false, Result, Option, Some, None, List, [], ◌++◌, length, map, slice_index_or, ⊤}
 use Rattle.std.specs.List.{flat_map, list_all}
-use Rattle.mls_session.specs.OwnSteps.{Terms}
-use Rattle.mls_server.specs.Settings.{terms_for}
-use Rattle.mls_server.specs.Worlds.{World}
-use Rattle.mls_wire.specs.Lines.{script_of}
-use Rattle.mls_wire.specs.NameBooks.{Names, book_of}
-use Rattle.mls_wire.specs.Ahead.{ahead_says}
-use Rattle.mls_wire.specs.Serving.{AppendsFront, Gains}
-use Rattle.mls_wire.specs.Watches.{HasCause, Watched}
-use Rattle.mls_wire.specs.declared.line.Line.{Line}
-use Rattle.mls_wire.specs.declared.line.LineFault.{LineFault}
-use Rattle.mls_wire.specs.declared.serving.ServeFault.{ServeFault}
-use Rattle.mls_wire.specs.declared.serving.ServeFault.TheVariants.{Read, Write, Memory}
+use Rattle.mls_seat_lines.specs.mls_session.OwnSteps.{Terms}
+use Rattle.mls_seat_lines.specs.mls_server.Settings.{terms_for}
+use Rattle.mls_seat_lines.specs.mls_server.Worlds.{World}
+use Rattle.mls_seat_lines.specs.mls_wire.Lines.{script_of}
+use Rattle.mls_seat_lines.specs.mls_wire.NameBooks.{Names, book_of}
+use Rattle.mls_seat_lines.specs.mls_wire.Ahead.{ahead_says}
+use Rattle.mls_seat_lines.specs.mls_wire.Serving.{AppendsFront, Gains}
+use Rattle.mls_seat_lines.specs.mls_wire.Watches.{HasCause, Watched}
+use Rattle.mls_seat_lines.specs.mls_wire.declared.line.Line.{Line}
+use Rattle.mls_seat_lines.specs.mls_wire.declared.line.LineFault.{LineFault}
+use Rattle.mls_seat_lines.specs.mls_wire.declared.serving.ServeFault.{ServeFault}
+use Rattle.mls_seat_lines.specs.mls_wire.declared.serving.ServeFault.TheVariants.{Read, Write, Memory}
 use Rattle.mls_seat_lines.specs.Glossaries.{book_in, glossary_of}
 use Rattle.mls_crew.specs.Groups.{GivesGroup, GroupText, lines_handed}
 use Rattle.mls_crew.specs.Sorting.{Sorted, Sorts}

@@ -1,17 +1,17 @@
 -- Which lines of a script have replies at once, and which are handed to a session. This project's own.
 use Rattle.std.specs.Prelude.{◌≡◌, ◌⊎◌, ℕ, ◌+◌, Option, Some, None, Result, Ok, Err, List, [], ◌∷◌, ◌++◌}
 use Rattle.std.specs.List.{position}
-use Rattle.mls_server.specs.declared.answer.Answer.TheVariants.{Opened}
-use Rattle.mls_server.specs.declared.fault.OpenFault.{OpenFault}
-use Rattle.mls_server.specs.declared.fault.OpenFault.TheVariants.{OpenAlready}
+use Rattle.mls_seat_lines.specs.mls_server.declared.answer.Answer.TheVariants.{Opened}
+use Rattle.mls_seat_lines.specs.mls_server.declared.fault.OpenFault.{OpenFault}
+use Rattle.mls_seat_lines.specs.mls_server.declared.fault.OpenFault.TheVariants.{OpenAlready}
 use Rattle.mls_text.specs.Words.{same_word}
-use Rattle.mls_wire.specs.NameBooks.{Names}
-use Rattle.mls_wire.specs.Replies.{response_text}
-use Rattle.mls_wire.specs.declared.line.Line.{Line}
-use Rattle.mls_wire.specs.declared.line.Line.TheVariants.{Silent, Open, Close, Step, Steps, Audit, Look, Run}
-use Rattle.mls_wire.specs.declared.line.LineFault.{LineFault}
-use Rattle.mls_wire.specs.declared.line.LineFault.TheVariants.{NotOpen, UnknownCommand}
-use Rattle.mls_wire.specs.declared.response.Response.TheVariants.{Answered, Fault}
+use Rattle.mls_seat_lines.specs.mls_wire.NameBooks.{Names}
+use Rattle.mls_seat_lines.specs.mls_wire.Replies.{response_text}
+use Rattle.mls_seat_lines.specs.mls_wire.declared.line.Line.{Line}
+use Rattle.mls_seat_lines.specs.mls_wire.declared.line.Line.TheVariants.{Silent, Open, Close, Step, Steps, Audit, Look, Run}
+use Rattle.mls_seat_lines.specs.mls_wire.declared.line.LineFault.{LineFault}
+use Rattle.mls_seat_lines.specs.mls_wire.declared.line.LineFault.TheVariants.{NotOpen, UnknownCommand}
+use Rattle.mls_seat_lines.specs.mls_wire.declared.response.Response.TheVariants.{Answered, Fault}
 use Rattle.mls_crew.specs.declared.handed.Handed.{Handed}
 use Rattle.mls_seat_lines.specs.declared.seat_line.SeatLine.{SeatLine}
 use Rattle.mls_seat_lines.specs.declared.seat_line.SeatLine.TheVariants.{Audit as AuditLine, Look as LookLine, Run as RunLine}

@@ -1,8 +1,8 @@
 //! A server and its workers.
 ghost use Rattle.std.specs.Prelude.{◌≡◌, ◌++◌, [], false, IfOk, IfErr};
 ghost use Rattle.std.specs.List.{flat_map, list_all};
-ghost use Rattle.mls_server.specs.Servers.{world_of};
-ghost use Rattle.mls_server.specs.Settings.{terms_for};
+ghost use Rattle.mls_seat_lines.specs.mls_server.Servers.{world_of};
+ghost use Rattle.mls_seat_lines.specs.mls_server.Settings.{terms_for};
 ghost use Rattle.mls_seat_lines.specs.Glossaries.{book_in, glossary_of};
 ghost use Rattle.mls_crew.specs.Scripts.{FailsCrew, GivesLines, WritesCrew};
 
@@ -10,11 +10,11 @@ use crate::sorting::{Desk, sort};
 use crate::speaking::{GroupText, Part};
 use crate::threads::say_groups;
 use crossbeam_channel::{Receiver, unbounded};
-use mls_live::{Live, Naming};
-use mls_seat_lines::Glossary;
-use mls_server::{Server, SessionId};
+use mls_seat_lines::{
+    Glossary, Line, LineFault, Live, Naming, ServeFault, Server, SessionId, Watched, read_script,
+    send,
+};
 use mls_tech::Tech;
-use mls_wire::{Line, LineFault, ServeFault, Watched, read_script, send};
 use std::alloc::{AllocError, Global};
 use std::io::{Read, Write};
 use std::marker::Brand;

@@ -1,16 +1,16 @@
 //! Which lines of a script have their replies at once, and which are handed to a session.
 ghost use Rattle.std.specs.Prelude.{◌≡◌, ◌+◌, ◌<◌, [], IfOk, Ok, OnOk, length, slice_index_or, vec_len};
-ghost use Rattle.mls_live.specs.Lists.{list_of};
+ghost use Rattle.mls_seat_lines.specs.mls_live.Lists.{list_of};
 ghost use Rattle.mls_seat_lines.specs.Glossaries.{book_in};
 ghost use Rattle.mls_crew.specs.Sorting.{SortsOpening, Sorts, SortsLine, followed_by, at_once, faulty, handed_to, number_of_session};
-ghost use Rattle.mls_wire.specs.Replies.{response_text};
+ghost use Rattle.mls_seat_lines.specs.mls_wire.Replies.{response_text};
 
 use crate::Handed;
 use crossbeam_channel::Sender;
-use mls_live::{Live, Naming, Seat};
-use mls_seat_lines::{Glossary, SeatLine};
-use mls_server::{Answer, Name, OpenFault, SessionId};
-use mls_wire::{Line, LineFault, Response, push_response};
+use mls_seat_lines::{
+    Answer, Glossary, Line, LineFault, Live, Name, Naming, OpenFault, Response, Seat, SeatLine,
+    SessionId, push_response,
+};
 use std::alloc::{AllocError, Global};
 use std::marker::Model;
 use std::sync::Wait;

@@ -1,14 +1,13 @@
 //! What a session of a script says at its seat.
 ghost use Rattle.std.specs.Prelude.{◌≡◌, ◌++◌, ℕ, List, [], IfOk, OnOk, length};
-ghost use Rattle.mls_live.specs.Lists.{list_of};
+ghost use Rattle.mls_seat_lines.specs.mls_live.Lists.{list_of};
 ghost use Rattle.mls_seat_lines.specs.Glossaries.{book_in};
 ghost use Rattle.mls_crew.specs.Groups.{SaysLines, GivesGroup, lines_handed};
 
 use crate::sorting::{Fresh, Sorting};
-use mls_live::{Naming, Seat};
-use mls_seat_lines::{Glossary, Voice, say_line};
-use mls_server::{Answer, Name};
-use mls_wire::{Response, push_response};
+use mls_seat_lines::{
+    Answer, Glossary, Name, Naming, Response, Seat, Voice, push_response, say_line,
+};
 use std::alloc::{AllocError, Global};
 use std::marker::Model;
 use std::sync::Wait;

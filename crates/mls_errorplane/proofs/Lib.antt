@@ -6,13 +6,17 @@ pub mod CarriedMarks
 pub mod CarriedSteps
 pub mod CheckedMarks
 pub mod CheckedSquares
+pub mod CountedStrips
 pub mod CoveredOnce
 pub mod DirtySquares
 pub mod DroppedRows
 pub mod EmptyLayouts
+pub mod ErrorsIn
 pub mod FinishedFindings
 pub mod FoundCounts
 pub mod FoundTotals
+pub mod GatheredMarks
+pub mod GatheredViolations
 pub mod KeptLists
 pub mod MarkCounts
 pub mod NextStretches
@@ -22,6 +26,8 @@ pub mod PartCounts
 pub mod RangeSums
 pub mod Recounts
 pub mod RectCounts
+pub mod Refusals
+pub mod SetStrips
 pub mod ShownBeside
 pub mod ShownMarks
 pub mod SquareCounts

@@ -53,18 +53,24 @@ in_world piece x y legal here =
 halo_of-only : (rules : List EdgeRule) (rule : EdgeRule) → Contains rules rule → halo_of (rule ∷ []) ≤ halo_of rules
 halo_of-only rules rule among = let bound = halo-bounds rules rule among in omega (arith, bound)
 
+-- the zone is enough to know which squares of the piece the rule forbids
+pub forbids-zone :
+    (rules : List EdgeRule) (piece : Rect) (layout : Layout) (rule : EdgeRule) → Contains rules rule → IsRectangleIn world piece → AgreeOutside world layout (λ plane x y. 0)
+    → (x y : ℕ) → holds piece x y ≡ true
+    → forbids rule (within (zone_of rules piece) layout) (record { x = x; y = y }) ≡ forbids rule layout (record { x = x; y = y })
+forbids-zone rules piece layout rule among legal space x y here =
+    let zone = within (zone_of rules piece) layout in
+    let agree : AgreeIn (surroundings (rule ∷ []) piece) zone layout = AgreeIn-zone rules (halo_of (rule ∷ [])) piece layout (halo_of-only rules rule among) space in
+    only (holds world x y) (forbids rule zone (record { x = x; y = y })) (forbids rule layout (record { x = x; y = y })) (in_world piece x y legal here)
+    (forbidden_same_in (rule ∷ []) piece zone layout agree x y here)
+
 forbids_in-zone :
     (rules : List EdgeRule) (piece : Rect) (layout : Layout) (rule : EdgeRule) → Contains rules rule → IsRectangleIn world piece
     → AgreeOutside world layout (λ plane x y. 0) → forbids_in piece (within (zone_of rules piece) layout) rule ≡ forbids_in piece layout rule
 forbids_in-zone rules piece layout rule among legal space =
-    let zone = within (zone_of rules piece) layout in
-    let agree : AgreeIn (surroundings (rule ∷ []) piece) zone layout = AgreeIn-zone rules (halo_of (rule ∷ [])) piece layout (halo_of-only rules rule among) space in
-    let each : (x y : ℕ) → holds piece x y ≡ true → forbids rule zone (record { x = x; y = y }) ≡ forbids rule layout (record { x = x; y = y }) = λ x y here.
-    only (holds world x y) (forbids rule zone (record { x = x; y = y })) (forbids rule layout (record { x = x; y = y })) (in_world piece x y legal here)
-    (forbidden_same_in (rule ∷ []) piece zone layout agree x y here) in
     list_any_same_in_range _ _ piece.bottom (piece.top - piece.bottom) (λ y above below.
     list_any_same_in_range _ _ piece.left (piece.right - piece.left) (λ x behind before.
-    each x y (between_holds piece x y behind (omega (arith, before, legal.wide)) above (omega (arith, below, legal.tall)))))
+    forbids-zone rules piece layout rule among legal space x y (between_holds piece x y behind (omega (arith, before, legal.wide)) above (omega (arith, below, legal.tall)))))
 
 -- ---- rules by their index
 is_violated_in-zone :

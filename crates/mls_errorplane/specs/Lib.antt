@@ -5,9 +5,11 @@ pub mod Checkings
 pub mod DirtyLists
 pub mod EmptyLayouts
 pub mod ErrorPlanes
+pub mod ErrorsIn
 pub mod Halves
 pub mod Jobs
 pub mod MarkPlanes
 pub mod Outcomes
 pub mod PaintedMarks
 pub mod Stretches
+pub mod Violations

@@ -95,6 +95,19 @@ fn better_halves(rect: Rect, crossing: Crossing) -> (Rect, Rect)
     left_and_right(rect)
 }
 
+/// Returns the halves of the longer side of a rectangle.
+pub(crate) fn longer_halves(rect: Rect) -> (Rect, Rect)
+    requires { (rect.left + 256 < rect.right) ⊎ (rect.bottom + 256 < rect.top) }
+    ensures { AreHalves rect result.0 result.1 }
+{
+    let none = Crossing {
+        tiles: 0,
+        columns: 0,
+        rows: 0,
+    };
+    better_halves(rect, none)
+}
+
 /// Returns how many tiles of the planes lie in the rectangle, and how many across its middle.
 fn crossing_in(planes: &mut [Plane], rect: Rect, workspace: &mut Workspace) -> Crossing
     requires planes { HasPlanes workspace.old.pool planes.old }

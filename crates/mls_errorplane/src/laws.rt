@@ -1,9 +1,10 @@
 //! Laws of lists of areas, of marks and of checking. Each function does nothing, and its contract is the law.
-ghost use Rattle.std.specs.Prelude.{◌≡◌, ℕ, ◌+◌, ◌*◌, ◌<◌, ◌≤◌, ◌^◌, true, false, ◌||◌, if◌then◌else◌, List, [], ◌∷◌};
+ghost use Rattle.std.specs.Prelude.{◌≡◌, ℕ, ◌+◌, ◌*◌, ◌<◌, ◌≤◌, ◌^◌, true, false, ◌||◌, ◌&&◌, if◌then◌else◌, List, [], ◌∷◌, length};
 ghost use Rattle.std.specs.List.{All};
 ghost use Rattle.mls_checker.specs.Forbids.{forbidden};
 ghost use Rattle.mls_checker.specs.Marking.{SquareSet, squares_of};
 ghost use Rattle.mls_checker.specs.ZoneLayouts.{AgreeOutside};
+ghost use Rattle.mls_edgerule.specs.RuleLists.{rule_limit};
 ghost use Rattle.mls_edgerule.specs.declared.edge_rule.EdgeRule.{EdgeRule};
 ghost use Rattle.mls_errorplane.specs.Carrying.{AreFew};
 ghost use Rattle.mls_errorplane.specs.CatchingUp.{AfterSteps, Steps};
@@ -11,9 +12,10 @@ ghost use Rattle.mls_errorplane.specs.Checkings.{Checking, IsChecked, check_step
 ghost use Rattle.mls_errorplane.specs.DirtyLists.{IsDirtyList, added, area_of, dropped, first_piece_of, piece_of, round_all, squares_in};
 ghost use Rattle.mls_errorplane.specs.MarkPlanes.{is_marked, remarked};
 ghost use Rattle.mls_errorplane.specs.Stretches.{AreRight, DropsAll};
+ghost use Rattle.mls_errorplane.specs.Violations.{squares_in_all, violations_in};
 ghost use Rattle.mls_geom.specs.Layouts.{Layout};
 ghost use Rattle.mls_geom.specs.Pictures.{Picture, empty_picture};
-ghost use Rattle.mls_geom.specs.Rects.{IsRectangleIn, Rect, holds, size_of};
+ghost use Rattle.mls_geom.specs.Rects.{IsRectangleIn, Rect, holds, meets, size_of};
 ghost use Rattle.mls_geom.specs.World.{world};
 
 /// The squares of a list are those of its first piece and those of the list without that piece.
@@ -108,4 +110,13 @@ pub fn no_areas_means_exact_marks()
     ensures { (rules : List EdgeRule) (layout : Layout) (marks : SquareSet)
         → IsChecked rules layout (record { marks = marks; dirty = [] })
         → (x y : ℕ) → holds world x y ≡ true → marks x y ≡ forbidden rules layout x y }
+{}
+
+/// Where no area that awaits checking meets a rectangle, the strips of what the rules forbid in it have its marked
+/// squares.
+pub fn violations_are_marks()
+    ensures { (rules : List EdgeRule) (rect : Rect) (layout : Layout) (checking : Checking)
+        → length rules ≤ rule_limit → IsRectangleIn world rect → IsChecked rules layout checking
+        → All (λ area. meets area rect ≡ false) checking.dirty
+        → (x y : ℕ) → squares_in_all (violations_in rules rect layout) x y ≡ (holds rect x y && checking.marks x y) }
 {}

@@ -1,70 +1,96 @@
 //! A check of a session's first piece.
 use crate::ready::Ready;
 use crate::scene::Scene;
-use crate::servers::server_after;
 use crate::shown::show_server;
 use anyhow::Result;
 use mls_checker::Finding;
+use mls_geom::Rect;
 use mls_server::Server;
 use std::alloc::{AllocError, Global};
 
+/// What a check found: its piece, and how many of its squares are marked.
+#[derive(Clone, Copy)]
+pub struct Found {
+    piece: Rect,
+    marks: u64,
+}
+
 /// A server, and a job of it that is checked first.
 #[derive(Drop)]
-pub struct CheckScene {
-    server: Server,
+pub struct CheckScene<'s> {
+    server: &'s mut Server,
     first: Option<Ready>,
 }
 
-impl CheckScene {
-    /// Serves a script on a server, and grabs a job of session a.
-    pub fn new(alloc: Global, script: &[u8]) -> Result<CheckScene> {
-        let mut server = server_after(alloc, script)?;
-        let first = Ready::grab(alloc, &mut server);
-        Ok(CheckScene { server, first })
+impl<'s> CheckScene<'s> {
+    /// Grabs a job of session a.
+    pub fn new(alloc: Global, server: &'s mut Server) -> CheckScene<'s> {
+        let first = Ready::grab(alloc, server);
+        CheckScene { server, first }
     }
 }
 
-impl<R: Print> Scene<R> for CheckScene {
+impl<R: Print> Scene<R> for CheckScene<'_> {
     /// `None` where there is no job.
-    type Answer = Option<Result<Finding, AllocError>>;
+    type Answer = Option<Result<Found, AllocError>>;
 
-    fn call(&mut self, _rt: &R, alloc: Global, _turn: u8) -> Option<Result<Finding, AllocError>> {
-        let ready = match self.first.take() {
-            Some(ready) => Some(ready),
+    fn call(&mut self, _rt: &R, alloc: Global, _turn: u8) -> Option<Result<Found, AllocError>> {
+        match self.first.take() {
+            Some(ready) => Some(check(alloc, ready)),
             // The snapshot is read anew.
-            None => Ready::grab(alloc, &mut self.server),
-        };
-        Some(ready?.check(alloc))
+            None => grab_and_check(alloc, self.server),
+        }
     }
 
     fn print(
         &mut self,
         rt: &R,
         _alloc: Global,
-        answer: Option<Result<Finding, AllocError>>,
+        answer: Option<Result<Found, AllocError>>,
     ) -> Result<()> {
         match answer {
-            Some(Ok(finding)) => print_finding(rt, &finding),
+            Some(Ok(found)) => print_found(rt, found),
             Some(Err(_)) => Ok(println!(rt; "memory")?),
             None => Ok(println!(rt; "no job")?),
         }
     }
 
-    fn show(self, rt: &R, alloc: Global) -> Result<()> {
-        let CheckScene { mut server, .. } = self;
-        show_server(rt, alloc, &mut server)
+    fn show(&mut self, rt: &R, alloc: Global) -> Result<()> {
+        show_server(rt, alloc, self.server)
     }
 }
 
-/// Prints the piece of a finding, and how many of its squares are marked.
-fn print_finding<R: Print>(rt: &R, finding: &Finding) -> Result<()> {
-    let piece = finding.piece();
-    let (left, bottom) = (piece.left(), piece.bottom());
-    let (right, top) = (piece.right(), piece.top());
+/// Grabs a job of session a, and checks it.
+fn grab_and_check(alloc: Global, server: &mut Server) -> Option<Result<Found, AllocError>> {
+    let ready = Ready::grab(alloc, server)?;
+    Some(check(alloc, ready))
+}
+
+/// Checks a job.
+fn check(alloc: Global, ready: Ready) -> Result<Found, AllocError> {
+    match ready.check(alloc) {
+        Ok(finding) => Ok(sum_up(&finding)),
+        Err(refused) => Err(refused),
+    }
+}
+
+/// Returns the piece of a finding, and how many of its squares are marked.
+fn sum_up(finding: &Finding) -> Found {
     let mut marks: u64 = 0;
     for area in finding.marks().areas() {
         marks = marks.saturating_add(area.size());
     }
+    Found {
+        piece: finding.piece(),
+        marks,
+    }
+}
+
+/// Prints what a check found.
+fn print_found<R: Print>(rt: &R, found: Found) -> Result<()> {
+    let Found { piece, marks } = found;
+    let (left, bottom) = (piece.left(), piece.bottom());
+    let (right, top) = (piece.right(), piece.top());
     println!(rt; "piece {left} {bottom} {right} {top} marks {marks}")?;
     Ok(())
 }

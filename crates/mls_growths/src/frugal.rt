@@ -1,7 +1,7 @@
 //! Calls that take no memory.
 use crate::ready::Ready;
 use crate::scene::Scene;
-use crate::servers::{CELL_NAME, id_a, print_answer, server_after};
+use crate::servers::{CELL_NAME, close, command, finish, finish_ref, id_a, print_reply};
 use crate::shown::show_server;
 use anyhow::Result;
 use arrayvec::ArrayVec;
@@ -9,9 +9,9 @@ use mls_checker::Finding;
 use mls_errorplane::Outcome;
 use mls_kinds::{Kind, KindSet};
 use mls_library::CellId;
-use mls_server::{Answer, NotOpen, Server};
+use mls_server::{NotOpen, Server};
 use mls_session::{Command, Reply};
-use std::alloc::Global;
+use std::alloc::{AllocError, Global};
 
 /// The most calls of a row.
 const MOST: usize = 16;
@@ -49,22 +49,22 @@ pub enum FrugalAnswer {
 
 /// A server, calls of session a in turn, and a check that was made before them.
 #[derive(Drop)]
-pub struct FrugalScene {
-    server: Server,
+pub struct FrugalScene<'s> {
+    server: &'s mut Server,
     cell: Option<CellId>,
     finding: Option<Finding>,
     calls: &'static [FrugalCall],
 }
 
-impl FrugalScene {
-    /// Serves a script on a server, and checks the first piece of session a, if one awaits checking.
-    pub fn new(alloc: Global, script: &[u8], calls: &'static [FrugalCall]) -> Result<FrugalScene> {
-        let mut server = server_after(alloc, script)?;
+impl<'s> FrugalScene<'s> {
+    /// Checks the first piece of session a, if one awaits checking.
+    pub fn new(
+        alloc: Global,
+        server: &'s mut Server,
+        calls: &'static [FrugalCall],
+    ) -> Result<FrugalScene<'s>> {
         let cell = server.cell(CELL_NAME);
-        let finding = match Ready::grab(alloc, &mut server) {
-            Some(ready) => Some(ready.check(alloc)?),
-            None => None,
-        };
+        let finding = first_finding(alloc, server)?;
         Ok(FrugalScene {
             server,
             cell,
@@ -107,18 +107,18 @@ impl FrugalScene {
 
     /// Carries out a command.
     fn command(&mut self, alloc: Global, asked: Command) -> FrugalAnswer {
-        FrugalAnswer::Replied(self.server.command(alloc, id_a(), asked))
+        FrugalAnswer::Replied(command(alloc, self.server, id_a(), asked))
     }
 
     /// Closes the session.
     fn close(&mut self) -> FrugalAnswer {
-        FrugalAnswer::Closed(self.server.close(id_a()))
+        FrugalAnswer::Closed(close(self.server, id_a()))
     }
 
     /// Finishes the check, and keeps what it found.
     fn finish_ref(&mut self) -> FrugalAnswer {
         match &self.finding {
-            Some(finding) => FrugalAnswer::Finished(self.server.finish_ref(id_a(), finding)),
+            Some(finding) => FrugalAnswer::Finished(finish_ref(self.server, id_a(), finding)),
             None => FrugalAnswer::NoFinding,
         }
     }
@@ -126,9 +126,17 @@ impl FrugalScene {
     /// Finishes the check.
     fn finish(&mut self) -> FrugalAnswer {
         match self.finding.take() {
-            Some(finding) => FrugalAnswer::Finished(self.server.finish(id_a(), finding)),
+            Some(finding) => FrugalAnswer::Finished(finish(self.server, id_a(), finding)),
             None => FrugalAnswer::NoFinding,
         }
+    }
+}
+
+/// Checks the first piece of session a, if one awaits checking.
+fn first_finding(alloc: Global, server: &mut Server) -> Result<Option<Finding>, AllocError> {
+    match Ready::grab(alloc, server) {
+        Some(ready) => Ok(Some(ready.check(alloc)?)),
+        None => Ok(None),
     }
 }
 
@@ -137,7 +145,7 @@ fn single(kind: u8) -> Option<KindSet> {
     (kind < 64).then(|| KindSet::single(Kind::new(kind)))
 }
 
-impl<R: Print> Scene<R> for FrugalScene {
+impl<R: Print> Scene<R> for FrugalScene<'_> {
     type Answer = ArrayVec<FrugalAnswer, MOST>;
 
     fn call(&mut self, _rt: &R, alloc: Global, _turn: u8) -> ArrayVec<FrugalAnswer, MOST> {
@@ -150,23 +158,20 @@ impl<R: Print> Scene<R> for FrugalScene {
 
     fn print(&mut self, rt: &R, alloc: Global, answer: ArrayVec<FrugalAnswer, MOST>) -> Result<()> {
         for made in &answer {
-            print_made(rt, alloc, &self.server, *made)?;
+            print_made(rt, alloc, self.server, *made)?;
         }
         Ok(())
     }
 
-    fn show(self, rt: &R, alloc: Global) -> Result<()> {
-        let FrugalScene { mut server, .. } = self;
-        show_server(rt, alloc, &mut server)
+    fn show(&mut self, rt: &R, alloc: Global) -> Result<()> {
+        show_server(rt, alloc, self.server)
     }
 }
 
 /// Prints what a call has returned.
 fn print_made<R: Print>(rt: &R, alloc: Global, server: &Server, made: FrugalAnswer) -> Result<()> {
     match made {
-        FrugalAnswer::Replied(Ok(reply)) => {
-            print_answer(rt, alloc, server, b'a', Answer::Commanded(Ok(reply)))
-        }
+        FrugalAnswer::Replied(Ok(reply)) => { print_reply(rt, alloc, server, b'a', Ok(reply), b"") }
         FrugalAnswer::Finished(Ok(outcome)) => Ok(println!(rt; "a finish {outcome:?}")?),
         FrugalAnswer::Closed(Ok(())) => Ok(println!(rt; "a closed")?),
         FrugalAnswer::Replied(Err(_))

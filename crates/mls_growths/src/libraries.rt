@@ -1,7 +1,9 @@
 //! A library over a pool in which the plane of somebody else lies.
-ghost use Rattle.std.specs.Prelude.{IfOk};
+ghost use Rattle.std.specs.Prelude.{◌≡◌, ◌≤◌, IfOk, IfSome, OnOk};
 ghost use Rattle.mls_library.specs.Libraries.{IsHome};
-ghost use Rattle.mls_tilepool.specs.Pools.{Pool};
+ghost use Rattle.mls_paint.specs.Planes.{HasStrips};
+ghost use Rattle.mls_paint.specs.Scratches.{HasRoomFor};
+ghost use Rattle.mls_tilepool.specs.Pools.{Pool, room_of};
 
 use crate::scene::Scene;
 use crate::servers::{CELL, CELL_NAME};
@@ -35,25 +37,47 @@ struct Stranger {
 /// Paints a square on a new plane.
 fn painted(alloc: Global, pool: &mut Pool) -> Result<Stranger> {
     let mut scratch = Scratch::new(alloc, ROOM, 1)?;
-    let mut plane = space_plane(pool, ROOM, &mut scratch)?;
-    let rect = Rect::new(0, 0, 4, 4)?;
-    overlay(
-        pool,
-        &mut plane,
-        &[Piece {
-            rect,
-            kind: Kind::new(1),
-        }],
-        ROOM,
-        &mut scratch,
-    )?;
-    strips_of(pool, &plane, &mut scratch);
+    painted_in(alloc, pool, &mut scratch)
+}
+
+/// Paints a square on a new plane, in these lists.
+fn painted_in(alloc: Global, pool: &mut Pool, scratch: &mut Scratch) -> Result<Stranger>
+    requires room { ROOM ≤ scratch.old.room }
+    requires pieces { 1 ≤ scratch.old.pieces }
+{
+    let mut plane = space_plane(pool, ROOM, scratch)?;
+    paint_square(pool, &mut plane, scratch)?;
+    strips_of(pool, &plane, scratch);
+    let tiles = tiles_in(alloc, scratch)?;
+    Ok(Stranger { plane, tiles })
+}
+
+/// Paints a square.
+fn paint_square(pool: &mut Pool, plane: &mut Plane, scratch: &mut Scratch) -> Result<()>
+    requires strips { HasStrips pool.old plane.old }
+    requires limit { IfSome (room_of pool.old plane.old) (λ room. ROOM ≤ room) }
+    requires room { HasRoomFor pool.old plane.old scratch.old }
+    requires pieces { 1 ≤ scratch.old.pieces }
+    ensures strips { HasStrips pool.new plane.old }
+    ensures plane { plane.new ≡ plane.old }
+    ensures room { OnOk result (HasRoomFor pool.new plane.old scratch.new) }
+{
+    let square = [Piece {
+        rect: Rect::new(0, 0, 4, 4)?,
+        kind: Kind::new(1),
+    }];
+    overlay(pool, plane, &square, ROOM, scratch)?;
+    Ok(())
+}
+
+/// Returns the names of the tiles in these lists.
+fn tiles_in(alloc: Global, scratch: &Scratch) -> Result<Vec<TileId>> {
     let mut tiles = Vec::new(alloc);
     for tile in scratch.tiles() {
         tiles.push(tile.id)?;
     }
     ensure!(tiles.len() == 5, "no square");
-    Ok(Stranger { plane, tiles })
+    Ok(tiles)
 }
 
 /// Creates a library with a cell.
@@ -129,21 +153,38 @@ impl<R: Print> Scene<R> for LibraryScene {
         Ok(())
     }
 
-    fn show(self, rt: &R, _alloc: Global) -> Result<()> {
-        let cells = self.library.len();
-        let unreserved = self.pool.unreserved();
-        println!(rt; "cells {cells} unreserved {unreserved}")?;
-        for (letter, name) in [('c', b"c"), ('d', b"d")] {
-            if let Some(id) = self.library.cell_named(name) {
-                println!(rt; "{letter} {id:?}")?;
-            }
-        }
-        for id in &self.stranger.tiles {
-            let tile = self.pool.get(self.stranger.plane.owner(), *id);
-            print_tile(rt, *id, tile)?;
-        }
-        Ok(())
+    fn show(&mut self, rt: &R, _alloc: Global) -> Result<()> {
+        let LibraryScene {
+            pool,
+            library,
+            stranger,
+            ..
+        } = self;
+        print_cells(rt, library, pool)?;
+        print_tiles(rt, pool, stranger)
     }
+}
+
+/// Prints how many cells a library has and how many tiles of a pool are unreserved, and the cells.
+fn print_cells<R: Print>(rt: &R, library: &Library, pool: &Pool) -> Result<()> {
+    let cells = library.len();
+    let unreserved = pool.unreserved();
+    println!(rt; "cells {cells} unreserved {unreserved}")?;
+    for (letter, name) in [('c', b"c"), ('d', b"d")] {
+        if let Some(id) = library.cell_named(name) {
+            println!(rt; "{letter} {id:?}")?;
+        }
+    }
+    Ok(())
+}
+
+/// Prints the tiles of a plane.
+fn print_tiles<R: Print>(rt: &R, pool: &Pool, stranger: &Stranger) -> Result<()> {
+    for id in &stranger.tiles {
+        let tile = pool.get(stranger.plane.owner(), *id);
+        print_tile(rt, *id, tile)?;
+    }
+    Ok(())
 }
 
 /// Prints a tile under its name: its lower-left square, its type, and the names of the tiles that its stitches lead to.

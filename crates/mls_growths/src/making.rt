@@ -1,11 +1,11 @@
 //! Calls that make something new.
 use crate::scene::Scene;
 use anyhow::Result;
-use mls_edgerule::compile;
+use mls_edgerule::{Rules, compile};
 use mls_server::{Capacity, Limits, Server};
 use mls_tech::{TECHNOLOGY_M, Tech, TechFault};
 use mls_tilepool::Pool;
-use std::alloc::{AllocError, Global};
+use std::alloc::Global;
 
 /// What is made.
 #[derive(Clone, Copy)]
@@ -41,14 +41,69 @@ end
 /// How many tiles the pool has.
 const TILES: u32 = 414;
 
-/// What a call that makes something returns.
-#[derive(Drop)]
+/// What was made.
+#[derive(Clone, Copy)]
 pub enum MadeAnswer {
-    Tech(Result<Tech, TechFault>),
-    Pool(Result<Pool, AllocError>),
-    Server(Result<Server, AllocError>),
+    /// A technology with so much of each sort.
+    Tech {
+        planes: usize,
+        types: usize,
+        rules: usize,
+        skipped: usize,
+    },
+    Fault(TechFault),
+    Pool {
+        unreserved: u32,
+    },
+    Server {
+        is_idle: bool,
+        ids: u64,
+    },
+    Memory,
     /// No technology is left.
     Nothing,
+}
+
+/// Reads the technology file.
+fn read_tech(alloc: Global) -> MadeAnswer {
+    match Tech::read(alloc, FILE) {
+        Ok(tech) => MadeAnswer::Tech {
+            planes: tech.planes(),
+            types: tech.types(),
+            rules: tech.lines().len(),
+            skipped: tech.skipped().len(),
+        },
+        Err(fault) => MadeAnswer::Fault(fault),
+    }
+}
+
+/// Makes a pool.
+fn make_pool(alloc: Global) -> MadeAnswer {
+    match Pool::new(alloc, TILES) {
+        Ok(pool) => MadeAnswer::Pool {
+            unreserved: pool.unreserved(),
+        },
+        Err(_) => MadeAnswer::Memory,
+    }
+}
+
+/// Makes a server with a technology.
+fn make_server(alloc: Global, tech: Tech) -> MadeAnswer {
+    match compile(&tech) {
+        Ok(rules) => make_ruled(alloc, tech, rules),
+        Err(_) => MadeAnswer::Nothing,
+    }
+}
+
+/// Makes a server with a technology and its rules.
+fn make_ruled(alloc: Global, tech: Tech, rules: Rules) -> MadeAnswer {
+    match Server::new(alloc, tech, rules, Capacity::default(), Limits::default()) {
+        Ok(server) => MadeAnswer::Server {
+            is_idle: server.is_idle(),
+            ids: server.ids_given(),
+        },
+        Err(_) => MadeAnswer::Memory,
+    }
 }
 
 /// A call that makes something, and the technologies that servers are made with.
@@ -60,22 +115,18 @@ pub struct Making {
 
 impl Making {
     pub fn new(alloc: Global, what: Made) -> Result<Making> {
-        let first = Tech::read(alloc, TECHNOLOGY_M)?;
-        let second = Tech::read(alloc, TECHNOLOGY_M)?;
-        let techs = vec![in alloc; first, second]?;
+        let mut techs = Vec::new(alloc);
+        add_techs(alloc, &mut techs)?;
         Ok(Making { what, techs })
     }
+}
 
-    /// Makes a server with the last technology.
-    fn new_server(&mut self, alloc: Global) -> MadeAnswer {
-        let Some(tech) = self.techs.pop() else {
-            return MadeAnswer::Nothing;
-        };
-        let Ok(rules) = compile(&tech) else {
-            return MadeAnswer::Nothing;
-        };
-        MadeAnswer::Server(Server::new(alloc, tech, rules, Capacity::default(), Limits::default()))
+/// Adds two technologies.
+fn add_techs(alloc: Global, techs: &mut Vec<Tech>) -> Result<()> {
+    for _ in 0..2 {
+        techs.push(Tech::read(alloc, TECHNOLOGY_M)?)?;
     }
+    Ok(())
 }
 
 impl<R: Print> Scene<R> for Making {
@@ -83,59 +134,36 @@ impl<R: Print> Scene<R> for Making {
 
     fn call(&mut self, _rt: &R, alloc: Global, _turn: u8) -> MadeAnswer {
         match self.what {
-            Made::Tech => MadeAnswer::Tech(Tech::read(alloc, FILE)),
-            Made::Pool => MadeAnswer::Pool(Pool::new(alloc, TILES)),
-            Made::Server => self.new_server(alloc),
+            Made::Tech => read_tech(alloc),
+            Made::Pool => make_pool(alloc),
+            Made::Server => match self.techs.pop() {
+                Some(tech) => make_server(alloc, tech),
+                None => MadeAnswer::Nothing,
+            },
         }
     }
 
     fn print(&mut self, rt: &R, _alloc: Global, answer: MadeAnswer) -> Result<()> {
         match answer {
-            MadeAnswer::Tech(Ok(tech)) => print_tech(rt, &tech),
-            MadeAnswer::Tech(Err(fault)) => print_fault(rt, fault),
-            MadeAnswer::Pool(Ok(pool)) => print_pool(rt, &pool),
-            MadeAnswer::Server(Ok(server)) => print_server(rt, &server),
-            MadeAnswer::Pool(Err(_)) | MadeAnswer::Server(Err(_)) => print_line(rt, "memory"),
-            MadeAnswer::Nothing => print_line(rt, "no technology"),
+            MadeAnswer::Tech {
+                planes,
+                types,
+                rules,
+                skipped,
+            } => println!(rt; "{planes} planes {types} types {rules} rules {skipped} skipped")?,
+            MadeAnswer::Fault(fault) => {
+                let (number, text) = (fault.kind.number(), fault.kind.text());
+                println!(rt; "fault {number} {text}")?;
+            }
+            MadeAnswer::Pool { unreserved } => println!(rt; "{unreserved} unreserved")?,
+            MadeAnswer::Server { is_idle, ids } => println!(rt; "idle {is_idle} ids {ids}")?,
+            MadeAnswer::Memory => println!(rt; "memory")?,
+            MadeAnswer::Nothing => println!(rt; "no technology")?,
         }
-    }
-
-    fn show(self, _rt: &R, _alloc: Global) -> Result<()> {
         Ok(())
     }
-}
 
-/// Prints how much a technology has of each sort.
-fn print_tech<R: Print>(rt: &R, tech: &Tech) -> Result<()> {
-    let (planes, types) = (tech.planes(), tech.types());
-    let (rules, skipped) = (tech.lines().len(), tech.skipped().len());
-    println!(rt; "{planes} planes {types} types {rules} rules {skipped} skipped")?;
-    Ok(())
-}
-
-/// Prints a fault of a technology file.
-fn print_fault<R: Print>(rt: &R, fault: TechFault) -> Result<()> {
-    let (number, text) = (fault.kind.number(), fault.kind.text());
-    println!(rt; "fault {number} {text}")?;
-    Ok(())
-}
-
-/// Prints how many tiles of a pool are unreserved.
-fn print_pool<R: Print>(rt: &R, pool: &Pool) -> Result<()> {
-    let unreserved = pool.unreserved();
-    println!(rt; "{unreserved} unreserved")?;
-    Ok(())
-}
-
-/// Prints a line.
-fn print_line<R: Print>(rt: &R, line: &str) -> Result<()> {
-    println!(rt; "{line}")?;
-    Ok(())
-}
-
-/// Prints whether a server has a session, and how many ids it has given.
-fn print_server<R: Print>(rt: &R, server: &Server) -> Result<()> {
-    let (idle, ids) = (server.is_idle(), server.ids_given());
-    println!(rt; "idle {idle} ids {ids}")?;
-    Ok(())
+    fn show(&mut self, _rt: &R, _alloc: Global) -> Result<()> {
+        Ok(())
+    }
 }

@@ -1,17 +1,23 @@
 //! The rows.
-use crate::calls::{Call, Change, ServerScene};
+ghost use Rattle.std.specs.Prelude.{◌≡◌, []};
+ghost use Rattle.mls_server.specs.Servers.{world_of};
+
+use crate::calls::{Call, ServerScene};
 use crate::checks::CheckScene;
 use crate::frugal::FrugalCall::{
     Box, Check, Close, Count, Dump, Erase, Finish, FinishRef, GetCell, Paint, Save, What,
 };
 use crate::frugal::{FrugalCall, FrugalScene};
 use crate::libraries::LibraryScene;
+use crate::looks::LookScene;
 use crate::making::{Made, Making};
+use crate::runs::{Change, RunScene};
 use crate::scene::play;
 use crate::scripts::ScriptScene;
 use crate::seats::{SeatCall, play_at};
-use crate::servers::stocked_server;
+use crate::servers::{CELL_TILES, new_server, replies, stock};
 use anyhow::{Context, Result};
+use mls_server::Server;
 use mls_session::Look;
 use std::alloc::Global;
 use std::marker::Brand;
@@ -27,22 +33,25 @@ pub enum Row {
     Make(Made),
     /// Loads a cell into a library by itself.
     LoadAlone,
-    /// Loads a cell into a server's library.
-    Load,
-    /// A call of a server after a script; and the call that is made the first time.
-    Ask {
-        script: &'static [u8],
-        first: Call,
-        again: Call,
-    },
-    Check,
     Seat(SeatCall),
+    /// Something else is done at a server, after a script.
+    Ask(&'static [u8], Asked),
+}
+
+/// What a server is asked for.
+#[derive(Clone, Copy)]
+pub enum Asked {
+    /// Loads a cell.
+    Load,
+    /// A call that is made the first time, and one that is made again.
+    Call([Call; 2]),
+    Look(Look),
+    /// Answers events, first changed so.
+    Run(Change),
+    Check,
     /// Serves so many of the lines first.
     Serve(usize),
-    Frugal {
-        script: &'static [u8],
-        calls: &'static [FrugalCall],
-    },
+    Frugal(&'static [FrugalCall]),
 }
 
 /// A bar in session a, whose rules are asked for in a wider box, and one in session b.
@@ -57,6 +66,22 @@ b paint m1
 
 /// Which rules forbid some square of the bar.
 const BAR_WHY: Look = Look::Why {
+    left: 0,
+    bottom: 0,
+    right: 2,
+    top: 10,
+};
+
+/// The marks of the bar, and the areas that await checking there.
+const BAR_ERRORS: Look = Look::Errors {
+    left: 0,
+    bottom: 0,
+    right: 2,
+    top: 10,
+};
+
+/// What each rule forbids in the bar.
+const BAR_VIOLATIONS: Look = Look::Violations {
     left: 0,
     bottom: 0,
     right: 2,
@@ -190,20 +215,22 @@ fn row_named(name: &str, number: Option<u8>) -> Option<Row> {
         "pool_new" => Row::Make(Made::Pool),
         "server_new" => Row::Make(Made::Server),
         "library_load" => Row::LoadAlone,
-        "server_load" => Row::Load,
+        "server_load" => Row::Ask(b"", Asked::Load),
         "open" => asks(TWO_BARS, Call::Open),
         "save" => asks(TWO_BARS, Call::Save),
-        "look_save" => asks(TWO_BARS, Call::Look(Look::Save)),
-        "look_why" => asks(TWO_BARS, Call::Look(BAR_WHY)),
-        "look_stat" => asks(TWO_BARS, Call::Look(Look::Status)),
-        "look_uses" => asks(PLACED, Call::Look(Look::Uses)),
-        "look_marks" => asks(PLACED, Call::Look(Look::Marks)),
-        "look_journal" => asks(PLACED, Call::Look(Look::Journal)),
+        "look_save" => Row::Ask(TWO_BARS, Asked::Look(Look::Save)),
+        "look_why" => Row::Ask(TWO_BARS, Asked::Look(BAR_WHY)),
+        "look_stat" => Row::Ask(TWO_BARS, Asked::Look(Look::Status)),
+        "look_uses" => Row::Ask(PLACED, Asked::Look(Look::Uses)),
+        "look_marks" => Row::Ask(PLACED, Asked::Look(Look::Marks)),
+        "look_errors" => Row::Ask(TWO_BARS, Asked::Look(BAR_ERRORS)),
+        "look_violations" => Row::Ask(TWO_BARS, Asked::Look(BAR_VIOLATIONS)),
+        "look_journal" => Row::Ask(PLACED, Asked::Look(Look::Journal)),
         "why" => asks(TWO_BARS, Call::Why),
         "what" => asks(PLACED, Call::What),
         "grab" => asks(TWO_BARS, Call::Grab),
         "step" => asks(TWO_BARS, Call::Step),
-        "check" => Row::Check,
+        "check" => Row::Ask(TWO_BARS, Asked::Check),
         "catchup" => catches_up(TWO_BARS, number),
         "catchup_in_two_pieces" => catches_up(LONG_BAR, number),
         "steps_in_two_pieces" => steps_on(number),
@@ -211,7 +238,7 @@ fn row_named(name: &str, number: Option<u8>) -> Option<Row> {
         "seat" => Row::Seat(SeatCall::Seat),
         "work" => Row::Seat(SeatCall::Work { left_out: number }),
         "retire" => Row::Seat(SeatCall::Retire),
-        "serve" => Row::Serve(number.map_or(usize::MAX, usize::from)),
+        "serve" => serves(number),
         "smallest_quota" => takes_no_memory(OPENED, &SMALLEST_QUOTA),
         "whole_world" => takes_no_memory(OPENED, &WHOLE_WORLD),
         "other_calls" => takes_no_memory(BAR, &OTHERS),
@@ -222,35 +249,33 @@ fn row_named(name: &str, number: Option<u8>) -> Option<Row> {
 
 /// The row of calls that take no memory, after a script.
 fn takes_no_memory(script: &'static [u8], calls: &'static [FrugalCall]) -> Row {
-    Row::Frugal { script, calls }
+    Row::Ask(script, Asked::Frugal(calls))
 }
 
 /// The row of a call of a server after a script.
 fn asks(script: &'static [u8], call: Call) -> Row {
-    Row::Ask {
-        script,
-        first: call,
-        again: call,
-    }
+    Row::Ask(script, Asked::Call([call, call]))
 }
 
 /// The row of catching up after a script; where there is a number, so many check steps are done first in its place.
 fn catches_up(script: &'static [u8], number: Option<u8>) -> Row {
-    Row::Ask {
-        script,
-        first: number.map_or(Call::CatchUp, Call::Steps),
-        again: Call::CatchUp,
-    }
+    let first = number.map_or(Call::CatchUp, Call::Steps);
+    Row::Ask(script, Asked::Call([first, Call::CatchUp]))
 }
 
 /// The row of at most three check steps in one call; where there is a number, so many single ones are done first in its
 /// place.
 fn steps_on(number: Option<u8>) -> Row {
-    Row::Ask {
-        script: LONG_BAR,
-        first: number.map_or(Call::RunSteps(3), Call::Steps),
-        again: Call::RunSteps(3),
-    }
+    let first = number.map_or(Call::RunSteps(3), Call::Steps);
+    Row::Ask(LONG_BAR, Asked::Call([first, Call::RunSteps(3)]))
+}
+
+/// The row of serving lines; where there is a number, so many of them.
+fn serves(number: Option<u8>) -> Row {
+    Row::Ask(
+        TWO_BARS,
+        Asked::Serve(number.map_or(usize::MAX, usize::from)),
+    )
 }
 
 /// The row of a list of events; where there is a number, the event at that place is left out first, or the last is a
@@ -261,11 +286,7 @@ fn runs(number: Option<u8>) -> Row {
         Some(6) => Change::OneStep,
         Some(place) => Change::LeftOut(place),
     };
-    Row::Ask {
-        script: BAR_AND_LONG_BAR,
-        first: Call::Run(change),
-        again: Call::Run(Change::Nothing),
-    }
+    Row::Ask(BAR_AND_LONG_BAR, Asked::Run(change))
 }
 
 /// Sets a row up, makes its call so many times, and prints the results and what stands.
@@ -273,77 +294,149 @@ fn take<R: Print + Wait>(rt: &R, alloc: Global, row: &Row, calls: u8) -> Result<
     match *row {
         Row::Make(what) => take_making(rt, alloc, what, calls),
         Row::LoadAlone => take_library(rt, alloc, calls),
-        Row::Load => take_idle_server(rt, alloc, calls),
-        Row::Ask {
-            script,
-            first,
-            again,
-        } => take_server(rt, alloc, script, [first, again], calls),
-        Row::Check => take_check(rt, alloc, calls),
         Row::Seat(asked) => take_seat(rt, alloc, asked, calls),
-        Row::Serve(count) => take_script(rt, alloc, count, calls),
-        Row::Frugal {
-            script,
-            calls: made,
-        } => take_frugal(rt, alloc, script, made, calls),
+        Row::Ask(script, asked) => take_server(rt, alloc, script, &asked, calls),
     }
 }
 
 /// Makes something new.
 fn take_making<R: Print>(rt: &R, alloc: Global, what: Made, calls: u8) -> Result<()> {
-    play(rt, alloc, Making::new(alloc, what)?, calls)
+    let mut scene = Making::new(alloc, what)?;
+    play(rt, alloc, &mut scene, calls)
 }
 
 /// Loads a cell into a library by itself.
 fn take_library<R: Print>(rt: &R, alloc: Global, calls: u8) -> Result<()> {
-    play(rt, alloc, LibraryScene::new(alloc)?, calls)
+    let mut scene = LibraryScene::new(alloc)?;
+    play(rt, alloc, &mut scene, calls)
 }
 
-/// Loads a cell into a server's library.
-fn take_idle_server<R: Print>(rt: &R, alloc: Global, calls: u8) -> Result<()> {
-    play(rt, alloc, ServerScene::idle(alloc, Call::Load)?, calls)
-}
-
-/// Makes a call of a server: first the one, and then the other.
+/// Asks a server for something.
+///
+/// A proof takes long over each place where a server may be dropped. So it is owned here alone, and lent.
 fn take_server<R: Print>(
     rt: &R,
     alloc: Global,
-    script: &'static [u8],
-    asked: [Call; 2],
+    script: &[u8],
+    asked: &Asked,
     calls: u8,
 ) -> Result<()> {
-    let [first, again] = asked;
-    play(
-        rt,
-        alloc,
-        ServerScene::new(alloc, script, first, again)?,
-        calls,
-    )
+    let mut server = new_server(alloc, more_tiles(asked))?;
+    play_after(rt, alloc, &mut server, script, asked, calls)
+}
+
+/// Returns how many tiles the server's pool has beside those that each has.
+fn more_tiles(asked: &Asked) -> u32 {
+    match asked {
+        Asked::Load => CELL_TILES,
+        _ => 0,
+    }
+}
+
+/// Loads the cell and serves a script, and then asks for something.
+fn play_after<R: Print>(
+    rt: &R,
+    alloc: Global,
+    server: &mut Server,
+    script: &[u8],
+    asked: &Asked,
+    calls: u8,
+) -> Result<()>
+    requires idle { (world_of server.old).seats ≡ [] }
+{
+    stock(alloc, server)?;
+    replies(alloc, server, script)?;
+    play_asked(rt, alloc, server, asked, calls)
+}
+
+/// Asks for something.
+fn play_asked<R: Print>(
+    rt: &R,
+    alloc: Global,
+    server: &mut Server,
+    asked: &Asked,
+    calls: u8,
+) -> Result<()> {
+    match *asked {
+        Asked::Load => play_calls(rt, alloc, server, [Call::Load, Call::Load], calls),
+        Asked::Call(made) => play_calls(rt, alloc, server, made, calls),
+        Asked::Look(look) => play_looks(rt, alloc, server, look, calls),
+        Asked::Run(change) => play_runs(rt, alloc, server, change, calls),
+        Asked::Check => play_checks(rt, alloc, server, calls),
+        Asked::Serve(count) => play_script(rt, alloc, server, count, calls),
+        Asked::Frugal(made) => play_frugal(rt, alloc, server, made, calls),
+    }
+}
+
+/// Makes calls of a server: first the one, and then the other.
+fn play_calls<R: Print>(
+    rt: &R,
+    alloc: Global,
+    server: &mut Server,
+    made: [Call; 2],
+    calls: u8,
+) -> Result<()> {
+    let mut scene = ServerScene::new(alloc, server, made)?;
+    play(rt, alloc, &mut scene, calls)
+}
+
+/// Looks at a session.
+fn play_looks<R: Print>(
+    rt: &R,
+    alloc: Global,
+    server: &mut Server,
+    look: Look,
+    calls: u8,
+) -> Result<()> {
+    let mut scene = LookScene::new(alloc, server, look)?;
+    play(rt, alloc, &mut scene, calls)
+}
+
+/// Answers events.
+fn play_runs<R: Print>(
+    rt: &R,
+    alloc: Global,
+    server: &mut Server,
+    change: Change,
+    calls: u8,
+) -> Result<()> {
+    let mut scene = RunScene::new(alloc, server, change)?;
+    play(rt, alloc, &mut scene, calls)
 }
 
 /// Checks a piece.
-fn take_check<R: Print>(rt: &R, alloc: Global, calls: u8) -> Result<()> {
-    play(rt, alloc, CheckScene::new(alloc, TWO_BARS)?, calls)
+fn play_checks<R: Print>(rt: &R, alloc: Global, server: &mut Server, calls: u8) -> Result<()> {
+    let mut scene = CheckScene::new(alloc, server);
+    play(rt, alloc, &mut scene, calls)
 }
 
 /// Serves lines.
-fn take_script<R: Print>(rt: &R, alloc: Global, count: usize, calls: u8) -> Result<()> {
-    play(rt, alloc, ScriptScene::new(alloc, TWO_BARS, count)?, calls)
+fn play_script<R: Print>(
+    rt: &R,
+    alloc: Global,
+    server: &mut Server,
+    count: usize,
+    calls: u8,
+) -> Result<()> {
+    let mut scene = ScriptScene::new(alloc, server, count)?;
+    play(rt, alloc, &mut scene, calls)
 }
 
 /// Makes calls that take no memory.
-fn take_frugal<R: Print>(
+fn play_frugal<R: Print>(
     rt: &R,
     alloc: Global,
-    script: &'static [u8],
+    server: &mut Server,
     made: &'static [FrugalCall],
     calls: u8,
 ) -> Result<()> {
-    play(rt, alloc, FrugalScene::new(alloc, script, made)?, calls)
+    let mut scene = FrugalScene::new(alloc, server, made)?;
+    play(rt, alloc, &mut scene, calls)
 }
 
 /// Makes a call at a server under a lock.
 fn take_seat<R: Print + Wait>(rt: &R, alloc: Global, asked: SeatCall, calls: u8) -> Result<()> {
-    let server = stocked_server(alloc, 0)?;
+    let mut server = new_server(alloc, 0)?;
+    stock(alloc, &mut server)?;
     play_at::<Brand, R>(rt, alloc, server, Blank::new(65), asked, calls)
 }

@@ -14,16 +14,11 @@ pub trait Scene<R> {
     fn print(&mut self, rt: &R, alloc: Global, answer: Self::Answer) -> Result<()>;
 
     /// Prints all that stands.
-    fn show(self, rt: &R, alloc: Global) -> Result<()>;
+    fn show(&mut self, rt: &R, alloc: Global) -> Result<()>;
 }
 
 /// Makes the call so many times, prints each answer, and then all that stands.
-pub fn play<R: Print, S: Scene<R> + Drop>(
-    rt: &R,
-    alloc: Global,
-    mut scene: S,
-    calls: u8,
-) -> Result<()> {
+pub fn play<R: Print, S: Scene<R>>(rt: &R, alloc: Global, scene: &mut S, calls: u8) -> Result<()> {
     println!(rt; "made")?;
     if calls == 0 {
         println!(rt; "done")?;

@@ -1,6 +1,6 @@
 //! Serving a script.
 use crate::scene::Scene;
-use crate::servers::{serve_into, server_after};
+use crate::servers::serve_into;
 use crate::shown::show_server;
 use anyhow::Result;
 use mls_server::Server;
@@ -23,20 +23,19 @@ const ROOM: usize = 1024;
 
 /// A server, and the scripts that it serves first and again.
 #[derive(Drop)]
-pub struct ScriptScene {
-    server: Server,
+pub struct ScriptScene<'s> {
+    server: &'s mut Server,
     first: Vec<u8>,
     again: Vec<u8>,
     outputs: Vec<Vec<u8>>,
 }
 
-impl ScriptScene {
-    /// Serves a script on a server, and takes so many of the lines to be served first.
-    pub fn new(alloc: Global, script: &[u8], count: usize) -> Result<ScriptScene> {
+impl<'s> ScriptScene<'s> {
+    /// Takes so many of the lines to be served first.
+    pub fn new(alloc: Global, server: &'s mut Server, count: usize) -> Result<ScriptScene<'s>> {
         let first = lines(alloc, count)?;
         let again = lines(alloc, LINES.len())?;
         let outputs = new_outputs(alloc)?;
-        let server = server_after(alloc, script)?;
         Ok(ScriptScene {
             server,
             first,
@@ -62,7 +61,7 @@ fn lines(alloc: Global, count: usize) -> Result<Vec<u8>> {
     Ok(text)
 }
 
-impl<R: Print> Scene<R> for ScriptScene {
+impl<R: Print> Scene<R> for ScriptScene<'_> {
     type Answer = Option<(Result<(), ServeFault>, Vec<u8>)>;
 
     fn call(
@@ -101,8 +100,7 @@ impl<R: Print> Scene<R> for ScriptScene {
         Ok(())
     }
 
-    fn show(self, rt: &R, alloc: Global) -> Result<()> {
-        let ScriptScene { mut server, .. } = self;
-        show_server(rt, alloc, &mut server)
+    fn show(&mut self, rt: &R, alloc: Global) -> Result<()> {
+        show_server(rt, alloc, self.server)
     }
 }

@@ -26,15 +26,6 @@ pub enum SeatCall {
     Retire,
 }
 
-/// What such a call returns.
-#[derive(Drop)]
-pub enum SeatAnswer<'l, N: Naming> {
-    Seat(Option<Result<Seat<'l, N>, OpenFault>>),
-    Worked(Worked),
-    /// The notices were used up.
-    NoNotices,
-}
-
 /// The box of the bar that is painted at each seat.
 const BAR: Command = Command::Box {
     left: 0,
@@ -46,12 +37,18 @@ const BAR: Command = Command::Box {
 /// The most checks that a worker does in one call.
 const TURNS: u64 = 8;
 
-/// Seats a and b at a server under a lock, in whose layouts a bar awaits checking, and notices for workers.
+/// Seats at a server under a lock, beside which another is taken.
 #[derive(Drop)]
-struct SeatScene<'l, N: Naming> {
+struct SeatScene<'s, 'l, N: Naming> {
     live: &'l Live<N>,
-    asked: SeatCall,
-    seats: Vec<Seat<'l, N>>,
+    seats: &'s mut Vec<Seat<'l, N>>,
+}
+
+/// Seats at a server under a lock, in whose layouts a bar awaits checking, and notices for workers.
+#[derive(Drop)]
+struct WorkScene<'s, 'l, N: Naming> {
+    live: &'l Live<N>,
+    seats: &'s mut Vec<Seat<'l, N>>,
     notices: Vec<Receiver<SessionId, Global>>,
 }
 
@@ -84,24 +81,60 @@ fn play_seated<N: Naming, R: Print + Wait>(
 ) -> Result<()>
     requires parts { N.parts ≡ 65 }
 {
-    let a = painted(rt, alloc, live, b'a')?;
-    let b = painted(rt, alloc, live, b'b')?;
-    let ids = [a.id(), b.id()];
-    let left_out = match asked {
-        SeatCall::Work { left_out } => left_out,
-        SeatCall::Seat => None,
-        SeatCall::Retire => return play_retired(rt, alloc, live, vec![in alloc; a, b]?, calls),
-    };
-    let first = notices(rt, alloc, ids, left_out)?;
-    let second = notices(rt, alloc, ids, None)?;
+    let mut seats = Vec::new(alloc);
+    seat_two(rt, alloc, live, &mut seats)?;
+    match asked {
+        SeatCall::Work { left_out } => play_work(rt, alloc, live, &mut seats, left_out, calls),
+        SeatCall::Seat => play_seats(rt, alloc, live, &mut seats, calls),
+        SeatCall::Retire => play_retired(rt, alloc, live, seats, calls),
+    }
+}
+
+/// Opens sessions a and b, and paints a bar in each.
+fn seat_two<'l, N: Naming, R: Wait>(
+    rt: &R,
+    alloc: Global,
+    live: &'l Live<N>,
+    seats: &mut Vec<Seat<'l, N>>,
+) -> Result<()> {
+    for letter in *b"ab" {
+        seats.push(painted(rt, alloc, live, letter)?)?;
+    }
+    Ok(())
+}
+
+/// Opens session c.
+fn play_seats<'l, N: Naming, R: Print + Wait>(
+    rt: &R,
+    alloc: Global,
+    live: &'l Live<N>,
+    seats: &mut Vec<Seat<'l, N>>,
+    calls: u8,
+) -> Result<()> {
+    let mut scene = SeatScene { live, seats };
+    play(rt, alloc, &mut scene, calls)
+}
+
+/// Checks the sessions of the notices, where one may be left out first.
+fn play_work<'l, N: Naming, R: Print + Wait>(
+    rt: &R,
+    alloc: Global,
+    live: &'l Live<N>,
+    seats: &mut Vec<Seat<'l, N>>,
+    left_out: Option<u8>,
+    calls: u8,
+) -> Result<()> {
+    let mut notices = Vec::new(alloc);
     // The last is taken first.
-    let scene = SeatScene {
+    for left_out in [None, left_out] {
+        notices.push(notices_of(rt, alloc, seats, left_out)?)?;
+    }
+    let mut scene = WorkScene {
         live,
-        asked,
-        seats: vec![in alloc; a, b]?,
-        notices: vec![in alloc; second, first]?,
+        seats,
+        notices,
     };
-    play(rt, alloc, scene, calls)
+    play(rt, alloc, &mut scene, calls)
 }
 
 /// Retires seats, and then no seat, so many times in all, and prints what this returns and what stands.
@@ -117,7 +150,8 @@ fn play_retired<'l, N: Naming, R: Print + Wait>(
     println!(rt; "made")?;
     if calls == 0 {
         println!(rt; "done")?;
-        return show_seats(rt, alloc, live, seats);
+        let mut seats = seats;
+        return show_seats(rt, alloc, live, &mut seats);
     }
     let first = retired(rt, live, seats);
     println!(rt; "done")?;
@@ -125,7 +159,7 @@ fn play_retired<'l, N: Naming, R: Print + Wait>(
     for _ in 1..calls {
         print_retired(rt, retired(rt, live, Vec::new(alloc)))?;
     }
-    show_seats(rt, alloc, live, Vec::new(alloc))
+    show_seats(rt, alloc, live, &mut Vec::new(alloc))
 }
 
 /// Prints how many seats had the list of the journal, and how the journals stand to the lists.
@@ -150,10 +184,15 @@ fn painted<'l, N: Naming, R: Wait>(
         Some(opened) => opened?,
         None => anyhow::bail!("no name"),
     };
-    for command in [BAR, Command::Paint(Some(Kind::new(1)))] {
-        let _ = called(rt, alloc, &mut seat, command);
-    }
+    paint_bar(rt, alloc, &mut seat);
     Ok(seat)
+}
+
+/// Paints a bar at a seat.
+fn paint_bar<N: Naming, R: Wait>(rt: &R, alloc: Global, seat: &mut Seat<'_, N>) {
+    for command in [BAR, Command::Paint(Some(Kind::new(1)))] {
+        let _ = called(rt, alloc, seat, command);
+    }
 }
 
 /// Opens a session of this name, if it is one.
@@ -216,56 +255,75 @@ fn retired<N: Naming, R: Wait>(rt: &R, live: &Live<N>, seats: Vec<Seat<'_, N>>) 
     (alike, live.retire(rt, seats))
 }
 
-/// Returns notices of sessions, but for the one at this place.
-fn notices<R: Wait>(
+/// Returns notices of the sessions of seats, but for the one at this place.
+fn notices_of<N: Naming, R: Wait>(
     rt: &R,
     alloc: Global,
-    ids: [SessionId; 2],
+    seats: &[Seat<'_, N>],
     left_out: Option<u8>,
 ) -> Result<Receiver<SessionId, Global>> {
     let (to, from) = crossbeam_channel::unbounded(alloc)?;
     let mut place: u8 = 0;
-    for id in ids {
+    for seat in seats {
         if left_out != Some(place) {
-            to.send(rt, id)?;
+            to.send(rt, seat.id())?;
         }
         place = place.saturating_add(1);
     }
     Ok(from)
 }
 
-impl<'l, N: Naming, R: Print + Wait> Scene<R> for SeatScene<'l, N> {
-    type Answer = SeatAnswer<'l, N>;
+impl<'l, N: Naming, R: Print + Wait> Scene<R> for SeatScene<'_, 'l, N> {
+    /// `None` where there is no such name.
+    type Answer = Option<Result<Seat<'l, N>, OpenFault>>;
 
-    fn call(&mut self, rt: &R, alloc: Global, _turn: u8) -> SeatAnswer<'l, N> {
-        match self.asked {
-            SeatCall::Seat => SeatAnswer::Seat(opened(rt, alloc, self.live, b'c')),
-            SeatCall::Work { .. } => match self.notices.pop() {
-                Some(notices) => SeatAnswer::Worked(worked(rt, alloc, self.live, notices)),
-                None => SeatAnswer::NoNotices,
-            },
-            SeatCall::Retire => SeatAnswer::NoNotices,
-        }
+    fn call(&mut self, rt: &R, alloc: Global, _turn: u8) -> Option<Result<Seat<'l, N>, OpenFault>> {
+        opened(rt, alloc, self.live, b'c')
     }
 
-    fn print(&mut self, rt: &R, _alloc: Global, answer: SeatAnswer<'l, N>) -> Result<()> {
+    fn print(
+        &mut self,
+        rt: &R,
+        _alloc: Global,
+        answer: Option<Result<Seat<'l, N>, OpenFault>>,
+    ) -> Result<()> {
         match answer {
-            SeatAnswer::Seat(Some(Ok(seat))) => {
-                println!(rt; "c seat {}", seat.id().number())?;
+            Some(Ok(seat)) => {
+                let number = seat.id().number();
                 self.seats.push(seat)?;
+                println!(rt; "c seat {number}")?;
             }
-            SeatAnswer::Seat(Some(Err(fault))) => {
+            Some(Err(fault)) => {
                 println!(rt; "c refused open {} {}", fault.number(), fault.text())?;
             }
-            SeatAnswer::Worked(worked) => print_worked(rt, worked)?,
-            SeatAnswer::Seat(None) | SeatAnswer::NoNotices => println!(rt; "nothing")?,
+            None => println!(rt; "nothing")?,
         }
         Ok(())
     }
 
-    fn show(self, rt: &R, alloc: Global) -> Result<()> {
-        let SeatScene { live, seats, .. } = self;
-        show_seats(rt, alloc, live, seats)
+    fn show(&mut self, rt: &R, alloc: Global) -> Result<()> {
+        show_seats(rt, alloc, self.live, self.seats)
+    }
+}
+
+impl<N: Naming, R: Print + Wait> Scene<R> for WorkScene<'_, '_, N> {
+    /// `None` where the notices were used up.
+    type Answer = Option<Worked>;
+
+    fn call(&mut self, rt: &R, alloc: Global, _turn: u8) -> Option<Worked> {
+        let notices = self.notices.pop()?;
+        Some(worked(rt, alloc, self.live, notices))
+    }
+
+    fn print(&mut self, rt: &R, _alloc: Global, answer: Option<Worked>) -> Result<()> {
+        match answer {
+            Some(worked) => print_worked(rt, worked),
+            None => Ok(println!(rt; "nothing")?),
+        }
+    }
+
+    fn show(&mut self, rt: &R, alloc: Global) -> Result<()> {
+        show_seats(rt, alloc, self.live, self.seats)
     }
 }
 
@@ -274,20 +332,31 @@ fn show_seats<'l, N: Naming, R: Print + Wait>(
     rt: &R,
     alloc: Global,
     live: &'l Live<N>,
-    mut seats: Vec<Seat<'l, N>>,
+    seats: &mut Vec<Seat<'l, N>>,
 ) -> Result<()> {
-    for seat in &mut seats {
+    for seat in seats.iter_mut() {
         show_seat(rt, alloc, seat)?;
     }
     for letter in *b"pqrst" {
-        match opened(rt, alloc, live, letter) {
-            Some(Ok(seat)) => {
-                println!(rt; "seat {}", seat.id().number())?;
-                seats.push(seat)?;
-            }
-            Some(Err(fault)) => println!(rt; "{fault}")?,
-            None => {}
+        show_opened(rt, opened(rt, alloc, live, letter), seats)?;
+    }
+    Ok(())
+}
+
+/// Prints how opening a session ended, and keeps its seat.
+fn show_opened<'l, N: Naming, R: Print>(
+    rt: &R,
+    opened: Option<Result<Seat<'l, N>, OpenFault>>,
+    seats: &mut Vec<Seat<'l, N>>,
+) -> Result<()> {
+    match opened {
+        Some(Ok(seat)) => {
+            let number = seat.id().number();
+            seats.push(seat)?;
+            println!(rt; "seat {number}")?;
         }
+        Some(Err(fault)) => println!(rt; "{fault}")?,
+        None => {}
     }
     Ok(())
 }

@@ -2,17 +2,22 @@
 //!
 //! What a call of a server ensures speaks of all its sessions, and a proof carries it to the end of the function that
 //! makes the call. So each call stands apart, in a function that ensures nothing.
-ghost use Rattle.std.specs.Prelude.{◌≡◌, [], IfOk};
+ghost use Rattle.std.specs.Prelude.{◌≡◌, [], IfOk, OnOk};
 ghost use Rattle.mls_server.specs.Servers.{world_of};
 
 use anyhow::{Context, Result};
+use mls_checker::Finding;
 use mls_edgerule::compile;
+use mls_errorplane::Outcome;
+use mls_geom::Rect;
 use mls_library::{CellFault, CellId};
-use mls_server::{Answer, Capacity, Event, GrabFault, Limits, Name, NotOpen, Server, SessionId};
-use mls_session::{Job, Look, Looked, Quota, Reply};
+use mls_server::{
+    Answer, Capacity, Event, GrabFault, Limits, Name, NotOpen, OpenFault, Server, SessionId,
+};
+use mls_session::{Command, Look, Looked, Quota, Reply, StepRun, Stepped};
 use mls_tech::{TECHNOLOGY_M, Tech};
-use mls_wire::{Response, ServeFault, Watched, push_looked, push_response, serve};
-use std::alloc::Global;
+use mls_wire::{Response, ServeFault, Watched, push_looked, push_response, push_saved, serve};
+use std::alloc::{AllocError, Global};
 
 /// How many tiles a session reserves under the least quota: 69 for each of three planes.
 const SESSION: u32 = 3 * 69;
@@ -43,7 +48,7 @@ pub fn id_b() -> SessionId {
 
 /// Creates a server with technology M and the least quota, whose pool has room for one cell and four sessions, and so
 /// many tiles more.
-fn new_server(alloc: Global, more: u32) -> Result<Server>
+pub fn new_server(alloc: Global, more: u32) -> Result<Server>
     ensures { IfOk result (λ server. (world_of server).seats ≡ []) }
 {
     let capacity = Capacity::new((CELL_TILES + 4 * SESSION).saturating_add(more)).context(
@@ -59,20 +64,13 @@ fn new_server(alloc: Global, more: u32) -> Result<Server>
     Ok(Server::new(alloc, tech, rules, capacity, limits)?)
 }
 
-/// Creates such a server with the cell.
-pub fn stocked_server(alloc: Global, more: u32) -> Result<Server>
-    ensures { IfOk result (λ server. (world_of server).seats ≡ []) }
+/// Loads the cell into a server.
+pub fn stock(alloc: Global, server: &mut Server) -> Result<()>
+    requires idle { (world_of server.old).seats ≡ [] }
+    ensures idle { OnOk result ((world_of server.new).seats ≡ []) }
 {
-    let mut server = new_server(alloc, more)?;
     server.load(alloc, CELL_NAME, CELL)?;
-    Ok(server)
-}
-
-/// Creates such a server with the cell, and serves a script.
-pub fn server_after(alloc: Global, script: &[u8]) -> Result<Server> {
-    let mut server = stocked_server(alloc, 0)?;
-    replies(alloc, &mut server, script)?;
-    Ok(server)
+    Ok(())
 }
 
 /// Serves a script, and returns the replies.
@@ -109,9 +107,47 @@ pub fn act(alloc: Global, server: &mut Server, event: Event) -> Answer {
     server.act(alloc, &event)
 }
 
+/// Answers events.
+pub fn run(
+    alloc: Global,
+    server: &mut Server,
+    events: &[Event],
+) -> Result<Vec<Answer>, AllocError> {
+    server.run(alloc, events)
+}
+
 /// Saves a layout.
 pub fn save(server: &mut Server, id: SessionId, out: &mut Vec<u8>) -> Result<Reply, NotOpen> {
     server.save(id, out)
+}
+
+/// Carries out a command in a session.
+pub fn command(
+    alloc: Global,
+    server: &mut Server,
+    id: SessionId,
+    asked: Command,
+) -> Result<Reply, NotOpen> {
+    server.command(alloc, id, asked)
+}
+
+/// Closes a session.
+pub fn close(server: &mut Server, id: SessionId) -> Result<(), NotOpen> {
+    server.close(id)
+}
+
+/// Finishes a check of a session.
+pub fn finish(server: &mut Server, id: SessionId, finding: Finding) -> Result<Outcome, NotOpen> {
+    server.finish(id, finding)
+}
+
+/// Finishes a check of a session, and keeps what it found.
+pub fn finish_ref(
+    server: &mut Server,
+    id: SessionId,
+    finding: &Finding,
+) -> Result<Outcome, NotOpen> {
+    server.finish_ref(id, finding)
 }
 
 /// Looks at a session.
@@ -140,36 +176,111 @@ pub fn print_look<R: Print>(
     Ok(())
 }
 
+/// What is printed of the answer to an event whose answer has no text.
+#[derive(Clone, Copy)]
+pub enum Told {
+    Opened(Result<SessionId, OpenFault>),
+    Replied(Result<Reply, NotOpen>),
+    /// The piece of a job.
+    Grabbed(Result<Option<Rect>, GrabFault>),
+    Stepped(Result<Stepped, NotOpen>),
+    SteppedTimes(Result<StepRun, NotOpen>),
+    /// Another answer, that to an event which changes nothing.
+    Nothing,
+}
+
+/// Returns what is printed of an answer.
+pub fn tell(answer: &Answer) -> Told {
+    match answer {
+        Answer::Opened(opened) => Told::Opened(*opened),
+        Answer::Commanded(replied) => Told::Replied(*replied),
+        Answer::Grabbed(Ok(Some(job))) => Told::Grabbed(Ok(Some(job.piece))),
+        Answer::Grabbed(Ok(None)) => Told::Grabbed(Ok(None)),
+        Answer::Grabbed(Err(fault)) => Told::Grabbed(Err(*fault)),
+        Answer::Stepped(stepped) => Told::Stepped(*stepped),
+        Answer::SteppedTimes(run) => Told::SteppedTimes(*run),
+        _ => Told::Nothing,
+    }
+}
+
 /// Prints the answer to an event on a session: the piece of a job, or else the reply line.
-pub fn print_answer<R: Print>(
+pub fn print_told<R: Print>(
+    rt: &R,
+    alloc: Global,
+    server: &Server,
+    letter: u8,
+    told: Told,
+) -> Result<()> {
+    match told {
+        Told::Opened(opened) => print_answer(rt, alloc, server, letter, Answer::Opened(opened)),
+        Told::Replied(replied) => print_reply(rt, alloc, server, letter, replied, b""),
+        Told::Grabbed(grabbed) => print_grabbed(rt, letter, grabbed),
+        Told::Stepped(stepped) => print_answer(rt, alloc, server, letter, Answer::Stepped(stepped)),
+        Told::SteppedTimes(run) => print_answer(
+            rt,
+            alloc,
+            server,
+            letter,
+            Answer::SteppedTimes(run),
+        ),
+        Told::Nothing => Ok(println!(rt; "left out")?),
+    }
+}
+
+/// Prints a reply, and the text that comes with it.
+pub fn print_reply<R: Print>(
+    rt: &R,
+    alloc: Global,
+    server: &Server,
+    letter: u8,
+    replied: Result<Reply, NotOpen>,
+    with: &[u8],
+) -> Result<()> {
+    let name = Name::new(&[letter]).context("no name")?;
+    let mut text = Vec::new(alloc);
+    push_saved(server, &name, replied, with, &mut text)?;
+    rt.write_all(&text)?;
+    Ok(())
+}
+
+/// Prints the reply line of an answer.
+fn print_answer<R: Print>(
     rt: &R,
     alloc: Global,
     server: &Server,
     letter: u8,
     answer: Answer,
 ) -> Result<()> {
-    let name = Name::new(&[letter]).context("no name")?;
     let mut text = Vec::new(alloc);
-    match answer {
-        Answer::Grabbed(grabbed) => return print_grabbed(rt, letter, grabbed),
-        Answer::Closed(_) => return Ok(println!(rt; "left out")?),
-        answer => push_response(server, 1, &Response::Answered(name, answer), &mut text)?,
-    }
+    push_answer(server, letter, answer, &mut text)?;
     rt.write_all(&text)?;
     Ok(())
+}
+
+/// Appends the reply line of an answer to an event on a session of this name, if it is one.
+fn push_answer(
+    server: &Server,
+    letter: u8,
+    answer: Answer,
+    text: &mut Vec<u8>,
+) -> Result<(), AllocError> {
+    match Name::new(&[letter]) {
+        Some(name) => push_response(server, 1, &Response::Answered(name, answer), text),
+        None => Ok(()),
+    }
 }
 
 /// Prints the piece of a job.
 fn print_grabbed<R: Print>(
     rt: &R,
     letter: u8,
-    grabbed: Result<Option<Job>, GrabFault>,
+    grabbed: Result<Option<Rect>, GrabFault>,
 ) -> Result<()> {
     let name = char::from(letter);
     match grabbed {
-        Ok(Some(job)) => {
-            let (left, bottom) = (job.piece.left(), job.piece.bottom());
-            let (right, top) = (job.piece.right(), job.piece.top());
+        Ok(Some(piece)) => {
+            let (left, bottom) = (piece.left(), piece.bottom());
+            let (right, top) = (piece.right(), piece.top());
             println!(rt; "{name} grab {left} {bottom} {right} {top}")?;
         }
         Ok(None) => println!(rt; "{name} grab none")?,

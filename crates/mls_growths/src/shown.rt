@@ -65,22 +65,38 @@ fn show_session<R: Print>(rt: &R, alloc: Global, server: &mut Server, letter: u8
     let Some(id) = id_of(server, letter)? else {
         return Ok(());
     };
-    print_journal(rt, server, letter, id)?;
     let name = char::from(letter);
+    print_journal(rt, server, letter, id)?;
     let looks = format!(in alloc; "%stat {name}\n{name} drc count\n{name} save\n%marks {name}\n")?;
-    print_joined(rt, &replies(alloc, server, looks.as_bytes())?)?;
-    let step = format!(in alloc; "%step {name}\n{name} drc count\n")?;
+    print_replies(rt, alloc, server, &looks)?;
     for _ in 0..MOST_PIECES {
         let Some(piece) = first_piece(alloc, server, id)? else {
             break;
         };
-        let (left, bottom) = (piece.left(), piece.bottom());
-        let (right, top) = (piece.right(), piece.top());
-        print!(rt; "{name} piece {left} {bottom} {right} {top}: ")?;
-        print_joined(rt, &replies(alloc, server, step.as_bytes())?)?;
+        show_step(rt, alloc, server, name, piece)?;
     }
     let marks = format!(in alloc; "%marks {name}\n")?;
-    print_joined(rt, &replies(alloc, server, marks.as_bytes())?)
+    print_replies(rt, alloc, server, &marks)
+}
+
+/// Prints a piece of a session that awaits checking, and what a check step leaves.
+fn show_step<R: Print>(
+    rt: &R,
+    alloc: Global,
+    server: &mut Server,
+    name: char,
+    piece: Rect,
+) -> Result<()> {
+    let (left, bottom) = (piece.left(), piece.bottom());
+    let (right, top) = (piece.right(), piece.top());
+    print!(rt; "{name} piece {left} {bottom} {right} {top}: ")?;
+    let step = format!(in alloc; "%step {name}\n{name} drc count\n")?;
+    print_replies(rt, alloc, server, &step)
+}
+
+/// Serves a script, and prints the replies as one line.
+fn print_replies<R: Print>(rt: &R, alloc: Global, server: &mut Server, script: &str) -> Result<()> {
+    print_joined(rt, &replies(alloc, server, script.as_bytes())?)
 }
 
 /// Returns the id of the session of this name, if it is open.

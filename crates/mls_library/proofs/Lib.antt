@@ -21,8 +21,10 @@ pub mod SavedNames
 pub mod SavedReading
 pub mod SavedRooms
 pub mod SavedLayouts
+pub mod OwnTypes
 pub mod SavedCells
 pub mod SavedTexts
 pub mod AppendedTexts
+pub mod EmptyLayouts
 pub mod MarkedTexts
 pub mod MarkedCells

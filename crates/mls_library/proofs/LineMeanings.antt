@@ -1,5 +1,5 @@
 -- A line of a type's section paints on the section's plane, and `Memory` is no line's fault.
-use Rattle.std.proofs.Common.{ℕ, ◌+◌, ◌<◌, ◌&&◌, not, Bool, true, false, cond, Option, Some, None, List, [], ◌∷◌, arith}
+use Rattle.std.proofs.Common.{ℕ, ◌&&◌, not, Bool, true, false, cond, Option, Some, None, List, [], ◌∷◌}
 use Rattle.std.specs.Prelude.{Result, Ok, Err, IfErr, IfOk, codes, ⊤}
 use Rattle.mls_geom.specs.Rects.{Rect}
 use Rattle.mls_geom.specs.World.{is_outside, rect_of}
@@ -48,9 +48,9 @@ world_line-says : (word : List ℕ) → IfErr (world_line word) IsOfFile
 unfolding world_line
 world_line-says word = IfErr-cond (is_outside (integer_of word)) (Err OutsideWorld) (Ok (integer_of word)) tt tt
 
-module _ (planes : ℕ) where
+module _ (lies_on : ℕ → ℕ → Type 0) where
   abbrev known : Meaning → Type 0
-  known = IsKnownMeaning planes
+  known = IsKnownMeaning lies_on
 
   first_line-says : (keyword : List ℕ) (words : List (List ℕ)) → Says known (first_line keyword words)
   unfolding first_line
@@ -75,9 +75,9 @@ module _ (planes : ℕ) where
   unfolding skipped_line
   skipped_line-says with_uses keyword = Says-cond known (is_word (codes "use") keyword && not with_uses) _ _ tt tt
 
-  module _ (kind plane : ℕ) (within : plane < planes) where
+  module _ (kind plane : ℕ) (lies : lies_on kind plane) where
     painted_by-says : (r : Result Rect RectFault) → Says known (painted_by kind plane r)
-    painted_by-says (Ok rect) = within
+    painted_by-says (Ok rect) = lies
     painted_by-says (Err fault) = tt
 
     rect_between-says : (left bottom right top : List ℕ) → Says known (rect_between kind plane left bottom right top)
@@ -105,16 +105,16 @@ module _ (planes : ℕ) where
         (Says-cond known (is_word (codes "use") keyword) _ _ tt
         (Says-cond known (is_word (codes "tri") keyword) _ _ tt tt))
 
-  plain_line-says : (place : Place) (keyword : List ℕ) (words : List (List ℕ)) → IsKnownPlace planes place → Says known (plain_line place keyword words)
+  plain_line-says : (place : Place) (keyword : List ℕ) (words : List (List ℕ)) → IsKnownPlace lies_on place → Says known (plain_line place keyword words)
   unfolding plain_line
-  plain_line-says Start keyword words within = first_line-says keyword words
-  plain_line-says Header keyword words within = header_line-says keyword words
-  plain_line-says (Skipped with_uses) keyword words within = skipped_line-says with_uses keyword
-  plain_line-says (Layer kind plane) keyword words within = layer_line-says kind plane within keyword words
+  plain_line-says Start keyword words lies = first_line-says keyword words
+  plain_line-says Header keyword words lies = header_line-says keyword words
+  plain_line-says (Skipped with_uses) keyword words lies = skipped_line-says with_uses keyword
+  plain_line-says (Layer kind plane) keyword words lies = layer_line-says kind plane lies keyword words
 
   -- a line that begins no section, in a known place
-  pub plain_line-known : (place : Place) (keyword : List ℕ) (words : List (List ℕ)) → IsKnownPlace planes place → IfOk (plain_line place keyword words) (IsKnownMeaning planes)
-  plain_line-known place keyword words within = Says-ok known _ (plain_line-says place keyword words within)
+  pub plain_line-known : (place : Place) (keyword : List ℕ) (words : List (List ℕ)) → IsKnownPlace lies_on place → IfOk (plain_line place keyword words) (IsKnownMeaning lies_on)
+  plain_line-known place keyword words lies = Says-ok known _ (plain_line-says place keyword words lies)
 
 -- ---- lines that begin one
 abbrev any : Meaning → Type 0
@@ -139,17 +139,15 @@ section_line-says tech (name ∷ closing ∷ []) = Says-cond any (is_word (codes
 section_line-says tech (name ∷ closing ∷ more ∷ words) = tt
 
 -- ---- any line
--- planes enough for a place
-enough : (place : Place) → (planes : ℕ) × IsKnownPlace planes place
-enough Start = (0, tt)
-enough Header = (0, tt)
-enough (Skipped with_uses) = (0, tt)
-enough (Layer kind plane) = (plane + 1, omega arith)
+-- a place where nothing is asked of a section
+any_place : (place : Place) → IsKnownPlace (λ kind plane. ⊤) place
+any_place Start = tt
+any_place Header = tt
+any_place (Skipped with_uses) = tt
+any_place (Layer kind plane) = tt
 
 plain_line-fault : (place : Place) (keyword : List ℕ) (words : List (List ℕ)) → IfErr (plain_line place keyword words) IsOfFile
-plain_line-fault place keyword words =
-    let planes = enough place in
-    Says-err (known planes.0) _ (plain_line-says planes.0 place keyword words planes.1)
+plain_line-fault place keyword words = Says-err (known (λ kind plane. ⊤)) _ (plain_line-says (λ kind plane. ⊤) place keyword words (any_place place))
 
 -- the fault of a line
 pub line_meaning-fault : (tech : Tech) (place : Place) (words : List (List ℕ)) → IfErr (line_meaning tech place words) IsOfFile

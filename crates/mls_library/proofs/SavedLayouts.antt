@@ -63,7 +63,7 @@ module _ {X : Type 0} (P : X → Type 0) where
 
 -- ---- the pieces on a plane
 module _ (P : Piece → Type 0) (plane : ℕ) where
-  All-pieces_on : (rects : List CellRect) → All (λ painted. painted.plane ≡ plane → P painted.piece) rects → All P (pieces_on plane rects)
+  pub All-pieces_on : (rects : List CellRect) → All (λ painted. painted.plane ≡ plane → P painted.piece) rects → All P (pieces_on plane rects)
   All-pieces_on [] all = All-nil P
   All-pieces_on (rect ∷ rects) all =
       let later = All-pieces_on rects (All-tail (λ painted. painted.plane ≡ plane → P painted.piece) rect rects all) in

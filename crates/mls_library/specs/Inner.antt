@@ -1,10 +1,11 @@
 -- The words of private contracts: how the reader goes about what the other modules define. A caller needs none of them.
-use Rattle.std.specs.Prelude.{◌≡◌, ◌≢◌, ℕ, ◌<◌, ◌≤◌, ℤ, ⊤, Result, Ok, Err, List, length, map, slice_index_or}
+use Rattle.std.specs.Prelude.{◌≡◌, ◌≢◌, ℕ, ◌<◌, ◌≤◌, ℤ, ⊤, Some, Result, Ok, Err, List, length, map, slice_index_or}
 use Rattle.std.specs.List.{All, AllPairs}
 use Rattle.mls_geom.specs.Locality.{AreUnorderedStrips}
 use Rattle.mls_geom.specs.Pictures.{Picture, picture_of}
 use Rattle.mls_geom.specs.World.{world}
 use Rattle.mls_geom.specs.declared.piece.Piece.{Piece}
+use Rattle.mls_tech.specs.Readings.{Tech, plane_of_type}
 use Rattle.mls_text.specs.Digits.{value_at_most}
 use Rattle.mls_tilepool.specs.Pools.{Pool}
 use Rattle.mls_paint.specs.Owners.{AddsOwners}
@@ -19,19 +20,24 @@ use Rattle.mls_library.specs.declared.meaning.Meaning.TheVariants.{Nothing, Ente
 use Rattle.mls_library.specs.declared.place.Place.{Place}
 use Rattle.mls_library.specs.declared.place.Place.TheVariants.{Start, Header, Skipped, Layer}
 
--- the section of a type lies on one of the first planes
-abbrev pub IsKnownPlace : ℕ → Place → Type 0
-IsKnownPlace planes Start = ⊤
-IsKnownPlace planes Header = ⊤
-IsKnownPlace planes (Skipped with_uses) = ⊤
-IsKnownPlace planes (Layer kind plane) = plane < planes
+-- the type is one of the technology's, and lies on this plane
+pub record IsTypeOn (tech : Tech) (kind plane : ℕ) : Type 0 where
+  pub on : plane_of_type tech.type_planes kind ≡ Some plane
+  pub known : plane < tech.plane_count
 
--- a line leads to a section of one of the first planes, or paints on one
-abbrev pub IsKnownMeaning : ℕ → Meaning → Type 0
-IsKnownMeaning planes Nothing = ⊤
-IsKnownMeaning planes (Enters next) = IsKnownPlace planes next
-IsKnownMeaning planes (Paints painted) = painted.plane < planes
-IsKnownMeaning planes Ends = ⊤
+-- the section's type and its plane are as they are to be
+abbrev pub IsKnownPlace : (ℕ → ℕ → Type 0) → Place → Type 0
+IsKnownPlace lies_on Start = ⊤
+IsKnownPlace lies_on Header = ⊤
+IsKnownPlace lies_on (Skipped with_uses) = ⊤
+IsKnownPlace lies_on (Layer kind plane) = lies_on kind plane
+
+-- a line leads to such a section, or paints such a type there
+abbrev pub IsKnownMeaning : (ℕ → ℕ → Type 0) → Meaning → Type 0
+IsKnownMeaning lies_on Nothing = ⊤
+IsKnownMeaning lies_on (Enters next) = IsKnownPlace lies_on next
+IsKnownMeaning lies_on (Paints painted) = lies_on painted.piece.kind painted.plane
+IsKnownMeaning lies_on Ends = ⊤
 
 -- how far from 0 digits lead, if the world has lines there
 abbrev pub distance_of : List ℕ → Result ℕ CellFaultKind

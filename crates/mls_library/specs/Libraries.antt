@@ -14,6 +14,7 @@ use Rattle.mls_paint.specs.Planes.{HasStrips, layout_in, picture_in}
 use Rattle.mls_library.specs.Bounds.{painted_bounds}
 use Rattle.mls_library.specs.CellFiles.{layout_of_rects, reading_of}
 use Rattle.mls_library.specs.Faults.{UnlessMemory}
+use Rattle.mls_library.specs.SavedCells.{ShowsOwnTypes}
 use Rattle.mls_library.specs.declared.cell_rect.CellRect.{CellRect}
 use Rattle.mls_library.specs.declared.fault.CellFault.{CellFault}
 use Rattle.mls_library.specs.declared.fault.CellFaultKind.{CellFaultKind}
@@ -88,6 +89,10 @@ pub record IsHome (pool : Pool) (cells : Library) : Type 0 where
 -- each cell has this many planes
 abbrev pub HavePlanes : ℕ → Library → Type 0
 HavePlanes planes cells = All (λ cell. length cell.planes ≡ planes) cells
+
+-- each cell shows types on their own planes alone
+abbrev pub ShowOwnTypes : Tech → Pool → Library → Type 0
+ShowOwnTypes tech pool cells = All (λ cell. ShowsOwnTypes tech (cell_layout pool cell)) cells
 
 -- ---- names of cells
 -- a letter, a digit, or one of `_ - . $`, of ASCII

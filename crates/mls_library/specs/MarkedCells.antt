@@ -3,7 +3,7 @@
 -- who reads a cell file skips both.
 use Rattle.std.specs.Prelude.{ℕ, List, [], ◌∷◌, ◌++◌, length, map, max, codes}
 use Rattle.mls_geom.specs.Layouts.{Layout}
-use Rattle.mls_geom.specs.Pictures.{Picture}
+use Rattle.mls_geom.specs.Pictures.{Picture, empty_picture}
 use Rattle.mls_geom.specs.Rects.{Rect}
 use Rattle.mls_geom.specs.StripLists.{strips_of}
 use Rattle.mls_geom.specs.World.{world}
@@ -49,6 +49,11 @@ marked_line_count tech layout areas marks = length (marked_lines tech layout are
 
 abbrev pub marked_text : Tech → Layout → List Rect → Picture → List ℕ
 marked_text tech layout areas marks = text_of (marked_lines tech layout areas marks)
+
+-- ---- the areas and the marks alone
+-- the layout that shows nothing
+abbrev pub empty_layout : Layout
+empty_layout plane = empty_picture
 
 -- ---- how much of a layout is listed
 -- the most tiles that a plane may have together with the cells that are placed on it, where it may have a quota of its own, and one of a cell `most`

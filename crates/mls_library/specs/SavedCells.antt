@@ -85,9 +85,13 @@ abbrev pub saved_text : Tech → Layout → List ℕ
 saved_text tech layout = text_of (saved_lines tech layout)
 
 -- ---- what is read back
--- each square is space, or of a type whose plane that is, and there is only space outside the world
+-- each square is space, or of a type whose plane that is
+abbrev pub ShowsOwnTypes : Tech → Layout → Type 0
+ShowsOwnTypes tech layout = (plane x y : ℕ) → layout plane x y ≢ 0 → plane_of_type tech.type_planes (layout plane x y) ≡ Some plane
+
+-- so it is, and there is only space outside the world
 pub record HoldsOwnTypes (tech : Tech) (layout : Layout) : Type 0 where
-  pub own : (plane x y : ℕ) → layout plane x y ≢ 0 → plane_of_type tech.type_planes (layout plane x y) ≡ Some plane
+  pub own : ShowsOwnTypes tech layout
   pub within : (plane x y : ℕ) → holds world x y ≡ false → layout plane x y ≡ 0
 
 -- the text reads as rectangles that show the layout

@@ -1,7 +1,8 @@
 //! The reading of a whole cell file.
-ghost use Rattle.std.specs.Prelude.{◌<◌, All, IfOk};
+ghost use Rattle.std.specs.Prelude.{All, IfOk};
 ghost use Rattle.mls_library.specs.CellFiles.{reading_of};
 ghost use Rattle.mls_library.specs.Faults.{ReadsUnlessMemory};
+ghost use Rattle.mls_library.specs.Inner.{IsTypeOn};
 
 use crate::cell_rect::CellRect;
 use crate::lines::line_meaning;
@@ -24,7 +25,7 @@ pub(crate) fn read_cell(
     bytes: &[u8],
 ) -> Result<Vec<CellRect>, CellFault>
     ensures value { ReadsUnlessMemory (λ rects. rects.items) result (reading_of tech.now bytes.now) }
-    ensures known { IfOk result (λ rects. All (λ rect. rect.plane < tech.now.plane_count) rects.items) }
+    ensures known { IfOk result (λ rects. All (λ rect. IsTypeOn tech.now rect.piece.kind rect.plane) rects.items) }
 {
     let mut rects = Vec::new(alloc);
     let mut place = Place::Start;

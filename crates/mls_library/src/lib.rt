@@ -23,5 +23,8 @@ pub use cell_id::CellId;
 pub use cell_tiles::CellTiles;
 pub use fault::{CellFault, CellFaultKind};
 pub use library::{CellFile, Library};
-pub use marked::{dirty_line_count, mark_line_count, most_flat_tiles, push_dirty, push_marks};
+pub use marked::{
+    dirty_line_count, error_line_count, mark_line_count, most_flat_tiles, push_dirty, push_errors,
+    push_marks,
+};
 pub use saved::{layer_line_count, push_end, push_header, push_layer};

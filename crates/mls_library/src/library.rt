@@ -117,6 +117,7 @@ impl Library {
             file.now.name.now file.now.bytes.now result }
         ensures home { spec.IsHome pool.new self.new }
         ensures planes { spec.HavePlanes tech.now.plane_count self.old → spec.HavePlanes tech.now.plane_count self.new }
+        ensures own_types { spec.ShowOwnTypes tech.now pool.old self.old → spec.ShowOwnTypes tech.now pool.new self.new }
         ensures cells_kept { spec.KeepsCells self.old self.new }
         ensures library_kept { OnErr result (self.new ≡ self.old) }
         ensures pool_kept { OnErr result (pool.new ≡ pool.old) }

@@ -1,6 +1,6 @@
 //! What each kind of line of a cell file means.
 ghost use Rattle.std.specs.Prelude.{◌≡◌, true, IfOk};
-ghost use Rattle.mls_library.specs.Inner.{IsKnownMeaning, IsKnownPlace};
+ghost use Rattle.mls_library.specs.Inner.{IsKnownMeaning, IsKnownPlace, IsTypeOn};
 ghost use Rattle.mls_library.specs.CellFiles as spec;
 ghost use Rattle.mls_text.specs.Words.{words_of};
 
@@ -22,7 +22,7 @@ pub(crate) fn line_meaning(
     line: &[u8],
 ) -> Result<Meaning, CellFaultKind>
     ensures value { result ≡ spec.line_meaning tech.now place.now (words_of line.now) }
-    ensures known { IsKnownPlace tech.now.plane_count place.now → IfOk result (IsKnownMeaning tech.now.plane_count) }
+    ensures known { IsKnownPlace (IsTypeOn tech.now) place.now → IfOk result (IsKnownMeaning (IsTypeOn tech.now)) }
 {
     let mut words = Words::new(line);
     let Some(keyword) = words.next() else {
@@ -78,7 +78,7 @@ fn first_line(keyword: &[u8], words: &mut Words<'_>) -> Result<Meaning, CellFaul
 #[tactic(auto, unfolding(crate::specs::CellFiles::section_line))]
 fn section_line(tech: &Tech, words: &mut Words<'_>) -> Result<Meaning, CellFaultKind>
     ensures value { result ≡ spec.section_line tech.now words.old }
-    ensures known { IfOk result (IsKnownMeaning tech.now.plane_count) }
+    ensures known { IfOk result (IsKnownMeaning (IsTypeOn tech.now)) }
 {
     let (Some(name), Some(closing), None) = (words.next(), words.next(), words.next()) else {
         return Err(CellFaultKind::Form);
@@ -93,7 +93,7 @@ fn section_line(tech: &Tech, words: &mut Words<'_>) -> Result<Meaning, CellFault
 #[tactic(auto, unfolding(crate::specs::CellFiles::section_named))]
 fn section_named(tech: &Tech, name: &[u8]) -> Result<Meaning, CellFaultKind>
     ensures value { result ≡ spec.section_named tech.now name.now }
-    ensures known { IfOk result (IsKnownMeaning tech.now.plane_count) }
+    ensures known { IfOk result (IsKnownMeaning (IsTypeOn tech.now)) }
 {
     if name == b"end".as_slice() {
         Ok(Meaning::Ends)
@@ -128,7 +128,7 @@ fn is_check_section(name: &[u8]) -> bool
 #[tactic(auto, unfolding(crate::specs::CellFiles::layer_named))]
 fn layer_named(tech: &Tech, name: &[u8]) -> Result<Meaning, CellFaultKind>
     ensures value { result ≡ spec.layer_named tech.now name.now }
-    ensures known { IfOk result (IsKnownMeaning tech.now.plane_count) }
+    ensures known { IfOk result (IsKnownMeaning (IsTypeOn tech.now)) }
 {
     let Some(kind) = tech.type_of(name) else {
         return Err(CellFaultKind::UnknownLayer);

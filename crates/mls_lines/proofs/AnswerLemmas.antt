@@ -1,12 +1,12 @@
 -- Replies to lines.
-use Rattle.std.proofs.Common.{◌≡◌, ℕ, Bool, true, false, List, [], Option, None, Result, Ok, Err, Vec, Global, is_ok, append-nil, refl, sym, arith}
-use Rattle.mls_session.specs.OwnSteps.{Terms}
-use Rattle.mls_wire.specs.NameBooks.{Names}
-use Rattle.mls_wire.specs.Pushes.{Appends}
-use Rattle.mls_wire.specs.Replies.{response_text}
-use Rattle.mls_wire.specs.declared.line.Line.{Line}
-use Rattle.mls_wire.specs.declared.line.Line.TheVariants.{Silent, Open, Close, Step, Steps, Audit, Look, Run}
-use Rattle.mls_wire.specs.declared.response.Response.TheVariants.{Fault}
+use Rattle.std.proofs.Common.{◌≡◌, ℕ, true, false, List, [], None, Result, Ok, Err, Vec, Global, is_ok, append-nil, refl, sym, arith}
+use Rattle.mls_seat_lines.specs.mls_session.OwnSteps.{Terms}
+use Rattle.mls_seat_lines.specs.mls_wire.NameBooks.{Names}
+use Rattle.mls_seat_lines.specs.mls_wire.Pushes.{Appends}
+use Rattle.mls_seat_lines.specs.mls_wire.Replies.{response_text}
+use Rattle.mls_seat_lines.specs.mls_wire.declared.line.Line.{Line}
+use Rattle.mls_seat_lines.specs.mls_wire.declared.line.Line.TheVariants.{Silent, Open, Close, Step, Steps, Audit, Look, Run}
+use Rattle.mls_seat_lines.specs.mls_wire.declared.response.Response.TheVariants.{Fault}
 use Rattle.mls_lines.specs.Answers.{AnswersLine, fault_alone}
 
 -- no text is appended

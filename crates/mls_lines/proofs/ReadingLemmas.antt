@@ -3,9 +3,9 @@ use Rattle.std.proofs.Common.{◌≡◌, ℕ, suc, ◌+◌, ◌-◌, Option, Som
 use Rattle.std.specs.Prelude.{⊤, slice_get}
 use Rattle.std.specs.Io.KnownBytes.{prepend_known}
 use Rattle.mls_text.proofs.LineLemmas.{lines_of-fed, lines_of-last}
-use Rattle.mls_wire.specs.Lines.{line_if_short, script_of}
-use Rattle.mls_wire.specs.NextLines.{TakesKnownLine}
-use Rattle.mls_wire.specs.declared.reader.NextLine.TheVariants.{Line, LastLine}
+use Rattle.mls_seat_lines.specs.mls_wire.Lines.{line_if_short, script_of}
+use Rattle.mls_seat_lines.specs.mls_wire.NextLines.{TakesKnownLine}
+use Rattle.mls_seat_lines.specs.mls_wire.declared.reader.NextLine.TheVariants.{Line, LastLine}
 use Rattle.mls_lines.specs.Scripts.{IsScriptLine}
 
 -- line n is the first of those that are ahead

@@ -1,36 +1,48 @@
 -- Replies that were written, one more at a time.
-use Rattle.std.proofs.Common.{ℕ, Option, List, [], ◌∷◌, ◌++◌, refl, sym, ap, ◌∙◌, append_assoc, append-nil, flat_map}
+use Rattle.std.proofs.Common.{ℕ, ◌&&◌, Bool, true, Option, List, [], ◌∷◌, ◌++◌, refl, sym, ap, ◌∙◌, append_assoc, append-nil, flat_map}
 use Rattle.std.proofs.KnownBytes.{Appends-nil, Appends-trans}
+use Rattle.std.proofs.Math.Bool.{and-true}
 use Rattle.std.proofs.lemmas.Grind.{flat_map-append}
 use Rattle.std.proofs.lemmas.List.Elements.{All-nil, All-push}
+use Rattle.std.proofs.lemmas.List.Folds.{list_all-append}
 use Rattle.std.specs.Io.KnownBytes.{Appends}
-use Rattle.mls_session.specs.OwnSteps.{Terms}
-use Rattle.mls_wire.specs.NameBooks.{Names}
-use Rattle.mls_wire.specs.Serving.{AppendsFront, Gains}
-use Rattle.mls_lines.specs.Scripts.{AreReplies, IsReply}
+use Rattle.std.specs.List.{list_all}
+use Rattle.mls_seat_lines.specs.mls_session.OwnSteps.{Terms}
+use Rattle.mls_seat_lines.specs.mls_wire.NameBooks.{Names}
+use Rattle.mls_seat_lines.specs.mls_wire.Serving.{AppendsFront, Gains}
+use Rattle.mls_lines.specs.Scripts.{AreReplies, AreSomeReplies, IsTold, Told}
+
+abbrev audited_of : Told → Bool
+audited_of told = told.audited
 
 module _ (terms : Terms) (book : Names) (script : Option (List ℕ)) where
-  replies_push : (out text : List ℕ) → AreReplies terms book script out → ∥ IsReply terms book script text ∥₁ → AreReplies terms book script (out ++ text)
-  replies_push out text (texts, are, is) reply = (
-    texts ++ text ∷ [],
-    All-push (λ t. ∥ IsReply terms book script t ∥₁) texts text are reply,
-    ap (λ o. o ++ text) is ∙ ap (λ t. flat_map (λ (x : List ℕ). x) texts ++ t) (sym (append-nil text)) ∙ sym (flat_map-append (λ (x : List ℕ). x) texts (text ∷ [])),
+  replies_push : (out : List ℕ) (audited : Bool) (told : Told) → AreReplies terms book script audited out → IsTold terms book script told
+      → AreReplies terms book script (audited && told.audited) (out ++ told.text)
+  replies_push out audited told (all, are, is, both) one = (
+    all ++ told ∷ [],
+    All-push (λ t. IsTold terms book script t) all told are one,
+    ap (λ o. o ++ told.text) is ∙ ap (λ t. flat_map (λ (x : Told). x.text) all ++ t) (sym (append-nil told.text)) ∙ sym (flat_map-append (λ (x : Told). x.text) all (told ∷ [])),
+    ap (λ b. b && told.audited) both ∙ ap (λ b. list_all audited_of all && b) (sym (and-true told.audited)) ∙ sym (list_all-append audited_of all (told ∷ [])),
   )
 
   -- nothing was written yet
-  pub replies_none : (a : Option (List ℕ)) → Gains a a (AreReplies terms book script)
-  replies_none a = ([], ([], All-nil (λ t. ∥ IsReply terms book script t ∥₁), refl), Appends-nil a)
+  pub replies_none : (a : Option (List ℕ)) → Gains a a (AreReplies terms book script true)
+  replies_none a = ([], ([], All-nil (λ t. IsTold terms book script t), refl, refl), Appends-nil a)
 
   -- a reply more
-  pub replies_more : (a b c : Option (List ℕ)) (text : List ℕ) → Gains a b (AreReplies terms book script) → ∥ IsReply terms book script text ∥₁ → Appends b c text
-      → Gains a c (AreReplies terms book script)
-  replies_more a b c text (out, are, grew) reply grows = (out ++ text, replies_push out text are reply, Appends-trans a b c out text grew grows)
+  pub replies_more : (a b c : Option (List ℕ)) (audited : Bool) (told : Told) → Gains a b (AreReplies terms book script audited) → IsTold terms book script told
+      → Appends b c told.text → Gains a c (AreReplies terms book script (audited && told.audited))
+  replies_more a b c audited told (out, are, grew) one grows = (out ++ told.text, replies_push out audited told are one, Appends-trans a b c out told.text grew grows)
 
   -- a beginning of a reply more
-  pub replies_front : (a b c : Option (List ℕ)) (text : List ℕ) → Gains a b (AreReplies terms book script) → ∥ IsReply terms book script text ∥₁ → AppendsFront b c text
-      → (whole : List ℕ) × AreReplies terms book script whole × AppendsFront a c whole
-  replies_front a b c text (out, are, grew) reply (front, missing, split, grows) = (
-    out ++ text,
-    replies_push out text are reply,
+  pub replies_front : (a b c : Option (List ℕ)) (audited : Bool) (told : Told) → Gains a b (AreReplies terms book script audited) → IsTold terms book script told
+      → AppendsFront b c told.text → (whole : List ℕ) × AreSomeReplies terms book script whole × AppendsFront a c whole
+  replies_front a b c audited told (out, are, grew) one (front, missing, split, grows) = (
+    out ++ told.text,
+    (audited && told.audited, replies_push out audited told are one),
     (out ++ front, missing, ap (λ t. out ++ t) split ∙ sym (append_assoc out front missing), Appends-trans a b c out front grew grows),
   )
+
+  -- whether all were audited or not
+  pub replies_some : (a b : Option (List ℕ)) (audited : Bool) → Gains a b (AreReplies terms book script audited) → Gains a b (AreSomeReplies terms book script)
+  replies_some a b audited (out, are, grew) = (out, (audited, are), grew)

@@ -2,26 +2,27 @@
 use Rattle.std.specs.Prelude.{◌≡◌, ◌⊎◌, ℕ, Bool, true, Option, Some, None, Result, Ok, Err, List, []}
 use Rattle.std.specs.Bool.{MatchBool}
 use Rattle.std.specs.Option.{option_map}
-use Rattle.mls_live.specs.Lists.{list_of}
-use Rattle.mls_server.specs.LegalLists.{IsLegalList}
-use Rattle.mls_server.specs.declared.answer.Answer.TheVariants.{Closed, Opened}
-use Rattle.mls_server.specs.declared.fault.OpenFault.{OpenFault}
-use Rattle.mls_server.specs.declared.fault.OpenFault.TheVariants.{OpenAlready, SessionsFull}
-use Rattle.mls_session.specs.OwnSteps.{Terms}
-use Rattle.mls_session.specs.declared.journal.Said.{Said}
+use Rattle.mls_seat_lines.specs.mls_live.Lists.{list_of}
+use Rattle.mls_seat_lines.specs.mls_server.LegalLists.{IsLegalList}
+use Rattle.mls_seat_lines.specs.mls_server.declared.answer.Answer.TheVariants.{Closed, Opened}
+use Rattle.mls_seat_lines.specs.mls_server.declared.fault.OpenFault.{OpenFault}
+use Rattle.mls_seat_lines.specs.mls_server.declared.fault.OpenFault.TheVariants.{OpenAlready, SessionsFull}
+use Rattle.mls_seat_lines.specs.mls_session.OwnSteps.{Terms}
+use Rattle.mls_seat_lines.specs.mls_session.declared.journal.Said.{Said}
 use Rattle.mls_text.specs.Words.{same_word}
-use Rattle.mls_wire.specs.NameBooks.{Names}
-use Rattle.mls_wire.specs.Replies.{answer_text, response_text}
-use Rattle.mls_wire.specs.declared.line.Line.{Line}
-use Rattle.mls_wire.specs.declared.line.Line.TheVariants.{Silent, Open, Close, Step, Steps, Audit, Look, Run}
-use Rattle.mls_wire.specs.declared.line.LineFault.{LineFault}
-use Rattle.mls_wire.specs.declared.line.LineFault.TheVariants.{NotOpen, UnknownCommand}
-use Rattle.mls_wire.specs.declared.response.Response.TheVariants.{Fault}
+use Rattle.mls_seat_lines.specs.mls_wire.NameBooks.{Names}
+pub use Rattle.mls_seat_lines.specs.mls_wire.Replies.{response_text}
+use Rattle.mls_seat_lines.specs.mls_wire.Replies.{answer_text}
+use Rattle.mls_seat_lines.specs.mls_wire.declared.line.Line.{Line}
+use Rattle.mls_seat_lines.specs.mls_wire.declared.line.Line.TheVariants.{Silent, Open, Close, Step, Steps, Audit, Look, Run}
+use Rattle.mls_seat_lines.specs.mls_wire.declared.line.LineFault.{LineFault}
+use Rattle.mls_seat_lines.specs.mls_wire.declared.line.LineFault.TheVariants.{NotOpen, UnknownCommand}
+use Rattle.mls_seat_lines.specs.mls_wire.declared.response.Response.TheVariants.{Fault}
 use Rattle.mls_seat_lines.specs.SeatLines.{SaysLine}
 use Rattle.mls_seat_lines.specs.declared.seat_line.SeatLine.{SeatLine}
 use Rattle.mls_seat_lines.specs.declared.seat_line.SeatLine.TheVariants.{Audit as AuditLine, Look as LookLine, Run as RunLine}
 use Rattle.mls_lines.specs.declared.seating.Sitting.{Sitting}
-use Rattle.mls_live.specs.declared.naming.Naming.{Ghosts}
+use Rattle.mls_seat_lines.specs.mls_live.declared.naming.Naming.{Ghosts}
 
 -- the session that is open: its name, and the list of its seat
 pub record OpenSeat : Type 0 where

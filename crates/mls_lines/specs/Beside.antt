@@ -1,11 +1,11 @@
 -- What lines say beside one session. This project's own.
 use Rattle.std.specs.Prelude.{ℕ, ◌||◌, Bool, false, if◌then◌else◌, Option, Some, None, Result, Err, List, [], ◌∷◌, codes}
 use Rattle.mls_text.specs.Words.{same_word, words_of}
-use Rattle.mls_wire.specs.NameBooks.{Names, SessionIds}
-use Rattle.mls_wire.specs.Says.{line_says}
-use Rattle.mls_wire.specs.declared.line.Line.{Line}
-use Rattle.mls_wire.specs.declared.line.LineFault.{LineFault}
-use Rattle.mls_wire.specs.declared.line.LineFault.TheVariants.{UnknownCommand}
+use Rattle.mls_seat_lines.specs.mls_wire.NameBooks.{Names, SessionIds}
+use Rattle.mls_seat_lines.specs.mls_wire.Says.{line_says}
+use Rattle.mls_seat_lines.specs.mls_wire.declared.line.Line.{Line}
+use Rattle.mls_seat_lines.specs.mls_wire.declared.line.LineFault.{LineFault}
+use Rattle.mls_seat_lines.specs.mls_wire.declared.line.LineFault.TheVariants.{UnknownCommand}
 
 -- a session of this name is open, or none; its id doesn't matter
 abbrev pub ids_beside : Option (List ℕ) → SessionIds

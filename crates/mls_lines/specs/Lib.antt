@@ -3,3 +3,7 @@ pub mod Beside
 pub mod Rosters
 pub mod Scripts
 pub use Rattle.mls_seat_lines.specs.Glossaries
+pub use Rattle.mls_seat_lines.specs.mls_library
+pub use Rattle.mls_seat_lines.specs.mls_server
+pub use Rattle.mls_seat_lines.specs.mls_session
+pub use Rattle.mls_seat_lines.specs.mls_wire

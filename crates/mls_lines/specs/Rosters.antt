@@ -1,6 +1,6 @@
 -- Which thread a line's name has. This project's own.
 use Rattle.std.specs.Prelude.{ℕ, ◌+◌, ◌-◌, ◌^◌, ◌==◌, ◌&&◌, not, min, Bool, false, if◌then◌else◌, Option, Some, None, is_none, List, slice_index_or, slice_set, position, codes, [], ◌∷◌}
-use Rattle.mls_server.specs.SessionNames.{is_session_name}
+use Rattle.mls_seat_lines.specs.mls_server.SessionNames.{is_session_name}
 use Rattle.mls_text.specs.Words.{begins_with, same_word, words_of}
 use Rattle.mls_lines.specs.declared.roster.Entry.{Entry}
 

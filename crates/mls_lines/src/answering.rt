@@ -1,10 +1,10 @@
 //! What a line does, and its reply.
 ghost use Rattle.std.specs.Prelude.{◌≡◌, ℕ, Bool, List, [], None, Ok, true, is_ok, IfOk};
-ghost use Rattle.mls_live.specs.Lists.{list_of};
-ghost use Rattle.mls_server.specs.LegalLists.{IsLegalList};
-ghost use Rattle.mls_wire.specs.Pushes.{Appends};
-ghost use Rattle.mls_wire.specs.Replies.{answer_text, response_text};
-ghost use Rattle.mls_wire.specs.ScriptLines.{bytes_of_line};
+ghost use Rattle.mls_seat_lines.specs.mls_live.Lists.{list_of};
+ghost use Rattle.mls_seat_lines.specs.mls_server.LegalLists.{IsLegalList};
+ghost use Rattle.mls_seat_lines.specs.mls_wire.Pushes.{Appends};
+ghost use Rattle.mls_seat_lines.specs.mls_wire.Replies.{answer_text, response_text};
+ghost use Rattle.mls_seat_lines.specs.mls_wire.ScriptLines.{bytes_of_line};
 ghost use Rattle.mls_lines.specs.Answers.{AnswersLine, ClosesAt, OpensAt, SaysAt, fault_alone, held_by, name_held};
 ghost use Rattle.mls_seat_lines.specs.Glossaries.{book_in};
 ghost use Rattle.mls_lines.specs.Beside.{says_beside};
@@ -12,13 +12,15 @@ ghost use Rattle.mls_lines.specs.Beside.{says_beside};
 use crate::hall::{Hall, Scripted};
 use crate::seating::{Sitting, parse};
 use crossbeam_channel::Sender;
-use mls_live::{Live, Naming, Seat};
-use mls_seat_lines::{SeatLine, Voice, say_line};
-use mls_server::{Answer, Name, OpenFault, SessionId};
-use mls_session::Command;
-use mls_wire::{Line, LineFault, Response, ScriptLine, push_response};
+use mls_seat_lines::{
+    Answer, Command, Line, LineFault, Live, Name, Naming, OpenFault, Response, ScriptLine, Seat,
+    SeatLine, SessionId, Voice, push_response, say_line,
+};
 use std::alloc::{AllocError, Global};
 use std::sync::Wait;
+
+/// How many pieces a seat checks off the lock before it catches up. What is left then is checked in one hold of it.
+const MOST_TURNS: u64 = 1 << 20;
 
 /// What a name's thread has for its lines.
 #[derive(Drop)]
@@ -119,7 +121,7 @@ impl<'l, N: Scripted> Clerk<'l, N> {
             return push_fault::<N>(self.hall, n, LineFault::NotOpen, out);
         };
         if is_catch_up(&line) {
-            sitting.seat.work_off(rt, self.hall.alloc);
+            sitting.seat.work_off(rt, self.hall.alloc, MOST_TURNS);
         }
         let name = sitting.name;
         let voice = Voice {
@@ -318,7 +320,7 @@ fn fault_alone(said: &Line) -> LineFault
 }
 
 /// Appends the reply to a line of this name.
-#[tactic(auto, unfolding(mls_wire::specs::Replies::response_text))]
+#[tactic(auto, unfolding(crate::specs::Answers::response_text))]
 fn push_answer<N: Scripted>(
     hall: &Hall,
     name: Name,

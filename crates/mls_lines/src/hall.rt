@@ -1,11 +1,11 @@
 //! What all threads share.
 ghost use Rattle.std.specs.Prelude.{◌≡◌, ℕ, List, Option, Some};
 ghost use Rattle.mls_seat_lines.specs.Glossaries.{Glossary, book_in};
-ghost use Rattle.mls_lines.specs.Scripts.{IsScriptLine, IsReply};
+ghost use Rattle.mls_lines.specs.Scripts.{IsScriptLine, IsTold};
 
 use crate::Glossary;
 use crate::roster::Roster;
-use mls_live::Naming;
+use mls_seat_lines::Naming;
 use std::alloc::Global;
 use std::marker::{Brand, PhantomData};
 use std::sync::Mutex;
@@ -68,21 +68,25 @@ impl<N: Scripted> Queued<N> {
     }
 }
 
-/// A reply to a line of the script.
+/// A reply to a line of the script, or one without text to the end of the input. It can't be copied, so it is written
+/// once at most.
 #[derive(Drop)]
 pub struct Reply<N: Scripted> {
     pub text: Vec<u8>,
+    /// Whether the list of the session that was closed, if any, is that of its journal.
+    pub audited: bool,
     of: PhantomData<N>,
-    pub ghost reply: { ∥ IsReply N.terms (book_in N.glossary) N.script text.items ∥₁ },
+    pub ghost told: { IsTold N.terms (book_in N.glossary) N.script (record { text = text.items; audited = audited }) },
 }
 
 impl<N: Scripted> Reply<N> {
     /// Returns a reply of this text.
-    pub fn new(text: Vec<u8>) -> Self
-        requires { ∥ IsReply N.terms (book_in N.glossary) N.script text.items ∥₁ }
+    pub fn new(text: Vec<u8>, audited: bool) -> Self
+        requires { IsTold N.terms (book_in N.glossary) N.script (record { text = text.items; audited = audited }) }
     {
         Reply {
             text,
+            audited,
             of: PhantomData,
         }
     }

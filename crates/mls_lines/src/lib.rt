@@ -12,4 +12,7 @@ mod threads;
 mod writing;
 
 pub use lines::{Lines, Served};
-pub use mls_seat_lines::Glossary;
+pub use mls_seat_lines::{
+    Capacity, CellFault, CellTiles, Glossary, JournalLimit, Limits, Quota, ServeFault, Server,
+    Watched, WriteFault, serve,
+};

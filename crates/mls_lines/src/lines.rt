@@ -1,11 +1,11 @@
 //! A server whose lines are carried out as they come.
 ghost use Rattle.std.specs.Prelude.{◌≡◌, ◌≢◌, ℕ, List, [], IfOk, IfErr, OnOk, OnErr};
-ghost use Rattle.mls_server.specs.Servers.{world_of};
-ghost use Rattle.mls_server.specs.Settings.{terms_for};
+ghost use Rattle.mls_seat_lines.specs.mls_server.Servers.{world_of};
+ghost use Rattle.mls_seat_lines.specs.mls_server.Settings.{terms_for};
 ghost use Rattle.mls_seat_lines.specs.Glossaries.{book_in, glossary_of};
-ghost use Rattle.mls_lines.specs.Scripts.{AreReplies, EndsLines, FailsLines, WritesLines};
-ghost use Rattle.mls_wire.specs.Serving.{AppendsFront, Gains};
-ghost use Rattle.mls_wire.specs.Watches.{HasCause};
+ghost use Rattle.mls_lines.specs.Scripts.{AreReplies, AreSomeReplies, EndsLines, FailsLines, WritesLines};
+ghost use Rattle.mls_seat_lines.specs.mls_wire.Serving.{AppendsFront, Gains};
+ghost use Rattle.mls_seat_lines.specs.mls_wire.Watches.{HasCause};
 
 use crate::Glossary;
 use crate::hall::{Hall, Queued, Reply, Scripted};
@@ -14,9 +14,7 @@ use crate::roster::{PLACES, Roster};
 use crate::threads::{Place, answer_all};
 use crate::writing::write_replies;
 use crossbeam_channel::{Receiver, Sender, unbounded};
-use mls_live::Live;
-use mls_server::{Server, SessionId};
-use mls_wire::{ServeFault, Watched, WriteFault};
+use mls_seat_lines::{Live, ServeFault, Server, SessionId, Watched, WriteFault};
 use std::alloc::{AllocError, Global};
 use std::io::{Read, Write};
 use std::marker::Brand;
@@ -39,7 +37,7 @@ pub struct Lines {
 /// How the sessions ended.
 #[derive(Clone, Copy, Debug, PartialEq, Eq)]
 pub struct Served {
-    /// Whether the list of each session was audited at its end.
+    /// Whether the lists of all sessions were audited at their ends.
     pub audited: bool,
 }
 
@@ -47,8 +45,8 @@ pub struct Served {
 #[derive(Drop)]
 struct Ended {
     read: Result<(), ServeFault>,
-    answered: Result<bool, AllocError>,
-    written: Result<(), WriteFault>,
+    answered: Result<(), AllocError>,
+    written: Result<bool, WriteFault>,
 }
 
 /// The ends of all channels.
@@ -79,8 +77,8 @@ impl Lines {
     ) -> Result<Served, ServeFault>
         requires idle { (world_of self.server).seats ≡ [] }
         requires glossary { self.glossary ≡ glossary_of (world_of self.server).setting }
-        ensures served { OnOk result (WritesLines (world_of self.server) (I.remaining input.old.device)
-            (W.contents output.old.device) (W.contents output.new.device)) }
+        ensures served { IfOk result (λ served. WritesLines (world_of self.server) (I.remaining input.old.device)
+            (W.contents output.old.device) (W.contents output.new.device) served.audited) }
         ensures failed { IfErr result (λ fault. FailsLines (world_of self.server) fault
             (I.remaining input.old.device) input.new
             W.contents output.old output.new) }
@@ -103,8 +101,8 @@ fn serve_as<N: Scripted + Send + Sync, I: Read, W: Write + Send, T: Threads + Wa
     requires parts { N.parts ≡ 65 }
     requires glossary { lines.glossary ≡ N.glossary }
     requires script { I.remaining input.old.device ≡ N.script }
-    ensures served { OnOk result (Gains (W.contents output.old.device) (W.contents output.new.device)
-        (AreReplies N.terms (book_in N.glossary) N.script)) }
+    ensures served { IfOk result (λ served. Gains (W.contents output.old.device) (W.contents output.new.device)
+        (AreReplies N.terms (book_in N.glossary) N.script served.audited)) }
     ensures failed { IfErr result (λ fault. EndsLines N.terms (book_in N.glossary) N.script fault input.new
         W.contents output.old output.new) }
 {
@@ -129,9 +127,9 @@ fn serve_as<N: Scripted + Send + Sync, I: Read, W: Write + Send, T: Threads + Wa
         answered,
         written,
     } = run(rt, (&hall, live), ends, input, output);
-    written?;
+    let audited = written?;
     read?;
-    let audited = answered?;
+    answered?;
     if hall.is_closed() {
         return Err(ServeFault::Memory);
     }
@@ -151,9 +149,9 @@ fn run<N: Scripted + Send + Sync, I: Read, W: Write + Send, T: Threads + Wait + 
     requires script { I.remaining input.old.device ≡ N.script }
     ensures read { IfErr result.read (λ fault. fault ≡ ServeFault.Read → HasCause input.new) }
     ensures kind { IfErr result.read (λ fault. fault ≢ ServeFault.Write) }
-    ensures written { OnOk result.written (Gains (W.contents output.old.device) (W.contents output.new.device)
-        (AreReplies N.terms (book_in N.glossary) N.script)) }
-    ensures front { OnErr result.written ((out : List ℕ) × AreReplies N.terms (book_in N.glossary) N.script out
+    ensures written { IfOk result.written (λ audited. Gains (W.contents output.old.device) (W.contents output.new.device)
+        (AreReplies N.terms (book_in N.glossary) N.script audited)) }
+    ensures front { OnErr result.written ((out : List ℕ) × AreSomeReplies N.terms (book_in N.glossary) N.script out
         × AppendsFront (W.contents output.old.device) (W.contents output.new.device) out) }
     ensures cause { OnErr result.written (HasCause output.new) }
 {
@@ -169,24 +167,24 @@ fn run<N: Scripted + Send + Sync, I: Read, W: Write + Send, T: Threads + Wait + 
     // Where no thread can be made, the second of two runs first: so the lines are read, carried out, and replied to.
     let ((written, answered), read) = join_mut(
         rt,
-        &mut || -> (Result<(), WriteFault>, Result<bool, AllocError>)
+        &mut || -> (Result<bool, WriteFault>, Result<(), AllocError>)
             requires { (N.parts ≡ 65) × (hall.now.glossary ≡ N.glossary) }
-            ensures { OnOk result.0 (Gains (W.contents output.entry.now.device) (W.contents output.exit.now.device)
-                (AreReplies N.terms (book_in N.glossary) N.script))
-                × OnErr result.0 ((out : List ℕ) × AreReplies N.terms (book_in N.glossary) N.script out
+            ensures { IfOk result.0 (λ audited. Gains (W.contents output.entry.now.device) (W.contents output.exit.now.device)
+                (AreReplies N.terms (book_in N.glossary) N.script audited))
+                × OnErr result.0 ((out : List ℕ) × AreSomeReplies N.terms (book_in N.glossary) N.script out
                 × AppendsFront (W.contents output.entry.now.device) (W.contents output.exit.now.device) out)
                 × OnErr result.0 (HasCause output.exit.now) }
         {
             join_mut(
                 rt,
-                &mut || -> Result<(), WriteFault>
-                    ensures { OnOk result (Gains (W.contents output.entry.now.device)
-                        (W.contents output.exit.now.device) (AreReplies N.terms (book_in N.glossary) N.script))
-                        × OnErr result ((out : List ℕ) × AreReplies N.terms (book_in N.glossary) N.script out
+                &mut || -> Result<bool, WriteFault>
+                    ensures { IfOk result (λ audited. Gains (W.contents output.entry.now.device)
+                        (W.contents output.exit.now.device) (AreReplies N.terms (book_in N.glossary) N.script audited))
+                        × OnErr result ((out : List ℕ) × AreSomeReplies N.terms (book_in N.glossary) N.script out
                         × AppendsFront (W.contents output.entry.now.device) (W.contents output.exit.now.device) out)
                         × OnErr result (HasCause output.exit.now) }
                 { write_replies(rt, hall, &replies, output) },
-                &mut || -> Result<bool, AllocError>
+                &mut || -> Result<(), AllocError>
                     requires { (N.parts ≡ 65) × (hall.now.glossary ≡ N.glossary) }
                 {
                     match crew.take() {

@@ -7,7 +7,7 @@ ghost use Rattle.mls_lines.specs.Scripts.{HasAnswered};
 use crate::answering::{Clerk, Numbered};
 use crate::hall::{Queued, Reply, Scripted};
 use crate::seating::Sitting;
-use mls_wire::ScriptLine;
+use mls_seat_lines::ScriptLine;
 use std::sync::Wait;
 
 /// The session that is open at a thread's seat, and the number of the line that came last.
@@ -17,13 +17,6 @@ pub struct Progress<'l, N: Scripted> {
     sitting: Option<Sitting<'l, N>>,
     last: u128,
     ghost answered: { ∥ HasAnswered N.terms (book_in N.glossary) N.script last (held_by sitting) ∥₁ },
-}
-
-/// A line's reply, and whether the list of the session that it closed, if any, is that of its journal.
-#[derive(Drop)]
-pub struct Answered<N: Scripted> {
-    pub reply: Reply<N>,
-    pub audited: bool,
 }
 
 impl<'l, N: Scripted> Progress<'l, N> {
@@ -42,7 +35,7 @@ impl<'l, N: Scripted> Progress<'l, N> {
     }
 
     /// Does what a line asks for, and returns the reply. Returns none where memory runs out for it.
-    pub fn answer<R: Wait>(&mut self, rt: &R, line: &Queued<N>) -> Option<Answered<N>>
+    pub fn answer<R: Wait>(&mut self, rt: &R, line: &Queued<N>) -> Option<Reply<N>>
         requires { N.parts ≡ 65 }
     {
         // A queue keeps its order.
@@ -56,26 +49,19 @@ impl<'l, N: Scripted> Progress<'l, N> {
             .answer(rt, &mut self.sitting, &numbered, &mut text);
         self.last = line.n;
         match replied {
-            Ok(audited) => {
-                let reply = Reply::<N>::new(text);
-                Some(Answered { reply, audited })
-            }
+            Ok(audited) => Some(Reply::<N>::new(text, audited)),
             Err(_) => None,
         }
     }
 
-    /// Closes the session that is open. Returns whether its list is that of its journal.
-    pub fn end<R: Wait>(self, rt: &R) -> bool
+    /// Closes the session that is open, if any, and returns a last reply, without text.
+    pub fn end<R: Wait>(self, rt: &R) -> Option<Reply<N>>
         requires { N.parts ≡ 65 }
     {
         let Progress { clerk, sitting, .. } = self;
-        match sitting {
-            Some(Sitting { seat, .. }) => {
-                let audited = seat.audit(rt).is_ok();
-                let _ = clerk.live.leave(rt, seat);
-                audited
-            }
-            None => true,
-        }
+        let Sitting { seat, .. } = sitting?;
+        let audited = seat.audit(rt).is_ok();
+        let _ = clerk.live.leave(rt, seat);
+        Some(Reply::<N>::new(Vec::new(clerk.hall.alloc), audited))
     }
 }

@@ -2,16 +2,15 @@
 ghost use Rattle.std.specs.Prelude.{◌≡◌, ◌≢◌, ◌<◌, false, IfErr, IsFalse};
 ghost use Rattle.mls_lines.specs.Rosters as spec;
 ghost use Rattle.mls_lines.specs.Scripts.{IsScriptLine};
-ghost use Rattle.mls_wire.specs.ScriptLines.{bytes_of_line};
-ghost use Rattle.mls_wire.specs.Watches.{HasCause};
-ghost use Rattle.mls_wire.specs.declared.serving.ServeFault.TheVariants.{Read as ReadFailed, Write as WriteFailed};
+ghost use Rattle.mls_seat_lines.specs.mls_wire.ScriptLines.{bytes_of_line};
+ghost use Rattle.mls_seat_lines.specs.mls_wire.Watches.{HasCause};
+ghost use Rattle.mls_seat_lines.specs.mls_wire.declared.serving.ServeFault.TheVariants.{Read as ReadFailed, Write as WriteFailed};
 
 use crate::answering::{Numbered, push_alone};
 use crate::hall::{Hall, Queued, Reply, Scripted};
 use crossbeam_channel::Sender;
-use mls_server::Name;
+use mls_seat_lines::{LineReader, Name, NextLine, ScriptLine, ServeFault, Watched};
 use mls_text::Words;
-use mls_wire::{LineReader, NextLine, ScriptLine, ServeFault, Watched};
 use std::alloc::{AllocError, Global};
 use std::io::Read;
 use std::sync::Wait;
@@ -149,6 +148,6 @@ fn reply<N: Scripted, R: Wait>(
     if text.is_empty() {
         return Ok(());
     }
-    let reply = Reply::<N>::new(text);
+    let reply = Reply::<N>::new(text, true);
     desk.replies.send(rt, reply).map_err(|_| AllocError)
 }

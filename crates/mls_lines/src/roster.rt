@@ -2,7 +2,7 @@
 ghost use Rattle.std.specs.Prelude.{◌≡◌, ◌<◌, IfNone, IfSome, None, is_none, position, replicate};
 ghost use Rattle.mls_lines.specs.Rosters as spec;
 
-use mls_server::Name;
+use mls_seat_lines::Name;
 use std::marker::Model;
 
 /// How many threads there are for names.

@@ -2,13 +2,13 @@
 ghost use Rattle.std.specs.Prelude.{◌≡◌, Some};
 ghost use Rattle.mls_seat_lines.specs.Glossaries.{book_in};
 ghost use Rattle.mls_lines.specs.Beside.{is_check_line, says_beside};
-ghost use Rattle.mls_wire.specs.ScriptLines.{bytes_of_line};
+ghost use Rattle.mls_seat_lines.specs.mls_wire.ScriptLines.{bytes_of_line};
 
 use crate::Glossary;
-use mls_live::{Naming, Seat};
-use mls_server::{Name, SessionId};
+use mls_seat_lines::{
+    Line, LineFault, Name, Naming, ScriptLine, Seat, SessionId, Sessions, parse_line,
+};
 use mls_text::Words;
-use mls_wire::{Line, LineFault, ScriptLine, Sessions, parse_line};
 
 /// A session that is open: its name, and its seat.
 #[derive(Drop)]

@@ -5,8 +5,7 @@ use crate::answering::Clerk;
 use crate::hall::{Hall, Queued, Reply, Scripted};
 use crate::progress::Progress;
 use crossbeam_channel::{Receiver, Sender};
-use mls_live::{Live, Plain, work};
-use mls_server::SessionId;
+use mls_seat_lines::{Live, Plain, SessionId, work};
 use std::alloc::{AllocError, Global};
 use std::sync::Wait;
 use std::sync::atomic::Ordering;
@@ -23,21 +22,20 @@ pub struct Place<N: Scripted> {
 }
 
 /// Answers the lines of all names, each name's in a thread of its own, while workers check, one for each receiver.
-/// Returns whether the list of each session was audited at its end.
 pub fn answer_all<N: Scripted + Send + Sync, R: Threads + Wait + Sync>(
     rt: &R,
     hall: &Hall,
     live: &Live<N>,
     places: Vec<Place<N>>,
     workers: Vec<Receiver<SessionId, Global>>,
-) -> Result<bool, AllocError>
+) -> Result<(), AllocError>
     requires parts { N.parts ≡ 65 }
     requires called { hall.now.glossary ≡ N.glossary }
 {
     let answered = thread::scope(
         thread::scope_env(),
         rt,
-        move |scope| -> Result<bool, AllocError>
+        move |scope| -> Result<(), AllocError>
             requires { (N.parts ≡ 65) × (hall.now.glossary ≡ N.glossary) }
         { start(rt, scope, (hall, live), places, workers) },
     );
@@ -47,14 +45,14 @@ pub fn answer_all<N: Scripted + Send + Sync, R: Threads + Wait + Sync>(
     answered
 }
 
-/// Starts all threads and takes the results of those for names.
+/// Starts all threads, and waits for those for names.
 fn start<'s, E, N: Scripted + Send + Sync + 's, R: Threads + Wait + Sync>(
     rt: &'s R,
     scope: &Scope<'s, E>,
     shared: (&'s Hall, &'s Live<N>),
     mut places: Vec<Place<N>>,
     workers: Vec<Receiver<SessionId, Global>>,
-) -> Result<bool, AllocError>
+) -> Result<(), AllocError>
     requires parts { N.parts ≡ 65 }
     requires called { shared.0.now.glossary ≡ N.glossary }
 {
@@ -79,15 +77,13 @@ fn start<'s, E, N: Scripted + Send + Sync + 's, R: Threads + Wait + Sync>(
             }
         }
     }
-    let mut audited = true;
     while let Some(handle) = handles.pop() {
-        audited &= handle.join(rt);
+        handle.join(rt);
     }
-    Ok(audited)
+    Ok(())
 }
 
-/// Answers the lines of names, one name at a time, and closes the session that is open at the end. Returns whether the
-/// list of each session was audited at its end.
+/// Answers the lines of names, one name at a time, and closes the session that is open at the end.
 ///
 /// Once a reply was lost because memory ran out, no line of the thread is carried out any more.
 fn answer_lines<'l, N: Scripted, R: Wait>(
@@ -95,7 +91,7 @@ fn answer_lines<'l, N: Scripted, R: Wait>(
     hall: &'l Hall,
     live: &'l Live<N>,
     place: Place<N>,
-) -> bool
+)
     requires parts { N.parts ≡ 65 }
     requires called { hall.now.glossary ≡ N.glossary }
 {
@@ -110,28 +106,27 @@ fn answer_lines<'l, N: Scripted, R: Wait>(
         live,
         notices,
     });
-    let mut audited = true;
     let mut lost = false;
     for _ in rt.forever() {
         let Ok(line) = lines.recv(rt) else {
             break;
         };
         if !lost && !hall.unwritten.load(Ordering::SeqCst) {
-            match progress.answer(rt, &line) {
-                Some(answered) => {
-                    audited = audited && answered.audited;
-                    lost = !send(rt, &replies, answered.reply);
-                }
-                None => lost = true,
-            }
+            lost = match progress.answer(rt, &line) {
+                Some(reply) => !send(rt, &replies, reply),
+                None => true,
+            };
             if lost {
                 hall.refused.store(true, Ordering::SeqCst);
             }
         }
         hall.roster.lock(rt).leave(number, progress.is_open());
     }
-    let closed = progress.end(rt);
-    audited && closed
+    if let Some(last) = progress.end(rt)
+        && replies.send(rt, last).is_err()
+    {
+        hall.refused.store(true, Ordering::SeqCst);
+    }
 }
 
 /// Hands a reply to the writer, if it has a text, and returns whether there was memory for that.

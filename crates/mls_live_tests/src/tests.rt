@@ -2,6 +2,7 @@
 mod commands;
 mod gates;
 mod holding;
+mod in_hand;
 mod many_seats;
 mod moments;
 mod refused_seats;
@@ -65,4 +66,9 @@ fn all_retired(rt: HostRuntime) -> Result<(), Fail> {
 #[test]
 fn world_settled(rt: HostRuntime) -> Result<(), Fail> {
     play(&rt, rt.alloc(), SMALL, Story::Settling)
+}
+
+#[test]
+fn two_pieces_at_one_notice(rt: HostRuntime) -> Result<(), Fail> {
+    play(&rt, rt.alloc(), SMALL, Story::TwoPieces)
 }

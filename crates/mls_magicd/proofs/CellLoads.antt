@@ -3,11 +3,11 @@ use Rattle.std.proofs.Common.{◌≡◌, ◌∙◌, ◌<◌, ℕ, suc, ◌+◌, 
 use Rattle.std.specs.Prelude.{Result, Ok, Err}
 use Rattle.std.specs.Result.{IsOkAnd}
 use Rattle.std.proofs.lemmas.List.{map-append}
-use Rattle.mls_library.specs.CellFiles.{layout_of_rects}
-use Rattle.mls_library.specs.Libraries.{loading_of, tile_counts, total}
-use Rattle.mls_server.specs.Events.{LoadsCell, with_cell}
-use Rattle.mls_server.specs.Settings.{NamedLayout, cell_names}
-use Rattle.mls_server.specs.Worlds.{World}
+use Rattle.mls_lines.specs.mls_library.CellFiles.{layout_of_rects}
+use Rattle.mls_lines.specs.mls_library.Libraries.{loading_of, tile_counts, total}
+use Rattle.mls_lines.specs.mls_server.Events.{LoadsCell, with_cell}
+use Rattle.mls_lines.specs.mls_server.Settings.{NamedLayout, cell_names}
+use Rattle.mls_lines.specs.mls_server.Worlds.{World}
 use Rattle.mls_magicd.specs.Cells.{FailsToLoad, LoadsFile, LoadsCells, StopsAtCell}
 use Rattle.mls_magicd.proofs.Taken.{map-take_more, split-at}
 use Rattle.mls_magicd.specs.CommandLines.{NamedFile}

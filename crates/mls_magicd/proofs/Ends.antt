@@ -1,16 +1,37 @@
 -- How the program ends at a fault.
-use Rattle.std.proofs.Common.{◌≡◌, ◌⊎◌, ℕ, Option, List, [], ◌∷◌, ◌++◌, inl, inr, subst}
+use Rattle.std.proofs.Common.{◌≡◌, ◌⊎◌, ℕ, Bool, true, false, not, Option, List, [], ◌∷◌, ◌++◌, inl, inr, refl, sym, subst}
 use Rattle.mls_tech.specs.Readings.{Tech}
-use Rattle.mls_server.specs.Worlds.{World}
-use Rattle.mls_wire.specs.Watches.{Watched}
+use Rattle.mls_lines.specs.mls_server.Worlds.{World}
+use Rattle.mls_lines.specs.mls_wire.Watches.{Watched}
+use Rattle.mls_magicd.specs.Cells.{LoadsCells}
+use Rattle.mls_magicd.specs.CommandLines.{NamedFile, NamesFiles, cell_words}
 use Rattle.mls_magicd.specs.Messages.{Reports, ReportsAll, fault_message}
-use Rattle.mls_magicd.specs.Programs.{EndsAtStart, FailsAtStart, IsConfiguredBy, failed, skipped_lines, status_after}
+use Rattle.mls_magicd.specs.Programs.{EndsAtStart, FailsAtStart, FailsOver, IsBareFor, IsConfiguredBy, failed, skipped_lines, status_after}
 use Rattle.mls_magicd.specs.declared.fault.Fault.{Fault}
-use Rattle.mls_magicd.specs.declared.fault.Fault.TheVariants.{Memory}
+use Rattle.mls_magicd.specs.declared.fault.Fault.TheVariants.{Options, Technology, Rule, Cell, Memory, Serve, Differs}
 use Rattle.mls_magicd.proofs.CellLoads.{LoadsCells-tech}
 use Rattle.mls_magicd.proofs.MessageLemmas.{ReportsAll-more}
 
 module _ {E : Type 0} (reads_as : List ℕ → List ℕ → Type 0) (may_fail : List ℕ → Type 0) (words : List (List ℕ)) (contents : E → Option (List ℕ)) where
+  module _ (old new : Watched E) (bare : World) (files : List NamedFile) (is_bare : IsBareFor reads_as words bare) (named : NamesFiles (cell_words words) files)
+      (reported : ReportsAll contents old new (skipped_lines bare.setting.tech)) where
+    -- the cells are loaded
+    pub started : (on : World) → LoadsCells reads_as bare files on → IsConfiguredBy reads_as words on × ReportsAll contents old new (skipped_lines on.setting.tech)
+    started on loaded = (
+      record { bare = bare; is_bare = is_bare; files = files; named = named; loaded = loaded },
+      subst (λ (tech : Tech). ReportsAll contents old new (skipped_lines tech)) (sym (LoadsCells-tech reads_as bare on files loaded)) reported,
+    )
+
+    -- they aren't, or there is no server
+    pub fails-over : (fault : Fault) → FailsOver reads_as may_fail bare files fault → FailsAtStart reads_as may_fail words contents old new fault
+    fails-over Memory fails = (bare, is_bare, reported)
+    fails-over (Cell fault) fails = (bare, record { is_bare = is_bare; files = files; named = named; stops = fails }, reported)
+    fails-over (Options fault) fails = absurd fails
+    fails-over (Technology fault) fails = absurd fails
+    fails-over (Rule fault) fails = absurd fails
+    fails-over (Serve fault) fails = absurd fails
+    fails-over Differs fails = absurd fails
+
   -- memory runs out once the cells are loaded
   pub lacks-memory : (old new : Watched E) (on : World) → IsConfiguredBy reads_as words on × ReportsAll contents old new (skipped_lines on.setting.tech)
       → FailsAtStart reads_as may_fail words contents old new Memory
@@ -34,3 +55,12 @@ module _ {E : Type 0} (reads_as : List ℕ → List ℕ → Type 0) (may_fail : 
     script.1,
     (fault, script.2, ReportsAll-more contents old mid new (skipped_lines script.0.setting.tech) (fault_message fault) script.3 reported),
   )
+
+-- ---- what was audited
+pub is_false : (b : Bool) → not b ≡ true → b ≡ false
+is_false true is = sym is
+is_false false is = refl
+
+pub is_true : (b : Bool) → not b ≡ false → b ≡ true
+is_true true is = refl
+is_true false is = sym is

@@ -8,9 +8,9 @@ use Rattle.std.specs.Borrow.{Bor}
 use Rattle.std.specs.Fmt.{decimal}
 use Rattle.std.specs.List.{flat_map}
 use Rattle.std.specs.Io.KnownBytes.{Appends}
-use Rattle.mls_wire.specs.Serving.{AppendsFront, serve_fault_text}
-use Rattle.mls_wire.specs.declared.serving.ServeFault.{ServeFault}
-use Rattle.mls_wire.specs.Watches.{Watched}
+use Rattle.mls_lines.specs.mls_wire.Serving.{AppendsFront, serve_fault_text}
+use Rattle.mls_lines.specs.mls_wire.declared.serving.ServeFault.{ServeFault}
+use Rattle.mls_lines.specs.mls_wire.Watches.{Watched}
 use Rattle.mls_tech.specs.declared.rule_line.Skipped.{Skipped}
 use Rattle.mls_magicd.specs.Messages.{ReportsAll, Reports, bad_cell_line, faulty_line, serve_fault_line, skipped_message, unreadable_line}
 

@@ -1,7 +1,7 @@
 -- Words that are refused.
 use Rattle.std.proofs.Common.{◌≡◌, ℕ, List, Option, inl, inr, subst, arith}
 use Rattle.std.specs.String.{string_bytes}
-use Rattle.mls_wire.specs.Watches.{Watched}
+use Rattle.mls_lines.specs.mls_wire.Watches.{Watched}
 use Rattle.mls_magicd.specs.Messages.{Reports, bad_cell_line, fault_message}
 use Rattle.mls_magicd.specs.Programs.{FailsAtStart, RefusesWords, bad_command_line, status_after}
 use Rattle.mls_magicd.specs.declared.fault.Fault.{Fault}

@@ -1,7 +1,7 @@
 -- What loading the cells of the command line does to a world. This project's own.
 use Rattle.std.specs.Prelude.{◌≡◌, ℕ, Ok, Err, List, [], ◌∷◌, ◌++◌, Result, ⊤}
-use Rattle.mls_server.specs.Events.{LoadsCell}
-use Rattle.mls_server.specs.Worlds.{World}
+use Rattle.mls_lines.specs.mls_server.Events.{LoadsCell}
+use Rattle.mls_lines.specs.mls_server.Worlds.{World}
 use Rattle.mls_magicd.specs.CommandLines.{NamedFile}
 use Rattle.mls_magicd.specs.declared.cells.LoadFault.{LoadFault}
 use Rattle.mls_magicd.specs.declared.cells.LoadFault.TheVariants.{Unreadable, Faulty, Memory}

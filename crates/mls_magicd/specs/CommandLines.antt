@@ -8,10 +8,10 @@ use Rattle.clap.specs.declared.builder.command.Command.TheViews.{out-Command}
 use Rattle.clap.specs.declared.builder.action.ArgAction.TheVariants.{Append, SetTrue}
 use Rattle.clap.specs.declared.builder.value_parser.ValueParser.TheVariants.{Signed}
 use Rattle.clap.specs.declared.parser.matches.Found.{Found}
-use Rattle.mls_library.specs.Libraries.{default_cell_tiles, most_tiles as most_cell_tiles}
-use Rattle.mls_session.specs.JournalLimits.{most_entries, default_journal_limit}
-use Rattle.mls_session.specs.Quotas.{least_quota, most_quota, default_quota}
-use Rattle.mls_server.specs.Capacities.{greatest_capacity, default_capacity}
+use Rattle.mls_lines.specs.mls_library.Libraries.{default_cell_tiles, most_tiles as most_cell_tiles}
+use Rattle.mls_lines.specs.mls_session.JournalLimits.{most_entries, default_journal_limit}
+use Rattle.mls_lines.specs.mls_session.Quotas.{least_quota, most_quota, default_quota}
+use Rattle.mls_lines.specs.mls_server.Capacities.{greatest_capacity, default_capacity}
 use Rattle.mls_magicd.specs.WorkerCounts.{most_workers, default_workers}
 use Rattle.mls_magicd.specs.declared.cell_argument.CellArgument.{CellArgument}
 use Rattle.mls_magicd.specs.declared.options.Options.{Options}

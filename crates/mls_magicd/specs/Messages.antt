@@ -4,8 +4,8 @@ use Rattle.std.specs.Fmt.{decimal}
 use Rattle.std.specs.Io.KnownBytes.{Appends}
 use Rattle.mls_edgerule.specs.Faults.{rule_fault_number, rule_fault_text}
 use Rattle.mls_edgerule.specs.declared.fault.RuleFault.{RuleFault}
-use Rattle.mls_library.specs.Faults.{fault_number as cell_fault_number, fault_text as cell_fault_text}
-use Rattle.mls_library.specs.declared.fault.CellFault.{CellFault}
+use Rattle.mls_lines.specs.mls_library.Faults.{fault_number as cell_fault_number, fault_text as cell_fault_text}
+use Rattle.mls_lines.specs.mls_library.declared.fault.CellFault.{CellFault}
 use Rattle.mls_tech.specs.Faults.{fault_number as tech_fault_number, fault_text as tech_fault_text}
 use Rattle.mls_tech.specs.declared.fault.TechFault.{TechFault}
 use Rattle.mls_tech.specs.declared.rule_line.Skipped.{Skipped}
@@ -18,9 +18,9 @@ use Rattle.mls_magicd.specs.declared.options.OptionsFault.{OptionsFault}
 use Rattle.mls_magicd.specs.declared.options.OptionsFault.TheVariants.{Refused, BadCell, Memory as OptionsMemory}
 use Rattle.mls_magicd.specs.declared.technology.TechnologyFault.{TechnologyFault}
 use Rattle.mls_magicd.specs.declared.technology.TechnologyFault.TheVariants.{Unreadable, Faulty, Memory as TechnologyMemory}
-use Rattle.mls_wire.specs.Serving.{AppendsFront, serve_fault_text}
-use Rattle.mls_wire.specs.Watches.{Watched, HasCause}
-use Rattle.mls_wire.specs.declared.serving.ServeFault.{ServeFault}
+use Rattle.mls_lines.specs.mls_wire.Serving.{AppendsFront, serve_fault_text}
+use Rattle.mls_lines.specs.mls_wire.Watches.{Watched, HasCause}
+use Rattle.mls_lines.specs.mls_wire.declared.serving.ServeFault.{ServeFault}
 
 -- ---- texts
 

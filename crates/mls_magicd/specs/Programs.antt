@@ -1,20 +1,22 @@
 -- What the program does with its words, its technology and its script. This project's own.
-use Rattle.std.specs.Prelude.{◌≡◌, ◌≢◌, ◌⊎◌, ℕ, false, Option, Some, Ok, Err, List, [], ◌∷◌, ◌++◌, map}
+use Rattle.std.specs.Prelude.{◌≡◌, ◌≢◌, ◌⊎◌, ℕ, false, Option, Some, Ok, Err, List, [], ◌∷◌, ◌++◌, map, ⊤}
 use Rattle.mls_crew.specs.Scripts.{FailsCrew, WritesCrew}
 use Rattle.mls_edgerule.specs.Compiling.{compiled}
+use Rattle.mls_edgerule.specs.declared.edge_rule.EdgeRule.{EdgeRule}
 use Rattle.mls_lines.specs.Scripts.{FailsLines, WritesLines}
 use Rattle.mls_tech.specs.Readings.{Tech}
-use Rattle.mls_server.specs.Worlds.{MarksAreExact, MarksAreRight, World}
-use Rattle.mls_wire.specs.Serving.{HasReason, WritesRun, WritesCutRun}
-use Rattle.mls_wire.specs.Watches.{Watched}
-use Rattle.mls_wire.specs.declared.serving.ServeFault.{ServeFault}
+use Rattle.mls_lines.specs.mls_server.Worlds.{MarksAreExact, MarksAreRight, World}
+use Rattle.mls_lines.specs.mls_wire.Serving.{HasReason, WritesRun, WritesCutRun}
+use Rattle.mls_lines.specs.mls_wire.Watches.{Watched}
+use Rattle.mls_lines.specs.mls_wire.declared.serving.ServeFault.{ServeFault}
 use Rattle.mls_magicd.specs.Cells.{LoadsCells, StopsAtCell}
 use Rattle.mls_magicd.specs.CommandLines.{AreTaken, NamedFile, NamesFiles, bad_word, cell_words, faults_in, file_named, quota_option, pool_option, journal_option, cell_tiles_option, IsNumberFor, IsRefusedBy}
 use Rattle.mls_magicd.specs.Messages.{Reports, ReportsAll, bad_cell_line, fault_message, serve_fault_line, skipped_message}
 use Rattle.mls_magicd.specs.Technologies.{HasReading, LacksTechnology}
 use Rattle.mls_magicd.specs.declared.cells.LoadFault.{LoadFault}
 use Rattle.mls_magicd.specs.declared.fault.Fault.{Fault}
-use Rattle.mls_magicd.specs.declared.fault.Fault.TheVariants.{Options, Technology, Rule, Cell, Memory, Serve, Differs}
+use Rattle.mls_magicd.specs.declared.fault.Fault.TheVariants.{Options as BadOptions, Technology, Rule, Cell, Memory, Serve, Differs}
+use Rattle.mls_magicd.specs.declared.options.Options.{Options}
 use Rattle.mls_magicd.specs.declared.options.OptionsFault.TheVariants.{Refused, BadCell, Memory as OptionsMemory}
 
 -- ---- exit statuses
@@ -32,9 +34,9 @@ abbrev pub bad_command_line : ℕ
 bad_command_line = 2
 
 abbrev pub status_after : Fault → ℕ
-status_after (Options (Refused text)) = bad_command_line
-status_after (Options (BadCell word)) = bad_command_line
-status_after (Options OptionsMemory) = failed
+status_after (BadOptions (Refused text)) = bad_command_line
+status_after (BadOptions (BadCell word)) = bad_command_line
+status_after (BadOptions OptionsMemory) = failed
 status_after (Technology fault) = failed
 status_after (Rule fault) = failed
 status_after (Cell fault) = failed
@@ -58,6 +60,22 @@ pub record IsBareFor (reads_as : List ℕ → List ℕ → Type 0) (words : List
   pub seats : on.seats ≡ []
   pub room : IsNumberFor pool_option words on.room
 
+-- the world of a server that was just made with this technology and these rules, and the numbers of the options
+abbrev pub bare_world : Options → Tech → List EdgeRule → World
+bare_world options tech rules = record {
+  setting = record {
+    tech = tech;
+    rules = rules;
+    quota = options.quota;
+    journal = options.journal;
+    cell_tiles = options.cell_tiles;
+    cells = [];
+  };
+  given = 0;
+  seats = [];
+  room = options.pool;
+}
+
 -- the world is that one with the cells that the words name, which were loaded in order
 pub record IsConfiguredBy (reads_as : List ℕ → List ℕ → Type 0) (words : List (List ℕ)) (on : World) : Type 0 where
   pub bare : World
@@ -73,6 +91,12 @@ pub record IsStoppedBy (reads_as : List ℕ → List ℕ → Type 0) (may_fail :
   pub named : NamesFiles (cell_words words) files
   pub stops : StopsAtCell reads_as may_fail bare files fault
 
+-- no server is made on this world, for lack of memory, or one of the cells isn't loaded into it
+abbrev pub FailsOver : (List ℕ → List ℕ → Type 0) → (List ℕ → Type 0) → World → List NamedFile → Fault → Type 0
+FailsOver reads_as may_fail bare files Memory = ⊤
+FailsOver reads_as may_fail bare files (Cell fault) = StopsAtCell reads_as may_fail bare files fault
+FailsOver reads_as may_fail bare files _ = ⊥
+
 -- a line for each skipped line of the technology, in the order of the file
 abbrev pub skipped_lines : Tech → List (List ℕ)
 skipped_lines tech = map skipped_message tech.skipped
@@ -80,7 +104,7 @@ skipped_lines tech = map skipped_message tech.skipped
 -- the start fails with this fault, and nothing was reported before it but the skipped lines of an accepted technology
 abbrev pub FailsAtStart : {E : Type 0} → (List ℕ → List ℕ → Type 0) → (List ℕ → Type 0) → List (List ℕ)
     → (E → Option (List ℕ)) → Watched E → Watched E → Fault → Type 0
-FailsAtStart reads_as may_fail words contents old new (Options fault) = IsRefusedBy words fault × (new ≡ old)
+FailsAtStart reads_as may_fail words contents old new (BadOptions fault) = IsRefusedBy words fault × (new ≡ old)
 FailsAtStart reads_as may_fail words contents old new (Technology fault) =
     AreTaken words × LacksTechnology reads_as may_fail (file_named words) fault × (new ≡ old)
 FailsAtStart reads_as may_fail words contents old new (Rule fault) =
@@ -155,7 +179,7 @@ EndsInCrew on script input contents old new messages before after = ReportsEnd o
 -- the script fails with this fault, or all was answered, and some session's list wasn't that of its journal at its end
 abbrev pub FailsLive : {R W : Type 0} → World → Option (List ℕ) → Watched R → (W → Option (List ℕ)) → Watched W → Watched W → Fault → Type 0
 FailsLive on script input contents old new (Serve fault) = FailsLines on fault script input contents old new
-FailsLive on script input contents old new Differs = WritesLines on script (contents old.device) (contents new.device)
+FailsLive on script input contents old new Differs = WritesLines on script (contents old.device) (contents new.device) false
 FailsLive on script input contents old new _ = ⊥
 
 -- so it did, and the fault was reported after the skipped lines

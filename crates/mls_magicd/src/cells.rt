@@ -1,13 +1,12 @@
 //! The cells that are loaded before the script.
 ghost use Rattle.std.specs.Prelude.{◌≡◌, [], IfErr, OnOk, map};
-ghost use Rattle.mls_server.specs.Servers.{world_of};
+ghost use Rattle.mls_lines.specs.mls_server.Servers.{world_of};
 ghost use Rattle.mls_magicd.specs.Cells.{LoadsCells, LoadsUnlessFault, StopsAtCell};
 ghost use Rattle.mls_magicd.specs.CommandLines.{file_of};
 
 use crate::cell_argument::CellArgument;
 use crate::{FileFault, Files};
-use mls_library::CellFault;
-use mls_server::Server;
+use mls_lines::{CellFault, Server};
 use std::alloc::Global;
 use thiserror::Error;
 

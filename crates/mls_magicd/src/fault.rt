@@ -3,8 +3,8 @@ ghost use Rattle.std.specs.Prelude.{◌≡◌};
 
 use crate::{LoadFault, OptionsFault, TechnologyFault};
 use mls_edgerule::RuleFault;
+use mls_lines::ServeFault;
 use mls_tech::TechFault;
-use mls_wire::ServeFault;
 use std::alloc::AllocError;
 use thiserror::Error;
 

@@ -2,17 +2,16 @@
 ghost use Rattle.std.specs.Prelude.{◌≡◌, ◌++◌, map, IfSome, OnOk, OnErr};
 ghost use Rattle.std.specs.List.{flat_map};
 ghost use Rattle.std.specs.Io.KnownBytes.{Appends};
-ghost use Rattle.mls_wire.specs.Serving.{AppendsFront};
-ghost use Rattle.mls_wire.specs.Watches.{HasCause};
+ghost use Rattle.mls_lines.specs.mls_wire.Serving.{AppendsFront};
+ghost use Rattle.mls_lines.specs.mls_wire.Watches.{HasCause};
 ghost use Rattle.mls_magicd.specs.Messages as spec;
 
 use crate::{Fault, LoadFault, OptionsFault, TechnologyFault};
 use arrayvec::ArrayVec;
 use itoa::Buffer;
 use mls_edgerule::RuleFault;
-use mls_library::CellFault;
+use mls_lines::{CellFault, ServeFault, Watched, WriteFault};
 use mls_tech::{Skipped, TechFault};
-use mls_wire::{ServeFault, Watched, WriteFault};
 use std::io::Write;
 
 const MEMORY: &[u8] = b"magicd: memory\n";

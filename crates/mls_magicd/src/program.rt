@@ -2,11 +2,12 @@
 ghost use Rattle.std.specs.Prelude.{◌≡◌, ◌≢◌, ◌≤◌, ◌⊎◌, ℕ, List, [], Ok, OnOk, IfOk, IfErr, false, true, map};
 ghost use Rattle.mls_crew.specs.Scripts.{WritesCrew};
 ghost use Rattle.mls_lines.specs.Scripts.{WritesLines};
-ghost use Rattle.mls_server.specs.Servers.{world_of};
-ghost use Rattle.mls_server.specs.Worlds.{World};
+ghost use Rattle.mls_lines.specs.mls_server.Servers.{world_of};
+ghost use Rattle.mls_lines.specs.mls_server.Worlds.{World};
 ghost use Rattle.mls_tech.specs.Readings.{reading_of};
-ghost use Rattle.mls_wire.specs.declared.serving.ServeFault.{ServeFault};
-ghost use Rattle.mls_magicd.specs.CommandLines.{AskForBatch, AskForLive, ParsesAs, IsNumberFor, workers_option};
+ghost use Rattle.mls_lines.specs.mls_wire.declared.serving.ServeFault.{ServeFault};
+ghost use Rattle.mls_magicd.specs.Cells.{LoadsCells};
+ghost use Rattle.mls_magicd.specs.CommandLines.{AskForBatch, AskForLive, ParsesAs, IsNumberFor, file_of, workers_option};
 ghost use Rattle.mls_magicd.specs.Messages.{Reports, ReportsAll, fault_message};
 ghost use Rattle.mls_magicd.specs.Programs as spec;
 ghost use Rattle.mls_magicd.specs.Technologies.{text_in};
@@ -18,11 +19,10 @@ use crate::options::Options;
 use crate::technology::TechnologyText;
 use crate::{Fault, Files, Streams};
 use mls_crew::Crew;
-use mls_edgerule::compile;
-use mls_lines::{Glossary, Lines};
-use mls_server::{Limits, Server};
-use mls_wire::{Watched, serve};
-use std::alloc::Global;
+use mls_edgerule::{Rules, compile};
+use mls_lines::{Glossary, Limits, Lines, Server, Watched, serve};
+use mls_tech::Tech;
+use std::alloc::{AllocError, Global};
 use std::convert::AsStr;
 use std::io::{Read, Write};
 use std::sync::Wait;
@@ -93,11 +93,12 @@ pub fn run<T: Threads + Wait + Sync, S: AsStr, F: Files, R: Read, W: Write + Sen
         streams.new.output
         E.contents streams.old.faults streams.new.faults) }
 
-    // With `--live`, the output is whole replies to lines of the script, each what its session's seat gave.
+    // With `--live`, the output is whole replies to lines of the script, each what its session's seat gave, and the lists
+    // of all sessions that were closed were audited.
     ensures served_live { AskForLive (map S.text words.now) → result ≡ spec.done
         → (on : World) × spec.IsConfiguredBy (F.reads_as files.now) (map S.text words.now) on
         × WritesLines on (R.remaining streams.old.input.device) (W.contents streams.old.output.device)
-        (W.contents streams.new.output.device)
+        (W.contents streams.new.output.device) true
         × ReportsAll E.contents streams.old.faults streams.new.faults (spec.skipped_lines on.setting.tech) }
 
     // Either the start failed, as above; or the script failed, for a reason that was reported.
@@ -188,8 +189,34 @@ fn serve_script<'a, F: Files, R: Read, W: Write, E: Write>(
         × ReportsAll E.contents streams.old.faults streams.new.faults (spec.skipped_lines on.setting.tech))) }
     ensures status { IfErr result (λ fault. spec.status_after fault ≡ spec.failed) }
 {
-    let (mut server, _) = start(alloc, files, options, &mut streams.faults)?;
-    serve(alloc, &mut server, &mut streams.input, &mut streams.output)?;
+    let Technology { tech, rules, .. } = read_technology(
+        alloc,
+        files,
+        options,
+        &mut streams.faults,
+    )?;
+    let mut server = start(alloc, files, options, tech, rules)?;
+    serve_at(alloc, &mut server, streams)
+}
+
+/// Serves the script of the input at a server.
+fn serve_at<'a, R: Read, W: Write, E: Write>(
+    alloc: Global,
+    server: &mut Server,
+    streams: &mut Streams<R, W, E>,
+) -> Result<(), Fault<'a>>
+    requires input_sound { streams.old.input.failed ≡ false }
+    requires output_sound { streams.old.output.failed ≡ false }
+    ensures ok { OnOk result (spec.ServesScript (world_of server.old) (R.remaining streams.old.input.device)
+        (W.contents streams.old.output.device) (W.contents streams.new.output.device)) }
+    ensures err { IfErr result (λ fault. (cause : ServeFault) × (fault ≡ Fault.Serve cause)
+        × spec.FailsInScript (world_of server.old) (R.remaining streams.old.input.device)
+        (R.remaining streams.new.input.device) (W.contents streams.old.output.device)
+        (W.contents streams.new.output.device) streams.new.input streams.new.output cause) }
+    ensures status { IfErr result (λ fault. spec.status_after fault ≡ spec.failed) }
+    ensures faults { streams.new.faults ≡ streams.old.faults }
+{
+    serve(alloc, server, &mut streams.input, &mut streams.output)?;
     Ok(())
 }
 
@@ -269,7 +296,7 @@ fn run_live<T: Threads + Wait + Sync, F: Files, R: Read, W: Write + Send, E: Wri
     ensures served { (words : List (List ℕ)) → ParsesAs words options.now → result ≡ spec.done
         → (on : World) × spec.IsConfiguredBy (F.reads_as files.now) words on
         × WritesLines on (R.remaining streams.old.input.device) (W.contents streams.old.output.device)
-        (W.contents streams.new.output.device)
+        (W.contents streams.new.output.device) true
         × ReportsAll E.contents streams.old.faults streams.new.faults (spec.skipped_lines on.setting.tech) }
     ensures failed { (words : List (List ℕ)) → ParsesAs words options.now → result ≡ spec.failed →
         (spec.EndsAtStart (F.reads_as files.now) (F.may_fail files.now) words E.contents streams.old.faults
@@ -297,7 +324,7 @@ fn serve_live<'a, T: Threads + Wait + Sync, F: Files, R: Read, W: Write + Send, 
     ensures ok { OnOk result ((words : List (List ℕ)) → ParsesAs words options.now → (on : World)
         × spec.IsConfiguredBy (F.reads_as files.now) words on
         × WritesLines on (R.remaining streams.old.input.device) (W.contents streams.old.output.device)
-        (W.contents streams.new.output.device)
+        (W.contents streams.new.output.device) true
         × ReportsAll E.contents streams.old.faults streams.new.faults (spec.skipped_lines on.setting.tech)) }
     ensures err { IfErr result (λ fault. (words : List (List ℕ)) → ParsesAs words options.now →
         (spec.FailsAtStart (F.reads_as files.now) (F.may_fail files.now) words E.contents streams.old.faults
@@ -350,8 +377,8 @@ fn start_lines<'a, F: Files, E: Write>(
     })
 }
 
-/// Does what comes before a script with workers: makes the server, loads the cells, and reads the technology for the
-/// crew.
+/// Does what comes before a script with workers: reads the technology for the server and for the crew, makes the server
+/// and loads the cells.
 fn start_crew<'a, F: Files, E: Write>(
     alloc: Global,
     files: &F,
@@ -368,54 +395,38 @@ fn start_crew<'a, F: Files, E: Write>(
         (F.may_fail files.now) words E.contents faults.old faults.new fault) }
     ensures status { IfErr result (λ fault. spec.status_after fault ≡ spec.failed) }
 {
-    let (server, text) = start(alloc, files, options, faults)?;
-    let Ok(tech) = text.read(alloc) else {
+    let Technology { text, tech, rules } = read_technology(alloc, files, options, faults)?;
+    let Ok(again) = text.read(alloc) else {
         // The text was read before, so only memory can be lacking.
         return Err(Fault::Memory);
     };
+    let server = start(alloc, files, options, tech, rules)?;
     Ok(Crew {
         server,
-        tech,
+        tech: again,
         workers: options.workers.get() as usize,
     })
 }
 
-/// Does what comes before the script: makes the server and loads the cells. Returns the text of the technology too.
-fn start<'a, F: Files, E: Write>(
-    alloc: Global,
-    files: &F,
-    options: &Options<'a>,
-    faults: &mut Watched<E>,
-) -> Result<(Server, TechnologyText), Fault<'a>>
-    ensures ok { IfOk result (λ r. (words : List (List ℕ)) → ParsesAs words options.now
-        → spec.IsConfiguredBy (F.reads_as files.now) words (world_of r.0)
-        × ReportsAll E.contents faults.old faults.new (spec.skipped_lines (world_of r.0).setting.tech)) }
-    ensures idle { IfOk result (λ r. (world_of r.0).seats ≡ []) }
-    ensures text { IfOk result (λ r. reading_of (text_in r.1) ≡ Ok (world_of r.0).setting.tech) }
-    ensures err { IfErr result (λ fault. (words : List (List ℕ)) → ParsesAs words options.now
-        → spec.FailsAtStart (F.reads_as files.now)
-        (F.may_fail files.now) words E.contents faults.old faults.new fault) }
-    ensures status { IfErr result (λ fault. spec.status_after fault ≡ spec.failed) }
-{
-    let (mut server, text) = bare_server(alloc, files, options, faults)?;
-    load_cells(alloc, files, &mut server, &options.cells)?;
-    Ok((server, text))
+/// A technology: its text, what that is read as, and the compiled rules.
+#[derive(Drop)]
+struct Technology {
+    text: TechnologyText,
+    tech: Tech,
+    rules: Rules,
 }
 
-/// Reads the technology, reports its skipped lines, compiles its rules, and makes the server, which reserves its
-/// memory. Returns the text of the technology too.
-fn bare_server<'a, F: Files, E: Write>(
+/// Reads the technology, reports its skipped lines, and compiles its rules.
+fn read_technology<'a, F: Files, E: Write>(
     alloc: Global,
     files: &F,
     options: &Options<'a>,
     faults: &mut Watched<E>,
-) -> Result<(Server, TechnologyText), Fault<'a>>
-    ensures bare { IfOk result (λ r. (words : List (List ℕ)) → ParsesAs words options.now
-        → spec.IsBareFor (F.reads_as files.now) words (world_of r.0)) }
-    ensures idle { IfOk result (λ r. (world_of r.0).seats ≡ []) }
-    ensures text { IfOk result (λ r. reading_of (text_in r.1) ≡ Ok (world_of r.0).setting.tech) }
-    ensures reported { IfOk result (λ r. ReportsAll E.contents faults.old faults.new
-        (spec.skipped_lines (world_of r.0).setting.tech)) }
+) -> Result<Technology, Fault<'a>>
+    ensures bare { IfOk result (λ read. (words : List (List ℕ)) → ParsesAs words options.now
+        → spec.IsBareFor (F.reads_as files.now) words (spec.bare_world options.now read.tech read.rules)) }
+    ensures text { IfOk result (λ read. reading_of (text_in read.text) ≡ Ok read.tech) }
+    ensures reported { IfOk result (λ read. ReportsAll E.contents faults.old faults.new (spec.skipped_lines read.tech)) }
     ensures err { IfErr result (λ fault. (words : List (List ℕ)) → ParsesAs words options.now
         → spec.FailsAtStart (F.reads_as files.now)
         (F.may_fail files.now) words E.contents faults.old faults.new fault) }
@@ -425,16 +436,42 @@ fn bare_server<'a, F: Files, E: Write>(
     let tech = text.read(alloc)?;
     report_skipped(faults, tech.skipped());
     let rules = compile(&tech)?;
-    let server = Server::new(
-        alloc,
-        tech,
-        rules,
-        options.pool,
-        Limits {
-            quota: options.quota,
-            journal: options.journal,
-            cell_tiles: options.cell_tiles,
-        },
-    )?;
-    Ok((server, text))
+    Ok(Technology { text, tech, rules })
+}
+
+/// Makes the server, which reserves its memory, and loads the cells.
+fn start<'a, F: Files>(
+    alloc: Global,
+    files: &F,
+    options: &Options<'a>,
+    tech: Tech,
+    rules: Rules,
+) -> Result<Server, Fault<'a>>
+    ensures loads { IfOk result (λ server. LoadsCells (F.reads_as files.now) (spec.bare_world options.now tech rules)
+        (map file_of options.now.cells.items) (world_of server)) }
+    ensures idle { IfOk result (λ server. (world_of server).seats ≡ []) }
+    ensures err { IfErr result (λ fault. spec.FailsOver (F.reads_as files.now) (F.may_fail files.now)
+        (spec.bare_world options.now tech rules) (map file_of options.now.cells.items) fault) }
+    ensures status { IfErr result (λ fault. spec.status_after fault ≡ spec.failed) }
+{
+    let mut server = bare_server(alloc, options, tech, rules)?;
+    load_cells(alloc, files, &mut server, &options.cells)?;
+    Ok(server)
+}
+
+/// Makes the server.
+fn bare_server(
+    alloc: Global,
+    options: &Options<'_>,
+    tech: Tech,
+    rules: Rules,
+) -> Result<Server, AllocError>
+    ensures { IfOk result (λ server. world_of server ≡ spec.bare_world options.now tech rules) }
+{
+    let limits = Limits {
+        quota: options.quota,
+        journal: options.journal,
+        cell_tiles: options.cell_tiles,
+    };
+    Server::new(alloc, tech, rules, options.pool, limits)
 }

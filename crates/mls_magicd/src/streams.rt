@@ -1,5 +1,5 @@
 //! The streams of the program.
-use mls_wire::Watched;
+use mls_lines::Watched;
 
 /// Where the program reads its script, and where it writes.
 #[derive(Drop)]

@@ -1,3 +1,4 @@
 pub mod Commands
 pub mod GlossaryLemmas
 pub mod Results
+pub use Rattle.mls_wire.proofs as mls_wire

@@ -1,6 +1,6 @@
 -- What names mean at seats, and what numbers are called in replies. This project's own.
 use Rattle.std.specs.Prelude.{ℕ, if◌then◌else◌, Option, None, List, position, slice_get}
-use Rattle.mls_server.specs.Settings.{Setting, cell_names}
+use Rattle.mls_wire.specs.mls_server.Settings.{Setting, cell_names}
 use Rattle.mls_tech.specs.Readings.{Tech, name_of, number_named, short_name_of, why_of}
 use Rattle.mls_text.specs.Words.{same_word}
 use Rattle.mls_wire.specs.NameBooks.{Names, no_name}

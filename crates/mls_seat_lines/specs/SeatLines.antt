@@ -1,19 +1,19 @@
 -- What a line of a session gives at its seat, whatever the other threads do meanwhile. This project's own.
 use Rattle.std.specs.Prelude.{◌≡◌, ◌⊎◌, ℕ, Bool, true, false, List, ◌++◌, length, Result, IfOk}
 use Rattle.std.specs.Bool.{MatchBool}
-use Rattle.mls_session.specs.OwnSteps.{Terms}
-use Rattle.mls_session.specs.declared.command.Command.{Command}
-use Rattle.mls_session.specs.declared.command.Command.TheVariants.{Save}
-use Rattle.mls_session.specs.declared.journal.Said.{Said}
-use Rattle.mls_session.specs.declared.look.Look.{Look}
-use Rattle.mls_session.specs.declared.look.Looked.{Looked}
-use Rattle.mls_session.specs.declared.refusal.Refusal.TheVariants.{JournalFull}
-use Rattle.mls_session.specs.declared.reply.Reply.{Reply}
-use Rattle.mls_session.specs.declared.reply.Reply.TheVariants.{Refused}
-use Rattle.mls_server.specs.LegalLists.{IsLegalList}
-use Rattle.mls_server.specs.declared.answer.Answer.TheVariants.{Commanded, Looked as LookedAt, Saved}
-use Rattle.mls_server.specs.declared.fault.NotOpen.{NotOpen}
-use Rattle.mls_live.specs.Audits.{CanLookAt, CanReply}
+use Rattle.mls_wire.specs.mls_session.OwnSteps.{Terms}
+use Rattle.mls_wire.specs.mls_session.declared.command.Command.{Command}
+use Rattle.mls_wire.specs.mls_session.declared.command.Command.TheVariants.{Save}
+use Rattle.mls_wire.specs.mls_session.declared.journal.Said.{Said}
+use Rattle.mls_wire.specs.mls_session.declared.look.Look.{Look}
+use Rattle.mls_wire.specs.mls_session.declared.look.Looked.{Looked}
+use Rattle.mls_wire.specs.mls_session.declared.refusal.Refusal.TheVariants.{JournalFull}
+use Rattle.mls_wire.specs.mls_session.declared.reply.Reply.{Reply}
+use Rattle.mls_wire.specs.mls_session.declared.reply.Reply.TheVariants.{Refused}
+use Rattle.mls_wire.specs.mls_server.LegalLists.{IsLegalList}
+use Rattle.mls_wire.specs.mls_server.declared.answer.Answer.TheVariants.{Commanded, Looked as LookedAt, Saved}
+use Rattle.mls_wire.specs.mls_server.declared.fault.NotOpen.{NotOpen}
+use Rattle.mls_live.specs.Audits.{CanLookAt, CanReply, CanSaveAt}
 use Rattle.mls_live.specs.Lists.{added_by}
 use Rattle.mls_wire.specs.NameBooks.{Names}
 use Rattle.mls_wire.specs.Replies.{answer_text, response_text}
@@ -27,11 +27,11 @@ is_save Save = true
 is_save _ = false
 
 -- after a list of commands and replies, the command has this text and leaves this list. The reply is one that a session with a legal journal can have, or says that the
--- journal is full; that of a save is followed by the saved text
+-- journal is full; so is that of a save, with the saved text that follows it
 abbrev pub SaysCommand : Terms → Names → List ℕ → List Said → Command → List ℕ → List Said → Type 0
 SaysCommand terms book name said command text now =
     (result : Result Reply NotOpen) × (now ≡ said ++ added_by command result)
-    × MatchBool (is_save command) ((saved : List ℕ) × (text ≡ answer_text book name (Saved result saved)))
+    × MatchBool (is_save command) ((saved : List ℕ) × (text ≡ answer_text book name (Saved result saved)) × CanSaveAt terms result saved)
     ((text ≡ answer_text book name (Commanded result)) × IfOk result (λ reply. CanReply terms command reply ⊎ (reply ≡ Refused JournalFull)))
 
 -- the text is that the list so far is audited, and then it is that of a legal journal; or that it differs

@@ -1,15 +1,13 @@
 //! What names mean, beside the server.
 ghost use Rattle.std.specs.Prelude.{◌≡◌, IfOk, map, position};
-ghost use Rattle.mls_server.specs.Servers.{world_of};
-ghost use Rattle.mls_server.specs.Settings.{cell_names};
+ghost use Rattle.mls_wire.specs.mls_server.Servers.{world_of};
+ghost use Rattle.mls_wire.specs.mls_server.Settings.{cell_names};
 ghost use Rattle.mls_text.specs.Words.{same_word};
 ghost use Rattle.mls_seat_lines.specs.Glossaries.{cell_named, glossary_of};
 
 use mls_kinds::Kind;
-use mls_library::CellId;
-use mls_server::Server;
 use mls_tech::Tech;
-use mls_wire::Names;
+use mls_wire::{CellId, Names, Server};
 use std::alloc::{AllocError, Global};
 use std::marker::Model;
 

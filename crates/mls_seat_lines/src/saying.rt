@@ -7,9 +7,10 @@ ghost use Rattle.mls_seat_lines.specs.SeatLines as spec;
 
 use crate::SeatLine;
 use mls_live::{Naming, Seat};
-use mls_server::{Answer, Name};
-use mls_session::{Command, Look};
-use mls_wire::{Names, Response, push_differs, push_looked, push_response, push_saved};
+use mls_wire::{
+    Answer, Command, Look, Name, Names, Response, push_differs, push_looked, push_response,
+    push_saved,
+};
 use std::alloc::{AllocError, Global};
 use std::sync::Wait;
 

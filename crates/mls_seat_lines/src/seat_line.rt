@@ -1,5 +1,5 @@
 //! Lines that are said at seats.
-use mls_session::{Command, Look};
+use mls_wire::{Command, Look};
 
 /// A line of a session's own.
 #[derive(Clone, Copy, Debug, PartialEq, Eq)]

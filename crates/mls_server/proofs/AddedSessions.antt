@@ -3,7 +3,7 @@ use Rattle.std.proofs.Common.{◌≡◌, ℕ, ◌+◌, ◌-◌, ◌*◌, ◌<◌
 use Rattle.std.proofs.lemmas.List.{map-append}
 use Rattle.std.proofs.lemmas.List.Elements.{All-push}
 use Rattle.std.proofs.lemmas.List.Quantifiers.{all_pairs_push}
-use Rattle.mls_library.proofs.KeptCells.{IsCellApart}
+use Rattle.mls_session.proofs.mls_library.KeptCells.{IsCellApart}
 use Rattle.mls_paint.specs.Owners.{AddsOwners}
 use Rattle.mls_session.specs.Designs.{CanDump, HasRightMarks}
 use Rattle.mls_session.specs.Journals.{IsLegal, Kept, kept_at_opening}
@@ -55,7 +55,7 @@ module _ (server : Server) (are : AreOpenIn server) (session : Session) {new : P
       ready = record {
         home = home;
         made_for = made_for;
-        can_dump = record { home = cells_stay.home; apart = cells_apart; planes = cells_stay.planes };
+        can_dump = record { home = cells_stay.home; apart = cells_apart; planes = cells_stay.planes; own_types = cells_stay.own_types };
       };
       marks_right = right;
       knows_right = tt;

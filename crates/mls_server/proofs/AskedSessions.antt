@@ -7,8 +7,8 @@ use Rattle.std.proofs.lemmas.Option.{slice_get-map}
 use Rattle.indexmap.specs.Layout.{length-set_value_at, set_value_at}
 use Rattle.mls_paint.specs.Owners.{ChangesAmong}
 use Rattle.mls_paint.proofs.OwnerFrames.{unreserved-ChangesAmong}
-use Rattle.mls_errorplane.specs.declared.checked.Checked.{Checked}
-use Rattle.mls_library.specs.SavedCells.{saved_text}
+use Rattle.mls_session.specs.mls_errorplane.declared.checked.Checked.{Checked}
+use Rattle.mls_session.specs.mls_library.SavedCells.{saved_text}
 use Rattle.mls_session.specs.Designs.{CanDump, KnowsRight}
 use Rattle.mls_session.specs.Journals.{Kept}
 use Rattle.mls_session.specs.OwnSteps.{Terms}

@@ -1,7 +1,7 @@
 -- What every event keeps of a world: the setting, how its sessions are numbered, and what all other sessions keep.
 use Rattle.std.proofs.Common.{◌≡◌, ◌≢◌, ◌⊎◌, ℕ, ◌+◌, ◌≤◌, ◌==◌, Bool, true, false, Option, Some, None, Result, Ok, Err, List, [], ◌∷◌, inl, inr, le_refl, refl, sym, ap, ◌∙◌, subst, arith}
 use Rattle.std.proofs.lemmas.Bool.{eq-eqb, eqb-true}
-use Rattle.mls_errorplane.specs.declared.job.Job.{Job}
+use Rattle.mls_session.specs.mls_errorplane.declared.job.Job.{Job}
 use Rattle.mls_session.specs.Journals.{ChecksTimes, Commands, Finishes, Kept, StepsOnce, StepsUpTo, kept_at_opening}
 use Rattle.mls_session.specs.declared.reply.Reply.{Reply}
 use Rattle.mls_server.proofs.Seats.{with_kept-none, with_kept-numbered, with_kept-other, with_session-numbered, with_session-other, with_session-same, without_session-numbered, without_session-other, without_session-same}

@@ -5,10 +5,10 @@ use Rattle.std.specs.Result.{IsOkAnd}
 use Rattle.std.proofs.lemmas.List.{length-map, map-append}
 use Rattle.std.proofs.lemmas.Simd.{map-map}
 use Rattle.mls_geom.specs.Layouts.{Layout}
-use Rattle.mls_library.specs.Faults.{UnlessMemory}
-use Rattle.mls_library.specs.Libraries.{HavePlanes, Library, LoadsUnlessMemory, NamedCell, cell_layout, cell_named, loading_of, names_of}
-use Rattle.mls_library.specs.Libraries.{IsHome as AreCellsHome}
-use Rattle.mls_library.specs.declared.fault.CellFault.{CellFault}
+use Rattle.mls_session.specs.mls_library.Faults.{UnlessMemory}
+use Rattle.mls_session.specs.mls_library.Libraries.{HavePlanes, Library, LoadsUnlessMemory, NamedCell, ShowOwnTypes, cell_layout, cell_named, loading_of, names_of}
+use Rattle.mls_session.specs.mls_library.Libraries.{IsHome as AreCellsHome}
+use Rattle.mls_session.specs.mls_library.declared.fault.CellFault.{CellFault}
 use Rattle.mls_paint.specs.Owners.{AddsOwners}
 use Rattle.mls_session.specs.declared.setup.Setup.{Setup}
 use Rattle.mls_text.specs.Words.{same_word}
@@ -35,12 +35,14 @@ module _ (pool : Pool) where
 
 -- then only the cells need be at home
 pub AreOpen-none :
-    (setup : Setup) (pool : Pool) (given : ℕ) → AreCellsHome pool setup.library → HavePlanes setup.tech.plane_count setup.library → AreOpen setup pool given []
-AreOpen-none setup pool given home planes = record {
+    (setup : Setup) (pool : Pool) (given : ℕ) → AreCellsHome pool setup.library → HavePlanes setup.tech.plane_count setup.library → ShowOwnTypes setup.tech pool setup.library
+    → AreOpen setup pool given []
+AreOpen-none setup pool given home planes own_types = record {
   cells_home = record {
     home = home;
     apart = λ k d within i o below found. let inside = found.1 in omega (arith, inside);
     planes = planes;
+    own_types = own_types;
   };
   made = λ k d within. absurd (omega (arith, within));
   apart = λ a b d less within. absurd (omega (arith, within));
@@ -81,9 +83,10 @@ module _ (server : Server) (are : AreOpenIn server)
 
   pub AreOpen-loaded :
       (pool : Pool) (library : Library) → AreCellsHome pool library → (HavePlanes server.setup.tech.plane_count server.setup.library → HavePlanes server.setup.tech.plane_count library)
-      → AreOpenIn (loaded pool library)
-  AreOpen-loaded pool library home planes =
-      subst (AreOpen (loaded pool library).setup pool server.given) (sym none) (AreOpen-none (loaded pool library).setup pool server.given home (planes are.cells_home.planes))
+      → (ShowOwnTypes server.setup.tech server.pool server.setup.library → ShowOwnTypes server.setup.tech pool library) → AreOpenIn (loaded pool library)
+  AreOpen-loaded pool library home planes own_types =
+      subst (AreOpen (loaded pool library).setup pool server.given) (sym none) (AreOpen-none (loaded pool library).setup pool server.given home (planes are.cells_home.planes)
+      (own_types are.cells_home.own_types))
 
   names-layouts : cell_names (world_of server).setting ≡ names_of server.setup.library
   names-layouts = map-map (λ cell. cell.name) (named_layout server.pool) server.setup.library

@@ -17,3 +17,5 @@ pub mod Seats
 pub mod SessionTerms
 pub mod SoundWorlds
 pub mod ToldAlone
+pub use Rattle.mls_session.proofs.mls_library
+pub use Rattle.mls_session.proofs as mls_session

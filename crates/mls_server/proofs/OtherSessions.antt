@@ -1,15 +1,16 @@
 -- What stays of sessions, of the cells and of the world, as only tiles and reserves of other owners change.
 use Rattle.std.proofs.Common.{◌≡◌, ◌≢◌, ℕ, List, [], ◌∷◌, length, map, get_or, None, All, Contains, sym, ap, subst, subst₂, ◌∙◌, arith}
 use Rattle.std.proofs.lemmas.List.Elements.{All-contains, All-push, Contains-append_left, Contains-get_or, Contains-push}
-use Rattle.mls_errorplane.specs.ErrorPlanes.{ShowsMarks, marks_picture}
-use Rattle.mls_errorplane.specs.MarkPlanes.{is_marked, marked_count}
+use Rattle.mls_session.specs.mls_errorplane.ErrorPlanes.{ShowsMarks, marks_picture}
+use Rattle.mls_session.specs.mls_errorplane.MarkPlanes.{is_marked, marked_count}
 use Rattle.mls_geom.specs.Layouts.{Layout}
 use Rattle.mls_geom.specs.World.{world}
 use Rattle.mls_geom.specs.Pictures.{Picture}
-use Rattle.mls_layout.specs.Uses.{cell_layouts}
-use Rattle.mls_library.specs.Libraries.{Library, cell_layout}
-use Rattle.mls_library.specs.Libraries.{IsHome as AreCellsHome}
-use Rattle.mls_library.proofs.KeptCells.{IsCellApart, IsCellApart-AddsOwners, IsHome-kept, IsKept, cell_layout-kept}
+use Rattle.mls_session.specs.mls_layout.Uses.{cell_layouts}
+use Rattle.mls_session.specs.mls_library.Libraries.{Library, cell_layout}
+use Rattle.mls_session.specs.mls_library.SavedCells.{ShowsOwnTypes}
+use Rattle.mls_session.specs.mls_library.Libraries.{IsHome as AreCellsHome}
+use Rattle.mls_session.proofs.mls_library.KeptCells.{IsCellApart, IsCellApart-AddsOwners, IsHome-kept, IsKept, cell_layout-kept}
 use Rattle.mls_paint.specs.Owners.{AddsOwners, ChangesAmong, RemovesOwners}
 use Rattle.mls_paint.specs.Planes.{HasStrips, layout_in, picture_in}
 use Rattle.mls_paint.proofs.OwnerFrames.{HasStrips-kept, has_room-HasStrips, not_added, room_of-ChangesAmong}
@@ -82,7 +83,12 @@ module _ {old new : Pool} {owners : List ℕ} (others : KeepsOthers old new owne
     cell_layouts-apart = map_same (cell_layout new) (cell_layout old) cells layouts_kept
 
   pub CanDump-apart : {setup : Setup} {list : List ℕ} → All (IsCellApart owners) setup.library → CanDump setup old list → CanDump setup new list
-  CanDump-apart {setup} apart can = record { home = IsHome-kept old new setup.library (cells_kept setup.library apart) can.home; apart = can.apart; planes = can.planes }
+  CanDump-apart {setup} apart can = record {
+    home = IsHome-kept old new setup.library (cells_kept setup.library apart) can.home;
+    apart = can.apart;
+    planes = can.planes;
+    own_types = λ k d within. subst (ShowsOwnTypes setup.tech) (sym (layouts_kept setup.library apart k d within)) (can.own_types k d within);
+  }
 
   -- planes of owners that are kept show what they showed
   layout_in-same : (planes : List ℕ) → All (IsKept old new) planes → layout_in new planes ≡ layout_in old planes

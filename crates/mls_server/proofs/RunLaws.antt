@@ -1,8 +1,8 @@
 -- Runs of events, one event more at a time; what is true of a world whose marks are right.
 use Rattle.std.proofs.Common.{◌≡◌, ◌++◌, ◌+◌, ◌<◌, ℕ, suc, true, List, [], ◌∷◌, get_or, length, take, take-suc, refl, sym, ap, ◌∙◌, subst, arith}
 use Rattle.std.proofs.lemmas.List.Elements.{All-weaker}
-use Rattle.mls_checker.specs.Forbids.{forbidden}
-use Rattle.mls_checker.specs.Marking.{squares_of}
+use Rattle.mls_session.specs.mls_checker.Forbids.{forbidden}
+use Rattle.mls_session.specs.mls_checker.Marking.{squares_of}
 use Rattle.mls_geom.specs.Rects.{holds}
 use Rattle.mls_geom.specs.World.{world}
 use Rattle.mls_session.specs.Designs.{HasRightMarks}

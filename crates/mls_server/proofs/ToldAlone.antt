@@ -3,12 +3,12 @@ use Rattle.std.proofs.Common.{◌≡◌, ◌≢◌, ℕ, ◌++◌, ◌≤◌, �
 use Rattle.std.specs.Option.{unwrap_or}
 use Rattle.std.proofs.lemmas.Bool.{eqb-true}
 use Rattle.std.proofs.lemmas.Option.{same_Some}
-use Rattle.mls_checker.specs.Findings.{Finding}
-use Rattle.mls_errorplane.specs.declared.error_plane.Outcome.{Outcome}
-use Rattle.mls_errorplane.specs.declared.error_plane.Outcome.TheVariants.{Finished as FindingFinished, Stale, Full as FindingFull}
-use Rattle.mls_errorplane.specs.declared.error_plane.Stepped.{Stepped as StepEnd}
-use Rattle.mls_errorplane.specs.declared.error_plane.Stepped.TheVariants.{Idle, Done as StepDone, Full, Memory as StepMemory}
-use Rattle.mls_errorplane.specs.declared.job.Job.{Job}
+use Rattle.mls_session.specs.mls_checker.Findings.{Finding}
+use Rattle.mls_session.specs.mls_errorplane.declared.error_plane.Outcome.{Outcome}
+use Rattle.mls_session.specs.mls_errorplane.declared.error_plane.Outcome.TheVariants.{Finished as FindingFinished, Stale, Full as FindingFull}
+use Rattle.mls_session.specs.mls_errorplane.declared.error_plane.Stepped.{Stepped as StepEnd}
+use Rattle.mls_session.specs.mls_errorplane.declared.error_plane.Stepped.TheVariants.{Idle, Done as StepDone, Full, Memory as StepMemory}
+use Rattle.mls_session.specs.mls_errorplane.declared.job.Job.{Job}
 use Rattle.mls_session.specs.Journals.{Finishes, Kept, StepsOnce, kept_at_opening}
 use Rattle.mls_session.specs.Looks.{Looks}
 use Rattle.mls_session.specs.OwnSteps.{Terms}

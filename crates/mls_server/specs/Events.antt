@@ -3,16 +3,16 @@
 use Rattle.std.specs.Prelude.{◌≡◌, ◌≢◌, ℕ, ◌+◌, ◌-◌, ◌||◌, ◌^◌, nat_le, nat_lt, is_some, if◌then◌else◌, Option, Some, None, Result, Ok, Err, List, [], ◌∷◌, ◌++◌, length}
 use Rattle.std.specs.Option.{option_map_or}
 use Rattle.std.specs.Result.{IsOkAnd}
-use Rattle.mls_errorplane.specs.Jobs.{IsNextJob}
-use Rattle.mls_errorplane.specs.declared.job.Job.{Job}
-use Rattle.mls_checker.specs.Findings.{Finding}
-use Rattle.mls_errorplane.specs.declared.error_plane.Outcome.{Outcome}
-use Rattle.mls_errorplane.specs.declared.error_plane.Stepped.{Stepped as StepEnd}
-use Rattle.mls_library.specs.CellFiles.{layout_of_rects}
-use Rattle.mls_library.specs.Faults.{UnlessMemory}
-use Rattle.mls_library.specs.Libraries.{loading_of, tile_counts, total}
-use Rattle.mls_library.specs.SavedCells.{saved_text}
-use Rattle.mls_library.specs.declared.fault.CellFault.{CellFault}
+use Rattle.mls_session.specs.mls_errorplane.Jobs.{IsNextJob}
+use Rattle.mls_session.specs.mls_errorplane.declared.job.Job.{Job}
+use Rattle.mls_session.specs.mls_checker.Findings.{Finding}
+use Rattle.mls_session.specs.mls_errorplane.declared.error_plane.Outcome.{Outcome}
+use Rattle.mls_session.specs.mls_errorplane.declared.error_plane.Stepped.{Stepped as StepEnd}
+use Rattle.mls_session.specs.mls_library.CellFiles.{layout_of_rects}
+use Rattle.mls_session.specs.mls_library.Faults.{UnlessMemory}
+use Rattle.mls_session.specs.mls_library.Libraries.{loading_of, tile_counts, total}
+use Rattle.mls_session.specs.mls_library.SavedCells.{saved_text}
+use Rattle.mls_session.specs.mls_library.declared.fault.CellFault.{CellFault}
 use Rattle.mls_session.specs.Journals.{ChecksTimes, Commands, Finishes, Kept, Saves, StepsOnce, StepsUpTo}
 use Rattle.mls_session.specs.Looks.{Looks}
 use Rattle.mls_session.specs.Own.{layout_of}

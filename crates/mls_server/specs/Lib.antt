@@ -8,3 +8,8 @@ pub mod Servers
 pub mod SessionNames
 pub mod Settings
 pub mod Worlds
+pub use Rattle.mls_session.specs.mls_checker
+pub use Rattle.mls_session.specs.mls_errorplane
+pub use Rattle.mls_session.specs.mls_layout
+pub use Rattle.mls_session.specs.mls_library
+pub use Rattle.mls_session.specs as mls_session

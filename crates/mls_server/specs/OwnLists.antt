@@ -2,8 +2,8 @@
 -- its commands and its accepted check steps; its alone run takes these one after another, from what the session keeps. This project's own.
 use Rattle.std.specs.Prelude.{◌≡◌, ◌≢◌, ℕ, ◌+◌, ◌==◌, Bool, true, false, if◌then◌else◌, Option, Some, None, Ok, Err, List, [], ◌∷◌, ◌++◌, length, replicate, IfSome}
 use Rattle.std.specs.Option.{option_and_then, option_map, unwrap_or}
-use Rattle.mls_errorplane.specs.declared.error_plane.Outcome.TheVariants.{Finished as FindingFinished}
-use Rattle.mls_errorplane.specs.declared.error_plane.Stepped.TheVariants.{Done as StepDone}
+use Rattle.mls_session.specs.mls_errorplane.declared.error_plane.Outcome.TheVariants.{Finished as FindingFinished}
+use Rattle.mls_session.specs.mls_errorplane.declared.error_plane.Stepped.TheVariants.{Done as StepDone}
 use Rattle.mls_session.specs.Journals.{ChecksTimes, Commands, Finishes, Kept, Saves, StepsOnce, StepsUpTo, is_memory, is_refusal, kept_at_opening, noted}
 use Rattle.mls_session.specs.Looks.{Looks}
 use Rattle.mls_session.specs.OwnSteps.{OwnState, Terms, own_check, own_step}

@@ -2,7 +2,7 @@
 use Rattle.std.specs.Prelude.{ℕ, ◌+◌, ◌*◌, List, map}
 use Rattle.mls_edgerule.specs.declared.edge_rule.EdgeRule.{EdgeRule}
 use Rattle.mls_geom.specs.Layouts.{Layout}
-use Rattle.mls_library.specs.Libraries.{Library, NamedCell, cell_layout}
+use Rattle.mls_session.specs.mls_library.Libraries.{Library, NamedCell, cell_layout}
 use Rattle.mls_tech.specs.Readings.{Tech}
 use Rattle.mls_tilepool.specs.Pools.{Pool}
 use Rattle.mls_session.specs.Quotas.{plane_reserve}

@@ -3,7 +3,8 @@
 use Rattle.std.specs.Prelude.{◌≡◌, ℕ, ◌<◌, ◌≤◌, ◌+◌, ◌-◌, ◌==◌, true, not, if◌then◌else◌, Option, Some, None, List, [], ◌∷◌, ◌++◌, length, map}
 use Rattle.std.specs.List.{All, AllPairs, filter}
 use Rattle.std.specs.Option.{option_map}
-use Rattle.mls_checker.specs.Forbids.{forbidden}
+use Rattle.mls_session.specs.mls_checker.Forbids.{forbidden}
+use Rattle.mls_session.specs.mls_library.SavedCells.{ReadsAs, saved_text}
 use Rattle.mls_geom.specs.Rects.{holds}
 use Rattle.mls_geom.specs.World.{world}
 use Rattle.mls_session.specs.Designs.{HasRightMarks}
@@ -78,6 +79,12 @@ MarksAreExact on = All
 -- the journal of each open session is legal
 abbrev pub JournalsAreLegal : World → Type 0
 JournalsAreLegal on = All (λ seat. IsLegal (terms_for on.setting) seat.kept) on.seats
+
+-- the text of each open session's own paint reads as that
+abbrev pub SavesReadBack : World → Type 0
+SavesReadBack on = All
+    (λ seat. ReadsAs on.setting.tech (saved_text on.setting.tech seat.kept.own.design.drawn.paint) seat.kept.own.design.drawn.paint)
+    on.seats
 
 -- the journal of each open session has as many entries as its own state says, and no more than it may have
 abbrev pub JournalsHaveRoom : World → Type 0

@@ -1,7 +1,6 @@
 //! What a server answers.
 use crate::{GrabFault, NotOpen, OpenFault, SessionId};
-use mls_errorplane::{Outcome, Stepped};
-use mls_session::{Job, Listing, Looked, Reply, StepRun};
+use mls_session::{Job, Listing, Looked, Outcome, Reply, StepRun, Stepped};
 
 /// The answer to an event.
 #[derive(Drop)]

@@ -1,7 +1,6 @@
 //! What a server is asked for.
 use crate::{Name, SessionId};
-use mls_checker::Finding;
-use mls_session::{Command, Look};
+use mls_session::{Command, Finding, Look};
 
 /// An event on a server.
 #[derive(Drop)]

@@ -1,7 +1,6 @@
 //! What a server's pool, sessions and cells may have.
 use mls_bounded::Bounded;
-use mls_library::CellTiles;
-use mls_session::{JournalLimit, Quota};
+use mls_session::{CellTiles, JournalLimit, Quota};
 
 /// How many tiles the pool of a server has, from 1 to 8388608, 262144 by default.
 pub type Capacity = Bounded<1, 8_388_608, 262_144>;

@@ -2,11 +2,11 @@
 ghost use Rattle.std.specs.Prelude.{◌≡◌, ◌↔◌, ◌<◌, ◌^◌, [], IfOk, IsTrue, map, slice_get};
 ghost use Rattle.std.specs.List.{position};
 ghost use Rattle.std.specs.Option.{option_map};
-ghost use Rattle.mls_library.specs.Libraries.{names_of};
+ghost use Rattle.mls_session.specs.mls_library.Libraries.{names_of};
 ghost use Rattle.mls_server.specs.Events.{LoadsCell};
 ghost use Rattle.mls_server.specs.Servers.{world_of};
 ghost use Rattle.mls_server.specs.Settings.{cell_names};
-ghost use Rattle.mls_server.specs.Worlds.{IsNumbered, JournalsAreLegal, JournalsHaveRoom, MarksAreExact, MarksAreRight, session_named};
+ghost use Rattle.mls_server.specs.Worlds.{IsNumbered, JournalsAreLegal, JournalsHaveRoom, MarksAreExact, MarksAreRight, SavesReadBack, session_named};
 ghost use Rattle.mls_text.specs.Words.{same_word};
 
 mod events;
@@ -16,10 +16,9 @@ mod sessions;
 use crate::{Capacity, Limits, Name, SessionId};
 use indexmap::IndexMap;
 use mls_edgerule::Rules;
-use mls_errorplane::Checked;
-use mls_layout::Workspace;
-use mls_library::{CellFault, CellFile, CellId, Library};
-use mls_session::{JournalLimit, Session, Setup};
+use mls_session::{
+    CellFault, CellFile, CellId, Checked, JournalLimit, Library, Session, Setup, Workspace,
+};
 use mls_tech::Tech;
 use std::alloc::{AllocError, Global};
 use std::marker::Model;
@@ -189,18 +188,22 @@ impl Server {
     }
 
     /// What every server keeps: the marks of each open session are right outside the areas that await checking, and
-    /// exact where there is none, and its journal is legal, counted by its own state and within the limit. Does
-    /// nothing: the contract is the law.
+    /// exact where there is none, its journal is legal, counted by its own state and within the limit, and the text of
+    /// its own paint reads as that. Does nothing: the contract is the law.
     pub fn stays_sound(&self)
         ensures right { MarksAreRight (world_of self.now) }
         ensures exact { MarksAreExact (world_of self.now) }
         ensures legal { JournalsAreLegal (world_of self.now) }
+        ensures read_back { SavesReadBack (world_of self.now) }
         ensures numbered { IsNumbered (world_of self.now) }
         ensures room { JournalsHaveRoom (world_of self.now) }
         ensures given { (world_of self.now).given < 2 ^ 64 }
     {
         // For its contract alone: the number of ids has 64 bits.
         self.ids_given();
+        // For their contracts alone: the names are words.
+        self.setup.tech.types();
+        self.setup.tech.name();
         let _sessions = &self.sessions;
     }
 }

@@ -1,7 +1,4 @@
 //! The tests, and what they share.
-mod devices;
 mod findings;
-mod scripts;
 mod servers;
-mod streams;
 mod words;

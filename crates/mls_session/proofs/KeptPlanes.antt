@@ -8,7 +8,7 @@ use Rattle.mls_session.specs.OwnSteps.{Terms}
 use Rattle.mls_session.specs.Sessions.{IsHome, IsMadeFor, IsReady, KeepsPlanes, Session, StaysSound, owners_of}
 use Rattle.mls_session.specs.Setups.{terms_of}
 use Rattle.mls_session.specs.declared.setup.Setup.{Setup}
-use Rattle.mls_session.proofs.CellFrames.{home-ChangesAmong, layouts-ChangesAmong}
+use Rattle.mls_session.proofs.CellFrames.{home-ChangesAmong, layouts-ChangesAmong, own_types-ChangesAmong}
 use Rattle.mls_tilepool.specs.Pools.{Pool}
 
 -- no call keeps them
@@ -36,7 +36,7 @@ module _ (setup : Setup) (old new : Pool) (before after : Session) (keeps : Keep
   pub CanDump-kept : CanDump setup old (owners_of before) → CanDump setup new (owners_of after)
   CanDump-kept can =
       subst (CanDump setup new) (sym owners_of-kept)
-      (record { home = home-ChangesAmong old new (owners_of before) keeps.planes.only setup can; apart = can.apart; planes = can.planes })
+      (record { home = home-ChangesAmong old new (owners_of before) keeps.planes.only setup can; apart = can.apart; planes = can.planes; own_types = own_types-ChangesAmong old new (owners_of before) keeps.planes.only setup can })
 
   pub IsReady-kept : IsReady setup old before → IsReady setup new after
   IsReady-kept ready = record { home = keeps.planes.home; made_for = IsMadeFor-kept ready.made_for; can_dump = CanDump-kept ready.can_dump }

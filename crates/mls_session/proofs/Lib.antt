@@ -9,6 +9,7 @@ pub mod ClosedPlanes
 pub mod CommandSteps
 pub mod CountedCommands
 pub mod CountedSteps
+pub mod CutAreas
 pub mod DesignSteps
 pub mod DumpedCells
 pub mod DumpedRects
@@ -38,6 +39,7 @@ pub mod MovedRects
 pub mod MovedTiles
 pub mod Openings
 pub mod OwnReplies
+pub mod OwnTypes
 pub mod Painting
 pub mod PartialFacts
 pub mod PlacedBounds
@@ -51,3 +53,4 @@ pub mod SavedSections
 pub mod SessionLooks
 pub mod StepRuns
 pub mod TilePieces
+pub use Rattle.mls_library.proofs as mls_library

@@ -1,4 +1,6 @@
--- Facts that hold for some replies and ends only.
+-- Facts that hold for some replies, ends and lists only.
+use Rattle.std.proofs.Common.{◌≡◌, ℕ, Option, Some, None, List, Bor, subst}
+use Rattle.std.specs.Prelude.{IfSome, option_copied}
 use Rattle.mls_errorplane.specs.ErrorPlanes.{UnlessDone}
 use Rattle.mls_errorplane.specs.Outcomes.{UnlessFinished}
 use Rattle.mls_errorplane.specs.declared.error_plane.Outcome.{Outcome}
@@ -30,3 +32,8 @@ on_saved ReplyDone P p = tt
 on_saved (Kinds kinds) P p = tt
 on_saved (Count errors pending) P p = tt
 on_saved (Why violated) P p = tt
+
+-- what holds of a list that is lent holds of the list
+pub of_lent : (P : List ℕ → Type 0) (lent : Option (Bor (List ℕ))) (list : Option (List ℕ)) → option_copied lent ≡ list → IfSome lent (λ bytes. P bytes.now) → IfSome list P
+of_lent P None list is holds = subst (λ (l : Option (List ℕ)). IfSome l P) is tt
+of_lent P (Some bytes) list is holds = subst (λ (l : Option (List ℕ)). IfSome l P) is holds

@@ -327,5 +327,5 @@ IsCellLayout-at pool cells planes cell layout home count is =
         let owners = (get_or cells k d).planes in
         record {
           beyond = λ plane over. layout_in-beyond pool owners plane (subst (λ n. n ≤ plane) (sym (count k d within)) over);
-          outside = layout_in-outside pool owners (home.each k d within).frozen;
+          outside = layout_in-outside pool owners (λ i e inside. ((home.each k d within).frozen i e inside).strips);
         }

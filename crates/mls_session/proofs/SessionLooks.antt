@@ -1,25 +1,34 @@
 -- What looks at a session return.
-use Rattle.std.proofs.Common.{◌≡◌, ◌⊎◌, inl, inr, ◌++◌, [], ℕ, ℤ, true, false, List, refl, sym, ap, ◌∙◌}
+use Rattle.std.proofs.Common.{◌≡◌, ◌<◌, ◌≤◌, ◌⊎◌, inl, inr, ◌++◌, [], ℕ, ℤ, true, false, List, Result, Ok, refl, sym, ap, ◌∙◌, arith}
+use Rattle.std.specs.Prelude.{nat_lt}
+use Rattle.std.proofs.lemmas.Bool.Decides.{nat_tests}
 use Rattle.std.proofs.lemmas.Bool.{cond-false, cond-true}
 use Rattle.std.proofs.lemmas.List.{append-nil}
+use Rattle.mls_edgerule.specs.declared.edge_rule.EdgeRule.{EdgeRule}
+use Rattle.mls_errorplane.specs.Checkings.{Checking}
 use Rattle.mls_errorplane.specs.ErrorPlanes.{marks_picture}
+use Rattle.mls_errorplane.specs.ErrorsIn.{areas_in, squares_in}
+use Rattle.mls_errorplane.specs.Violations.{Violation, strip_count, violations_in}
 use Rattle.mls_geom.specs.Layouts.{Layout}
 use Rattle.mls_geom.specs.Pictures.{Picture}
+use Rattle.mls_geom.specs.Rects.{Rect}
 use Rattle.mls_geom.specs.World.{rect_of}
+use Rattle.mls_geom.specs.declared.rect.RectFault.{RectFault}
 use Rattle.mls_layout.specs.declared.uses.CellUse.{CellUse}
-use Rattle.mls_library.specs.MarkedCells.{marked_line_count, marked_text}
+use Rattle.mls_library.specs.MarkedCells.{empty_layout, marked_line_count, marked_text}
 use Rattle.mls_library.specs.SavedCells.{saved_line_count, saved_text}
 use Rattle.mls_session.specs.JournalCopies.{JournalCopy}
 use Rattle.mls_session.specs.Journals.{Kept}
-use Rattle.mls_session.specs.Looks.{IsRect, Looks, look_of, status_of, why_in}
+use Rattle.mls_session.specs.Looks.{IsRect, Looks, errors_of, look_of, status_of, violations_of, why_in}
 use Rattle.mls_session.specs.Own.{exceeds_listed, layout_of}
 use Rattle.mls_session.specs.OwnSteps.{Terms}
 use Rattle.mls_session.specs.declared.look.Look.{Look}
-use Rattle.mls_session.specs.declared.look.Look.TheVariants.{Save, Why, Status as AskStatus, Uses as AskUses, Marks, Journal as AskJournal}
+use Rattle.mls_session.specs.declared.look.Look.TheVariants.{Save, Why, Status as AskStatus, Uses as AskUses, Marks, Errors as AskErrors, Violations as AskViolations, Journal as AskJournal}
 use Rattle.mls_session.specs.declared.look.Looked.{Looked}
-use Rattle.mls_session.specs.declared.look.Looked.TheVariants.{Saved, Status as HasStatus, Uses as HasUses, Marked, Journal as HasJournal, Refused}
+use Rattle.mls_session.specs.declared.look.Looked.TheVariants.{Saved, Status as HasStatus, Uses as HasUses, Marked, Errors as HasErrors, Violations as HasViolations, Journal as HasJournal, Refused}
 use Rattle.mls_session.specs.declared.look.Status.{Status}
 use Rattle.mls_session.specs.declared.refusal.Refusal.TheVariants.{Memory, Quota}
+use Rattle.mls_tech.specs.Readings.{Tech}
 
 -- with the text that was appended
 abbrev pub LooksMore : Terms → Kept → Look → Looked → List ℕ → List ℕ → Type 0
@@ -46,6 +55,30 @@ pub Looks-why :
 unfolding look_of
 Looks-why terms kept left bottom right top looked (inl is) = inl (ap without_text (sym is))
 Looks-why terms kept left bottom right top looked (inr (made, memory)) = inr (made, memory, refl)
+
+-- at what the rules forbid in the rectangle between these lines
+pub Looks-violations :
+    (terms : Terms) (kept : Kept) (left bottom right top : ℤ) (looked : Looked)
+    → (looked ≡ violations_of terms.config.quota terms.config.rules (layout_of terms.config kept.own.design.drawn) (rect_of left bottom right top)) ⊎ (IsRect (rect_of left bottom right top) × (looked ≡ Refused Memory))
+    → Looks terms kept (AskViolations left bottom right top) looked []
+unfolding look_of
+Looks-violations terms kept left bottom right top looked (inl is) = inl (ap without_text (sym is))
+Looks-violations terms kept left bottom right top looked (inr (made, memory)) = inr (made, memory, refl)
+
+-- which are listed where there are few enough, and else refused
+pub violations-listed :
+    (most : ℕ) (rules : List EdgeRule) (layout : Layout) (rect : Rect) (found : List Violation) → found ≡ violations_in rules rect layout
+    → strip_count (violations_in rules rect layout) ≤ most → HasViolations found ≡ violations_of most rules layout (Ok rect)
+violations-listed most rules layout rect found is few =
+    let all = violations_in rules rect layout in
+    ap (λ (list : List Violation). HasViolations list) is ∙ sym (cond-false (nat_lt most (strip_count all)) (Refused Quota) (HasViolations all) (grind (arith, nat_tests, few)))
+
+pub violations-Quota :
+    (most : ℕ) (rules : List EdgeRule) (layout : Layout) (rect : Rect) → most < strip_count (violations_in rules rect layout)
+    → Refused Quota ≡ violations_of most rules layout (Ok rect)
+violations-Quota most rules layout rect many =
+    let all = violations_in rules rect layout in
+    sym (cond-true (nat_lt most (strip_count all)) (Refused Quota) (HasViolations all) (grind (arith, nat_tests, many)))
 
 -- at how far it has come
 pub Looks-status : (terms : Terms) (kept : Kept) (status : Status) → status ≡ status_of terms kept → Looks terms kept AskStatus (HasStatus status) []
@@ -96,3 +129,35 @@ module _ (terms : Terms) (kept : Kept) where
 
   pub Looks-marks-Memory : (out longer : List ℕ) → longer ≡ out → LooksMore terms kept Marks (Refused Memory) out longer
   Looks-marks-Memory out longer same = ([], inr (tt, refl, refl), same ∙ sym (append-nil out))
+
+-- ---- at the marks and the areas that await checking in a rectangle, as text
+-- with the text that was appended
+abbrev pub ErrorsMore : Tech → Checking → Result Rect RectFault → Looked → List ℕ → List ℕ → Type 0
+ErrorsMore tech checking made looked out longer =
+    (text : List ℕ) × ((errors_of tech checking made ≡ (looked, text)) ⊎ (IsRect made × (looked ≡ Refused Memory) × (text ≡ []))) × (longer ≡ out ++ text)
+
+module _ (tech : Tech) (checking : Checking) (rect : Rect) where
+  abbrev areas_here : List Rect
+  areas_here = areas_in rect checking.dirty
+
+  abbrev marks_here : Picture
+  marks_here = marks_picture (squares_in rect checking.marks)
+
+  pub ErrorsMore-text :
+      (lines : ℕ) (out longer : List ℕ) → lines ≡ marked_line_count tech empty_layout areas_here marks_here
+      → longer ≡ out ++ marked_text tech empty_layout areas_here marks_here → ErrorsMore tech checking (Ok rect) (HasErrors lines) out longer
+  ErrorsMore-text lines out longer count appended =
+      let text = marked_text tech empty_layout areas_here marks_here in
+      let with_text : ℕ → Looked × List ℕ = λ n. (HasErrors n, text) in
+      (text, inl (ap with_text (sym count)), appended)
+
+  pub ErrorsMore-Memory : (out longer : List ℕ) → longer ≡ out → ErrorsMore tech checking (Ok rect) (Refused Memory) out longer
+  ErrorsMore-Memory out longer same = ([], inr (tt, refl, refl), same ∙ sym (append-nil out))
+
+-- so it is what the look between the lines returns
+pub Looks-errors :
+    (terms : Terms) (kept : Kept) (left bottom right top : ℤ) (looked : Looked) (out longer : List ℕ)
+    → ErrorsMore terms.config.tech kept.own.design.checking (rect_of left bottom right top) looked out longer
+    → LooksMore terms kept (AskErrors left bottom right top) looked out longer
+unfolding look_of
+Looks-errors terms kept left bottom right top looked out longer more = more

@@ -3,7 +3,7 @@ use Rattle.std.specs.Prelude.{◌≡◌, ◌≢◌, ℕ, Bool, true, false, if�
 use Rattle.std.specs.List.{All, AllPairs, Contains}
 use Rattle.mls_geom.specs.Rects.{Rect}
 use Rattle.mls_layout.specs.declared.uses.CellUse.{CellUse}
-use Rattle.mls_library.specs.Libraries.{HavePlanes, IsHome as AreCellsHome}
+use Rattle.mls_library.specs.Libraries.{HavePlanes, IsHome as AreCellsHome, ShowOwnTypes}
 use Rattle.mls_tilepool.specs.Pools.{Pool, room_of}
 use Rattle.mls_paint.specs.Owners.{ChangesAmong}
 use Rattle.mls_paint.specs.Planes.{HasStrips, layout_in}
@@ -68,11 +68,12 @@ pub record KeepsPlanes (old new : Pool) (before after : Design) : Type 0 where
   pub errors : after.errors.owner ≡ before.errors.owner
   pub quota : after.quota ≡ before.quota
 
--- the library's cells lie in the pool, under other owners than these, and each has a plane for each of the technology's
+-- the library's cells lie in the pool, under other owners than these, and each has a plane for each of the technology's, and shows types on their own planes
 pub record CanDump (setup : Setup) (pool : Pool) (owners : List ℕ) : Type 0 where
   pub home : AreCellsHome pool setup.library
   pub apart : All (λ cell. All (λ owner. ¬ (Contains owners owner)) cell.planes) setup.library
   pub planes : HavePlanes setup.tech.plane_count setup.library
+  pub own_types : ShowOwnTypes setup.tech pool setup.library
 
 -- the fact, if the reply is a refusal
 abbrev pub OnRefused : Reply → Type 0 → Type 0

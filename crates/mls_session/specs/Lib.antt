@@ -13,3 +13,7 @@ pub mod Refusals
 pub mod Saving
 pub mod Sessions
 pub mod Setups
+pub use Rattle.mls_checker.specs as mls_checker
+pub use Rattle.mls_errorplane.specs as mls_errorplane
+pub use Rattle.mls_layout.specs as mls_layout
+pub use Rattle.mls_library.specs as mls_library

@@ -1,24 +1,29 @@
 -- What a look returns: a definition of what the session keeps, which the look leaves as it is. This project's own.
-use Rattle.std.specs.Prelude.{◌≡◌, ◌⊎◌, ℕ, List, [], Result, Ok, Err, if◌then◌else◌, length, map, ⊤}
-use Rattle.std.specs.List.{range_with_len}
+use Rattle.std.specs.Prelude.{◌≡◌, ◌⊎◌, ℕ, List, [], Result, Ok, Err, if◌then◌else◌, false, length, map, nat_lt, ⊤}
+use Rattle.std.specs.List.{All, range_with_len}
 use Rattle.mls_checker.specs.Findings.{violated_rules}
 use Rattle.mls_edgerule.specs.declared.edge_rule.EdgeRule.{EdgeRule}
+use Rattle.mls_errorplane.specs.Checkings.{Checking}
 use Rattle.mls_errorplane.specs.ErrorPlanes.{marks_picture}
+use Rattle.mls_errorplane.specs.ErrorsIn.{areas_in, squares_in}
+use Rattle.mls_errorplane.specs.Violations.{Violation, squares_in_all, strip_count, violations_in}
 use Rattle.mls_geom.specs.Layouts.{Layout}
-use Rattle.mls_geom.specs.Rects.{Rect}
+use Rattle.mls_geom.specs.Rects.{IsRectangleIn, Rect, meets}
 use Rattle.mls_geom.specs.TileCounts.{tile_count}
 use Rattle.mls_geom.specs.World.{rect_of, world}
 use Rattle.mls_geom.specs.declared.rect.RectFault.{RectFault}
 use Rattle.mls_geom.specs.declared.rect.RectFault.TheVariants.{Empty, Outside}
-use Rattle.mls_library.specs.MarkedCells.{marked_line_count, marked_text}
-use Rattle.mls_library.specs.SavedCells.{HoldsOwnTypes, ReadsAs, saved_line_count, saved_text}
+use Rattle.mls_library.specs.MarkedCells.{empty_layout, marked_line_count, marked_text}
+use Rattle.mls_library.specs.SavedCells.{ReadsAs, saved_line_count, saved_text}
+use Rattle.mls_session.specs.Designs.{HasRightMarks}
 use Rattle.mls_session.specs.Journals.{Kept}
+use Rattle.mls_tech.specs.Readings.{Tech}
 use Rattle.mls_session.specs.Own.{exceeds_listed, layout_of}
 use Rattle.mls_session.specs.OwnSteps.{Terms}
 use Rattle.mls_session.specs.declared.look.Look.{Look}
-use Rattle.mls_session.specs.declared.look.Look.TheVariants.{Save, Why, Status as AskStatus, Uses as AskUses, Marks, Journal as AskJournal}
+use Rattle.mls_session.specs.declared.look.Look.TheVariants.{Save, Why, Status as AskStatus, Uses as AskUses, Marks, Errors as AskErrors, Violations as AskViolations, Journal as AskJournal}
 use Rattle.mls_session.specs.declared.look.Looked.{Looked}
-use Rattle.mls_session.specs.declared.look.Looked.TheVariants.{Saved, Why as WhyRules, Status as HasStatus, Uses as HasUses, Marked, Journal as HasJournal, Refused}
+use Rattle.mls_session.specs.declared.look.Looked.TheVariants.{Saved, Why as WhyRules, Status as HasStatus, Uses as HasUses, Marked, Errors as HasErrors, Violations as HasViolations, Journal as HasJournal, Refused}
 use Rattle.mls_session.specs.declared.look.Status.{Status}
 use Rattle.mls_session.specs.declared.refusal.Refusal.TheVariants.{EmptyBox, OutsideWorld, Memory, Quota}
 
@@ -38,11 +43,15 @@ status_of terms kept = record {
   mark_tiles = tile_count world (marks_picture kept.own.design.checking.marks);
 }
 
+-- why there is no rectangle
+abbrev pub no_rect : RectFault → Looked
+no_rect Empty = Refused EmptyBox
+no_rect Outside = Refused OutsideWorld
+
 -- the rules that forbid a square of the rectangle, or why there is none
 abbrev pub why_in : List EdgeRule → Layout → Result Rect RectFault → Looked
 why_in rules layout (Ok rect) = WhyRules (violated_rules rules rect layout)
-why_in rules layout (Err Empty) = Refused EmptyBox
-why_in rules layout (Err Outside) = Refused OutsideWorld
+why_in rules layout (Err fault) = no_rect fault
 
 -- the number of lines of the layout's text with the areas that await checking and the marks, and that text, unless a plane has more tiles than are listed of
 -- one
@@ -55,6 +64,23 @@ marked_of terms kept =
       marked_text terms.config.tech (layout_of terms.config kept.own.design.drawn) kept.own.design.checking.dirty (marks_picture kept.own.design.checking.marks),
     )
 
+-- the number of lines of the text of the marks and the areas that await checking in the rectangle, and that text, or why there is no rectangle
+abbrev pub errors_of : Tech → Checking → Result Rect RectFault → Looked × List ℕ
+errors_of tech checking (Ok rect) = (
+  HasErrors (marked_line_count tech empty_layout (areas_in rect checking.dirty) (marks_picture (squares_in rect checking.marks))),
+  marked_text tech empty_layout (areas_in rect checking.dirty) (marks_picture (squares_in rect checking.marks)),
+)
+errors_of tech checking (Err fault) = (no_rect fault, [])
+
+-- what each rule forbids, unless that has more strips than so many
+abbrev pub listed_within : ℕ → List Violation → Looked
+listed_within most found = if nat_lt most (strip_count found) then Refused Quota else HasViolations found
+
+-- what each rule forbids in the rectangle, or why it isn't listed
+abbrev pub violations_of : ℕ → List EdgeRule → Layout → Result Rect RectFault → Looked
+violations_of most rules layout (Ok rect) = listed_within most (violations_in rules rect layout)
+violations_of most rules layout (Err fault) = no_rect fault
+
 -- what the look returns, and the text that comes with it
 unfoldable pub look_of : Terms → Kept → Look → Looked × List ℕ
 look_of terms kept Save =
@@ -63,6 +89,9 @@ look_of terms kept (Why left bottom right top) = (why_in terms.config.rules (lay
 look_of terms kept AskStatus = (HasStatus (status_of terms kept), [])
 look_of terms kept AskUses = (HasUses kept.own.design.drawn.uses, [])
 look_of terms kept Marks = marked_of terms kept
+look_of terms kept (AskErrors left bottom right top) = errors_of terms.config.tech kept.own.design.checking (rect_of left bottom right top)
+look_of terms kept (AskViolations left bottom right top) =
+    (violations_of terms.config.quota terms.config.rules (layout_of terms.config kept.own.design.drawn) (rect_of left bottom right top), [])
 look_of terms kept AskJournal = (HasJournal (record { entries = kept.journal; steps = kept.checks }), [])
 
 -- memory may run out in any look but at a rectangle that there isn't
@@ -76,19 +105,34 @@ MayRunOut (Why left bottom right top) = IsRect (rect_of left bottom right top)
 MayRunOut AskStatus = ⊤
 MayRunOut AskUses = ⊤
 MayRunOut Marks = ⊤
+MayRunOut (AskErrors left bottom right top) = IsRect (rect_of left bottom right top)
+MayRunOut (AskViolations left bottom right top) = IsRect (rect_of left bottom right top)
 MayRunOut AskJournal = ⊤
 
 -- the look returns this with this text, as it is defined; or memory ran out, and there is no text
 abbrev pub Looks : Terms → Kept → Look → Looked → List ℕ → Type 0
 Looks terms kept look looked text = (look_of terms kept look ≡ (looked, text)) ⊎ (MayRunOut look × (looked ≡ Refused Memory) × (text ≡ []))
 
--- the layout's text with the areas that await checking and the marks reads as the layout, where that has its own types alone
+-- the layout's text with the areas that await checking and the marks reads as the layout
 abbrev pub MarksReadBack : Terms → Kept → Type 0
 MarksReadBack terms kept =
-    HoldsOwnTypes terms.config.tech (layout_of terms.config kept.own.design.drawn)
-    → ReadsAs terms.config.tech
+    ReadsAs terms.config.tech
     (marked_text terms.config.tech (layout_of terms.config kept.own.design.drawn) kept.own.design.checking.dirty (marks_picture kept.own.design.checking.marks))
     (layout_of terms.config kept.own.design.drawn)
+
+-- the text of the marks and the areas in any rectangle reads as the layout that shows nothing
+unfoldable pub ErrorsReadBack : Terms → Kept → Type 0
+ErrorsReadBack terms kept =
+    (rect : Rect)
+    → ReadsAs terms.config.tech (marked_text terms.config.tech empty_layout (areas_in rect kept.own.design.checking.dirty) (marks_picture (squares_in rect kept.own.design.checking.marks)))
+    empty_layout
+
+-- where no area that awaits checking meets a rectangle, the strips of what the rules forbid there have its marked squares
+abbrev pub ViolationsAreMarks : Terms → Kept → Type 0
+ViolationsAreMarks terms kept =
+    (rect : Rect) → IsRectangleIn world rect → HasRightMarks terms.config kept.own.design → All (λ area. meets area rect ≡ false) kept.own.design.checking.dirty
+    → (x y : ℕ)
+    → squares_in_all (violations_in terms.config.rules rect (layout_of terms.config kept.own.design.drawn)) x y ≡ squares_in rect kept.own.design.checking.marks x y
 
 -- the fact, if the look is at that text
 abbrev pub OnMarks : Look → Type 0 → Type 0
@@ -97,4 +141,6 @@ OnMarks (Why left bottom right top) P = ⊤
 OnMarks AskStatus P = ⊤
 OnMarks AskUses P = ⊤
 OnMarks Marks P = P
+OnMarks (AskErrors left bottom right top) P = ⊤
+OnMarks (AskViolations left bottom right top) P = ⊤
 OnMarks AskJournal P = ⊤

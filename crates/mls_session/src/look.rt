@@ -6,6 +6,7 @@ ghost use Rattle.mls_session.specs.Looks.{tile_counts};
 
 use crate::{Entry, Listing, Refusal};
 use mls_edgerule::RuleSet;
+use mls_errorplane::Violation;
 use mls_layout::CellUse;
 use mls_paint::tile_count;
 use mls_stitch::Plane;
@@ -31,6 +32,20 @@ pub enum Look {
     Uses,
     /// The text of the layout with the areas that await checking and the marks, as a cell file.
     Marks,
+    /// The text of the marks and of the areas that await checking between these lines of the world, as a cell file.
+    Errors {
+        left: i32,
+        bottom: i32,
+        right: i32,
+        top: i32,
+    },
+    /// What each rule forbids between these lines of the world.
+    Violations {
+        left: i32,
+        bottom: i32,
+        right: i32,
+        top: i32,
+    },
     /// The journal, and how many check steps were done since its last entry.
     Journal,
 }
@@ -48,9 +63,14 @@ pub enum Looked {
     Uses(Listing<CellUse>),
     /// The number of lines of the text of the layout with the areas that await checking and the marks.
     Marked(usize),
+    /// The number of lines of the text of the marks and of the areas that await checking in the rectangle.
+    Errors(usize),
+    /// What each rule forbids in the rectangle, by rising number.
+    Violations(Listing<Violation>),
     /// The journal, and how many check steps were done since its last entry.
     Journal(JournalCopy),
-    /// There is no such rectangle, a plane of the layout has more tiles than are listed of one, or memory ran out.
+    /// There is no such rectangle, a plane of the layout has more tiles than are listed of one, the rules forbid squares
+    /// in more strips than are listed, or memory ran out.
     Refused(Refusal),
 }
 

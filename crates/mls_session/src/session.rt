@@ -2,13 +2,14 @@
 ghost use Rattle.std.specs.Prelude.{◌≡◌, ◌*◌, ◌+◌, ◌++◌, ◌≤◌, ◌<◌, IfOk, OnErr, List, ℕ, length, vec_capacity, vec_len};
 ghost use Rattle.mls_layout.specs.Uses.{cell_layouts};
 ghost use Rattle.mls_library.specs.Libraries as library_spec;
-ghost use Rattle.mls_library.specs.SavedCells.{HoldsOwnTypes, ReadsAs, saved_text};
+ghost use Rattle.mls_library.specs.SavedCells.{ReadsAs, saved_text};
 ghost use Rattle.mls_paint.specs.Owners.{AddsOwners, RemovesOwners};
 ghost use Rattle.mls_session.specs.Designs.{HasRightMarks, OnRefused};
 ghost use Rattle.mls_session.specs.Journals.{Commands, IsLegal, Saves, kept_at_opening};
 ghost use Rattle.mls_session.specs.Quotas.{plane_reserve};
 ghost use Rattle.mls_session.specs.Saving.{OnSaved};
 ghost use Rattle.mls_session.specs.Setups.{config_of, terms_of};
+ghost use Rattle.mls_session.specs.OwnSteps.{HaveOwnCells};
 ghost use Rattle.mls_session.specs.declared.refusal.Refusal.TheVariants.{Memory};
 ghost use Rattle.mls_session.specs.declared.reply.Reply.TheVariants.{Refused};
 ghost use Rattle.mls_tilepool.specs.Pools.{unreserved};
@@ -142,8 +143,9 @@ impl Session {
             + length (saved_text setup.now.tech (state_of workspace.old.pool self.old).design.drawn.paint) }
         ensures legal { IsLegal (terms_of setup.now workspace.old.pool) (kept_of workspace.old.pool self.old)
             → IsLegal (terms_of setup.now workspace.old.pool) (kept_of workspace.old.pool self.new) }
-        ensures reads_back { OnSaved result (HoldsOwnTypes setup.now.tech
-            (state_of workspace.old.pool self.old).design.drawn.paint
+        ensures reads_back { OnSaved result (IsLegal (terms_of setup.now workspace.old.pool)
+            (kept_of workspace.old.pool self.old)
+            → HaveOwnCells (terms_of setup.now workspace.old.pool)
             → ReadsAs setup.now.tech (saved_text setup.now.tech
             (state_of workspace.old.pool self.old).design.drawn.paint)
             (state_of workspace.old.pool self.old).design.drawn.paint) }

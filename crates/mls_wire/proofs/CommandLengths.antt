@@ -7,9 +7,9 @@ use Rattle.std.proofs.lemmas.Bool.{cond_both}
 use Rattle.std.proofs.lemmas.List.Elements.{All-head, All-tail}
 use Rattle.std.proofs.lemmas.Slice.Eq.{bytes_eq-Decides}
 use Rattle.mls_kinds.specs.KindSets.{has_bit, members}
-use Rattle.mls_library.proofs.SavedLines.{IsWord}
-use Rattle.mls_session.specs.declared.command.Command.{Command}
-use Rattle.mls_session.specs.declared.command.Command.TheVariants.{Dump, GetCell, What, Save, Check, CatchUp, Why, Count}
+use Rattle.mls_server.proofs.mls_library.SavedLines.{IsWord}
+use Rattle.mls_server.specs.mls_session.declared.command.Command.{Command}
+use Rattle.mls_server.specs.mls_session.declared.command.Command.TheVariants.{Dump, GetCell, What, Save, Check, CatchUp, Why, Count}
 use Rattle.mls_text.specs.Fields.{fields_of}
 use Rattle.mls_text.specs.Words.{same_word}
 use Rattle.mls_wire.specs.JournalLines.{cell_word, command_words, listed_types, type_word, types_word}

@@ -9,12 +9,12 @@ use Rattle.std.proofs.lemmas.List.Elements.{All-append, All-cons, All-from_recur
 use Rattle.std.proofs.lemmas.Result.{IfOk-at_ok}
 use Rattle.mls_kinds.specs.KindSets.{members, set_of}
 use Rattle.mls_kinds.proofs.KindSetLemmas.{is_set_of}
-use Rattle.mls_library.specs.SavedCells.{spaced}
-use Rattle.mls_library.proofs.SavedLines.{All-spaced, IsPlain, IsPlain-test, IsWord, IsWord-plain, words_of-spaced}
-use Rattle.mls_library.proofs.SavedNumbers.{signed_decimal-plain}
+use Rattle.mls_server.specs.mls_library.SavedCells.{spaced}
+use Rattle.mls_server.proofs.mls_library.SavedLines.{All-spaced, IsPlain, IsPlain-test, IsWord, IsWord-plain, words_of-spaced}
+use Rattle.mls_server.proofs.mls_library.SavedNumbers.{signed_decimal-plain}
 use Rattle.mls_server.specs.SessionNames.{is_name_byte, is_session_name}
-use Rattle.mls_session.specs.declared.command.Command.{Command}
-use Rattle.mls_session.specs.declared.command.Command.TheVariants.{Box, Paint, Erase, Dump, GetCell, What, Save, Check, CatchUp, Why, Count}
+use Rattle.mls_server.specs.mls_session.declared.command.Command.{Command}
+use Rattle.mls_server.specs.mls_session.declared.command.Command.TheVariants.{Box, Paint, Erase, Dump, GetCell, What, Save, Check, CatchUp, Why, Count}
 use Rattle.mls_text.specs.Fields.{fields_of}
 use Rattle.mls_text.specs.Lines.{IsUnbroken}
 use Rattle.mls_text.specs.Words.{is_blank, words_of}

@@ -6,9 +6,9 @@ use Rattle.std.specs.List.{count_by, filter, flat_map}
 use Rattle.std.proofs.lemmas.Bool.Decides.{nat_tests}
 use Rattle.std.proofs.lemmas.List.Concat.{flat_map-append}
 use Rattle.std.proofs.lemmas.List.Sums.{length-filter}
-use Rattle.mls_library.specs.SavedCells.{spaced}
-use Rattle.mls_session.specs.JournalCopies.{JournalCopy}
-use Rattle.mls_session.specs.declared.journal.Entry.{Entry}
+use Rattle.mls_server.specs.mls_library.SavedCells.{spaced}
+use Rattle.mls_server.specs.mls_session.JournalCopies.{JournalCopy}
+use Rattle.mls_server.specs.mls_session.declared.journal.Entry.{Entry}
 use Rattle.mls_wire.specs.JournalLines.{box_text, command_line, counted_text, entry_lines, entry_text, fed_lines, journal_lines, journal_text, pair_text, steps_line, steps_lines}
 use Rattle.mls_wire.specs.NameBooks.{Names}
 

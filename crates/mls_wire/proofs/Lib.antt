@@ -18,6 +18,7 @@ pub mod ScriptTexts
 pub mod ServingLemmas
 pub mod ShieldedLines
 pub mod SpelledCommands
+pub mod StripLines
 pub mod TypeLists
 pub mod WorldNames
 pub mod WrittenLengths

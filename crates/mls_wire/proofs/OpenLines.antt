@@ -2,9 +2,9 @@
 use Rattle.std.proofs.Common.{◌≡◌, ◌≢◌, ℕ, ◌==◌, Bool, true, false, cond, Option, Some, None, List, [], ◌∷◌, Result, Ok, Err, refl, sym, ap, subst, arith, codes}
 use Rattle.std.specs.Option.{option_map}
 use Rattle.std.proofs.lemmas.Bool.Decides.{nat_tests}
-use Rattle.mls_session.specs.Journals.{Kept}
-use Rattle.mls_session.specs.declared.command.Command.{Command}
-use Rattle.mls_session.specs.declared.command.Command.TheVariants.{Box, Paint, Erase, Dump, GetCell, What, Save, Check, CatchUp, Why, Count}
+use Rattle.mls_server.specs.mls_session.Journals.{Kept}
+use Rattle.mls_server.specs.mls_session.declared.command.Command.{Command}
+use Rattle.mls_server.specs.mls_session.declared.command.Command.TheVariants.{Box, Paint, Erase, Dump, GetCell, What, Save, Check, CatchUp, Why, Count}
 use Rattle.mls_server.specs.Worlds.{Seat, World, kept_in, named_in, seat_in, session_named}
 use Rattle.mls_server.specs.SessionNames.{is_session_name}
 use Rattle.mls_server.specs.declared.event.Event.TheVariants.{Command as CommandEvent}
@@ -13,7 +13,7 @@ use Rattle.mls_wire.specs.NameBooks.{book_of}
 use Rattle.mls_wire.specs.Runs.{CanExecute, Executes, command_event, says_in}
 use Rattle.mls_wire.specs.Says.{asked_by, asked_in, asked_line, asked_of, asking_says, asks_says, command_of, line_asking, line_says, line_with, open_says, run_by, session_says, words_say}
 use Rattle.mls_wire.specs.declared.line.Line.{Line}
-use Rattle.mls_wire.specs.declared.line.Line.TheVariants.{Silent, Open, Close, Step, Steps, Audit}
+use Rattle.mls_wire.specs.declared.line.Line.TheVariants.{Silent, Open, Audit}
 use Rattle.mls_wire.specs.declared.line.LineFault.{LineFault}
 use Rattle.mls_wire.specs.declared.parse.Asked.{Asked}
 use Rattle.mls_wire.specs.declared.parse.Asked.TheVariants.{Close as AsksClose, Step as AsksStep, Steps as AsksSteps, Audit as AsksAudit, Look as AsksLook}

@@ -4,12 +4,12 @@ use Rattle.std.specs.List.{flat_map}
 use Rattle.std.specs.Option.{option_and_then, option_map}
 use Rattle.std.proofs.lemmas.List.Elements.{All-head, All-tail}
 use Rattle.std.proofs.lemmas.Option.{same_Some}
-use Rattle.mls_session.specs.Journals.{IsLegal, Kept, Run, is_journalled, kept_at_opening, noted, run_from, said_next, said_of}
-use Rattle.mls_session.specs.OwnSteps.{OwnState, Terms, beginning, checks, own_step}
-use Rattle.mls_session.specs.declared.command.Command.{Command}
-use Rattle.mls_session.specs.declared.journal.Entry.{Entry}
-use Rattle.mls_session.specs.declared.reply.Reply.{Reply}
-use Rattle.mls_session.proofs.JournalRuns.{Leads-from}
+use Rattle.mls_server.specs.mls_session.Journals.{IsLegal, Kept, Run, is_journalled, kept_at_opening, noted, run_from, said_next, said_of}
+use Rattle.mls_server.specs.mls_session.OwnSteps.{OwnState, Terms, beginning, checks, own_step}
+use Rattle.mls_server.specs.mls_session.declared.command.Command.{Command}
+use Rattle.mls_server.specs.mls_session.declared.journal.Entry.{Entry}
+use Rattle.mls_server.specs.mls_session.declared.reply.Reply.{Reply}
+use Rattle.mls_server.proofs.mls_session.JournalRuns.{Leads-from}
 use Rattle.mls_server.specs.OwnLists.{alone, asked, at, checked}
 use Rattle.mls_server.proofs.AloneRuns.{alone-both, alone-checks, counted}
 use Rattle.mls_wire.specs.PlayedJournals.{PlaysAgain, entry_items}

@@ -3,9 +3,9 @@ use Rattle.std.proofs.Common.{◌≡◌, ℕ, suc, ◌≤◌, true, List, [], �
 use Rattle.std.specs.Prelude.{⊤}
 use Rattle.std.proofs.lemmas.Bool.{cond_both}
 use Rattle.std.proofs.lemmas.List.Elements.{All-tail, All-weaker}
-use Rattle.mls_library.proofs.SavedLines.{IsWord}
+use Rattle.mls_server.proofs.mls_library.SavedLines.{IsWord}
 use Rattle.mls_server.specs.SessionNames.{is_session_name}
-use Rattle.mls_session.specs.declared.command.Command.{Command}
+use Rattle.mls_server.specs.mls_session.declared.command.Command.{Command}
 use Rattle.mls_text.specs.Lines.{IsUnbroken}
 use Rattle.mls_text.specs.Words.{begins_with, same_word, words_of}
 use Rattle.mls_wire.specs.JournalLines.{command_words}

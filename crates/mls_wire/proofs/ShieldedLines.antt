@@ -3,7 +3,7 @@ use Rattle.std.proofs.Common.{◌≡◌, ◌≢◌, ℕ, suc, ◌+◌, ◌<◌, 
 use Rattle.std.specs.Prelude.{◌⊎◌, nat_lt}
 use Rattle.std.proofs.lemmas.Bool.Decides.{nat_tests}
 use Rattle.std.proofs.lemmas.List.Elements.{All-cons, All-head, All-nil, All-tail}
-use Rattle.mls_library.proofs.SavedLines.{IsKept-plain, IsPlain, without_return-append}
+use Rattle.mls_server.proofs.mls_library.SavedLines.{IsKept-plain, IsPlain, without_return-append}
 use Rattle.mls_text.specs.Lines.{IsUnbroken, without_return}
 use Rattle.mls_text.specs.Words.{begins_with_word, is_blank, onto_first, words_of}
 use Rattle.mls_wire.specs.JournalLines.{shielded, shielded_after}

@@ -10,8 +10,8 @@ use Rattle.std.proofs.lemmas.Map.Views.{any-filter_same}
 use Rattle.mls_kinds.specs.KindSets.{has_bit, members, set_of}
 use Rattle.mls_kinds.proofs.BitLemmas.{has_bit-zero}
 use Rattle.mls_kinds.proofs.KindSetLemmas.{has_bit-set_of, has_bit_from_64, none_from_members, set_of-lt}
-use Rattle.mls_session.specs.declared.command.Command.{Command}
-use Rattle.mls_session.specs.declared.command.Command.TheVariants.{Box, Paint, Erase, Dump, GetCell, What, Save, Check, CatchUp, Why, Count}
+use Rattle.mls_server.specs.mls_session.declared.command.Command.{Command}
+use Rattle.mls_server.specs.mls_session.declared.command.Command.TheVariants.{Box, Paint, Erase, Dump, GetCell, What, Save, Check, CatchUp, Why, Count}
 use Rattle.mls_text.specs.Fields.{fields_of}
 use Rattle.mls_text.specs.Words.{onto_first, same_word}
 use Rattle.mls_wire.specs.ReadBack.{HasShortName, NamesReadBack}

@@ -12,13 +12,13 @@ use Rattle.std.proofs.lemmas.Slice.Eq.{bytes_eq-Decides}
 use Rattle.std.proofs.lemmas.List.{get_or-map, length-map}
 use Rattle.std.proofs.lemmas.List.Quantifiers.{position-Some}
 use Rattle.std.proofs.lemmas.Option.{slice_get-get_or}
-use Rattle.mls_library.proofs.SavedNames.{IsUnbroken-type_name, IsWord-type_name}
+use Rattle.mls_server.proofs.mls_library.SavedNames.{IsUnbroken-type_name, IsWord-type_name}
 use Rattle.mls_tech.specs.Names.{is_name, is_name_byte, is_type_name}
 use Rattle.mls_tech.specs.Readings.{HasNames, Numbered, none_is_shorter, number_named, short_name_of}
 use Rattle.mls_tech.proofs.NameLemmas.{number_named-holds}
 use Rattle.mls_server.specs.Settings.{NamedLayout, Setting, cell_names, terms_for}
 use Rattle.mls_server.specs.Worlds.{World}
-use Rattle.mls_session.specs.declared.command.Command.{Command}
+use Rattle.mls_server.specs.mls_session.declared.command.Command.{Command}
 use Rattle.mls_text.specs.Words.{same_word}
 use Rattle.mls_wire.specs.JournalLines.{command_line, type_word}
 use Rattle.mls_wire.specs.ReadBack.{CallsAs, HasShortName, IsListable, JournalsReadBack, NamesReadBack}

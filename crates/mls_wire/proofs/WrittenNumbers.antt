@@ -8,8 +8,8 @@ use Rattle.std.proofs.lemmas.Bool.{and_parts, cond_both, le-leb, leb-true}
 use Rattle.std.proofs.lemmas.Bool.Decides.{nat_tests}
 use Rattle.std.proofs.lemmas.Fmt.{decimal_nonempty, length-decimal-le}
 use Rattle.mls_text.specs.Digits.{is_digit, is_number, value_at_most, value_of}
-use Rattle.mls_library.proofs.SavedLines.{IsPlain}
-use Rattle.mls_library.proofs.SavedNumbers.{IsPlain-digits, decimal_digits, decimal_value}
+use Rattle.mls_server.proofs.mls_library.SavedLines.{IsPlain}
+use Rattle.mls_server.proofs.mls_library.SavedNumbers.{IsPlain-digits, decimal_digits, decimal_value}
 use Rattle.mls_wire.specs.Numbers.{count_written, magnitude_of, number_of}
 
 -- ---- what is written is read

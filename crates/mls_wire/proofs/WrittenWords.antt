@@ -7,7 +7,7 @@ use mathlib.Core.List.{append-nil}
 use Rattle.mls_text.specs.Fields.{fields_of}
 use Rattle.mls_text.specs.Lines.{IsUnbroken}
 use Rattle.mls_text.specs.Words.{begins_with_word, is_blank, onto_first, words_of}
-use Rattle.mls_library.proofs.SavedLines.{IsWord}
+use Rattle.mls_server.proofs.mls_library.SavedLines.{IsWord}
 
 -- ---- each word of a line is one
 -- a byte other than a blank

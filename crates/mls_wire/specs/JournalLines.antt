@@ -4,11 +4,11 @@ use Rattle.std.specs.Fmt.{decimal, signed_decimal}
 use Rattle.std.specs.List.{flat_map, join_with_byte}
 use Rattle.std.specs.Option.{unwrap_or}
 use Rattle.mls_kinds.specs.KindSets.{members}
-use Rattle.mls_library.specs.SavedCells.{spaced}
-use Rattle.mls_session.specs.declared.command.Command.{Command}
-use Rattle.mls_session.specs.declared.command.Command.TheVariants.{Box, Paint, Erase, Dump, GetCell, What, Save, Check, CatchUp, Why, Count}
-use Rattle.mls_session.specs.JournalCopies.{JournalCopy}
-use Rattle.mls_session.specs.declared.journal.Entry.{Entry}
+use Rattle.mls_server.specs.mls_library.SavedCells.{spaced}
+use Rattle.mls_server.specs.mls_session.declared.command.Command.{Command}
+use Rattle.mls_server.specs.mls_session.declared.command.Command.TheVariants.{Box, Paint, Erase, Dump, GetCell, What, Save, Check, CatchUp, Why, Count}
+use Rattle.mls_server.specs.mls_session.JournalCopies.{JournalCopy}
+use Rattle.mls_server.specs.mls_session.declared.journal.Entry.{Entry}
 use Rattle.mls_wire.specs.NameBooks.{Names, no_name}
 
 -- ---- a command

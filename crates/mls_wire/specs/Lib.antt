@@ -15,3 +15,6 @@ pub mod ScriptLines
 pub mod SeatTexts
 pub mod Serving
 pub mod Watches
+pub use Rattle.mls_server.specs.mls_library
+pub use Rattle.mls_server.specs as mls_server
+pub use Rattle.mls_server.specs.mls_session

@@ -1,9 +1,9 @@
 -- What a journal's lines ask for, and what a session as it is opened does by them. This project's own.
 use Rattle.std.specs.Prelude.{◌≡◌, ℕ, Some, List, [], ◌∷◌, ◌++◌, map, replicate}
 use Rattle.std.specs.List.{flat_map}
-use Rattle.mls_session.specs.Journals.{Kept, kept_at_opening}
-use Rattle.mls_session.specs.OwnSteps.{Terms}
-use Rattle.mls_session.specs.declared.journal.Entry.{Entry}
+use Rattle.mls_server.specs.mls_session.Journals.{Kept, kept_at_opening}
+use Rattle.mls_server.specs.mls_session.OwnSteps.{Terms}
+use Rattle.mls_server.specs.mls_session.declared.journal.Entry.{Entry}
 use Rattle.mls_server.specs.OwnLists.{Item, alone, asked, at, checked}
 
 -- an entry's check steps, and its command

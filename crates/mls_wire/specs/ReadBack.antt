@@ -1,7 +1,7 @@
 -- What is read back of a journal that is written, and that it plays again. This project's own.
 use Rattle.std.specs.Prelude.{◌≡◌, ◌<◌, ◌≤◌, ◌^◌, ℕ, ◌==◌, false, true, All, Some, None, IfSome, Ok, List, [], length, slice_get}
-use Rattle.mls_session.specs.Journals.{IsLegal, Kept}
-use Rattle.mls_session.specs.declared.command.Command.{Command}
+use Rattle.mls_server.specs.mls_session.Journals.{IsLegal, Kept}
+use Rattle.mls_server.specs.mls_session.declared.command.Command.{Command}
 use Rattle.mls_server.specs.SessionNames.{is_session_name}
 use Rattle.mls_server.specs.Settings.{Setting, cell_names, terms_for}
 use Rattle.mls_server.specs.Worlds.{World}

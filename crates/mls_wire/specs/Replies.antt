@@ -1,20 +1,23 @@
 -- The text of a line's response. Each reply ends with a line feed. This project's own.
-use Rattle.std.specs.Prelude.{ℕ, ◌==◌, Option, List, [], ◌∷◌, ◌++◌, Ok, Err, length, codes}
+use Rattle.std.specs.Prelude.{ℕ, ◌+◌, ◌==◌, Option, List, [], ◌∷◌, ◌++◌, Ok, Err, length, codes}
 use Rattle.std.specs.List.{flat_map}
 use Rattle.std.specs.Option.{unwrap_or}
 use Rattle.mls_edgerule.specs.RuleSets.{rules_in}
-use Rattle.mls_errorplane.specs.declared.error_plane.Stepped.{Stepped as StepEnd}
-use Rattle.mls_errorplane.specs.declared.error_plane.Stepped.TheVariants.{Idle, Done as StepDone, Full, Memory as StepMemory}
-use Rattle.mls_layout.specs.declared.uses.CellUse.{CellUse}
+use Rattle.mls_server.specs.mls_errorplane.declared.error_plane.Stepped.{Stepped as StepEnd}
+use Rattle.mls_server.specs.mls_errorplane.declared.error_plane.Stepped.TheVariants.{Idle, Done as StepDone, Full, Memory as StepMemory}
+use Rattle.mls_server.specs.mls_errorplane.Violations.{Violation, strip_count}
+use Rattle.mls_geom.specs.Rects.{Rect}
+use Rattle.mls_server.specs.mls_layout.declared.uses.CellUse.{CellUse}
+use Rattle.mls_server.specs.mls_library.SavedCells.{rect_words, spaced}
 use Rattle.mls_kinds.specs.KindSets.{difference, members, set_of}
-use Rattle.mls_session.specs.Refusals.{refusal_number, refusal_text}
-use Rattle.mls_session.specs.declared.look.Looked.{Looked}
-use Rattle.mls_session.specs.declared.look.Looked.TheVariants.{Saved as SavedLook, Why as WhyLook, Status as StatusLook, Uses as UsesLook, Marked as MarkedLook, Journal as JournalLook, Refused as RefusedLook}
-use Rattle.mls_session.specs.declared.look.Status.{Status}
-use Rattle.mls_session.specs.declared.reply.Reply.{Reply}
-use Rattle.mls_session.specs.declared.reply.Reply.TheVariants.{Done, Kinds, Saved, Count, Why, Refused, Stopped}
+use Rattle.mls_server.specs.mls_session.Refusals.{refusal_number, refusal_text}
+use Rattle.mls_server.specs.mls_session.declared.look.Looked.{Looked}
+use Rattle.mls_server.specs.mls_session.declared.look.Looked.TheVariants.{Saved as SavedLook, Why as WhyLook, Status as StatusLook, Uses as UsesLook, Marked as MarkedLook, Errors as ErrorsLook, Violations as ViolationsLook, Journal as JournalLook, Refused as RefusedLook}
+use Rattle.mls_server.specs.mls_session.declared.look.Status.{Status}
+use Rattle.mls_server.specs.mls_session.declared.reply.Reply.{Reply}
+use Rattle.mls_server.specs.mls_session.declared.reply.Reply.TheVariants.{Done, Kinds, Saved, Count, Why, Refused, Stopped}
 use Rattle.mls_wire.specs.JournalLines.{journal_text}
-use Rattle.mls_session.specs.declared.step_run.StepRun.{StepRun}
+use Rattle.mls_server.specs.mls_session.declared.step_run.StepRun.{StepRun}
 use Rattle.mls_wire.specs.NameBooks.{Names}
 use Rattle.mls_wire.specs.Says.{line_fault_number, line_fault_text}
 use Rattle.std.specs.Fmt.{decimal, signed_decimal}
@@ -106,6 +109,19 @@ abbrev pub use_text : Names → CellUse → List ℕ
 use_text book cell_use =
     10 ∷ codes "getcell " ++ text_if_any (book.cell_name cell_use.cell) ++ 32 ∷ signed_decimal cell_use.dx ++ 32 ∷ signed_decimal cell_use.dy
 
+-- a line feed, and the line of a strip as a cell file has it, without its own line feed
+abbrev pub strip_text : Rect → List ℕ
+strip_text strip = 10 ∷ spaced (rect_words strip)
+
+-- a line feed, a rule's number and its why text, and the lines of the strips of what it forbids
+abbrev pub violation_text : Names → Violation → List ℕ
+violation_text book violation =
+    10 ∷ codes "rule " ++ decimal violation.rule ++ 32 ∷ text_if_any (book.why_text violation.rule) ++ flat_map strip_text violation.strips
+
+-- the number of the lines of what rules forbid, and these lines
+unfoldable pub violations_text : Names → List Violation → List ℕ
+violations_text book found = codes "violations " ++ decimal (length found + strip_count found) ++ flat_map (violation_text book) found
+
 -- what a look at the session of a name returned, without its line's first word and its line feed: a text and rules as a command's reply has them
 unfoldable pub looked_text : Names → List ℕ → Looked → List ℕ
 looked_text book name (SavedLook lines) = reply_text book (Saved lines)
@@ -113,6 +129,8 @@ looked_text book name (WhyLook rules) = reply_text book (Why rules)
 looked_text book name (StatusLook status) = status_text status
 looked_text book name (UsesLook uses) = codes "uses " ++ decimal (length uses) ++ flat_map (use_text book) uses
 looked_text book name (MarkedLook lines) = codes "marked " ++ decimal lines
+looked_text book name (ErrorsLook lines) = codes "errors " ++ decimal lines
+looked_text book name (ViolationsLook found) = violations_text book found
 looked_text book name (JournalLook journal) = journal_text book name journal
 looked_text book name (RefusedLook refusal) = reply_text book (Refused refusal)
 

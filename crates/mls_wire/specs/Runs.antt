@@ -1,8 +1,8 @@
 -- Whole runs of a script over a server. Each line asks for one event at most. This project's own.
 use Rattle.std.specs.Prelude.{◌≡◌, ◌≢◌, ℕ, ◌+◌, Option, Some, None, Result, Ok, Err, List, [], ◌∷◌, ◌++◌, length}
-use Rattle.mls_session.specs.Journals.{Kept}
-use Rattle.mls_session.specs.declared.command.Command.{Command}
-use Rattle.mls_session.specs.declared.command.Command.TheVariants.{Box, Paint, Erase, Dump, GetCell, What, Save as SaveCommand, Check, CatchUp, Why, Count}
+use Rattle.mls_server.specs.mls_session.Journals.{Kept}
+use Rattle.mls_server.specs.mls_session.declared.command.Command.{Command}
+use Rattle.mls_server.specs.mls_session.declared.command.Command.TheVariants.{Box, Paint, Erase, Dump, GetCell, What, Save as SaveCommand, Check, CatchUp, Why, Count}
 use Rattle.mls_server.specs.Events.{Happens}
 use Rattle.mls_server.specs.OwnLists.{IsToldAlone}
 use Rattle.mls_server.specs.Worlds.{JournalsAreLegal, MarksAreExact, MarksAreRight, World, kept_in, session_named}

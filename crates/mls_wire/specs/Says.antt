@@ -3,10 +3,10 @@ use Rattle.std.specs.Prelude.{ℕ, ℤ, ◌==◌, Bool, false, if◌then◌else�
 use Rattle.std.specs.List.{list_all, list_any}
 use Rattle.std.specs.Option.{ok_or, option_map_or}
 use Rattle.mls_kinds.specs.KindSets.{set_of}
-use Rattle.mls_session.specs.declared.command.Command.{Command}
-use Rattle.mls_session.specs.declared.command.Command.TheVariants.{Box, Paint, Erase, Dump, GetCell, What, Save, Check, CatchUp, Why, Count}
-use Rattle.mls_session.specs.declared.look.Look.{Look}
-use Rattle.mls_session.specs.declared.look.Look.TheVariants.{Save as SaveLook, Why as WhyLook, Status as StatusLook, Uses as UsesLook, Marks as MarksLook, Journal as JournalLook}
+use Rattle.mls_server.specs.mls_session.declared.command.Command.{Command}
+use Rattle.mls_server.specs.mls_session.declared.command.Command.TheVariants.{Box, Paint, Erase, Dump, GetCell, What, Save, Check, CatchUp, Why, Count}
+use Rattle.mls_server.specs.mls_session.declared.look.Look.{Look}
+use Rattle.mls_server.specs.mls_session.declared.look.Look.TheVariants.{Save as SaveLook, Why as WhyLook, Status as StatusLook, Uses as UsesLook, Marks as MarksLook, Errors as ErrorsLook, Violations as ViolationsLook, Journal as JournalLook}
 use Rattle.mls_wire.specs.NameBooks.{Names, SessionIds}
 use Rattle.mls_wire.specs.Numbers.{count_written, number_of}
 use Rattle.mls_text.specs.Fields.{fields_of}
@@ -18,9 +18,11 @@ use Rattle.mls_wire.specs.declared.line.LineFault.{LineFault}
 use Rattle.mls_wire.specs.declared.parse.Asked.{Asked}
 use Rattle.mls_wire.specs.declared.parse.Asked.TheVariants.{Close as AsksClose, Step as AsksStep, Steps as AsksSteps, Audit as AsksAudit, Look as AsksLook}
 use Rattle.mls_wire.specs.declared.parse.Asking.{Asking}
-use Rattle.mls_wire.specs.declared.parse.Asking.TheVariants.{Alone as ByName, Why as ByLines, Steps as ByCount}
+use Rattle.mls_wire.specs.declared.parse.Asking.TheVariants.{Alone as ByName, Within as ByLines, Steps as ByCount}
 use Rattle.mls_wire.specs.declared.parse.MovedCell.{MovedCell}
 use Rattle.mls_wire.specs.declared.parse.Sides.{Sides}
+use Rattle.mls_wire.specs.declared.parse.Within.{Within}
+use Rattle.mls_wire.specs.declared.parse.Within.TheVariants.{Why as WithinWhy, Errors as WithinErrors, Violations as WithinViolations}
 use Rattle.mls_wire.specs.declared.line.LineFault.TheVariants.{UnknownCommand, BadNumber, BadName, NotOpen}
 
 -- the four lines round a rectangle
@@ -144,13 +146,18 @@ asked_line (AsksSteps most) name id = Steps name id most
 asked_line AsksAudit name id = Audit name id
 asked_line (AsksLook look) name id = LookAt name id look
 
--- why a square between these lines is forbidden
-abbrev pub asks_why : Result Sides LineFault → Result Asked LineFault
-asks_why (Ok sides) = Ok (AsksLook (WhyLook sides.left sides.bottom sides.right sides.top))
-asks_why (Err fault) = Err fault
+-- the look that asks this of the squares between these lines
+abbrev pub look_within : Within → Sides → Look
+look_within WithinWhy sides = WhyLook sides.left sides.bottom sides.right sides.top
+look_within WithinErrors sides = ErrorsLook sides.left sides.bottom sides.right sides.top
+look_within WithinViolations sides = ViolationsLook sides.left sides.bottom sides.right sides.top
 
-abbrev pub why_says : List (List ℕ) → Result Asked LineFault
-why_says words = asks_why (sides_say words)
+abbrev pub asks_within : Within → Result Sides LineFault → Result Asked LineFault
+asks_within within (Ok sides) = Ok (AsksLook (look_within within sides))
+asks_within within (Err fault) = Err fault
+
+abbrev pub within_says : Within → List (List ℕ) → Result Asked LineFault
+within_says within words = asks_within within (sides_say words)
 
 -- how many times something is done
 abbrev pub count_says : List (List ℕ) → Result ℕ LineFault
@@ -168,7 +175,7 @@ steps_say words = asks_steps (count_says words)
 -- what the words after the session's name ask
 abbrev pub asked_in : Asking → List (List ℕ) → Result Asked LineFault
 asked_in (ByName asked) words = alone_says asked words
-asked_in ByLines words = why_says words
+asked_in (ByLines within) words = within_says within words
 asked_in ByCount words = steps_say words
 
 -- what is asked of the open session of a name
@@ -189,7 +196,9 @@ asks_says ids asking (name ∷ words) = if is_session_name name then line_asking
 -- what a word asks of the open session whose name comes next
 unfoldable pub asked_by : List ℕ → Option Asking
 asked_by word =
-    if same_word word (codes "%why") then Some ByLines
+    if same_word word (codes "%why") then Some (ByLines WithinWhy)
+    else (if same_word word (codes "%errors") then Some (ByLines WithinErrors)
+    else (if same_word word (codes "%violations") then Some (ByLines WithinViolations)
     else (if same_word word (codes "%steps") then Some ByCount
     else (if same_word word (codes "%close") then Some (ByName AsksClose)
     else (if same_word word (codes "%step") then Some (ByName AsksStep)
@@ -198,7 +207,7 @@ asked_by word =
     else (if same_word word (codes "%stat") then Some (ByName (AsksLook StatusLook))
     else (if same_word word (codes "%uses") then Some (ByName (AsksLook UsesLook))
     else (if same_word word (codes "%marks") then Some (ByName (AsksLook MarksLook))
-    else (if same_word word (codes "%journal") then Some (ByName (AsksLook JournalLook)) else None)))))))))
+    else (if same_word word (codes "%journal") then Some (ByName (AsksLook JournalLook)) else None)))))))))))
 
 abbrev pub asking_says : SessionIds → Option Asking → List (List ℕ) → Result Line LineFault
 asking_says ids (Some asking) words = asks_says ids asking words

@@ -8,8 +8,7 @@ ghost use Rattle.mls_wire.specs.Runs.{Asks, CanExecute, Executes, says_in};
 ghost use Rattle.mls_wire.specs.ScriptLines.{bytes_of_line};
 
 use crate::{Line, Response, ScriptLine, parse_line};
-use mls_server::{Event, Name, Server, SessionId};
-use mls_session::Command;
+use mls_server::{Command, Event, Name, Server, SessionId};
 use std::alloc::Global;
 
 /// Executes a line, and returns the response to it.

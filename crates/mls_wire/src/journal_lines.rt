@@ -10,9 +10,7 @@ ghost use Rattle.mls_wire.specs.Pushes.{Appends};
 use crate::Names;
 use crate::reply::{Pushed, push_decimal, push_offset};
 use mls_kinds::{Iter, Kind, KindSet};
-use mls_library::CellId;
-use mls_server::Name;
-use mls_session::{Command, Entry, JournalCopy};
+use mls_server::{CellId, Command, Entry, JournalCopy, Name};
 use mls_text::without_return;
 
 /// Appends how many lines play a journal again, and these lines, each after a line feed.
@@ -188,7 +186,7 @@ fn push_box(left: i32, bottom: i32, right: i32, top: i32, out: &mut Vec<u8>) -> 
 }
 
 /// Appends four numbers, with a space before each.
-fn push_sides(left: i32, bottom: i32, right: i32, top: i32, out: &mut Vec<u8>) -> Pushed
+pub(crate) fn push_sides(left: i32, bottom: i32, right: i32, top: i32, out: &mut Vec<u8>) -> Pushed
     ensures { Appends result out.old out.new (spec.sides_text left bottom right top) }
 {
     push_pair(left, bottom, out)?;

@@ -13,12 +13,16 @@ mod reply;
 mod response;
 mod script_line;
 mod serving;
+mod violation_lines;
 mod watched;
 
 pub use ahead::read_script;
 pub use executing::respond;
 pub use line::{Line, LineFault};
-pub use mls_server::Name;
+pub use mls_server::{
+    Answer, Capacity, CellFault, CellId, CellTiles, Command, JournalLimit, Limits, Look, Name,
+    OpenFault, Quota, Server, SessionId,
+};
 pub use names::{Names, Sessions, server_reads_back};
 pub use parse::parse_line;
 pub use reader::{LineReader, NextLine};

@@ -1,6 +1,5 @@
 //! The meaning of a line of a script.
-use mls_server::{Name, SessionId};
-use mls_session::{Command, Look};
+use mls_server::{Command, Look, Name, SessionId};
 use thiserror::Error;
 
 /// What a line says. A session that must be open has its id beside its name.

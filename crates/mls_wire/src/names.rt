@@ -6,8 +6,7 @@ ghost use Rattle.mls_wire.specs.ReadBack.{JournalsReadBack};
 ghost use Rattle.mls_wire.specs.NameBooks.{book_of};
 
 use mls_kinds::Kind;
-use mls_library::CellId;
-use mls_server::{Name, Server, SessionId};
+use mls_server::{CellId, Name, Server, SessionId};
 
 /// What names mean to a reader of lines, and what types, rules and cells are called in replies.
 pub trait Names {

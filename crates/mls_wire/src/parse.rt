@@ -2,15 +2,13 @@
 ghost use Rattle.std.specs.Prelude.{◌≡◌, if◌then◌else◌};
 ghost use Rattle.mls_text.specs.Fields.{fields_of};
 ghost use Rattle.mls_text.specs.Words.{begins_with};
-ghost use Rattle.mls_wire.specs.Says.{alone_says, asked_by, asked_in, asked_line, asking_says, box_says, command_of, count_says, drc_says, dump_says, edit_of, erase_says, getcell_says, line_says, moved_cell_says, open_says, paint_says, session_says, sides_say, steps_say, types_named, why_says, words_say};
+ghost use Rattle.mls_wire.specs.Says.{alone_says, asked_by, asked_in, asked_line, asking_says, box_says, command_of, count_says, drc_says, dump_says, edit_of, erase_says, getcell_says, line_says, look_within, moved_cell_says, open_says, paint_says, session_says, sides_say, steps_say, types_named, within_says, words_say};
 ghost use Rattle.mls_wire.specs.ScriptLines.{bytes_of_line};
 
 use crate::number::{count_written, number_of};
 use crate::{Line, LineFault, Names, ScriptLine, Sessions};
 use mls_kinds::KindSet;
-use mls_library::CellId;
-use mls_server::{Name, SessionId};
-use mls_session::{Command, Look};
+use mls_server::{CellId, Command, Look, Name, SessionId};
 use mls_text::{Fields, Words};
 
 /// What a line asks of an open session, if it is no command.
@@ -43,10 +41,21 @@ impl Asked {
 enum Asking {
     /// This, and no words follow the name.
     Alone(Asked),
-    /// Why a square is forbidden between the four lines that follow.
-    Why,
+    /// This of the squares between the four lines that follow.
+    Within(Within),
     /// As many check steps as the word that follows spells.
     Steps,
+}
+
+/// What is asked of the squares between four lines.
+#[derive(Clone, Copy, Debug, PartialEq, Eq)]
+enum Within {
+    /// The rules that forbid one.
+    Why,
+    /// The marks, and the areas that await checking.
+    Errors,
+    /// What each rule forbids.
+    Violations,
 }
 
 /// The four lines round a rectangle.
@@ -56,6 +65,40 @@ struct Sides {
     bottom: i32,
     right: i32,
     top: i32,
+}
+
+impl Within {
+    /// Returns the look that asks this of the squares between the lines.
+    fn look(self, sides: &Sides) -> Look
+        ensures { result ≡ look_within self sides.now }
+    {
+        let Sides {
+            left,
+            bottom,
+            right,
+            top,
+        } = *sides;
+        match self {
+            Within::Why => Look::Why {
+                left,
+                bottom,
+                right,
+                top,
+            },
+            Within::Errors => Look::Errors {
+                left,
+                bottom,
+                right,
+                top,
+            },
+            Within::Violations => Look::Violations {
+                left,
+                bottom,
+                right,
+                top,
+            },
+        }
+    }
 }
 
 /// A cell, or `None` if none has the name that the user wrote, and how far it is moved to the right and up.
@@ -136,7 +179,11 @@ fn asking_by(word: &[u8]) -> Option<Asking>
     ensures { result ≡ asked_by word.now }
 {
     if word == b"%why".as_slice() {
-        Some(Asking::Why)
+        Some(Asking::Within(Within::Why))
+    } else if word == b"%errors".as_slice() {
+        Some(Asking::Within(Within::Errors))
+    } else if word == b"%violations".as_slice() {
+        Some(Asking::Within(Within::Violations))
     } else if word == b"%steps".as_slice() {
         Some(Asking::Steps)
     } else if word == b"%close".as_slice() {
@@ -166,7 +213,7 @@ fn parse_asked(asking: Asking, words: Words) -> Result<Asked, LineFault>
 {
     match asking {
         Asking::Alone(asked) => parse_end(asked, words),
-        Asking::Why => parse_why(words),
+        Asking::Within(within) => parse_within(within, words),
         Asking::Steps => parse_steps(words),
     }
 }
@@ -193,17 +240,12 @@ fn parse_open(mut words: Words) -> Result<Line, LineFault>
     }
 }
 
-/// Returns the look at why a square between the lines of the words is forbidden.
-fn parse_why(words: Words) -> Result<Asked, LineFault>
-    ensures { result ≡ why_says words.entry }
+/// Returns the look at the squares between the lines of the words.
+fn parse_within(within: Within, words: Words) -> Result<Asked, LineFault>
+    ensures { result ≡ within_says within words.entry }
 {
     let sides = parse_sides(words)?;
-    Ok(Asked::Look(Look::Why {
-        left: sides.left,
-        bottom: sides.bottom,
-        right: sides.right,
-        top: sides.top,
-    }))
+    Ok(Asked::Look(within.look(&sides)))
 }
 
 /// Returns the check steps whose number the words spell.

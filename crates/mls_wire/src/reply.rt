@@ -4,21 +4,21 @@ ghost use Rattle.std.specs.Fmt.{signed_decimal};
 ghost use Rattle.std.specs.List.{flat_map};
 ghost use Rattle.std.specs.Option.{option_map};
 ghost use Rattle.mls_server.specs.Faults.{open_fault_number, open_fault_text};
-ghost use Rattle.mls_session.specs.Refusals.{refusal_number, refusal_text};
+ghost use Rattle.mls_server.specs.mls_session.Refusals.{refusal_number, refusal_text};
 ghost use Rattle.mls_wire.specs.Pushes.{Appends};
 ghost use Rattle.mls_wire.specs.ReadBack.{CommandsAreLines, CommandsReadBack, NamesReadBack, StepsReadBack};
 ghost use Rattle.mls_wire.specs.Replies as spec;
 ghost use Rattle.mls_wire.specs.SeatTexts.{differs_text};
 
 use crate::journal_lines::{commands_read_back, push_journal};
+use crate::violation_lines::push_violations;
 use crate::{Names, Response};
 use itoa::{Buffer, Integer};
 use mls_edgerule::RuleSet;
-use mls_errorplane::Stepped;
 use mls_kinds::{Kind, KindSet};
-use mls_layout::CellUse;
-use mls_server::{Answer, Name, NotOpen, OpenFault};
-use mls_session::{Looked, Refusal, Reply, Status, StepRun};
+use mls_server::{
+    Answer, CellUse, Looked, Name, NotOpen, OpenFault, Refusal, Reply, Status, StepRun, Stepped,
+};
 use std::alloc::AllocError;
 
 /// Whether bytes were appended: memory may run out.
@@ -257,6 +257,11 @@ fn push_look<N: Names>(names: &N, name: &Name, looked: &Looked, out: &mut Vec<u8
             out.extend_from_slice(b"marked ")?;
             push_decimal(*lines as u64, out)
         }
+        Looked::Errors(lines) => {
+            out.extend_from_slice(b"errors ")?;
+            push_decimal(*lines as u64, out)
+        }
+        Looked::Violations(found) => push_violations(names, found.as_slice(), out),
         Looked::Journal(journal) => push_journal(names, name, journal, out),
         Looked::Refused(refusal) => push_reply(names, Reply::Refused(*refusal), out),
     }
@@ -435,7 +440,7 @@ fn push_types<N: Names>(names: &N, types: KindSet, out: &mut Vec<u8>) -> Pushed
 }
 
 /// Appends a space, and a text, if there is one.
-fn push_after_space(text: Option<&[u8]>, out: &mut Vec<u8>) -> Pushed
+pub(crate) fn push_after_space(text: Option<&[u8]>, out: &mut Vec<u8>) -> Pushed
     ensures { Appends result out.old out.new
         (32 ∷ spec.text_if_any (option_map (λ words. words.now) text.entry)) }
 {

@@ -2,7 +2,7 @@
 ghost use Rattle.std.specs.Prelude.{◌≡◌};
 
 use crate::tests::stages::Stage;
-use mls_live::{Naming, Plain, Seat};
+use mls_live::{Naming, Plain};
 use mls_session::Command;
 use std::process::Abort;
 use std::sync::Wait;
@@ -19,7 +19,7 @@ const WORLD: Command = Command::Box {
 /// How many pieces the world has: rows of 8192 pieces, each of which has 256 rows of 256 squares.
 const PIECES: u64 = 8192 * 8192;
 
-/// An empty world is done after its first piece, by a worker in one turn, and then by the seat.
+/// An empty world is done after its first piece, by a worker in one turn, and then by the seat in one.
 pub fn settle<N: Naming, R: Wait + Abort>(stage: &Stage<'_, N, R>) -> Result<(), Fail>
     requires { N.parts ≡ 65 }
 {
@@ -32,12 +32,7 @@ pub fn settle<N: Naming, R: Wait + Abort>(stage: &Stage<'_, N, R>) -> Result<(),
     stage.expect_count(&mut a, 0, 0);
     stage.expect_done(&mut a, Command::Check);
     stage.expect_count(&mut a, 0, 1);
-    work_off(stage, &a);
+    stage.work_off(&a);
     stage.expect_count(&mut a, 0, 0);
     stage.expect_ended(a, 7)
-}
-
-/// Has a seat work its session off.
-fn work_off<N: Naming, R: Wait>(stage: &Stage<'_, N, R>, seat: &Seat<'_, N>) {
-    seat.work_off(stage.rt, stage.alloc);
 }

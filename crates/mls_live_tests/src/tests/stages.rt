@@ -106,6 +106,11 @@ impl<'s, N: Naming, R: Wait + Abort> Stage<'s, N, R> {
         work(self.rt, self.alloc, self.live, notices, gate, turns)
     }
 
+    /// Has a seat work its session off in one turn.
+    pub fn work_off(&self, seat: &Seat<'_, N>) {
+        seat.work_off(self.rt, self.alloc, 1);
+    }
+
     /// Retires seats.
     pub fn retire(&self, seats: Vec<Seat<'_, N>>) -> Retired
         requires { N.parts ≡ 65 }

@@ -4,6 +4,7 @@ ghost use Rattle.mls_server.specs.Servers.{world_of};
 ghost use Rattle.mls_server.specs.Settings.{terms_for};
 
 use crate::tests::holding::{check_two, paint_held};
+use crate::tests::in_hand::check_two_pieces;
 use crate::tests::many_seats::retire_many;
 use crate::tests::moments::{close_twice, try_channels};
 use crate::tests::refused_seats::{end_worker, refuse_seats, save};
@@ -35,6 +36,7 @@ pub enum Story {
     NoTurns,
     Retiring,
     Settling,
+    TwoPieces,
 }
 
 impl Story {
@@ -56,6 +58,7 @@ impl Story {
             Story::NoTurns => end_worker(stage),
             Story::Retiring => retire_four(stage),
             Story::Settling => settle(stage),
+            Story::TwoPieces => check_two_pieces(stage),
         }
     }
 }

@@ -19,6 +19,9 @@ use std::test::Fail;
 /// How many layouts are checked by the rules of each technology.
 const LAYOUTS: usize = 300;
 
+/// How many dense layouts are checked by the rules of each technology.
+const DENSE_LAYOUTS: usize = 4;
+
 /// How many layouts are checked by each rule of a technology alone.
 const LAYOUTS_A_RULE: usize = 60;
 
@@ -31,12 +34,14 @@ const TWO_PLANES_TYPES: &[Types] = &[[1, 1, 2, 0], [3, 3, 3, 0]];
 /// `q` on the plane `p`.
 const ONE_PLANE_TYPES: &[Types] = &[[1, 1, 1, 0]];
 
-/// 16 by 16 blocks on which pieces are painted: the lower-left corner, and the side of a block.
+/// 16 by 16 blocks on which pieces are painted: the lower-left corner, the side of a block, and whether each block is a
+/// piece.
 #[derive(Clone, Copy)]
 struct Field {
     left: i32,
     bottom: i32,
     scale: i32,
+    is_dense: bool,
 }
 
 impl Field {
@@ -55,6 +60,17 @@ impl Field {
             left,
             bottom,
             scale,
+            is_dense: false,
+        }
+    }
+
+    /// The same field, each of whose blocks is a piece.
+    fn dense(self) -> Field {
+        Field {
+            left: self.left,
+            bottom: self.bottom,
+            scale: self.scale,
+            is_dense: true,
         }
     }
 
@@ -89,13 +105,34 @@ fn random_piece(dice: &mut Dice, field: Field, types: Types) -> Result<Piece, Re
     piece(random_type(dice, types), sides)
 }
 
-/// Five random pieces on a field.
+/// The blocks of a field, each of a random type.
+fn random_blocks(
+    alloc: Global,
+    dice: &mut Dice,
+    field: Field,
+    types: Types,
+) -> Result<Vec<Piece>, Fail> {
+    let mut pieces = Vec::new(alloc);
+    for row in 0i32..16 {
+        for column in 0i32..16 {
+            let right = column.saturating_add(1);
+            let block = field.sides((column, row, right, row.saturating_add(1)));
+            pieces.push(piece(random_type(dice, types), block)?)?;
+        }
+    }
+    Ok(pieces)
+}
+
+/// Five random pieces on a field, or its blocks.
 fn random_pieces(
     alloc: Global,
     dice: &mut Dice,
     field: Field,
     types: Types,
 ) -> Result<Vec<Piece>, Fail> {
+    if field.is_dense {
+        return random_blocks(alloc, dice, field, types);
+    }
     let mut pieces = Vec::new(alloc);
     for _ in 0..5 {
         let next = random_piece(dice, field, types)?;
@@ -274,6 +311,21 @@ fn expect_same_by_rules(
     Ok(())
 }
 
+/// Asserts the same of random layouts that are dense.
+fn expect_same_by_rules_densely(
+    rt: &impl Abort,
+    alloc: Global,
+    rules: &Rules,
+    planes: &[Types],
+) -> Result<(), Fail> {
+    let mut dice = Dice::new(6);
+    for number in 0..DENSE_LAYOUTS {
+        let field = Field::of_layout(number, 1).dense();
+        expect_same_in_layout(rt, alloc, rules, planes, &mut dice, field)?;
+    }
+    Ok(())
+}
+
 /// Asserts the same by each of these rule lines alone, after these planes and types.
 fn expect_same_by_each(
     rt: &impl Abort,
@@ -315,6 +367,73 @@ const LINES: [&str; 12] = [
 fn rules_of_every_kind(rt: HostRuntime) -> Result<(), Fail> {
     let rules = rules_of_lines(rt.alloc(), TWO_PLANES, &LINES)?;
     expect_same_by_rules(&rt, rt.alloc(), &rules, TWO_PLANES_TYPES, LAYOUTS)
+}
+
+#[test]
+fn dense_layouts(rt: HostRuntime) -> Result<(), Fail> {
+    let rules = rules_of(rt.alloc(), TECHNOLOGY_M)?;
+    expect_same_by_rules_densely(&rt, rt.alloc(), &rules, TWO_PLANES_TYPES)?;
+    for line in LINES {
+        let rules = rules_of_lines(rt.alloc(), TWO_PLANES, &[line])?;
+        expect_same_by_rules_densely(&rt, rt.alloc(), &rules, TWO_PLANES_TYPES)?;
+    }
+    for line in SPACE_LINES {
+        let rules = rules_of_lines(rt.alloc(), ONE_PLANE, &[line])?;
+        expect_same_by_rules_densely(&rt, rt.alloc(), &rules, ONE_PLANE_TYPES)?;
+    }
+    Ok(())
+}
+
+/// Squares of poly in a row, each apart, and a bar of metal along the lower side of the zone, if there is one.
+fn row_of_squares(
+    alloc: Global,
+    squares: &mut Squares,
+    count: i32,
+    has_bar: bool,
+) -> Result<Layout, Fail> {
+    let mut active = Vec::new(alloc);
+    for number in 0..count {
+        let left = number.saturating_mul(2);
+        active.push(piece(1, (left, 1, left.saturating_add(1), 2))?)?;
+    }
+    let mut metal = Vec::new(alloc);
+    if has_bar {
+        metal.push(piece(3, (-4, -4, 124, -3))?)?;
+    }
+    squares.paint(PlaneNumber::new(0), &active);
+    squares.paint(PlaneNumber::new(1), &metal);
+    Layout::new(alloc)?.with(&active)?.with(&metal)
+}
+
+/// Returns how much a check of such a row looked at, which finds what the plain program finds.
+fn looked_at(
+    rt: &impl Abort,
+    alloc: Global,
+    rules: &Rules,
+    count: i32,
+    has_bar: bool,
+) -> Result<u64, Fail> {
+    let looked = Rect::new(0, 0, 120, 4)?;
+    let mut squares = Squares::new(alloc, looked.grow(rules.halo()), 2)?;
+    let mut layout = row_of_squares(alloc, &mut squares, count, has_bar)?;
+    let forbidden = find(alloc, rules, &squares, looked)?;
+    let snapshot = layout.snapshot(alloc, looked.grow(rules.halo()))?;
+    let finding = check(alloc, rules, snapshot, looked)?;
+    expect_same_squares(rt, &finding, &forbidden, looked)?;
+    Ok(finding.edges())
+}
+
+#[test]
+fn each_number_of_tiles(rt: HostRuntime) -> Result<(), Fail> {
+    let rules = rules_of(rt.alloc(), TECHNOLOGY_M)?;
+    for count in 0..40 {
+        looked_at(&rt, rt.alloc(), &rules, count, false)?;
+        looked_at(&rt, rt.alloc(), &rules, count, true)?;
+    }
+    // 12 rows of 4 words. With 22 squares there are 56 tiles, 8 more than words, and 57 with the bar.
+    assert!(&rt; looked_at(&rt, rt.alloc(), &rules, 22, false)? != 48);
+    assert_eq!(&rt; looked_at(&rt, rt.alloc(), &rules, 22, true)?, 48);
+    Ok(())
 }
 
 #[test]

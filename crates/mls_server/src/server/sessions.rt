@@ -11,9 +11,7 @@ ghost use Rattle.mls_session.specs.declared.reply.Reply.TheVariants.{Refused};
 
 use super::Server;
 use crate::{GrabFault, NotOpen, SessionId};
-use mls_checker::Finding;
-use mls_errorplane::{Outcome, Stepped};
-use mls_session::{Command, Entry, Job, Look, Looked, Reply, StepRun};
+use mls_session::{Command, Entry, Finding, Job, Look, Looked, Outcome, Reply, StepRun, Stepped};
 use std::alloc::Global;
 
 impl Server {

@@ -13,9 +13,7 @@ use mls_library::{CellFault, CellId};
 use mls_server::{Answer, Capacity, Event, GrabFault, Limits, Name, NotOpen, Server, SessionId};
 use mls_session::{Command, Job, Quota, Reply};
 use mls_tech::{TECHNOLOGY_M, Tech};
-use mls_wire::{ServeFault, Watched, serve};
 use std::alloc::{AllocError, Global};
-use std::io::{Read, Write};
 use std::test::Fail;
 
 /// Starts a server on which no session is open.
@@ -147,17 +145,4 @@ pub fn run(
     events: &[Event],
 ) -> Result<Vec<Answer>, AllocError> {
     server.run(alloc, events)
-}
-
-/// Serves a script, and returns the outcome and the output.
-pub fn serve_script<R: Read + Drop, W: Write + Drop>(
-    alloc: Global,
-    server: &mut Server,
-    input: R,
-    output: W,
-) -> (Result<(), ServeFault>, W) {
-    let mut input = Watched::new(input);
-    let mut output = Watched::new(output);
-    let outcome = serve(alloc, server, &mut input, &mut output);
-    (outcome, output.into_inner())
 }

@@ -1,5 +1,7 @@
 //! What faults are called.
+use mls_edgerule::{RuleFault, RuleFaultKind};
 use mls_server::OpenFault;
+use mls_tech::{TechFault, TechFaultKind};
 use mls_wire::{LineFault, ReadFault, ServeFault, WriteFault};
 use std::alloc::Global;
 use std::fmt::Display;
@@ -54,4 +56,18 @@ fn faults_in_words(rt: HostRuntime) -> Result<(), Fail> {
     expect_texts(&rt, rt.alloc(), &of_serving)?;
     expect_texts(&rt, rt.alloc(), &[(ReadFault, "input failed")])?;
     expect_texts(&rt, rt.alloc(), &[(WriteFault, "output failed")])
+}
+
+#[test]
+fn faults_of_technologies_in_words(rt: HostRuntime) -> Result<(), Fail> {
+    let of_file = TechFault {
+        line: 3,
+        kind: TechFaultKind::NotUtf8,
+    };
+    let of_rules = RuleFault {
+        line: 142,
+        kind: RuleFaultKind::TooManyRules,
+    };
+    expect_text(&rt, rt.alloc(), &of_file, "line 3: not UTF-8")?;
+    expect_text(&rt, rt.alloc(), &of_rules, "line 142: too many rules")
 }

@@ -1,5 +1,5 @@
 //! Commands on what awaits checking, and on the marks.
-ghost use Rattle.std.specs.Prelude.{◌≡◌, IfOk, length};
+ghost use Rattle.std.specs.Prelude.{◌≡◌, ◌<◌, ◌≤◌, IfErr, IfOk, OnOk, length};
 ghost use Rattle.mls_checker.specs.Findings.{violated_rules};
 ghost use Rattle.mls_errorplane.specs.CatchingUp.{Steps};
 ghost use Rattle.mls_errorplane.specs.DirtyLists.{IsDirtyList};
@@ -7,6 +7,8 @@ ghost use Rattle.mls_errorplane.specs.ErrorPlanes.{HasStepped, UnlessDone, check
 ghost use Rattle.mls_errorplane.specs.Jobs.{HasGrabbed};
 ghost use Rattle.mls_errorplane.specs.Outcomes.{HasFinished, UnlessFinished};
 ghost use Rattle.mls_errorplane.specs.Stretches.{AreRightIn};
+ghost use Rattle.mls_errorplane.specs.Violations.{strip_count, violations_in};
+ghost use Rattle.mls_layout.specs.Strips.{IfTooMany};
 ghost use Rattle.mls_session.specs.Inner.{Counts, KeepsDrawn, caught_up_reply, steps_of};
 ghost use Rattle.mls_session.specs.Own.{count_step, layout_of, soiled_after};
 ghost use Rattle.mls_session.specs.OwnSteps.{DesignSteps, design_step};
@@ -18,9 +20,9 @@ use crate::executed::Executed;
 use crate::{Command, Refusal, Reply, Setup};
 use mls_checker::Finding;
 use mls_edgerule::{RuleSet, Rules};
-use mls_errorplane::{CaughtUp, Checked, Job, Outcome, Stepped, why};
+use mls_errorplane::{CaughtUp, Checked, Job, Outcome, Stepped, Violation, violations, why};
 use mls_geom::Rect;
-use mls_layout::Workspace;
+use mls_layout::{Unlisted, Workspace};
 use std::alloc::{AllocError, Global};
 
 impl Design {
@@ -222,6 +224,36 @@ impl Design {
     {
         let basis = setup.basis(&self.uses);
         why(alloc, &mut self.planes, &basis, rect, workspace)
+    }
+
+    /// Returns what each rule forbids in a rectangle, by rising number.
+    ///
+    /// Fails where the rules forbid squares in more strips than a plane may have tiles, or memory runs out.
+    pub fn violations_in(
+        &mut self,
+        alloc: Global,
+        setup: &Setup,
+        rect: Rect,
+        workspace: &mut Workspace,
+    ) -> Result<Vec<Violation>, Unlisted>
+        requires home { IsHome workspace.old.pool self.old }
+        requires made_for { IsMadeFor setup.now self.old }
+        requires can_dump { CanDump setup.now workspace.old.pool (owners_of self.old) }
+        ensures value { IfOk result (λ found. found.items
+            ≡ violations_in setup.now.rules rect (layout_of (config_of setup.now workspace.old.pool)
+            (drawn_of workspace.old.pool self.old))) }
+        ensures few { OnOk result (strip_count (violations_in setup.now.rules rect
+            (layout_of (config_of setup.now workspace.old.pool) (drawn_of workspace.old.pool self.old)))
+            ≤ setup.now.quota) }
+        ensures too_many { IfErr result (λ fault. IfTooMany fault (setup.now.quota
+            < strip_count (violations_in setup.now.rules rect (layout_of (config_of setup.now workspace.old.pool)
+            (drawn_of workspace.old.pool self.old))))) }
+        ensures same { self.new ≡ self.old }
+        ensures pool { workspace.new.pool ≡ workspace.old.pool }
+    {
+        let basis = setup.basis(&self.uses);
+        let most = setup.quota.get() as usize;
+        violations(alloc, &mut self.planes, &basis, rect, most, workspace)
     }
 
     /// Returns how many squares are marked, and how many areas await checking.

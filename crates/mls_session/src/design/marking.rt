@@ -1,10 +1,11 @@
 //! The text of a design's layout with what is known of the squares that rules forbid there, as a cell file.
 ghost use Rattle.std.specs.Prelude.{◌≡◌, ◌++◌, IfErr, IfOk, OnErr, OnOk, false, true};
 ghost use Rattle.mls_errorplane.specs.ErrorPlanes.{checking_of, marks_picture};
+ghost use Rattle.mls_errorplane.specs.ErrorsIn.{areas_in, squares_in};
 ghost use Rattle.mls_geom.specs.Layouts.{Layout};
 ghost use Rattle.mls_geom.specs.Pictures.{Picture};
 ghost use Rattle.mls_layout.specs.Strips.{IfTooMany};
-ghost use Rattle.mls_library.specs.MarkedCells.{marked_line_count, marked_text};
+ghost use Rattle.mls_library.specs.MarkedCells.{empty_layout, marked_line_count, marked_text};
 ghost use Rattle.mls_library.specs.SavedCells.{HoldsOwnTypes, ReadsAs, saved_text};
 ghost use Rattle.mls_session.specs.Own.{exceeds_listed, layout_of};
 ghost use Rattle.mls_session.specs.Setups.{config_of};
@@ -12,10 +13,11 @@ ghost use Rattle.mls_session.specs.Setups.{config_of};
 use super::Design;
 use crate::Setup;
 use crate::layers::{count_marked, list_layers, push_marked};
+use mls_geom::Rect;
 use mls_layout::{Unlisted, Workspace};
-use mls_library::most_flat_tiles;
+use mls_library::{error_line_count, most_flat_tiles, push_errors};
 use mls_tech::Tech;
-use std::alloc::Global;
+use std::alloc::{AllocError, Global};
 
 impl Design {
     ghost use Rattle.mls_session.specs.Designs.{CanDump, IsHome, IsMadeFor, drawn_of, owners_of};
@@ -66,13 +68,52 @@ impl Design {
         Ok(count_marked(&setup.tech, &layers, &areas, marks))
     }
 
+    /// Appends the text of the marks and of the areas that await checking in a rectangle, as a cell file, and returns
+    /// the number of its lines.
+    ///
+    /// Fails if memory runs out, and then appends nothing.
+    pub fn error_text(
+        &mut self,
+        alloc: Global,
+        tech: &Tech,
+        rect: Rect,
+        out: &mut Vec<u8>,
+        workspace: &mut Workspace,
+    ) -> Result<usize, AllocError>
+        requires home { IsHome workspace.old.pool self.old }
+        ensures count { IfOk result (λ lines. lines ≡ marked_line_count tech.now empty_layout
+            (areas_in rect self.old.errors.dirty)
+            (marks_picture (squares_in rect (checking_of workspace.old.pool self.old.errors).marks))) }
+        ensures text { OnOk result (out.new.items ≡ out.old.items ++ marked_text tech.now empty_layout
+            (areas_in rect self.old.errors.dirty)
+            (marks_picture (squares_in rect (checking_of workspace.old.pool self.old.errors).marks))) }
+        ensures refused { OnErr result (out.new.items ≡ out.old.items) }
+        ensures same { self.new ≡ self.old }
+        ensures pool { workspace.new.pool ≡ workspace.old.pool }
+    {
+        // For its contract alone: the areas are few.
+        self.has_legal_areas();
+        let areas = self.errors.areas_in(alloc, rect)?;
+        let marks = self.errors.marks_in(alloc, rect, workspace)?;
+        let len = out.len();
+        if let Err(error) = push_errors(tech, &areas, &marks, out) {
+            out.truncate(len);
+            return Err(error);
+        }
+        Ok(error_line_count(&areas, &marks))
+    }
+
     /// The text of any layout, also with the areas of this design and any marks, reads as that layout, where each of
-    /// its squares is space or of a type whose plane that is. Does nothing: the contract is the law.
+    /// its squares is space or of a type whose plane that is; and that of the areas in any rectangle and any marks as
+    /// an empty one. Does nothing: the contract is the law.
     pub fn reads_back(&self, tech: &Tech)
         ensures saved { (layout : Layout) → HoldsOwnTypes tech.now layout
             → ReadsAs tech.now (saved_text tech.now layout) layout }
         ensures marked { (layout : Layout) (marks : Picture) → HoldsOwnTypes tech.now layout
             → ReadsAs tech.now (marked_text tech.now layout self.now.errors.dirty marks) layout }
+        ensures errors { (rect : Rect) (marks : Picture)
+            → ReadsAs tech.now (marked_text tech.now empty_layout (areas_in rect self.now.errors.dirty) marks)
+            empty_layout }
     {
         // For their contracts alone: the names are words, and the areas lie in the world.
         tech.types();

@@ -1,10 +1,13 @@
 //! Looks at a session.
 ghost use Rattle.std.specs.Prelude.{◌≡◌, ◌+◌, ◌++◌, ◌<◌, ◌⊎◌, [], IfOk, List, length, vec_capacity, vec_len, ℕ};
 ghost use Rattle.mls_library.specs.SavedCells.{saved_text};
-ghost use Rattle.mls_session.specs.Looks.{IsRect, Looks, MarksReadBack, OnMarks, status_of, why_in};
+ghost use Rattle.mls_session.specs.Looks as spec;
+ghost use Rattle.mls_session.specs.Looks.{ErrorsReadBack, IsRect, Looks, MarksReadBack, OnMarks, ViolationsAreMarks, errors_of, status_of, violations_of, why_in};
 ghost use Rattle.mls_session.specs.Own.{layout_of};
+ghost use Rattle.mls_session.specs.Journals.{IsLegal};
 ghost use Rattle.mls_session.specs.OwnSteps.{Terms};
 ghost use Rattle.mls_session.specs.Setups.{config_of, terms_of};
+ghost use Rattle.mls_tilepool.specs.Pools.{Pool};
 
 use super::Session;
 use crate::look::tile_counts;
@@ -20,8 +23,9 @@ impl Session {
     /// Returns what a look asks for, and appends the text that comes with it. Nothing of the session changes.
     ///
     /// Where the look is refused, as it is out of memory, nothing is appended. Where there is room for the text,
-    /// [`Look::Save`] takes no memory. The text of [`Look::Marks`] reads as the layout, where each square of that is
-    /// space or of a type whose plane it is.
+    /// [`Look::Save`] takes no memory. The text of [`Look::Marks`] reads as the layout, and that of [`Look::Errors`]
+    /// as an empty one. Where nothing in a rectangle awaits checking, what [`Look::Violations`] returns has the marked
+    /// squares.
     pub fn look(
         &mut self,
         alloc: Global,
@@ -33,14 +37,21 @@ impl Session {
         requires ready { IsReady setup.now workspace.old.pool self.old }
         ensures looks { (text : List ℕ) × Looks (terms_of setup.now workspace.old.pool)
             (kept_of workspace.old.pool self.old) look result text × (out.new.items ≡ out.old.items ++ text) }
-        ensures reads_back { OnMarks look (MarksReadBack (terms_of setup.now workspace.old.pool)
-            (kept_of workspace.old.pool self.old)) }
+        ensures reads_back { OnMarks look (IsLegal (terms_of setup.now workspace.old.pool)
+            (kept_of workspace.old.pool self.old)
+            → MarksReadBack (terms_of setup.now workspace.old.pool) (kept_of workspace.old.pool self.old)) }
+        ensures errors_read_back { ErrorsReadBack (terms_of setup.now workspace.old.pool)
+            (kept_of workspace.old.pool self.old) }
+        ensures violations_are_marks { ViolationsAreMarks (terms_of setup.now workspace.old.pool)
+            (kept_of workspace.old.pool self.old) }
         ensures room { look ≡ Look.Save → result ≡ Looked.Refused Refusal.Memory → vec_capacity out.old
             < vec_len out.old + length (saved_text setup.now.tech
             (state_of workspace.old.pool self.old).design.drawn.paint) }
         ensures same { self.new ≡ self.old }
         ensures pool { workspace.new.pool ≡ workspace.old.pool }
     {
+        // For its contract alone: what holds at each rectangle.
+        self.shows_boxes(setup);
         match look {
             Look::Save => self.look_at_text(setup, out, workspace),
             Look::Why {
@@ -55,8 +66,38 @@ impl Session {
             Look::Status => self.look_at_status(alloc, setup, &workspace.pool),
             Look::Uses => self.look_at_uses(alloc, &workspace.pool),
             Look::Marks => self.look_at_marks(alloc, setup, out, workspace),
+            Look::Errors {
+                left,
+                bottom,
+                right,
+                top,
+            } => {
+                let made = Rect::new(left, bottom, right, top);
+                self.look_at_errors(alloc, setup, made, out, workspace)
+            }
+            Look::Violations {
+                left,
+                bottom,
+                right,
+                top,
+            } => {
+                let made = Rect::new(left, bottom, right, top);
+                self.look_at_violations(alloc, setup, made, workspace)
+            }
             Look::Journal => self.look_at_journal(alloc, &workspace.pool),
         }
+    }
+
+    /// The text of the marks in any rectangle reads as an empty layout, and where nothing there awaits checking, what
+    /// the rules forbid there has the marked squares. Does nothing: the contract is the law.
+    fn shows_boxes(&self, setup: &Setup)
+        ensures errors_read_back { (pool : Pool) → ErrorsReadBack (terms_of setup.now pool) (kept_of pool self.now) }
+        ensures violations_are_marks { (pool : Pool) → ViolationsAreMarks (terms_of setup.now pool)
+            (kept_of pool self.now) }
+    {
+        // For their contracts alone: how the texts read, and that the rules are few.
+        self.design.reads_back(&setup.tech);
+        setup.rules.as_slice();
     }
 
     /// Appends the text of the own paint, and returns the number of its lines.
@@ -100,8 +141,7 @@ impl Session {
                 Ok(violated) => Looked::Why(violated),
                 Err(_) => Looked::Refused(Refusal::Memory),
             },
-            Err(RectFault::Empty) => Looked::Refused(Refusal::EmptyBox),
-            Err(RectFault::Outside) => Looked::Refused(Refusal::OutsideWorld),
+            Err(fault) => no_rect(fault),
         }
     }
 
@@ -169,8 +209,8 @@ impl Session {
         requires ready { IsReady setup.now workspace.old.pool self.old }
         ensures looks { (text : List ℕ) × Looks (terms_of setup.now workspace.old.pool)
             (kept_of workspace.old.pool self.old) Look.Marks result text × (out.new.items ≡ out.old.items ++ text) }
-        ensures reads_back { MarksReadBack (terms_of setup.now workspace.old.pool)
-            (kept_of workspace.old.pool self.old) }
+        ensures reads_back { IsLegal (terms_of setup.now workspace.old.pool) (kept_of workspace.old.pool self.old)
+            → MarksReadBack (terms_of setup.now workspace.old.pool) (kept_of workspace.old.pool self.old) }
         ensures same { self.new ≡ self.old }
         ensures pool { workspace.new.pool ≡ workspace.old.pool }
     {
@@ -181,5 +221,71 @@ impl Session {
             Err(Unlisted::TooMany) => Looked::Refused(Refusal::Quota),
             Err(Unlisted::Memory) => Looked::Refused(Refusal::Memory),
         }
+    }
+
+    /// Appends the text of the marks and of the areas that await checking in a rectangle, and returns the number of its
+    /// lines, or why there is no such rectangle.
+    fn look_at_errors(
+        &mut self,
+        alloc: Global,
+        setup: &Setup,
+        made: Result<Rect, RectFault>,
+        out: &mut Vec<u8>,
+        workspace: &mut Workspace,
+    ) -> Looked
+        requires ready { IsReady setup.now workspace.old.pool self.old }
+        ensures looks { (text : List ℕ) × ((errors_of setup.now.tech
+            (state_of workspace.old.pool self.old).design.checking made ≡ (result, text))
+            ⊎ (IsRect made × (result ≡ Looked.Refused Refusal.Memory) × (text ≡ [])))
+            × (out.new.items ≡ out.old.items ++ text) }
+        ensures same { self.new ≡ self.old }
+        ensures pool { workspace.new.pool ≡ workspace.old.pool }
+    {
+        match made {
+            Ok(rect) => match self
+                .design
+                .error_text(alloc, &setup.tech, rect, out, workspace)
+            {
+                Ok(lines) => Looked::Errors(lines),
+                Err(_) => Looked::Refused(Refusal::Memory),
+            },
+            Err(fault) => no_rect(fault),
+        }
+    }
+
+    /// Returns what each rule forbids in a rectangle, or why it isn't listed.
+    fn look_at_violations(
+        &mut self,
+        alloc: Global,
+        setup: &Setup,
+        made: Result<Rect, RectFault>,
+        workspace: &mut Workspace,
+    ) -> Looked
+        requires ready { IsReady setup.now workspace.old.pool self.old }
+        ensures looks { (result ≡ violations_of setup.now.quota setup.now.rules
+            (layout_of (config_of setup.now workspace.old.pool)
+            (state_of workspace.old.pool self.old).design.drawn) made)
+            ⊎ (IsRect made × (result ≡ Looked.Refused Refusal.Memory)) }
+        ensures same { self.new ≡ self.old }
+        ensures pool { workspace.new.pool ≡ workspace.old.pool }
+    {
+        match made {
+            Ok(rect) => match self.design.violations_in(alloc, setup, rect, workspace) {
+                Ok(found) => Looked::Violations(Listing::new(found)),
+                Err(Unlisted::TooMany) => Looked::Refused(Refusal::Quota),
+                Err(Unlisted::Memory) => Looked::Refused(Refusal::Memory),
+            },
+            Err(fault) => no_rect(fault),
+        }
+    }
+}
+
+/// Returns the refusal of a look at a rectangle that there isn't.
+fn no_rect(fault: RectFault) -> Looked
+    ensures { result ≡ spec.no_rect fault }
+{
+    match fault {
+        RectFault::Empty => Looked::Refused(Refusal::EmptyBox),
+        RectFault::Outside => Looked::Refused(Refusal::OutsideWorld),
     }
 }

@@ -1,6 +1,6 @@
 use Rattle.std.proofs.Common.{Result, subst, arith}
-use Rattle.mls_wire.specs.declared.line.Line.{Line}
-use Rattle.mls_wire.specs.declared.line.LineFault.{LineFault}
+use Rattle.mls_seat_lines.specs.mls_wire.declared.line.Line.{Line}
+use Rattle.mls_seat_lines.specs.mls_wire.declared.line.LineFault.{LineFault}
 use Rattle.mls_seat_lines.specs.Glossaries.{book_in}
 use Rattle.mls_crew.specs.Sorting.{SortsLine}
 use Rattle.mls_crew.proofs.SortedLines.{Sorts-next}

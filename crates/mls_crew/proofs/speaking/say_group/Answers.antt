@@ -1,8 +1,8 @@
 use Rattle.std.proofs.Common.{◌++◌, ℕ, List, sym, ap, subst, ◌∙◌}
-use Rattle.mls_live.specs.Lists.{list_of}
-use Rattle.mls_server.specs.LegalLists.{IsLegalList}
-use Rattle.mls_session.specs.declared.journal.Said.{Said}
-use Rattle.mls_wire.specs.Replies.{response_text}
+use Rattle.mls_seat_lines.specs.mls_live.Lists.{list_of}
+use Rattle.mls_seat_lines.specs.mls_server.LegalLists.{IsLegalList}
+use Rattle.mls_seat_lines.specs.mls_session.declared.journal.Said.{Said}
+use Rattle.mls_seat_lines.specs.mls_wire.Replies.{response_text}
 use Rattle.mls_seat_lines.specs.Glossaries.{book_in}
 use Rattle.mls_crew.specs.Groups.{SaysLines, lines_handed}
 use Rattle.mls_crew.proofs.LineLists.{none_said}

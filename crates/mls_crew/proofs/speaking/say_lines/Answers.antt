@@ -1,5 +1,5 @@
 use Rattle.std.proofs.Common.{◌++◌, ℕ, List, [], append_assoc, append-nil, refl, sym, ap, ◌∙◌}
-use Rattle.mls_live.specs.Lists.{list_of}
+use Rattle.mls_seat_lines.specs.mls_live.Lists.{list_of}
 use Rattle.mls_seat_lines.specs.Glossaries.{book_in}
 use Rattle.mls_crew.proofs.LineLists.{says_mine, says_other}
 use Rattle.mls_crew.proofs.speaking.say_lines.Goals.{then-handed-part+in_ok-say_line, else-handed-part}

@@ -1,5 +1,5 @@
 use Rattle.std.proofs.Common.{◌≡◌, ◌++◌, ℕ, List, take}
-use Rattle.mls_live.specs.Lists.{list_of}
+use Rattle.mls_seat_lines.specs.mls_live.Lists.{list_of}
 use Rattle.mls_seat_lines.specs.Glossaries.{book_in}
 use Rattle.mls_crew.specs.Groups.{SaysLines, lines_handed}
 use Rattle.mls_crew.proofs.speaking.say_lines.Given as goal

@@ -1,10 +1,10 @@
-use Rattle.std.proofs.Common.{◌≡◌, ◌+◌, ◌<◌, Ok, Err, ap, sym, ◌∙◌, subst, arith}
+use Rattle.std.proofs.Common.{◌≡◌, ◌+◌, Ok, Err, ap, sym, ◌∙◌, subst, arith}
 use Rattle.std.specs.Prelude.{IfErr}
 use Rattle.std.proofs.lemmas.List.Elements.{All-push}
 use Rattle.mls_text.specs.Lines.{raw_lines}
 use Rattle.mls_text.specs.Words.{words_of}
 use Rattle.mls_library.specs.CellFiles.{line_meaning, read_lines, reading_of}
-use Rattle.mls_library.specs.Inner.{IsKnownPlace}
+use Rattle.mls_library.specs.Inner.{IsKnownPlace, IsTypeOn}
 use Rattle.mls_library.specs.declared.meaning.Meaning.TheVariants.{Nothing, Enters, Paints, Ends}
 use Rattle.mls_library.proofs.ReadingLemmas.{read_lines-line, read_lines-none, unless_memory-line}
 use Rattle.mls_library.proofs.LineMeanings.{IsOfFile, line_meaning-fault}
@@ -27,7 +27,7 @@ pub loop-line-preserved-in-Ok-Enters : goal.loop-line-preserved-in-Ok-Enters
 loop-line-preserved-in-Ok-Enters c =
     let said : Ok (Enters c.in-Ok-Enters.next) ≡ line_meaning c.args.tech.now c.loop-line.place (words_of c.in-Some.line.now) = cc in
     let read = read_lines c.args.tech.now c.loop-line.place c.loop-line.rects.items c.loop-line.number in
-    let known : IsKnownPlace c.args.tech.now.plane_count c.in-Ok-Enters.next = rw c.in-Ok-Enters.field-0-is at (c.in-Ok-Enters.ensures.known c.loop-line.invariant.place_known) in
+    let known : IsKnownPlace (IsTypeOn c.args.tech.now) c.in-Ok-Enters.next = rw c.in-Ok-Enters.field-0-is at (c.in-Ok-Enters.ensures.known c.loop-line.invariant.place_known) in
     record {
       same =
           read_lines-line c.args.tech.now c.loop-line.place c.loop-line.rects.items c.loop-line.number c.in-Some.line.now (raw_lines c.in-Some.after.now) (Ok (Enters c.in-Ok-Enters.next)) said
@@ -41,15 +41,14 @@ pub loop-line-preserved : goal.loop-line-preserved
 loop-line-preserved c =
     let said : Ok (Paints c.in-Ok-Paints.rect) ≡ line_meaning c.args.tech.now c.loop-line.place (words_of c.in-Some.line.now) = cc in
     let read = read_lines c.args.tech.now c.loop-line.place c.loop-line.rects.items c.loop-line.number in
-    let planes = c.args.tech.now.plane_count in
-    let known : c.in-Ok-Paints.rect.plane < planes = rw c.in-Ok-Paints.field-0-is at (c.in-Ok-Paints.ensures.known c.loop-line.invariant.place_known) in
+    let known : IsTypeOn c.args.tech.now c.in-Ok-Paints.rect.piece.kind c.in-Ok-Paints.rect.plane = rw c.in-Ok-Paints.field-0-is at (c.in-Ok-Paints.ensures.known c.loop-line.invariant.place_known) in
     record {
       same =
           ap (λ rects. read_lines c.args.tech.now c.loop-line.place rects (c.loop-line.number + 1) (raw_lines c.in-Some.after.now)) c.in_ok-push-in-Ok-Paints.ensures.items
           ∙ read_lines-line c.args.tech.now c.loop-line.place c.loop-line.rects.items c.loop-line.number c.in-Some.line.now (raw_lines c.in-Some.after.now) (Ok (Paints c.in-Ok-Paints.rect)) said
           ∙ ap read (sym c.in-Some.ensures.line) ∙ c.loop-line.invariant.same;
       place_known = c.loop-line.invariant.place_known;
-      rects_known = rw c.in_ok-push-in-Ok-Paints.ensures.items (All-push (λ rect. rect.plane < planes) c.loop-line.rects.items c.in-Ok-Paints.rect c.loop-line.invariant.rects_known known);
+      rects_known = rw c.in_ok-push-in-Ok-Paints.ensures.items (All-push (λ rect. IsTypeOn c.args.tech.now rect.piece.kind rect.plane) c.loop-line.rects.items c.in-Ok-Paints.rect c.loop-line.invariant.rects_known known);
       fits = omega (arith, c.loop-line.invariant.fits, c.in-Some.ensures.shorter);
     }
 

@@ -1,7 +1,7 @@
-use Rattle.std.proofs.Common.{◌≡◌, [], ◌+◌, ◌<◌, ◌≤◌, length, All}
+use Rattle.std.proofs.Common.{◌≡◌, [], ◌+◌, ◌≤◌, length, All}
 use Rattle.mls_text.specs.Lines.{raw_lines}
 use Rattle.mls_library.specs.CellFiles.{read_lines}
-use Rattle.mls_library.specs.Inner.{IsKnownPlace}
+use Rattle.mls_library.specs.Inner.{IsKnownPlace, IsTypeOn}
 use Rattle.mls_library.specs.declared.place.Place.TheVariants.{Start}
 use Rattle.mls_library.proofs.file.read_cell.Given as goal
 
@@ -9,8 +9,8 @@ use Rattle.mls_library.proofs.file.read_cell.Given as goal
 abbrev pub invariant-loop-line : goal.invariant-loop-line
 invariant-loop-line l = record {
   same : read_lines l.tech l.place l.rects.items l.number (raw_lines l.rest) ≡ read_lines l.fn.tech Start [] 0 (raw_lines l.fn.bytes);
-  place_known : IsKnownPlace l.tech.plane_count l.place;
-  rects_known : All (λ rect. rect.plane < l.tech.plane_count) l.rects.items;
+  place_known : IsKnownPlace (IsTypeOn l.tech) l.place;
+  rects_known : All (λ rect. IsTypeOn l.tech rect.piece.kind rect.plane) l.rects.items;
   fits : l.number + length l.rest ≤ length l.fn.bytes;
 }
 

@@ -1,6 +1,6 @@
 use Rattle.std.proofs.Common.{refl, sym, ◌∙◌}
-use Rattle.mls_wire.specs.Replies.{response_text}
-use Rattle.mls_wire.specs.declared.response.Response.TheVariants.{Fault}
+use Rattle.mls_seat_lines.specs.mls_wire.Replies.{response_text}
+use Rattle.mls_seat_lines.specs.mls_wire.declared.response.Response.TheVariants.{Fault}
 use Rattle.mls_seat_lines.specs.Glossaries.{book_in}
 use Rattle.mls_lines.proofs.answering.push_alone.Goals as goal
 

@@ -1,9 +1,9 @@
 use Rattle.std.proofs.Common.{[], None, Ok, Err, true, inr, refl, subst, sym}
-use Rattle.mls_server.specs.declared.answer.Answer.TheVariants.{Opened}
-use Rattle.mls_server.specs.declared.fault.OpenFault.TheVariants.{SessionsFull}
-use Rattle.mls_wire.specs.Replies.{answer_text, response_text}
-use Rattle.mls_wire.specs.declared.line.LineFault.{LineFault}
-use Rattle.mls_wire.specs.declared.response.Response.TheVariants.{Fault}
+use Rattle.mls_seat_lines.specs.mls_server.declared.answer.Answer.TheVariants.{Opened}
+use Rattle.mls_seat_lines.specs.mls_server.declared.fault.OpenFault.TheVariants.{SessionsFull}
+use Rattle.mls_seat_lines.specs.mls_wire.Replies.{answer_text, response_text}
+use Rattle.mls_seat_lines.specs.mls_wire.declared.line.LineFault.{LineFault}
+use Rattle.mls_seat_lines.specs.mls_wire.declared.response.Response.TheVariants.{Fault}
 use Rattle.mls_seat_lines.specs.Glossaries.{book_in}
 use Rattle.mls_lines.specs.Answers.{AnswersLine}
 use Rattle.mls_lines.proofs.AnswerLemmas.{answers_alone, appends_none}

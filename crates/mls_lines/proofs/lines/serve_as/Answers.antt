@@ -1,21 +1,21 @@
-use Rattle.mls_wire.proofs.Results.{if_err}
-use Rattle.mls_wire.specs.declared.serving.ServeFault.TheVariants.{Memory, Write}
+use Rattle.mls_seat_lines.proofs.mls_wire.Results.{if_err}
+use Rattle.mls_seat_lines.specs.mls_wire.declared.serving.ServeFault.TheVariants.{Memory, Write}
 use Rattle.mls_seat_lines.specs.Glossaries.{book_in}
 use Rattle.mls_lines.specs.Scripts.{EndsLines}
 use Rattle.mls_lines.proofs.EndLemmas.{reading_ends}
-use Rattle.mls_lines.proofs.ReplyLemmas.{replies_none}
+use Rattle.mls_lines.proofs.ReplyLemmas.{replies_none, replies_some}
 use Rattle.mls_lines.proofs.lines.serve_as.Goals as goal
 
 pub returns-in_err-ends-clause-failed : goal.returns-in_err-ends-clause-failed
 returns-in_err-ends-clause-failed g c =
     if_err c.from_residual.result Memory (λ fault. EndsLines g.N.Naming.terms (book_in g.N.Scripted.glossary) g.N.Scripted.script fault c.args.input.now g.W.Write.contents c.args.output.now c.args.output.now)
-    c.from_residual.ensures (replies_none g.N.Naming.terms (book_in g.N.Scripted.glossary) g.N.Scripted.script (g.W.Write.contents c.args.output.now.device))
+    c.from_residual.ensures (replies_some g.N.Naming.terms (book_in g.N.Scripted.glossary) g.N.Scripted.script _ _ _ (replies_none g.N.Naming.terms (book_in g.N.Scripted.glossary) g.N.Scripted.script (g.W.Write.contents c.args.output.now.device)))
 
-pub returns-in_err-written-clause-failed : goal.returns-in_err-written-clause-failed
-returns-in_err-written-clause-failed g c =
-    if_err c.from_residual-in_err-written.result Write
+pub returns-in_err-audited-clause-failed : goal.returns-in_err-audited-clause-failed
+returns-in_err-audited-clause-failed g c =
+    if_err c.from_residual-in_err-audited.result Write
     (λ fault. EndsLines g.N.Naming.terms (book_in g.N.Scripted.glossary) g.N.Scripted.script fault c.run-read.new.input g.W.Write.contents c.args.output.now c.run-read.new.output)
-    c.from_residual-in_err-written.ensures (rw c.in_err-written.was at c.run-read.ensures.cause, rw c.in_err-written.was at c.run-read.ensures.front)
+    c.from_residual-in_err-audited.ensures (rw c.in_err-audited.was at c.run-read.ensures.cause, rw c.in_err-audited.was at c.run-read.ensures.front)
 
 pub returns-in_err-read-clause-failed : goal.returns-in_err-read-clause-failed
 returns-in_err-read-clause-failed g c =
@@ -24,10 +24,15 @@ returns-in_err-read-clause-failed g c =
     (λ given. EndsLines g.N.Naming.terms (book_in g.N.Scripted.glossary) g.N.Scripted.script given c.run-read.new.input g.W.Write.contents c.args.output.now c.run-read.new.output)
     c.from_residual-in_err-read.ensures
     (reading_ends g.N.Naming.terms (book_in g.N.Scripted.glossary) g.N.Scripted.script fault c.run-read.new.input g.W.Write.contents c.args.output.now c.run-read.new.output
-    (rw c.in_err-read.was at c.run-read.ensures.kind) (rw c.in_err-read.was at c.run-read.ensures.read) (rw c.in_ok-written.was at c.run-read.ensures.written))
+    (rw c.in_err-read.was at c.run-read.ensures.kind) (rw c.in_err-read.was at c.run-read.ensures.read)
+    (replies_some g.N.Naming.terms (book_in g.N.Scripted.glossary) g.N.Scripted.script _ _ _ (rw c.in_ok-audited.was at c.run-read.ensures.written)))
 
-pub returns-in_err-audited-clause-failed : goal.returns-in_err-audited-clause-failed
-returns-in_err-audited-clause-failed g c =
-    if_err c.from_residual-in_err-audited.result Memory
+pub returns-in_err-answered-clause-failed : goal.returns-in_err-answered-clause-failed
+returns-in_err-answered-clause-failed g c =
+    if_err c.from_residual-in_err-answered.result Memory
     (λ fault. EndsLines g.N.Naming.terms (book_in g.N.Scripted.glossary) g.N.Scripted.script fault c.run-read.new.input g.W.Write.contents c.args.output.now c.run-read.new.output)
-    c.from_residual-in_err-audited.ensures (rw c.in_ok-written.was at c.run-read.ensures.written)
+    c.from_residual-in_err-answered.ensures (replies_some g.N.Naming.terms (book_in g.N.Scripted.glossary) g.N.Scripted.script _ _ _ (rw c.in_ok-audited.was at c.run-read.ensures.written))
+
+pub returns-then-is_closed-clause-failed : goal.returns-then-is_closed-clause-failed
+returns-then-is_closed-clause-failed g c =
+    replies_some g.N.Naming.terms (book_in g.N.Scripted.glossary) g.N.Scripted.script _ _ _ (rw c.in_ok-audited.was at c.run-read.ensures.written)

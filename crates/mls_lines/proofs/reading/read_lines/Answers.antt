@@ -1,7 +1,7 @@
 use Rattle.std.proofs.Common.{arith, subst}
-use Rattle.mls_wire.specs.LineReaders.{script_ahead}
-use Rattle.mls_wire.specs.NextLines.{TakesKnownLine}
-use Rattle.mls_wire.specs.declared.reader.NextLine.{NextLine}
+use Rattle.mls_seat_lines.specs.mls_wire.LineReaders.{script_ahead}
+use Rattle.mls_seat_lines.specs.mls_wire.NextLines.{TakesKnownLine}
+use Rattle.mls_seat_lines.specs.mls_wire.declared.reader.NextLine.{NextLine}
 use Rattle.mls_lines.proofs.ReadingLemmas.{line_last, line_next, read_next}
 use Rattle.mls_lines.proofs.reading.read_lines.Goals as goal
 

@@ -1,5 +1,5 @@
 use Rattle.std.proofs.Common.{◌+◌, ◌<◌, ◌≤◌}
-use Rattle.mls_wire.specs.LineReaders.{lines_left, script_ahead}
+use Rattle.mls_seat_lines.specs.mls_wire.LineReaders.{lines_left, script_ahead}
 use Rattle.mls_lines.proofs.ReadingLemmas.{IsReadTo}
 use Rattle.mls_lines.proofs.reading.read_lines.Given as goal
 

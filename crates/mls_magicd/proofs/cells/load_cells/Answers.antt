@@ -1,5 +1,5 @@
 use Rattle.std.proofs.lemmas.Result.{err_from_is_err_and}
-use Rattle.mls_server.specs.Servers.{world_of}
+use Rattle.mls_lines.specs.mls_server.Servers.{world_of}
 use Rattle.mls_magicd.proofs.CellLoads.{LoadsCells-nil, LoadsCells-taken, stops-at}
 use Rattle.mls_magicd.specs.CommandLines.{file_of}
 use Rattle.mls_magicd.proofs.cells.load_cells.Goals as goal

@@ -1,6 +1,6 @@
 -- The cells so far are loaded.
 use Rattle.std.proofs.Common.{◌≡◌, [], map, take}
-use Rattle.mls_server.specs.Servers.{world_of}
+use Rattle.mls_lines.specs.mls_server.Servers.{world_of}
 use Rattle.mls_magicd.specs.Cells.{LoadsCells}
 use Rattle.mls_magicd.specs.CommandLines.{file_of}
 use Rattle.mls_magicd.proofs.cells.load_cells.Given as goal

@@ -1,5 +1,5 @@
 use Rattle.std.proofs.Common.{◌++◌, ℕ, List, codes, subst}
-use Rattle.mls_library.specs.Faults.{fault_number, fault_text}
+use Rattle.mls_lines.specs.mls_library.Faults.{fault_number, fault_text}
 use Rattle.mls_magicd.specs.Messages.{Reports, faulty_line}
 use Rattle.mls_magicd.proofs.messages.report_cell_fault.Goals as goal
 

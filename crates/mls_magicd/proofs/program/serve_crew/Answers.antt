@@ -1,7 +1,8 @@
-use Rattle.std.proofs.Common.{◌≡◌, Bool, true, false, inr, not, refl, sym, subst}
+use Rattle.std.proofs.Common.{Bool, inr, subst}
 use Rattle.mls_crew.specs.Scripts.{WritesCrew}
-use Rattle.mls_server.specs.Servers.{world_of}
-use Rattle.mls_wire.proofs.Results.{if_err}
+use Rattle.mls_lines.specs.mls_server.Servers.{world_of}
+use Rattle.mls_lines.proofs.mls_wire.Results.{if_err}
+use Rattle.mls_magicd.proofs.Ends.{is_false, is_true}
 use Rattle.mls_magicd.proofs.program.serve_crew.Goals as goal
 
 pub returns-in_err-served-clause-err : goal.returns-in_err-served-clause-err
@@ -9,14 +10,6 @@ returns-in_err-served-clause-err g c =
     if_err c.from_residual-in_err-served.result _ _ c.from_residual-in_err-served.ensures (λ words parsed.
     let started = c.in_ok-crew.ensures.ok words parsed in
     inr (world_of c.in_ok-crew.crew.server, started.0, c.in_err-served.ensures.failed, started.1))
-
-is_false : (b : Bool) → not b ≡ true → b ≡ false
-is_false true is = sym is
-is_false false is = refl
-
-is_true : (b : Bool) → not b ≡ false → b ≡ true
-is_true true is = refl
-is_true false is = sym is
 
 pub returns-then-not-served-clause-err : goal.returns-then-not-served-clause-err
 returns-then-not-served-clause-err g c words parsed =

@@ -1,6 +1,8 @@
-use Rattle.std.proofs.Common.{inr}
-use Rattle.mls_server.specs.Servers.{world_of}
-use Rattle.mls_wire.proofs.Results.{if_err}
+use Rattle.std.proofs.Common.{Bool, inr, subst}
+use Rattle.mls_lines.specs.Scripts.{WritesLines}
+use Rattle.mls_lines.specs.mls_server.Servers.{world_of}
+use Rattle.mls_lines.proofs.mls_wire.Results.{if_err}
+use Rattle.mls_magicd.proofs.Ends.{is_false, is_true}
 use Rattle.mls_magicd.proofs.program.serve_live.Goals as goal
 
 pub returns-in_err-served-clause-err : goal.returns-in_err-served-clause-err
@@ -11,10 +13,25 @@ returns-in_err-served-clause-err g c =
 
 pub returns-then-not-served-clause-err : goal.returns-then-not-served-clause-err
 returns-then-not-served-clause-err g c words parsed =
+    let on = world_of c.in_ok-lines.lines.server in
     let started = c.in_ok-lines.ensures.ok words parsed in
-    inr (world_of c.in_ok-lines.lines.server, started.0, c.in_ok-served.ensures.served, started.1)
+    let differs = is_false c.in_ok-served.served.audited c.if-not-served.true in
+    inr (
+      on,
+      started.0,
+      subst (λ (audited : Bool). WritesLines on (g.R.Read.remaining c.args.streams.now.input.device) (g.W.Write.contents c.args.streams.now.output.device)
+          (g.W.Write.contents c.serve.new.output.device) audited) differs c.in_ok-served.ensures.served,
+      started.1,
+    )
 
 pub returns-clause-ok : goal.returns-clause-ok
 returns-clause-ok g c words parsed =
+    let on = world_of c.in_ok-lines.lines.server in
     let started = c.in_ok-lines.ensures.ok words parsed in
-    (world_of c.in_ok-lines.lines.server, started.0, c.in_ok-served.ensures.served, started.1)
+    let audits = is_true c.in_ok-served.served.audited c.if-not-served.false in (
+      on,
+      started.0,
+      subst (λ (audited : Bool). WritesLines on (g.R.Read.remaining c.args.streams.now.input.device) (g.W.Write.contents c.args.streams.now.output.device)
+          (g.W.Write.contents c.serve.new.output.device) audited) audits c.in_ok-served.ensures.served,
+      started.1,
+    )

@@ -1,4 +1,4 @@
-use Rattle.mls_server.specs.Servers.{world_of}
+use Rattle.mls_lines.specs.mls_server.Servers.{world_of}
 use Rattle.mls_magicd.proofs.Ends.{lacks-memory}
 use Rattle.mls_magicd.proofs.program.start_lines.Goals as goal
 

@@ -1,6 +1,6 @@
 use Rattle.std.proofs.Common.{◌≡◌, map, take}
-use Rattle.mls_server.specs.Servers.{world_of}
-use Rattle.mls_server.specs.Settings.{cell_names}
+use Rattle.mls_wire.specs.mls_server.Servers.{world_of}
+use Rattle.mls_wire.specs.mls_server.Settings.{cell_names}
 use Rattle.mls_seat_lines.specs.Glossaries.{cell_named}
 use Rattle.mls_seat_lines.proofs.glossary.cells_of.Given as goal
 

@@ -1,6 +1,6 @@
 use Rattle.std.proofs.Common.{◌≡◌, ◌++◌, ℕ, List, refl, sym, ap, subst, ◌∙◌}
 use Rattle.mls_live.specs.Audits.{CanLookAt}
-use Rattle.mls_server.specs.declared.answer.Answer.TheVariants.{Looked}
+use Rattle.mls_wire.specs.mls_server.declared.answer.Answer.TheVariants.{Looked}
 use Rattle.mls_wire.specs.Replies.{answer_text}
 use Rattle.mls_seat_lines.proofs.saying.look.Goals as goal
 

@@ -1,6 +1,6 @@
 use Rattle.std.proofs.Common.{refl, sym, ◌∙◌}
 use Rattle.mls_live.specs.Lists.{list_of}
-use Rattle.mls_server.specs.declared.answer.Answer.TheVariants.{Commanded}
+use Rattle.mls_wire.specs.mls_server.declared.answer.Answer.TheVariants.{Commanded}
 use Rattle.mls_wire.specs.Replies.{answer_text, response_text}
 use Rattle.mls_seat_lines.proofs.Commands.{says_command}
 use Rattle.mls_seat_lines.proofs.saying.run.Goals as goal

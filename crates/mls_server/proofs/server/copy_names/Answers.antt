@@ -1,6 +1,6 @@
 use Rattle.std.proofs.Common.{◌≡◌, ◌++◌, ◌∷◌, [], ℕ, List, Some, map, slice_get, take, sym, ap, ◌∙◌}
 use Rattle.std.proofs.lemmas.List.{map-append}
-use Rattle.mls_library.specs.Libraries.{names_of}
+use Rattle.mls_session.specs.mls_library.Libraries.{names_of}
 use Rattle.mls_server.proofs.CellNames.{names-next}
 use Rattle.mls_server.proofs.server.copy_names.Goals as goal
 

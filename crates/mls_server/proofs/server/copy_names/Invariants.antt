@@ -1,5 +1,5 @@
 use Rattle.std.proofs.Common.{◌≡◌, map, take}
-use Rattle.mls_library.specs.Libraries.{names_of}
+use Rattle.mls_session.specs.mls_library.Libraries.{names_of}
 use Rattle.mls_server.proofs.server.copy_names.Given as goal
 
 -- the names so far are copied

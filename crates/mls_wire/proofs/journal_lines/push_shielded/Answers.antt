@@ -1,7 +1,7 @@
 use Rattle.std.proofs.Common.{arith, vec_capacity, vec_len}
 use Rattle.std.proofs.lemmas.Result.{IfOk-from_err}
 use Rattle.mls_wire.specs.JournalLines.{command_words}
-use Rattle.mls_library.specs.SavedCells.{spaced}
+use Rattle.mls_server.specs.mls_library.SavedCells.{spaced}
 use Rattle.mls_wire.proofs.Results.{on_err}
 use Rattle.mls_wire.proofs.ShieldedLines.{lacks-shielded, on_err-shielded, on_ok-shielded}
 use Rattle.mls_wire.proofs.journal_lines.push_shielded.Goals as goal

@@ -1,13 +1,13 @@
 use Rattle.std.proofs.Common.{List, Result, subst, sym}
 use Rattle.std.specs.Io.KnownBytes.{Appends}
-use Rattle.mls_server.specs.Servers.{world_of}
-use Rattle.mls_wire.proofs.Results.{if_err}
-use Rattle.mls_wire.specs.Ahead.{SaysScript}
-use Rattle.mls_wire.specs.NameBooks.{book_of}
-use Rattle.mls_wire.specs.Serving.{AppendsFront}
-use Rattle.mls_wire.specs.declared.line.Line.{Line}
-use Rattle.mls_wire.specs.declared.line.LineFault.{LineFault}
-use Rattle.mls_wire.specs.declared.serving.ServeFault.TheVariants.{Write}
+use Rattle.mls_seat_lines.specs.mls_server.Servers.{world_of}
+use Rattle.mls_seat_lines.proofs.mls_wire.Results.{if_err}
+use Rattle.mls_seat_lines.specs.mls_wire.Ahead.{SaysScript}
+use Rattle.mls_seat_lines.specs.mls_wire.NameBooks.{book_of}
+use Rattle.mls_seat_lines.specs.mls_wire.Serving.{AppendsFront}
+use Rattle.mls_seat_lines.specs.mls_wire.declared.line.Line.{Line}
+use Rattle.mls_seat_lines.specs.mls_wire.declared.line.LineFault.{LineFault}
+use Rattle.mls_seat_lines.specs.mls_wire.declared.serving.ServeFault.TheVariants.{Write}
 use Rattle.mls_crew.specs.Scripts.{FailsCrew}
 use Rattle.mls_crew.proofs.Outputs.{crew_begins, crew_writes, reading_fails}
 use Rattle.mls_crew.proofs.crew.Crew.serve.Goals as goal

@@ -1,5 +1,5 @@
-use Rattle.mls_server.specs.Servers.{world_of}
-use Rattle.mls_server.specs.Settings.{terms_for}
+use Rattle.mls_seat_lines.specs.mls_server.Servers.{world_of}
+use Rattle.mls_seat_lines.specs.mls_server.Settings.{terms_for}
 use Rattle.mls_crew.proofs.crew.Crew.serve.Given as goal
 
 abbrev pub ghosts-say-N-Ledger : goal.ghosts-say-N-Ledger

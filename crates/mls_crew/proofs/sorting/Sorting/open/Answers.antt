@@ -1,9 +1,9 @@
 use Rattle.std.proofs.Common.{◌≡◌, ◌++◌, ◌∷◌, [], Err, None, inl, inr, refl, sym, ◌∙◌}
-use Rattle.mls_server.specs.declared.answer.Answer.TheVariants.{Opened}
-use Rattle.mls_server.specs.declared.fault.OpenFault.TheVariants.{OpenAlready}
-use Rattle.mls_wire.proofs.Results.{on_ok-map}
-use Rattle.mls_wire.specs.Replies.{response_text}
-use Rattle.mls_wire.specs.declared.response.Response.TheVariants.{Answered}
+use Rattle.mls_seat_lines.specs.mls_server.declared.answer.Answer.TheVariants.{Opened}
+use Rattle.mls_seat_lines.specs.mls_server.declared.fault.OpenFault.TheVariants.{OpenAlready}
+use Rattle.mls_seat_lines.proofs.mls_wire.Results.{on_ok-map}
+use Rattle.mls_seat_lines.specs.mls_wire.Replies.{response_text}
+use Rattle.mls_seat_lines.specs.mls_wire.declared.response.Response.TheVariants.{Answered}
 use Rattle.mls_seat_lines.specs.Glossaries.{book_in}
 use Rattle.mls_crew.specs.Sorting.{Sorted, at_once, number_of_session}
 use Rattle.mls_crew.proofs.SortedLines.{none_named, opened_after}

@@ -1,5 +1,5 @@
 use Rattle.std.proofs.Common.{refl}
-use Rattle.mls_wire.proofs.Results.{on_ok-map}
+use Rattle.mls_seat_lines.proofs.mls_wire.Results.{on_ok-map}
 use Rattle.mls_seat_lines.specs.Glossaries.{book_in}
 use Rattle.mls_crew.specs.Sorting.{faulty}
 use Rattle.mls_crew.proofs.sorting.Sorting.sort_line.Goals as goal

@@ -1,6 +1,6 @@
 use Rattle.std.proofs.Common.{[], refl}
-use Rattle.mls_wire.proofs.Results.{on_ok-map}
-use Rattle.mls_wire.specs.declared.line.LineFault.TheVariants.{UnknownCommand}
+use Rattle.mls_seat_lines.proofs.mls_wire.Results.{on_ok-map}
+use Rattle.mls_seat_lines.specs.mls_wire.declared.line.LineFault.TheVariants.{UnknownCommand}
 use Rattle.mls_seat_lines.specs.Glossaries.{book_in}
 use Rattle.mls_crew.specs.Sorting.{at_once, faulty}
 use Rattle.mls_crew.proofs.SortedLines.{followed_by_none}

@@ -8,10 +8,11 @@ use Rattle.mls_geom.specs.World.{world}
 use Rattle.mls_tilepool.specs.Pools.{unreserved}
 use Rattle.mls_paint.specs.Owners.{AddsOwners}
 use Rattle.mls_library.specs.Bounds.{any_painted, bounds_of}
-use Rattle.mls_library.specs.CellFiles.{reading_of}
+use Rattle.mls_library.specs.CellFiles.{layout_of_rects, reading_of}
 use Rattle.mls_library.specs.Inner.{AreBuilt, IsFrozenList, cells_in, named_cell}
 use Rattle.mls_library.specs.Libraries as spec
-use Rattle.mls_library.specs.Libraries.{HavePlanes, IsHome, KeepsCells, NamedCell, ShowsWithin, cell_layout}
+use Rattle.mls_library.specs.Libraries.{HavePlanes, IsHome, KeepsCells, NamedCell, ShowOwnTypes, ShowsWithin, cell_layout}
+use Rattle.mls_library.specs.SavedCells.{ShowsOwnTypes}
 use Rattle.mls_library.specs.declared.fault.CellFault.{CellFault}
 use Rattle.mls_library.specs.declared.fault.CellFaultKind.TheVariants.{PoolFull, TooManyTiles}
 use Rattle.mls_library.proofs.CellBounds.{AreBuilt-within, ShowsWithin-lists, painted_bounds-built}
@@ -19,6 +20,7 @@ use Rattle.mls_library.proofs.CellLayouts.{layout_in-rects}
 use Rattle.mls_library.proofs.CellNames.{KeepsCells-append, cells_in-new, place_of_new}
 use Rattle.mls_library.proofs.HomeCells.{IsHome-push}
 use Rattle.mls_library.proofs.Loading.{All-unmap, LoadsUnlessMemory-fault, UnlessMemory-map, counts_few, counts_listed, few-within, lists_frozen, loading_of-file, loading_of-name, loading_of-room, room_fault-full, room_fault-none, room_fault-tiles}
+use Rattle.mls_library.proofs.OwnTypes.{own_types-AddsOwners, rects_show_own}
 use Rattle.mls_library.proofs.ReadingLemmas.{unless_memory}
 use Rattle.mls_library.proofs.library.Library.load.Goals as goal
 
@@ -133,7 +135,7 @@ returns c =
     in
     -- each rectangle that is read lies on a plane of the technology
     let known : All (λ painted. painted.plane < length owners) rects =
-    subst (λ n. All (λ painted. painted.plane < n) rects) (sym (built.count ∙ all)) c.in_ok-rects.ensures.known
+    subst (λ n. All (λ painted. painted.plane < n) rects) (sym (built.count ∙ all)) (λ k d within. (c.in_ok-rects.ensures.known k d within).known)
     in
     let smallest : bounds ≡ bounds_of (any_painted lists) =
     c.bounds_of-bounds.ensures ∙ ap (λ found. bounds_of (any_painted (map (λ list. list.items) found))) c.deref-3.ensures.value
@@ -147,6 +149,11 @@ returns c =
     let home : IsHome new (cells ++ cell ∷ []) =
     IsHome-push c.args.pool.now new cells cell _ c.requires.home built.added (record { frozen = built.frozen; apart = built.apart; bounded = bounded; smallest = smallest ∙ painted_bounds-built lists shown c.args.pool.now new owners built })
     in
+    let shows : cell_layout new cell ≡ layout_of_rects rects =
+    layout_in-rects new owners rects known
+    (λ k d within. let in_lists : k < length lists = omega (arith, within, built.count) in
+    built.shows k d [] in_lists ∙ (listed.each k [] in_lists).shows)
+    in
     record {
       loads = (
         rects,
@@ -157,15 +164,17 @@ returns c =
           number = inserted.index ∙ place_of_new (λ name. name.items) (λ cell. cell) cells entries key same unnamed;
           added = grown;
           planes = built.count ∙ all;
-          shows =
-              layout_in-rects new owners rects known
-              (λ k d within. let in_lists : k < length lists = omega (arith, within, built.count) in
-              built.shows k d [] in_lists ∙ (listed.each k [] in_lists).shows);
+          shows = shows;
           reserves = subst (AddsOwners c.args.pool.now new owners) (ap spec.total (listed.counts ∙ ap (λ n. spec.tile_counts n rects) all)) built.added;
         },
       );
       home = subst (IsHome new) (sym grown) home;
       planes = λ before. subst (HavePlanes planes) (sym grown) (All-push (λ cell. length cell.planes ≡ planes) cells cell before (built.count ∙ all));
+      own_types =
+          λ before. subst (ShowOwnTypes c.args.tech.now new) (sym grown)
+          (All-push (λ cell. ShowsOwnTypes c.args.tech.now (cell_layout new cell)) cells cell
+          (own_types-AddsOwners c.args.tech.now c.args.pool.now new cells owners _ built.added c.requires.home before)
+          (subst (ShowsOwnTypes c.args.tech.now) (sym shows) (rects_show_own c.args.tech.now rects c.in_ok-rects.ensures.known)));
       cells_kept = subst (KeepsCells cells) (sym grown) (KeepsCells-append cells (cell ∷ []));
       library_kept = tt;
       pool_kept = tt;
@@ -174,3 +183,7 @@ returns c =
 -- nothing was added
 pub returns-in_err-reserve-clause-cells_kept : goal.returns-in_err-reserve-clause-cells_kept
 returns-in_err-reserve-clause-cells_kept c = λ id within. rw c.reserve.ensures.entries (ap (λ cells. slice_get cells id) c.self.view_is)
+
+pub returns-in_err-reserve-clause-own_types : goal.returns-in_err-reserve-clause-own_types
+returns-in_err-reserve-clause-own_types c =
+    λ before. rw c.reserve.ensures.entries (subst (ShowOwnTypes c.args.tech.now c.args.pool.now) (sym c.self.view_is) before)

@@ -1,10 +1,10 @@
 use Rattle.std.proofs.Common.{◌≡◌, ℕ, true, Option, List, Result, Ok, Err, refl, sym, ap, ◌∙◌}
-use Rattle.mls_wire.specs.NameBooks.{Names}
-use Rattle.mls_wire.specs.Replies.{response_text}
-use Rattle.mls_wire.specs.ScriptLines.{bytes_of_line}
-use Rattle.mls_wire.specs.declared.line.Line.{Line}
-use Rattle.mls_wire.specs.declared.line.LineFault.{LineFault}
-use Rattle.mls_wire.specs.declared.response.Response.TheVariants.{Fault}
+use Rattle.mls_seat_lines.specs.mls_wire.NameBooks.{Names}
+use Rattle.mls_seat_lines.specs.mls_wire.Replies.{response_text}
+use Rattle.mls_seat_lines.specs.mls_wire.ScriptLines.{bytes_of_line}
+use Rattle.mls_seat_lines.specs.mls_wire.declared.line.Line.{Line}
+use Rattle.mls_seat_lines.specs.mls_wire.declared.line.LineFault.{LineFault}
+use Rattle.mls_seat_lines.specs.mls_wire.declared.response.Response.TheVariants.{Fault}
 use Rattle.mls_lines.specs.Answers.{held_by, name_held}
 use Rattle.mls_seat_lines.specs.Glossaries.{book_in}
 use Rattle.mls_lines.specs.Beside.{says_beside}

@@ -1,7 +1,7 @@
 use Rattle.std.proofs.Common.{true, [], refl}
-use Rattle.mls_wire.specs.Replies.{response_text}
-use Rattle.mls_wire.specs.declared.line.LineFault.TheVariants.{UnknownCommand}
-use Rattle.mls_wire.specs.declared.response.Response.TheVariants.{Fault}
+use Rattle.mls_seat_lines.specs.mls_wire.Replies.{response_text}
+use Rattle.mls_seat_lines.specs.mls_wire.declared.line.LineFault.TheVariants.{UnknownCommand}
+use Rattle.mls_seat_lines.specs.mls_wire.declared.response.Response.TheVariants.{Fault}
 use Rattle.mls_seat_lines.specs.Glossaries.{book_in}
 use Rattle.mls_lines.proofs.AnswerLemmas.{appends_as, appends_none}
 use Rattle.mls_lines.proofs.answering.Clerk.carry_out.Goals as goal

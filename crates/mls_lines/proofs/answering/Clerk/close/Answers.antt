@@ -1,8 +1,8 @@
 use Rattle.std.proofs.Common.{◌≡◌, true, Some, None, Ok, refl, sym, ◌∙◌}
-use Rattle.mls_server.specs.declared.answer.Answer.TheVariants.{Closed}
-use Rattle.mls_wire.specs.Replies.{answer_text, response_text}
-use Rattle.mls_wire.specs.declared.line.LineFault.TheVariants.{NotOpen}
-use Rattle.mls_wire.specs.declared.response.Response.TheVariants.{Fault}
+use Rattle.mls_seat_lines.specs.mls_server.declared.answer.Answer.TheVariants.{Closed}
+use Rattle.mls_seat_lines.specs.mls_wire.Replies.{answer_text, response_text}
+use Rattle.mls_seat_lines.specs.mls_wire.declared.line.LineFault.TheVariants.{NotOpen}
+use Rattle.mls_seat_lines.specs.mls_wire.declared.response.Response.TheVariants.{Fault}
 use Rattle.mls_seat_lines.specs.Glossaries.{book_in}
 use Rattle.mls_lines.proofs.AnswerLemmas.{appends_as}
 use Rattle.mls_lines.proofs.answering.Clerk.close.Goals as goal

@@ -1,6 +1,6 @@
 use Rattle.std.proofs.Common.{sym, ◌∙◌}
-use Rattle.mls_live.specs.Lists.{list_of}
-use Rattle.mls_server.specs.LegalLists.{IsLegalList}
+use Rattle.mls_seat_lines.specs.mls_live.Lists.{list_of}
+use Rattle.mls_seat_lines.specs.mls_server.LegalLists.{IsLegalList}
 use Rattle.mls_seat_lines.proofs.Results.{ok_holds}
 use Rattle.mls_lines.proofs.AnswerLemmas.{appends_as}
 use Rattle.mls_lines.proofs.answering.Clerk.leave.Goals as goal

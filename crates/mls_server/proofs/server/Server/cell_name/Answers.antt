@@ -1,6 +1,6 @@
 use Rattle.std.proofs.Common.{slice_get, sym, ap, ◌∙◌, List, ℕ}
 use Rattle.std.proofs.lemmas.Option.{slice_get-map}
-use Rattle.mls_library.specs.Libraries.{NamedCell}
+use Rattle.mls_session.specs.mls_library.Libraries.{NamedCell}
 use Rattle.mls_server.specs.Servers.{Server, world_of}
 use Rattle.mls_server.specs.Settings.{cell_names}
 use Rattle.mls_server.proofs.CellNames.{names-named_layouts}

@@ -1,5 +1,5 @@
 use Rattle.std.proofs.Common.{Option, sym, subst}
-use Rattle.mls_errorplane.specs.declared.checked.Checked.{Checked}
+use Rattle.mls_session.specs.mls_errorplane.declared.checked.Checked.{Checked}
 use Rattle.mls_session.specs.Designs.{KnowsRight}
 use Rattle.mls_session.specs.Journals.{Commands}
 use Rattle.mls_session.specs.Sessions.{kept_of}

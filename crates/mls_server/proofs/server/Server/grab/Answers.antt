@@ -1,5 +1,5 @@
 use Rattle.std.proofs.Common.{ℕ, sym, subst}
-use Rattle.mls_errorplane.specs.Jobs.{IsNextJob}
+use Rattle.mls_session.specs.mls_errorplane.Jobs.{IsNextJob}
 use Rattle.mls_session.specs.Own.{layout_of}
 use Rattle.mls_session.specs.OwnSteps.{Terms}
 use Rattle.mls_session.specs.Sessions.{kept_of}

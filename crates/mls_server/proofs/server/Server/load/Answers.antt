@@ -8,7 +8,7 @@ use Rattle.mls_server.proofs.server.Server.load.Goals as goal
 pub invariant_of-self : goal.invariant_of-self
 invariant_of-self c =
     let idle = ap (λ (now : Server). (world_of now).seats) c.self.view_is ∙ c.requires.idle in
-    AreOpen-loaded (the_view c.self.inside) c.self.invariant idle c.load.new.pool c.load.new.self c.load.ensures.home c.load.ensures.planes
+    AreOpen-loaded (the_view c.self.inside) c.self.invariant idle c.load.new.pool c.load.new.self c.load.ensures.home c.load.ensures.planes c.load.ensures.own_types
 
 pub returns : goal.returns
 returns c =

@@ -1,13 +1,12 @@
-use Rattle.std.proofs.Common.{◌≡◌, ◌≢◌, ℕ, Option, Some, None, List, Bor, All, subst}
-use Rattle.std.specs.Prelude.{IfSome, option_copied}
+use Rattle.std.proofs.Common.{◌≢◌, All}
+use Rattle.std.specs.Prelude.{IfSome}
+use Rattle.mls_library.specs.MarkedCells.{empty_layout}
 use Rattle.mls_library.proofs.MarkedCells.{marked-reads-back}
 use Rattle.mls_library.proofs.SavedCells.{saved-reads-back}
+use Rattle.mls_session.proofs.CutAreas.{areas_in-legal, own-empty}
+use Rattle.mls_errorplane.specs.ErrorsIn.{areas_in}
+use Rattle.mls_session.proofs.PartialFacts.{of_lent}
 use Rattle.mls_session.proofs.design.Design.reads_back.Goals as goal
-
--- what holds of a list that is lent holds of the list
-of_lent : (P : List ℕ → Type 0) (lent : Option (Bor (List ℕ))) (list : Option (List ℕ)) → option_copied lent ≡ list → IfSome lent (λ bytes. P bytes.now) → IfSome list P
-of_lent P None list is holds = subst (λ (l : Option (List ℕ)). IfSome l P) is tt
-of_lent P (Some bytes) list is holds = subst (λ (l : Option (List ℕ)). IfSome l P) is holds
 
 unbroken : (c : goal.After-has_legal_areas) → IfSome c.args.tech.now.name (All (λ b. b ≢ 10))
 unbroken c = of_lent (All (λ b. b ≢ 10)) c.name.result c.args.tech.now.name c.name.ensures.value c.name.ensures.unbroken
@@ -18,3 +17,8 @@ returns-clause-saved c layout own = saved-reads-back c.args.tech.now layout c.ty
 pub returns-clause-marked : goal.returns-clause-marked
 returns-clause-marked c layout marks own =
     marked-reads-back c.args.tech.now c.args.self.now.errors.dirty c.has_legal_areas.ensures.legal marks layout c.types.ensures.named (unbroken c) own
+
+pub returns-clause-errors : goal.returns-clause-errors
+returns-clause-errors c rect marks =
+    let dirty = c.args.self.now.errors.dirty in
+    marked-reads-back c.args.tech.now (areas_in rect dirty) (areas_in-legal rect dirty c.has_legal_areas.ensures.legal) marks empty_layout c.types.ensures.named (unbroken c) (own-empty c.args.tech.now)

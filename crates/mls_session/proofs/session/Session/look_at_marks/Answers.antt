@@ -1,10 +1,15 @@
-use Rattle.std.proofs.Common.{sym, subst}
+use Rattle.std.proofs.Common.{refl, sym, subst}
+use Rattle.mls_library.specs.SavedCells.{HoldsOwnTypes}
+use Rattle.mls_session.specs.Designs.{drawn_of}
+use Rattle.mls_session.specs.Journals.{IsLegal}
 use Rattle.mls_session.specs.Looks.{MarksReadBack}
-use Rattle.mls_session.specs.Sessions.{Session, kept_of}
+use Rattle.mls_session.specs.Own.{layout_of}
+use Rattle.mls_session.specs.Sessions.{IsReady, Session, kept_of}
 use Rattle.mls_session.specs.Setups.{terms_of}
 use Rattle.mls_session.specs.declared.look.Look.TheVariants.{Marks}
 use Rattle.mls_session.specs.declared.look.Looked.{Looked}
 use Rattle.mls_session.proofs.JournalledCommands.{seen}
+use Rattle.mls_session.proofs.OwnTypes.{holds_layout, legal_own, own_cells}
 use Rattle.mls_session.proofs.SessionLooks.{Looks-marks, Looks-marks-Memory, Looks-marks-Quota, LooksMore}
 use Rattle.mls_session.proofs.session.Session.look_at_marks.Goals as goal
 use Rattle.mls_session.proofs.session.Session.look_at_marks.Goals.{in-Ok, in-Err-TooMany, in-Err-Memory}
@@ -31,4 +36,12 @@ returns-clause-looks c =
 
 pub returns-clause-reads_back : goal.returns-clause-reads_back
 returns-clause-reads_back c =
-    subst (λ (s : Session). MarksReadBack (terms_of c.args.setup.now c.args.workspace.now.pool) (kept_of c.args.workspace.now.pool s)) c.self.view_is (c.reads_back.ensures.marked _ _)
+    let pool = c.args.workspace.now.pool in
+    let setup = c.args.setup.now in
+    let terms = terms_of setup pool in
+    let holds = λ (s : Session) (ready : IsReady setup pool s) (legal : IsLegal terms (kept_of pool s)).
+    let cells = own_cells setup pool ready.can_dump.own_types in
+    holds_layout pool s.design.planes ready.home.layout.strips terms.config (drawn_of pool s.design) refl cells (legal_own terms cells (kept_of pool s) legal)
+    in
+    λ legal. subst (λ (s : Session). HoldsOwnTypes terms.config.tech (layout_of terms.config (drawn_of pool s.design)) → MarksReadBack terms (kept_of pool s)) c.self.view_is (c.reads_back.ensures.marked _ _)
+    (holds c.args.self.now c.requires.ready legal)

@@ -1,0 +1,132 @@
+"""A whole layout of a process, checked by windows in as many magicd at a time as there are processes."""
+
+import asyncio
+import contextlib
+import os
+import tempfile
+from dataclasses import dataclass
+
+from kolasieve import pool
+from kolasieve.bands import Bands
+from kolasieve.batch import CheckFault, Part, write
+from kolasieve.hierarchy import SUFFIX, Library
+from kolasieve.program import Program
+from kolasieve.progress import Progress
+from kolasieve.rects import common, grown, meet
+from kolasieve.report import Report, Violation
+from kolasieve.scaling import scaled
+from kolasieve.search import Search, rules_of
+from kolasieve.stream import STREAM, cell_of
+from kolasieve.windows import Sizes, plan
+
+# How often each process takes a window at least, so that all end together, and how many rectangles are worth it.
+TURNS = 3
+LEAST = 4000
+
+
+@dataclass(frozen=True)
+class Choice:
+    """What is checked: a cell of a stream file, a region in lambda, the rules with one of some words in their texts.
+
+    `has_layers` says whether the report has the flat layout.
+    """
+
+    cell: str = None
+    region: tuple = None
+    words: tuple = ()
+    has_layers: bool = False
+
+    def has_rule(self, text):
+        """Returns whether a rule with this text is checked."""
+        return not self.words or any(word in text for word in self.words)
+
+
+class Check:
+    """Checks of layouts of a process."""
+
+    def __init__(self, process, server, say, jobs=1, sizes=Sizes()):
+        """Takes a process, the command that starts magicd, and a function that is told how far the check is."""
+        self.process = process
+        self.server = server
+        self.say = say
+        self.jobs = jobs
+        self.sizes = sizes
+
+    def report(self, path, folders=(), choice=Choice()):
+        """Returns the report on a file of Magic, or on a cell of a stream file, its only top cell by default."""
+        if choice.cell is not None and not path.endswith(STREAM):
+            raise CheckFault(f"{path}: a cell is named of a stream file ({STREAM}) alone")
+        rules = [rule for rule in rules_of(self.process) if choice.has_rule(rule.text)]
+        if choice.words and not rules:
+            raise CheckFault(f"no rule of {self.process.name} has {' or '.join(choice.words)} in its text")
+        if choice.region and not meet(choice.region, choice.region):
+            raise CheckFault(f"the region {' '.join(map(str, choice.region))} has no square")
+        with tempfile.TemporaryDirectory(prefix="kolasieve-") as scratch:
+            self.say(f"reading {path}")
+            top = cell_of(self.process.path, path, choice.cell, scratch) if path.endswith(STREAM) else path
+            library = Library(self.process, top, folders)
+            asyncio.run(self.build())
+            search = Search(library, self.parts(library.grid, choice, scratch), choice)
+            bands = self.bands(search, self.windows(search, library, choice), scratch)
+            self.say("joining what was found")
+            rules = [rule for rule in rules if bands.has(rule)]
+            violations = [Violation(rule.text, bands.joined([rule]), rule.is_proved) for rule in rules]
+            marks = bands.joined(rules)
+            layers = {name: bands.joined([name]) for name in search.flat.rules.layers if bands.has(name)}
+        notes = [notice for notice in [self.process.notice()] if notice]
+        name = os.path.basename(top).removesuffix(SUFFIX)
+        unit = (self.process.unit or 1000) / 1000
+        return Report(path, name, self.process.name, unit, library.grid, layers, violations, marks, notes)
+
+    async def build(self):
+        """Starts and ends a magicd: the first call of the launcher builds it, and several would do so side by side."""
+        program = await Program.start([self.server], lambda *_: None)
+        try:
+            program.ending = True
+            program.process.stdin.close()
+            said = await program.last_words()
+        finally:
+            await program.stop()
+        if program.process.returncode:
+            raise CheckFault(said)
+
+    def parts(self, grid, choice, scratch):
+        """Returns a part for each group that has rules to check, whose technology it writes for lambda on this grid."""
+        parts = []
+        for number, group in enumerate(self.process.groups):
+            wanted = [choice.has_rule(rule.why) for rule in group.rules]
+            if any(wanted):
+                path = os.path.join(scratch, group.path.name)
+                text = scaled(group.path.read_text(encoding="utf-8"), grid, wanted)
+                write(path, text)
+                images = {layer.name: [each for each in layer.images if each.group == number] for layer in self.process.layers}
+                texts = [rule.why for rule, stays in zip(group.rules, wanted) if stays]
+                parts.append(Part(group, path, text, texts, images, (group.halo - 1) * grid))
+        return parts
+
+    def windows(self, search, library, choice):
+        """Returns the windows that processes take at a time, each with about how many rectangles it has."""
+        if library.top.bounds is None:
+            return []
+        most = self.sizes.rects
+        if self.jobs > 1:
+            most = min(most, max(LEAST, library.top.size // (TURNS * self.jobs)))
+        region = grown(library.top.bounds, search.border)
+        if not choice.region:
+            return list(plan(region, library.top.weight, search.border, most))
+        chosen = tuple(number * library.grid for number in choice.region)
+        windows = plan(chosen, library.top.weight, search.border, most)
+        return [(common(core, chosen), weight) for core, weight in windows]
+
+    def bands(self, search, windows, scratch):
+        """Returns all that is found in windows."""
+        jobs = max(1, min(self.jobs, len(windows)))
+        search.use(self.server, self.sizes, scratch, max(1, self.jobs // jobs))
+        bands = Bands(scratch, search.flat.top.bounds)
+        progress = Progress([weight for _, weight in windows], self.say)
+        with contextlib.closing(pool.results(search, windows, jobs)) as results:
+            for weight, found, layers in results:
+                for key, rects in [*found.items(), *layers.items()]:
+                    bands.add(key, rects)
+                progress.add(weight, sum(map(len, found.values())))
+        return bands

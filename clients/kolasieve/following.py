@@ -1,0 +1,367 @@
+"""Follows what a window of Magic holds: sends the differences to a chip's sessions, and shows what is forbidden.
+
+The window writes lines of words parted by tabs:
+
+    look PATH CELL BACKUP MODIFIED FOLDERS    a look, as `Look` has it; lists with blanks
+    fetch | send                              where both sides differ, takes the server's layout, or the window's
+    undo                                      puts back what the last change has replaced
+    leave | close                             leaves the sessions, or closes them
+
+and reads those of `showing.py`.
+"""
+
+import asyncio
+import hashlib
+import re
+from dataclasses import replace
+
+from kolasieve import violations
+from kolasieve.areas import small_pieces
+from kolasieve.carrier import Lost
+from kolasieve.chip import OutOfStep, Refused
+from kolasieve.hierarchy import LayoutFault
+from kolasieve.layout import Layout, boxes_round, differing, missing
+from kolasieve.rects import bounds, grown, meet, squares, strips, without
+from kolasieve.served import ServedFault
+from kolasieve.sessions import InUse, Sessions, apart, layers_of
+from kolasieve.showing import Shown
+from kolasieve.window import WORLD, Look, Unread, layout_of, name_of
+
+EVERYWHERE = (-WORLD, -WORLD, WORLD, WORLD)
+
+# The pause after a connection is lost, in seconds; each further one is twice as long, up to the longest.
+FIRST_PAUSE = 0.2
+LONGEST_PAUSE = 5
+
+# After how many seconds without all replies that is said.
+LATE = 10
+
+# How many bytes the name of a session may have, and of how many changes it is known what they have replaced.
+LONGEST_NAME = 32
+MOST_CHANGES = 1000
+
+
+def session_name(name, cell):
+    """Returns the name of the sessions of a designer's cell."""
+    told = f"{name}_{name_of(cell)}"
+    plain = re.sub(r"[^A-Za-z0-9_]", "_", told)
+    if plain == told and len(plain) <= LONGEST_NAME:
+        return plain
+    digest = hashlib.sha256(told.encode()).hexdigest()[:6]
+    return f"{plain[: LONGEST_NAME - 7]}_{digest}"
+
+
+class Following:
+    """A window and the chip that is to show the same."""
+
+    def __init__(self, served, process, name, take=None, tls=None):
+        self.sessions = Sessions(served, process, tls)
+        self.process = process
+        self.grid = served.grid
+        self.name = name
+        # Which side is right where both differ at first, if that is decided.
+        self.take = take
+        self.halo = max(group.halo for group in process.groups) * served.grid
+        self.shown = Shown(served.grid)
+        # The window: the last look at it, its cell, its rectangles by layer, these as a layout, and a cell that waits.
+        self.seen, self.cell, self.rects, self.window, self.waiting = None, None, {}, Layout(), None
+        # The chip and its cell; whether its sessions are at hand, and whether they can hold the layout.
+        self.chip, self.chip_cell, self.is_open, self.is_held = None, None, False, True
+        # Boxes in which the chip has to take what the window has, and those that it has refused.
+        self.pending, self.refused = [], []
+        # What changes have replaced, the last one last, and the boxes of one that is being undone.
+        self.replaced, self.undoing = [], []
+        # While nobody has decided: where both sides differ, what the sessions show, and where the window was edited since.
+        self.undecided, self.found_there, self.edited = [], None, []
+        # Words of the window that aren't obeyed yet, and whether there is something to do.
+        self.asked, self.changed = [], asyncio.Event()
+
+    # ---- the window
+
+    async def read(self, lines):
+        """Takes the window's lines, until it ends."""
+        while line := await lines.readline():
+            word, *words = line.decode("utf-8", "surrogateescape").rstrip("\n").split("\t")
+            if word == "look":
+                self.look(Look(*words[:3], tuple(words[3].split()), tuple(words[4].split())))
+            else:
+                self.asked.append(word)
+                self.changed.set()
+
+    def look(self, look):
+        """Takes a look at the window; one that can't be read is left to the next."""
+        try:
+            look.read()
+            self.shown.tell("read")
+            if look != self.seen:
+                self.seen = look
+                self.take_window(look.cell, layout_of(self.process, look, self.grid))
+        except Unread as fault:
+            self.shown.tell("read")
+            self.shown.say(f"the window isn't followed: {fault}")
+        except LayoutFault as fault:
+            self.shown.say(f"the window isn't followed: {fault}")
+
+    def take_window(self, cell, rects):
+        """Takes what the window holds now: what has changed is pending, and another cell waits until that is sent."""
+        self.waiting = None
+        if self.cell is None:
+            self.show_cell(cell, rects)
+        elif cell != self.cell:
+            self.waiting = (cell, rects)
+        elif rects != self.rects:
+            gone, come = missing(self.rects, rects), missing(rects, self.rects)
+            self.window.exchange(gone, come)
+            self.rects = rects
+            boxes = boxes_round(differing(gone, come))
+            self.pending, self.refused = self.pending + self.refused + boxes, []
+            if self.undecided:
+                self.edited += boxes
+        self.changed.set()
+
+    def show_cell(self, cell, rects):
+        """The window's cell is another one from now on."""
+        self.cell, self.rects, self.window = cell, rects, Layout(rects)
+        self.waiting, self.is_open = None, False
+
+    # ---- the server
+
+    async def run(self):
+        """Follows until the sessions are left or closed."""
+        pause = FIRST_PAUSE
+        while not self.wants_to_end():
+            try:
+                await self.sessions.connect()
+                pause = FIRST_PAUSE
+                await self.follow_all()
+                return
+            except (Lost, OSError, ServedFault, InUse) as fault:
+                self.shown.say(f"the server can't be reached, and is tried again: {fault}")
+                self.show_awaiting()
+                if self.waiting:
+                    self.show_cell(*self.waiting)
+            finally:
+                self.is_open = False
+                await self.sessions.hang_up()
+            await asyncio.sleep(pause)
+            pause = min(2 * pause, LONGEST_PAUSE)
+
+    def wants_to_end(self):
+        return bool({"leave", "close"} & set(self.asked))
+
+    async def follow_all(self):
+        """Follows over these connections, until the sessions are left or closed."""
+        while True:
+            if self.cell is not None:
+                await self.said_where_late(asyncio.ensure_future(self.follow()))
+            if self.waiting:
+                self.show_cell(*self.waiting)
+                continue
+            if self.asked and await self.obey(self.asked.pop(0)):
+                return
+            await self.wait()
+
+    async def said_where_late(self, task):
+        """Waits for a task, and says where it takes long: the network may be cut."""
+        try:
+            done, _ = await asyncio.wait([task], timeout=LATE)
+            if not done:
+                self.shown.say("the server hasn't replied to all yet; the window goes on")
+            await task
+        finally:
+            task.cancel()
+
+    async def wait(self):
+        """Waits until there is something to do; fails where a connection ends."""
+        if not self.asked:
+            changed = asyncio.ensure_future(self.changed.wait())
+            ends = self.sessions.ends()
+            await asyncio.wait([changed, *ends], return_when=asyncio.FIRST_COMPLETED)
+            changed.cancel()
+            if any(each.done() for each in ends):
+                raise Lost("the connection is lost")
+        self.changed.clear()
+
+    async def obey(self, word):
+        """Does what the window has asked for; returns whether that ends it."""
+        if word == "leave":
+            await self.sessions.leave()
+        elif word == "close":
+            await self.sessions.close()
+        elif word == "undo":
+            self.undo()
+        elif word in ("fetch", "send") and self.is_open:
+            await self.compare()
+            await self.decide("server" if word == "fetch" else "window")
+        return word in ("leave", "close")
+
+    async def follow(self):
+        """Brings the sessions in step with the window, and shows what is forbidden."""
+        try:
+            if not self.is_open or (self.pending and not self.is_held):
+                await self.begin()
+            if self.pending and not self.undecided:
+                await self.send()
+        except (OutOfStep, Refused) as fault:
+            self.is_held = False
+            self.pending = []
+            self.shown.say(f"the server refuses the layout: {fault}")
+
+    async def send(self):
+        """Has the sessions show what is pending, and shows what is forbidden round it."""
+        boxes, self.pending = self.pending, []
+        self.show_awaiting(boxes)
+        try:
+            change = [await self.replace(box) for box in boxes_round(boxes)]
+            self.remember([each for each in change if each])
+            await self.show(grown(bounds(boxes), self.halo))
+        except BaseException:
+            self.pending = boxes + self.pending
+            raise
+
+    # ---- opening, and comparing both sides
+
+    async def begin(self):
+        """Opens or resumes the sessions of the window's cell, and compares them with the window."""
+        if not self.is_held:
+            await self.sessions.close()
+        elif self.sessions.places:
+            await self.sessions.leave()
+        if self.chip_cell != self.cell:
+            self.shown.forget()
+            self.replaced, self.undoing = [], []
+        is_new = await self.sessions.open(session_name(self.name, self.cell))
+        was_followed, edited = self.chip_cell == self.cell, [EVERYWHERE] if is_new else self.pending
+        self.chip, self.chip_cell, self.is_open = self.sessions.chip(), self.cell, True
+        self.pending, self.refused, self.undecided, self.edited, self.is_held = [], [], [], [], True
+        self.show_awaiting([EVERYWHERE])
+        try:
+            if is_new:
+                self.shown.say(f"{self.sessions.name} is opened")
+                await self.chip.load(self.listed())
+            else:
+                await self.settle(was_followed, edited)
+        except BaseException:
+            self.pending = edited + self.pending
+            raise
+        await self.show(EVERYWHERE)
+
+    def listed(self):
+        return {name: list(rects) for name, rects in self.rects.items()}
+
+    async def settle(self, was_followed, edited):
+        """Finds where resumed sessions differ from the window, and which side is right there.
+
+        Where only differs what was edited while the sessions weren't at hand, it is the window.
+        """
+        self.chip.take(self.listed())
+        self.chip.is_in_step = True
+        rects = await self.compare()
+        self.shown.say(f"{self.sessions.name} is resumed" + (f", {squares(strips(rects))} squares differ" if rects else ""))
+        if was_followed and all(any(meet(box, each) for each in edited) for box in self.undecided):
+            await self.decide("window")
+        elif rects and self.take is not None:
+            await self.decide(self.take)
+        elif rects:
+            where = ", ".join(map(self.shown.box, self.undecided[:4]))
+            sides = "kolasieve fetch takes the server's layout, kolasieve send the window's"
+            self.shown.say(f"the window and the server differ at {where}: {sides}")
+
+    async def compare(self):
+        """Finds where both sides differ, and returns the rectangles there."""
+        if not self.undecided:
+            self.found_there = await self.sessions.read()
+            self.edited = list(self.pending)
+        rects = apart(self.process, self.window.rects(), self.found_there)
+        self.undecided = boxes_round(rects)
+        return rects
+
+    async def decide(self, side):
+        """Takes the window's layout or the server's where both differ; what was edited meanwhile is the window's."""
+        boxes = self.undecided
+        if side == "server":
+            boxes = outside(boxes, self.edited)
+            there = Layout(layers_of(self.process, self.found_there))
+            for box in boxes:
+                self.chip.keep(box, there.within(box))
+            self.shown.put(self.names(), [(box, there.within(box)) for box in boxes])
+            await self.repair(self.edited)
+        else:
+            await self.repair(boxes)
+        if self.undecided:
+            self.shown.say(f"{len(boxes)} places are as the {side} has them")
+        self.undecided, self.edited = [], []
+
+    async def repair(self, boxes):
+        """Shows the window in the sessions, whatever they have in these boxes."""
+        for box in boxes:
+            self.chip.keep(box, self.window.within(box))
+            await self.chip.repair(box)
+        self.pending += boxes
+
+    def names(self):
+        """Returns the layers that sessions show."""
+        return [layer.name for layer in self.process.layers if layer.images and not layer.parts]
+
+    # ---- changes
+
+    async def replace(self, box):
+        """Has the sessions show in a box what the window has there; returns the box, and what this has replaced in it.
+
+        What is refused twice, the second time by sessions that were made again, is tried with the next change.
+        """
+        before, now = self.chip.within(box), self.window.within(box)
+        for is_last in (False, True):
+            try:
+                await self.chip.replace(box, now)
+                return (box, before) if before != now else None
+            except Refused as fault:
+                if is_last:
+                    self.shown.say(f"the server refuses a change at {self.shown.box(box)}: {fault}")
+                    self.refused.append(box)
+        return None
+
+    def remember(self, change):
+        """Remembers what a change has replaced, unless it undoes another one."""
+        if any(meet(box, each) for box, _ in change for each in self.undoing):
+            self.undoing = []
+        elif change:
+            self.replaced = [*self.replaced[-MOST_CHANGES:], change]
+
+    def undo(self):
+        """Puts back in the window what the last change has replaced."""
+        if not self.replaced:
+            self.shown.say("there is no change to undo")
+            return
+        change = self.replaced.pop()
+        self.undoing = [box for box, _ in change]
+        self.shown.put(self.names(), change)
+
+    # ---- what is forbidden
+
+    async def show(self, rect):
+        """Shows what is forbidden in a rectangle."""
+        try:
+            self.shown.take(rect, await self.chip.violations(rect), self.by_client())
+            self.show_awaiting()
+        except violations.NotChecked as fault:
+            self.shown.say(f"the server doesn't say what is forbidden: {fault}")
+
+    def by_client(self):
+        """Returns what the rules of areas forbid in the whole window."""
+        layers, found = self.window.rects() if self.process.areas else {}, {}
+        for area in self.process.areas:
+            pieces = small_pieces(replace(area, squares=area.squares * self.grid**2), layers)
+            found[area.why] = [rect for piece in pieces for rect in piece]
+        return found
+
+    def show_awaiting(self, boxes=()):
+        """Shows where it isn't known what is forbidden."""
+        self.shown.wait_for([grown(box, self.halo) for box in [*boxes, *self.pending, *self.refused]])
+
+
+def outside(boxes, holes):
+    """Returns boxes without what lies in others."""
+    for hole in holes:
+        boxes = [part for box in boxes for part in (without(box, hole) if meet(box, hole) else [box])]
+    return boxes

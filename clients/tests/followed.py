@@ -1,0 +1,116 @@
+"""A served process to test, whose magicd keep a copy of all lines that reach them."""
+
+import pathlib
+import socket
+import subprocess
+import tempfile
+import time
+import unittest
+
+from tests.magics import compiled
+from tests.serving import GENEROUS, HERE, SERVER, alone
+from tests.squares import squares_shown, squares_told
+
+from kolasieve.served import Served
+
+# Hands lines on to magicd, and writes them to a file whose name has the hash of the technology.
+COPYING = """#!/bin/sh
+for word; do
+    [ "$before" = --tech ] && hash=$(sha256sum < "$word" | cut -d" " -f1)
+    before=$word
+done
+[ -n "$hash" ] || exec {server} "$@"
+tee {folder}/lines.$hash.$(date +%s%N) | {server} "$@"
+"""
+
+
+def free_ports(count):
+    """Returns a port at which nobody listens, nor at those after it."""
+    while True:
+        with socket.socket() as first:
+            first.bind(("127.0.0.1", 0))
+            port = first.getsockname()[1]
+            try:
+                for each in range(1, count):
+                    with socket.socket() as other:
+                        other.bind(("127.0.0.1", port + each))
+            except (OSError, OverflowError):
+                continue
+            return port
+
+
+class ServedCase(unittest.TestCase):
+    """A served process in a folder that goes with the test."""
+
+    technology = "scmos"
+    words = ()
+
+    def setUp(self):
+        folder = tempfile.TemporaryDirectory()
+        self.addCleanup(folder.cleanup)
+        self.folder = pathlib.Path(folder.name)
+        self.process = compiled(self.technology)
+        self.address = self.folder / "address"
+        self.port = free_ports(len(self.process.groups))
+        self.copying = self.folder / "copying"
+        self.copying.write_text(COPYING.format(server=SERVER, folder=self.folder))
+        self.copying.chmod(0o755)
+        self.addCleanup(self.end)
+        self.serve()
+
+    def command(self, *words):
+        where = ["--listen", f"127.0.0.1:{self.port}", "--address", str(self.address), "--token", str(self.folder / "token")]
+        served = ["serve", str(self.process.folder), *where, "--server", str(self.copying)]
+        return [str(HERE.parent / "process"), *served, *self.words, *words]
+
+    def serve(self):
+        """Serves the process, and waits until its address file is there."""
+        self.address.unlink(missing_ok=True)
+        with open(self.folder / "messages", "a", encoding="utf-8") as messages:
+            self.server = subprocess.Popen(self.command(), stderr=messages, start_new_session=True)
+        self.until(self.is_served)
+        self.served = Served.read(self.address)
+
+    def is_served(self):
+        self.assertIsNone(self.server.poll(), self.said())
+        return self.address.exists()
+
+    def said(self):
+        return (self.folder / "messages").read_text(encoding="utf-8")
+
+    def until(self, found, pause=0.1):
+        """Returns what this finds, once it finds something."""
+        end = time.monotonic() + GENEROUS
+        while not (result := found()):
+            if time.monotonic() > end:
+                self.fail("it doesn't come; the relays' messages are: " + self.said())
+            time.sleep(pause)
+        return result
+
+    def end(self):
+        """Ends the relays."""
+        if self.server.poll() is None:
+            self.server.terminate()
+            self.assertEqual(self.server.wait(GENEROUS), 0, self.said())
+
+    def squares(self, name):
+        """Returns what the sessions of a name show, as magicd alone has it from the lines that have reached it so far."""
+        return [self.squares_of(number, name) for number in range(len(self.process.groups))]
+
+    def told(self, layers):
+        """Returns what sessions are to show of layers."""
+        return [squares_told(self.process, number, layers) for number in range(len(self.process.groups))]
+
+    def compare(self, name, layers):
+        """Compares what the sessions of a name show with layers."""
+        self.assertEqual(self.squares(name), self.told(layers))
+
+    def squares_of(self, number, name):
+        path = self.process.groups[number].path
+        lines = max(self.folder.glob(f"lines.{self.served.digests[number]}.*"), key=lambda each: each.name.rpartition(".")[2], default=None)
+        whole = lines.read_text().rpartition("\n")[0].split("\n") if lines else []
+        mine = [line for line in whole if name in line.split()[:2]]
+        if not mine or mine[-1].startswith("%close"):
+            return None
+        reply = alone([*mine, f"%save {name}"], "--quota", "16384", "--journal", "65536", "--tech", str(path))[-1]
+        return squares_shown(self.process, number, reply.partition("\n")[2])

@@ -1,0 +1,124 @@
+-- Squares that rules forbid, found on maps.
+use Rattle.std.proofs.Common.{◌≡◌, ℕ, ◌+◌, ◌-◌, ◌*◌, ◌/◌, ◌≤◌, ◌<◌, max, Bool, true, false, not, ◌||◌, ◌&&◌, List, length, drop, get_or, suc, add-one, drop-cons, refl, sym, ap, ◌∙◌, arith}
+use Rattle.std.proofs.Math.Bool.{and_comm, or_comm}
+use Rattle.std.proofs.lemmas.Nat.{mul-le}
+use Rattle.mls_edgerule.specs.declared.edge_rule.EdgeRule.{EdgeRule}
+use Rattle.mls_geom.specs.Layouts.{Layout}
+use Rattle.mls_edgerule.specs.Halos.{halo_of}
+use Rattle.mls_geom.specs.Rects.{IsRectangleIn, Rect, holds}
+use Rattle.mls_geom.specs.World.{world}
+use Rattle.mls_geom.proofs.Holds.{holds_between}
+use Rattle.mls_checker.specs.Forbids.{forbidden, forbids, is_disallowed, reaches}
+use Rattle.mls_checker.specs.Grids.{Band, IsBand, has_column, squares_of_words}
+use Rattle.mls_checker.specs.Maps.{FitsIn, Frame, GainsDeep, HasDeep, IsDeep, IsRound, Shows, forbidden_by_any, has_place, of_types, place_of, square, with_map}
+use Rattle.mls_checker.proofs.MapReaches.{here-in}
+use Rattle.mls_checker.proofs.FoundSquares.{and_in, in_world}
+use Rattle.mls_checker.proofs.MapWords.{place-at}
+use Rattle.mls_checker.proofs.ReachLemmas.{halo-bounds}
+
+-- what is reached, but for what is allowed
+pub forbidden-found : (rule : EdgeRule) (layout : Layout) (frame : Frame) (reached allowed found : List ℕ)
+    → HasDeep frame (1 + max rule.distance rule.corner_distance) (λ x y. reaches rule layout (square x y)) reached
+    → Shows frame (of_types rule.ok_types (layout rule.check_plane)) allowed
+    → ((n : ℕ) → has_place found n ≡ (has_place reached n && not (has_place allowed n)))
+    → HasDeep frame (1 + max rule.distance rule.corner_distance) (λ x y. forbids rule layout (square x y)) found
+forbidden-found rule layout frame reached allowed found has shown left x y deep =
+    let n = place_of frame x y in
+    left n ∙ ap (λ b. b && not (has_place allowed n)) (has x y deep)
+    ∙ ap (λ b. reaches rule layout (square x y) && not b) (shown x y (here-in frame (1 + max rule.distance rule.corner_distance) x y deep))
+    ∙ and_comm (reaches rule layout (square x y)) (is_disallowed rule layout (square x y))
+
+-- a square of a piece lies deep in a frame round it
+pub deep-in-piece : (frame : Frame) (piece : Rect) (margin depth x y : ℕ) → IsRound frame piece margin → depth ≤ margin → holds piece x y ≡ true → IsDeep frame depth x y
+deep-in-piece frame piece margin depth x y round within here =
+    let lines = holds_between piece x y here in
+    record {
+      left = omega (arith, round.left, lines.0);
+      right = omega (arith, round.right, lines.1);
+      below = omega (arith, round.below, lines.2);
+      above = omega (arith, round.above, lines.3);
+    }
+
+-- ---- bands
+-- a row of a band has a word of the frame
+pub band-word : (frame : Frame) (e : Rect) (first row : ℕ) → FitsIn frame e → e.left < e.right → first ≡ (e.bottom - frame.bottom) * frame.words + (e.left - frame.left) / 64 → e.bottom + row < e.top
+    → first + row * frame.words < frame.words * frame.rows
+band-word frame e first row fits wide is within =
+    let high = mul-le (e.bottom - frame.bottom + row + 1) frame.words frame.rows frame.words (omega (arith, fits.above, fits.below)) (omega arith) in
+    omega (arith, is, fits.left, fits.right, high)
+
+-- the place of a square is one of its row's word
+band-place : (frame : Frame) (e : Rect) (first x y : ℕ) → FitsIn frame e → e.left ≤ x → e.bottom ≤ y → first ≡ (e.bottom - frame.bottom) * frame.words + (e.left - frame.left) / 64
+    → place_of frame x y ≡ 64 * (first + (y - e.bottom) * frame.words) + (x - e.left)
+band-place frame e first x y fits on up is =
+    let rows : y - frame.bottom ≡ (e.bottom - frame.bottom) + (y - e.bottom) = omega (arith, fits.below) in
+    let columns : x - frame.left ≡ 64 * ((e.left - frame.left) / 64) + (x - e.left) = omega (arith, fits.left, fits.even) in
+    ap (λ r. r * (64 * frame.words) + (x - frame.left)) rows ∙ omega (arith, columns, is)
+
+in-band : (here new old m : Bool) → (here ≡ true → new ≡ (old || m)) → (here && new) ≡ ((here && old) || (here && m))
+in-band true new old m is = is refl
+in-band false new old m is = refl
+
+pub band-marked : (frame : Frame) (map : List ℕ) (band : Band) (new : List ℕ) (first x y : ℕ) → IsBand band → FitsIn frame band.area
+    → first ≡ (band.area.bottom - frame.bottom) * frame.words + (band.area.left - frame.left) / 64
+    → ((row column : ℕ) → row < length band.marked → has_column new row column ≡ (has_column band.marked row column || has_column map (first + row * frame.words) column))
+    → squares_of_words band.area new x y ≡ with_map frame map band x y
+band-marked frame map band new first x y is fits first_is gained =
+    in-band (holds band.area x y) (has_column new (y - band.area.bottom) (x - band.area.left)) (has_column band.marked (y - band.area.bottom) (x - band.area.left)) (has_place map (place_of frame x y))
+    (λ here.
+    let lines = holds_between band.area x y here in
+    gained (y - band.area.bottom) (x - band.area.left) (omega (arith, lines.2, lines.3, is.marked))
+    ∙ ap (λ b. has_column band.marked (y - band.area.bottom) (x - band.area.left) || b)
+    (sym (place-at map (place_of frame x y) (first + (y - band.area.bottom) * frame.words) (x - band.area.left) (band-place frame band.area first x y fits lines.0 lines.2 first_is) (omega (arith, lines.0, lines.1, is.narrow)))))
+
+-- ---- rules in turn
+shallower : (frame : Frame) (less more x y : ℕ) → less ≤ more → IsDeep frame more x y → IsDeep frame less x y
+shallower frame less more x y few deep = record {
+  left = omega (arith, deep.left);
+  right = omega (arith, deep.right);
+  below = omega (arith, deep.below);
+  above = omega (arith, deep.above);
+}
+
+-- a rule more, before those that follow it
+one-rule-more : (rules : List EdgeRule) (layout : Layout) (i : ℕ) (rule : EdgeRule) (x y : ℕ) → i < length rules → get_or rules i rule ≡ rule
+    → forbidden_by_any (drop i rules) layout x y ≡ (forbids rule layout (square x y) || forbidden_by_any (drop (i + 1) rules) layout x y)
+one-rule-more rules layout i rule x y below there =
+    ap (λ (rs : List EdgeRule). forbidden_by_any rs layout x y) (drop-cons rules i rule below)
+    ∙ ap (λ r. forbids r layout (square x y) || forbidden_by_any (drop (suc i) rules) layout x y) there
+    ∙ ap (λ k. forbids rule layout (square x y) || forbidden_by_any (drop k rules) layout x y) (sym (add-one i))
+
+pub rule-added : (rules : List EdgeRule) (layout : Layout) (frame : Frame) (i n : ℕ) (rule : EdgeRule) (depth : ℕ) (old new : List ℕ) → i < length rules → n ≡ i + 1 → get_or rules i rule ≡ rule → halo_of rules ≤ depth
+    → HasDeep frame depth (forbidden_by_any (drop n rules) layout) old → GainsDeep frame (1 + max rule.distance rule.corner_distance) (λ x y. forbids rule layout (square x y)) old new
+    → HasDeep frame depth (forbidden_by_any (drop i rules) layout) new
+rule-added rules layout frame i n rule depth old new below next there far before gains x y deep =
+    let bound = halo-bounds rules rule (i, below, there) in
+    gains x y (shallower frame (1 + max rule.distance rule.corner_distance) depth x y (omega arith) deep)
+    ∙ ap (λ b. b || forbids rule layout (square x y)) (before x y deep) ∙ or_comm (forbidden_by_any (drop n rules) layout x y) (forbids rule layout (square x y))
+    ∙ ap (λ k. forbids rule layout (square x y) || forbidden_by_any (drop k rules) layout x y) next ∙ sym (one-rule-more rules layout i rule x y below there)
+
+had-already : (f a : Bool) → (f ≡ true → a ≡ true) → a ≡ (f || a)
+had-already true a has = has refl
+had-already false a has = refl
+
+pub rule-skipped : (rules : List EdgeRule) (layout : Layout) (frame : Frame) (i n : ℕ) (rule : EdgeRule) (depth : ℕ) (old : List ℕ) → i < length rules → n ≡ i + 1 → get_or rules i rule ≡ rule
+    → ((x y : ℕ) → forbids rule layout (square x y) ≡ true → forbidden_by_any (drop n rules) layout x y ≡ true)
+    → HasDeep frame depth (forbidden_by_any (drop n rules) layout) old → HasDeep frame depth (forbidden_by_any (drop i rules) layout) old
+rule-skipped rules layout frame i n rule depth old below next there covered before x y deep =
+    before x y deep ∙ had-already (forbids rule layout (square x y)) (forbidden_by_any (drop n rules) layout x y) (covered x y)
+    ∙ ap (λ k. forbids rule layout (square x y) || forbidden_by_any (drop k rules) layout x y) next ∙ sym (one-rule-more rules layout i rule x y below there)
+
+-- ---- the piece
+pub marks-found : (rules : List EdgeRule) (layout : Layout) (frame : Frame) (piece : Rect) (map : List ℕ) (x y : ℕ) → IsRound frame piece (halo_of rules)
+    → HasDeep frame (halo_of rules) (forbidden_by_any rules layout) map
+    → (holds piece x y && has_place map (place_of frame x y)) ≡ (holds piece x y && forbidden_by_any rules layout x y)
+marks-found rules layout frame piece map x y round has =
+    and_in (holds piece x y) (has_place map (place_of frame x y)) (forbidden_by_any rules layout x y)
+    (λ here. has x y (deep-in-piece frame piece (halo_of rules) (halo_of rules) x y round (omega arith) here))
+
+-- a piece lies in the world
+pub forbidden-in : (rules : List EdgeRule) (layout : Layout) (piece : Rect) (x y : ℕ) → IsRectangleIn world piece
+    → (holds piece x y && forbidden_by_any rules layout x y) ≡ (holds piece x y && forbidden rules layout x y)
+forbidden-in rules layout piece x y inside =
+    and_in (holds piece x y) (forbidden_by_any rules layout x y) (forbidden rules layout x y)
+    (λ here. ap (λ b. b && forbidden_by_any rules layout x y) (sym (in_world piece x y inside here)))

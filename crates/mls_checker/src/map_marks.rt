@@ -1,0 +1,140 @@
+//! Marks that are found on maps of one bit a square.
+ghost use Rattle.std.specs.Prelude.{◌≡◌, ◌+◌, ◌*◌, ◌≤◌, ◌&&◌, ℕ, max, false, length, IfOk};
+ghost use Rattle.mls_checker.specs.Copies.{copied_layout};
+ghost use Rattle.mls_checker.specs.Forbids.{forbids};
+ghost use Rattle.mls_checker.specs.Maps.{AreTypeMaps, GainsDeep, HasDeep, IsRound, forbidden_by_any, has_place, square};
+ghost use Rattle.mls_checker.specs.Marking.{marks};
+ghost use Rattle.mls_edgerule.specs.Halos.{halo_of};
+ghost use Rattle.mls_geom.specs.Rects.{holds};
+
+use crate::covering::is_needed;
+use crate::grid::Grid;
+use crate::map_frame::Frame;
+use crate::map_words::leave_out;
+use crate::reach_maps::ReachMaps;
+use crate::runs::areas_of;
+use crate::type_map::{TypeMap, TypeMaps, list_maps, load_types};
+use crate::words::join;
+use crate::{Marks, Snapshot};
+use mls_edgerule::EdgeRule;
+use mls_geom::Rect;
+use std::alloc::{AllocError, Global};
+
+/// The maps on which the squares are found that rules forbid.
+#[derive(Drop)]
+struct MapMarks {
+    frame: Frame,
+    types: TypeMaps,
+    reach: ReachMaps,
+    reached: Vec<u64>,
+    allowed: Vec<u64>,
+    marked: Vec<u64>,
+    ghost types_framed: { types.frame ≡ frame },
+    ghost reach_framed: { reach.frame ≡ frame },
+    ghost reached_sized: { length reached.items ≡ frame.words * frame.rows },
+    ghost allowed_sized: { length allowed.items ≡ frame.words * frame.rows },
+    ghost marked_sized: { length marked.items ≡ frame.words * frame.rows },
+}
+
+impl MapMarks {
+    /// Makes maps of a frame, in which no square is marked.
+    fn new(alloc: Global, frame: Frame) -> Result<MapMarks, AllocError>
+        ensures frame { IfOk result (λ marks. marks.frame ≡ frame) }
+        ensures marked { IfOk result (λ marks. (n : ℕ) → has_place marks.marked.items n ≡ false) }
+    {
+        let size = frame.size();
+        Ok(MapMarks {
+            frame,
+            types: TypeMaps::new(alloc, frame)?,
+            reach: ReachMaps::new(alloc, frame)?,
+            reached: vec![in alloc; 0; size]?,
+            allowed: vec![in alloc; 0; size]?,
+            marked: vec![in alloc; 0; size]?,
+        })
+    }
+
+    /// Finds the squares that the rule forbids.
+    fn find(&mut self, kept: &[TypeMap], rule: &EdgeRule, snapshot: &Snapshot)
+        requires { AreTypeMaps self.old.frame (copied_layout snapshot.now) kept.now }
+        ensures frame { self.new.frame ≡ self.old.frame }
+        ensures marked { self.new.marked ≡ self.old.marked }
+        ensures reached { HasDeep self.old.frame (1 + max rule.now.distance rule.now.corner_distance)
+            (λ x y. forbids rule.now (copied_layout snapshot.now) (square x y)) self.new.reached.items }
+    {
+        self.types.show(kept, rule, snapshot);
+        self.reach.find_reach(&mut self.reached, &self.types, rule);
+        load_types(
+            &mut self.allowed,
+            kept,
+            self.frame,
+            snapshot,
+            rule.check_plane,
+            rule.ok_types,
+        );
+        leave_out(&mut self.reached, &self.allowed);
+    }
+
+    /// Marks the squares that the rule forbids.
+    fn add(&mut self, kept: &[TypeMap], rule: &EdgeRule, snapshot: &Snapshot)
+        requires { AreTypeMaps self.old.frame (copied_layout snapshot.now) kept.now }
+        ensures frame { self.new.frame ≡ self.old.frame }
+        ensures marked { GainsDeep self.old.frame (1 + max rule.now.distance rule.now.corner_distance)
+            (λ x y. forbids rule.now (copied_layout snapshot.now) (square x y))
+            self.old.marked.items self.new.marked.items }
+    {
+        self.find(kept, rule, snapshot);
+        join(&mut self.marked, &self.reached);
+    }
+
+    /// Returns the marked squares.
+    fn marked(&self) -> &[u64]
+        ensures { result.now ≡ self.now.marked.items }
+    {
+        &self.marked
+    }
+}
+
+/// Marks on maps of a frame the squares that the rules forbid.
+fn find_forbidden(
+    alloc: Global,
+    rules: &[EdgeRule],
+    snapshot: &Snapshot,
+    frame: Frame,
+) -> Result<MapMarks, AllocError>
+    ensures frame { IfOk result (λ marks. marks.frame ≡ frame) }
+    ensures marked { IfOk result (λ marks. (depth : ℕ) → halo_of rules.now ≤ depth
+        → HasDeep frame depth (forbidden_by_any rules.now (copied_layout snapshot.now)) marks.marked.items) }
+{
+    let mut marks = MapMarks::new(alloc, frame)?;
+    let kept = list_maps(alloc, rules, snapshot, frame);
+    let mut index = rules.len();
+    'rules: while index > 0 {
+        let later = &rules[index..];
+        index -= 1;
+        let rule = &rules[index];
+        if is_needed(rule, later, snapshot) {
+            marks.add(&kept, rule, snapshot);
+        }
+    }
+    Ok(marks)
+}
+
+/// Finds the squares of a piece that the rules forbid, on maps of the piece with so many squares more on each side.
+pub(crate) fn mark_on_maps(
+    alloc: Global,
+    rules: &[EdgeRule],
+    snapshot: &Snapshot,
+    piece: Rect,
+    frame: Frame,
+) -> Result<Marks, AllocError>
+    requires { IsRound frame piece (halo_of rules.now) }
+    ensures rect { IfOk result (λ marked. marked.rect ≡ piece) }
+    ensures marks { IfOk result (λ marked. (x y : ℕ) → marks marked x y
+        ≡ (holds piece x y && forbidden_by_any rules.now (copied_layout snapshot.now) x y)) }
+{
+    let found = find_forbidden(alloc, rules, snapshot, frame)?;
+    let mut grid = Grid::new(alloc, piece)?;
+    grid.mark(found.marked(), frame);
+    let areas = areas_of(alloc, &grid)?;
+    Ok(Marks { rect: piece, areas })
+}

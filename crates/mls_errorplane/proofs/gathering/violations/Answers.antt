@@ -1,0 +1,57 @@
+use Rattle.std.proofs.Common.{ℕ, List, ap, subst, sym, ◌∙◌, arith}
+use Rattle.mls_tilepool.specs.Pools.{Pool}
+use Rattle.mls_layout.specs.Uses.{flat_layout}
+use Rattle.mls_layout.proofs.LentPlanes.{lent-same}
+use Rattle.mls_geom.specs.Layouts.{Layout}
+use Rattle.mls_checker.specs.Violations.{GainViolations}
+use Rattle.mls_errorplane.specs.Violations.{strip_count}
+use Rattle.mls_errorplane.proofs.GatheredViolations.{listed-violations, violations-none}
+use Rattle.mls_errorplane.proofs.gathering.violations.Goals as goal
+
+-- nothing is forbidden in the rectangle
+pub returns-then-is_empty-clause-value : goal.returns-then-is_empty-clause-value
+returns-then-is_empty-clause-value c =
+    let layout = flat_layout c.args.workspace.now.pool c.args.basis.now.uses c.args.planes.now in
+    c.new.ensures.items ∙ sym (violations-none c.args.basis.now.rules.now c.args.rect layout c.in_ok-violated.violated c.in_ok-violated.ensures.value (c.is_empty.ensures.rules.0 c.if-is_empty.true))
+
+pub returns-then-is_empty-clause-within : goal.returns-then-is_empty-clause-within
+returns-then-is_empty-clause-within c =
+    let layout = flat_layout c.args.workspace.now.pool c.args.basis.now.uses c.args.planes.now in
+    let none = violations-none c.args.basis.now.rules.now c.args.rect layout c.in_ok-violated.violated c.in_ok-violated.ensures.value (c.is_empty.ensures.rules.0 c.if-is_empty.true) in
+    omega (arith, ap strip_count none)
+
+pub returns-clause-value : goal.returns-clause-value
+returns-clause-value c =
+    let rules = c.args.basis.now.rules.now in
+    let pool = c.args.workspace.now.pool in
+    let shown = λ (p : Pool) (planes : List ℕ). flat_layout p c.args.basis.now.uses planes in
+    let layout = shown pool c.args.planes.now in
+    let violated = c.in_ok-violated.violated in
+    let lent = lent-same shown pool c.why.new.workspace.pool c.args.planes.now c.why.new.planes c.in_ok-violated.ensures.pool c.in_ok-violated.ensures.owners in
+    let gained = subst (λ (l : Layout). GainViolations rules violated c.args.rect l c.in_ok-found.found c.gather.new.found) lent c.in_ok-gather.ensures.gathered in
+    let same = listed-violations rules violated c.args.rect layout c.in_ok-found.found c.gather.new.found c.in_ok-violated.ensures.value c.in_ok-found.ensures.none gained in
+    rw same at c.list_violations.ensures.value
+
+pub returns-clause-within : goal.returns-clause-within
+returns-clause-within c =
+    let rules = c.args.basis.now.rules.now in
+    let pool = c.args.workspace.now.pool in
+    let shown = λ (p : Pool) (planes : List ℕ). flat_layout p c.args.basis.now.uses planes in
+    let layout = shown pool c.args.planes.now in
+    let violated = c.in_ok-violated.violated in
+    let lent = lent-same shown pool c.why.new.workspace.pool c.args.planes.now c.why.new.planes c.in_ok-violated.ensures.pool c.in_ok-violated.ensures.owners in
+    let gained = subst (λ (l : Layout). GainViolations rules violated c.args.rect l c.in_ok-found.found c.gather.new.found) lent c.in_ok-gather.ensures.gathered in
+    let same = listed-violations rules violated c.args.rect layout c.in_ok-found.found c.gather.new.found c.in_ok-violated.ensures.value c.in_ok-found.ensures.none gained in
+    rw same at c.list_violations.ensures.within
+
+pub returns-clause-too_many : goal.returns-clause-too_many
+returns-clause-too_many c =
+    let rules = c.args.basis.now.rules.now in
+    let pool = c.args.workspace.now.pool in
+    let shown = λ (p : Pool) (planes : List ℕ). flat_layout p c.args.basis.now.uses planes in
+    let layout = shown pool c.args.planes.now in
+    let violated = c.in_ok-violated.violated in
+    let lent = lent-same shown pool c.why.new.workspace.pool c.args.planes.now c.why.new.planes c.in_ok-violated.ensures.pool c.in_ok-violated.ensures.owners in
+    let gained = subst (λ (l : Layout). GainViolations rules violated c.args.rect l c.in_ok-found.found c.gather.new.found) lent c.in_ok-gather.ensures.gathered in
+    let same = listed-violations rules violated c.args.rect layout c.in_ok-found.found c.gather.new.found c.in_ok-violated.ensures.value c.in_ok-found.ensures.none gained in
+    rw same at c.list_violations.ensures.too_many

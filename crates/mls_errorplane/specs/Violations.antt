@@ -1,0 +1,47 @@
+-- What rules forbid in a rectangle of a layout, rule by rule, as maximal strips. This project's own.
+use Rattle.std.specs.Prelude.{ℕ, ◌-◌, ◌&&◌, ◌==◌, List, map, filter, length, slice_get}
+use Rattle.std.specs.List.{list_any, sum_by}
+use Rattle.mls_edgerule.specs.RuleSets.{rules_in}
+use Rattle.mls_edgerule.specs.declared.edge_rule.EdgeRule.{EdgeRule}
+use Rattle.mls_geom.specs.Layouts.{Layout}
+use Rattle.mls_geom.specs.Rects.{Rect, holds}
+use Rattle.mls_geom.specs.StripLists.{strips_of}
+use Rattle.mls_geom.specs.World.{world}
+use Rattle.mls_checker.specs.Findings.{violated_rules}
+use Rattle.mls_checker.specs.Marking.{SquareSet, squares_of}
+use Rattle.mls_checker.specs.Violations.{areas_at, violations_of}
+use Rattle.mls_errorplane.specs.ErrorPlanes.{marks_picture}
+
+-- the maximal strips of the squares that a set has in the world, by bottom and then left
+unfoldable pub set_strips : SquareSet → List Rect
+set_strips set = map (λ piece. piece.rect) (filter (λ piece. piece.kind == 1) (strips_of world (marks_picture set)))
+
+-- a rule by its number, counted from 1, and strips of the squares that it forbids
+pub record Violation : Type 0 where
+  pub rule : ℕ
+  pub strips : List Rect
+
+-- rule n and what it forbids in the rectangle
+abbrev pub violation_of : List EdgeRule → Rect → Layout → ℕ → Violation
+violation_of rules rect layout n = record { rule = n; strips = set_strips (violations_of (slice_get rules (n - 1)) rect layout) }
+
+-- each rule that forbids some square of the rectangle, by rising number, and what it forbids there
+unfoldable pub violations_in : List EdgeRule → Rect → Layout → List Violation
+violations_in rules rect layout = map (violation_of rules rect layout) (rules_in (violated_rules rules rect layout))
+
+-- how many strips all of these rules have together
+abbrev pub strip_count : List Violation → ℕ
+strip_count violations = sum_by (λ violation. length violation.strips) violations
+
+-- the squares of all their strips
+abbrev pub squares_in_all : List Violation → SquareSet
+squares_in_all violations x y = list_any (λ violation. squares_of violation.strips x y) violations
+
+-- ---- from areas
+-- the squares of the rectangle that areas have
+abbrev pub squares_within : Rect → List Rect → SquareSet
+squares_within rect areas x y = holds rect x y && squares_of areas x y
+
+-- rule n, and the strips of what its areas have of the rectangle
+abbrev pub listed_violation : Rect → List (List Rect) → ℕ → Violation
+listed_violation rect lists n = record { rule = n; strips = set_strips (squares_within rect (areas_at lists (n - 1))) }

@@ -1,0 +1,149 @@
+//! What rules forbid in a rectangle of a layout, whatever its size, rule by rule.
+ghost use Rattle.std.specs.Prelude.{◌≡◌, ◌<◌, ◌≤◌, ◌++◌, ◌∷◌, [], ℕ, None, length, map, IfErr, IfOk, IfSome, OnOk};
+ghost use Rattle.mls_checker.specs.Violations.{GainSomeViolations, GainViolations};
+ghost use Rattle.mls_edgerule.specs.RuleSets.{rules_in};
+ghost use Rattle.mls_layout.specs.Strips.{IfTooMany};
+ghost use Rattle.mls_layout.specs.Uses.{HasLayout, flat_layout};
+ghost use Rattle.mls_errorplane.specs.Halves.{AreHalves};
+ghost use Rattle.mls_errorplane.specs.Violations.{listed_violation, strip_count, violations_in};
+
+use crate::Basis;
+use crate::dirty::lies_in_world;
+use crate::halving::{halves, longer_halves};
+use crate::set_strips::find_strips;
+use crate::violated::why;
+use crate::violation::Violation;
+use mls_checker::{Snapshot, Violations};
+use mls_edgerule::RuleSet;
+use mls_geom::Rect;
+use mls_layout::{Unlisted, Workspace};
+use mls_stitch::Plane;
+use std::alloc::{AllocError, Global};
+
+/// Returns each rule that forbids some square of the rectangle in the layout on these planes with the uses, by rising
+/// number, with the maximal strips of the squares that it forbids there.
+///
+/// First [`why`] finds these rules; then the rectangle is read once more for what they forbid. Fails if they have more
+/// than `limit` strips together, or memory runs out.
+pub fn violations(
+    alloc: Global,
+    planes: &mut [Plane],
+    basis: &Basis<'_>,
+    rect: Rect,
+    limit: usize,
+    workspace: &mut Workspace,
+) -> Result<Vec<Violation>, Unlisted>
+    requires layout { HasLayout workspace.old.pool planes.old basis.now.uses.library.now }
+    ensures value { IfOk result (λ list. list.items ≡ violations_in basis.now.rules.now rect
+        (flat_layout workspace.old.pool basis.now.uses planes.old)) }
+    ensures within { OnOk result (strip_count (violations_in basis.now.rules.now rect
+        (flat_layout workspace.old.pool basis.now.uses planes.old)) ≤ limit) }
+    ensures too_many { IfErr result (λ fault. IfTooMany fault (limit < strip_count (violations_in basis.now.rules.now
+        rect (flat_layout workspace.old.pool basis.now.uses planes.old)))) }
+    ensures owners { planes.new ≡ planes.old }
+    ensures pool { workspace.new.pool ≡ workspace.old.pool }
+{
+    let violated = why(alloc, planes, basis, rect, workspace)?;
+    if violated.is_empty() {
+        return Ok(Vec::new(alloc));
+    }
+    let mut found = Violations::new(alloc, basis.rules)?;
+    gather(alloc, planes, basis, violated, rect, &mut found, workspace)?;
+    list_violations(alloc, violated, &found, rect, limit)
+}
+
+/// Gathers areas of the squares of the rectangle that the rules of the set forbid.
+fn gather(
+    alloc: Global,
+    planes: &mut [Plane],
+    basis: &Basis<'_>,
+    of: RuleSet,
+    rect: Rect,
+    found: &mut Violations,
+    workspace: &mut Workspace,
+) -> Result<(), AllocError>
+    requires layout { HasLayout workspace.old.pool planes.old basis.now.uses.library.now }
+    requires as_many { length found.old ≡ length basis.now.rules.now }
+    ensures gathered { OnOk result (GainViolations basis.now.rules.now of rect
+        (flat_layout workspace.old.pool basis.now.uses planes.old) found.old found.new) }
+    ensures owners { planes.new ≡ planes.old }
+    ensures pool { workspace.new.pool ≡ workspace.old.pool }
+{
+    let cut = gather_or_cut(alloc, planes, basis, of, rect, found, workspace)?;
+    let Some(parts) = cut else {
+        return Ok(());
+    };
+    gather(alloc, planes, basis, of, parts.0, found, workspace)?;
+    gather(alloc, planes, basis, of, parts.1, found, workspace)
+}
+
+/// Gathers areas of the squares of the rectangle that the rules of the set forbid, or returns its halves, where many
+/// tiles or many areas lie in a large rectangle. Some areas may have been added then.
+fn gather_or_cut(
+    alloc: Global,
+    planes: &mut [Plane],
+    basis: &Basis<'_>,
+    of: RuleSet,
+    rect: Rect,
+    found: &mut Violations,
+    workspace: &mut Workspace,
+) -> Result<Option<(Rect, Rect)>, AllocError>
+    requires layout { HasLayout workspace.old.pool planes.old basis.now.uses.library.now }
+    requires as_many { length found.old ≡ length basis.now.rules.now }
+    ensures gathered { IfOk result (λ parts. parts ≡ None → GainViolations basis.now.rules.now of rect
+        (flat_layout workspace.old.pool basis.now.uses planes.old) found.old found.new) }
+    ensures some { IfOk result (λ parts. IfSome parts (λ halves. GainSomeViolations basis.now.rules.now of rect
+        (flat_layout workspace.old.pool basis.now.uses planes.old) found.old found.new)) }
+    ensures halves { IfOk result (λ parts. IfSome parts (λ halves. AreHalves rect halves.0 halves.1)) }
+    ensures owners { planes.new ≡ planes.old }
+    ensures pool { workspace.new.pool ≡ workspace.old.pool }
+{
+    if let Some(parts) = halves(planes, &basis.uses, rect, workspace) {
+        return Ok(Some(parts));
+    }
+    lies_in_world(rect);
+    let zone = rect.grow(basis.rules.halo());
+    let mut snapshot = Snapshot::read(alloc, planes, &basis.uses, zone, workspace)?;
+    snapshot.stitch(alloc)?;
+    if found.find(alloc, basis.rules, of, &snapshot, rect)? {
+        return Ok(None);
+    }
+    Ok(Some(longer_halves(rect)))
+}
+
+/// Lists for each rule of the set the maximal strips of what its areas have of the rectangle.
+///
+/// Fails if there are more than `limit` strips together, or memory runs out.
+fn list_violations(
+    alloc: Global,
+    of: RuleSet,
+    found: &Violations,
+    rect: Rect,
+    limit: usize,
+) -> Result<Vec<Violation>, Unlisted>
+    ensures value { IfOk result (λ list. list.items ≡ map (listed_violation rect found.now) (rules_in of)) }
+    ensures within { OnOk result (strip_count (map (listed_violation rect found.now) (rules_in of)) ≤ limit) }
+    ensures too_many { IfErr result (λ fault. IfTooMany fault
+        (limit < strip_count (map (listed_violation rect found.now) (rules_in of)))) }
+{
+    let mut list = Vec::new(alloc);
+    let mut left = limit;
+    for rule in of.iter() {
+        let strips = find_strips(alloc, rect, found.areas(rule.saturating_sub(1)), left)?;
+        left -= strips.len();
+        push_violation(rule, strips, &mut list)?;
+    }
+    Ok(list)
+}
+
+/// Adds a rule and the strips of what it forbids.
+fn push_violation(
+    rule: usize,
+    strips: Vec<Rect>,
+    list: &mut Vec<Violation>,
+) -> Result<(), AllocError>
+    ensures { OnOk result (list.new.items ≡ list.old.items ++ record { rule = rule; strips = strips.items } ∷ []) }
+{
+    list.push(Violation { rule, strips })?;
+    Ok(())
+}
