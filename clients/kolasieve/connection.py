@@ -2,6 +2,7 @@
 
 import asyncio
 import hmac
+import itertools
 import re
 
 from kolasieve.edits import COMPACT, RELAYED
@@ -14,7 +15,7 @@ from kolasieve.restoring import Unplayed
 from kolasieve.session import MOST_ENDS
 from kolasieve.sharing import USERS, Unshown
 from kolasieve.starting import Failing
-from kolasieve.turns import Turns
+from kolasieve.turns import Turns, give_way
 
 # How many lines may wait for their replies.
 MOST_UNANSWERED = 1000
@@ -55,6 +56,7 @@ class Connection:
             if await self.may_come_in():
                 while (text := await self.next_line()) not in (None, END):
                     await self.take(Line.of(text))
+                    await give_way(self.lines)
         except (ConnectionError, BrokenPipeError):
             pass
         finally:
@@ -240,7 +242,11 @@ class Connection:
 
     async def write_replies(self):
         is_there = True
-        while (queued := await self.replies.get()) is not None:
+        for written in itertools.count(1):
+            await give_way(written)
+            queued = await self.replies.get()
+            if queued is None:
+                return
             reply, is_text = queued
             text = reply if isinstance(reply, bytes) else await reply
             self.unanswered.release()

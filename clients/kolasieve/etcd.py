@@ -138,16 +138,19 @@ class Etcd:
         found = await self.call("range", etcdrpc.RangeRequest(key=key))
         return found.kvs[0] if found.kvs else None
 
-    async def get_all(self, prefix):
-        """Returns all keys that begin so, in their order."""
-        found = []
+    async def pages(self, prefix):
+        """Yields all keys that begin so, in their order, some at a time: others' calls come between them."""
         start, end = prefix, after(prefix)
         while True:
             reply = await self.call("range", etcdrpc.RangeRequest(key=start, range_end=end, limit=PAGE))
-            found.extend(reply.kvs)
+            yield reply.kvs
             if not reply.more:
-                return found
-            start = found[-1].key + b"\0"
+                return
+            start = reply.kvs[-1].key + b"\0"
+
+    async def get_all(self, prefix):
+        """Returns all keys that begin so, in their order."""
+        return [each async for page in self.pages(prefix) for each in page]
 
     # ---- leases
 

@@ -207,7 +207,8 @@ class EtcdLog(Log):
 
     async def rows_of(self, id):
         last = await self.etcd.get(self.key("last", id))
-        return [as_row(each) for each in await self.etcd.get_all(self.key("lines", id, ""))], last and last.value.decode()
+        rows = [as_row(each) async for page in self.etcd.pages(self.key("lines", id, "")) for each in page]
+        return rows, last and last.value.decode()
 
     def row_key(self, id, row):
         return self.key("lines", id, f"{row.number:010d}.{row.part:06d}" if row.part else f"{row.number:010d}")

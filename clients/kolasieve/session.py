@@ -14,6 +14,7 @@ from kolasieve.lines import Line, is_journalled
 from kolasieve.log import LogFault, title
 from kolasieve.program import Ended, Unsent
 from kolasieve.restoring import Unplayed, play_edits, play_rows
+from kolasieve.turns import give_way
 
 log = logging.getLogger("relay")
 
@@ -111,11 +112,14 @@ class Session:
 
     async def answer_all(self):
         """Waits for replies, one after another, until no line waits."""
+        answered = 0
         try:
             while self.waiting:
                 await self.answer(self.waiting[0])
                 self.waiting.popleft()
                 self.sent = max(self.sent - 1, 0)
+                answered += 1
+                await give_way(answered)
         finally:
             self.task = None
 

@@ -9,6 +9,15 @@ LONG = {b"%open", b"%close", b"@resume", b"@reopen", b"@leave"}
 # How many of them a connection may have under way at a time.
 MOST_AT_ONCE = 4
 
+# After how many rounds a loop that may not have to wait lets others go on.
+IN_A_ROW = 50
+
+
+async def give_way(rounds):
+    """Lets others go on, once in so many rounds of a loop that may not have to wait."""
+    if rounds % IN_A_ROW == 0:
+        await asyncio.sleep(0)
+
 
 class Turns:
     """The lines that wait for one of their session, by its name."""
