@@ -37,8 +37,12 @@ class GroupRelay:
 
     @classmethod
     async def start(cls, command, title):
-        """Starts a relay, which gets no Ctrl-C of a terminal by itself."""
-        return cls(await asyncio.create_subprocess_exec(*command, stderr=asyncio.subprocess.PIPE, start_new_session=True), title)
+        """Starts a relay, which gets no Ctrl-C of a terminal by itself.
+
+        Nothing is written to its input, which ends with this process, however that comes.
+        """
+        pipe = asyncio.subprocess.PIPE
+        return cls(await asyncio.create_subprocess_exec(*command, stdin=pipe, stderr=pipe, start_new_session=True), title)
 
     async def tell(self):
         """Passes messages on until the relay ends."""
@@ -81,7 +85,7 @@ class Relays:
     def command(self, number, technology):
         """Returns the command that starts a group's relay."""
         command = [str(pathlib.Path(__file__).resolve().parent.parent / "relay"), "--listen", self.address(number)]
-        command += ["--server", self.words.server, "--tech", technology]
+        command += ["--until-input-ends", "--server", self.words.server, "--tech", technology]
         if self.token is not None:
             command += ["--token", self.token]
         if self.words.log:

@@ -1,4 +1,7 @@
-"""Ctrl-C and SIGTERM: the relay ends soon, whatever waits. All that was replied to is in the log, if there is one."""
+"""Ctrl-C, SIGTERM, or the end of input: the relay ends soon, whatever waits.
+
+All that was replied to is in the log, if there is one.
+"""
 
 import asyncio
 import os
@@ -26,6 +29,17 @@ def when_asked():
     for name in (signal.SIGINT, signal.SIGTERM):
         signal.signal(name, ask)
     return asked
+
+
+def ask_at_the_end_of_input():
+    """Asks for the end, as SIGTERM does, once standard input ends: so it does with who holds its other end."""
+
+    def watch():
+        while os.read(0, 4096):
+            pass
+        os.kill(os.getpid(), signal.SIGTERM)
+
+    threading.Thread(target=watch, daemon=True).start()
 
 
 async def in_order(ending):

@@ -1,4 +1,4 @@
-"""A served process to test, whose magicd keep a copy of all lines that reach them."""
+"""A served process to test, whose sessions are looked at beside who has them."""
 
 import pathlib
 import socket
@@ -8,21 +8,10 @@ import time
 import unittest
 
 from tests.magics import compiled
-from tests.serving import GENEROUS, HERE, SERVER, alone
+from tests.serving import GENEROUS, HERE, SERVER, Client
 from tests.squares import squares_shown, squares_told
 
 from kolasieve.served import Served
-
-# Hands lines on to magicd, and writes them to a file whose name has the hash of the technology.
-COPYING = """#!/bin/sh
-for word; do
-    [ "$before" = --tech ] && hash=$(sha256sum < "$word" | cut -d" " -f1)
-    before=$word
-done
-[ -n "$hash" ] || exec {server} "$@"
-tee {folder}/lines.$hash.$(date +%s%N) | {server} "$@"
-"""
-
 
 def free_ports(count):
     """Returns a port at which nobody listens, nor at those after it."""
@@ -52,15 +41,15 @@ class ServedCase(unittest.TestCase):
         self.process = compiled(self.technology)
         self.address = self.folder / "address"
         self.port = free_ports(len(self.process.groups))
-        self.copying = self.folder / "copying"
-        self.copying.write_text(COPYING.format(server=SERVER, folder=self.folder))
-        self.copying.chmod(0o755)
+        # A connection to each group's relay.
+        self.lookers = {}
+        self.addCleanup(self.hang_up)
         self.addCleanup(self.end)
         self.serve()
 
     def command(self, *words):
         where = ["--listen", f"127.0.0.1:{self.port}", "--address", str(self.address), "--token", str(self.folder / "token")]
-        served = ["serve", str(self.process.folder), *where, "--server", str(self.copying)]
+        served = ["serve", str(self.process.folder), *where, "--server", SERVER]
         return [str(HERE.parent / "process"), *served, *self.words, *words]
 
     def serve(self):
@@ -94,7 +83,7 @@ class ServedCase(unittest.TestCase):
             self.assertEqual(self.server.wait(GENEROUS), 0, self.said())
 
     def squares(self, name):
-        """Returns what the sessions of a name show, as magicd alone has it from the lines that have reached it so far."""
+        """Returns what the sessions of a name show that are in use; nothing where one isn't."""
         return [self.squares_of(number, name) for number in range(len(self.process.groups))]
 
     def told(self, layers):
@@ -106,11 +95,23 @@ class ServedCase(unittest.TestCase):
         self.assertEqual(self.squares(name), self.told(layers))
 
     def squares_of(self, number, name):
-        path = self.process.groups[number].path
-        lines = max(self.folder.glob(f"lines.{self.served.digests[number]}.*"), key=lambda each: each.name.rpartition(".")[2], default=None)
-        whole = lines.read_text().rpartition("\n")[0].split("\n") if lines else []
-        mine = [line for line in whole if name in line.split()[:2]]
-        if not mine or mine[-1].startswith("%close"):
-            return None
-        reply = alone([*mine, f"%save {name}"], "--quota", "16384", "--journal", "65536", "--tech", str(path))[-1]
-        return squares_shown(self.process, number, reply.partition("\n")[2])
+        head, _, text = self.shown(number, name).partition("\n")
+        return squares_shown(self.process, number, text) if head.startswith(f"{name} saved ") else None
+
+    def shown(self, number, name):
+        """Returns what a group's relay replies to who wants to see a session."""
+        if number not in self.lookers:
+            self.lookers[number] = Client(("127.0.0.1", self.port + number))
+            self.lookers[number].send((self.folder / "token").read_text())
+        try:
+            if reply := self.lookers[number].ask(f"@show {name}")[0]:
+                return reply
+        except OSError:
+            pass
+        # The relay was started again.
+        self.lookers.pop(number).close()
+        return self.shown(number, name)
+
+    def hang_up(self):
+        for client in self.lookers.values():
+            client.close()

@@ -18,7 +18,7 @@ import aiohttp
 from tests import test_magic
 from tests.days import DayWithoutEnd, KillsInEtcd, KillsInFile, RestoredFromEtcd, RestoredFromFile
 from tests.magics import flattened_by_magic, violations_by_magic, write_cell
-from tests.serving import RelayCase, alone, programs, random_lines
+from tests.serving import RelayCase, alone, fields_of, programs, random_lines
 from tests.test_chip import Comparing, reach_of
 from tests.test_etcd import EtcdCase
 from tests.test_log import LoggedCase, commands
@@ -52,16 +52,9 @@ async def ask_each(path, name, lines, times):
     return replies
 
 
-def fields_of(pids):
-    """Returns the fields of /proc/PID/stat behind the command's name."""
-    for pid in pids:
-        with open(f"/proc/{pid}/stat", encoding="utf-8") as file:
-            yield file.read().rpartition(")")[2].split()
-
-
-def processor_time(processes):
-    """Returns how many seconds of a processor these have used."""
-    return sum(sum(map(int, fields[11:13])) for fields in processes) / os.sysconf("SC_CLK_TCK")
+def processor_time(numbers):
+    """Returns how many seconds of a processor these processes have used."""
+    return sum(sum(map(int, fields_of(number)[11:13])) for number in numbers) / os.sysconf("SC_CLK_TCK")
 
 
 class Many:
@@ -81,7 +74,7 @@ class Many:
         times = []
         served = [pid for relay, _ in relays for pid in programs(relay)]
         parts = [[relay.pid for relay, _ in relays], served, self.others()]
-        before = [processor_time(fields_of(pids)) for pids in parts]
+        before = [processor_time(pids) for pids in parts]
 
         async def run():
             return await asyncio.gather(*(
@@ -91,7 +84,7 @@ class Many:
         start = time.perf_counter()
         found = asyncio.run(run())
         seconds = time.perf_counter() - start
-        used = [processor_time(fields_of(pids)) - earlier for pids, earlier in zip(parts, before)]
+        used = [processor_time(pids) - earlier for pids, earlier in zip(parts, before)]
         for lines, replies in zip(scripts, found):
             self.assertEqual(replies, alone(lines))
         times.sort()
@@ -311,11 +304,11 @@ class Watchers(RelayCase):
         """Returns how long each of many lines takes, and how much of a processor the relay has meanwhile."""
         # By then the squares are there.
         await asyncio.sleep(3)
-        times, before, start = [], processor_time(fields_of([self.relay.pid])), time.perf_counter()
+        times, before, start = [], processor_time([self.relay.pid]), time.perf_counter()
         while time.perf_counter() - start < self.SECONDS:
             await ask_each(self.path, "d", ["%open d", *["d box 0 0 5 5"] * 100, "%close d"], times)
             await asyncio.sleep(0.1)
-        return sorted(times), (processor_time(fields_of([self.relay.pid])) - before) / (time.perf_counter() - start)
+        return sorted(times), (processor_time([self.relay.pid]) - before) / (time.perf_counter() - start)
 
     def test_the_page(self):
         for what, count in (("edited", 0), ("watched", 20)) * 3:

@@ -169,16 +169,26 @@ class PortCase(RelayCase):
 
 def programs(relay):
     """Returns the number of each magicd of a relay."""
-    found = []
-    for folder in pathlib.Path("/proc").iterdir():
-        try:
-            # The fields behind the command's name, which may have blanks itself: state, parent, ..
-            fields = (folder / "stat").read_text().rpartition(")")[2].split()
-            if folder.name.isdigit() and int(fields[1]) == relay.pid:
-                found.append(int(folder.name))
-        except (OSError, IndexError):
-            pass
-    return found
+    return children_of(relay.pid)
+
+
+def children_of(parent):
+    """Returns the number of each process that another one has started."""
+    numbers = [int(folder.name) for folder in pathlib.Path("/proc").iterdir() if folder.name.isdigit()]
+    return [number for number in numbers if (fields := fields_of(number)) and int(fields[1]) == parent]
+
+
+def fields_of(number):
+    """Returns what stands of a process behind its command's name, which may have blanks itself: state, parent, .."""
+    try:
+        return pathlib.Path(f"/proc/{number}/stat").read_text(encoding="utf-8").rpartition(")")[2].split()
+    except OSError:
+        return None
+
+
+def runs(number):
+    """Returns whether a process hasn't ended."""
+    return (fields_of(number) or "Z")[0] != "Z"
 
 
 def kill_programs(relay):

@@ -12,7 +12,7 @@ import unittest
 from tests.certificates import HAVE_OPENSSL, Team
 from tests.followed import ServedCase
 from tests.magics import compiled
-from tests.serving import GENEROUS, HERE, programs
+from tests.serving import GENEROUS, HERE, children_of, kill_programs, programs, runs
 from tests.squares import squares_told
 
 BAR = {"polysilicon": [(0, 0, 1, 20)]}
@@ -225,11 +225,9 @@ class OverRestarts(ServedCase):
 
     def kill(self):
         """Kills the relays at once. Their magicd end with their input."""
-        relays = programs(self.server)
+        kill_programs(self.server)
         self.server.kill()
         self.server.wait()
-        for number in relays:
-            os.kill(number, signal.SIGKILL)
 
     def test_caught_up_after_a_kill(self):
         follow = Companion(self, "ben")
@@ -245,6 +243,22 @@ class OverRestarts(ServedCase):
         follow.ask("leave")
         follow.wait(lambda word, _: word == "ended")
         self.differ()
+
+    def test_relays_end_with_who_serves(self):
+        """Where `process serve` alone is killed, its relays leave the sessions and end, and others have their ports."""
+        follow = Companion(self, "ben")
+        follow.look(BAR)
+        follow.settled()
+        relays = programs(self.server)
+        left = [*relays, *(number for relay in relays for number in children_of(relay))]
+        self.server.kill()
+        self.server.wait()
+        follow.says("the server can't be reached")
+        self.until(lambda: not any(map(runs, left)))
+        follow.look({"metal1": [(0, 0, 2, 9)]})
+        self.serve()
+        follow.says("ben_top is resumed")
+        self.assertEqual(follow.settled(), {METAL: [(2, 0, 3, 9)]})
 
     def test_silence(self):
         follow = Companion(self, "ben")

@@ -66,7 +66,7 @@ class Painting(MagicCase):
 
     def act(self, dice):
         """Does something with the mouse, by keys or by a command; returns what it was."""
-        kind = dice.choice(["paint"] * 8 + ["erase", "keys", "keys", "keys", "select", "select", "select", "command", "command"])
+        kind = dice.choice(["paint"] * 8 + ["erase", "keys", "keys", "keys"] + ["select"] * 4 + ["command"] * 3)
         if kind == "keys":
             key = dice.choice(["u", "u", "U"])
             self.window.mouse("key", key)
@@ -77,7 +77,8 @@ class Painting(MagicCase):
         elif kind == "erase":
             self.window.click(2, *self.on_palette(dice), "shift")
         elif kind == "select":
-            key = dice.choice(["m", "c", "M", "d", "r", "f", "F"])
+            # The digits stretch by a square, and M to where the mouse is.
+            key = dice.choice(["m", "c", "M", "M", "d", "r", "f", "F", *"2468"])
             self.window.mouse("key", "a")
             x, y = self.window.pixel(dice.randrange(50), dice.randrange(50))
             self.window.mouse("mousemove", x, y, "key", key)
@@ -88,6 +89,7 @@ class Painting(MagicCase):
                 "paint ndc", "paint pc", "paint poly,m1", "fill right", "fill up m1", "erase m1,poly", "label here", "erase *",
                 f"polygon m1 {x} {y} {x + 12} {y} {x + 12} {y + 9} {x + 6} {y + 9} {x + 6} {y + 4} {x} {y + 4}",
                 f"wire segment poly 2 {x} {y} {x + 12} {y} {x + 12} {y + 9}", "straighten l",
+                f"select area; array {dice.randrange(1, 4)} {dice.randrange(1, 3)}",
             ])
             self.window.tell(command)
             return command
