@@ -67,8 +67,9 @@ class Following:
         self.seen, self.cell, self.rects, self.window, self.waiting = None, None, {}, Layout(), None
         # The chip and its cell; whether its sessions are at hand, and whether they can hold the layout.
         self.chip, self.chip_cell, self.is_open, self.is_held = None, None, False, True
-        # Boxes in which the chip has to take what the window has, and those that it has refused.
-        self.pending, self.refused = [], []
+        # Boxes in which the chip has to take what the window has, those in which it is taking it, and those that it has
+        # refused; and those in which the sessions haven't said what is forbidden.
+        self.pending, self.under_way, self.refused, self.unsaid = [], [], [], []
         # What changes have replaced, the last one last, and the boxes of one that is being undone.
         self.replaced, self.undoing = [], []
         # While nobody has decided: where both sides differ, what the sessions show, and where the window was edited since.
@@ -117,6 +118,7 @@ class Following:
             self.pending, self.refused = self.pending + self.refused + boxes, []
             if self.undecided:
                 self.edited += boxes
+            self.show_awaiting()
         self.changed.set()
 
     def show_cell(self, cell, rects):
@@ -135,7 +137,7 @@ class Following:
                 pause = FIRST_PAUSE
                 await self.follow_all()
                 return
-            except (Lost, OSError, ServedFault, InUse) as fault:
+            except (Lost, OSError, ServedFault, InUse, violations.NotChecked) as fault:
                 self.shown.say(f"the server can't be reached, and is tried again: {fault}")
                 self.show_awaiting()
                 if self.waiting:
@@ -202,6 +204,8 @@ class Following:
                 await self.begin()
             if self.pending and not self.undecided:
                 await self.send()
+            for text in await self.sessions.make_room():
+                self.shown.say(f"the server can't make a journal short: {text}")
         except (OutOfStep, Refused) as fault:
             self.is_held = False
             self.pending = []
@@ -209,15 +213,17 @@ class Following:
 
     async def send(self):
         """Has the sessions show what is pending, and shows what is forbidden round it."""
-        boxes, self.pending = self.pending, []
-        self.show_awaiting(boxes)
+        self.under_way, self.pending = self.pending, []
+        self.show_awaiting()
         try:
-            change = [await self.replace(box) for box in boxes_round(boxes)]
+            change = [await self.replace(box) for box in boxes_round(self.under_way)]
             self.remember([each for each in change if each])
-            await self.show(grown(bounds(boxes), self.halo))
+            await self.show(grown(bounds(self.under_way), self.halo))
         except BaseException:
-            self.pending = boxes + self.pending
+            self.pending = self.under_way + self.pending
             raise
+        finally:
+            self.under_way = []
 
     # ---- opening, and comparing both sides
 
@@ -234,17 +240,20 @@ class Following:
         was_followed, edited = self.chip_cell == self.cell, [EVERYWHERE] if is_new else self.pending
         self.chip, self.chip_cell, self.is_open = self.sessions.chip(), self.cell, True
         self.pending, self.refused, self.undecided, self.edited, self.is_held = [], [], [], [], True
-        self.show_awaiting([EVERYWHERE])
+        self.under_way = [EVERYWHERE]
+        self.show_awaiting()
         try:
             if is_new:
                 self.shown.say(f"{self.sessions.name} is opened")
                 await self.chip.load(self.listed())
             else:
                 await self.settle(was_followed, edited)
+            await self.show(EVERYWHERE)
         except BaseException:
             self.pending = edited + self.pending
             raise
-        await self.show(EVERYWHERE)
+        finally:
+            self.under_way = []
 
     def listed(self):
         return {name: list(rects) for name, rects in self.rects.items()}
@@ -340,11 +349,14 @@ class Following:
     # ---- what is forbidden
 
     async def show(self, rect):
-        """Shows what is forbidden in a rectangle."""
+        """Shows what is forbidden in a rectangle, and where it wasn't said before."""
+        rect = bounds([rect, *self.unsaid])
         try:
             self.shown.take(rect, await self.chip.violations(rect), self.by_client())
+            self.under_way, self.unsaid = [], []
             self.show_awaiting()
         except violations.NotChecked as fault:
+            self.unsaid = [rect]
             self.shown.say(f"the server doesn't say what is forbidden: {fault}")
 
     def by_client(self):
@@ -355,9 +367,10 @@ class Following:
             found[area.why] = [rect for piece in pieces for rect in piece]
         return found
 
-    def show_awaiting(self, boxes=()):
+    def show_awaiting(self):
         """Shows where it isn't known what is forbidden."""
-        self.shown.wait_for([grown(box, self.halo) for box in [*boxes, *self.pending, *self.refused]])
+        boxes = [*self.pending, *self.under_way, *self.refused]
+        self.shown.wait_for([*(grown(box, self.halo) for box in boxes), *self.unsaid])
 
 
 def outside(boxes, holes):

@@ -12,6 +12,13 @@ from kolasieve.rects import strips
 TRIES = 20
 PAUSE = 0.5
 
+# From which share of its journal on a session is to go on in a short one. A relay sees to that itself at 90 %, in the
+# midst of lines.
+NEARLY_FULL = 0.7
+
+# What a relay says that can't make journals short.
+NO_LOG = "there is no log"
+
 
 class InUse(Exception):
     """A session can't be had; the text says why."""
@@ -27,6 +34,8 @@ class Sessions:
         self.carriers = []
         self.name = None
         self.places = []
+        # How many entries journals had after a checkpoint was asked for.
+        self.entries = {}
 
     async def connect(self):
         """Connects to all relays."""
@@ -41,6 +50,7 @@ class Sessions:
     async def open(self, name):
         """Opens the sessions of a name, or resumes them. Returns whether all are new."""
         self.name = name
+        self.entries = {}
         self.places = [Place(name, carried(carrier)) for carrier in self.carriers]
         are_new = [await self.opened(place) for place in self.places]
         return all(are_new)
@@ -58,6 +68,19 @@ class Sessions:
                 break
             await asyncio.sleep(PAUSE)
         raise InUse(reply.decode("utf-8", "replace").strip())
+
+    async def make_room(self):
+        """Asks for a checkpoint where a journal is nearly full. Returns what is said where there can't be one."""
+        refused = []
+        for place in self.places:
+            entries, most = await journal_of(place)
+            # After a checkpoint that is refused or that doesn't help, the rest is used before another one is asked for.
+            if entries > max(NEARLY_FULL * most, (self.entries.get(place, 0) + most) / 2):
+                reply = (await place.carry(f"@compact {place.name}".encode())).decode("utf-8", "replace").strip()
+                self.entries[place] = (await journal_of(place))[0]
+                if " refused " in reply and not reply.endswith(NO_LOG):
+                    refused.append(reply)
+        return refused
 
     def chip(self):
         return Chip(self.process, self.places)
@@ -87,6 +110,12 @@ class Sessions:
             short = {image.name: image.type for image in images_of(self.process, number)}
             found.append({short.get(name, name): rects for name, rects in mag.read(text).layers.items()})
         return found
+
+
+async def journal_of(place):
+    """Returns how many entries a session's journal has, and how many it may have."""
+    words = violations.expect(await place.look("stat"), b"stat").split()
+    return int(words[2]), int(words[4])
 
 
 def carried(carrier):

@@ -32,6 +32,7 @@ class ServedCase(unittest.TestCase):
     """A served process in a folder that goes with the test."""
 
     technology = "scmos"
+    log = False
     words = ()
 
     def setUp(self):
@@ -49,6 +50,7 @@ class ServedCase(unittest.TestCase):
 
     def command(self, *words):
         where = ["--listen", f"127.0.0.1:{self.port}", "--address", str(self.address), "--token", str(self.folder / "token")]
+        where += ["--log", str(self.folder / "log")] if self.log else []
         served = ["serve", str(self.process.folder), *where, "--server", SERVER]
         return [str(HERE.parent / "process"), *served, *self.words, *words]
 

@@ -3,6 +3,7 @@
 import os
 import pathlib
 import random
+import resource
 import signal
 import socket
 import subprocess
@@ -197,6 +198,12 @@ def kill_programs(relay):
             os.kill(number, signal.SIGKILL)
         except ProcessLookupError:
             pass
+
+
+def limit_files(numbers, most=resource.RLIM_INFINITY):
+    """Has no file of processes grow beyond this many bytes, as on a full disk."""
+    for number in numbers:
+        resource.prlimit(number, resource.RLIMIT_FSIZE, (most, resource.RLIM_INFINITY))
 
 
 def alone(lines, *words):

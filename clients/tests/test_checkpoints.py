@@ -2,9 +2,8 @@
 
 import pathlib
 import random
-import resource
 
-from tests.serving import SERVER, alone, programs
+from tests.serving import SERVER, alone, limit_files, programs
 from tests.test_log import LoggedCase
 from tests.test_undo import holding
 
@@ -172,9 +171,9 @@ class Checkpoints(CheckpointCase):
         client.ask("%open a", *lines)
         # The file that grows last is the log: its rows may not take more room than now, or nothing has any.
         for most, said in ((0, "a refused compact "), ((self.folder / "log-wal").stat().st_size, "a lost: ")):
-            resource.prlimit(self.relay.pid, resource.RLIMIT_FSIZE, (most, resource.RLIM_INFINITY))
+            limit_files([self.relay.pid], most)
             self.assertRegex(client.ask("@compact a")[0], f"^{said}.*(File too large|disk)")
-            resource.prlimit(self.relay.pid, resource.RLIMIT_FSIZE, (resource.RLIM_INFINITY, resource.RLIM_INFINITY))
+            limit_files([self.relay.pid])
         client.close()
         client = self.client()
         self.assertEqual(self.resumed(client, "@resume a"), "a resumed 40")

@@ -3,8 +3,8 @@
 import os
 import queue
 import re
-import resource
 import signal
+import sqlite3
 import subprocess
 import threading
 import unittest
@@ -12,7 +12,7 @@ import unittest
 from tests.certificates import HAVE_OPENSSL, Team
 from tests.followed import ServedCase
 from tests.magics import compiled
-from tests.serving import GENEROUS, HERE, children_of, kill_programs, programs, runs
+from tests.serving import GENEROUS, HERE, children_of, kill_programs, limit_files, programs, runs
 from tests.squares import squares_told
 
 BAR = {"polysilicon": [(0, 0, 1, 20)]}
@@ -214,14 +214,30 @@ class Refusing(ServedCase):
         self.assertEqual(self.squares("ben_top")[0], squares_told(self.process, 0, {"polysilicon": [(0, 0, 2, 39)]}))
 
 
+class NearAFullJournal(ServedCase):
+    """The companion asks for checkpoints between changes: the relays never have to make one in the midst of lines."""
+
+    log = True
+    words = ("--journal", "100")
+
+    def test_checkpoints_are_asked_for(self):
+        follow = Companion(self, "ben")
+        for right in range(2, 100):
+            follow.look({"polysilicon": [(0, 0, right, 20)], "metal1": [(0, 50, right, 50 + right)]})
+            follow.settled()
+        self.compare("ben_top", {"polysilicon": [(0, 0, 99, 20)], "metal1": [(0, 50, 99, 149)]})
+        for number in range(len(self.process.groups)):
+            with sqlite3.connect(self.folder / "log" / f"g{number}.log") as log:
+                parts = [part for part, in log.execute("select part from lines where cast(line as text) = '@compact ben_top'")]
+            self.assertGreater(len(parts), 2)
+            # The relay's own have other parts.
+            self.assertEqual(set(parts), {0})
+
+
 class OverRestarts(ServedCase):
     """The relays are ended, killed and started again: the window goes on, and the sessions catch up."""
 
-    def setUp(self):
-        super().setUp()
-        self.words = ("--log", str(self.folder / "log"))
-        self.end()
-        self.serve()
+    log = True
 
     def kill(self):
         """Kills the relays at once. Their magicd end with their input."""
@@ -270,6 +286,7 @@ class OverRestarts(ServedCase):
         follow.look({"metal1": [(0, 0, 2, 9)]})
         follow.says("the server hasn't replied to all yet")
         follow.look({"metal1": [(0, 0, 2, 9)], "polysilicon": [(20, 0, 21, 9)]})
+        follow.wait(lambda word, rest: word == "awaiting" and rest.count("} {") == 1)
         for number in relays:
             os.kill(number, signal.SIGCONT)
         follow.wait(lambda word, _: len(follow.found) == 2)
@@ -288,16 +305,12 @@ class OverRestarts(ServedCase):
         follow = Companion(self, "ben")
         follow.look(BAR)
         self.assertEqual(follow.settled(), {WIDTH: [(1, 0, 2, 20)]})
-        self.limit_files(0)
+        limit_files(programs(self.server), 0)
         follow.look({"metal1": [(0, 0, 2, 9)]})
         follow.says(" lost: ")
-        self.limit_files(resource.RLIM_INFINITY)
+        limit_files(programs(self.server))
         follow.wait(lambda word, _: follow.found == {METAL: [(2, 0, 3, 9)]})
         self.compare("ben_top", {"metal1": [(0, 0, 2, 9)]})
-
-    def limit_files(self, most):
-        for number in programs(self.server):
-            resource.prlimit(number, resource.RLIMIT_FSIZE, (most, resource.RLIM_INFINITY))
 
     def differ(self):
         """The window has another layout than the sessions when it comes back."""

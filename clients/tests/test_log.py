@@ -5,7 +5,6 @@ import hashlib
 import itertools
 import os
 import random
-import resource
 import shutil
 import signal
 import sqlite3
@@ -16,7 +15,7 @@ import time
 import unittest
 
 from kolasieve import chain
-from tests.serving import HERE, Client, RelayCase, alone, random_lines
+from tests.serving import HERE, Client, RelayCase, alone, limit_files, random_lines
 
 
 class Designer:
@@ -378,11 +377,10 @@ print(replies.readline() + replies.readline() + replies.readline(), end="")
     def test_a_full_disk(self):
         client = self.client()
         client.ask("%open a", "a box 0 0 4 4")
-        # No file may grow: a disk that is full.
-        resource.prlimit(self.relay.pid, resource.RLIMIT_FSIZE, (0, resource.RLIM_INFINITY))
+        limit_files([self.relay.pid], 0)
         self.assertTrue(client.ask("a paint poly")[0].startswith("a lost: "))
         other = self.client()
         self.assertTrue(other.ask("%open b")[0].startswith("b lost: "))
-        resource.prlimit(self.relay.pid, resource.RLIMIT_FSIZE, (resource.RLIM_INFINITY, resource.RLIM_INFINITY))
+        limit_files([self.relay.pid])
         self.assertEqual(self.resumed(other, "@resume a"), "a resumed 1")
         self.assertEqual(other.ask("a paint poly", "a what"), ["a ok", "a what 1 poly"])

@@ -2,11 +2,15 @@
 
 import pathlib
 import random
+import re
+import time
+from dataclasses import replace
 
 from tests.followed import ServedCase
 from tests.magics import violations_by_magic
-from tests.serving import SERVER
+from tests.serving import SERVER, limit_files, programs
 from tests.windows import Window, needs_window
+from tests.wires import Wire
 
 from kolasieve.check import Check
 from kolasieve.edges import LESS
@@ -127,13 +131,9 @@ class PaintingOnManyPlanes(Painting):
 class Asking(MagicCase):
     """What the designer asks for, and a layout that was edited while nobody followed it."""
 
-    WIDTH = "Polysilicon width must be at least 2 (MOSIS rule #3.1)"
+    log = True
 
-    def setUp(self):
-        super().setUp()
-        self.end()
-        self.words = ("--log", str(self.folder / "log"))
-        self.serve()
+    WIDTH = "Polysilicon width must be at least 2 (MOSIS rule #3.1)"
 
     def test_words(self):
         self.window.tell("load top; box values 0 0 1 20; paint poly")
@@ -222,3 +222,73 @@ class OtherCells(MagicCase):
         self.window.tell("select cell part_0; edit; box values 11 0 12 9; erase poly")
         self.until(lambda: self.squares("ben_user") == self.told({"polysilicon": [(10, 0, 11, 9)]}))
         self.until(lambda: "(MOSIS rule #3.1)" in str(self.window.marks()))
+
+
+@needs_window
+class Troubled(MagicCase):
+    """The designer goes on while the network is cut, the token is another one, and the disk is full."""
+
+    log = True
+
+    def setUp(self):
+        super().setUp()
+        self.wires = [Wire(self, self.port + number) for number in range(len(self.process.groups))]
+        address = self.folder / "wired"
+        replace(self.served, addresses=[wire.address for wire in self.wires]).write(address)
+        self.window.tell(f"load top; box values 0 0 1 20; paint poly; kolasieve connect {address} ben")
+        self.follow()
+
+    def paint(self, column, layer="m1"):
+        self.window.tell(f"box values {column} 0 {column + 2} 9; paint {layer}")
+
+    def lacks(self, column):
+        """Waits until the window says what is missing: it isn't known what is forbidden round this column."""
+        path = self.folder / "awaiting"
+
+        def is_said():
+            self.window.said = []
+            self.window.tell(f"kolasieve list; ::magic::*bypass feedback save {path}")
+            boxes = re.findall(r"box (\S+) \S+ (\S+) \S+\nfeedback add \"kolasieve awaiting", path.read_text())
+            return "areas await" in self.window.said[-1] and any(int(left) <= column < int(right) for left, right in boxes)
+
+        self.until(is_said)
+
+    def test_a_cut_network(self):
+        for wire in self.wires:
+            wire.cut()
+        end = time.monotonic() + 20
+        self.paint(20)
+        self.window.says("the server hasn't replied to all yet; the window goes on")
+        for column in range(30, 80, 10):
+            self.paint(column, "m2")
+        self.window.tell("undo; box values 0 0 1 5; erase poly")
+        self.lacks(20)
+        time.sleep(max(0, end - time.monotonic()))
+        for wire in self.wires:
+            wire.mend()
+        self.follow()
+
+    def test_a_new_token(self):
+        for wire in self.wires:
+            wire.cut()
+        self.paint(20)
+        self.lacks(20)
+        before = (self.folder / "token").read_text()
+        self.end()
+        self.words = ("--new-token",)
+        self.serve()
+        self.assertNotEqual((self.folder / "token").read_text(), before)
+        self.paint(30)
+        for wire in self.wires:
+            wire.mend()
+        self.window.says("ben_top is resumed")
+        self.follow()
+
+    def test_a_full_disk(self):
+        limit_files(programs(self.server), 0)
+        self.paint(20)
+        self.window.says(" lost: ")
+        self.paint(30, "m2")
+        self.lacks(20)
+        limit_files(programs(self.server))
+        self.follow()
