@@ -51,12 +51,13 @@ proc ::kolasieve::magic {args} {
 
 proc ::kolasieve::connect {address name args} {
     variable program; variable pipe
-    set words [list $program $address $name --technology [magic tech filename]]
+    # `file nativename` puts the home folder in the place of `~`.
+    set words [list $program [file nativename $address] $name --technology [magic tech filename]]
     while {[llength $args] > 0} {
         set args [lassign $args option]
         set count [expr {$option eq "-tls" ? 3 : 1}]
         if {$option ni {-take -process -tls} || [llength $args] < $count} { error "no option: $option $args" }
-        lappend words -$option {*}[lrange $args 0 $count-1]
+        lappend words -$option {*}[lmap each [lrange $args 0 $count-1] {file nativename $each}]
         set args [lrange $args $count end]
     }
     if {$pipe ne {}} { stop leave }

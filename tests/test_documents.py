@@ -5,25 +5,13 @@ import pathlib
 import re
 import subprocess
 import tempfile
-import textwrap
 import unittest
 
+from tests.documents import NOT_RUN, RUN, blocks, commands, given, pages
 from tests.serving import ROOT, SERVER, serve
 
 # How wide the left column of a page's example is: lines stand there, and replies to the right.
 LEFT = 25
-
-
-def blocks(page):
-    """Returns the blocks of a page that are set off, each as its text without the margin."""
-    found = re.findall(r"(?m)(?:^    .*\n)(?:(?:^ *\n)*^    .*\n)*", (ROOT / page).read_text() + "\n")
-    return [textwrap.dedent(each) for each in found]
-
-
-def commands(page):
-    """Returns the commands of a page, each block as a list, as a reader would type them."""
-    found = [re.findall(r"(?m)^\$ ((?:.*\\\n)*.*)", block) for block in blocks(page)]
-    return [each for each in found if each]
 
 
 def block_with(page, text):
@@ -101,21 +89,21 @@ class Links(unittest.TestCase):
 
 class Commands(unittest.TestCase):
     def test_of_the_readme(self):
-        played = [each for each in commands("README.md") if each[0].startswith("./magicd")]
+        played = given(self, "README.md")
         self.assertGreater(len(played), 1)
-        for command in sum(played, []):
+        for command in played:
             example = re.search(r"< examples/(\w+)\.txt\Z", command)[1]
             replies = (ROOT / f"examples/{example}.replies").read_text()
             self.assertEqual(typed(command.replace("--try ", "")), replies, command)
 
     def test_pipe(self):
-        (pipe,) = [each for each in commands("README.md") if each[0].startswith("mkfifo")]
-        self.assertRegex(pipe[-1], r"\Atail -f ~/replies \| grep '\^ben '\Z")
-        last = pipe[-1].replace("tail -f", "cat")
-        self.assertEqual(typed("\n".join([*pipe[:-1], "exec 3>&-", "wait", last])), "ben opened\n")
+        *pipe, last = given(self, "README.md")
+        self.assertRegex(last, r"\Atail -f ~/replies \| grep '\^ben '\Z")
+        last = last.replace("tail -f", "cat")
+        self.assertEqual(typed("\n".join([*pipe, "exec 3>&-", "wait", last])), "ben opened\n")
 
     def test_saved_text(self):
-        ((recipe,),) = [each for each in commands("docs/OPERATING.md") if each[0].startswith("awk")]
+        (recipe,) = given(self, "docs/OPERATING.md")
         painted = "%open ben\n%open ann\nben box 0 0 1 2\nann box 7 7 8 8\nann paint poly\nben paint poly\n"
         script = painted + "%save ben\nben paint m1\n%save ann\n%save ben\n%save ann\nben what\n"
         replies = serve([], script).output
@@ -123,12 +111,23 @@ class Commands(unittest.TestCase):
         self.assertTrue(wanted.endswith("<< m1 >>\nrect 0 0 1 2\n<< end >>\n"))
         self.assertEqual(typed(f"cat > replies\n{recipe}\ncat ben.mag", replies), wanted)
 
-    def test_all_are_known(self):
-        # Those of CLUSTER.md and clients are tried by the clients' tests.
-        known = re.compile(r"\./magicd |mkfifo |exec 3>|echo '%open|tail |awk |clients/|magic |echo 'load ")
-        for page in ("README.md", "docs/OPERATING.md"):
-            for command in sum(commands(page), []):
-                self.assertRegex(command, known)
+    def test_each_is_run_or_named(self):
+        found = [(page, command) for page in pages() for command in sum(commands(page), [])]
+        self.assertGreater(len(found), 50)
+        for page, command in found:
+            with self.subTest(page, command=command):
+                rows = [row for row in (*RUN, *NOT_RUN) if row[0] == page and re.match(row[1], command)]
+                self.assertEqual(len(rows), 1, f"which of tests/documents.py run it? {rows}")
+        for page, beginning, *_ in (*RUN, *NOT_RUN):
+            with self.subTest(page, beginning=beginning):
+                self.assertTrue(any(re.match(beginning, command) for where, command in found if where == page), "no such command")
+
+    def test_each_test_takes_them(self):
+        for page, _, path, name in RUN:
+            with self.subTest(page, test=name):
+                functions = re.split(r"(?m)^ +def (?=\w+\(self)", (ROOT / path).read_text())
+                self.assertTrue(any(each.startswith(f"{name}(self)") for each in functions))
+                self.assertIn(f'given(self, "{page}")', "".join(functions))
 
 
 if __name__ == "__main__":

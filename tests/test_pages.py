@@ -9,8 +9,8 @@ import tempfile
 import unittest
 
 from tests import pages
+from tests.documents import ROOT, blocks, given
 
-ROOT = pathlib.Path(__file__).resolve().parent.parent
 SERVER = pathlib.Path(os.environ.get("KOLASIEVE_SERVER", ROOT / "crates/magicd/out/magicd")).resolve()
 
 
@@ -61,6 +61,21 @@ class Pages(unittest.TestCase):
                     found = difference(case, play(case, words))
                     if found:
                         self.fail("\n" + found)
+
+
+class Form(unittest.TestCase):
+    def test_example(self):
+        """The page that README.md shows, and the ending below it, are played."""
+        page, ending = blocks("tests/README.md")[:2]
+        words = given(self, "tests/README.md")
+        with tempfile.TemporaryDirectory() as folder:
+            path = pathlib.Path(folder, "example.page")
+            path.write_text(f"{page}\n# Too small a quota.\n$ magicd --quota 4\n{ending}", encoding="utf-8")
+            *cases, last = pages.read(path)
+        self.assertEqual([" ".join(each) for case in cases for each in case.commands], words)
+        for case in (*cases, last):
+            for each in case.commands:
+                self.assertEqual(difference(case, play(case, each)), "")
 
 
 def playing(path):

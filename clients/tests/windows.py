@@ -15,15 +15,27 @@ needs_window = unittest.skipUnless(
 )
 
 
+def open_display(case):
+    """Starts a display server that ends with a test, and returns its name."""
+    reading, writing = os.pipe()
+    command = ["Xvfb", "-displayfd", str(writing), "-screen", "0", "900x700x24", "-nolisten", "tcp"]
+    server = subprocess.Popen(command, pass_fds=[writing], stderr=subprocess.DEVNULL)
+    case.addCleanup(server.wait)
+    case.addCleanup(server.terminate)
+    os.close(writing)
+    with os.fdopen(reading) as file:
+        return f":{file.readline().strip()}"
+
+
 class Window:
     """A Magic with its window, in a folder."""
 
-    def __init__(self, case, technology="scmos"):
+    def __init__(self, case, technology="scmos", **variables):
         self.case = case
         self.folder = case.folder
-        self.display = self.open_display()
+        self.display = open_display(case)
         command = ["magic", "-noconsole", "-rcfile", "/dev/null", "-T", technology]
-        variables = {**os.environ, "DISPLAY": self.display, "TMPDIR": str(self.folder)}
+        variables = {**os.environ, **variables, "DISPLAY": self.display, "TMPDIR": str(self.folder)}
         self.process = subprocess.Popen(
             command, stdin=subprocess.PIPE, stdout=subprocess.PIPE, stderr=subprocess.STDOUT, text=True, cwd=self.folder, env=variables,
         )
@@ -33,17 +45,6 @@ class Window:
         self.reading = threading.Thread(target=lambda: [self.lines.put(line) for line in self.process.stdout], daemon=True)
         self.reading.start()
         self.tell(f"source {HERE.parent / 'magic.tcl'}")
-
-    def open_display(self):
-        """Starts a display server, and returns its name."""
-        reading, writing = os.pipe()
-        command = ["Xvfb", "-displayfd", str(writing), "-screen", "0", "900x700x24", "-nolisten", "tcp"]
-        server = subprocess.Popen(command, pass_fds=[writing], stderr=subprocess.DEVNULL)
-        self.case.addCleanup(server.wait)
-        self.case.addCleanup(server.terminate)
-        os.close(writing)
-        with os.fdopen(reading) as file:
-            return f":{file.readline().strip()}"
 
     def tell(self, script):
         """Has Magic carry a script out, and returns its result and all that was said since the last one."""
