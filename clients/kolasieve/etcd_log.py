@@ -31,8 +31,6 @@ log = logging.getLogger("relay")
 # How often a relay says that it is there, in seconds.
 RENEWAL = 1
 
-PREFIX = "kolasieve"
-
 # How many bytes a piece of a text has at most.
 PIECE = 1 << 19
 
@@ -53,7 +51,7 @@ class EtcdLog(Log):
         self.keeping = None
 
     @classmethod
-    async def start(cls, addresses, secured, wanted, place, prefix=PREFIX):
+    async def start(cls, addresses, secured, wanted, place, prefix):
         """Begins to use a log that agrees with what is wanted, or, without that, one that is there.
 
         Only who has a place can hold sessions.

@@ -63,8 +63,9 @@ class Following:
         self.take = take
         self.halo = max(group.halo for group in process.groups) * served.grid
         self.shown = Shown(served.grid)
-        # The window: the last look at it, its cell, its rectangles by layer, these as a layout, and a cell that waits.
-        self.seen, self.cell, self.rects, self.window, self.waiting = None, None, {}, Layout(), None
+        # The window: the last look at it, its cell, its rectangles by layer, these as a layout, what rules between cells
+        # forbid, and a cell that waits.
+        self.seen, self.cell, self.rects, self.window, self.between, self.waiting = None, None, {}, Layout(), {}, None
         # The chip and its cell; whether its sessions are at hand, and whether they can hold the layout.
         self.chip, self.chip_cell, self.is_open, self.is_held = None, None, False, True
         # Boxes in which the chip has to take what the window has, those in which it is taking it, and those that it has
@@ -96,21 +97,29 @@ class Following:
             self.shown.tell("read")
             if look != self.seen:
                 self.seen = look
-                self.take_window(look.cell, layout_of(self.process, look, self.grid))
+                self.take_window(look.cell, *layout_of(self.process, look, self.grid))
         except Unread as fault:
             self.shown.tell("read")
             self.shown.say(f"the window isn't followed: {fault}")
         except LayoutFault as fault:
             self.shown.say(f"the window isn't followed: {fault}")
 
-    def take_window(self, cell, rects):
-        """Takes what the window holds now: what has changed is pending, and another cell waits until that is sent."""
+    def take_window(self, cell, rects, between):
+        """Takes what the window holds now: what has changed is pending, and another cell waits until that is sent.
+
+        What rules between cells forbid is known already.
+        """
         self.waiting = None
         if self.cell is None:
-            self.show_cell(cell, rects)
-        elif cell != self.cell:
-            self.waiting = (cell, rects)
-        elif rects != self.rects:
+            self.show_cell(cell, rects, between)
+            return
+        if cell != self.cell:
+            self.waiting = (cell, rects, between)
+            self.changed.set()
+            return
+        self.between = between
+        self.shown.forbid_all(between)
+        if rects != self.rects:
             gone, come = missing(self.rects, rects), missing(rects, self.rects)
             self.window.exchange(gone, come)
             self.rects = rects
@@ -119,12 +128,13 @@ class Following:
             if self.undecided:
                 self.edited += boxes
             self.show_awaiting()
-        self.changed.set()
+            self.changed.set()
 
-    def show_cell(self, cell, rects):
+    def show_cell(self, cell, rects, between):
         """The window's cell is another one from now on."""
-        self.cell, self.rects, self.window = cell, rects, Layout(rects)
+        self.cell, self.rects, self.window, self.between = cell, rects, Layout(rects), between
         self.waiting, self.is_open = None, False
+        self.changed.set()
 
     # ---- the server
 
@@ -360,8 +370,8 @@ class Following:
             self.shown.say(f"the server doesn't say what is forbidden: {fault}")
 
     def by_client(self):
-        """Returns what the rules of areas forbid in the whole window."""
-        layers, found = self.window.rects() if self.process.areas else {}, {}
+        """Returns what the rules of areas and those between cells forbid in the whole window."""
+        layers, found = self.window.rects() if self.process.areas else {}, dict(self.between)
         for area in self.process.areas:
             pieces = small_pieces(replace(area, squares=area.squares * self.grid**2), layers)
             found[area.why] = [rect for piece in pieces for rect in piece]

@@ -9,6 +9,7 @@ import tempfile
 
 from kolasieve.addresses import parse
 from kolasieve.check import Check
+from kolasieve.logs import is_file, log_of_part
 from kolasieve.scaling import scaled
 from kolasieve.served import Served, digests_of
 from kolasieve.tokens import token_at
@@ -89,7 +90,7 @@ class Relays:
         if self.token is not None:
             command += ["--token", self.token]
         if self.words.log:
-            command += ["--log", str(pathlib.Path(self.words.log, f"g{number}.log"))]
+            command += ["--log", log_of_part(self.words.log, f"g{number}")]
         if self.words.page is not None:
             command += ["--page", str(self.words.page + number)]
         for option, most in LARGEST.items():
@@ -101,7 +102,7 @@ class Relays:
         """Serves until that is asked for; fails where a relay ends by itself."""
         if self.token is not None:
             token_at(self.token, self.words.new_token)
-        if self.words.log:
+        if self.words.log and is_file(self.words.log):
             os.makedirs(self.words.log, exist_ok=True)
         await Check(self.process, self.words.server, None).build()
         with tempfile.TemporaryDirectory(prefix="kolasieve-") as scratch:

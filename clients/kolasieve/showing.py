@@ -54,7 +54,11 @@ class Shown:
             new[text] = [part for each in rects for part in (without(each, rect) if meet(each, rect) else [each])]
         for text, rects in found.items():
             new[text] = new.get(text, []) + rects
-        for text, rects in {**new, **everywhere}.items():
+        self.forbid_all({**new, **everywhere})
+
+    def forbid_all(self, found):
+        """Tells the window what rules forbid from now on, and nothing of others."""
+        for text, rects in found.items():
             self.forbid(text, rects)
 
     def forbid(self, text, rects):

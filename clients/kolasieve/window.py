@@ -4,8 +4,10 @@ import io
 import os
 from dataclasses import dataclass, field
 
-from kolasieve.flat import flattened
+from kolasieve.flat import Flat
 from kolasieve.hierarchy import SUFFIX, LayoutFault, Library
+from kolasieve.overlaps import TEXTS, OverlapRules
+from kolasieve.rects import strips
 
 # The world's lines run from minus this number to this number.
 WORLD = 1048576
@@ -83,13 +85,27 @@ class Held(Library):
 
 
 def layout_of(process, look, grid):
-    """Returns sets of rectangles by layer: what a window shows, on a grid of so many squares a lambda."""
+    """Returns sets of rectangles by layer, on a grid of so many squares a lambda: what a window shows.
+
+    Besides it returns strips by the texts of rules between cells: what these forbid there.
+    """
     if name_of(look.cell) not in look.texts and look.written is None:
-        return {}
+        return {}, {text: [] for text in TEXTS}
     held = Held(process, look)
     if grid % held.grid:
         raise LayoutFault(f"lambda is {held.grid} squares in this window, and {grid} of the server (process serve --grid)")
-    if held.top.bounds and (min(held.top.bounds) < -WORLD or max(held.top.bounds) > WORLD):
-        raise LayoutFault(f"{look.cell}: {held.top.bounds} lies outside the world of {2 * WORLD} squares a side")
-    scale = grid // held.grid
-    return {name: {tuple(at * scale for at in rect) for rect in rects} for name, rects in flattened(held).items()}
+    bounds = held.top.bounds
+    if bounds and (min(bounds) < -WORLD or max(bounds) > WORLD):
+        raise LayoutFault(f"{look.cell}: {bounds} lies outside the world of {2 * WORLD} squares a side")
+    rules, scale = OverlapRules(process), grid // held.grid
+    layers, placed = Flat(held, rules.watched).within(bounds) if bounds else ({}, [])
+    found = rules.violations(placed)
+    return (
+        {name: set(scaled(strips(rects), scale)) for name, rects in layers.items()},
+        {text: scaled(strips(found.get(text, ())), scale) for text in TEXTS},
+    )
+
+
+def scaled(rects, scale):
+    """Returns rectangles so many times as far from the middle."""
+    return [tuple(at * scale for at in rect) for rect in rects]

@@ -32,6 +32,7 @@ class ServedCase(unittest.TestCase):
     """A served process in a folder that goes with the test."""
 
     technology = "scmos"
+    # Whether there is a log of each group.
     log = False
     words = ()
 
@@ -50,9 +51,12 @@ class ServedCase(unittest.TestCase):
 
     def command(self, *words):
         where = ["--listen", f"127.0.0.1:{self.port}", "--address", str(self.address), "--token", str(self.folder / "token")]
-        where += ["--log", str(self.folder / "log")] if self.log else []
+        where += ["--log", self.where_logs_are()] if self.log else []
         served = ["serve", str(self.process.folder), *where, "--server", SERVER]
         return [str(HERE.parent / "process"), *served, *self.words, *words]
+
+    def where_logs_are(self):
+        return str(self.folder / "log")
 
     def serve(self):
         """Serves the process, and waits until its address file is there."""

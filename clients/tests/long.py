@@ -19,13 +19,14 @@ from tests import test_magic
 from tests.days import DayWithoutEnd, KillsInEtcd, KillsInFile, RestoredFromEtcd, RestoredFromFile
 from tests.magics import flattened_by_magic, violations_by_magic, write_cell
 from tests.serving import RelayCase, alone, fields_of, programs, random_lines
-from tests.test_chip import Comparing, reach_of
+from tests.test_chip import Comparing
 from tests.test_etcd import EtcdCase
 from tests.test_log import LoggedCase, commands
 from tests.test_machines import MachinesCase
 from tests.test_page import OWNER
 from tests.test_process import TECHNOLOGIES
 from tests.test_process_beside import Beside, large, small
+from tests.verdicts import reach_of
 
 from kolasieve.index import Index
 from kolasieve.rects import grown

@@ -22,6 +22,7 @@ from tests.second_reading import Reading, Window, union
 from tests.serving import HERE, ROOT, SERVER, RelayCase
 from tests.squares import squares_shown, squares_told
 from tests.test_process_cells import SIDE, near
+from tests.verdicts import reach_of
 
 from kolasieve import mag, violations
 from kolasieve.carrier import Carrier, Lost
@@ -59,11 +60,6 @@ class Folder(unittest.TestCase):
         path = self.folder / "scratch"
         path.mkdir(exist_ok=True)
         return path
-
-
-def reach_of(process, text):
-    """Returns how far the rules with this text reach."""
-    return max(group.halo for group in process.groups if any(rule.why == text for rule in group.rules))
 
 
 def violations_by_klayout(path):

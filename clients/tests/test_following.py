@@ -6,10 +6,12 @@ import re
 import signal
 import sqlite3
 import subprocess
+import tempfile
 import threading
 import unittest
 
 from tests.certificates import HAVE_OPENSSL, Team
+from tests.etcds import HAVE_ETCD, Etcds
 from tests.followed import ServedCase
 from tests.magics import compiled
 from tests.serving import GENEROUS, HERE, children_of, kill_programs, limit_files, programs, runs
@@ -177,6 +179,7 @@ class Served(ServedCase):
     def test_what_cannot_be_served(self):
         for command, fault in (
             (self.command(), f"the relay of {self.process.folder}/g"),
+            (self.command("--log", "etcd://nowhere"), "etcd://nowhere: a log is FILE or etcd://HOST:PORT"),
             (self.command("--grid", "50"), "lambda is 50 squares in this layout, and a rule reaches "),
             ([*self.command()[:2], str(self.folder), "--listen", "127.0.0.1:1"], "groups.json: No such file or directory"),
             ([*self.command()[:3], "--listen", "127.0.0.1"], "an address is HOST:PORT"),
@@ -301,17 +304,6 @@ class OverRestarts(ServedCase):
         follow.wait(lambda word, _: follow.found == {WIDTH: [(1, 0, 2, 20)]})
         self.compare("ben_top", BAR)
 
-    def test_a_full_disk(self):
-        follow = Companion(self, "ben")
-        follow.look(BAR)
-        self.assertEqual(follow.settled(), {WIDTH: [(1, 0, 2, 20)]})
-        limit_files(programs(self.server), 0)
-        follow.look({"metal1": [(0, 0, 2, 9)]})
-        follow.says(" lost: ")
-        limit_files(programs(self.server))
-        follow.wait(lambda word, _: follow.found == {METAL: [(2, 0, 3, 9)]})
-        self.compare("ben_top", {"metal1": [(0, 0, 2, 9)]})
-
     def differ(self):
         """The window has another layout than the sessions when it comes back."""
         follow = Companion(self, "ben")
@@ -335,6 +327,44 @@ class OverRestarts(ServedCase):
             self.assertEqual(follow.settled(), found)
             follow.ask("leave")
             follow.wait(lambda word, _: word == "ended")
+
+
+@unittest.skipUnless(HAVE_ETCD, "etcd or python3-etcd3 isn't installed")
+class OverRestartsInEtcd(OverRestarts):
+    """The same with logs in an etcd, one beside the other."""
+
+    @classmethod
+    def setUpClass(cls):
+        folder = tempfile.TemporaryDirectory()
+        cls.addClassCleanup(folder.cleanup)
+        cls.etcds = Etcds(folder.name, 1)
+        cls.addClassCleanup(cls.etcds.end)
+
+    def where_logs_are(self):
+        return self.etcds.log(name=self._testMethodName)
+
+    def test_each_group_has_a_log(self):
+        follow = Companion(self, "ben")
+        follow.look(BAR)
+        follow.settled()
+        for number in range(len(self.process.groups)):
+            lines = [line for _, line, _ in self.etcds.rows("ben_top", f"{self._testMethodName}_g{number}")]
+            self.assertIn("ben_top box 0 0 1 20", lines)
+
+
+class OnAFullDisk(ServedCase):
+    log = True
+
+    def test_a_full_disk(self):
+        follow = Companion(self, "ben")
+        follow.look(BAR)
+        self.assertEqual(follow.settled(), {WIDTH: [(1, 0, 2, 20)]})
+        limit_files(programs(self.server), 0)
+        follow.look({"metal1": [(0, 0, 2, 9)]})
+        follow.says(" lost: ")
+        limit_files(programs(self.server))
+        follow.wait(lambda word, _: follow.found == {METAL: [(2, 0, 3, 9)]})
+        self.compare("ben_top", {"metal1": [(0, 0, 2, 9)]})
 
 
 if __name__ == "__main__":

@@ -7,15 +7,18 @@ import time
 from dataclasses import replace
 
 from tests.followed import ServedCase
-from tests.magics import violations_by_magic
+from tests.magics import flattened_by_magic, violations_by_magic
 from tests.serving import SERVER, limit_files, programs
+from tests.verdicts import inexact, reach_of
 from tests.windows import Window, needs_window
 from tests.wires import Wire
 
 from kolasieve.check import Check
-from kolasieve.edges import LESS
+from kolasieve.edges import LESS, MORE
 from kolasieve.flat import flattened
 from kolasieve.hierarchy import Library
+from kolasieve.index import Index
+from kolasieve.rects import grown
 
 # What the file puts in the place of signs that Magic substitutes in the text of feedback.
 PLAIN = str.maketrans({"[": "(", "]": ")", "{": "(", "}": ")", "$": None, "\\": "/", '"': "'", ";": ","})
@@ -23,6 +26,13 @@ PLAIN = str.maketrans({"[": "(", "]": ")", "{": "(", "}": ")", "$": None, "\\": 
 # Where blocks of layers lie that the mouse paints with.
 PALETTE = ["polysilicon", "ndiffusion", "pdiffusion", "metal1", "metal2", "pwell", "polycontact", "ndcontact", "m2contact"]
 BLOCK = 10
+
+# A cell that is used, and how far below all paint.
+PART = "load part; box values 0 0 2 9; paint poly; box values 4 0 6 12; paint m1; box values 8 3 12 7; paint pc"
+BELOW = 90
+
+# After how many actions Magic itself flattens and checks what its window holds.
+TURNS = 10
 
 
 class MagicCase(ServedCase):
@@ -70,7 +80,10 @@ class Painting(MagicCase):
 
     def act(self, dice):
         """Does something with the mouse, by keys or by a command; returns what it was."""
-        kind = dice.choice(["paint"] * 8 + ["erase", "keys", "keys", "keys"] + ["select"] * 4 + ["command"] * 3)
+        kinds = ["paint"] * 8 + ["erase", "keys", "keys", "keys"] + ["select"] * 4 + ["command"] * 3
+        kind = dice.choice([*kinds, "use", "use"])
+        if kind == "use":
+            return self.use(dice)
         if kind == "keys":
             key = dice.choice(["u", "u", "U"])
             self.window.mouse("key", key)
@@ -99,8 +112,18 @@ class Painting(MagicCase):
             return command
         return kind
 
+    def use(self, dice):
+        """Uses a cell, or does something with one that is used; returns what it was."""
+        x, y, used = dice.randrange(40), dice.randrange(40) - BELOW, f"part_{dice.randrange(4)}"
+        commands = ["array {} {}".format(*dice.choices(range(1, 4), k=2)), "move r 3", "clockwise", "sideways", "copy u 2", "delete"]
+        command = f"select cell {used}; {dice.choice(commands)}"
+        if used not in self.window.tell("::magic::*bypass cellname list childinst top"):
+            command = f"getcell part; identify {used}"
+        self.window.tell(f"box values {x} {y} {x + 14} {y + 11}; {command}; select clear")
+        return command
+
     def test_random_actions(self):
-        self.window.tell("load top")
+        self.window.tell(f"{PART}; save part; load top")
         for place, layer in enumerate(PALETTE):
             self.window.tell(f"box values {place * BLOCK} 70 {place * BLOCK + BLOCK - 2} 78; paint {layer}")
         self.connect()
@@ -113,11 +136,20 @@ class Painting(MagicCase):
                 self.follow()
             except AssertionError as fault:
                 raise AssertionError(f"after {done}; Magic has said {self.window.said}") from fault
-        path = str(self.written("top"))
-        less = {remark["line"] for remark in self.process.remarks if remark["side"] == LESS}
-        missed = {rule.why for group in self.process.groups for rule in group.rules if rule.line in less}
-        by_magic = set(violations_by_magic(self.folder, [path], self.process.path)[path]) - missed
-        self.assertEqual({text.translate(PLAIN) for text in by_magic} - set(self.forbidden), set())
+            if len(done) % TURNS == 0:
+                self.compare_with_magic()
+
+    def compare_with_magic(self):
+        """Compares the sessions with what Magic flattens, layer by layer, and the window's marks with its verdict."""
+        self.written("top")
+        path, process = flattened_by_magic(self.folder, ["top"], self.process.path)["top"], self.process
+        self.assertEqual(self.squares("ben_top"), self.told(flattened(Library(process, path))))
+        found = violations_by_magic(self.folder, [path], process.path)[path]
+        for text in found.keys() - inexact(process, LESS):
+            marks, reach = Index((strip, None) for strip in self.forbidden.get(text.translate(PLAIN), [])), reach_of(process, text)
+            self.assertEqual([box for box in found[text] if not marks.meeting(grown(box, reach))], [], text)
+        if not found:
+            self.assertEqual(set(self.forbidden) - {text.translate(PLAIN) for text in inexact(process, MORE)}, set())
 
 
 class PaintingOnManyPlanes(Painting):

@@ -66,6 +66,17 @@ def bounds(cell):
     return min(lefts) - FAR, min(bottoms) - FAR, max(rights) + FAR, max(tops) + FAR
 
 
+def reach_of(process, text):
+    """Returns how far the rules with this text reach; those of areas don't."""
+    return max((group.halo for group in process.groups if any(rule.why == text for rule in group.rules)), default=0)
+
+
+def inexact(process, side):
+    """Returns the texts of lines that may mark more than what they forbid, or miss something of it."""
+    lines = {remark["line"] for remark in process.remarks if remark["side"] == side}
+    return {rule.why for group in process.groups for rule in group.rules if rule.line in lines}
+
+
 def painted(process, place, session, cell):
     """Returns lines that paint a cell into a session of a group."""
     lines = []
