@@ -31,7 +31,6 @@ RUN = [
 
 # Those that no test runs, and why.
 NOT_RUN = [
-    ("docs/CLIENTS.md", r"clients/tests/run", "runs the tests themselves"),
     ("docs/GATE.md", r"bench/growths\.sh", "needs a program that `rt ci` leaves; the gate runs it with --short"),
     ("docs/GATE.md", r"tests/bodies ", "needs rt, and hours"),
     ("CONTRIBUTING.md", r"cd crates/|rt |cd \.\./mls_plane_tests && rt ", "needs rt"),
