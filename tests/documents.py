@@ -39,13 +39,14 @@ NOT_RUN = [
 ]
 
 # A line that is a command though no `$` stands before it, since its first word is a program's.
-PROGRAM = r"(?:clients|bench|tests|launcher|crates|\.)/\S+(?: |$)|(?:cd|rt|sqlite3|magicd?|source|kolasieve|python3|make|sudo|apt) (?!─)"
+PLACES, NAMES = "clients|bench|tests|launcher|crates", "cd|rt|sqlite3|magicd?|source|kolasieve|python3|make|sudo|apt"
+PROGRAM = rf"(?:{PLACES}|\.)/\S+(?: |$)|(?:{NAMES}) (?!─)"
 COMMAND = re.compile(rf"(?m)^(?:\$ |(?={PROGRAM}))((?:.*\\\n)*.*)")
 
 
 def pages():
     """Returns the pages of the repository, by their paths in it."""
-    patterns = ("README.md", "CONTRIBUTING.md", "docs/*.md", "tests/*.md", "clients/tests/*.md", "bench/**/*.md", "crates/*/*.md")
+    patterns = ("*.md", "docs/*.md", "tests/*.md", "clients/tests/*.md", "bench/**/*.md", "crates/*/*.md")
     return [str(path.relative_to(ROOT)) for each in patterns for path in sorted(ROOT.glob(each))]
 
 

@@ -120,7 +120,8 @@ class Commands(unittest.TestCase):
                 self.assertEqual(len(rows), 1, f"which of tests/documents.py run it? {rows}")
         for page, beginning, *_ in (*RUN, *NOT_RUN):
             with self.subTest(page, beginning=beginning):
-                self.assertTrue(any(re.match(beginning, command) for where, command in found if where == page), "no such command")
+                here = [command for where, command in found if where == page]
+                self.assertTrue(any(re.match(beginning, command) for command in here), "no such command")
 
     def test_each_test_takes_them(self):
         for page, _, path, name in RUN:

@@ -82,8 +82,8 @@ class Cluster(TypedCase):
         for command in self.all_taken("clients/certificate machines "):
             # etcd is called from 127.0.0.1 where it hasn't this address itself.
             self.well(command if " one " in command else f"{command} 127.0.0.1")
-        for command in (self.taken("clients/certificate team "), self.taken("cat "), self.taken("clients/certificate team ")):
-            self.well(command)
+        for beginning in ("clients/certificate team ", "cat ", "clients/certificate team "):
+            self.well(self.taken(beginning))
 
     def start_machines(self):
         self.taken("name=one here=")
@@ -168,7 +168,8 @@ class Cluster(TypedCase):
         """Makes the file day.log, with a session of its own."""
         relay = self.on(1, f"clients/relay --socket {self.home}/socket --log day.log --server {SERVER}", "day")
         self.until(lambda: "listening at" in self.messages.read_text())
-        self.assertEqual(self.ended(f"clients/talk {self.home}/socket", "%open ben\nben box 0 0 1 10\nben paint poly\n")[1], 0)
+        lines = "%open ben\nben box 0 0 1 10\nben paint poly\n"
+        self.assertEqual(self.ended(f"clients/talk {self.home}/socket", lines)[1], 0)
         relay.terminate()
         self.assertEqual(relay.wait(GENEROUS), 0)
 

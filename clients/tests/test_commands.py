@@ -92,7 +92,8 @@ class Commands(TypedCase):
         copy_cells(self.top)
         typed = given(self, "docs/PROCESS.md")
         for command in typed:
-            (shown,) = [each.partition(f"$ {command}\n")[2] for each in blocks("docs/PROCESS.md") if f"$ {command}\n" in each]
+            (block,) = [each for each in blocks("docs/PROCESS.md") if f"$ {command}\n" in each]
+            shown = block.partition(f"$ {command}\n")[2]
             said, status = self.ended(self.here(command))
             self.assertEqual((said, status), (shown, int("forbid" in shown)))
         self.assertEqual(len(typed), 2)

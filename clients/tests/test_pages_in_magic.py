@@ -57,9 +57,8 @@ class PagesInMagic(TypedCase):
         self.variables["DISPLAY"] = open_display(self)
         with open(self.messages, "w", encoding="utf-8") as messages:
             self.start(command, stdin=subprocess.DEVNULL, stdout=messages, stderr=messages)
-        search = ["xdotool", "search", "--name", "ben"]
-        variables = {"DISPLAY": self.variables["DISPLAY"]}
-        self.until(lambda: subprocess.run(search, env=variables, stdout=subprocess.PIPE, stderr=subprocess.DEVNULL).stdout)
+        search = {"args": ["xdotool", "search", "--name", "ben"], "env": {"DISPLAY": self.variables["DISPLAY"]}}
+        self.until(lambda: subprocess.run(**search, capture_output=True, check=False).stdout)
 
 
 if __name__ == "__main__":

@@ -2,7 +2,7 @@
 
 import random
 
-from tests.serving import ROOT, alone
+from tests.serving import alone
 from tests.test_log import LoggedCase
 
 
@@ -114,20 +114,3 @@ class Undo(LoggedCase):
         client = self.client()
         self.assertEqual(self.resumed(client, "@resume a"), f"a resumed {number}")
         return client
-
-
-class Day(LoggedCase):
-    def test_the_day_of_the_page(self):
-        """The lines of CLIENTS.md have the replies that stand beside them; the relay is started again in between."""
-        day = (ROOT / "docs/CLIENTS.md").read_text().split("### A day's work")[1].split("\n## ")[0]
-        rows = [(row[4:40].strip(), row[40:].strip()) for row in day.splitlines() if row.startswith("    ")]
-        self.assertEqual(len(rows), 19)
-        client = self.client()
-        for line, said in rows:
-            if line == "@sessions":
-                self.end()
-                self.start()
-                client = self.client()
-            if line:
-                client.send(line.replace("examples/", f"{ROOT}/examples/"))
-            self.assertEqual(client.replies.readline().decode(), said + "\n")

@@ -40,7 +40,8 @@ class TypedCase(unittest.TestCase):
     def here(self, command):
         """Returns a command with the ports and the program of this test."""
         command = command.replace("7777", str(self.port)).replace("8080", str(self.page))
-        return f"{command} --server {SERVER}" if re.match(r"clients/(relay|process (check|serve)) ", command) else command
+        starts_server = re.match(r"clients/(relay|process (check|serve)) ", command)
+        return f"{command} --server {SERVER}" if starts_server else command
 
     def start(self, command, **streams):
         """Starts a command; where it is one program, that can be ended."""
@@ -69,7 +70,7 @@ class TypedCase(unittest.TestCase):
         return started.communicate(text, timeout=GENEROUS)[0], started.returncode
 
     def start_relay(self, command):
-        """Starts relays by a command of a page, and waits until they listen, and until there is a page if it asks for one."""
+        """Starts relays by a command of a page, and waits until they listen, and for a page if it asks for one."""
         with open(self.messages, "w", encoding="utf-8") as messages:
             started = self.start(self.here(command), stderr=messages)
         for word in ("listening at", *(["page"] if "--page" in command else [])):
