@@ -92,6 +92,7 @@ class SqliteReader:
         try:
             self.reading.execute(f"{RECORD} limit 0")
         except sqlite3.Error as fault:
+            self.reading.close()
             raise LogFault(f"{path}: {fault}; a relay of this version brings it up to date") from None
 
     def check(self, may_be_new=False):
@@ -164,21 +165,24 @@ class SqliteLog(SqliteReader, Log):
         self.path = path
         if wanted is None or (os.path.isfile(path) and os.path.getsize(path) > 0):
             self.check(may_be_new=wanted is not None)
-        try:
-            self.lock = open(path, "ab" if wanted is not None else "rb", opener=private)
-            if wanted is not None:
-                keep_private(path)
-            fcntl.flock(self.lock, fcntl.LOCK_EX | fcntl.LOCK_NB)
-        except BlockingIOError:
-            raise LogFault(f"{path}: another relay has it") from None
-        except OSError as fault:
-            raise LogFault(f"{path}: {fault.strerror}") from None
-        try:
-            self.reading = self.connect()
-            self.make_tables()
-            self.options = self.keep_options(wanted)
-        except sqlite3.Error as fault:
-            raise LogFault(f"{path}: {fault}") from None
+        # What was opened is closed again where this fails.
+        with contextlib.ExitStack() as opened:
+            try:
+                self.lock = opened.enter_context(open(path, "ab" if wanted is not None else "rb", opener=private))
+                if wanted is not None:
+                    keep_private(path)
+                fcntl.flock(self.lock, fcntl.LOCK_EX | fcntl.LOCK_NB)
+            except BlockingIOError:
+                raise LogFault(f"{path}: another relay has it") from None
+            except OSError as fault:
+                raise LogFault(f"{path}: {fault.strerror}") from None
+            try:
+                self.reading = opened.enter_context(contextlib.closing(self.connect()))
+                self.make_tables()
+                self.options = self.keep_options(wanted)
+            except sqlite3.Error as fault:
+                raise LogFault(f"{path}: {fault}") from None
+            opened.pop_all()
         self.waiting = []
         self.more = threading.Condition()
         self.ended = False

@@ -4,6 +4,7 @@ Prints a table of times. They take some minutes.
 """
 
 import asyncio
+import contextlib
 import json
 import os
 import random
@@ -35,21 +36,30 @@ CLIENTS = 64
 LINES = 1000
 
 
+@contextlib.asynccontextmanager
+async def connected(path):
+    """A connection to a relay, which ends with the block whatever waits in it."""
+    reader, writer = await asyncio.open_unix_connection(path, limit=1 << 22)
+    try:
+        yield reader, writer
+    finally:
+        writer.transport.abort()
+
+
 async def ask_each(path, name, lines, times):
     """Sends lines one by one, and returns their replies; the seconds that each took go to `times`."""
-    reader, writer = await asyncio.open_unix_connection(path, limit=1 << 22)
     replies = []
-    for line in lines:
-        start = time.perf_counter()
-        writer.write(line.encode() + b"\n")
-        head = (await reader.readline()).decode()
-        text = [head]
-        words = head.split()
-        if len(words) == 3 and words[1] in ("saved", "marked", "uses", "journal"):
-            text += [(await reader.readline()).decode() for _ in range(int(words[2]))]
-        times.append(time.perf_counter() - start)
-        replies.append("".join(text).removesuffix("\n"))
-    writer.close()
+    async with connected(path) as (reader, writer):
+        for line in lines:
+            start = time.perf_counter()
+            writer.write(line.encode() + b"\n")
+            head = (await reader.readline()).decode()
+            text = [head]
+            words = head.split()
+            if len(words) == 3 and words[1] in ("saved", "marked", "uses", "journal"):
+                text += [(await reader.readline()).decode() for _ in range(int(words[2]))]
+            times.append(time.perf_counter() - start)
+            replies.append("".join(text).removesuffix("\n"))
     return replies
 
 
@@ -259,11 +269,11 @@ class Others(RelayCase):
         for bar in range(900):
             lines += [f"m box {2 * bar} 0 {2 * bar + 1} 90", "m paint m1"]
         await ask_each(self.path, "m", lines, [])
-        reader, writer = await asyncio.open_unix_connection(self.path, limit=1 << 22)
-        writer.write(b"%open l\n" + b"".join(b"l box %d 0 %d 90\nl paint m1\n" % (2 * i, 2 * i + 1) for i in range(300)))
-        writer.write(b"%marks l\n" * 5000)
-        while await reader.read(1 << 16):
-            pass
+        bars = b"".join(b"l box %d 0 %d 90\nl paint m1\n" % (2 * i, 2 * i + 1) for i in range(300))
+        async with connected(self.path) as (reader, writer):
+            writer.write(b"%open l\n" + bars + b"%marks l\n" * 5000)
+            while await reader.read(1 << 16):
+                pass
 
     def test_others(self):
         self.measure("alone", [])
@@ -281,14 +291,13 @@ class Watchers(RelayCase):
 
     async def edit(self, name):
         """Edits a session of 900 squares again and again, some forty times a second, each time once all is checked."""
-        reader, writer = await asyncio.open_unix_connection(self.path)
+        async with connected(self.path) as (reader, writer):
 
-        async def ask(*lines):
-            writer.writelines(f"{line}\n".encode() for line in lines)
-            for _ in lines:
-                await reader.readline()
+            async def ask(*lines):
+                writer.writelines(f"{line}\n".encode() for line in lines)
+                for _ in lines:
+                    await reader.readline()
 
-        try:
             await ask(f"%open {name}")
             for number in range(900):
                 left, bottom = number % 30 * 9, number // 30 * 9
@@ -298,8 +307,6 @@ class Watchers(RelayCase):
                 for what in ("paint", "erase"):
                     await ask(f"{name} {what} m1", f"{name} drc catchup")
                     await asyncio.sleep(0.025)
-        finally:
-            writer.close()
 
     async def measure(self):
         """Returns how long each of many lines takes, and how much of a processor the relay has meanwhile."""
