@@ -282,7 +282,7 @@ def compare_groups(program, folder, title, technology, text, is_halved):
         part = [(image.type, box) for layer, box in layers for image in layer.images if process.groups[image.group] is group]
         if part:
             path = folder / "group.tech"
-            path.write_text(scaled(group.path.read_text(), 2 if is_halved else 1))
+            path.write_text(scaled(group.text, 2 if is_halved else 1))
             ours.append(Magicd(program, folder).whole_check(path, part))
             row(title, f"the check of {', '.join(group.planes)}", "ms", {"Magic": None, "Kolasieve": ours[-1], "KLayout": None})
     row(title, "the whole check", "ms", {"Magic": magic, "Kolasieve": sum(ours), "KLayout": None})

@@ -154,7 +154,7 @@ def write(path, cell, count, placed):
     wide, high = right - left + GAP, top - bottom + GAP
     moves = [(place % columns * wide, place // columns * high) for place in range(copies)]
     with open(path, "w", encoding="utf-8") as file:
-        file.write(f"magic\ntech {cell.tech}\nmagscale {cell.scale.numerator} {cell.scale.denominator}\ntimestamp 1\n")
+        file.write(f"magic\ntech {cell.tech}\nmagscale {cell.scale[0]} {cell.scale[1]}\ntimestamp 1\n")
         if placed:
             for place, (x, y) in enumerate(moves):
                 file.write(f"use block block_{place}\ntransform 1 0 {x} 0 1 {y}\nbox {left} {bottom} {right} {top}\n")

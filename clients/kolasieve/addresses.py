@@ -2,10 +2,12 @@
 
 import argparse
 
+from kolasieve.faults import Fault
+
 MOST_PORT = 65535
 
 
-class AddressFault(Exception):
+class AddressFault(Fault):
     """A text is no address."""
 
 

@@ -1,20 +1,18 @@
 """Rules of areas: which connected pieces of a layout have too few squares. Nothing of this is proved."""
 
-from dataclasses import dataclass
-
 from kolasieve.index import Index
 from kolasieve.rects import squares, strips
 
 
-@dataclass(frozen=True)
 class Area:
     """The squares that a connected piece of these layers must have at least, on a plane."""
 
-    line: int
-    why: str
-    plane: str
-    squares: int
-    layers: tuple
+    def __init__(self, line, why, plane, squares, layers):
+        self.line = line
+        self.why = why
+        self.plane = plane
+        self.squares = squares
+        self.layers = layers
 
 
 def small_pieces(area, layout):

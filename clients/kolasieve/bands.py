@@ -1,7 +1,8 @@
-"""Rectangles of a whole layout, kept by bands of rows, on disk where they are many, and joined band by band."""
+"""Rectangles of a whole layout, kept on disk by bands of rows, where they are many, and joined band by band."""
 
 import os
 from array import array
+from itertools import chain
 
 from kolasieve.rects import strips
 from kolasieve.sheet import Packed
@@ -10,8 +11,8 @@ from kolasieve.sheet import Packed
 BANDS = 256
 LEAST = 64
 
-# How many numbers are kept in memory.
-MOST = 1 << 22
+# How many numbers are kept in memory; as long as there are no more, there are no bands.
+MOST = 1 << 20
 
 
 class Bands:
@@ -23,22 +24,20 @@ class Bands:
         self.most = most
         rows = bounds[3] - bounds[1] if bounds else 0
         self.height = max(LEAST, 1 << (rows // BANDS).bit_length())
-        # The number of each key, and what isn't on disk yet, by number and band.
+        # The number of each key, and what isn't on disk yet, by number.
         self.numbers = {}
         self.kept = {}
         self.count = 0
+        # What is on disk, by number and band.
         self.files = set()
 
     def add(self, key, rects):
         """Adds rectangles of a key."""
         if not rects:
             return
-        number, height = self.numbers.setdefault(key, len(self.numbers)), self.height
-        for left, bottom, right, top in rects:
-            for band in range(bottom // height, (top - 1) // height + 1):
-                part = left, max(bottom, band * height), right, min(top, (band + 1) * height)
-                self.kept.setdefault((number, band), array("i")).extend(part)
-                self.count += len(part)
+        number = self.numbers.setdefault(key, len(self.numbers))
+        self.kept.setdefault(number, Packed()).extend(chain.from_iterable(rects))
+        self.count += 4 * len(rects)
         if self.count > self.most:
             self.put_away()
 
@@ -47,8 +46,14 @@ class Bands:
         return key in self.numbers
 
     def put_away(self):
-        """Writes to disk what is in memory."""
-        for each, numbers in self.kept.items():
+        """Writes to disk what is in memory, cut into bands."""
+        height, parts = self.height, {}
+        for number, rects in self.kept.items():
+            for left, bottom, right, top in rects:
+                for band in range(bottom // height, (top - 1) // height + 1):
+                    part = left, max(bottom, band * height), right, min(top, (band + 1) * height)
+                    parts.setdefault((number, band), array("i")).extend(part)
+        for each, numbers in parts.items():
             path = self.path_of(each)
             try:
                 with open(path, "ab") as file:
@@ -63,12 +68,11 @@ class Bands:
 
     def of_band(self, number, band):
         """Returns the rectangles of a key in a band."""
-        found = array("i", self.kept.get((number, band), ()))
+        found = Packed()
         if (number, band) in self.files:
-            path = self.path_of((number, band))
-            with open(path, "rb") as file:
-                found.frombytes(file.read())
-        return Packed(found)
+            with open(self.path_of((number, band)), "rb") as file:
+                found.numbers.frombytes(file.read())
+        return found
 
     def joined(self, keys):
         """Returns the maximal strips of what keys have together, by bottom and then left.
@@ -76,7 +80,10 @@ class Bands:
         The bands are joined downwards, so that each strip is whole in the band where it begins.
         """
         numbers = [self.numbers[key] for key in keys if key in self.numbers]
-        bands = sorted({band for number, band in {*self.kept, *self.files} if number in numbers})
+        if not self.files:
+            return Packed.of(strips([rect for number in numbers for rect in self.kept.get(number, ())]))
+        self.put_away()
+        bands = sorted({band for number, band in self.files if number in numbers})
         done, above, open_above = [], [], {}
         for band in reversed(bands):
             low, high = band * self.height, (band + 1) * self.height
@@ -99,7 +106,4 @@ class Bands:
 
 def packed(rects, more):
     """Returns rectangles by bottom and then left, of which none in the first list lies below those that are more."""
-    found = Packed()
-    for rect in [*sorted(more.values()), *rects]:
-        found.append(rect)
-    return found
+    return Packed.of([*sorted(more.values()), *rects])

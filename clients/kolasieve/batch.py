@@ -4,14 +4,12 @@ import hashlib
 import json
 import os
 import re
-from dataclasses import dataclass
+from itertools import islice
 
 from kolasieve import violations
-from kolasieve.chip import Place
+from kolasieve.faults import Fault
 from kolasieve.hierarchy import SUFFIX
-from kolasieve.lines import Line
-from kolasieve.process import Group
-from kolasieve.program import Ended, Program
+from kolasieve.script import Run
 from kolasieve.windows import fitting, is_square
 
 # How many cells a magicd takes, and how many tiles it allows a cell's plane at least.
@@ -26,7 +24,7 @@ CELL_REFUSED = re.compile(r"cell w(\d+) line 0 fault 6 ")
 REFUSED = ["refused", "5"]
 
 
-class CheckFault(Exception):
+class CheckFault(Fault):
     """The layout can't be checked."""
 
 
@@ -42,28 +40,15 @@ class Killed(Exception):
     """A signal has ended a magicd."""
 
 
-@dataclass(frozen=True)
 class Part:
-    """What is checked of a group: a technology file and its text, the texts of its rules, and how far they reach.
+    """What is checked of a group: a technology file, its text, the texts of its rules, and what layers are painted as."""
 
-    `images` has what each layer is painted as.
-    """
-
-    group: Group
-    path: str
-    tech: str
-    texts: list
-    images: dict
-    reach: int
-
-    @property
-    def border(self):
-        """How far round a window the layout is shown."""
-        return self.reach + 1
-
-    def shown(self, layers):
-        """Returns types, each with its plane and the rectangles of a layer, as they are painted in turn."""
-        return [(image.type, image.plane, rects) for name, rects in layers.items() for image in self.images[name]]
+    def __init__(self, group, path, tech, texts, images):
+        self.group = group
+        self.path = path
+        self.tech = tech
+        self.texts = texts
+        self.images = images
 
 
 class Batches:
@@ -79,27 +64,28 @@ class Batches:
         options = {"tech": part.path, "quota": sizes.tiles, "cell-tiles": cell_tiles, "pool": pool, "journal": CELLS}
         self.command = [server, *(word for name, value in options.items() for word in (f"--{name}", str(value)))]
 
-    async def violations(self, window):
-        """Returns the strips of what is forbidden in a window, by the rules' texts."""
-        waiting, found = list(fitting(window, self.sizes)), {}
+    def violations(self, windows):
+        """Returns rectangles of what is forbidden in windows, by the rules' texts; yields where others may go on."""
+        waiting, found = [each for each in windows if any(self.part.images[name] for name in each.layers)], {}
         while waiting:
             batch = [(each, *self.cell_of(each)) for each in waiting[:CELLS]]
             del waiting[:CELLS]
-            await self.check({path: (each, text) for each, path, text in batch if not os.path.exists(path)})
+            yield from self.check({path: (each, text) for each, path, text in batch if not os.path.exists(path)})
             for each, path, _ in batch:
                 with open(path, encoding="utf-8") as file:
-                    strips = json.load(file)
-                if strips is None:
+                    forbidden = json.load(file)
+                if forbidden is None:
                     waiting += self.halved(each)
                     continue
                 x, y, *_ = each.core
-                for text, rects in strips.items():
-                    found.setdefault(text, []).extend((l + x, b + y, r + x, t + y) for l, b, r, t in rects)
+                for number, rects in forbidden:
+                    moved = [(l + x, b + y, r + x, t + y) for l, b, r, t in rects]
+                    found.setdefault(self.part.texts[number - 1], []).extend(moved)
         return found
 
     def cell_of(self, window):
         """Returns the file for what a window forbids, whose name stands for all that this depends on, and its cell."""
-        text = window.text(self.part.group.path.stem)
+        text = window.text(self.part.images)
         left, bottom, right, top = window.core
         digest = hashlib.sha256(f"{self.part.tech}\n{right - left} {top - bottom}\n{text}".encode())
         return os.path.join(self.folder, digest.hexdigest()), text
@@ -112,14 +98,14 @@ class Batches:
                 f"{self.part.group.path}: within {window.border} squares of ({x},{y}) there is too much for a session: "
                 f"a plane has more than {self.sizes.tiles} tiles"
             )
-        return [each for half in window.halves for each in fitting(half, self.sizes)]
+        return [each for half in window.halves for each in fitting(half, self.sizes, [self.part])]
 
-    async def check(self, cells):
+    def check(self, cells):
         """Writes what windows forbid to files, or null where one is too large; `cells` has windows and texts."""
         was_killed = False
         while cells:
             try:
-                await self.check_by_one(cells)
+                yield from self.check_by_one(cells)
             except TooLarge as fault:
                 write(fault.path, "null")
             except Killed as fault:
@@ -128,42 +114,53 @@ class Batches:
                 was_killed = True
             cells = {path: each for path, each in cells.items() if not os.path.exists(path)}
 
-    async def check_by_one(self, cells):
-        """Writes what windows forbid to files, as long as the magicd that checks them goes on."""
-        files = {f"w{number}": f"{path}.{os.getpid()}{SUFFIX}" for number, path in enumerate(cells)}
-        for path, (_, text) in zip(files.values(), cells.values()):
-            write(path, text)
-        words = [f"{name}={path}" for name, path in files.items()]
-        program = await Program.start([*self.command, *words], lambda *_: None)
+    def check_by_one(self, cells):
+        """Writes what windows forbid to files, once the magicd that checks them has ended."""
+        names = {f"w{number}": each for number, each in enumerate(cells.items())}
+        files = {name: f"{path}.{os.getpid()}{SUFFIX}" for name, (path, _) in names.items()}
+        run, script = None, []
         try:
-            for name, (path, (window, _)) in zip(files, cells.items()):
-                place = Place(name, lambda line: program.ask(Line.of(line)))
-                write(path, json.dumps(await self.of_session(place, window)))
-        except Ended:
-            said = await program.last_words()
-            if refused := CELL_REFUSED.search(said):
-                raise TooLarge(list(cells)[int(refused[1])]) from None
-            if program.process.returncode < 0:
-                raise Killed(said) from None
-            raise CheckFault(f"{self.part.group.path}: {said}") from None
+            for name, (_, (window, text)) in names.items():
+                write(files[name], text)
+                script += script_of(name, window)
+            words = [f"{name}={path}" for name, path in files.items()]
+            run = Run([*self.command, *words], "\n".join([*script, ""]), files["w0"])
+            yield
+            status, replies, said = run.wait()
+            if status < 0:
+                raise Killed(said)
+            if status > 0:
+                refused = CELL_REFUSED.search(said)
+                raise TooLarge(names[f"w{refused[1]}"][0]) if refused else CheckFault(f"{self.part.group.path}: {said}")
+            lines = iter(replies.split(b"\n"))
+            for path, (window, _) in names.values():
+                write(path, json.dumps(self.forbidden(lines, len(window.boxes), said)))
         finally:
-            await program.stop()
+            if run:
+                run.end()
             for path in files.values():
-                os.unlink(path)
+                remove(path)
 
-    async def of_session(self, place, window):
-        """Returns what a window's cell forbids in a session of its own, or None where it is too large."""
-        left, bottom, right, top = window.core
-        try:
-            violations.expect(await place.look("open"), b"opened")
-            violations.expect(await place.ask(f"getcell {place.name} 0 0"), b"ok")
-            return await violations.within(place, (0, 0, right - left, top - bottom), self.part.texts)
-        except violations.NotChecked as refusal:
-            if str(refusal).split()[1:3] == REFUSED:
-                return None
-            raise CheckFault(f"{self.part.group.path}: {refusal}") from None
-        finally:
-            await place.look("close")
+    def forbidden(self, lines, boxes, said):
+        """Returns what magicd has replied for a window, pairs of a rule's number and rectangles; None for too large."""
+        found, is_too_large = {}, False
+        for _ in range(boxes + 3):
+            head = next(lines, b"").decode()
+            words = [*head.split(), "", ""]
+            if words[1] == "violations":
+                for number, _, rects in violations.rules_of(islice(lines, int(words[2]))):
+                    found.setdefault(number, []).extend(rects)
+            elif words[1:3] == REFUSED:
+                is_too_large = True
+            elif words[1] not in ("opened", "ok", "closed"):
+                raise CheckFault(f"{self.part.group.path}: {head or said}")
+        return None if is_too_large else sorted(found.items())
+
+
+def script_of(name, window):
+    """Returns the lines of a session that shows a window's cell, and lists what is forbidden in it."""
+    looks = ["%%violations %s %d %d %d %d" % (name, *box) for box in window.boxes]
+    return [f"%open {name}", f"{name} getcell {name} 0 0", *looks, f"%close {name}"]
 
 
 def write(path, text):
@@ -175,3 +172,11 @@ def write(path, text):
         os.replace(part, path)
     except OSError as fault:
         raise OSError(fault.errno, fault.strerror, path) from None
+
+
+def remove(path):
+    """Removes a file, if it is there."""
+    try:
+        os.unlink(path)
+    except FileNotFoundError:
+        pass

@@ -1,40 +1,38 @@
 """A whole layout of a process, checked by windows in as many magicd at a time as there are processes."""
 
-import asyncio
 import contextlib
 import os
-import tempfile
-from dataclasses import dataclass
 
 from kolasieve import pool
 from kolasieve.bands import Bands
-from kolasieve.batch import CheckFault, Part, write
+from kolasieve.batch import CheckFault
 from kolasieve.hierarchy import SUFFIX, Library
-from kolasieve.program import Program
 from kolasieve.progress import Progress
 from kolasieve.rects import common, grown, meet
 from kolasieve.report import Report, Violation
-from kolasieve.scaling import scaled
+from kolasieve.scratch import scratch_folder
 from kolasieve.search import Search, rules_of
-from kolasieve.stream import STREAM, cell_of
 from kolasieve.windows import Sizes, plan
+
+# How the name of a file in the stream format ends, which Magic reads.
+STREAM = ".gds"
 
 # How often each process takes a window at least, so that all end together, and how many rectangles are worth it.
 TURNS = 3
 LEAST = 4000
 
 
-@dataclass(frozen=True)
 class Choice:
     """What is checked: a cell of a stream file, a region in lambda, the rules with one of some words in their texts.
 
     `has_layers` says whether the report has the flat layout.
     """
 
-    cell: str = None
-    region: tuple = None
-    words: tuple = ()
-    has_layers: bool = False
+    def __init__(self, cell=None, region=None, words=(), has_layers=False):
+        self.cell = cell
+        self.region = region
+        self.words = words
+        self.has_layers = has_layers
 
     def has_rule(self, text):
         """Returns whether a rule with this text is checked."""
@@ -61,12 +59,12 @@ class Check:
             raise CheckFault(f"no rule of {self.process.name} has {' or '.join(choice.words)} in its text")
         if choice.region and not meet(choice.region, choice.region):
             raise CheckFault(f"the region {' '.join(map(str, choice.region))} has no square")
-        with tempfile.TemporaryDirectory(prefix="kolasieve-") as scratch:
+        with scratch_folder() as scratch:
             self.say(f"reading {path}")
-            top = cell_of(self.process.path, path, choice.cell, scratch) if path.endswith(STREAM) else path
+            top = self.top(path, choice.cell, scratch)
             library = Library(self.process, top, folders)
-            asyncio.run(self.build())
-            search = Search(library, self.parts(library.grid, choice, scratch), choice)
+            self.build()
+            search = Search(library, choice, scratch)
             bands = self.bands(search, self.windows(search, library, choice), scratch)
             self.say("joining what was found")
             rules = [rule for rule in rules if bands.has(rule)]
@@ -78,31 +76,27 @@ class Check:
         unit = (self.process.unit or 1000) / 1000
         return Report(path, name, self.process.name, unit, library.grid, layers, violations, marks, notes)
 
-    async def build(self):
-        """Starts and ends a magicd: the first call of the launcher builds it, and several would do so side by side."""
-        program = await Program.start([self.server], lambda *_: None)
-        try:
-            program.ending = True
-            program.process.stdin.close()
-            said = await program.last_words()
-        finally:
-            await program.stop()
-        if program.process.returncode:
-            raise CheckFault(said)
+    def top(self, path, cell, scratch):
+        """Returns the cell file of a layout, which Magic writes where the layout is a stream file."""
+        if not path.endswith(STREAM):
+            return path
+        # It is imported where it is needed, as what else takes long to import: most checks are short.
+        from kolasieve.stream import cell_of
 
-    def parts(self, grid, choice, scratch):
-        """Returns a part for each group that has rules to check, whose technology it writes for lambda on this grid."""
-        parts = []
-        for number, group in enumerate(self.process.groups):
-            wanted = [choice.has_rule(rule.why) for rule in group.rules]
-            if any(wanted):
-                path = os.path.join(scratch, group.path.name)
-                text = scaled(group.path.read_text(encoding="utf-8"), grid, wanted)
-                write(path, text)
-                images = {layer.name: [each for each in layer.images if each.group == number] for layer in self.process.layers}
-                texts = [rule.why for rule, stays in zip(group.rules, wanted) if stays]
-                parts.append(Part(group, path, text, texts, images, (group.halo - 1) * grid))
-        return parts
+        return cell_of(self.process.path, path, cell, scratch)
+
+    def build(self):
+        """Starts and ends a magicd that is a script: the launcher's first call builds it, and several would side by side."""
+        with contextlib.suppress(OSError), open(self.server, "rb") as file:
+            if file.read(2) != b"#!":
+                return
+        import asyncio
+
+        from kolasieve.program import Program, pass_on
+
+        pass_on(self.say)
+        if fault := asyncio.run(Program.build([self.server])):
+            raise CheckFault(fault)
 
     def windows(self, search, library, choice):
         """Returns the windows that processes take at a time, each with about how many rectangles it has."""
@@ -121,7 +115,7 @@ class Check:
     def bands(self, search, windows, scratch):
         """Returns all that is found in windows."""
         jobs = max(1, min(self.jobs, len(windows)))
-        search.use(self.server, self.sizes, scratch, max(1, self.jobs // jobs))
+        search.use(self.server, self.sizes, max(1, self.jobs // jobs))
         bands = Bands(scratch, search.flat.top.bounds)
         progress = Progress([weight for _, weight in windows], self.say)
         with contextlib.closing(pool.results(search, windows, jobs)) as results:

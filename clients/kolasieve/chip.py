@@ -9,7 +9,8 @@ from typing import Callable
 
 from kolasieve import violations
 from kolasieve.layout import Layout
-from kolasieve.rects import common, meet, overlapping, strips
+from kolasieve.paint import in_order
+from kolasieve.rects import common, meet, strips
 
 # How many bytes a line may have, and a session's name with the blank behind it.
 LONGEST = 1024
@@ -162,21 +163,6 @@ def known(process, layers):
         if layer is None:
             raise ValueError(f"there is no layer {name}")
         found.setdefault(layer.name, []).extend(rects)
-    return found
-
-
-def in_order(process, layers):
-    """Returns layers as they are painted in turn: contacts last, and two stacked ones as what they are together."""
-    found = {
-        layer.name: layers[layer.name]
-        for layer in sorted(process.layers, key=lambda layer: bool(layer.residues))
-        if layer.name in layers
-    }
-    for stack in process.stacks:
-        one, other = stack.one.name, stack.other.name
-        if one in layers and other in layers:
-            pairs = overlapping([(rect, name) for name in (one, other) for rect in layers[name]])
-            found[stack.both.name] = sorted(common(a[0], b[0]) for a, b in pairs if a[1] != b[1])
     return found
 
 

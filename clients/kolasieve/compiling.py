@@ -1,21 +1,15 @@
 """What a technology is compiled to: a technology file for each group, groups.json, and report.md."""
 
-import hashlib
 import json
 import os
 import pathlib
 import shutil
 import tempfile
 
-from kolasieve.edges import CELLS, CLIENT, LESS, MORE, SIDES, Rules
+from kolasieve.edges import SIDES, Rules
+from kolasieve.forms import CELLS, CLIENT, FILE, FORM, LESS, MORE, REPORT, digest
 from kolasieve.groups import PLANES, RULES, TYPES, part, size
 from kolasieve.technology import SPACE, Technology, find_technology
-
-# The number of this form of groups.json.
-FORM = 1
-
-FILE = "groups.json"
-REPORT = "report.md"
 
 
 class Compiled:
@@ -197,10 +191,6 @@ class WrittenGroup:
     def _plain(self, types, plane):
         first = [numbers[0] for numbers in self.classes[plane] if numbers[0] in types]
         return ",".join(self.name.get((plane, number), f"space/{plane}") for number in first)
-
-
-def digest(text):
-    return hashlib.sha256(text.encode()).hexdigest()
 
 
 def write_whole(folder, texts):

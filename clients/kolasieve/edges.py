@@ -6,15 +6,8 @@ which squares of a violation they mark. docs/PROCESS.md has what each keyword be
 
 from dataclasses import dataclass
 
+from kolasieve.forms import CELLS, CLIENT, LESS, LONGEST, MORE
 from kolasieve.technology import SPACE
-
-LONGEST = 100
-
-# On which side a rule errs that isn't said exactly.
-MORE = "more"
-LESS = "less"
-CLIENT = "client"
-CELLS = "cells"
 
 SIDES = {
     MORE: "may mark what the rule allows",

@@ -22,6 +22,8 @@ class Flat:
         self.top = library.top
         self.grid = library.grid
         self.watched = watched
+        # Else a contact may lie over its own metal, and over one that it is stacked with: `in_order` is enough for them.
+        self.is_exact = True
         self.whole = {}
 
     def within(self, rect):
@@ -29,6 +31,25 @@ class Flat:
 
         Rectangles of one layer may lie over each other.
         """
+        return not self.is_exact and self.plain(rect) or self.exact(rect)
+
+    def plain(self, rect):
+        """Returns the same where types lie over each other only as contacts may, else None."""
+        layers, watched = {}, []
+        cells = [(place, transform, cell.own.within(seen)) for place, cell, transform, seen in self.top.elements(rect)]
+        cells = [each for each in cells if each[2]]
+        for _, transform, found in cells:
+            for name, rects in found:
+                layers.setdefault(name, []).extend(moved_rects(rects, transform))
+        if not self.rules.are_plain(layers):
+            return None
+        for place, transform, found in cells if self.watched and len(cells) > 1 else ():
+            seen = [(name, rects) for name, rects in found if name in self.watched or name in self.rules.residues]
+            watched.append((place, [moved(part, transform) for part in painted(self.rules, entries_of(seen))]))
+        return {name: layers[name] for name in self.rules.layers if name in layers}, self.placed(watched)
+
+    def exact(self, rect):
+        """Returns what lies in a rectangle, each square in as many layers as a file has it."""
         cells = []
         for place, cell, transform, seen in self.top.elements(rect):
             parts = self.painted(cell, seen)
@@ -49,9 +70,10 @@ class Flat:
     def painted(self, cell, rect):
         """Returns what a cell itself has in a rectangle by plane, that apart which lay over another type."""
         if cell.own.count > SMALL:
-            return painted(self.rules, cell.own.within(rect))
+            return painted(self.rules, entries_of(cell.own.within(rect)))
         if cell not in self.whole:
-            self.whole[cell] = painted(self.rules, cell.own.within(cell.own.bounds) if cell.own.count else [])
+            own = cell.own.within(cell.own.bounds) if cell.own.count else []
+            self.whole[cell] = painted(self.rules, entries_of(own))
         if not cell.own.count or covers(rect, cell.own.bounds):
             return self.whole[cell]
         return [{plane: clipped_entries(entries, rect) for plane, entries in part.items()} for part in self.whole[cell]]
@@ -76,11 +98,24 @@ def flattened(library):
     return {name: strips(rects) for name, rects in layers.items()}
 
 
+def entries_of(layers):
+    """Returns rectangles with types of types with rectangles."""
+    return [(rect, name) for name, rects in layers for rect in rects]
+
+
 def moved(part, transform):
     """Returns planes with rectangles with types, once a transform has led them."""
     if transform == AS_IT_IS:
         return part
     return {plane: [(moved_by(transform, rect), name) for rect, name in entries] for plane, entries in part.items()}
+
+
+def moved_rects(rects, transform):
+    """Returns rectangles once a transform has led them."""
+    a, b, c, d, e, f = transform
+    if (a, b, d, e) == AS_IT_IS[:2] + AS_IT_IS[3:5]:
+        return [(left + c, bottom + f, right + c, top + f) for left, bottom, right, top in rects] if c or f else rects
+    return [moved_by(transform, rect) for rect in rects]
 
 
 def clipped_entries(entries, rect):

@@ -4,6 +4,7 @@ import os
 from math import gcd, lcm
 
 from kolasieve import mag
+from kolasieve.faults import Fault
 from kolasieve.index import Index
 from kolasieve.rects import bounds, covers, meet
 from kolasieve.sheet import Packed, Sheet
@@ -15,11 +16,14 @@ AS_IT_IS = (1, 0, 0, 0, 1, 0)
 FARTHEST = (1 << 31) - 1000
 TOO_FAR = "the layout reaches farther than numbers of 31 bits"
 
+# How many numbers are looked at together.
+SOME = 4096
+
 # Of an array so many elements, at most, are looked into to count their rectangles.
 FEW = 16
 
 
-class LayoutFault(Exception):
+class LayoutFault(Fault):
     """The layout can't be used; the text says which cell, and why."""
 
 
@@ -125,6 +129,8 @@ class Library:
         for each in list(files):
             self.cells[each] = self.cell(*files.pop(each))
         self.top = self.cells[known]
+        # The layers that some cell has.
+        self.names = {name for cell in self.cells.values() for name, _ in cell.own.layers}
         if self.top.bounds and max(map(abs, self.top.bounds)) > FARTHEST:
             raise LayoutFault(f"{path}: {TOO_FAR}")
 
@@ -143,7 +149,7 @@ class Library:
         """Returns the file of a cell, which must be of this technology."""
         try:
             with self.opened(path) as lines:
-                file = mag.read(lines, Packed)
+                file = mag.read_packed(lines, Packed)
         except OSError as fault:
             raise LayoutFault(f"{path}: {fault.strerror}") from None
         except mag.MagFault as fault:
@@ -170,20 +176,20 @@ class Library:
 
     def cell(self, path, file, used):
         """Returns the cell of a file, once those are known that it uses."""
-        scale = file.scale * self.grid
+        over, under = file.scale[0] * self.grid, file.scale[1]
         layers = []
         for section, rects in file.layers.items():
             layer = self.process.layer(section)
             if layer is None:
                 raise LayoutFault(f"{path}: there is no layer {section}")
             try:
-                layers.append((layer.name, rects if scale == 1 else rects.scaled(scale)))
+                layers.append((layer.name, rects if over == under else rects.scaled(over, under)))
             except OverflowError:
                 raise LayoutFault(f"{path}: {TOO_FAR}") from None
-        uses = [self.use(path, scale, use, self.cells[each]) for use, each in zip(file.uses, used)]
+        uses = [self.use(path, over, under, use, self.cells[each]) for use, each in zip(file.uses, used)]
         return Cell(Sheet(layers), [use for use in uses if use])
 
-    def use(self, path, scale, use, cell):
+    def use(self, path, over, under, use, cell):
         """Returns a use of a cell, or None where this has no square."""
         a, b, c, d, e, f = use.transform
         if (abs(a), abs(b), abs(d), abs(e)) not in ((1, 0, 0, 1), (0, 1, 1, 0)):
@@ -191,27 +197,27 @@ class Library:
         if cell.bounds is None:
             return None
         columns, rows = use.elements
-        steps_x, steps_y = int(use.array[2] * scale), int(use.array[5] * scale)
-        return Use(cell, (a, b, int(c * scale), d, e, int(f * scale)), (columns, steps_x), (rows, steps_y))
+        c, f, step_x, step_y = (number * over // under for number in (c, f, use.array[2], use.array[5]))
+        return Use(cell, (a, b, c, d, e, f), (columns, step_x), (rows, step_y))
 
 
 def parts_of(file):
     """Returns into how many parts lambda has to be cut, so that all numbers of a file are whole."""
-    over, parts = file.scale.numerator, file.scale.denominator
+    over, parts = file.scale
     common = parts
-    for number in numbers_of(file):
+    for numbers in numbers_of(file):
         if common == 1:
             break
-        common = gcd(common, number * over)
+        common = gcd(common, over * gcd(*numbers))
     return parts // common
 
 
 def numbers_of(file):
-    """Yields the numbers of a file that are measured on its grid."""
+    """Yields the numbers of a file that are measured on its grid, some at a time."""
     for rects in file.layers.values():
-        yield from rects.numbers
+        yield from (rects.numbers[at : at + SOME] for at in range(0, len(rects.numbers), SOME))
     for use in file.uses:
-        yield from (use.transform[2], use.transform[5], use.array[2], use.array[5])
+        yield use.transform[2], use.transform[5], use.array[2], use.array[5]
 
 
 def composed(outer, inner):

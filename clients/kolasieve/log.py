@@ -8,6 +8,7 @@ from dataclasses import dataclass
 from typing import NamedTuple
 
 from kolasieve import chain
+from kolasieve.faults import Fault
 
 # A longer reply is kept as its length and SHA-256.
 LONGEST_REPLY = 4096
@@ -15,7 +16,7 @@ LONGEST_REPLY = 4096
 # In place of a session's number: texts that are of all.
 OF_ALL = 0
 
-class LogFault(Exception):
+class LogFault(Fault):
     """The log can't be used, or its rows can't be made durable."""
 
 

@@ -1,19 +1,23 @@
 """Cell files of Magic: rectangles by section, uses of other cells, and the scale that all numbers are in."""
 
-from dataclasses import dataclass, field
-from fractions import Fraction
+import io
+from array import array
+from math import gcd
+from operator import ge
 
 # Sections without rectangles of a layer.
 WORDS = {"labels", "properties", "elements"}
 UNCHECKED = "checkpaint"
 MARKS = "error_p"
 
+# How much of a file is read at a time, in characters.
+CHUNK = 1 << 20
+
 
 class MagFault(Exception):
     """The text is no cell file."""
 
 
-@dataclass
 class Use:
     """A cell placed in another one.
 
@@ -21,11 +25,12 @@ class Use:
     and last column and the step between two, and the same of its rows; the transform leads the whole array.
     """
 
-    name: str
-    line: int
-    path: str = ""
-    transform: tuple = None
-    array: tuple = (0, 0, 0, 0, 0, 0)
+    def __init__(self, name, line, path=""):
+        self.name = name
+        self.line = line
+        self.path = path
+        self.transform = None
+        self.array = (0, 0, 0, 0, 0, 0)
 
     @property
     def elements(self):
@@ -34,14 +39,17 @@ class Use:
         return abs(last - first) + 1, abs(top - bottom) + 1
 
 
-@dataclass
 class Cell:
-    """A cell as its file has it: left, bottom, right and top of each rectangle; scale times a number is in lambda."""
+    """A cell as its file has it: left, bottom, right and top of each rectangle, which are in lambda times the scale.
 
-    tech: str = ""
-    scale: Fraction = Fraction(1)
-    sections: dict = field(default_factory=dict)
-    uses: list = field(default_factory=list)
+    The scale is two numbers, one to be divided by the other, in lowest terms.
+    """
+
+    def __init__(self):
+        self.tech = ""
+        self.scale = (1, 1)
+        self.sections = {}
+        self.uses = []
 
     @property
     def layers(self):
@@ -54,29 +62,96 @@ def is_layer(section):
     return section not in (UNCHECKED, "checksubcell") and not section.startswith("error_")
 
 
-def read(text, new=list):
-    """Returns the cell of a text, or of an open file, with its rectangles in what `new` makes for a section.
+def read(text):
+    """Returns the cell of a text, or of an open file. One that Magic would read only in part is refused."""
+    cell = read_packed(text, list)
+    cell.sections = {name: list(rects_of(numbers)) for name, numbers in cell.sections.items()}
+    return cell
 
-    One that Magic would read only in part is refused.
-    """
-    lines = enumerate(text.splitlines() if isinstance(text, str) else text, 1)
-    if next((line.split() for _, line in lines if line.strip() and not line.startswith("#")), None) != ["magic"]:
-        raise MagFault("the first line isn't `magic`")
-    cell, rects, section = Cell(), None, None
-    for number, line in lines:
-        if line.startswith("rect ") and section not in WORDS:
-            if rects is None:
+
+def rects_of(numbers):
+    """Returns the rectangles of numbers, four by four."""
+    return zip(*[iter(numbers)] * 4)
+
+
+def read_packed(text, new):
+    """Returns the same, each section in what `new` makes, with the numbers of its rectangles one behind the other."""
+    file = io.StringIO(text, None) if isinstance(text, str) else text
+    reading = Reading(file, new)
+    while not reading.is_whole and (chunk := file.read(CHUNK)):
+        reading.take(chunk + file.readline())
+    if not reading.is_whole:
+        raise MagFault("the file ends without `<< end >>`")
+    return finished(reading.cell)
+
+
+class Reading:
+    """How far a file is read: its cell, the section, and the numbers of this one."""
+
+    def __init__(self, file, new):
+        self.new = new
+        self.cell = Cell()
+        self.is_whole = False
+        self.section = None
+        self.numbers = None
+        # How many lines are read.
+        self.count = 0
+        heads = (line.split() for line in self.heads(file) if line.strip() and not line.startswith("#"))
+        if next(heads, None) != ["magic"]:
+            raise MagFault("the first line isn't `magic`")
+
+    def heads(self, file):
+        """Yields lines, counted."""
+        while line := file.readline():
+            self.count += 1
+            yield line
+
+    def take(self, text):
+        """Reads whole lines: a section's rectangles together where there is nothing else, else line by line."""
+        for place, part in enumerate(text.removesuffix("\n").split("\n<<")):
+            part = f"<<{part}\n" if place else f"{part}\n"
+            if part.startswith("<<"):
+                line, _, part = part.partition("\n")
+                self.take_line(line)
+            if self.is_whole:
+                return
+            if part and not (self.numbers is not None and self.section not in WORDS and self.take_rects(part)):
+                for line in part.removesuffix("\n").split("\n"):
+                    self.take_line(line)
+
+    def take_rects(self, lines):
+        """Reads lines that are all rectangles, and returns whether they are."""
+        words, count = lines.split(), lines.count("\n")
+        if len(words) != 5 * count or words[::5] != ["rect"] * count:
+            return False
+        if not lines.startswith("rect ") or lines.count("\nrect ") + 1 != count:
+            return False
+        del words[::5]
+        try:
+            numbers = array("q", map(int, words))
+        except (ValueError, OverflowError):
+            return False
+        if any(map(ge, numbers[0::4], numbers[2::4])) or any(map(ge, numbers[1::4], numbers[3::4])):
+            return False
+        self.numbers.extend(numbers)
+        self.count += count
+        return True
+
+    def take_line(self, line):
+        """Reads a line."""
+        self.count += 1
+        number = self.count
+        if line.startswith("rect ") and self.section not in WORDS:
+            if self.numbers is None:
                 raise MagFault(f"line {number}: a rectangle outside sections")
-            rects.append(rect_of(number, line))
+            self.numbers.extend(rect_of(number, line))
         elif line.startswith("<<"):
-            section = section_of(number, line)
-            if section == "end":
-                return finished(cell)
-            if section not in WORDS:
-                rects = cell.sections.setdefault(section, new())
+            self.section = section_of(number, line)
+            self.is_whole = self.section == "end"
+            if not self.is_whole and self.section not in WORDS:
+                self.numbers = self.cell.sections.setdefault(self.section, self.new())
         elif line.strip() and not line.startswith("#"):
-            read_other(cell, section, number, line)
-    raise MagFault("the file ends without `<< end >>`")
+            read_other(self.cell, self.section, number, line)
 
 
 def rect_of(number, line):
@@ -135,7 +210,7 @@ def read_head(cell, number, line):
         over, under = numbers_of(number, line, 2)
         if over < 1 or under < 1:
             raise MagFault(f"line {number}: a scale that isn't positive")
-        cell.scale = Fraction(over, under)
+        cell.scale = over // gcd(over, under), under // gcd(over, under)
 
 
 def finished(cell):
@@ -143,15 +218,15 @@ def finished(cell):
     for use in cell.uses:
         if use.transform is None:
             raise MagFault(f"line {use.line}: a use of {use.name} without a transform")
-    cell.sections = {name: rects for name, rects in cell.sections.items() if rects}
+    cell.sections = {name: numbers for name, numbers in cell.sections.items() if numbers}
     return cell
 
 
-def write(file, tech, sections, scale=Fraction(1)):
+def write(file, tech, sections, scale=(1, 1)):
     """Writes sections, each a name and rectangles, to an open file, as a flat cell."""
     file.write(f"magic\ntech {tech}\n")
-    if scale != 1:
-        file.write(f"magscale {scale.numerator} {scale.denominator}\n")
+    if scale != (1, 1):
+        file.write("magscale %d %d\n" % scale)
     for name, rects in sections:
         file.write(f"<< {name} >>\n")
         file.writelines("rect %d %d %d %d\n" % rect for rect in rects)

@@ -27,6 +27,7 @@ class PaintRules:
         self.stacks = {frozenset((stack.one.name, stack.other.name)): stack.both for stack in process.stacks}
         self.lines = {line[:3]: line[3] for line in self.lines_of(process.compositions)}
         self.known = {}
+        self.plain = {}
         self.reached = {name: self.planes_reached(layer) for name, layer in self.layers.items()}
         # By type and plane, what a line says that painting the type changes on a plane that it hasn't.
         self.crossing = {}
@@ -99,6 +100,57 @@ class PaintRules:
         if len(left) == 2:
             return there.name
         return left[0] if left else self.residues[there.parts[0]][plane]
+
+
+    def reachable(self, names):
+        """Returns the types that layers of these names may become where they come together, these among them."""
+        found = set(names)
+        while True:
+            made = {self.lines[line] for line in self.lines if found.issuperset(line[1:])} - {SPACE}
+            made.update(*(self.residues.get(name, {}).values() for name in found))
+            made.update(*(self.layers[name].parts for name in found))
+            made.update(stack.name for pair, stack in self.stacks.items() if found >= pair)
+            if made <= found:
+                return found
+            found |= made
+
+    def is_plain(self, one, other):
+        """Returns whether two types that lie over each other are in all groups what `in_order` makes of them."""
+        pair = frozenset((one, other))
+        if pair not in self.plain:
+            self.plain[pair] = self.find_plain(self.layers[one], self.layers[other])
+        return self.plain[pair]
+
+    def find_plain(self, one, other):
+        """A contact hides the metal that it consists of, and two that may be stacked make a type of their own."""
+        over = self.stacks.get(frozenset((one.name, other.name))) or self.hiding(one, other) or self.hiding(other, one)
+        if over is None:
+            return False
+        shown = {(image.group, image.plane) for image in over.images}
+        for there, painted in ((one, other), (other, one)):
+            for plane in there.planes:
+                is_both = plane in painted.planes
+                top = over.name if is_both and plane in over.planes else there.name
+                if self.result(plane, there.name, painted.name) != top or is_both and top != over.name:
+                    return False
+                if is_both and any(image.plane == plane and (image.group, plane) not in shown for image in there.images):
+                    return False
+        return True
+
+    def hiding(self, one, other):
+        """Returns a contact that consists of another type, or None."""
+        return one if other.name in self.residues.get(one.name, {}).values() else None
+
+    def are_plain(self, layers):
+        """Returns whether all types that lie over each other are so; `layers` has rectangles of each."""
+        for plane in self.planes:
+            here = [name for name in layers if plane in self.layers[name].planes]
+            risky = [name for name in here if not all(name == each or self.is_plain(name, each) for each in here)]
+            entries = [(rect, name) for name in risky for rect in layers[name]]
+            if any(a[1] != b[1] and not self.is_plain(a[1], b[1]) for a, b in overlapping(entries)):
+                return False
+        names = {*layers, *(stack.name for pair, stack in self.stacks.items() if pair <= layers.keys())}
+        return all(names.isdisjoint(there) for name in layers for there in self.crossing.get(name, {}).values())
 
 
 class Planes:
@@ -192,4 +244,19 @@ def crossed(rules, entries, own, mixed):
             changed = rules.crossing[entry[1]][plane]
             if others := [each for each in index.meeting(entry[0]) if each in mixed or each[1] in changed]:
                 found.update(others, [entry])
+    return found
+
+
+def in_order(process, layers):
+    """Returns layers as they are painted in turn: contacts last, and two stacked ones as what they are together."""
+    found = {
+        layer.name: layers[layer.name]
+        for layer in sorted(process.layers, key=lambda layer: bool(layer.residues))
+        if layer.name in layers
+    }
+    for stack in process.stacks:
+        one, other = stack.one.name, stack.other.name
+        if one in layers and other in layers:
+            pairs = overlapping([(rect, name) for name in (one, other) for rect in layers[name]])
+            found[stack.both.name] = sorted(common(a[0], b[0]) for a, b in pairs if a[1] != b[1])
     return found

@@ -1,13 +1,10 @@
 """The planes and types of a technology as magicd reads it, by their numbers."""
 
-from typing import NamedTuple
+from collections import namedtuple
 
 
-class Type(NamedTuple):
+class Type(namedtuple("Type", "names plane")):
     """A type by its names, and the number of its plane."""
-
-    names: tuple
-    plane: int
 
 
 # Those of the technology that is built in.

@@ -1,13 +1,10 @@
 """Work done by several processes, which end when the one that started them does."""
 
-import multiprocessing
 import os
 import signal
-import threading
-from concurrent.futures import FIRST_COMPLETED, ProcessPoolExecutor, wait
-from concurrent.futures.process import BrokenProcessPool
 
-from kolasieve.program import Program
+from kolasieve.faults import Fault
+from kolasieve.script import Run
 
 # How many items wait for each process.
 AHEAD = 2
@@ -17,7 +14,7 @@ AHEAD = 2
 doing = None
 
 
-class PoolFault(Exception):
+class PoolFault(Fault):
     """A process of the pool was killed."""
 
 
@@ -30,6 +27,11 @@ def results(work, items, jobs):
     if jobs == 1:
         yield from map(work, items)
         return
+    # They take longer to import than a small layout to check.
+    import multiprocessing
+    from concurrent.futures import FIRST_COMPLETED, ProcessPoolExecutor, wait
+    from concurrent.futures.process import BrokenProcessPool
+
     ours, theirs = os.pipe()
     executor = ProcessPoolExecutor(jobs, multiprocessing.get_context("fork"), follow, (work, ours, theirs))
     try:
@@ -54,6 +56,8 @@ def results(work, items, jobs):
 
 def follow(work, ours, theirs):
     """Has a new process do this work, until the one that has forked it closes its end of a pipe, or ends."""
+    import threading
+
     global doing
     doing = work
     signal.signal(signal.SIGINT, signal.SIG_IGN)
@@ -64,7 +68,7 @@ def follow(work, ours, theirs):
 
 def wait_for_end(pipe):
     os.read(pipe, 1)
-    Program.kill_all()
+    Run.kill_all()
     os._exit(1)
 
 

@@ -5,7 +5,7 @@
     process.path                              the technology file that was compiled
     process.unit                              the side of a square in nanometres, or None where the technology says none
     process.notice()                          the line to show whenever the process is used, "" where all is exact
-    process.groups[g].path                    the technology file of a group, for `magicd --tech`
+    process.groups[g].path, .text             the technology file of a group, for `magicd --tech`, and what it has
     process.groups[g].rules[n - 1].why        the text of rule n of a group (`drc why`, `%why`, ..)
     process.groups[g].planes, .halo           its planes in order, and how far its rules reach
     process.groups[g].types                   its types, short names, each with its plane; one `erase` takes all
@@ -32,12 +32,11 @@ Where two contacts of `process.stacks` overlap, the layer of both is painted aft
 """
 
 import json
-import pathlib
-from dataclasses import dataclass
+import os
 
 from kolasieve.areas import Area, small_pieces
-from kolasieve.compiling import FILE, FORM, REPORT, digest
-from kolasieve.edges import CELLS, CLIENT, LESS, MORE
+from kolasieve.faults import Fault
+from kolasieve.forms import CELLS, CLIENT, FILE, FORM, LESS, MORE, REPORT, digest
 
 __all__ = ["Area", "Group", "Image", "Layer", "Overlap", "Process", "ProcessFault", "Rule", "Stack", "small_pieces"]
 
@@ -49,79 +48,82 @@ NOTICES = (
 )
 
 
-class ProcessFault(Exception):
+class ProcessFault(Fault):
     """The folder holds no compiled process; the text says why."""
 
 
-@dataclass(frozen=True)
 class Image:
     """Where a layer is painted in a group: a type on a plane."""
 
-    group: int
-    type: str
-    name: str
-    plane: str
-    order: int
+    def __init__(self, group, type, name, plane, order):
+        self.group = group
+        self.type = type
+        self.name = name
+        self.plane = plane
+        self.order = order
 
 
-@dataclass(frozen=True)
 class Layer:
     """A type of the process: its planes, and its images. A contact has residues, a stacked contact parts."""
 
-    names: tuple
-    planes: tuple
-    residues: tuple
-    parts: tuple
-    images: tuple
-
-    @property
-    def name(self):
-        return self.names[0]
+    def __init__(self, names, planes, residues, parts, images):
+        self.names = names
+        self.name = names[0]
+        self.planes = planes
+        self.residues = residues
+        self.parts = parts
+        self.images = images
 
 
-@dataclass(frozen=True)
 class Stack:
     """Two contacts, and the layer that they are where both lie."""
 
-    one: Layer
-    other: Layer
-    both: Layer
+    def __init__(self, one, other, both):
+        self.one = one
+        self.other = other
+        self.both = both
 
 
-@dataclass(frozen=True)
 class Rule:
     """A rule of a group: the line of the technology that it comes from, and its text."""
 
-    line: int
-    keyword: str
-    why: str
+    def __init__(self, line, keyword, why):
+        self.line = line
+        self.keyword = keyword
+        self.why = why
 
 
-@dataclass(frozen=True)
 class Group:
     """A technology file for one magicd. Its types are short names, each with its plane."""
 
-    path: pathlib.Path
-    planes: tuple
-    types: dict
-    halo: int
-    rules: tuple
+    def __init__(self, path, planes, types, halo, rules):
+        self.path = path
+        self.planes = planes
+        self.types = types
+        self.halo = halo
+        self.rules = rules
+
+    @property
+    def text(self):
+        """What the file has."""
+        with open(self.path, encoding="utf-8") as file:
+            return file.read()
 
 
-@dataclass(frozen=True)
 class Overlap:
     """A rule on layers of different cells: `exact_overlap` has one list of layers' names, `no_overlap` two."""
 
-    line: int
-    keyword: str
-    lists: tuple
+    def __init__(self, line, keyword, lists):
+        self.line = line
+        self.keyword = keyword
+        self.lists = lists
 
 
 class Process:
     """A compiled process."""
 
     def __init__(self, folder, document):
-        self.folder = pathlib.Path(folder)
+        self.folder = folder
         self.name = document["technology"]
         self.path = document["path"]
         self.unit = document["unit"]
@@ -147,16 +149,17 @@ class Process:
     @classmethod
     def load(cls, folder):
         """Reads a folder that `clients/process compile` has written, and checks that its files belong together."""
-        path = pathlib.Path(folder, FILE)
+        path = os.path.join(folder, FILE)
         try:
-            document = json.loads(path.read_text(encoding="utf-8"))
+            with open(path, encoding="utf-8") as file:
+                document = json.load(file)
             if document["form"] != FORM:
                 raise ProcessFault(f"{path}: another version has compiled it; compile again")
-            for each in document["groups"]:
-                file = path.parent / each["file"]
-                if digest(file.read_text(encoding="utf-8")) != each["sha256"]:
-                    raise ProcessFault(f"{file}: it isn't the file that was compiled; compile again")
-            return cls(folder, document)
+            process = cls(os.fspath(folder), document)
+            for group, each in zip(process.groups, document["groups"]):
+                if digest(group.text) != each["sha256"]:
+                    raise ProcessFault(f"{group.path}: it isn't the file that was compiled; compile again")
+            return process
         except OSError as fault:
             raise ProcessFault(f"{fault.filename}: {fault.strerror}") from None
         except (ValueError, LookupError, TypeError, AttributeError):
@@ -164,7 +167,8 @@ class Process:
 
     def _group(self, each):
         rules = tuple(Rule(rule["line"], rule["keyword"], rule["why"]) for rule in each["rules"])
-        return Group(self.folder / each["file"], tuple(each["planes"]), dict(each["types"]), each["halo"], rules)
+        path = os.path.join(self.folder, each["file"])
+        return Group(path, tuple(each["planes"]), dict(each["types"]), each["halo"], rules)
 
     def _layer(self, each):
         images = tuple(
@@ -191,4 +195,4 @@ class Process:
                 counts.append(f"{len(lines)} {words}")
         if not counts:
             return ""
-        return f"{self.name}: of {self.lines} rule lines {', '.join(counts)} ({self.folder / REPORT})"
+        return f"{self.name}: of {self.lines} rule lines {', '.join(counts)} ({os.path.join(self.folder, REPORT)})"

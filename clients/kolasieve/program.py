@@ -22,6 +22,17 @@ LONGEST_END = 0.5
 LONGEST_MESSAGE = 2000
 
 
+def pass_on(say):
+    """Has a function called with each message of a magicd from now on, as how far its build is."""
+
+    class Said(logging.Handler):
+        def emit(self, record):
+            say(record.getMessage())
+
+    log.addHandler(Said())
+    log.setLevel(logging.INFO)
+
+
 class Ended(Exception):
     """magicd has ended, and won't reply."""
 
@@ -85,6 +96,18 @@ class Program:
             start_new_session=True,
         )
         return cls(process, on_end)
+
+    @classmethod
+    async def build(cls, command):
+        """Starts magicd and ends it, as the launcher's first call builds it; returns "", or why it has failed."""
+        program = await cls.start(command, lambda *_: None)
+        try:
+            program.ending = True
+            program.process.stdin.close()
+            said = await program.last_words()
+        finally:
+            await program.stop()
+        return said if program.process.returncode else ""
 
     def ask(self, line):
         """Sends a line, and returns a future of its reply: bytes that end with a line feed.

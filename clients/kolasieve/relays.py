@@ -8,8 +8,9 @@ import sys
 import tempfile
 
 from kolasieve.addresses import parse
-from kolasieve.check import Check
+from kolasieve.faults import Fault
 from kolasieve.logs import is_file, log_of_part
+from kolasieve.program import Program
 from kolasieve.scaling import scaled
 from kolasieve.served import Served, digests_of
 from kolasieve.tokens import token_at
@@ -23,7 +24,7 @@ LISTENING = b"listening at "
 LONGEST_END = 5
 
 
-class RelayFault(Exception):
+class RelayFault(Fault):
     """A relay has ended; its messages say why."""
 
 
@@ -104,7 +105,8 @@ class Relays:
             token_at(self.token, self.words.new_token)
         if self.words.log and is_file(self.words.log):
             os.makedirs(self.words.log, exist_ok=True)
-        await Check(self.process, self.words.server, None).build()
+        if fault := await Program.build([self.words.server]):
+            raise RelayFault(fault)
         with tempfile.TemporaryDirectory(prefix="kolasieve-") as scratch:
             try:
                 for number, technology in enumerate(self.technologies(scratch)):
@@ -118,10 +120,10 @@ class Relays:
 
     def technologies(self, scratch):
         """Returns the technology file of each group, for lambda on the grid that is wanted."""
-        paths = [str(group.path) for group in self.process.groups]
+        paths = [group.path for group in self.process.groups]
         if self.words.grid > 1:
-            texts = [scaled(group.path.read_text(encoding="utf-8"), self.words.grid) for group in self.process.groups]
-            paths = [os.path.join(scratch, group.path.name) for group in self.process.groups]
+            texts = [scaled(group.text, self.words.grid) for group in self.process.groups]
+            paths = [os.path.join(scratch, os.path.basename(path)) for path in paths]
             for path, text in zip(paths, texts):
                 pathlib.Path(path).write_text(text, encoding="utf-8")
         return paths

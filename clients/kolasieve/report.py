@@ -3,31 +3,25 @@
 import contextlib
 import json
 import os
-import tempfile
-from collections.abc import Collection
-from dataclasses import dataclass, field
 from itertools import islice
-from fractions import Fraction
-from xml.sax.saxutils import escape
 
 from kolasieve import mag
 from kolasieve.rects import squares
 
 
-@dataclass
 class Violation:
     """A rule that forbids something: its text, strips of what it forbids, and whether the proved server found them."""
 
-    text: str
-    strips: Collection
-    is_proved: bool = True
+    def __init__(self, text, strips, is_proved=True):
+        self.text = text
+        self.strips = strips
+        self.is_proved = is_proved
 
     @property
     def squares(self):
         return squares(self.strips)
 
 
-@dataclass
 class Report:
     """What is forbidden in a layout, by rule, and the strips of all of it together, whatever forbids them.
 
@@ -35,16 +29,17 @@ class Report:
     are listed, or all.
     """
 
-    layout: str
-    cell: str
-    tech: str
-    micrometres: float
-    grid: int
-    layers: dict
-    violations: list
-    marks: Collection
-    notes: list = field(default_factory=list)
-    most: int = None
+    def __init__(self, layout, cell, tech, micrometres, grid, layers, violations, marks, notes=(), most=None):
+        self.layout = layout
+        self.cell = cell
+        self.tech = tech
+        self.micrometres = micrometres
+        self.grid = grid
+        self.layers = layers
+        self.violations = violations
+        self.marks = marks
+        self.notes = list(notes)
+        self.most = most
 
     def listed(self, violation):
         """Returns the strips of a rule that are listed."""
@@ -111,7 +106,7 @@ class Report:
 
     def write_cell(self, file):
         """Writes the flat layout with all that is forbidden as `error_p`."""
-        mag.write(file, self.tech, [(mag.MARKS, self.marks), *self.layers.items()], Fraction(1, self.grid))
+        mag.write(file, self.tech, [(mag.MARKS, self.marks), *self.layers.items()], (1, self.grid))
 
     def write_feedback(self, file):
         """Writes commands for a Magic that shows the layout: feedback for each strip, in lambda."""
@@ -134,6 +129,9 @@ WRITERS = {
 @contextlib.contextmanager
 def replaced(path):
     """Gives a file to write, which takes the place of the one of this path once all is written."""
+    # It is imported here, since it takes long to import, and few reports are written to a file.
+    import tempfile
+
     folder, name = os.path.split(path)
     try:
         number, written = tempfile.mkstemp(prefix=f".{name}.", dir=folder or ".", text=True)
@@ -151,6 +149,11 @@ def replaced(path):
         if isinstance(fault, OSError):
             raise OSError(fault.errno, fault.strerror, path) from None
         raise
+
+
+def escape(text):
+    """Returns a text as XML has it."""
+    return text.replace("&", "&amp;").replace("<", "&lt;").replace(">", "&gt;")
 
 
 def umask():

@@ -1,26 +1,25 @@
-"""What the rules of a process forbid in windows of a layout, those that magicd checks and those that are the client's."""
+"""What the rules of a process forbid in windows of a layout, those that magicd checks, and those that clients do."""
 
-import asyncio
-from dataclasses import replace
-from typing import NamedTuple
+import os
+from collections import namedtuple
 
-from kolasieve.areas import small_pieces
-from kolasieve.batch import Batches
-from kolasieve.chip import in_order
+from kolasieve.areas import Area, small_pieces
+from kolasieve.batch import Batches, Part, write
 from kolasieve.flat import Flat
+from kolasieve.live import Live, gathered
 from kolasieve.overlaps import TEXTS, OverlapRules
+from kolasieve.paint import in_order
 from kolasieve.rects import clipped, grown
-from kolasieve.windows import Window
+from kolasieve.scaling import scaled
+from kolasieve.script import side_by_side
+from kolasieve.windows import Window, fitting
 
 # How far round a window rules between cells look.
 NEAR = 2
 
 
-class Named(NamedTuple):
+class Named(namedtuple("Named", "text is_proved", defaults=[True])):
     """A rule as a report has it: its text, and whether the proved server finds what it forbids."""
-
-    text: str
-    is_proved: bool = True
 
 
 def rules_of(process):
@@ -33,54 +32,81 @@ def rules_of(process):
 class Search:
     """Finds what is forbidden in a layout, window by window."""
 
-    def __init__(self, library, parts, choice):
-        """Takes what is checked of the groups, and what was chosen."""
+    def __init__(self, library, choice, folder):
+        """Takes what was chosen, and a folder for files."""
         process = library.process
         self.process = process
-        self.parts = parts
         self.choice = choice
+        self.folder = folder
         self.overlaps = OverlapRules(process)
         self.flat = Flat(library, self.overlaps.watched if any(map(choice.has_rule, TEXTS)) else ())
+        # The layers that the layout may have once it is flat.
+        names = self.flat.rules.reachable(library.names)
         self.areas = [
-            replace(area, squares=area.squares * library.grid**2) for area in process.areas if choice.has_rule(area.why)
+            Area(area.line, area.why, area.plane, area.squares * library.grid**2, area.layers)
+            for area in process.areas
+            if choice.has_rule(area.why) and not names.isdisjoint(area.layers)
         ]
+        self.flat.is_exact = choice.has_layers or bool(self.areas)
+        images = [self.images(number, names) for number in range(len(process.groups))]
+        lives = [
+            Live(number, group, {image.type for each in images[number].values() for image in each}, choice.has_rule)
+            for number, group in enumerate(process.groups)
+        ]
+        self.parts, reach = [], 0
+        for live in gathered(lives):
+            self.parts.append(self.part(live, images[live.number], library.grid))
+            reach = max(reach, *(rule.reach * library.grid for rule in live.rules))
         # How far round a window the layout is looked at.
-        self.border = max([NEAR, *(part.border for part in parts)])
+        self.border = max(NEAR, reach + 1)
         self.batches = []
+        self.sizes = None
         self.at_once = 1
 
-    def use(self, server, sizes, folder, at_once):
-        """Has so many servers at a time check windows of these sizes, with a folder for their files."""
-        self.batches = [Batches(part, server, sizes, folder) for part in self.parts]
+    def images(self, number, names):
+        """Returns what a group has of each layer, of those alone that have these names."""
+        return {
+            layer.name: [image for image in layer.images if image.group == number and layer.name in names]
+            for layer in self.process.layers
+        }
+
+    def part(self, live, images, grid):
+        """Returns what is checked of a group, whose technology it writes for lambda on this grid."""
+        path = os.path.join(self.folder, os.path.basename(live.group.path))
+        text = scaled(live.with_rules(), grid)
+        write(path, text)
+        planes = live.looked_at
+        shown = {name: [image for image in found if image.plane in planes] for name, found in images.items()}
+        return Part(live.group, path, text, [rule.why for rule in live.rules], shown)
+
+    def use(self, server, sizes, at_once):
+        """Has so many servers at a time check windows of these sizes."""
+        self.batches = [Batches(part, server, sizes, self.folder) for part in self.parts]
+        self.sizes = sizes
         self.at_once = at_once
 
     def __call__(self, window):
         """Returns the weight of a window, what is forbidden in it by rule, and its layers, where the report has these."""
         core, weight = window
         layers, placed = self.flat.within(grown(core, self.border))
-        found = {Named(text): rects for text, rects in asyncio.run(self.by_servers(core, layers)).items()}
+        found = {Named(text): rects for text, rects in self.by_servers(core, layers).items()}
         found |= dict(self.by_client(core, layers, placed))
         if not self.choice.has_layers:
             return weight, found, {}
         return weight, found, {name: clipped(rects, core) for name, rects in layers.items()}
 
-    async def by_servers(self, core, layers):
+    def by_servers(self, core, layers):
         """Returns what all groups forbid."""
-        free, shown = asyncio.Semaphore(self.at_once), in_order(self.process, layers)
-        checks = [self.by_server(batches, free, core, shown) for batches in self.batches]
-        found = {}
-        # All are waited for, also where one fails: one that has just started a server can't be broken off cleanly.
-        for part in await asyncio.gather(*checks, return_exceptions=True):
-            if isinstance(part, BaseException):
-                raise part
+        shown = {
+            name: rects
+            for name, rects in in_order(self.process, layers).items()
+            if rects and any(part.images[name] for part in self.parts)
+        }
+        windows, found = list(fitting(Window(core, self.border, shown), self.sizes, self.parts)), {}
+        for part in side_by_side([each.violations(windows) for each in self.batches], self.at_once):
             for text, rects in part.items():
                 found.setdefault(text, []).extend(rects)
         return found
-
-    async def by_server(self, batches, free, core, shown):
-        """Returns what a group forbids."""
-        async with free:
-            return await batches.violations(Window.of(core, batches.part.border, batches.part.shown(shown)))
 
     def by_client(self, core, layers, placed):
         """Yields what the rules forbid that speak of areas, or of several cells."""

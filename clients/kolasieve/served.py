@@ -6,7 +6,7 @@ import pathlib
 from dataclasses import asdict, dataclass
 
 from kolasieve.addresses import parse
-from kolasieve.compiling import digest
+from kolasieve.forms import digest
 from kolasieve.process import Process, ProcessFault
 from kolasieve.report import replaced
 
@@ -20,7 +20,7 @@ class ServedFault(Exception):
 
 def digests_of(process):
     """Returns the hash of each group's technology file."""
-    return [digest(group.path.read_text(encoding="utf-8")) for group in process.groups]
+    return [digest(group.text) for group in process.groups]
 
 
 @dataclass(frozen=True)

@@ -4,8 +4,9 @@ import asyncio
 
 from kolasieve import mag, violations
 from kolasieve.carrier import Carrier, Lost
-from kolasieve.chip import Chip, Place, images_by_layer, in_order
+from kolasieve.chip import Chip, Place, images_by_layer
 from kolasieve.layout import differing
+from kolasieve.paint import in_order
 from kolasieve.rects import strips
 
 # How often a session is asked for that another connection still has, and how many seconds lie between.

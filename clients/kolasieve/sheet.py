@@ -1,11 +1,16 @@
 """Many rectangles in little memory: in the order in which they came, and found by where they are."""
 
 from array import array
+from itertools import chain
 
-from kolasieve.rects import bounds, clipped, common
+from kolasieve.mag import rects_of
+from kolasieve.rects import bounds, clipped, common, covers, meet
 
-# How many rectangles a bin has, about, and how many times as long the sides of the next larger bins are.
+# How many rectangles of a layer lie in one bin, where they are no more; and how many in a bin, about, where they are.
+FEW = 2048
 EACH = 256
+
+# How many times as long the sides of the next larger bins are.
 STEP = 4
 
 # From how many bins on rectangles aren't counted one by one.
@@ -14,9 +19,6 @@ MANY = 16
 # The parts in which shares of a bin are counted.
 WHOLE = 1 << 16
 
-# The numbers of an entry.
-ENTRY = 6
-
 
 class Packed:
     """Rectangles of four numbers each, of at most 31 bits; longer ones are an `OverflowError`."""
@@ -24,18 +26,24 @@ class Packed:
     def __init__(self, numbers=()):
         self.numbers = array("i", numbers)
 
-    def append(self, rect):
-        self.numbers.extend(rect)
+    @classmethod
+    def of(cls, rects):
+        """Returns these rectangles."""
+        return cls(chain.from_iterable(rects))
+
+    def extend(self, numbers):
+        """Adds rectangles by their numbers."""
+        self.numbers.extend(array("i", numbers))
 
     def __len__(self):
         return len(self.numbers) // 4
 
     def __iter__(self):
-        return zip(*[iter(self.numbers)] * 4)
+        return rects_of(self.numbers)
 
-    def scaled(self, scale):
+    def scaled(self, over, under):
         """Returns the rectangles on another grid, on which they are whole."""
-        return Packed(number * scale.numerator // scale.denominator for number in self.numbers)
+        return Packed([number * over // under for number in self.numbers])
 
     @property
     def bounds(self):
@@ -45,39 +53,59 @@ class Packed:
 
 
 class Sheet:
-    """Rectangles with types, as they are painted in turn.
-
-    An entry is its place in the order, the number of its type, and left, bottom, right, top. It lies in the bin of its
-    lower left corner; the side of the bin is no shorter than its own.
-    """
+    """Rectangles with types, as they are painted in turn."""
 
     def __init__(self, layers):
         """Takes types in turn, each with its packed rectangles, of which there is one at least."""
-        self.names = [name for name, _ in layers]
-        self.count = sum(len(rects) for _, rects in layers)
+        self.layers = [(name, Layer(rects)) for name, rects in layers]
+        self.count = sum(layer.count for _, layer in self.layers)
         # The lines round all rectangles, or None.
-        self.bounds = bounds([rects.bounds for _, rects in layers]) if layers else None
-        # Bins by their places, by the length of their sides.
-        self.levels = {}
-        self.fill(layers)
+        self.bounds = bounds([layer.bounds for _, layer in self.layers]) if layers else None
 
-    def fill(self, layers):
-        least = side_for(self.bounds, self.count) if layers else 1
-        place = 0
-        for number, (_, rects) in enumerate(layers):
-            for left, bottom, right, top in rects:
-                side = least
-                while side < right - left or side < top - bottom:
-                    side *= STEP
-                bins = self.levels.setdefault(side, {})
+    def within(self, rect):
+        """Returns what of the rectangles lies in one: types in turn, each with its rectangles."""
+        found = [(name, layer.within(rect)) for name, layer in self.layers]
+        return [(name, rects) for name, rects in found if rects]
+
+    def weight(self, rect):
+        """Returns about how many rectangles have a square in a rectangle, at least one where any has."""
+        return sum(layer.weight(rect) for _, layer in self.layers)
+
+
+class Layer:
+    """Rectangles in bins. Each lies in that of its lower left corner; the side of the bin is no shorter than its own."""
+
+    def __init__(self, rects):
+        """Takes packed rectangles, of which there is one at least."""
+        self.count = len(rects)
+        self.bounds = rects.bounds
+        # The numbers of all rectangles, where they are few.
+        self.numbers = rects.numbers if self.count <= FEW else None
+        # Else those of the rectangles in each bin by its place, by the length of the sides of bins.
+        self.levels = {}
+        if self.numbers is None:
+            self.fill(rects)
+
+    def fill(self, rects):
+        side = side_for(self.bounds, self.count)
+        while rects:
+            bins, longer = self.levels.setdefault(side, {}), []
+            for rect in rects:
+                left, bottom, right, top = rect
+                if right - left > side or top - bottom > side:
+                    longer.append(rect)
+                    continue
                 key = left // side, bottom // side
-                if key not in bins:
-                    bins[key] = array("i")
-                bins[key].extend((place, number, left, bottom, right, top))
-                place += 1
+                if key in bins:
+                    bins[key].extend(rect)
+                else:
+                    bins[key] = array("i", rect)
+            rects, side = longer, side * STEP
 
     def near(self, rect):
         """Yields the bins that may have something of a rectangle, each with the square of the corners in it."""
+        if self.numbers is not None:
+            yield self.bounds, self.numbers
         left, bottom, right, top = rect
         for side, bins in self.levels.items():
             columns = range((left - side) // side, (right - 1) // side + 1)
@@ -87,28 +115,28 @@ class Sheet:
                 if x in columns and y in rows and (x, y) in bins:
                     yield (x * side, y * side, (x + 1) * side, (y + 1) * side), bins[x, y]
 
-    def meeting(self, bins, rect):
-        """Returns the entries of bins that have a square in a rectangle."""
-        left, bottom, right, top = rect
-        return [
-            each
-            for _, numbers in bins
-            for each in zip(*[iter(numbers)] * ENTRY)
-            if each[2] < right and left < each[4] and each[3] < top and bottom < each[5]
-        ]
-
     def within(self, rect):
-        """Returns what of the rectangles lies in one, each with its type, as they are painted."""
-        found = sorted(self.meeting(self.near(rect), rect))
-        names = [self.names[number] for _, number, *_ in found]
-        return list(zip(clipped([each[2:] for each in found], rect), names))
+        """Returns what of the rectangles lies in one."""
+        if not meet(self.bounds, rect):
+            return []
+        if covers(rect, self.bounds) and self.numbers is not None:
+            return list(rects_of(self.numbers))
+        return clipped((each for _, numbers in self.near(rect) for each in rects_of(numbers)), rect)
 
     def weight(self, rect):
-        """Returns about how many rectangles have a square in a rectangle, at least one where any has."""
+        """Returns about how many of the rectangles have a square in one, at least one where any has."""
+        if not meet(self.bounds, rect):
+            return 0
+        if covers(rect, self.bounds):
+            return self.count
         bins = list(self.near(rect))
-        if len(bins) <= MANY:
-            return len(self.meeting(bins, rect))
-        return sum(max(1, len(numbers) // ENTRY * share(square, rect) // WHOLE) for square, numbers in bins)
+        if len(bins) > MANY:
+            return sum(max(1, len(numbers) // 4 * share(square, rect) // WHOLE) for square, numbers in bins)
+        count = 0
+        for square, numbers in bins:
+            is_inside = self.numbers is None and covers(rect, square)
+            count += len(numbers) // 4 if is_inside else sum(meet(each, rect) for each in rects_of(numbers))
+        return count
 
 
 def share(square, rect):
@@ -122,6 +150,6 @@ def side_for(bounds, count):
     """Returns the side of the least bins for so many rectangles."""
     left, bottom, right, top = bounds
     side = 1
-    while side * side * max(count, 1) < (right - left) * (top - bottom) * EACH:
+    while side * side * count < (right - left) * (top - bottom) * EACH:
         side *= 2
     return side

@@ -6,8 +6,6 @@ import subprocess
 from kolasieve.hierarchy import SUFFIX, LayoutFault
 from kolasieve.report import tcl_word
 
-STREAM = ".gds"
-
 # Writes all cells to the folder in which Magic runs, and says which are used by no other.
 SCRIPT = """drc off
 if {{[catch {{gds read {path}}} fault]}} {{

@@ -10,6 +10,8 @@ import os
 import pathlib
 from dataclasses import dataclass, field
 
+from kolasieve.faults import Fault
+
 SPACE = 0
 
 # Names of Magic's own planes and types, which an abbreviation may meet too. Lists of rules can do nothing with them.
@@ -23,7 +25,7 @@ BUILT_IN = -1
 SUFFIX = ".tech"
 
 
-class TechnologyFault(Exception):
+class TechnologyFault(Fault):
     """The technology can't be used; the text says where and why."""
 
 

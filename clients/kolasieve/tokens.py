@@ -7,10 +7,12 @@ import re
 import secrets
 import stat
 
+from kolasieve.faults import Fault
+
 TOKEN = re.compile(r"[A-Za-z0-9_-]{16,200}\n?\Z")
 
 
-class TokenFault(Exception):
+class TokenFault(Fault):
     """There is no such file, nor can there be one; the text says why."""
 
 

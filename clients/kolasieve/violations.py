@@ -24,8 +24,13 @@ def expect(reply, word):
 
 def listed(reply):
     """Returns the number and the text of each rule in the reply to `%violations`, and the strips of what it forbids."""
+    return rules_of(reply.split(b"\n")[1:])
+
+
+def rules_of(lines):
+    """Returns the same of the lines below the reply's first one."""
     rules = []
-    for line in reply.split(b"\n")[1:]:
+    for line in lines:
         word, _, rest = line.partition(b" ")
         if word == b"rule":
             number, _, text = rest.partition(b" ")

@@ -4,21 +4,25 @@ What is marked in a window depends on the layout as far round it as the rules re
 two, and a window is cut in the middle, so that cuts don't move with the layout's bounds.
 """
 
-from dataclasses import dataclass
-
-from kolasieve.rects import clipped, grown, meet
+from kolasieve.rects import bounds, clipped, common, grown, meet
 
 # Tiles of a plane for each rectangle on it, empty ones among them: about as many as a routed block has.
 TILES_EACH = 2.8
 
+# magicd is asked for squares of this side where they have so many rectangles: it is quickest up to 1024 lines.
+BOX = 800
+LEAST = 64
 
-@dataclass(frozen=True)
+
 class Sizes:
     """The most that a session's window may have, squares a side and tiles of a plane; and rectangles of one for a process."""
 
-    side: int = 1 << 19
-    tiles: int = 16384
-    rects: int = 30000
+    tiles = 16384
+
+    def __init__(self, side=1 << 19, tiles=tiles, rects=30000):
+        self.side = side
+        self.tiles = tiles
+        self.rects = rects
 
 
 def around(rect):
@@ -59,54 +63,85 @@ def plan(region, weight, border, most):
             yield core, rects
 
 
-@dataclass(frozen=True)
 class Window:
-    """What a group shows in a window and round it: types, each with its plane and rectangles, as they are painted."""
+    """What a layout has in a window and round it: rectangles by layer, as they are painted in turn."""
 
-    core: tuple
-    border: int
-    painted: list
-
-    @classmethod
-    def of(cls, core, border, shown):
-        """Returns the window with what lies within its border."""
-        near, painted = grown(core, border), []
-        for image, plane, rects in shown:
-            if found := clipped(rects, near):
-                painted.append((image, plane, found))
-        return cls(core, border, painted)
+    def __init__(self, core, border, layers):
+        """Takes a layout that has nothing farther from the window than the border is wide."""
+        self.core = core
+        self.border = border
+        self.layers = layers
+        # The lines of layers, and where may be forbidden what, once they were asked for.
+        self.lines = {}
+        self.looks = []
 
     @property
     def halves(self):
-        return [Window.of(core, self.border, self.painted) for core in halves(self.core)]
+        """The two halves of the window."""
+        return [self.part(core) for core in halves(self.core)]
 
-    def fits(self, sizes):
-        """Returns whether it is no larger than it may be, and no plane is likely to have more tiles."""
+    def part(self, core):
+        """Returns the window of a part."""
+        near = grown(core, self.border)
+        layers = {name: clipped(rects, near) for name, rects in self.layers.items()}
+        return Window(core, self.border, {name: rects for name, rects in layers.items() if rects})
+
+    def fits(self, sizes, parts):
+        """Returns whether it is no larger than it may be, and no plane of some groups is likely to have more tiles."""
         left, bottom, right, top = self.core
         if max(right - left, top - bottom) > sizes.side:
             return False
-        counts = {}
-        for _, plane, rects in self.painted:
-            counts[plane] = counts.get(plane, 0) + len(rects)
-        return max(counts.values(), default=0) * TILES_EACH + 5 <= sizes.tiles
+        most = 0
+        for part in parts:
+            counts = {}
+            for name, rects in self.layers.items():
+                for image in part.images[name]:
+                    counts[image.plane] = counts.get(image.plane, 0) + len(rects)
+            most = max([most, *counts.values()])
+        return most * TILES_EACH + 5 <= sizes.tiles
 
-    def text(self, tech):
-        """Returns the window as a cell file, with its lower left corner in the middle of the world."""
+    def text(self, images):
+        """Returns the window as a cell file of these images, with its lower left corner in the middle of the world."""
+        parts = ["magic\n"]
+        for name in self.layers:
+            for image in images[name]:
+                parts += [f"<< {image.type} >>\n", self.lines_of(name)]
+        return "".join([*parts, "<< end >>\n"])
+
+    def lines_of(self, name):
+        """Returns the lines of a layer's rectangles."""
+        if name not in self.lines:
+            x, y, *_ = self.core
+            numbers = [at for l, b, r, t in self.layers[name] for at in (l - x, b - y, r - x, t - y)]
+            self.lines[name] = "rect %d %d %d %d\n" * len(self.layers[name]) % tuple(numbers)
+        return self.lines[name]
+
+    @property
+    def boxes(self):
+        """Rectangles in which all is that may be forbidden, in its own numbers."""
+        self.looks = self.looks or self.find_boxes()
+        return self.looks
+
+    def find_boxes(self):
         x, y, *_ = self.core
-        parts = [f"magic\ntech {tech}\n"]
-        for image, _, rects in self.painted:
-            parts.append(f"<< {image} >>\n")
-            parts += [f"rect {rect[0] - x} {rect[1] - y} {rect[2] - x} {rect[3] - y}\n" for rect in rects]
-        parts.append("<< end >>\n")
-        return "".join(parts)
+        around = bounds([bounds(rects) for rects in self.layers.values()])
+        left, bottom, right, top = common(grown(around, self.border), self.core)
+        columns, rows = -(-(right - left) // BOX), -(-(top - bottom) // BOX)
+        if columns * rows * LEAST > sum(map(len, self.layers.values())):
+            return [(left - x, bottom - y, right - x, top - y)]
+        return [
+            (at - x, line - y, min(at + BOX, right) - x, min(line + BOX, top) - y)
+            for line in range(bottom, top, BOX)
+            for at in range(left, right, BOX)
+        ]
 
 
-def fitting(window, sizes):
-    """Yields a window, or the parts of it that are likely to fit, those left out that are empty."""
+def fitting(window, sizes, parts):
+    """Yields a window, or the parts of it that are likely to fit for some groups, those left out that are empty."""
     waiting = [window]
     while waiting:
         each = waiting.pop()
-        if each.painted and not is_square(each.core) and not each.fits(sizes):
+        if each.layers and not is_square(each.core) and not each.fits(sizes, parts):
             waiting += reversed(each.halves)
-        elif each.painted:
+        elif each.layers:
             yield each

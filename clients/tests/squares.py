@@ -1,7 +1,8 @@
 """What sessions of a process show, by planes and squares, and what a layout says that they show."""
 
 from kolasieve import mag
-from kolasieve.chip import images_by_layer, in_order
+from kolasieve.chip import images_by_layer
+from kolasieve.paint import in_order
 
 
 def squares_of(rects, type):

@@ -213,7 +213,7 @@ class Command(Folder):
         narrow = self.narrow()
         write_cell(self.folder, "top", (), [("nowhere", (1, 0, 0, 0, 1, 0), (0, 0, 1, 1))])
         fine = pathlib.Path(write_cell(self.folder, "fine", [("poly", [(0, 0, 1, 1)])]))
-        fine.write_text(fine.read_text().replace("timestamp 1", "magscale 1 9"))
+        fine.write_text(fine.read_text().replace("timestamp 1", "magscale 1 60"))
         (self.folder / "cut.mag").write_text("magic\ntech scmos\n<< poly >>\nrect 0 0 1 1\nrect 0")
         killed = self.folder / "killed"
         killed.write_text("#!/bin/sh\nread line || exit 0\necho a opened\nkill -9 $$\n")
@@ -222,7 +222,7 @@ class Command(Folder):
             (["top.mag"], "top.mag: line 4: there is no cell nowhere"),
             (["cut.mag"], "cut.mag: line 5: not 4 whole numbers behind `rect`"),
             ([narrow, "--region", "0", "0", "0", "9"], "the region 0 0 0 9 has no square"),
-            (["fine.mag"], "lambda is 9 squares in this layout, and a rule reaches 108, over 100: "),
+            (["fine.mag"], "lambda is 60 squares in this layout, and a rule reaches 120, over 100: "),
             ([narrow, "--server", str(killed)], ".tech: magicd was killed by signal 9"),
             ([narrow, "--server", "/nowhere/magicd"], "/nowhere/magicd: No such file or directory"),
             ([narrow, "-o", "/nowhere/out.lyrdb"], "/nowhere/out.lyrdb: No such file or directory"),
@@ -308,11 +308,11 @@ class ByRule(unittest.TestCase):
     def test_as_a_second_reading(self):
         process = compiled("scmos")
         for number, group in enumerate(process.groups):
-            with self.subTest(group.path.name):
+            with self.subTest(group.path):
                 asyncio.run(self.compare(group, random.Random(number)))
 
     async def compare(self, group, dice):
-        reading = Reading(group.path.read_text())
+        reading = Reading(group.text)
         window = Window(reading, SIDE)
         program = await Program.start([SERVER, "--tech", str(group.path)], lambda *_: None)
         place = Place("a", lambda line: program.ask(Line.of(line)))

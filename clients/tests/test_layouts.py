@@ -3,7 +3,6 @@
 import io
 import random
 import unittest
-from fractions import Fraction
 
 from kolasieve import mag, rects
 
@@ -62,10 +61,12 @@ def strips_of(found):
 class Files(unittest.TestCase):
     def test_what_a_file_has(self):
         cell = mag.read(FILE)
-        self.assertEqual((cell.tech, cell.scale), ("scmos", Fraction(1, 2)))
+        self.assertEqual((cell.tech, cell.scale), ("scmos", (1, 2)))
         self.assertEqual(cell.sections, {"ndiff": [(0, 0, 2, 4), (8, 0, 9, 4)], "error_p": [(1, 1, 2, 2)]})
         self.assertEqual(list(cell.layers), ["ndiff"])
-        self.assertEqual(cell.uses, [mag.Use("cell", 8, "../other", (0, 1, 5, -1, 0, 6), (0, 3, 10, 0, 0, 0))])
+        (use,) = cell.uses
+        self.assertEqual((use.name, use.line, use.path), ("cell", 8, "../other"))
+        self.assertEqual((use.transform, use.array), ((0, 1, 5, -1, 0, 6), (0, 3, 10, 0, 0, 0)))
 
     def test_what_is_written_is_read(self):
         file = io.StringIO()

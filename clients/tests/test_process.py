@@ -71,7 +71,7 @@ class RealTechnologies(Folder):
                     command = [SERVER, "--tech", str(group.path)]
                     taken = subprocess.run(command, input="", capture_output=True, text=True)
                     self.assertEqual((taken.returncode, taken.stderr), (0, ""))
-                self.assertEqual(len(list(process.folder.glob("g*.tech"))), found)
+                self.assertEqual(len(list(pathlib.Path(process.folder).glob("g*.tech"))), found)
 
     def test_images_are_types_of_their_groups(self):
         if not is_there("scmos"):

@@ -52,7 +52,7 @@ def marks(text):
 
 class Cells(unittest.TestCase):
     def check(self, group, cells):
-        reading = Reading(group.path.read_text())
+        reading = Reading(group.text)
         window = Window(reading, SIDE)
         lines = []
         for painted in cells:
@@ -83,7 +83,7 @@ class Cells(unittest.TestCase):
                 Compiled.of(technology).write(folder)
                 for place, group in enumerate(Process.load(pathlib.Path(folder)).groups):
                     with self.subTest(f"{technology} g{place}"):
-                        reading = Reading(group.path.read_text())
+                        reading = Reading(group.text)
                         cells = [near(dice, reading, rule) for rule in reading.rules]
                         # Enough that are marked, and enough that aren't.
                         self.assertGreater(self.check(group, cells), len(cells) // 4)

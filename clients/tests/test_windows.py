@@ -1,6 +1,5 @@
 """Layouts checked by windows: the same whatever the windows are, and what one session and a second reading have."""
 
-import asyncio
 import io
 import itertools
 import json
@@ -24,10 +23,12 @@ from kolasieve.bands import Bands
 from kolasieve.batch import Batches, CheckFault
 from kolasieve.check import Check, Choice
 from kolasieve.compiling import Compiled
-from kolasieve.hierarchy import AS_IT_IS
+from kolasieve.hierarchy import AS_IT_IS, Library
 from kolasieve.pool import PoolFault
 from kolasieve.process import Process
 from kolasieve.rects import strips
+from kolasieve.script import side_by_side
+from kolasieve.search import Search
 from kolasieve.windows import Sizes
 from kolasieve.windows import Window as Windowed
 
@@ -107,10 +108,12 @@ class TheSame(Folder):
             'edge4way metal ~(metal)/metal 6 ~(poly)/active ~(metal)/metal 4 "over" active', 'width metal 3 "thin"',
         ])
         (group,) = self.process.groups
-        reading = Reading(group.path.read_text())
+        reading = Reading(group.text)
         window = Window(reading, HIGH - LOW)
-        for seed, side in enumerate((4, 4, 16, 1 << 19)):
-            sections = random_sections(random.Random(seed), ["poly", "diff", "metal"], 24)
+        every = ["poly", "diff", "metal"]
+        chosen = [(4, every), (4, every), (16, every), (1 << 19, every), (16, every[:1]), (16, every[1:]), (16, every[::2])]
+        for seed, (side, types) in enumerate(chosen):
+            sections = random_sections(random.Random(seed), types, 24)
             found = self.found(self.cell(sections), Sizes(side=side))
             layout = window.layout([
                 (name, tuple(number - LOW for number in rect)) for name, rects in sections for rect in rects
@@ -119,34 +122,49 @@ class TheSame(Folder):
             for rule in reading.rules:
                 if squares := window.forbidden(layout, rule) & window.squares(0, 0, HIGH - LOW, HIGH - LOW):
                     told[rule.why] = told.get(rule.why, 0) | squares
-            self.assertGreater(len(told), 3)
+            self.assertGreater(len(told), 3 if types == every else 0)
             ours = {
                 text: union(window.squares(*(number - LOW for number in rect)) for rect in rects) for text, rects in found.items()
             }
             with self.subTest((seed, side)):
                 self.assertEqual({text: squares & window.all for text, squares in ours.items()}, told)
 
+    def test_contacts_over_their_own_metal(self):
+        self.process = compiled("SCN3ME_SUBM.30")
+        types = ["metal1", "metal2", "metal3", "m2contact", "m3contact", "polycontact", "poly", "ndiffusion"]
+        for seed, chosen in enumerate((types[:6], types[:6], types[:5], types[5:])):
+            dice = random.Random(seed)
+            self.cell(random_sections(dice, chosen, 8), name="part")
+            uses = [("part", (1, 0, dice.randrange(-30, 30), 0, 1, 20 * place), (LOW, LOW, HIGH, HIGH)) for place in range(seed)]
+            path = self.cell(random_sections(dice, chosen, 12), uses)
+            found = self.found(path, choice=Choice())
+            self.assertGreater(len(found), 2)
+            self.assertEqual(found, self.found(path, choice=Choice(has_layers=True)))
+            with mock.patch("kolasieve.search.gathered", lambda groups: [each for each in groups if each.rules]):
+                self.assertEqual(found, self.found(path))
+
     def test_equal_windows_are_checked_once(self):
         self.cell([("poly", [(5, 5, 6, 9), (40, 30, 50, 31)])], name="part")
         path = self.cell((), [("part", AS_IT_IS, (0, 0, 50, 31), (0, 7, 64, 0, 7, 64))])
-        checked, of_session = [], Batches.of_session
+        checked, forbidden = [], Batches.forbidden
 
-        async def counted(*words):
+        def counted(*words):
             checked.append(words)
-            return await of_session(*words)
+            return forbidden(*words)
 
-        with mock.patch.object(Batches, "of_session", counted):
+        with mock.patch.object(Batches, "forbidden", counted):
             found = self.found(path, Sizes(side=64))
         self.assertEqual(len(checked), 1)
         self.assertEqual(found, self.found(path))
         self.assertEqual(len(found[NARROW]), 128)
 
     def test_equal_cells_of_windows_that_are_not_equal(self):
-        (part,) = Check(self.process, SERVER, print).parts(1, Choice(), self.folder)
-        batches = Batches(part, SERVER, Sizes(), self.folder)
-        painted = part.shown({"poly": [(30, 5, 31, 9)]})
+        path = self.cell([("poly", [(30, 5, 31, 9)])])
+        search = Search(Library(self.process, path), Choice(), self.folder)
+        search.use(str(SERVER), Sizes(), 1)
         for right, found in ((31, {}), (64, {NARROW: [(31, 5, 32, 9)]})):
-            self.assertEqual(asyncio.run(batches.violations(Windowed((0, 0, right, 64), part.border, painted))), found)
+            window = Windowed((0, 0, right, 64), search.border, {"poly": [(30, 5, 31, 9)]})
+            self.assertEqual(side_by_side([each.violations([window]) for each in search.batches], 1), [found])
 
 
 class Places(Folder):
@@ -286,10 +304,11 @@ class Troubles(Folder):
     def test_servers_that_fail_have_one_message(self):
         self.process = compiled("scmos")
         path = self.cell([("polysilicon", [(0, 0, 1, 9)]), ("metal1", [(0, 0, 1, 9)]), ("pwell", [(0, 0, 9, 9)])])
-        command = [str(HERE.parent / "process"), "check", str(self.process.folder), path, "--server", str(self.script("exit 3"))]
-        ran = subprocess.run([*command, "-j", "4"], capture_output=True, text=True, timeout=300, check=False)
-        self.assertEqual((ran.returncode, ran.stdout), (2, ""))
-        self.assertRegex(ran.stderr, r"\Aprocess: \S+/g[01]\.tech: magicd ended with status 3\n\Z")
+        command = [str(HERE.parent / "process"), "check", str(self.process.folder), path, "-j", "4", "--server"]
+        for server, said in (("exit 3", "ended with status 3"), ("exec cat > /dev/null", "ended with status 0")):
+            ran = subprocess.run([*command, str(self.script(server))], capture_output=True, text=True, timeout=300, check=False)
+            self.assertEqual((ran.returncode, ran.stdout), (2, ""))
+            self.assertRegex(ran.stderr, rf"\Aprocess: \S+/g[01]\.tech: magicd {said}\n\Z")
 
     def test_ended_by_a_signal(self):
         path = self.cell([("poly", [(9 * at, 0, 9 * at + 1, 9) for at in range(9000)])])
@@ -297,7 +316,7 @@ class Troubles(Folder):
         os.mkfifo(fifo)
         started = os.open(fifo, os.O_RDWR)
         self.addCleanup(os.close, started)
-        server = self.script(f"echo > {fifo}; exec cat > /dev/null")
+        server = self.script(f"echo > {fifo}; exec sleep 3600")
         scratch = self.folder / "scratch"
         scratch.mkdir()
         for jobs, number in itertools.product(("1", "2"), (signal.SIGINT, signal.SIGTERM)):
