@@ -12,7 +12,7 @@ use Rattle.mls_geom.specs.declared.direction.Direction.TheVariants.{Right, Up, L
 use Rattle.mls_geom.proofs.Holds.{holds_between, holds_common}
 use Rattle.mls_geom.proofs.ShiftedSquares.{at}
 use Rattle.mls_checker.specs.Grids.{is_between}
-use Rattle.mls_checker.specs.Maps.{CanStep, Frame, IsFrame, frame_area, has_place, leads_on, place_before, place_of, places_of}
+use Rattle.mls_checker.specs.Maps.{Frame, IsFrame, frame_area, has_place, leads_on, place_before, place_of, places_of}
 
 -- ---- places of a word that lie between two
 pub between-in-word : (from to first last row k : ℕ) → first ≡ from - row * 64 → last ≡ min (to - row * 64) 64 → k < 64 → is_between first last k ≡ is_between from to (64 * row + k)
@@ -89,19 +89,6 @@ place-moved frame Down i x y is here there =
     let lines = holds_between (frame_area frame) x y here in
     let split : y + i - frame.bottom ≡ (y - frame.bottom) + i = omega (arith, lines.2) in
     omega arith ∙ sym (ap (λ r. r * (64 * frame.words) + (x - frame.left)) split)
-
-pub can-move : (frame : Frame) (direction : Direction) (i x y : ℕ) → IsFrame frame → holds (frame_area frame) x y ≡ true
-    → holds (frame_area frame) (moved (back direction) i (at x y)).x (moved (back direction) i (at x y)).y ≡ true
-    → CanStep (leads_on direction) (i * places_of frame direction) (64 * (frame.words * frame.rows)) (place_of frame x y)
-can-move frame Right i x y is here there =
-    let lines = holds_between (frame_area frame) (x - i) y there in
-    (omega (arith, lines.0, is.left), place-in frame x y here)
-can-move frame Up i x y is here there =
-    let lines = holds_between (frame_area frame) x (y - i) there in
-    let less = mul-le i (64 * frame.words) (y - frame.bottom) (64 * frame.words) (omega (arith, lines.2, is.below)) (omega arith) in
-    (omega (arith, less), place-in frame x y here)
-can-move frame Left i x y is here there = omega (arith, place-moved frame Left i x y is here there, place-in frame (x + i) y there)
-can-move frame Down i x y is here there = omega (arith, place-moved frame Down i x y is here there, place-in frame x (y + i) there)
 
 -- ---- areas that are added row by row
 shifted-row : (b row y : ℕ) → b ≤ row → b ≤ y → is_between (row - b) (row - b + 1) (y - b) ≡ is_between row (row + 1) y

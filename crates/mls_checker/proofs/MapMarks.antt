@@ -1,5 +1,5 @@
 -- Squares that rules forbid, found on maps.
-use Rattle.std.proofs.Common.{◌≡◌, ℕ, ◌+◌, ◌-◌, ◌*◌, ◌/◌, ◌≤◌, ◌<◌, max, Bool, true, false, not, ◌||◌, ◌&&◌, List, length, drop, get_or, suc, add-one, drop-cons, refl, sym, ap, ◌∙◌, arith}
+use Rattle.std.proofs.Common.{◌≡◌, ℕ, ◌+◌, ◌-◌, ◌*◌, ◌/◌, ◌%◌, ◌≤◌, ◌<◌, max, Bool, true, false, not, ◌||◌, ◌&&◌, List, length, drop, get_or, suc, add-one, drop-cons, refl, sym, ap, ◌∙◌, arith}
 use Rattle.std.proofs.Math.Bool.{and_comm, or_comm}
 use Rattle.std.proofs.lemmas.Nat.{mul-le}
 use Rattle.mls_edgerule.specs.declared.edge_rule.EdgeRule.{EdgeRule}
@@ -10,23 +10,38 @@ use Rattle.mls_geom.specs.World.{world}
 use Rattle.mls_geom.proofs.Holds.{holds_between}
 use Rattle.mls_checker.specs.Forbids.{forbidden, forbids, is_disallowed, reaches}
 use Rattle.mls_checker.specs.Grids.{Band, IsBand, has_column, squares_of_words}
-use Rattle.mls_checker.specs.Maps.{FitsIn, Frame, GainsDeep, HasDeep, IsDeep, IsRound, Shows, forbidden_by_any, has_place, of_types, place_of, square, with_map}
-use Rattle.mls_checker.proofs.MapReaches.{here-in}
+use Rattle.mls_checker.specs.Maps.{FitsIn, Frame, GainsDeep, HasDeep, HasLow, IsDeep, IsRound, Shows, forbidden_by_any, has_place, of_types, place_of, square, with_map}
+use Rattle.mls_checker.proofs.MapFrames.{place-in}
+use Rattle.mls_checker.proofs.MapReaches.{deep-home, here-in}
 use Rattle.mls_checker.proofs.FoundSquares.{and_in, in_world}
 use Rattle.mls_checker.proofs.MapWords.{place-at}
 use Rattle.mls_checker.proofs.ReachLemmas.{halo-bounds}
 
--- what is reached, but for what is allowed
-pub forbidden-found : (rule : EdgeRule) (layout : Layout) (frame : Frame) (reached allowed found : List ℕ)
-    → HasDeep frame (1 + max rule.distance rule.corner_distance) (λ x y. reaches rule layout (square x y)) reached
-    → Shows frame (of_types rule.ok_types (layout rule.check_plane)) allowed
-    → ((n : ℕ) → has_place found n ≡ (has_place reached n && not (has_place allowed n)))
-    → HasDeep frame (1 + max rule.distance rule.corner_distance) (λ x y. forbids rule layout (square x y)) found
-forbidden-found rule layout frame reached allowed found has shown left x y deep =
+-- a word and a bit of a place that lies so many words before another
+word-below : (n words : ℕ) → 64 * words ≤ n → (n / 64 - words ≡ (n - 64 * words) / 64) × (n % 64 ≡ (n - 64 * words) % 64)
+word-below n words room = (omega arith, omega arith)
+
+-- what is reached, but for what is allowed, is marked
+pub forbidden-gained : (rule : EdgeRule) (layout : Layout) (frame : Frame) (reached allowed old new : List ℕ) (words : ℕ)
+    → HasLow frame (1 + max rule.distance rule.corner_distance) (λ x y. reaches rule layout (square x y)) reached
+    → Shows frame (of_types rule.ok_types (layout rule.check_plane)) allowed → words ≡ (1 + max rule.distance rule.corner_distance) * frame.words → length old ≡ frame.words * frame.rows
+    → ((row column : ℕ) → row < length old → words ≤ row → has_column new row column ≡ (has_column old row column || (has_column reached (row - words) column && not (has_column allowed row column))))
+    → GainsDeep frame (1 + max rule.distance rule.corner_distance) (λ x y. forbids rule layout (square x y)) old new
+forbidden-gained rule layout frame reached allowed old new words has shown words_are long gained x y deep =
+    let h = 1 + max rule.distance rule.corner_distance in
     let n = place_of frame x y in
-    left n ∙ ap (λ b. b && not (has_place allowed n)) (has x y deep)
-    ∙ ap (λ b. reaches rule layout (square x y) && not b) (shown x y (here-in frame (1 + max rule.distance rule.corner_distance) x y deep))
-    ∙ and_comm (reaches rule layout (square x y)) (is_disallowed rule layout (square x y))
+    let here = here-in frame h x y deep in
+    let same : 64 * words ≡ h * (64 * frame.words) = ap (λ m. 64 * m) words_are ∙ omega arith in
+    let room : 64 * words ≤ n = omega (arith, same, deep-home frame h x y deep) in
+    let there = word-below n words room in
+    let within = place-in frame x y here in
+    gained (n / 64) (n % 64) (omega (arith, within, long)) (omega (arith, room))
+    ∙ ap (λ i. has_place old n || (has_column reached i (n % 64) && not (has_place allowed n))) there.0
+    ∙ ap (λ i. has_place old n || (has_column reached ((n - 64 * words) / 64) i && not (has_place allowed n))) there.1
+    ∙ ap (λ m. has_place old n || (has_place reached (n - m) && not (has_place allowed n))) same
+    ∙ ap (λ b. has_place old n || (b && not (has_place allowed n))) (has x y deep)
+    ∙ ap (λ b. has_place old n || (reaches rule layout (square x y) && not b)) (shown x y here)
+    ∙ ap (λ b. has_place old n || b) (and_comm (reaches rule layout (square x y)) (is_disallowed rule layout (square x y)))
 
 -- a square of a piece lies deep in a frame round it
 pub deep-in-piece : (frame : Frame) (piece : Rect) (margin depth x y : ℕ) → IsRound frame piece margin → depth ≤ margin → holds piece x y ≡ true → IsDeep frame depth x y

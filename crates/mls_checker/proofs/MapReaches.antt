@@ -1,6 +1,11 @@
 -- What edges reach, square by square, in maps.
-use Rattle.std.proofs.Common.{◌≡◌, ℕ, ◌+◌, ◌-◌, ◌*◌, ◌%◌, ◌<◌, ◌≤◌, max, ◌⊎◌, inl, inr, Bool, true, false, true≢false, ◌||◌, ◌&&◌, List, [], ◌∷◌, refl, sym, ap, subst, ◌∙◌, arith}
+use Rattle.std.proofs.Common.{◌≡◌, ℕ, ◌+◌, ◌-◌, ◌*◌, ◌<◌, ◌≤◌, max, Bool, true, false, true≢false, not, ◌||◌, ◌&&◌, List, [], ◌∷◌, length, refl, sym, ap, subst, ◌∙◌, arith}
+use Rattle.std.specs.Cmp.{both_ways}
 use Rattle.std.specs.List.{list_any, range_with_len}
+use Rattle.std.proofs.Math.Bool.{or-false, or_comm}
+use Rattle.std.proofs.lemmas.List.Folds.{list_any_none}
+use Rattle.std.proofs.lemmas.Nat.{mul-le}
+use Rattle.mls_edgerule.specs.Directions.{directions_in}
 use Rattle.mls_edgerule.specs.declared.edge_rule.EdgeRule.{EdgeRule}
 use Rattle.mls_geom.specs.Directions.{across, back, moved}
 use Rattle.mls_geom.specs.Layouts.{Layout}
@@ -11,11 +16,11 @@ use Rattle.mls_geom.proofs.Across.{crosses}
 use Rattle.mls_geom.proofs.Holds.{between_holds, holds_between}
 use Rattle.mls_geom.proofs.ShiftedSquares.{at, same_square}
 use Rattle.mls_kinds.specs.KindSets.{has_bit as has_type}
-use Rattle.mls_checker.specs.Forbids.{in_block, in_row, is_cornered, is_edge}
-use Rattle.mls_checker.specs.Maps.{CanStep, Frame, GainsDeep, GainsFlank, HasEdges, HasRoom, IsDeep, IsFrame, IsIn, ShowTypes, Shows, TypeMaps, frame_area, has_before, has_cornered, has_place, leads_on, of_types, place_before, place_of, places_of, reached_by, square}
+use Rattle.mls_checker.specs.Forbids.{in_block, in_row, is_cornered, is_edge, reaches}
+use Rattle.mls_checker.specs.Maps.{Frame, IsDeep, IsFrame, IsIn, Reads, ShowTypes, Shows, TypeMaps, corner_begins, corners_begin, frame_area, has_ahead, has_place, is_level, leads_on, of_types, place_before, place_of, places_of, row_begins, square, start_of}
 use Rattle.mls_checker.proofs.BandLists.{any-or}
-use Rattle.mls_checker.proofs.ListTests.{list_any_same_in_range}
-use Rattle.mls_checker.proofs.MapFrames.{can-move, place-moved}
+use Rattle.mls_checker.proofs.ListTests.{below_finds, found_below, list_any_same, list_any_same_in_range}
+use Rattle.mls_checker.proofs.MapFrames.{place-moved}
 use Rattle.mls_checker.proofs.Near.{IsWithin, before_block_within, before_row_within, block_within, here_within, row_within}
 
 -- ---- one step
@@ -25,28 +30,6 @@ place-next frame direction q is here there =
     let one : places_of frame direction ≡ 1 * places_of frame direction = omega arith in
     ap (λ p. place_before (leads_on direction) p (place_of frame q.x q.y)) one ∙ place-moved frame direction 1 q.x q.y is here there
 
-can-next : (frame : Frame) (direction : Direction) (q : Point) → IsFrame frame → IsIn frame q → IsIn frame (moved (back direction) 1 q)
-    → CanStep (leads_on direction) (places_of frame direction) (64 * (frame.words * frame.rows)) (place_of frame q.x q.y)
-can-next frame direction q is here there =
-    let one : 1 * places_of frame direction ≡ places_of frame direction = omega arith in
-    subst (λ (p : ℕ). CanStep (leads_on direction) p (64 * (frame.words * frame.rows)) (place_of frame q.x q.y)) one (can-move frame direction 1 q.x q.y is here there)
-
--- ---- edges
-pub edges-shown : (rule : EdgeRule) (layout : Layout) (maps : TypeMaps) (frame : Frame) (direction : Direction) (edges : List ℕ)
-    → IsFrame frame → maps.frame ≡ frame → ShowTypes rule layout maps
-    → ((n : ℕ) → CanStep (leads_on direction) (places_of frame direction) (64 * (frame.words * frame.rows)) n
-    → has_place edges n ≡ (has_place maps.behind n && has_place maps.before (place_before (leads_on direction) (places_of frame direction) n)))
-    → HasEdges frame rule layout direction edges
-edges-shown rule layout maps frame direction edges is same types found x y here there =
-    let shown1 = subst (λ (f : Frame). Shows f (of_types rule.types1 (layout rule.trigger_plane)) maps.before) same types.types1 in
-    let shown2 = subst (λ (f : Frame). Shows f (of_types rule.types2 (layout rule.trigger_plane)) maps.behind) same types.types2 in
-    let p = moved (back direction) 1 (square x y) in
-    found (place_of frame x y) (can-next frame direction (square x y) is here there)
-    ∙ ap (λ n. has_place maps.behind (place_of frame x y) && has_place maps.before n) (place-next frame direction (square x y) is here there)
-    ∙ ap (λ b. b && has_place maps.before (place_of frame p.x p.y)) (shown2 x y here)
-    ∙ ap (λ b. has_type rule.types2 (layout rule.trigger_plane x y) && b) (shown1 p.x p.y there)
-
--- ---- corners
 -- steps back from the flank, one by one
 pub one-step-more : (flank : Direction) (j : ℕ) (q : Point) → moved (back flank) 1 (moved (back flank) j q) ≡ moved (back flank) (1 + j) q
 one-step-more Right j q = same_square (q.x - j - 1) q.y (q.x - (1 + j)) q.y (omega arith) refl
@@ -67,65 +50,148 @@ corner-square Down Right r cross left below = same_square (r.x - 1 + 1) (r.y + 1
 corner-square Down Left r cross left below = same_square (r.x + 1 - 1) (r.y + 1) r.x (r.y + 1) (omega arith) refl
 corner-square direction flank r cross left below = absurd (true≢false (sym cross))
 
-corner-shown : (rule : EdgeRule) (layout : Layout) (frame : Frame) (direction flank : Direction) (beside edges corners : List ℕ) (r : Point)
-    → IsFrame frame → crosses direction flank ≡ true → Shows frame (of_types rule.corner_types (layout rule.trigger_plane)) beside → HasEdges frame rule layout direction edges
-    → ((n : ℕ) → CanStep (leads_on flank) (places_of frame flank) (64 * (frame.words * frame.rows)) n → CanStep (leads_on direction) (places_of frame direction) (64 * (frame.words * frame.rows)) n
-    → has_place corners n ≡ (has_place edges (place_before (leads_on flank) (places_of frame flank) n) && has_place beside (place_before (leads_on direction) (places_of frame direction) n)))
-    → IsIn frame r → IsIn frame (moved (back direction) 1 r) → IsIn frame (moved (back flank) 1 r) → IsIn frame (moved (back direction) 1 (moved (back flank) 1 r))
-    → has_place corners (place_of frame r.x r.y) ≡ is_cornered rule layout direction flank (moved (back flank) 1 r)
-corner-shown rule layout frame direction flank beside edges corners r is cross shown has found here before next next_before =
+-- ---- steps from where they begin, and steps back from where they end
+abbrev turned : Bool → ℕ → ℕ → ℕ
+turned true count i = count - 1 - i
+turned false count i = i
+
+turned-below : (is_on : Bool) (count i : ℕ) → i < count → turned is_on count i < count
+turned-below true count i below = omega arith
+turned-below false count i below = below
+
+any-turned : (is_on : Bool) (count : ℕ) (f : ℕ → Bool) → list_any (λ i. f (turned is_on count i)) (range_with_len 0 count) ≡ list_any f (range_with_len 0 count)
+any-turned true count f =
+    both_ways (list_any (λ i. f (count - 1 - i)) (range_with_len 0 count)) (list_any f (range_with_len 0 count))
+    (λ some. let i = found_below (λ i. f (count - 1 - i)) count some in below_finds f count (count - 1 - i.0) (omega (arith, i.1)) i.2)
+    (λ some. let i = found_below f count some in
+    let there : count - 1 - (count - 1 - i.0) ≡ i.0 = omega (arith, i.1) in
+    below_finds (λ i. f (count - 1 - i)) count (count - 1 - i.0) (omega (arith, i.1)) (ap f there ∙ i.2))
+any-turned false count f = refl
+
+start-turned : (is_on : Bool) (s count home n i : ℕ) → i < count → (count - 1) * s ≤ home
+    → n + i * s + start_of is_on s count home ≡ place_before is_on (turned is_on count i * s) (n + home)
+start-turned true s count home n i below room =
+    let two : count - 1 ≡ i + (count - 1 - i) = omega arith in
+    let split : (count - 1) * s ≡ i * s + (count - 1 - i) * s = ap (λ m. m * s) two ∙ omega arith in
+    omega (arith, split, room)
+start-turned false s count home n i below room = omega arith
+
+start-least : (is_on : Bool) (s count home : ℕ) → home - (count - 1) * s ≤ start_of is_on s count home
+start-least true s count home = omega arith
+start-least false s count home = omega arith
+
+before-least : (is_on : Bool) (s m : ℕ) → m - s ≤ place_before is_on s m
+before-least true s m = omega arith
+before-least false s m = omega arith
+
+step-before : (is_on : Bool) (s n m : ℕ) → s ≤ m → n + place_before is_on s m ≡ place_before is_on s (n + m)
+step-before true s n m room = omega arith
+step-before false s n m room = omega arith
+
+one-less : (count s : ℕ) → 1 ≤ count → (count - 1) * s + s ≡ count * s
+one-less count s some =
+    let more : count - 1 + 1 ≡ count = omega arith in
+    omega arith ∙ ap (λ m. m * s) more
+
+-- ---- two flanks
+-- a step in a direction and one across it
+pub across-places : (frame : Frame) (direction flank other : Direction) → across direction ≡ flank ∷ other ∷ []
+    → (places_of frame direction + places_of frame flank ≡ 1 + 64 * frame.words) × (places_of frame direction + places_of frame other ≡ 1 + 64 * frame.words)
+across-places frame Right flank other is = (let same : flank ≡ Up = cc in ap (λ d. 1 + places_of frame d) same, let same : other ≡ Down = cc in ap (λ d. 1 + places_of frame d) same)
+across-places frame Up flank other is =
+    (let same : flank ≡ Right = cc in ap (λ d. 64 * frame.words + places_of frame d) same ∙ omega arith, let same : other ≡ Left = cc in ap (λ d. 64 * frame.words + places_of frame d) same ∙ omega arith)
+across-places frame Left flank other is = (let same : flank ≡ Up = cc in ap (λ d. 1 + places_of frame d) same, let same : other ≡ Down = cc in ap (λ d. 1 + places_of frame d) same)
+across-places frame Down flank other is =
+    (let same : flank ≡ Right = cc in ap (λ d. 64 * frame.words + places_of frame d) same ∙ omega arith, let same : other ≡ Left = cc in ap (λ d. 64 * frame.words + places_of frame d) same ∙ omega arith)
+
+pub two-more : (old one two : Bool) → ((old || one) || two) ≡ (old || (one || (two || false)))
+two-more true one two = refl
+two-more false true two = refl
+two-more false false true = refl
+two-more false false false = refl
+
+-- ---- rows
+row-shown : (rule : EdgeRule) (layout : Layout) (maps : TypeMaps) (frame : Frame) (direction : Direction) (home count i n x y : ℕ)
+    → IsFrame frame → maps.frame ≡ frame → ShowTypes rule layout maps → i < count → count * places_of frame direction ≤ home → n + home ≡ place_of frame x y → IsIn frame (square x y)
+    → IsIn frame (moved (back direction) (turned (leads_on direction) count i) (square x y)) → IsIn frame (moved (back direction) 1 (moved (back direction) (turned (leads_on direction) count i) (square x y)))
+    → row_begins maps.before maps.behind frame count home (n + i * places_of frame direction) direction ≡ is_edge rule layout direction (moved (back direction) (turned (leads_on direction) count i) (square x y))
+row-shown rule layout maps frame direction home count i n x y is same types below room ends here there before =
+    let shown1 = subst (λ (f : Frame). Shows f (of_types rule.types1 (layout rule.trigger_plane)) maps.before) same types.types1 in
+    let shown2 = subst (λ (f : Frame). Shows f (of_types rule.types2 (layout rule.trigger_plane)) maps.behind) same types.types2 in
+    let s = places_of frame direction in
+    let on = leads_on direction in
+    let k = turned on count i in
+    let p = moved (back direction) k (square x y) in
+    let b = moved (back direction) 1 p in
+    let start = start_of on s count home in
+    let m = n + i * s in
+    let less = one-less count s (omega arith) in
+    let at_p : m + start ≡ place_of frame p.x p.y = start-turned on s count home n i below (omega (arith, less, room)) ∙ ap (place_before on (k * s)) ends ∙ place-moved frame direction k x y is here there in
+    let at_b : m + place_before on s start ≡ place_of frame b.x b.y =
+    step-before on s m start (omega (arith, less, room, start-least on s count home)) ∙ ap (place_before on s) at_p ∙ place-next frame direction p is there before in
+    ap (λ q. has_place maps.behind q && has_place maps.before (m + place_before on s start)) at_p
+    ∙ ap (λ q. has_place maps.behind (place_of frame p.x p.y) && has_place maps.before q) at_b
+    ∙ ap (λ t. t && has_place maps.before (place_of frame b.x b.y)) (shown2 p.x p.y there)
+    ∙ ap (λ t. has_type rule.types2 (layout rule.trigger_plane p.x p.y) && t) (shown1 b.x b.y before)
+
+-- ---- corner blocks
+corner-shown : (rule : EdgeRule) (layout : Layout) (maps : TypeMaps) (frame : Frame) (direction flank : Direction) (home count i j n : ℕ) (q : Point)
+    → IsFrame frame → maps.frame ≡ frame → crosses direction flank ≡ true → ShowTypes rule layout maps → i < count → j < count
+    → count * places_of frame direction + count * places_of frame flank ≤ home → n + home ≡ place_of frame q.x q.y → IsIn frame q
+    → ((k l : ℕ) → k < count → l ≤ count → IsIn frame (moved (back flank) l (moved (back direction) k q)) × IsIn frame (moved (back direction) 1 (moved (back flank) l (moved (back direction) k q))))
+    → IsIn frame (moved (back direction) (turned (leads_on direction) count i) q)
+    → corner_begins maps.before maps.behind maps.beside frame count home (n + i * places_of frame direction + j * places_of frame flank) direction flank
+    ≡ is_cornered rule layout direction flank (moved (back flank) (1 + turned (leads_on flank) count j) (moved (back direction) (turned (leads_on direction) count i) q))
+corner-shown rule layout maps frame direction flank home count i j n q is same cross types below below' room ends here near first =
+    let shown1 = subst (λ (f : Frame). Shows f (of_types rule.types1 (layout rule.trigger_plane)) maps.before) same types.types1 in
+    let shown2 = subst (λ (f : Frame). Shows f (of_types rule.types2 (layout rule.trigger_plane)) maps.behind) same types.types2 in
+    let shown3 = subst (λ (f : Frame). Shows f (of_types rule.corner_types (layout rule.trigger_plane)) maps.beside) same types.corners in
+    let s = places_of frame direction in
+    let s' = places_of frame flank in
+    let on = leads_on direction in
+    let on' = leads_on flank in
+    let k = turned on count i in
+    let l = turned on' count j in
+    let few = turned-below on count i below in
+    let few' = turned-below on' count j below' in
+    let d = moved (back direction) k q in
+    let r = moved (back flank) l d in
     let p = moved (back flank) 1 r in
+    let e = moved (back direction) 1 p in
     let b = moved (back direction) 1 r in
-    let lines = holds_between (frame_area frame) r.x r.y here in
-    found (place_of frame r.x r.y) (can-next frame flank r is here next) (can-next frame direction r is here before)
-    ∙ ap (λ n. has_place edges n && has_place beside (place_before (leads_on direction) (places_of frame direction) (place_of frame r.x r.y))) (place-next frame flank r is here next)
-    ∙ ap (λ n. has_place edges (place_of frame p.x p.y) && has_place beside n) (place-next frame direction r is here before)
-    ∙ ap (λ e. e && has_place beside (place_of frame b.x b.y)) (has p.x p.y next next_before)
-    ∙ ap (λ e. is_edge rule layout direction p && e) (shown b.x b.y before
-    ∙ ap (λ (s : Point). has_type rule.corner_types (layout rule.trigger_plane s.x s.y)) (sym (corner-square direction flank r cross (omega (arith, lines.0, is.left)) (omega (arith, lines.2, is.below)))))
+    let step = one-step-more flank l d in
+    let in_r = (near k l few (omega (arith, few'))).0 in
+    let in_b = (near k l few (omega (arith, few'))).1 in
+    let in_p : IsIn frame p = subst (λ (t : Point). IsIn frame t) (sym step) (near k (1 + l) few (omega (arith, few'))).0 in
+    let in_e : IsIn frame e = subst (λ (t : Point). IsIn frame (moved (back direction) 1 t)) (sym step) (near k (1 + l) few (omega (arith, few'))).1 in
+    let home' = start_of on s count home in
+    let start = start_of on' s' count home' in
+    let m = n + i * s + j * s' in
+    let less = one-less count s (omega arith) in
+    let less' = one-less count s' (omega arith) in
+    let least = start-least on s count home in
+    let least' = start-least on' s' count home' in
+    let least'' = before-least on' s' start in
+    let lines = holds_between (frame_area frame) r.x r.y in_r in
+    let at_d : n + i * s + home' ≡ place_of frame d.x d.y = start-turned on s count home n i below (omega (arith, less, room)) ∙ ap (place_before on (k * s)) ends ∙ place-moved frame direction k q.x q.y is here first in
+    let at_r : m + start ≡ place_of frame r.x r.y =
+    start-turned on' s' count home' (n + i * s) j below' (omega (arith, less, less', least, room)) ∙ ap (place_before on' (l * s')) at_d ∙ place-moved frame flank l d.x d.y is first in_r in
+    let at_p : m + place_before on' s' start ≡ place_of frame p.x p.y =
+    step-before on' s' m start (omega (arith, less, less', least, least', room)) ∙ ap (place_before on' s') at_r ∙ place-next frame flank r is in_r in_p in
+    let at_e : m + place_before on s (place_before on' s' start) ≡ place_of frame e.x e.y =
+    step-before on s m (place_before on' s' start) (omega (arith, less, less', least, least', least'', room)) ∙ ap (place_before on s) at_p ∙ place-next frame direction p is in_p in_e in
+    let at_b : m + place_before on s start ≡ place_of frame b.x b.y =
+    step-before on s m start (omega (arith, less, less', least, least', room)) ∙ ap (place_before on s) at_r ∙ place-next frame direction r is in_r in_b in
+    ap (λ t. (has_place maps.behind t && has_place maps.before (m + place_before on s (place_before on' s' start))) && has_place maps.beside (m + place_before on s start)) at_p
+    ∙ ap (λ t. (has_place maps.behind (place_of frame p.x p.y) && has_place maps.before t) && has_place maps.beside (m + place_before on s start)) at_e
+    ∙ ap (λ t. (has_place maps.behind (place_of frame p.x p.y) && has_place maps.before (place_of frame e.x e.y)) && has_place maps.beside t) at_b
+    ∙ ap (λ t. (t && has_place maps.before (place_of frame e.x e.y)) && has_place maps.beside (place_of frame b.x b.y)) (shown2 p.x p.y in_p)
+    ∙ ap (λ t. (has_type rule.types2 (layout rule.trigger_plane p.x p.y) && t) && has_place maps.beside (place_of frame b.x b.y)) (shown1 e.x e.y in_e)
+    ∙ ap (λ t. is_edge rule layout direction p && t) (shown3 b.x b.y in_b
+    ∙ ap (λ (t : Point). has_type rule.corner_types (layout rule.trigger_plane t.x t.y)) (sym (corner-square direction flank r cross (omega (arith, lines.0, is.left)) (omega (arith, lines.2, is.below)))))
+    ∙ ap (is_cornered rule layout direction flank) step
 
--- no step back leads to the square itself
-stays : (flank : Direction) (q : Point) → moved (back flank) 0 q ≡ q
-stays Right q = same_square (q.x - 0) q.y q.x q.y (omega arith) refl
-stays Up q = same_square q.x (q.y - 0) q.x q.y refl (omega arith)
-stays Left q = same_square (q.x + 0) q.y q.x q.y (omega arith) refl
-stays Down q = same_square q.x (q.y + 0) q.x q.y refl (omega arith)
-
-first-room : (frame : Frame) (direction flank : Direction) (count : ℕ) (q : Point) → HasRoom frame direction flank count q → IsIn frame q
-first-room frame direction flank count q room = subst (λ (p : Point). IsIn frame p) (stays flank q) (room 0 (omega arith)).0
-
-pub flank-gained : (rule : EdgeRule) (layout : Layout) (maps : TypeMaps) (frame : Frame) (direction flank : Direction) (count : ℕ) (edges corners wide old new : List ℕ)
-    → IsFrame frame → maps.frame ≡ frame → crosses direction flank ≡ true → ShowTypes rule layout maps → HasEdges frame rule layout direction edges
-    → ((n : ℕ) → CanStep (leads_on flank) (places_of frame flank) (64 * (frame.words * frame.rows)) n → CanStep (leads_on direction) (places_of frame direction) (64 * (frame.words * frame.rows)) n
-    → has_place corners n ≡ (has_place edges (place_before (leads_on flank) (places_of frame flank) n) && has_place maps.beside (place_before (leads_on direction) (places_of frame direction) n)))
-    → ((n : ℕ) → CanStep (leads_on flank) ((count - 1) * places_of frame flank) (64 * (frame.words * frame.rows)) n
-    → has_place wide n ≡ has_before (has_place corners) (leads_on flank) (places_of frame flank) count n)
-    → ((n : ℕ) → has_place new n ≡ (has_place old n || has_place wide n))
-    → GainsFlank frame rule layout direction flank count old new
-flank-gained rule layout maps frame direction flank count edges corners wide old new is same cross types has found widened joined x y room =
-    let q = square x y in
-    let n = place_of frame x y in
-    let shown = subst (λ (f : Frame). Shows f (of_types rule.corner_types (layout rule.trigger_plane)) maps.beside) same types.corners in
-    let here = first-room frame direction flank count q room in
-    joined n ∙ ap (λ b. has_place old n || b)
-    (widened n (can-move frame flank (count - 1) x y is here (room (count - 1) (omega arith)).0)
-    ∙ list_any_same_in_range (λ j. has_place corners (place_before (leads_on flank) (j * places_of frame flank) n)) (λ j. is_cornered rule layout direction flank (moved (back flank) (1 + j) q)) 0 count
-    (λ j above below.
-    let r = moved (back flank) j q in
-    let step = one-step-more flank j q in
-    ap (has_place corners) (place-moved frame flank j x y is here (room j (omega arith)).0)
-    ∙ corner-shown rule layout frame direction flank maps.beside edges corners r is cross shown has found (room j (omega arith)).0 (room j (omega arith)).1
-    (subst (λ (p : Point). IsIn frame p) (sym step) (room (1 + j) (omega arith)).0) (subst (λ (p : Point). IsIn frame (moved (back direction) 1 p)) (sym step) (room (1 + j) (omega arith)).1)
-    ∙ ap (is_cornered rule layout direction flank) step))
-
--- the places of a step are one, or those of whole words
-pub whole-row : (frame : Frame) (direction : Direction) (places : ℕ) → places ≡ places_of frame direction → (places ≡ 1) ⊎ (places % 64 ≡ 0)
-whole-row frame Right places is = inl is
-whole-row frame Up places is = inr (omega arith)
-whole-row frame Left places is = inl is
-whole-row frame Down places is = inr (omega arith)
-
--- ---- all edges of a direction
+-- ---- a deep square
 deep-in : (frame : Frame) (h x y : ℕ) (p : Point) → IsDeep frame h x y → IsWithin h x y p → IsIn frame p
 deep-in frame h x y p deep near =
     between_holds (frame_area frame) p.x p.y (omega (arith, deep.left, near.left)) (omega (arith, deep.right, near.right)) (omega (arith, deep.below, near.below)) (omega (arith, deep.above, near.above))
@@ -133,82 +199,204 @@ deep-in frame h x y p deep near =
 pub here-in : (frame : Frame) (h x y : ℕ) → IsDeep frame h x y → IsIn frame (square x y)
 here-in frame h x y deep = deep-in frame h x y (at x y) deep (here_within h x y)
 
-rows-found : (rule : EdgeRule) (layout : Layout) (frame : Frame) (direction : Direction) (edges wide : List ℕ) (h x y : ℕ)
-    → IsFrame frame → rule.distance < h → IsDeep frame h x y → HasEdges frame rule layout direction edges
-    → ((n : ℕ) → CanStep (leads_on direction) ((rule.distance - 1) * places_of frame direction) (64 * (frame.words * frame.rows)) n
-    → has_place wide n ≡ has_before (has_place edges) (leads_on direction) (places_of frame direction) rule.distance n)
-    → has_place wide (place_of frame x y) ≡ in_row rule layout direction (square x y)
-rows-found rule layout frame direction edges wide h x y is far deep has widened =
-    let here = here-in frame h x y deep in
-    widened (place_of frame x y) (can-move frame direction (rule.distance - 1) x y is here (deep-in frame h x y _ deep (row_within direction (rule.distance - 1) h x y (omega arith))))
-    ∙ list_any_same_in_range (λ i. has_place edges (place_before (leads_on direction) (i * places_of frame direction) (place_of frame x y))) (λ i. is_edge rule layout direction (moved (back direction) i (square x y))) 0 rule.distance
+
+-- what is read for a deep square lies in the map
+deep-low : (frame : Frame) (h x y : ℕ) → 1 ≤ h → IsDeep frame h x y → place_of frame x y + (h - 1) * (64 * frame.words + 1) + 64 < 64 * (frame.words * frame.rows)
+deep-low frame h x y some deep =
+    let high = mul-le (y - frame.bottom + h + 1) (64 * frame.words) frame.rows (64 * frame.words) (omega (arith, deep.above, deep.below)) (omega arith) in
+    let less = one-less h (64 * frame.words) some in
+    omega (arith, high, less, deep.left, deep.right)
+
+pub deep-home : (frame : Frame) (h x y : ℕ) → IsDeep frame h x y → h * (64 * frame.words) ≤ place_of frame x y
+deep-home frame h x y deep = omega (arith, mul-le h (64 * frame.words) (y - frame.bottom) (64 * frame.words) (omega (arith, deep.below)) (omega arith))
+
+few-places : (frame : Frame) (direction : Direction) → 1 ≤ frame.words → places_of frame direction ≤ 64 * frame.words
+few-places frame Right some = omega arith
+few-places frame Up some = omega arith
+few-places frame Left some = omega arith
+few-places frame Down some = omega arith
+
+some-words : (frame : Frame) (h x y : ℕ) → IsDeep frame h x y → 1 ≤ frame.words
+some-words frame h x y deep = omega (arith, deep.left, deep.right)
+
+-- ---- rows and blocks from where they begin
+rows-found : (rule : EdgeRule) (layout : Layout) (maps : TypeMaps) (frame : Frame) (direction : Direction) (h n x y : ℕ)
+    → IsFrame frame → maps.frame ≡ frame → ShowTypes rule layout maps → rule.distance < h → IsDeep frame h x y → n + h * (64 * frame.words) ≡ place_of frame x y
+    → list_any (λ i. row_begins maps.before maps.behind frame rule.distance (h * (64 * frame.words)) (n + i * places_of frame direction) direction) (range_with_len 0 rule.distance)
+    ≡ in_row rule layout direction (square x y)
+rows-found rule layout maps frame direction h n x y is same types far deep ends =
+    let d = rule.distance in
+    let on = leads_on direction in
+    let room = mul-le d (places_of frame direction) h (64 * frame.words) (omega arith) (few-places frame direction (some-words frame h x y deep)) in
+    list_any_same_in_range (λ i. row_begins maps.before maps.behind frame d (h * (64 * frame.words)) (n + i * places_of frame direction) direction)
+    (λ i. is_edge rule layout direction (moved (back direction) (turned on d i) (square x y))) 0 d
     (λ i above below.
-    let m = moved (back direction) i (square x y) in
-    let there = deep-in frame h x y m deep (row_within direction i h x y (omega arith)) in
-    ap (has_place edges) (place-moved frame direction i x y is here there)
-    ∙ has m.x m.y there (deep-in frame h x y (moved (back direction) 1 m) deep (before_row_within direction i h x y (omega arith))))
+    let few = turned-below on d i (omega arith) in
+    row-shown rule layout maps frame direction (h * (64 * frame.words)) d i n x y is same types (omega arith) room ends (here-in frame h x y deep)
+    (deep-in frame h x y _ deep (row_within direction (turned on d i) h x y (omega (arith, few)))) (deep-in frame h x y _ deep (before_row_within direction (turned on d i) h x y (omega (arith, few)))))
+    ∙ any-turned on d (λ k. is_edge rule layout direction (moved (back direction) k (square x y)))
 
-room : (frame : Frame) (direction flank : Direction) (count i h x y : ℕ) → crosses direction flank ≡ true → count < h → i < count → IsDeep frame h x y
-    → HasRoom frame direction flank count (moved (back direction) i (square x y))
-room frame direction flank count i h x y cross far few deep j within =
-    (deep-in frame h x y _ deep (block_within direction flank i j h x y cross (omega arith) (omega arith)), deep-in frame h x y _ deep (before_block_within direction flank i j h x y cross (omega arith) (omega arith)))
-
-either-flank : (old first second b1 b2 : Bool) → second ≡ (first || b2) → first ≡ (old || b1) → old ≡ false → second ≡ (b1 || b2)
-either-flank old first second b1 b2 is was none = rw (is, was, none) refl
-
-blocks-found : (rule : EdgeRule) (layout : Layout) (frame : Frame) (direction flank other : Direction) (none first second wide : List ℕ) (h x y : ℕ)
-    → IsFrame frame → rule.corner_distance < h → IsDeep frame h x y → crosses direction flank ≡ true → crosses direction other ≡ true → ((n : ℕ) → has_place none n ≡ false)
-    → GainsFlank frame rule layout direction flank rule.corner_distance none first → GainsFlank frame rule layout direction other rule.corner_distance first second
-    → ((n : ℕ) → CanStep (leads_on direction) ((rule.corner_distance - 1) * places_of frame direction) (64 * (frame.words * frame.rows)) n
-    → has_place wide n ≡ has_before (has_place second) (leads_on direction) (places_of frame direction) rule.corner_distance n)
-    → has_place wide (place_of frame x y) ≡ (in_block rule layout direction (square x y) flank || in_block rule layout direction (square x y) other)
-blocks-found rule layout frame direction flank other none first second wide h x y is far deep cross cross' empty gained gained' widened =
+blocks-found : (rule : EdgeRule) (layout : Layout) (maps : TypeMaps) (frame : Frame) (direction flank : Direction) (h n x y : ℕ)
+    → IsFrame frame → maps.frame ≡ frame → crosses direction flank ≡ true → ShowTypes rule layout maps → rule.corner_distance < h → IsDeep frame h x y → n + h * (64 * frame.words) ≡ place_of frame x y
+    → places_of frame direction + places_of frame flank ≡ 1 + 64 * frame.words
+    → list_any (λ i. list_any (λ j. corner_begins maps.before maps.behind maps.beside frame rule.corner_distance (h * (64 * frame.words)) (n + i * places_of frame direction + j * places_of frame flank) direction flank)
+    (range_with_len 0 rule.corner_distance)) (range_with_len 0 rule.corner_distance)
+    ≡ in_block rule layout direction (square x y) flank
+blocks-found rule layout maps frame direction flank h n x y is same cross types far deep ends both =
     let c = rule.corner_distance in
-    let here = here-in frame h x y deep in
-    let one : ℕ → Bool = λ i. has_cornered rule layout direction flank c (moved (back direction) i (square x y)) in
-    let two : ℕ → Bool = λ i. has_cornered rule layout direction other c (moved (back direction) i (square x y)) in
-    widened (place_of frame x y) (can-move frame direction (c - 1) x y is here (deep-in frame h x y _ deep (row_within direction (c - 1) h x y (omega arith))))
-    ∙ list_any_same_in_range (λ i. has_place second (place_before (leads_on direction) (i * places_of frame direction) (place_of frame x y))) (λ i. one i || two i) 0 c
+    let on = leads_on direction in
+    let on' = leads_on flank in
+    let q = square x y in
+    let home = h * (64 * frame.words) in
+    let least = mul-le c (1 + 64 * frame.words) (h - 1) (1 + 64 * frame.words) (omega arith) (omega arith) in
+    let less = one-less h (64 * frame.words) (omega arith) in
+    let parts : c * places_of frame direction + c * places_of frame flank ≡ c * (1 + 64 * frame.words) = omega arith ∙ ap (λ m. c * m) both in
+    let room : c * places_of frame direction + c * places_of frame flank ≤ home = omega (arith, parts, least, less, deep.left, deep.right) in
+    let test : ℕ → ℕ → Bool = λ k l. is_cornered rule layout direction flank (moved (back flank) (1 + l) (moved (back direction) k q)) in
+    list_any_same_in_range
+    (λ i. list_any (λ j. corner_begins maps.before maps.behind maps.beside frame c home (n + i * places_of frame direction + j * places_of frame flank) direction flank) (range_with_len 0 c))
+    (λ i. list_any (λ l. test (turned on c i) l) (range_with_len 0 c)) 0 c
     (λ i above below.
-    let m = moved (back direction) i (square x y) in
-    let n = place_of frame m.x m.y in
-    ap (has_place second) (place-moved frame direction i x y is here (deep-in frame h x y m deep (row_within direction i h x y (omega arith))))
-    ∙ either-flank (has_place none n) (has_place first n) (has_place second n) (one i) (two i)
-    (gained' m.x m.y (room frame direction other c i h x y cross' far (omega arith) deep)) (gained m.x m.y (room frame direction flank c i h x y cross far (omega arith) deep)) (empty n))
-    ∙ any-or one two (range_with_len 0 c)
+    list_any_same_in_range
+    (λ j. corner_begins maps.before maps.behind maps.beside frame c home (n + i * places_of frame direction + j * places_of frame flank) direction flank)
+    (λ j. test (turned on c i) (turned on' c j)) 0 c
+    (λ j above' below'.
+    let few = turned-below on c i (omega arith) in
+    corner-shown rule layout maps frame direction flank home c i j n q is same cross types (omega arith) (omega arith) room ends (here-in frame h x y deep)
+    (λ k l k_few l_few. (deep-in frame h x y _ deep (block_within direction flank k l h x y cross (omega arith) (omega arith)), deep-in frame h x y _ deep (before_block_within direction flank k l h x y cross (omega arith) (omega arith))))
+    (deep-in frame h x y _ deep (row_within direction (turned on c i) h x y (omega (arith, few)))))
+    ∙ any-turned on' c (test (turned on c i)))
+    ∙ any-turned on c (λ k. list_any (test k) (range_with_len 0 c))
 
-crosses-both : (direction flank other : Direction) → across direction ≡ flank ∷ other ∷ [] → (crosses direction flank ≡ true) × (crosses direction other ≡ true)
-crosses-both Right flank other is = (let same : flank ≡ Up = cc in ap (crosses Right) same, let same : other ≡ Down = cc in ap (crosses Right) same)
-crosses-both Up flank other is = (let same : flank ≡ Right = cc in ap (crosses Up) same, let same : other ≡ Left = cc in ap (crosses Up) same)
-crosses-both Left flank other is = (let same : flank ≡ Up = cc in ap (crosses Left) same, let same : other ≡ Down = cc in ap (crosses Left) same)
-crosses-both Down flank other is = (let same : flank ≡ Right = cc in ap (crosses Down) same, let same : other ≡ Left = cc in ap (crosses Down) same)
+-- ---- tests in turn
+any-swap : {X : Type 0} {Y : Type 0} (f : X → Y → Bool) (xs : List X) (ys : List Y) → list_any (λ x. list_any (λ y. f x y) ys) xs ≡ list_any (λ y. list_any (λ x. f x y) xs) ys
+any-swap f [] ys = sym (list_any_none (λ y. false) ys (λ k d within. refl))
+any-swap f (x ∷ xs) ys = ap (λ b. list_any (λ y. f x y) ys || b) (any-swap f xs ys) ∙ sym (any-or (λ y. f x y) (λ y. list_any (λ z. f z y) xs) ys)
 
-turned-round : (old row b1 b2 : Bool) → ((old || (b1 || b2)) || row) ≡ (old || (row || (b1 || (b2 || false))))
-turned-round true row b1 b2 = refl
-turned-round false true true b2 = refl
-turned-round false true false true = refl
-turned-round false true false false = refl
-turned-round false false true b2 = refl
-turned-round false false false true = refl
-turned-round false false false false = refl
+any-four : {D : Type 0} {E : Type 0} (f : ℕ → ℕ → D → E → Bool) (xs ys : List ℕ) (ds : List D) (es : D → List E)
+    → list_any (λ a. list_any (λ b. list_any (λ d. list_any (λ e. f a b d e) (es d)) ds) ys) xs ≡ list_any (λ d. list_any (λ e. list_any (λ a. list_any (λ b. f a b d e) ys) xs) (es d)) ds
+any-four f xs ys ds es =
+    list_any_same (λ a. list_any (λ b. list_any (λ d. list_any (λ e. f a b d e) (es d)) ds) ys) (λ a. list_any (λ d. list_any (λ b. list_any (λ e. f a b d e) (es d)) ys) ds) xs
+    (λ a. any-swap (λ b d. list_any (λ e. f a b d e) (es d)) ys ds)
+    ∙ any-swap (λ a d. list_any (λ b. list_any (λ e. f a b d e) (es d)) ys) xs ds
+    ∙ list_any_same (λ d. list_any (λ a. list_any (λ b. list_any (λ e. f a b d e) (es d)) ys) xs) (λ d. list_any (λ e. list_any (λ a. list_any (λ b. f a b d e) ys) xs) (es d)) ds
+    (λ d. list_any_same (λ a. list_any (λ b. list_any (λ e. f a b d e) (es d)) ys) (λ a. list_any (λ e. list_any (λ b. f a b d e) ys) (es d)) xs (λ a. any-swap (λ b e. f a b d e) ys (es d))
+    ∙ any-swap (λ a e. list_any (λ b. f a b d e) ys) xs (es d))
 
-gathered : (old middle new blocks row b1 b2 : Bool) → new ≡ (middle || row) → middle ≡ (old || blocks) → blocks ≡ (b1 || b2) → new ≡ (old || (row || (b1 || (b2 || false))))
-gathered old middle new blocks row b1 b2 is was two = rw (is, was, two) (turned-round old row b1 b2)
+never : (n : ℕ) → list_any (λ (i : ℕ). false) (range_with_len 0 n) ≡ false
+never n = list_any_none (λ (i : ℕ). false) (range_with_len 0 n) (λ k d within. refl)
 
-pub reach-gained : (rule : EdgeRule) (layout : Layout) (frame : Frame) (direction flank other : Direction) (edges rows none first second blocks old middle new : List ℕ)
-    → IsFrame frame → across direction ≡ flank ∷ other ∷ [] → HasEdges frame rule layout direction edges → ((n : ℕ) → has_place none n ≡ false)
-    → GainsFlank frame rule layout direction flank rule.corner_distance none first → GainsFlank frame rule layout direction other rule.corner_distance first second
-    → ((n : ℕ) → CanStep (leads_on direction) ((rule.corner_distance - 1) * places_of frame direction) (64 * (frame.words * frame.rows)) n
-    → has_place blocks n ≡ has_before (has_place second) (leads_on direction) (places_of frame direction) rule.corner_distance n)
-    → ((n : ℕ) → CanStep (leads_on direction) ((rule.distance - 1) * places_of frame direction) (64 * (frame.words * frame.rows)) n
-    → has_place rows n ≡ has_before (has_place edges) (leads_on direction) (places_of frame direction) rule.distance n)
-    → ((n : ℕ) → has_place middle n ≡ (has_place old n || has_place blocks n)) → ((n : ℕ) → has_place new n ≡ (has_place middle n || has_place rows n))
-    → GainsDeep frame (1 + max rule.distance rule.corner_distance) (reached_by rule layout direction) old new
-reach-gained rule layout frame direction flank other edges rows none first second blocks old middle new is flanks has empty gained gained' wide wide' joined joined' x y deep =
-    let n = place_of frame x y in
-    let h = 1 + max rule.distance rule.corner_distance in
-    let cross = crosses-both direction flank other flanks in
-    gathered (has_place old n) (has_place middle n) (has_place new n) (has_place blocks n) (in_row rule layout direction (square x y)) (in_block rule layout direction (square x y) flank) (in_block rule layout direction (square x y) other)
-    (joined' n ∙ ap (λ b. has_place middle n || b) (rows-found rule layout frame direction edges rows h x y is (omega arith) deep has wide'))
-    (joined n) (blocks-found rule layout frame direction flank other none first second blocks h x y is (omega arith) deep cross.0 cross.1 empty gained gained' wide)
-    ∙ ap (λ (ds : List Direction). has_place old n || (in_row rule layout direction (square x y) || list_any (in_block rule layout direction (square x y)) ds)) (sym flanks)
+level-case : (row none blocks row' blocks' : Bool) → none ≡ false → row ≡ row' → blocks ≡ blocks' → ((row || blocks) || none) ≡ (row' || blocks')
+level-case row none blocks row' blocks' off same same' = rw (off, same, same') (or-false (row' || blocks'))
+
+upright-case : (row none blocks row' blocks' : Bool) → none ≡ false → row ≡ row' → blocks ≡ blocks' → ((none || blocks) || row) ≡ (row' || blocks')
+upright-case row none blocks row' blocks' off same same' = rw (off, same, same') (or_comm blocks' row')
+
+-- what begins in a direction, level or upright
+abbrev level_at : TypeMaps → Frame → ℕ → ℕ → ℕ → Direction → Bool
+level_at maps frame count home n direction = is_level direction && row_begins maps.before maps.behind frame count home n direction
+
+abbrev upright_at : TypeMaps → Frame → ℕ → ℕ → ℕ → Direction → Bool
+upright_at maps frame count home n direction = not (is_level direction) && row_begins maps.before maps.behind frame count home n direction
+
+abbrev blocks_at : TypeMaps → Frame → ℕ → ℕ → ℕ → Direction → Bool
+blocks_at maps frame count home n direction =
+    list_any (λ flank. list_any (λ a. list_any (λ b. corner_begins maps.before maps.behind maps.beside frame count home (n + a * 1 + b * (64 * frame.words)) direction flank)
+    (range_with_len 0 count)) (range_with_len 0 count)) (across direction)
+
+-- the blocks of an upright direction, whose steps and flanks change places
+crossed : (maps : TypeMaps) (frame : Frame) (count home n : ℕ) (direction flank : Direction)
+    → list_any (λ a. list_any (λ b. corner_begins maps.before maps.behind maps.beside frame count home (n + a * 1 + b * (64 * frame.words)) direction flank) (range_with_len 0 count)) (range_with_len 0 count)
+    ≡ list_any (λ b. list_any (λ a. corner_begins maps.before maps.behind maps.beside frame count home (n + b * (64 * frame.words) + a * 1) direction flank) (range_with_len 0 count)) (range_with_len 0 count)
+crossed maps frame count home n direction flank =
+    any-swap (λ a b. corner_begins maps.before maps.behind maps.beside frame count home (n + a * 1 + b * (64 * frame.words)) direction flank) (range_with_len 0 count) (range_with_len 0 count)
+    ∙ list_any_same (λ b. list_any (λ a. corner_begins maps.before maps.behind maps.beside frame count home (n + a * 1 + b * (64 * frame.words)) direction flank) (range_with_len 0 count))
+    (λ b. list_any (λ a. corner_begins maps.before maps.behind maps.beside frame count home (n + b * (64 * frame.words) + a * 1) direction flank) (range_with_len 0 count)) (range_with_len 0 count)
+    (λ b. list_any_same (λ a. corner_begins maps.before maps.behind maps.beside frame count home (n + a * 1 + b * (64 * frame.words)) direction flank)
+    (λ a. corner_begins maps.before maps.behind maps.beside frame count home (n + b * (64 * frame.words) + a * 1) direction flank) (range_with_len 0 count)
+    (λ a. let turn : n + a * 1 + b * (64 * frame.words) ≡ n + b * (64 * frame.words) + a * 1 = omega arith in
+    ap (λ m. corner_begins maps.before maps.behind maps.beside frame count home m direction flank) turn))
+
+direction-found : (rule : EdgeRule) (layout : Layout) (maps : TypeMaps) (frame : Frame) (h n x y : ℕ) (direction : Direction)
+    → IsFrame frame → maps.frame ≡ frame → ShowTypes rule layout maps → rule.distance < h → rule.corner_distance < h → IsDeep frame h x y → n + h * (64 * frame.words) ≡ place_of frame x y
+    → ((list_any (λ i. level_at maps frame rule.distance (h * (64 * frame.words)) (n + i * 1) direction) (range_with_len 0 rule.distance)
+    || blocks_at maps frame rule.corner_distance (h * (64 * frame.words)) n direction)
+    || list_any (λ i. upright_at maps frame rule.distance (h * (64 * frame.words)) (n + i * (64 * frame.words)) direction) (range_with_len 0 rule.distance))
+    ≡ (in_row rule layout direction (square x y) || list_any (in_block rule layout direction (square x y)) (across direction))
+direction-found rule layout maps frame h n x y Right is same types far far' deep ends =
+    level-case _ _ _ _ _ (never rule.distance) (rows-found rule layout maps frame Right h n x y is same types far deep ends)
+    (rw (blocks-found rule layout maps frame Right Up h n x y is same refl types far' deep ends refl, blocks-found rule layout maps frame Right Down h n x y is same refl types far' deep ends refl) refl)
+direction-found rule layout maps frame h n x y Left is same types far far' deep ends =
+    level-case _ _ _ _ _ (never rule.distance) (rows-found rule layout maps frame Left h n x y is same types far deep ends)
+    (rw (blocks-found rule layout maps frame Left Up h n x y is same refl types far' deep ends refl, blocks-found rule layout maps frame Left Down h n x y is same refl types far' deep ends refl) refl)
+direction-found rule layout maps frame h n x y Up is same types far far' deep ends =
+    let turn : 64 * frame.words + 1 ≡ 1 + 64 * frame.words = omega arith in
+    upright-case _ _ _ _ _ (never rule.distance) (rows-found rule layout maps frame Up h n x y is same types far deep ends)
+    (rw (crossed maps frame rule.corner_distance (h * (64 * frame.words)) n Up Right, crossed maps frame rule.corner_distance (h * (64 * frame.words)) n Up Left,
+    blocks-found rule layout maps frame Up Right h n x y is same refl types far' deep ends turn, blocks-found rule layout maps frame Up Left h n x y is same refl types far' deep ends turn) refl)
+direction-found rule layout maps frame h n x y Down is same types far far' deep ends =
+    let turn : 64 * frame.words + 1 ≡ 1 + 64 * frame.words = omega arith in
+    upright-case _ _ _ _ _ (never rule.distance) (rows-found rule layout maps frame Down h n x y is same types far deep ends)
+    (rw (crossed maps frame rule.corner_distance (h * (64 * frame.words)) n Down Right, crossed maps frame rule.corner_distance (h * (64 * frame.words)) n Down Left,
+    blocks-found rule layout maps frame Down Right h n x y is same refl types far' deep ends turn, blocks-found rule layout maps frame Down Left h n x y is same refl types far' deep ends turn) refl)
+
+-- ---- all of a rule
+reads : (frame : Frame) (m n home a b x y : ℕ) → a < m → b < m → n + home ≡ place_of frame x y → IsDeep frame (1 + m) x y
+    → n + a * 1 + b * (64 * frame.words) + home + 64 * frame.words + 65 < 64 * (frame.words * frame.rows)
+reads frame m n home a b x y few few' ends deep =
+    let low = deep-low frame (1 + m) x y (omega arith) deep in
+    let all : 1 + m - 1 ≡ m = omega arith in
+    let high = mul-le b (64 * frame.words) (m - 1) (64 * frame.words) (omega arith) (omega arith) in
+    let less = one-less m (64 * frame.words) (omega arith) in
+    let whole : (1 + m - 1) * (64 * frame.words + 1) ≡ m * (64 * frame.words) + m = ap (λ k. k * (64 * frame.words + 1)) all ∙ omega arith in
+    omega (arith, low, whole, high, less, ends, few)
+
+pub reach-found : (rule : EdgeRule) (layout : Layout) (maps : TypeMaps) (frame : Frame) (level upright blocks new : List ℕ) (home x y : ℕ)
+    → IsFrame frame → maps.frame ≡ frame → ShowTypes rule layout maps → home ≡ (1 + max rule.distance rule.corner_distance) * (64 * frame.words)
+    → length level ≡ frame.words * frame.rows → length upright ≡ frame.words * frame.rows → length blocks ≡ frame.words * frame.rows
+    → ((n : ℕ) → Reads frame home level n → has_place level n ≡ list_any (λ direction. level_at maps frame rule.distance home n direction) (directions_in rule.directions))
+    → ((n : ℕ) → Reads frame home upright n → has_place upright n ≡ list_any (λ direction. upright_at maps frame rule.distance home n direction) (directions_in rule.directions))
+    → ((n : ℕ) → Reads frame home blocks n → 0 < rule.corner_distance → has_place blocks n
+    ≡ list_any (corners_begin maps.before maps.behind maps.beside frame rule.corner_distance home n) (directions_in rule.directions))
+    → ((n : ℕ) → n + max rule.distance rule.corner_distance * (64 * frame.words + 1) + 64 < 64 * length level
+    → has_place new n ≡ ((has_ahead (has_place level) 1 rule.distance n || has_ahead (has_ahead (has_place blocks) (64 * frame.words) rule.corner_distance) 1 rule.corner_distance n)
+    || has_ahead (has_place upright) (64 * frame.words) rule.distance n))
+    → IsDeep frame (1 + max rule.distance rule.corner_distance) x y
+    → has_place new (place_of frame x y - (1 + max rule.distance rule.corner_distance) * (64 * frame.words)) ≡ reaches rule layout (square x y)
+unfolding reaches
+reach-found rule layout maps frame level upright blocks new home x y is same types home_is long long' long'' found found' found'' spread deep =
+    let d = rule.distance in
+    let c = rule.corner_distance in
+    let m = max d c in
+    let row = 64 * frame.words in
+    let h = 1 + m in
+    let ds = directions_in rule.directions in
+    let N = place_of frame x y in
+    let n = N - h * row in
+    let ends : n + h * row ≡ N = omega (arith, deep-home frame h x y deep) in
+    let ends' : n + home ≡ N = omega (arith, ends, home_is) in
+    let low = deep-low frame h x y (omega arith) deep in
+    let all : h - 1 ≡ m = omega arith in
+    let whole : (h - 1) * (row + 1) ≡ m * (row + 1) = ap (λ k. k * (row + 1)) all in
+    let rD : Direction → Bool = λ direction. list_any (λ i. level_at maps frame d home (n + i * 1) direction) (range_with_len 0 d) in
+    let bD : Direction → Bool = λ direction. blocks_at maps frame c home n direction in
+    let uD : Direction → Bool = λ direction. list_any (λ i. upright_at maps frame d home (n + i * row) direction) (range_with_len 0 d) in
+    let rows : has_ahead (has_place level) 1 d n ≡ list_any rD ds =
+    list_any_same_in_range (λ i. has_place level (n + i * 1)) (λ i. list_any (λ direction. level_at maps frame d home (n + i * 1) direction) ds) 0 d
+    (λ i above below. found (n + i * 1) (omega (arith, long, reads frame m n home i 0 x y (omega arith) (omega arith) ends' deep)))
+    ∙ any-swap (λ i direction. level_at maps frame d home (n + i * 1) direction) (range_with_len 0 d) ds in
+    let columns : has_ahead (has_place upright) row d n ≡ list_any uD ds =
+    list_any_same_in_range (λ i. has_place upright (n + i * row)) (λ i. list_any (λ direction. upright_at maps frame d home (n + i * row) direction) ds) 0 d
+    (λ i above below. found' (n + i * row) (omega (arith, long', reads frame m n home 0 i x y (omega arith) (omega arith) ends' deep)))
+    ∙ any-swap (λ i direction. upright_at maps frame d home (n + i * row) direction) (range_with_len 0 d) ds in
+    let squares : has_ahead (has_ahead (has_place blocks) row c) 1 c n ≡ list_any bD ds =
+    list_any_same_in_range (λ a. list_any (λ b. has_place blocks (n + a * 1 + b * row)) (range_with_len 0 c))
+    (λ a. list_any (λ b. list_any (corners_begin maps.before maps.behind maps.beside frame c home (n + a * 1 + b * row)) ds) (range_with_len 0 c)) 0 c
+    (λ a above below.
+    list_any_same_in_range (λ b. has_place blocks (n + a * 1 + b * row)) (λ b. list_any (corners_begin maps.before maps.behind maps.beside frame c home (n + a * 1 + b * row)) ds) 0 c
+    (λ b above' below'. found'' (n + a * 1 + b * row) (omega (arith, long'', reads frame m n home a b x y (omega arith) (omega arith) ends' deep)) (omega arith)))
+    ∙ any-four (λ a b direction flank. corner_begins maps.before maps.behind maps.beside frame c home (n + a * 1 + b * row) direction flank) (range_with_len 0 c) (range_with_len 0 c) ds across in
+    spread n (omega (arith, low, whole, ends, long))
+    ∙ rw (rows, squares, columns) (ap (λ b. b || list_any uD ds) (sym (any-or rD bD ds)) ∙ sym (any-or (λ direction. rD direction || bD direction) uD ds))
+    ∙ list_any_same (λ direction. (rD direction || bD direction) || uD direction) (λ direction. in_row rule layout direction (square x y) || list_any (in_block rule layout direction (square x y)) (across direction)) ds
+    (λ direction. rw home_is (direction-found rule layout maps frame h n x y direction is same types (omega arith) (omega arith) deep ends))

@@ -1,10 +1,13 @@
--- Places that lie steps before others, and maps that are widened.
-use Rattle.std.proofs.Common.{◌≡◌, ℕ, ◌+◌, ◌-◌, ◌*◌, ◌%◌, ◌<◌, ◌≤◌, ◌⊎◌, inl, inr, Bool, true, false, ◌||◌, List, sym, ap, subst, ◌∙◌, arith}
+-- Maps that are widened.
+use Rattle.std.proofs.Common.{◌≡◌, ℕ, ◌+◌, ◌-◌, ◌*◌, ◌<◌, ◌≤◌, inl, inr, Bool, true, false, ◌||◌, List, refl, sym, ap, ◌∙◌, arith}
 use Rattle.std.specs.Cmp.{both_ways}
 use Rattle.std.specs.List.{list_any, range_with_len}
+use Rattle.std.proofs.Math.Bool.{or-false}
 use Rattle.std.proofs.lemmas.Bool.{cases_lt, or_left, or_right, or_cases}
-use Rattle.std.proofs.lemmas.Nat.{mul-le, mul-mod_first}
-use Rattle.mls_checker.specs.Maps.{CanStep, has_before, has_place, place_before}
+use Rattle.std.proofs.lemmas.List.Folds.{list_any_none}
+use Rattle.std.proofs.lemmas.Nat.{mul-le}
+use Rattle.mls_checker.specs.Maps.{has_ahead, has_place}
+use Rattle.mls_checker.proofs.BandLists.{any-or}
 use Rattle.mls_checker.proofs.ListTests.{below_finds, found_below, list_any_same_in_range}
 
 -- ---- tests below a number
@@ -23,68 +26,63 @@ doubled g a k few =
           or_right (list_any g (range_with_len 0 a)) (list_any (λ i. g (k + i)) (range_with_len 0 a)) (below_finds (λ i. g (k + i)) a (i.0 - k) (omega (arith, i.1, few, high)) (ap g back ∙ i.2)))
     ])
 
--- ---- steps
--- a shorter step can be taken too
-pub shorter : (is_on : Bool) (p q total n : ℕ) → p ≤ q → CanStep is_on q total n → CanStep is_on p total n
-shorter true p q total n less can = (omega (arith, can.0), omega (arith, can.1))
-shorter false p q total n less can = omega arith
-
--- a part of a step, and then the rest of it
-pub rest-can : (is_on : Bool) (p q total n : ℕ) → CanStep is_on (q + p) total n → CanStep is_on q total (place_before is_on p n)
-rest-can true p q total n can = (omega (arith, can.0), omega (arith, can.1))
-rest-can false p q total n can = omega arith
-
-pub steps-join : (is_on : Bool) (p q n : ℕ) → place_before is_on q (place_before is_on p n) ≡ place_before is_on (p + q) n
-steps-join true p q n = omega arith
-steps-join false p q n = omega arith
-
-pub can-place : (is_on : Bool) (p total n : ℕ) → CanStep is_on p total n → n < total
-can-place true p total n can = can.1
-can-place false p total n can = omega arith
-
-ap-can : (is_on : Bool) (p q total n : ℕ) → p ≡ q → CanStep is_on p total n → CanStep is_on q total n
-ap-can is_on p q total n same can = shorter is_on q p total n (omega arith) can
-
 -- ---- widening
-before-more : (f : ℕ → Bool) (is_on : Bool) (p k a n : ℕ)
-    → has_before f is_on p a (place_before is_on (p * k) n) ≡ list_any (λ i. f (place_before is_on ((k + i) * p) n)) (range_with_len 0 a)
-before-more f is_on p k a n =
-    list_any_same_in_range (λ i. f (place_before is_on (i * p) (place_before is_on (p * k) n))) (λ i. f (place_before is_on ((k + i) * p) n)) 0 a
-    (λ i above below. let sum : p * k + i * p ≡ (k + i) * p = omega arith in
-    ap f (steps-join is_on (p * k) (i * p) n) ∙ ap (λ q. f (place_before is_on q n)) sum)
+ahead-more : (f : ℕ → Bool) (p k a n : ℕ) → has_ahead f p a (n + p * k) ≡ list_any (λ i. f (n + (k + i) * p)) (range_with_len 0 a)
+ahead-more f p k a n =
+    list_any_same_in_range (λ i. f (n + p * k + i * p)) (λ i. f (n + (k + i) * p)) 0 a
+    (λ i above below. let sum : n + p * k + i * p ≡ n + (k + i) * p = omega arith in ap f sum)
 
--- a map that is a steps wide and gained itself moved by k steps is a + k steps wide
-pub wider : (f new cur : ℕ → Bool) (is_on : Bool) (p a k total : ℕ) → 1 ≤ a → k ≤ a
-    → ((n : ℕ) → CanStep is_on ((a - 1) * p) total n → cur n ≡ has_before f is_on p a n)
-    → ((n : ℕ) → CanStep is_on (p * k) total n → new n ≡ (cur n || cur (place_before is_on (p * k) n)))
-    → (n : ℕ) → CanStep is_on ((a + k - 1) * p) total n → new n ≡ has_before f is_on p (a + k) n
-wider f new cur is_on p a k total some few before gained n can =
-    let less : (a - 1) * p ≤ (a + k - 1) * p = mul-le (a - 1) p (a + k - 1) p (omega arith) (omega arith) in
-    let part : p * k ≤ (a + k - 1) * p = omega (arith, mul-le k p (a + k - 1) p (omega arith) (omega arith)) in
+-- a map that is a steps wide and gained itself k steps ahead is a + k steps wide
+pub wider : (f new cur : ℕ → Bool) (p a k total : ℕ) → 1 ≤ a → k ≤ a
+    → ((n : ℕ) → n + (a - 1) * p + 64 < total → cur n ≡ has_ahead f p a n)
+    → ((n : ℕ) → n + p * k + 64 < total → new n ≡ (cur n || cur (n + p * k)))
+    → (n : ℕ) → n + (a + k - 1) * p + 64 < total → new n ≡ has_ahead f p (a + k) n
+wider f new cur p a k total some few before gained n can =
     let all : (a + k - 1) * p ≡ (a - 1) * p + p * k = (let split : a + k - 1 ≡ (a - 1) + k = omega arith in ap (λ m. m * p) split ∙ omega arith) in
-    gained n (shorter is_on (p * k) ((a + k - 1) * p) total n part can)
-    ∙ ap (λ b. b || cur (place_before is_on (p * k) n)) (before n (shorter is_on ((a - 1) * p) ((a + k - 1) * p) total n less can))
-    ∙ ap (λ b. has_before f is_on p a n || b)
-    (before (place_before is_on (p * k) n) (rest-can is_on (p * k) ((a - 1) * p) total n (ap-can is_on ((a + k - 1) * p) ((a - 1) * p + p * k) total n all can)) ∙ before-more f is_on p k a n)
-    ∙ doubled (λ i. f (place_before is_on (i * p) n)) a k few
+    gained n (omega (arith, all, can))
+    ∙ ap (λ b. b || cur (n + p * k)) (before n (omega (arith, all, can)))
+    ∙ ap (λ b. has_ahead f p a n || b) (before (n + p * k) (omega (arith, all, can)) ∙ ahead-more f p k a n)
+    ∙ doubled (λ i. f (n + i * p)) a k few
 
--- ---- the loop
-pub whole-steps : (places more : ℕ) → (places ≡ 1) ⊎ (places % 64 ≡ 0) → more ≤ 63 → (places * more < 64) ⊎ (places * more % 64 ≡ 0)
-whole-steps places more whole few = elim whole [
-  | inl one ↦ inl (let same : places * more ≡ more = ap (λ p. p * more) one ∙ omega arith in omega arith)
-  | inr full ↦ inr (sym (mul-mod_first places more 64) ∙ ap (λ r. r * more % 64) full ∙ omega arith)
-]
+-- one place ahead is the place itself
+pub one-wide : (f : ℕ → Bool) (p n : ℕ) → f n ≡ has_ahead f p 1 n
+one-wide f p n = let same : n ≡ n + 0 * p = omega arith in ap f same ∙ sym (or-false (f (n + 0 * p)))
+
+-- no place ahead passes where none does
+pub none-ahead : (f : ℕ → Bool) (p count n : ℕ) → ((m : ℕ) → f m ≡ false) → has_ahead f p count n ≡ false
+none-ahead f p count n none = list_any_same_in_range (λ i. f (n + i * p)) (λ i. false) 0 count (λ i above below. none (n + i * p)) ∙ list_any_none (λ (i : ℕ). false) (range_with_len 0 count) (λ k d within. refl)
 
 -- what a map gained from its copy
-pub gained-copy : (map copy new : List ℕ) (is_on : Bool) (p total total' : ℕ) → copy ≡ map → total' ≡ total
-    → ((n : ℕ) → CanStep is_on p total n → has_place new n ≡ (has_place map n || has_place copy (place_before is_on p n)))
-    → (n : ℕ) → CanStep is_on p total' n → has_place new n ≡ (has_place map n || has_place map (place_before is_on p n))
-gained-copy map copy new is_on p total total' same size gained n can =
-    gained n (subst (λ (t : ℕ). CanStep is_on p t n) size can) ∙ ap (λ (m : List ℕ). has_place map n || has_place m (place_before is_on p n)) same
+pub gained-copy : (map copy new : List ℕ) (p total total' : ℕ) → copy ≡ map → total' ≡ total
+    → ((n : ℕ) → n + p + 64 < total → has_place new n ≡ (has_place map n || has_place copy (n + p)))
+    → (n : ℕ) → n + p + 64 < total' → has_place new n ≡ (has_place map n || has_place map (n + p))
+gained-copy map copy new p total total' same size gained n can =
+    gained n (omega arith) ∙ ap (λ (m : List ℕ). has_place map n || has_place m (n + p)) same
 
--- a map that was empty and gained another one's places
-pub moved-alone : (none new other : List ℕ) (is_on : Bool) (p total total' n : ℕ) → ((m : ℕ) → has_place none m ≡ false) → total' ≡ total
-    → ((m : ℕ) → CanStep is_on p total' m → has_place new m ≡ (has_place none m || has_place other (place_before is_on p m)))
-    → CanStep is_on p total n → has_place new n ≡ has_place other (place_before is_on p n)
-moved-alone none new other is_on p total total' n empty size gained can =
-    gained n (subst (λ (t : ℕ). CanStep is_on p t n) (sym size) can) ∙ ap (λ b. b || has_place other (place_before is_on p n)) (empty n)
+-- ---- rows and blocks together
+pub upright-within : (row d m n total : ℕ) → d ≤ m → n + m * (row + 1) + 64 < total → n + (d - 1) * row + 64 < total
+upright-within row d m n total few within = omega (arith, within, mul-le (d - 1) row m row (omega arith) (omega arith))
+
+-- blocks that are wide upward, and rows, widened at once
+pub spread-joined : (level0 level1 level2 blocks0 blocks1 : ℕ → Bool) (row d c m total n : ℕ) → d ≤ m → c ≤ m → d ≡ c
+    → ((k : ℕ) → k + (c - 1) * row + 64 < total → blocks1 k ≡ has_ahead blocks0 row c k) → ((k : ℕ) → level1 k ≡ (level0 k || blocks1 k))
+    → ((k : ℕ) → k + (d - 1) * 1 + 64 < total → level2 k ≡ has_ahead level1 1 d k) → n + m * (row + 1) + 64 < total
+    → level2 n ≡ (has_ahead level0 1 d n || has_ahead (has_ahead blocks0 row c) 1 c n)
+spread-joined level0 level1 level2 blocks0 blocks1 row d c m total n few few' same wide joined wide' within =
+    let high = mul-le (c - 1) row m row (omega arith) (omega arith) in
+    wide' n (omega (arith, within))
+    ∙ list_any_same_in_range (λ i. level1 (n + i * 1)) (λ i. level0 (n + i * 1) || has_ahead blocks0 row c (n + i * 1)) 0 d
+    (λ i above below. joined (n + i * 1) ∙ ap (λ b. level0 (n + i * 1) || b) (wide (n + i * 1) (omega (arith, within, high))))
+    ∙ any-or (λ i. level0 (n + i * 1)) (λ i. has_ahead blocks0 row c (n + i * 1)) (range_with_len 0 d)
+    ∙ ap (λ k. has_ahead level0 1 d n || has_ahead (has_ahead blocks0 row c) 1 k n) same
+
+-- and each widened by itself
+pub spread-apart : (level0 level1 level2 blocks0 blocks1 blocks2 : ℕ → Bool) (row d c m total n : ℕ) → d ≤ m → c ≤ m
+    → ((k : ℕ) → k + (c - 1) * row + 64 < total → blocks1 k ≡ has_ahead blocks0 row c k) → ((k : ℕ) → k + (c - 1) * 1 + 64 < total → blocks2 k ≡ has_ahead blocks1 1 c k)
+    → ((k : ℕ) → k + (d - 1) * 1 + 64 < total → level1 k ≡ has_ahead level0 1 d k) → ((k : ℕ) → level2 k ≡ (level1 k || blocks2 k)) → n + m * (row + 1) + 64 < total
+    → level2 n ≡ (has_ahead level0 1 d n || has_ahead (has_ahead blocks0 row c) 1 c n)
+spread-apart level0 level1 level2 blocks0 blocks1 blocks2 row d c m total n few few' wide wide2 wide' joined within =
+    let high = mul-le (c - 1) row m row (omega arith) (omega arith) in
+    joined n ∙ ap (λ b. b || blocks2 n) (wide' n (omega (arith, within)))
+    ∙ ap (λ b. has_ahead level0 1 d n || b) (wide2 n (omega (arith, within))
+    ∙ list_any_same_in_range (λ i. blocks1 (n + i * 1)) (λ i. has_ahead blocks0 row c (n + i * 1)) 0 c (λ i above below. wide (n + i * 1) (omega (arith, within, high))))

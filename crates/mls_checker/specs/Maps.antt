@@ -22,14 +22,14 @@ abbrev pub place_before : Bool → ℕ → ℕ → ℕ
 place_before true places n = n - places
 place_before false places n = n + places
 
--- so many places before n, or behind it, lies one of a map of so many places, and so does n
-abbrev pub CanStep : Bool → ℕ → ℕ → ℕ → Type 0
-CanStep true places total n = (places ≤ n) × (n < total)
-CanStep false places total n = n + places < total
+-- one of the places n, n + places, n + 2 * places .., so many, passes the test
+abbrev pub has_ahead : (ℕ → Bool) → ℕ → ℕ → ℕ → Bool
+has_ahead test places count n = list_any (λ i. test (n + i * places)) (range_with_len 0 count)
 
--- one of the places that lie fewer than `count` steps before n passes the test
-abbrev pub has_before : (ℕ → Bool) → Bool → ℕ → ℕ → ℕ → Bool
-has_before test is_on places count n = list_any (λ i. test (place_before is_on (i * places) n)) (range_with_len 0 count)
+-- where so many steps begin that end at home, where they lead on, or begin there
+abbrev pub start_of : Bool → ℕ → ℕ → ℕ → ℕ
+start_of true places count home = home - (count - 1) * places
+start_of false places count home = home
 
 -- ---- squares as places
 -- the squares of a map: its lower-left corner, how many words a row has, and how many rows there are
@@ -129,29 +129,45 @@ square x y = record { x = x; y = y }
 abbrev pub IsIn : Frame → Point → Type 0
 IsIn frame p = holds (frame_area frame) p.x p.y ≡ true
 
--- the map has the squares before which an edge lies, where the square before them lies in the frame too
-abbrev pub HasEdges : Frame → EdgeRule → Layout → Direction → List ℕ → Type 0
-HasEdges frame rule layout direction map = (x y : ℕ) → IsIn frame (square x y) → IsIn frame (moved (back direction) 1 (square x y))
-    → has_place map (place_of frame x y) ≡ is_edge rule layout direction (square x y)
-
 -- the maps have the squares of types1, of types2 and of corner types
 pub record ShowTypes (rule : EdgeRule) (layout : Layout) (maps : TypeMaps) : Type 0 where
   pub types1 : Shows maps.frame (of_types rule.types1 (layout rule.trigger_plane)) maps.before
   pub types2 : Shows maps.frame (of_types rule.types2 (layout rule.trigger_plane)) maps.behind
   pub corners : Shows maps.frame (of_types rule.corner_types (layout rule.trigger_plane)) maps.beside
 
--- an edge with a corner on the flank lies 1 + j steps back from the flank, for some j below the count
-abbrev pub has_cornered : EdgeRule → Layout → Direction → Direction → ℕ → Point → Bool
-has_cornered rule layout direction flank count q = list_any (λ j. is_cornered rule layout direction flank (moved (back flank) (1 + j) q)) (range_with_len 0 count)
+-- rows of squares go so
+abbrev pub is_level : Direction → Bool
+is_level Right = true
+is_level Up = false
+is_level Left = true
+is_level Down = false
 
--- the squares so many steps back from the flank, and those before them, lie in the frame
-abbrev pub HasRoom : Frame → Direction → Direction → ℕ → Point → Type 0
-HasRoom frame direction flank count q = (j : ℕ) → j ≤ count → IsIn frame (moved (back flank) j q) × IsIn frame (moved (back direction) 1 (moved (back flank) j q))
+-- an edge lies at the start of so many steps: a place of types2, and one of types1 a step before it
+abbrev pub row_at : List ℕ → List ℕ → Bool → ℕ → ℕ → ℕ → ℕ → Bool
+row_at before behind is_on places count home n =
+    has_place behind (n + start_of is_on places count home) && has_place before (n + place_before is_on places (start_of is_on places count home))
 
--- the map gained, where there is room, the squares to the flank of edges that have a corner there, so many to each
-abbrev pub GainsFlank : Frame → EdgeRule → Layout → Direction → Direction → ℕ → List ℕ → List ℕ → Type 0
-GainsFlank frame rule layout direction flank count old new = (x y : ℕ) → HasRoom frame direction flank count (square x y)
-    → has_place new (place_of frame x y) ≡ (has_place old (place_of frame x y) || has_cornered rule layout direction flank count (square x y))
+-- so many steps, and as many to the flank, begin at a place that has an edge a step before it on the flank, and a corner type a step before it
+abbrev pub corner_at : List ℕ → List ℕ → List ℕ → Bool → ℕ → Bool → ℕ → ℕ → ℕ → ℕ → Bool
+corner_at before behind beside is_on places is_on' places' count home n =
+    (has_place behind (n + place_before is_on' places' (start_of is_on' places' count (start_of is_on places count home)))
+    && has_place before (n + place_before is_on places (place_before is_on' places' (start_of is_on' places' count (start_of is_on places count home)))))
+    && has_place beside (n + place_before is_on places (start_of is_on' places' count (start_of is_on places count home)))
+
+-- rows in a direction, and corner blocks of it, begin at n
+abbrev pub row_begins : List ℕ → List ℕ → Frame → ℕ → ℕ → ℕ → Direction → Bool
+row_begins before behind frame count home n direction = row_at before behind (leads_on direction) (places_of frame direction) count home n
+
+abbrev pub corner_begins : List ℕ → List ℕ → List ℕ → Frame → ℕ → ℕ → ℕ → Direction → Direction → Bool
+corner_begins before behind beside frame count home n direction flank =
+    corner_at before behind beside (leads_on direction) (places_of frame direction) (leads_on flank) (places_of frame flank) count home n
+
+abbrev pub corners_begin : List ℕ → List ℕ → List ℕ → Frame → ℕ → ℕ → ℕ → Direction → Bool
+corners_begin before behind beside frame count home n direction = list_any (corner_begins before behind beside frame count home n direction) (across direction)
+
+-- n, and what is read from it, lie in the map
+abbrev pub Reads : Frame → ℕ → List ℕ → ℕ → Type 0
+Reads frame home map n = n + home + 64 * frame.words + 65 < 64 * length map
 
 -- deep in the frame, the map has the squares of a set
 abbrev pub HasDeep : Frame → ℕ → SquareSet → List ℕ → Type 0
@@ -161,9 +177,9 @@ HasDeep frame depth set map = (x y : ℕ) → IsDeep frame depth x y → has_pla
 abbrev pub GainsDeep : Frame → ℕ → SquareSet → List ℕ → List ℕ → Type 0
 GainsDeep frame depth set old new = (x y : ℕ) → IsDeep frame depth x y → has_place new (place_of frame x y) ≡ (has_place old (place_of frame x y) || set x y)
 
--- the squares that the edges in a direction reach
-abbrev pub reached_by : EdgeRule → Layout → Direction → SquareSet
-reached_by rule layout direction x y = in_row rule layout direction (square x y) || list_any (in_block rule layout direction (square x y)) (across direction)
+-- the same, so many rows below
+abbrev pub HasLow : Frame → ℕ → SquareSet → List ℕ → Type 0
+HasLow frame depth set map = (x y : ℕ) → IsDeep frame depth x y → has_place map (place_of frame x y - depth * (64 * frame.words)) ≡ set x y
 
 -- some rule forbids the square
 abbrev pub forbidden_by_any : List EdgeRule → Layout → SquareSet

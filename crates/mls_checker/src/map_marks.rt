@@ -10,11 +10,10 @@ ghost use Rattle.mls_geom.specs.Rects.{holds};
 use crate::covering::is_needed;
 use crate::grid::Grid;
 use crate::map_frame::Frame;
-use crate::map_words::leave_out;
-use crate::reach_maps::ReachMaps;
+use crate::map_words::add_but;
+use crate::reach_maps::{ReachMaps, words_below};
 use crate::runs::areas_of;
 use crate::type_map::{TypeMap, TypeMaps, list_maps, load_types};
-use crate::words::join;
 use crate::{Marks, Snapshot};
 use mls_edgerule::EdgeRule;
 use mls_geom::Rect;
@@ -26,12 +25,10 @@ struct MapMarks {
     frame: Frame,
     types: TypeMaps,
     reach: ReachMaps,
-    reached: Vec<u64>,
     allowed: Vec<u64>,
     marked: Vec<u64>,
     ghost types_framed: { types.frame ≡ frame },
     ghost reach_framed: { reach.frame ≡ frame },
-    ghost reached_sized: { length reached.items ≡ frame.words * frame.rows },
     ghost allowed_sized: { length allowed.items ≡ frame.words * frame.rows },
     ghost marked_sized: { length marked.items ≡ frame.words * frame.rows },
 }
@@ -47,31 +44,9 @@ impl MapMarks {
             frame,
             types: TypeMaps::new(alloc, frame)?,
             reach: ReachMaps::new(alloc, frame)?,
-            reached: vec![in alloc; 0; size]?,
             allowed: vec![in alloc; 0; size]?,
             marked: vec![in alloc; 0; size]?,
         })
-    }
-
-    /// Finds the squares that the rule forbids.
-    fn find(&mut self, kept: &[TypeMap], rule: &EdgeRule, snapshot: &Snapshot)
-        requires { AreTypeMaps self.old.frame (copied_layout snapshot.now) kept.now }
-        ensures frame { self.new.frame ≡ self.old.frame }
-        ensures marked { self.new.marked ≡ self.old.marked }
-        ensures reached { HasDeep self.old.frame (1 + max rule.now.distance rule.now.corner_distance)
-            (λ x y. forbids rule.now (copied_layout snapshot.now) (square x y)) self.new.reached.items }
-    {
-        self.types.show(kept, rule, snapshot);
-        self.reach.find_reach(&mut self.reached, &self.types, rule);
-        load_types(
-            &mut self.allowed,
-            kept,
-            self.frame,
-            snapshot,
-            rule.check_plane,
-            rule.ok_types,
-        );
-        leave_out(&mut self.reached, &self.allowed);
     }
 
     /// Marks the squares that the rule forbids.
@@ -82,8 +57,23 @@ impl MapMarks {
             (λ x y. forbids rule.now (copied_layout snapshot.now) (square x y))
             self.old.marked.items self.new.marked.items }
     {
-        self.find(kept, rule, snapshot);
-        join(&mut self.marked, &self.reached);
+        self.types.show(kept, rule, snapshot);
+        self.reach.find_reach(&self.types, rule);
+        load_types(
+            &mut self.allowed,
+            kept,
+            self.frame,
+            snapshot,
+            rule.check_plane,
+            rule.ok_types,
+        );
+        let below = words_below(self.frame, rule);
+        add_but(
+            &mut self.marked,
+            self.reach.reached(),
+            below,
+            &self.allowed,
+        );
     }
 
     /// Returns the marked squares.

@@ -1,11 +1,8 @@
-//! Maps of one bit a place that are moved and widened.
-ghost use Rattle.std.specs.Prelude.{◌≡◌, ◌-◌, ◌*◌, ◌%◌, ◌<◌, ◌≤◌, ◌||◌, ◌⊎◌, ℕ, length};
-ghost use Rattle.mls_checker.specs.Maps.{CanStep, has_before, has_place, place_before};
+//! Steps from place to place of a map, and maps that are widened.
+ghost use Rattle.std.specs.Prelude.{◌≡◌, ◌+◌, ◌-◌, ◌*◌, ◌<◌, ◌≤◌, ℕ, length};
+ghost use Rattle.mls_checker.specs.Maps.{has_ahead, has_place, place_before, start_of};
 
-use crate::map_words::{add_bits_back, add_bits_on, add_words_back, add_words_on, empty};
-
-/// How many places a word has.
-const PLACES: usize = 64;
+use crate::map_words::{add_ahead, empty, is_empty};
 
 /// A step from each place of a map to another: so many places on, or back.
 #[derive(Clone, Copy)]
@@ -14,48 +11,56 @@ pub(crate) struct Step {
     pub places: usize,
 }
 
-/// Adds the places of another map, each moved by the step.
-pub(crate) fn add_moved(map: &mut [u64], other: &[u64], step: Step)
-    requires length { length map.old ≡ length other.now }
-    requires whole { (step.places < 64) ⊎ (step.places % 64 ≡ 0) }
-    ensures { (n : ℕ) → CanStep step.is_on step.places (64 * length map.old) n → has_place map.new n
-        ≡ (has_place map.old n || has_place other.now (place_before step.is_on step.places n)) }
-{
-    let words = step.places / PLACES;
-    let bits = (step.places % PLACES) as u32;
-    match (bits, step.is_on) {
-        (0, true) => add_words_on(map, other, words),
-        (0, false) => add_words_back(map, other, words),
-        (_, true) => add_bits_on(map, other, bits),
-        (_, false) => add_bits_back(map, other, bits),
+impl Step {
+    /// Returns the place a step before a place.
+    pub fn before(self, place: usize) -> usize
+        requires short { self.places ≤ 65536 }
+        requires low { place ≤ 16777216 }
+        ensures value { result ≡ place_before self.is_on self.places place }
+        ensures near { result ≤ place + self.places }
+    {
+        if self.is_on {
+            place.saturating_sub(self.places)
+        } else {
+            place + self.places
+        }
+    }
+
+    /// Returns where so many steps begin: at home, or so that they end there, where they lead on.
+    pub fn start(self, home: usize, count: usize) -> usize
+        requires short { self.places ≤ 65536 }
+        requires few { count ≤ 256 }
+        ensures value { result ≡ start_of self.is_on self.places count home }
+        ensures near { result ≤ home }
+    {
+        if self.is_on {
+            home.saturating_sub(count.saturating_sub(1) * self.places)
+        } else {
+            home
+        }
     }
 }
 
-/// Makes each place of a map as many, each a step from the one before.
-pub(crate) fn widen(map: &mut [u64], moved: &mut [u64], step: Step, count: usize)
+/// Makes each place of a map as many, each so many places before the last.
+pub(crate) fn widen(map: &mut [u64], moved: &mut [u64], places: usize, count: usize)
     requires length { length map.old ≡ length moved.old }
-    requires whole { (step.places ≡ 1) ⊎ (step.places % 64 ≡ 0) }
-    requires short { step.places ≤ 65536 }
+    requires short { places ≤ 65536 }
     requires few { count ≤ 256 }
-    ensures { (n : ℕ) → CanStep step.is_on ((count - 1) * step.places) (64 * length map.old) n → has_place map.new n
-        ≡ has_before (has_place map.old) step.is_on step.places count n }
+    ensures { (n : ℕ) → n + (count - 1) * places + 64 < 64 * length map.old → has_place map.new n
+        ≡ has_ahead (has_place map.old) places count n }
 {
     if count == 0 {
         empty(map);
         return;
     }
+    if is_empty(map) {
+        return;
+    }
     let mut wide = 1;
     'passes: while wide < count {
-        let more = wide.min(count - wide).min(PLACES - 1);
+        let more = wide.min(count - wide);
         moved.copy_from_slice(map);
-        add_moved(
-            map,
-            moved,
-            Step {
-                is_on: step.is_on,
-                places: step.places * more,
-            },
-        );
+        add_ahead(map, moved, places * more);
         wide += more;
     }
 }

@@ -1,9 +1,13 @@
 //! Maps of one bit a place as lists of words, 64 places to a word.
-ghost use Rattle.std.specs.Prelude.{◌≡◌, ◌+◌, ◌-◌, ◌*◌, ◌<◌, ◌≤◌, ◌||◌, ◌&&◌, ℕ, false, nat_le, nat_lt, not, length};
+ghost use Rattle.std.specs.Prelude.{◌≡◌, ◌+◌, ◌-◌, ◌*◌, ◌<◌, ◌≤◌, ◌||◌, ◌&&◌, ℕ, false, not, length, IsTrue};
 ghost use Rattle.mls_checker.specs.Grids.{has_column};
 ghost use Rattle.mls_checker.specs.Maps.{has_place};
+ghost use Rattle.mls_kinds.specs.KindSets.{has_bit};
 
 use crate::words::COLUMNS;
+
+/// How many places a word has.
+const PLACES: usize = 64;
 
 /// Takes all places from a map.
 pub(crate) fn empty(map: &mut [u64])
@@ -12,119 +16,93 @@ pub(crate) fn empty(map: &mut [u64])
     map.fill(0);
 }
 
-/// Keeps the places of a map that another has too.
-pub(crate) fn keep(map: &mut [u64], other: &[u64])
-    requires { length map.old ≡ length other.now }
-    ensures { (row column : ℕ) → has_column map.new row column
-        ≡ (has_column map.old row column && has_column other.now row column) }
+/// Whether a map has no places.
+pub(crate) fn is_empty(map: &[u64]) -> bool
+    ensures { IsTrue result → (row column : ℕ) → has_column map.now row column ≡ false }
 {
-    for (row, columns) in other.iter().enumerate() {
-        map[row] &= *columns;
+    for columns in map {
+        if *columns != 0 {
+            return false;
+        }
+    }
+    true
+}
+
+/// Returns the 64 places of a map that begin so many bits after the first one of a word.
+fn word_at(map: &[u64], word: usize, bits: u32) -> u64
+    requires within { word + 1 < length map.now }
+    requires few { bits < 64 }
+    ensures { (k : ℕ) → k < 64 → has_bit result k ≡ has_place map.now (64 * word + bits + k) }
+{
+    let low = map[word] >> bits;
+    let high = map[word + 1] << 1;
+    low | (high << (COLUMNS - 1 - bits))
+}
+
+/// Adds the places of another map, so many places back.
+pub(crate) fn add_ahead(map: &mut [u64], other: &[u64], places: usize)
+    requires { length map.old ≡ length other.now }
+    ensures { (n : ℕ) → n + places + 64 < 64 * length map.old → has_place map.new n
+        ≡ (has_place map.old n || has_place other.now (n + places)) }
+{
+    let words = places / PLACES;
+    let bits = (places % PLACES) as u32;
+    for row in 0..map.len().saturating_sub(words + 1) {
+        map[row] |= word_at(other, row + words, bits);
     }
 }
 
-/// Takes the places of another map from a map.
-pub(crate) fn leave_out(map: &mut [u64], other: &[u64])
-    requires { length map.old ≡ length other.now }
-    ensures { (row column : ℕ) → has_column map.new row column
-        ≡ (has_column map.old row column && not (has_column other.now row column)) }
+/// Adds the places that two other maps have, each so many places ahead.
+pub(crate) fn add_common(map: &mut [u64], one: &[u64], first: usize, other: &[u64], second: usize)
+    requires one { length map.old ≡ length one.now }
+    requires other { length map.old ≡ length other.now }
+    ensures { (n : ℕ) → n + first + 64 < 64 * length map.old → n + second + 64 < 64 * length map.old
+        → has_place map.new n
+        ≡ (has_place map.old n || (has_place one.now (n + first) && has_place other.now (n + second))) }
 {
-    for row in 0..map.len() {
-        let word = map[row];
-        map[row] = word & !other[row];
+    let (words, bits) = (first / PLACES, (first % PLACES) as u32);
+    let (words2, bits2) = (second / PLACES, (second % PLACES) as u32);
+    for row in 0..map.len().saturating_sub(words.max(words2) + 1) {
+        map[row] |= word_at(one, row + words, bits) & word_at(other, row + words2, bits2);
     }
 }
 
-/// Adds the places of another map, so many words on.
-pub(crate) fn add_words_on(map: &mut [u64], other: &[u64], words: usize)
-    requires { length map.old ≡ length other.now }
+/// Adds the places that three other maps have, each so many places ahead.
+pub(crate) fn add_common_of_three(
+    map: &mut [u64],
+    one: &[u64],
+    first: usize,
+    other: &[u64],
+    second: usize,
+    last: &[u64],
+    third: usize,
+)
+    requires one { length map.old ≡ length one.now }
+    requires other { length map.old ≡ length other.now }
+    requires last { length map.old ≡ length last.now }
+    ensures { (n : ℕ) → n + first + 64 < 64 * length map.old → n + second + 64 < 64 * length map.old
+        → n + third + 64 < 64 * length map.old → has_place map.new n ≡ (has_place map.old n
+        || ((has_place one.now (n + first) && has_place other.now (n + second)) && has_place last.now (n + third))) }
+{
+    let (words, bits) = (first / PLACES, (first % PLACES) as u32);
+    let (words2, bits2) = (second / PLACES, (second % PLACES) as u32);
+    let (words3, bits3) = (third / PLACES, (third % PLACES) as u32);
+    for row in 0..map.len().saturating_sub(words.max(words2).max(words3) + 1) {
+        let edge = word_at(one, row + words, bits) & word_at(other, row + words2, bits2);
+        map[row] |= edge & word_at(last, row + words3, bits3);
+    }
+}
+
+/// Adds the places of another map, so many words on, but for those of a third one.
+pub(crate) fn add_but(map: &mut [u64], other: &[u64], words: usize, but: &[u64])
+    requires other { length map.old ≡ length other.now }
+    requires but { length map.old ≡ length but.now }
     ensures { (row column : ℕ) → row < length map.old → words ≤ row → has_column map.new row column
-        ≡ (has_column map.old row column || has_column other.now (row - words) column) }
+        ≡ (has_column map.old row column
+        || (has_column other.now (row - words) column && not (has_column but.now row column))) }
 {
     for row in words..map.len() {
-        map[row] |= other[row - words];
+        let more = other[row - words] & !but[row];
+        map[row] |= more;
     }
-}
-
-/// Adds the places of another map, so many words back.
-pub(crate) fn add_words_back(map: &mut [u64], other: &[u64], words: usize)
-    requires { length map.old ≡ length other.now }
-    ensures { (row column : ℕ) → has_column map.new row column
-        ≡ (has_column map.old row column || has_column other.now (row + words) column) }
-{
-    for row in words..map.len() {
-        map[row - words] |= other[row];
-    }
-}
-
-/// Adds to each word another map's word, its bits so many places on.
-fn add_raised(map: &mut [u64], other: &[u64], bits: u32)
-    requires length { length map.old ≡ length other.now }
-    requires few { bits < 64 }
-    ensures { (row column : ℕ) → column < 64 → has_column map.new row column
-        ≡ (has_column map.old row column || (nat_le bits column && has_column other.now row (column - bits))) }
-{
-    for row in 0..map.len() {
-        map[row] |= other[row] << bits;
-    }
-}
-
-/// Adds to each word another map's word, its bits so many places back.
-fn add_lowered(map: &mut [u64], other: &[u64], bits: u32)
-    requires length { length map.old ≡ length other.now }
-    requires few { bits < 64 }
-    ensures { (row column : ℕ) → has_column map.new row column
-        ≡ (has_column map.old row column || has_column other.now row (bits + column)) }
-{
-    for row in 0..map.len() {
-        map[row] |= other[row] >> bits;
-    }
-}
-
-/// Adds to each word but the first the one before it of another map, its bits so many places back.
-fn add_lowered_on(map: &mut [u64], other: &[u64], bits: u32)
-    requires length { length map.old ≡ length other.now }
-    requires few { bits < 64 }
-    ensures { (row column : ℕ) → row < length map.old → has_column map.new row column
-        ≡ (has_column map.old row column || (nat_lt 0 row && has_column other.now (row - 1) (bits + column))) }
-{
-    for row in 1..map.len() {
-        map[row] |= other[row - 1] >> bits;
-    }
-}
-
-/// Adds to each word but the last the one behind it of another map, its bits so many places on.
-fn add_raised_back(map: &mut [u64], other: &[u64], bits: u32)
-    requires length { length map.old ≡ length other.now }
-    requires few { bits < 64 }
-    ensures { (row column : ℕ) → column < 64 → has_column map.new row column
-        ≡ (has_column map.old row column || (nat_le bits column && has_column other.now (row + 1) (column - bits))) }
-{
-    for row in 1..map.len() {
-        map[row - 1] |= other[row] << bits;
-    }
-}
-
-/// Adds the places of another map, so many places on, less than a word.
-pub(crate) fn add_bits_on(map: &mut [u64], other: &[u64], bits: u32)
-    requires length { length map.old ≡ length other.now }
-    requires some { 0 < bits }
-    requires few { bits < 64 }
-    ensures { (n : ℕ) → n < 64 * length map.old → bits ≤ n → has_place map.new n
-        ≡ (has_place map.old n || has_place other.now (n - bits)) }
-{
-    add_raised(map, other, bits);
-    add_lowered_on(map, other, COLUMNS - bits);
-}
-
-/// Adds the places of another map, so many places back, less than a word.
-pub(crate) fn add_bits_back(map: &mut [u64], other: &[u64], bits: u32)
-    requires length { length map.old ≡ length other.now }
-    requires some { 0 < bits }
-    requires few { bits < 64 }
-    ensures { (n : ℕ) → n < 64 * length map.old → has_place map.new n
-        ≡ (has_place map.old n || has_place other.now (n + bits)) }
-{
-    add_lowered(map, other, bits);
-    add_raised_back(map, other, COLUMNS - bits);
 }

@@ -1,58 +1,71 @@
 //! What the edges of a rule reach, by maps.
-ghost use Rattle.std.specs.Prelude.{◌≡◌, ◌+◌, ◌-◌, ◌*◌, ◌%◌, ◌<◌, ◌≤◌, ◌||◌, ◌&&◌, ◌⊎◌, ◌∷◌, [], ℕ, max, true, length, IfOk};
+ghost use Rattle.std.specs.Prelude.{◌≡◌, ◌+◌, ◌-◌, ◌*◌, ◌<◌, ◌≤◌, ◌||◌, ◌&&◌, ◌∷◌, [], ℕ, max, not, length, IfOk};
+ghost use Rattle.std.specs.List.{list_any};
 ghost use Rattle.mls_checker.specs.Forbids.{reaches};
-ghost use Rattle.mls_checker.specs.Maps.{CanStep, GainsDeep, GainsFlank, HasDeep, HasEdges, ShowTypes, has_place, place_before, reached_by, square};
-ghost use Rattle.mls_edgerule.specs.declared.edge_rule.EdgeRule.{EdgeRule as SpecRule};
+ghost use Rattle.mls_checker.specs.Maps.{HasLow, Reads, ShowTypes, corner_at, corners_begin, has_ahead, has_place, is_level, row_at, row_begins, square};
+ghost use Rattle.mls_edgerule.specs.Directions.{directions_in};
 ghost use Rattle.mls_geom.specs.Directions.{across};
 ghost use Rattle.mls_geom.specs.Layouts.{Layout};
-ghost use Rattle.mls_geom.proofs.Across.{crosses};
 
 use crate::map_frame::Frame;
-use crate::map_steps::{Step, add_moved, widen};
-use crate::map_words::{empty, keep};
+use crate::map_steps::{Step, widen};
+use crate::map_words::{add_common, add_common_of_three, empty};
 use crate::type_map::TypeMaps;
 use crate::words::join;
 use mls_edgerule::EdgeRule;
 use mls_geom::Direction;
 use std::alloc::{AllocError, Global};
 
-/// Finds the places that lie a step behind one of a map and are places of another one.
-fn find_edges(edges: &mut [u64], before: &[u64], behind: &[u64], step: Step)
-    requires before { length edges.old ≡ length before.now }
-    requires behind { length edges.old ≡ length behind.now }
-    requires whole { (step.places < 64) ⊎ (step.places % 64 ≡ 0) }
-    ensures { (n : ℕ) → CanStep step.is_on step.places (64 * length edges.old) n → has_place edges.new n
-        ≡ (has_place behind.now n && has_place before.now (place_before step.is_on step.places n)) }
+/// Adds the places where so many steps from an edge begin.
+fn add_row(
+    map: &mut [u64],
+    before: &[u64],
+    behind: &[u64],
+    step: Step,
+    home: usize,
+    count: usize,
+)
+    requires before { length map.old ≡ length before.now }
+    requires behind { length map.old ≡ length behind.now }
+    requires short { step.places ≤ 65536 }
+    requires low { home ≤ 1048576 }
+    requires few { count ≤ 256 }
+    ensures { (n : ℕ) → n + home + step.places + 64 < 64 * length map.old → has_place map.new n
+        ≡ (has_place map.old n || row_at before.now behind.now step.is_on step.places count home n) }
 {
-    empty(edges);
-    add_moved(edges, before, step);
-    keep(edges, behind);
+    let start = step.start(home, count);
+    add_common(map, behind, start, before, step.before(start));
 }
 
-/// Finds the places that lie a step to the flank of an edge, and a step behind a place of a corner type.
-fn find_corners(
-    corners: &mut [u64],
-    moved: &mut [u64],
-    edges: &[u64],
-    beside: &[u64],
+/// Adds the places where so many steps from an edge that has a corner on a flank begin, with as many to the flank.
+fn add_corner(
+    map: &mut [u64],
+    types: &TypeMaps,
     step: Step,
     flank: Step,
+    home: usize,
+    count: usize,
 )
-    requires moved { length corners.old ≡ length moved.old }
-    requires edges { length corners.old ≡ length edges.now }
-    requires beside { length corners.old ≡ length beside.now }
-    requires whole { (step.places < 64) ⊎ (step.places % 64 ≡ 0) }
-    requires across { (flank.places < 64) ⊎ (flank.places % 64 ≡ 0) }
-    ensures { (n : ℕ) → CanStep flank.is_on flank.places (64 * length corners.old) n
-        → CanStep step.is_on step.places (64 * length corners.old) n → has_place corners.new n
-        ≡ (has_place edges.now (place_before flank.is_on flank.places n)
-        && has_place beside.now (place_before step.is_on step.places n)) }
+    requires size { length map.old ≡ types.now.frame.words * types.now.frame.rows }
+    requires short { step.places ≤ 65536 }
+    requires across { flank.places ≤ 65536 }
+    requires low { home ≤ 1048576 }
+    requires few { count ≤ 256 }
+    ensures { (n : ℕ) → n + home + step.places + flank.places + 64 < 64 * length map.old → has_place map.new n
+        ≡ (has_place map.old n || corner_at types.now.before types.now.behind types.now.beside
+        step.is_on step.places flank.is_on flank.places count home n) }
 {
-    empty(moved);
-    add_moved(moved, beside, step);
-    empty(corners);
-    add_moved(corners, edges, flank);
-    keep(corners, moved);
+    let start = flank.start(step.start(home, count), count);
+    let first = flank.before(start);
+    add_common_of_three(
+        map,
+        types.behind(),
+        first,
+        types.before(),
+        step.before(first),
+        types.beside(),
+        step.before(start),
+    );
 }
 
 /// Returns the two directions across a direction.
@@ -65,16 +78,151 @@ fn flanks(direction: Direction) -> (Direction, Direction)
     }
 }
 
+/// Adds the places where rows of the edges in a direction begin, to the one or to the other map.
+fn add_rows(
+    level: &mut [u64],
+    upright: &mut [u64],
+    types: &TypeMaps,
+    frame: Frame,
+    home: usize,
+    count: usize,
+    direction: Direction,
+)
+    requires frame { types.now.frame ≡ frame }
+    requires level { length level.old ≡ frame.words * frame.rows }
+    requires upright { length upright.old ≡ frame.words * frame.rows }
+    requires low { home ≤ 1048576 }
+    requires few { count ≤ 256 }
+    ensures level { (n : ℕ) → Reads frame home level.old n → has_place level.new n ≡ (has_place level.old n
+        || (is_level direction && row_begins types.now.before types.now.behind frame count home n direction)) }
+    ensures upright { (n : ℕ) → Reads frame home upright.old n → has_place upright.new n ≡ (has_place upright.old n
+        || (not (is_level direction) && row_begins types.now.before types.now.behind frame count home n direction)) }
+{
+    let step = frame.step(direction);
+    match direction {
+        Direction::Right | Direction::Left => {
+            add_row(level, types.before(), types.behind(), step, home, count);
+        }
+        Direction::Up | Direction::Down => {
+            add_row(upright, types.before(), types.behind(), step, home, count);
+        }
+    }
+}
+
+/// Adds the places where corner blocks of the edges in a direction begin.
+fn add_corners(
+    blocks: &mut [u64],
+    types: &TypeMaps,
+    frame: Frame,
+    home: usize,
+    count: usize,
+    direction: Direction,
+)
+    requires frame { types.now.frame ≡ frame }
+    requires size { length blocks.old ≡ frame.words * frame.rows }
+    requires low { home ≤ 1048576 }
+    requires few { count ≤ 256 }
+    ensures { (n : ℕ) → Reads frame home blocks.old n → 0 < count → has_place blocks.new n ≡ (has_place blocks.old n
+        || corners_begin types.now.before types.now.behind types.now.beside frame count home n direction) }
+{
+    if count == 0 {
+        return;
+    }
+    let (flank, other) = flanks(direction);
+    let step = frame.step(direction);
+    add_corner(blocks, types, step, frame.step(flank), home, count);
+    add_corner(blocks, types, step, frame.step(other), home, count);
+}
+
+/// Finds the places where rows and corner blocks of the edges of a rule begin.
+fn find_beginnings(
+    level: &mut [u64],
+    upright: &mut [u64],
+    blocks: &mut [u64],
+    types: &TypeMaps,
+    frame: Frame,
+    home: usize,
+    rule: &EdgeRule,
+)
+    requires frame { types.now.frame ≡ frame }
+    requires level { length level.old ≡ frame.words * frame.rows }
+    requires upright { length upright.old ≡ frame.words * frame.rows }
+    requires blocks { length blocks.old ≡ frame.words * frame.rows }
+    requires low { home ≤ 1048576 }
+    ensures level { (n : ℕ) → Reads frame home level.old n → has_place level.new n
+        ≡ list_any (λ direction. is_level direction
+        && row_begins types.now.before types.now.behind frame rule.now.distance home n direction)
+        (directions_in rule.now.directions) }
+    ensures upright { (n : ℕ) → Reads frame home upright.old n → has_place upright.new n
+        ≡ list_any (λ direction. not (is_level direction)
+        && row_begins types.now.before types.now.behind frame rule.now.distance home n direction)
+        (directions_in rule.now.directions) }
+    ensures blocks { (n : ℕ) → Reads frame home blocks.old n → 0 < rule.now.corner_distance → has_place blocks.new n
+        ≡ list_any (corners_begin types.now.before types.now.behind types.now.beside frame rule.now.corner_distance
+        home n) (directions_in rule.now.directions) }
+{
+    empty(level);
+    empty(upright);
+    empty(blocks);
+    let distance = rule.distance as usize;
+    let corner_distance = rule.corner_distance as usize;
+    for direction in rule.directions.list() {
+        add_rows(level, upright, types, frame, home, distance, *direction);
+        add_corners(blocks, types, frame, home, corner_distance, *direction);
+    }
+}
+
+/// Widens rows and corner blocks from where they begin, and joins them.
+fn spread(
+    level: &mut [u64],
+    upright: &mut [u64],
+    blocks: &mut [u64],
+    moved: &mut [u64],
+    row: usize,
+    rule: &EdgeRule,
+)
+    requires upright { length upright.old ≡ length level.old }
+    requires blocks { length blocks.old ≡ length level.old }
+    requires moved { length moved.old ≡ length level.old }
+    requires short { row ≤ 65536 }
+    ensures { (n : ℕ) → n + max rule.now.distance rule.now.corner_distance * (row + 1) + 64 < 64 * length level.old
+        → has_place level.new n ≡ ((has_ahead (has_place level.old) 1 rule.now.distance n
+        || has_ahead (has_ahead (has_place blocks.old) row rule.now.corner_distance) 1 rule.now.corner_distance n)
+        || has_ahead (has_place upright.old) row rule.now.distance n) }
+{
+    let distance = rule.distance as usize;
+    let corner_distance = rule.corner_distance as usize;
+    widen(blocks, moved, row, corner_distance);
+    if distance == corner_distance {
+        join(level, blocks);
+        widen(level, moved, 1, distance);
+    } else {
+        widen(blocks, moved, 1, corner_distance);
+        widen(level, moved, 1, distance);
+        join(level, blocks);
+    }
+    widen(upright, moved, row, distance);
+    join(level, upright);
+}
+
+/// Returns how many words before a square it is shown whether the edges of the rule reach it.
+pub(crate) fn words_below(frame: Frame, rule: &EdgeRule) -> usize
+    ensures value { result ≡ (1 + max rule.now.distance rule.now.corner_distance) * frame.words }
+    ensures low { result ≤ 8192 }
+{
+    (1 + rule.distance.max(rule.corner_distance) as usize) * frame.words()
+}
+
 /// The maps by which it is found what a rule's edges reach.
 #[derive(Drop)]
 pub(crate) struct ReachMaps {
     frame: Frame,
-    edges: Vec<u64>,
-    corners: Vec<u64>,
+    level: Vec<u64>,
+    upright: Vec<u64>,
     blocks: Vec<u64>,
     moved: Vec<u64>,
-    ghost edges_sized: { length edges.items ≡ frame.words * frame.rows },
-    ghost corners_sized: { length corners.items ≡ frame.words * frame.rows },
+    ghost level_sized: { length level.items ≡ frame.words * frame.rows },
+    ghost upright_sized: { length upright.items ≡ frame.words * frame.rows },
     ghost blocks_sized: { length blocks.items ≡ frame.words * frame.rows },
     ghost moved_sized: { length moved.items ≡ frame.words * frame.rows },
 }
@@ -87,99 +235,46 @@ impl ReachMaps {
         let size = frame.size();
         Ok(ReachMaps {
             frame,
-            edges: vec![in alloc; 0; size]?,
-            corners: vec![in alloc; 0; size]?,
+            level: vec![in alloc; 0; size]?,
+            upright: vec![in alloc; 0; size]?,
             blocks: vec![in alloc; 0; size]?,
             moved: vec![in alloc; 0; size]?,
         })
     }
 
-    /// Finds the squares before which an edge lies, in a direction.
-    fn find_edges(&mut self, types: &TypeMaps, direction: Direction)
-        requires { types.now.frame ≡ self.old.frame }
-        ensures frame { self.new.frame ≡ self.old.frame }
-        ensures edges { (rule : SpecRule) (layout : Layout) → ShowTypes rule layout types.now
-            → HasEdges self.old.frame rule layout direction self.new.edges.items }
-    {
-        let step = self.frame.step(direction);
-        find_edges(&mut self.edges, types.before(), types.behind(), step);
-    }
-
-    /// Adds to the blocks the squares to the flank of edges that have a corner there, so many to each.
-    fn add_flank(&mut self, types: &TypeMaps, direction: Direction, flank: Direction, count: usize)
-        requires frame { types.now.frame ≡ self.old.frame }
-        requires few { count ≤ 256 }
-        requires crosses { crosses direction flank ≡ true }
-        ensures frame { self.new.frame ≡ self.old.frame }
-        ensures edges { self.new.edges ≡ self.old.edges }
-        ensures blocks { (rule : SpecRule) (layout : Layout) → ShowTypes rule layout types.now
-            → HasEdges self.old.frame rule layout direction self.old.edges.items
-            → GainsFlank self.old.frame rule layout direction flank count
-            self.old.blocks.items self.new.blocks.items }
-    {
-        if count == 0 {
-            return;
-        }
-        let step = self.frame.step(direction);
-        let to_flank = self.frame.step(flank);
-        find_corners(
-            &mut self.corners,
-            &mut self.moved,
-            &self.edges,
-            types.beside(),
-            step,
-            to_flank,
-        );
-        widen(&mut self.corners, &mut self.moved, to_flank, count);
-        join(&mut self.blocks, &self.corners);
-    }
-
-    /// Adds the squares that the edges of the rule in a direction reach.
-    pub fn add_reach(
-        &mut self,
-        reached: &mut [u64],
-        types: &TypeMaps,
-        rule: &EdgeRule,
-        direction: Direction,
-    )
-        requires frame { types.now.frame ≡ self.old.frame }
-        requires size { length reached.old ≡ self.old.frame.words * self.old.frame.rows }
-        ensures frame { self.new.frame ≡ self.old.frame }
-        ensures reached { (layout : Layout) → ShowTypes rule.now layout types.now
-            → GainsDeep self.old.frame (1 + max rule.now.distance rule.now.corner_distance)
-            (reached_by rule.now layout direction) reached.old reached.new }
-    {
-        self.find_edges(types, direction);
-        let (flank, other) = flanks(direction);
-        let count = rule.corner_distance as usize;
-        empty(&mut self.blocks);
-        self.add_flank(types, direction, flank, count);
-        self.add_flank(types, direction, other, count);
-        let step = self.frame.step(direction);
-        widen(&mut self.blocks, &mut self.moved, step, count);
-        widen(
-            &mut self.edges,
-            &mut self.moved,
-            step,
-            rule.distance as usize,
-        );
-        join(reached, &self.blocks);
-        join(reached, &self.edges);
-    }
-
     /// Finds the squares that the edges of the rule reach.
-    #[tactic(auto, unfolding(crate::specs::Forbids::reaches))]
-    pub fn find_reach(&mut self, reached: &mut [u64], types: &TypeMaps, rule: &EdgeRule)
+    pub fn find_reach(&mut self, types: &TypeMaps, rule: &EdgeRule)
         requires frame { types.now.frame ≡ self.old.frame }
-        requires size { length reached.old ≡ self.old.frame.words * self.old.frame.rows }
         ensures frame { self.new.frame ≡ self.old.frame }
         ensures reached { (layout : Layout) → ShowTypes rule.now layout types.now
-            → HasDeep self.old.frame (1 + max rule.now.distance rule.now.corner_distance)
-            (λ x y. reaches rule.now layout (square x y)) reached.new }
+            → HasLow self.old.frame (1 + max rule.now.distance rule.now.corner_distance)
+            (λ x y. reaches rule.now layout (square x y)) self.new.level.items }
     {
-        empty(reached);
-        for direction in rule.directions.list() {
-            self.add_reach(reached, types, rule, *direction);
-        }
+        let below = words_below(self.frame, rule);
+        find_beginnings(
+            &mut self.level,
+            &mut self.upright,
+            &mut self.blocks,
+            types,
+            self.frame,
+            below * 64,
+            rule,
+        );
+        let row = self.frame.step(Direction::Up);
+        spread(
+            &mut self.level,
+            &mut self.upright,
+            &mut self.blocks,
+            &mut self.moved,
+            row.places,
+            rule,
+        );
+    }
+
+    /// Returns the squares that were reached, each so many rows below.
+    pub fn reached(&self) -> &[u64]
+        ensures { result.now ≡ self.now.level.items }
+    {
+        &self.level
     }
 }

@@ -1,31 +1,26 @@
-use Rattle.std.proofs.Common.{◌∙◌, ◌+◌, ◌||◌, Bool, max, List, get_or, ap, sym, subst, arith}
-use Rattle.std.specs.List.{list_any}
-use Rattle.std.proofs.lemmas.List.{take_all}
-use Rattle.std.proofs.lemmas.List.Folds.{list_any_more}
-use Rattle.mls_geom.specs.declared.direction.Direction.{Direction}
-use Rattle.mls_geom.specs.declared.direction.Direction.TheVariants.{Right}
-use Rattle.mls_checker.specs.Forbids.{reaches}
-use Rattle.mls_checker.specs.Maps.{Frame, GainsDeep, place_of, reached_by}
+use Rattle.std.proofs.Common.{◌≡◌, ◌+◌, ◌-◌, ◌*◌, ◌∙◌, ℕ, max, List, length, ap, arith}
+use Rattle.mls_checker.specs.Maps.{has_place, place_of}
+use Rattle.mls_checker.proofs.MapReaches.{reach-found}
+use Rattle.mls_checker.proofs.Stacks.{given-back}
 use Rattle.mls_checker.proofs.reach_maps.ReachMaps.find_reach.Goals as goal
 
-pub loop-direction-preserved : goal.loop-direction-preserved
-loop-direction-preserved c = record {
-  frame = c.add_reach.ensures.frame ∙ c.loop-direction.invariant.frame;
-  reached = λ layout types x y deep.
-      let rule = c.args.rule.now in
-      let place = c.loop-direction.direction-index in
-      let items = c.list-direction-items.result.now in
-      let d = get_or items place Right in
-      let test : Direction → Bool = λ direction. reached_by rule layout direction x y in
-      let n = place_of c.args.self.now.frame x y in
-      let gains = subst (λ (f : Frame). GainsDeep f (1 + max rule.distance rule.corner_distance) (reached_by rule layout d) c.loop-direction.reached c.add_reach.new.reached) c.loop-direction.invariant.frame (c.add_reach.ensures.reached layout types) in
-      gains x y deep ∙ ap (λ b. b || test d) (c.loop-direction.invariant.reached layout types x y deep) ∙ sym (list_any_more test items place Right (omega arith));
-}
-
 pub returns-clause-reached : goal.returns-clause-reached
-unfolding reaches
 returns-clause-reached c layout types x y deep =
+    let self = c.args.self.now in
     let rule = c.args.rule.now in
-    let items = c.list-direction-items.result.now in
-    let test : Direction → Bool = λ direction. reached_by rule layout direction x y in
-    c.loop-direction.invariant.reached layout types x y deep ∙ ap (λ (ds : List Direction). list_any test ds) (take_all c.loop-direction.direction-index items (omega arith) ∙ c.list-direction-items.ensures)
+    let frame = self.frame in
+    let found = c.find_beginnings in
+    let level_back = given-back self.level.items c.deref_mut.result.now found.new.level self.level.len c.deref_mut.ensures.value found.auto.level c.deref_mut.ensures.len in
+    let upright_back = given-back self.upright.items c.deref_mut-2.result.now found.new.upright self.upright.len c.deref_mut-2.ensures.value found.auto.upright c.deref_mut-2.ensures.len in
+    let blocks_back = given-back self.blocks.items c.deref_mut-3.result.now found.new.blocks self.blocks.len c.deref_mut-3.ensures.value found.auto.blocks c.deref_mut-3.ensures.len in
+    let level_lent : c.deref_mut-4.result.now ≡ found.new.level = c.deref_mut-4.ensures.value ∙ level_back in
+    let upright_lent : c.deref_mut-5.result.now ≡ found.new.upright = c.deref_mut-5.ensures.value ∙ upright_back in
+    let blocks_lent : c.deref_mut-6.result.now ≡ found.new.blocks = c.deref_mut-6.ensures.value ∙ blocks_back in
+    let back = given-back _ c.deref_mut-4.result.now c.spread.new.level self.level.len c.deref_mut-4.ensures.value c.spread.auto.level c.deref_mut-4.ensures.len in
+    let spread = rw (c.step-row.ensures.places, level_lent, upright_lent, blocks_lent) at c.spread.ensures in
+    ap (λ (map : List ℕ). has_place map (place_of frame x y - (1 + max rule.distance rule.corner_distance) * (64 * frame.words))) back
+    ∙ reach-found rule layout c.args.types.now frame found.new.level found.new.upright found.new.blocks c.spread.new.level (c.words_below-below.result * 64) x y
+    c.step-row.ensures.frame c.requires.frame types (ap (λ m. m * 64) c.words_below-below.ensures.value ∙ omega arith)
+    (omega (arith, found.auto.level, ap length c.deref_mut.ensures.value)) (omega (arith, found.auto.upright, ap length c.deref_mut-2.ensures.value)) (omega (arith, found.auto.blocks, ap length c.deref_mut-3.ensures.value))
+    (λ n within. found.ensures.level n (omega (arith, within, found.auto.level))) (λ n within. found.ensures.upright n (omega (arith, within, found.auto.upright)))
+    (λ n within some. found.ensures.blocks n (omega (arith, within, found.auto.blocks)) some) spread deep

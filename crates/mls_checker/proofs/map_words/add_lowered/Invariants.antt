@@ -1,7 +1,0 @@
-use Rattle.std.proofs.Common.{◌≡◌, ℕ, ◌+◌, ◌||◌, ◌&&◌, nat_lt}
-use Rattle.mls_checker.specs.Grids.{has_column}
-use Rattle.mls_checker.proofs.map_words.add_lowered.Given as goal
-
--- the words before this one have gained theirs
-abbrev pub invariant-loop-row : goal.invariant-loop-row
-invariant-loop-row l = (row column : ℕ) → has_column l.map row column ≡ (has_column l.fn.map row column || (nat_lt row l.row && has_column l.other row (l.bits + column)))
