@@ -6,6 +6,8 @@ use Rattle.std.proofs.Math.Bool.{or-false, or_comm}
 use Rattle.std.proofs.lemmas.List.Folds.{list_any_none}
 use Rattle.std.proofs.lemmas.Nat.{mul-le}
 use Rattle.mls_edgerule.specs.Directions.{directions_in}
+use Rattle.mls_edgerule.specs.declared.directions.Directions.{Directions}
+use Rattle.mls_edgerule.specs.declared.directions.Directions.TheVariants.{Four, RightAndUp}
 use Rattle.mls_edgerule.specs.declared.edge_rule.EdgeRule.{EdgeRule}
 use Rattle.mls_geom.specs.Directions.{across, back, moved}
 use Rattle.mls_geom.specs.Layouts.{Layout}
@@ -17,7 +19,7 @@ use Rattle.mls_geom.proofs.Holds.{between_holds, holds_between}
 use Rattle.mls_geom.proofs.ShiftedSquares.{at, same_square}
 use Rattle.mls_kinds.specs.KindSets.{has_bit as has_type}
 use Rattle.mls_checker.specs.Forbids.{in_block, in_row, is_cornered, is_edge, reaches}
-use Rattle.mls_checker.specs.Maps.{Frame, IsDeep, IsFrame, IsIn, Reads, ShowTypes, Shows, TypeMaps, corner_begins, corners_begin, frame_area, has_ahead, has_place, is_level, leads_on, of_types, place_before, place_of, places_of, row_begins, square, start_of}
+use Rattle.mls_checker.specs.Maps.{Frame, IsDeep, IsFrame, IsIn, Reads, ShowTypes, Shows, TypeMaps, comes_first, corner_begins, corners_begin, frame_area, has_ahead, has_place, is_level, leads_on, of_types, place_before, place_of, places_of, row_begins, square, start_of}
 use Rattle.mls_checker.proofs.BandLists.{any-or}
 use Rattle.mls_checker.proofs.ListTests.{below_finds, found_below, list_any_same, list_any_same_in_range}
 use Rattle.mls_checker.proofs.MapFrames.{place-moved}
@@ -299,10 +301,18 @@ level_at maps frame count home n direction = is_level direction && row_begins ma
 abbrev upright_at : TypeMaps → Frame → ℕ → ℕ → ℕ → Direction → Bool
 upright_at maps frame count home n direction = not (is_level direction) && row_begins maps.before maps.behind frame count home n direction
 
-abbrev blocks_at : TypeMaps → Frame → ℕ → ℕ → ℕ → Direction → Bool
-blocks_at maps frame count home n direction =
-    list_any (λ flank. list_any (λ a. list_any (λ b. corner_begins maps.before maps.behind maps.beside frame count home (n + a * 1 + b * (64 * frame.words)) direction flank)
+abbrev is_kept : Bool → Direction → Direction → Bool
+is_kept same direction flank = not (same && comes_first flank direction)
+
+abbrev blocks_at : TypeMaps → Frame → Bool → ℕ → ℕ → ℕ → Direction → Bool
+blocks_at maps frame same count home n direction =
+    list_any (λ flank. list_any (λ a. list_any (λ b. is_kept same direction flank && corner_begins maps.before maps.behind maps.beside frame count home (n + a * 1 + b * (64 * frame.words)) direction flank)
     (range_with_len 0 count)) (range_with_len 0 count)) (across direction)
+
+when-block : (t : Bool) (f : ℕ → ℕ → Bool) (count : ℕ) (b : Bool) → list_any (λ i. list_any (λ j. f i j) (range_with_len 0 count)) (range_with_len 0 count) ≡ b
+    → list_any (λ i. list_any (λ j. t && f i j) (range_with_len 0 count)) (range_with_len 0 count) ≡ (t && b)
+when-block true f count b is = is
+when-block false f count b is = list_any_same (λ i. list_any (λ j. false) (range_with_len 0 count)) (λ i. false) (range_with_len 0 count) (λ i. never count) ∙ never count
 
 -- the blocks of an upright direction, whose steps and flanks change places
 crossed : (maps : TypeMaps) (frame : Frame) (count home n : ℕ) (direction flank : Direction)
@@ -317,28 +327,134 @@ crossed maps frame count home n direction flank =
     (λ a. let turn : n + a * 1 + b * (64 * frame.words) ≡ n + b * (64 * frame.words) + a * 1 = omega arith in
     ap (λ m. corner_begins maps.before maps.behind maps.beside frame count home m direction flank) turn))
 
-direction-found : (rule : EdgeRule) (layout : Layout) (maps : TypeMaps) (frame : Frame) (h n x y : ℕ) (direction : Direction)
+direction-found : (rule : EdgeRule) (layout : Layout) (maps : TypeMaps) (frame : Frame) (same : Bool) (h n x y : ℕ) (direction : Direction)
     → IsFrame frame → maps.frame ≡ frame → ShowTypes rule layout maps → rule.distance < h → rule.corner_distance < h → IsDeep frame h x y → n + h * (64 * frame.words) ≡ place_of frame x y
     → ((list_any (λ i. level_at maps frame rule.distance (h * (64 * frame.words)) (n + i * 1) direction) (range_with_len 0 rule.distance)
-    || blocks_at maps frame rule.corner_distance (h * (64 * frame.words)) n direction)
+    || blocks_at maps frame same rule.corner_distance (h * (64 * frame.words)) n direction)
     || list_any (λ i. upright_at maps frame rule.distance (h * (64 * frame.words)) (n + i * (64 * frame.words)) direction) (range_with_len 0 rule.distance))
-    ≡ (in_row rule layout direction (square x y) || list_any (in_block rule layout direction (square x y)) (across direction))
-direction-found rule layout maps frame h n x y Right is same types far far' deep ends =
-    level-case _ _ _ _ _ (never rule.distance) (rows-found rule layout maps frame Right h n x y is same types far deep ends)
-    (rw (blocks-found rule layout maps frame Right Up h n x y is same refl types far' deep ends refl, blocks-found rule layout maps frame Right Down h n x y is same refl types far' deep ends refl) refl)
-direction-found rule layout maps frame h n x y Left is same types far far' deep ends =
-    level-case _ _ _ _ _ (never rule.distance) (rows-found rule layout maps frame Left h n x y is same types far deep ends)
-    (rw (blocks-found rule layout maps frame Left Up h n x y is same refl types far' deep ends refl, blocks-found rule layout maps frame Left Down h n x y is same refl types far' deep ends refl) refl)
-direction-found rule layout maps frame h n x y Up is same types far far' deep ends =
+    ≡ (in_row rule layout direction (square x y) || list_any (λ flank. is_kept same direction flank && in_block rule layout direction (square x y) flank) (across direction))
+direction-found rule layout maps frame same h n x y Right is same_frame types far far' deep ends =
+    level-case _ _ _ _ _ (never rule.distance) (rows-found rule layout maps frame Right h n x y is same_frame types far deep ends)
+    (rw (when-block (is_kept same Right Up) (λ a b. corner_begins maps.before maps.behind maps.beside frame rule.corner_distance (h * (64 * frame.words)) (n + a * 1 + b * (64 * frame.words)) Right Up)
+    rule.corner_distance (in_block rule layout Right (square x y) Up) (blocks-found rule layout maps frame Right Up h n x y is same_frame refl types far' deep ends refl),
+    when-block (is_kept same Right Down) (λ a b. corner_begins maps.before maps.behind maps.beside frame rule.corner_distance (h * (64 * frame.words)) (n + a * 1 + b * (64 * frame.words)) Right Down)
+    rule.corner_distance (in_block rule layout Right (square x y) Down) (blocks-found rule layout maps frame Right Down h n x y is same_frame refl types far' deep ends refl)) refl)
+direction-found rule layout maps frame same h n x y Left is same_frame types far far' deep ends =
+    level-case _ _ _ _ _ (never rule.distance) (rows-found rule layout maps frame Left h n x y is same_frame types far deep ends)
+    (rw (when-block (is_kept same Left Up) (λ a b. corner_begins maps.before maps.behind maps.beside frame rule.corner_distance (h * (64 * frame.words)) (n + a * 1 + b * (64 * frame.words)) Left Up)
+    rule.corner_distance (in_block rule layout Left (square x y) Up) (blocks-found rule layout maps frame Left Up h n x y is same_frame refl types far' deep ends refl),
+    when-block (is_kept same Left Down) (λ a b. corner_begins maps.before maps.behind maps.beside frame rule.corner_distance (h * (64 * frame.words)) (n + a * 1 + b * (64 * frame.words)) Left Down)
+    rule.corner_distance (in_block rule layout Left (square x y) Down) (blocks-found rule layout maps frame Left Down h n x y is same_frame refl types far' deep ends refl)) refl)
+direction-found rule layout maps frame same h n x y Up is same_frame types far far' deep ends =
     let turn : 64 * frame.words + 1 ≡ 1 + 64 * frame.words = omega arith in
-    upright-case _ _ _ _ _ (never rule.distance) (rows-found rule layout maps frame Up h n x y is same types far deep ends)
-    (rw (crossed maps frame rule.corner_distance (h * (64 * frame.words)) n Up Right, crossed maps frame rule.corner_distance (h * (64 * frame.words)) n Up Left,
-    blocks-found rule layout maps frame Up Right h n x y is same refl types far' deep ends turn, blocks-found rule layout maps frame Up Left h n x y is same refl types far' deep ends turn) refl)
-direction-found rule layout maps frame h n x y Down is same types far far' deep ends =
+    upright-case _ _ _ _ _ (never rule.distance) (rows-found rule layout maps frame Up h n x y is same_frame types far deep ends)
+    (rw (when-block (is_kept same Up Right) (λ a b. corner_begins maps.before maps.behind maps.beside frame rule.corner_distance (h * (64 * frame.words)) (n + a * 1 + b * (64 * frame.words)) Up Right)
+    rule.corner_distance (in_block rule layout Up (square x y) Right) (crossed maps frame rule.corner_distance (h * (64 * frame.words)) n Up Right ∙ blocks-found rule layout maps frame Up Right h n x y is same_frame refl types far' deep ends turn),
+    when-block (is_kept same Up Left) (λ a b. corner_begins maps.before maps.behind maps.beside frame rule.corner_distance (h * (64 * frame.words)) (n + a * 1 + b * (64 * frame.words)) Up Left)
+    rule.corner_distance (in_block rule layout Up (square x y) Left) (crossed maps frame rule.corner_distance (h * (64 * frame.words)) n Up Left ∙ blocks-found rule layout maps frame Up Left h n x y is same_frame refl types far' deep ends turn)) refl)
+direction-found rule layout maps frame same h n x y Down is same_frame types far far' deep ends =
     let turn : 64 * frame.words + 1 ≡ 1 + 64 * frame.words = omega arith in
-    upright-case _ _ _ _ _ (never rule.distance) (rows-found rule layout maps frame Down h n x y is same types far deep ends)
-    (rw (crossed maps frame rule.corner_distance (h * (64 * frame.words)) n Down Right, crossed maps frame rule.corner_distance (h * (64 * frame.words)) n Down Left,
-    blocks-found rule layout maps frame Down Right h n x y is same refl types far' deep ends turn, blocks-found rule layout maps frame Down Left h n x y is same refl types far' deep ends turn) refl)
+    upright-case _ _ _ _ _ (never rule.distance) (rows-found rule layout maps frame Down h n x y is same_frame types far deep ends)
+    (rw (when-block (is_kept same Down Right) (λ a b. corner_begins maps.before maps.behind maps.beside frame rule.corner_distance (h * (64 * frame.words)) (n + a * 1 + b * (64 * frame.words)) Down Right)
+    rule.corner_distance (in_block rule layout Down (square x y) Right) (crossed maps frame rule.corner_distance (h * (64 * frame.words)) n Down Right ∙ blocks-found rule layout maps frame Down Right h n x y is same_frame refl types far' deep ends turn),
+    when-block (is_kept same Down Left) (λ a b. corner_begins maps.before maps.behind maps.beside frame rule.corner_distance (h * (64 * frame.words)) (n + a * 1 + b * (64 * frame.words)) Down Left)
+    rule.corner_distance (in_block rule layout Down (square x y) Left) (crossed maps frame rule.corner_distance (h * (64 * frame.words)) n Down Left ∙ blocks-found rule layout maps frame Down Left h n x y is same_frame refl types far' deep ends turn)) refl)
+
+-- ---- blocks that two directions have
+-- the squares of a corner, seen from the direction and from its flank
+turned-squares : (flank direction : Direction) (i j : ℕ) (q : Point) → comes_first flank direction ≡ true → 1 + i ≤ q.x → 1 + j ≤ q.x → 1 + i ≤ q.y → 1 + j ≤ q.y
+    → (moved (back direction) 1 (moved (back flank) (1 + j) (moved (back direction) i q)) ≡ moved (back flank) 1 (moved (back direction) (1 + i) (moved (back flank) j q)))
+    × (moved flank 1 (moved (back direction) 1 (moved (back flank) (1 + j) (moved (back direction) i q))) ≡ moved (back direction) (1 + i) (moved (back flank) j q))
+    × (moved direction 1 (moved (back flank) 1 (moved (back direction) (1 + i) (moved (back flank) j q))) ≡ moved (back flank) (1 + j) (moved (back direction) i q))
+turned-squares Right Up i j q first a b c d = (same_square _ _ _ _ (omega arith) (omega arith), same_square _ _ _ _ (omega arith) (omega arith), same_square _ _ _ _ (omega arith) (omega arith))
+turned-squares Right Down i j q first a b c d = (same_square _ _ _ _ (omega arith) (omega arith), same_square _ _ _ _ (omega arith) (omega arith), same_square _ _ _ _ (omega arith) (omega arith))
+turned-squares Up Left i j q first a b c d = (same_square _ _ _ _ (omega arith) (omega arith), same_square _ _ _ _ (omega arith) (omega arith), same_square _ _ _ _ (omega arith) (omega arith))
+turned-squares Left Down i j q first a b c d = (same_square _ _ _ _ (omega arith) (omega arith), same_square _ _ _ _ (omega arith) (omega arith), same_square _ _ _ _ (omega arith) (omega arith))
+turned-squares flank direction i j q first a b c d = absurd (true≢false (sym first))
+
+and-turned : (a b c : Bool) → ((a && b) && c) ≡ ((c && b) && a)
+and-turned true true true = refl
+and-turned true true false = refl
+and-turned true false true = refl
+and-turned true false false = refl
+and-turned false true true = refl
+and-turned false true false = refl
+and-turned false false true = refl
+and-turned false false false = refl
+
+abbrev has : ℕ → EdgeRule → Layout → Point → Bool
+has types rule layout p = has_type types (layout rule.trigger_plane p.x p.y)
+
+corner-turned : (rule : EdgeRule) (layout : Layout) (direction flank : Direction) (i j : ℕ) (q : Point) → rule.corner_types ≡ rule.types2 → comes_first flank direction ≡ true
+    → 1 + i ≤ q.x → 1 + j ≤ q.x → 1 + i ≤ q.y → 1 + j ≤ q.y
+    → is_cornered rule layout direction flank (moved (back flank) (1 + j) (moved (back direction) i q)) ≡ is_cornered rule layout flank direction (moved (back direction) (1 + i) (moved (back flank) j q))
+corner-turned rule layout direction flank i j q types first a b c d =
+    let p = moved (back flank) (1 + j) (moved (back direction) i q) in
+    let e = moved (back direction) 1 p in
+    let g = moved flank 1 e in
+    let p' = moved (back direction) (1 + i) (moved (back flank) j q) in
+    let e' = moved (back flank) 1 p' in
+    let g' = moved direction 1 e' in
+    let turn = turned-squares flank direction i j q first a b c d in
+    ap (λ (set : ℕ). (has rule.types2 rule layout p && has rule.types1 rule layout e) && has set rule layout g) types
+    ∙ ap (λ (s : Point). (has rule.types2 rule layout p && has rule.types1 rule layout s) && has rule.types2 rule layout g) turn.0
+    ∙ ap (λ (s : Point). (has rule.types2 rule layout p && has rule.types1 rule layout e') && has rule.types2 rule layout s) turn.1
+    ∙ and-turned (has rule.types2 rule layout p) (has rule.types1 rule layout e') (has rule.types2 rule layout p')
+    ∙ ap (λ (s : Point). (has rule.types2 rule layout p' && has rule.types1 rule layout e') && has rule.types2 rule layout s) (sym turn.2)
+    ∙ ap (λ (set : ℕ). (has rule.types2 rule layout p' && has rule.types1 rule layout e') && has set rule layout g') (sym types)
+
+block-turned : (rule : EdgeRule) (layout : Layout) (direction flank : Direction) (x y : ℕ) → rule.corner_types ≡ rule.types2 → comes_first flank direction ≡ true → rule.corner_distance ≤ x → rule.corner_distance ≤ y
+    → in_block rule layout direction (square x y) flank ≡ in_block rule layout flank (square x y) direction
+block-turned rule layout direction flank x y types first wide high =
+    let c = rule.corner_distance in
+    let q = square x y in
+    list_any_same_in_range (λ i. list_any (λ j. is_cornered rule layout direction flank (moved (back flank) (1 + j) (moved (back direction) i q))) (range_with_len 0 c))
+    (λ i. list_any (λ j. is_cornered rule layout flank direction (moved (back direction) (1 + i) (moved (back flank) j q))) (range_with_len 0 c)) 0 c
+    (λ i above below.
+    list_any_same_in_range (λ j. is_cornered rule layout direction flank (moved (back flank) (1 + j) (moved (back direction) i q)))
+    (λ j. is_cornered rule layout flank direction (moved (back direction) (1 + i) (moved (back flank) j q))) 0 c
+    (λ j above' below'. corner-turned rule layout direction flank i j q types first (omega arith) (omega arith) (omega arith) (omega arith)))
+    ∙ any-swap (λ i j. is_cornered rule layout flank direction (moved (back direction) (1 + i) (moved (back flank) j q))) (range_with_len 0 c) (range_with_len 0 c)
+
+two-kept : (same r a b u a' c : Bool) → (same ≡ true → a' ≡ a)
+    → ((r || ((not (same && false) && a) || ((not (same && false) && b) || false))) || ((u || ((not (same && true) && a') || ((not (same && false) && c) || false))) || false))
+    ≡ ((r || (a || (b || false))) || ((u || (a' || (c || false))) || false))
+two-kept false true a b u a' c is = refl
+two-kept false false true b u a' c is = refl
+two-kept false false false true u a' c is = refl
+two-kept false false false false u a' c is = refl
+two-kept true true a b u a' c is = refl
+two-kept true false true b u a' c is = refl
+two-kept true false false true u a' c is = refl
+two-kept true false false false u a' c is = rw (is refl) refl
+
+four-kept : (same r a b u a' c l c' d w b' d' : Bool) → (same ≡ true → (a' ≡ a) × (c' ≡ c) × (b' ≡ b) × (d' ≡ d))
+    → ((r || ((not (same && false) && a) || ((not (same && false) && b) || false))) || ((u || ((not (same && true) && a') || ((not (same && false) && c) || false)))
+    || ((l || ((not (same && true) && c') || ((not (same && false) && d) || false))) || ((w || ((not (same && true) && b') || ((not (same && true) && d') || false))) || false))))
+    ≡ ((r || (a || (b || false))) || ((u || (a' || (c || false))) || ((l || (c' || (d || false))) || ((w || (b' || (d' || false))) || false))))
+four-kept false r a b u a' c l c' d w b' d' is = refl
+four-kept true true a b u a' c l c' d w b' d' is = refl
+four-kept true false true b u a' c l c' d w b' d' is = refl
+four-kept true false false true u a' c l c' d w b' d' is = refl
+four-kept true false false false true a' c l c' d w b' d' is = refl
+four-kept true false false false false a' true l c' d w b' d' is = let e = is refl in rw e.0 refl
+four-kept true false false false false a' false true c' d w b' d' is = let e = is refl in rw e.0 refl
+four-kept true false false false false a' false false c' true w b' d' is = let e = is refl in rw (e.0, e.1) refl
+four-kept true false false false false a' false false c' false w b' d' is = let e = is refl in rw (e.0, e.1, e.2, e.3) refl
+
+abbrev kept_blocks : EdgeRule → Layout → Bool → Point → Direction → Bool
+kept_blocks rule layout same q direction = list_any (λ flank. is_kept same direction flank && in_block rule layout direction q flank) (across direction)
+
+all-kept : (rule : EdgeRule) (layout : Layout) (same : Bool) (x y : ℕ) (directions : Directions) → (same ≡ true → rule.corner_types ≡ rule.types2) → rule.corner_distance ≤ x → rule.corner_distance ≤ y
+    → list_any (λ direction. in_row rule layout direction (square x y) || kept_blocks rule layout same (square x y) direction) (directions_in directions)
+    ≡ list_any (λ direction. in_row rule layout direction (square x y) || list_any (in_block rule layout direction (square x y)) (across direction)) (directions_in directions)
+all-kept rule layout same x y RightAndUp types wide high =
+    two-kept same _ (in_block rule layout Right (square x y) Up) _ _ (in_block rule layout Up (square x y) Right) _ (λ is. block-turned rule layout Up Right x y (types is) refl wide high)
+all-kept rule layout same x y Four types wide high =
+    four-kept same _ (in_block rule layout Right (square x y) Up) (in_block rule layout Right (square x y) Down) _ (in_block rule layout Up (square x y) Right) (in_block rule layout Up (square x y) Left) _
+    (in_block rule layout Left (square x y) Up) (in_block rule layout Left (square x y) Down) _ (in_block rule layout Down (square x y) Right) (in_block rule layout Down (square x y) Left)
+    (λ is. (block-turned rule layout Up Right x y (types is) refl wide high, block-turned rule layout Left Up x y (types is) refl wide high,
+    block-turned rule layout Down Right x y (types is) refl wide high, block-turned rule layout Down Left x y (types is) refl wide high))
 
 -- ---- all of a rule
 reads : (frame : Frame) (m n home a b x y : ℕ) → a < m → b < m → n + home ≡ place_of frame x y → IsDeep frame (1 + m) x y
@@ -351,20 +467,20 @@ reads frame m n home a b x y few few' ends deep =
     let whole : (1 + m - 1) * (64 * frame.words + 1) ≡ m * (64 * frame.words) + m = ap (λ k. k * (64 * frame.words + 1)) all ∙ omega arith in
     omega (arith, low, whole, high, less, ends, few)
 
-pub reach-found : (rule : EdgeRule) (layout : Layout) (maps : TypeMaps) (frame : Frame) (level upright blocks new : List ℕ) (home x y : ℕ)
-    → IsFrame frame → maps.frame ≡ frame → ShowTypes rule layout maps → home ≡ (1 + max rule.distance rule.corner_distance) * (64 * frame.words)
+pub reach-found : (rule : EdgeRule) (layout : Layout) (maps : TypeMaps) (frame : Frame) (same : Bool) (level upright blocks new : List ℕ) (home x y : ℕ)
+    → IsFrame frame → maps.frame ≡ frame → ShowTypes rule layout maps → (same ≡ true → rule.corner_types ≡ rule.types2) → home ≡ (1 + max rule.distance rule.corner_distance) * (64 * frame.words)
     → length level ≡ frame.words * frame.rows → length upright ≡ frame.words * frame.rows → length blocks ≡ frame.words * frame.rows
     → ((n : ℕ) → Reads frame home level n → has_place level n ≡ list_any (λ direction. level_at maps frame rule.distance home n direction) (directions_in rule.directions))
     → ((n : ℕ) → Reads frame home upright n → has_place upright n ≡ list_any (λ direction. upright_at maps frame rule.distance home n direction) (directions_in rule.directions))
     → ((n : ℕ) → Reads frame home blocks n → 0 < rule.corner_distance → has_place blocks n
-    ≡ list_any (corners_begin maps.before maps.behind maps.beside frame rule.corner_distance home n) (directions_in rule.directions))
+    ≡ list_any (corners_begin maps.before maps.behind maps.beside frame same rule.corner_distance home n) (directions_in rule.directions))
     → ((n : ℕ) → n + max rule.distance rule.corner_distance * (64 * frame.words + 1) + 64 < 64 * length level
     → has_place new n ≡ ((has_ahead (has_place level) 1 rule.distance n || has_ahead (has_ahead (has_place blocks) (64 * frame.words) rule.corner_distance) 1 rule.corner_distance n)
     || has_ahead (has_place upright) (64 * frame.words) rule.distance n))
     → IsDeep frame (1 + max rule.distance rule.corner_distance) x y
     → has_place new (place_of frame x y - (1 + max rule.distance rule.corner_distance) * (64 * frame.words)) ≡ reaches rule layout (square x y)
 unfolding reaches
-reach-found rule layout maps frame level upright blocks new home x y is same types home_is long long' long'' found found' found'' spread deep =
+reach-found rule layout maps frame same level upright blocks new home x y is same_frame types same_types home_is long long' long'' found found' found'' spread deep =
     let d = rule.distance in
     let c = rule.corner_distance in
     let m = max d c in
@@ -379,7 +495,7 @@ reach-found rule layout maps frame level upright blocks new home x y is same typ
     let all : h - 1 ≡ m = omega arith in
     let whole : (h - 1) * (row + 1) ≡ m * (row + 1) = ap (λ k. k * (row + 1)) all in
     let rD : Direction → Bool = λ direction. list_any (λ i. level_at maps frame d home (n + i * 1) direction) (range_with_len 0 d) in
-    let bD : Direction → Bool = λ direction. blocks_at maps frame c home n direction in
+    let bD : Direction → Bool = λ direction. blocks_at maps frame same c home n direction in
     let uD : Direction → Bool = λ direction. list_any (λ i. upright_at maps frame d home (n + i * row) direction) (range_with_len 0 d) in
     let rows : has_ahead (has_place level) 1 d n ≡ list_any rD ds =
     list_any_same_in_range (λ i. has_place level (n + i * 1)) (λ i. list_any (λ direction. level_at maps frame d home (n + i * 1) direction) ds) 0 d
@@ -391,12 +507,13 @@ reach-found rule layout maps frame level upright blocks new home x y is same typ
     ∙ any-swap (λ i direction. upright_at maps frame d home (n + i * row) direction) (range_with_len 0 d) ds in
     let squares : has_ahead (has_ahead (has_place blocks) row c) 1 c n ≡ list_any bD ds =
     list_any_same_in_range (λ a. list_any (λ b. has_place blocks (n + a * 1 + b * row)) (range_with_len 0 c))
-    (λ a. list_any (λ b. list_any (corners_begin maps.before maps.behind maps.beside frame c home (n + a * 1 + b * row)) ds) (range_with_len 0 c)) 0 c
+    (λ a. list_any (λ b. list_any (corners_begin maps.before maps.behind maps.beside frame same c home (n + a * 1 + b * row)) ds) (range_with_len 0 c)) 0 c
     (λ a above below.
-    list_any_same_in_range (λ b. has_place blocks (n + a * 1 + b * row)) (λ b. list_any (corners_begin maps.before maps.behind maps.beside frame c home (n + a * 1 + b * row)) ds) 0 c
+    list_any_same_in_range (λ b. has_place blocks (n + a * 1 + b * row)) (λ b. list_any (corners_begin maps.before maps.behind maps.beside frame same c home (n + a * 1 + b * row)) ds) 0 c
     (λ b above' below'. found'' (n + a * 1 + b * row) (omega (arith, long'', reads frame m n home a b x y (omega arith) (omega arith) ends' deep)) (omega arith)))
-    ∙ any-four (λ a b direction flank. corner_begins maps.before maps.behind maps.beside frame c home (n + a * 1 + b * row) direction flank) (range_with_len 0 c) (range_with_len 0 c) ds across in
+    ∙ any-four (λ a b direction flank. is_kept same direction flank && corner_begins maps.before maps.behind maps.beside frame c home (n + a * 1 + b * row) direction flank) (range_with_len 0 c) (range_with_len 0 c) ds across in
     spread n (omega (arith, low, whole, ends, long))
     ∙ rw (rows, squares, columns) (ap (λ b. b || list_any uD ds) (sym (any-or rD bD ds)) ∙ sym (any-or (λ direction. rD direction || bD direction) uD ds))
-    ∙ list_any_same (λ direction. (rD direction || bD direction) || uD direction) (λ direction. in_row rule layout direction (square x y) || list_any (in_block rule layout direction (square x y)) (across direction)) ds
-    (λ direction. rw home_is (direction-found rule layout maps frame h n x y direction is same types (omega arith) (omega arith) deep ends))
+    ∙ list_any_same (λ direction. (rD direction || bD direction) || uD direction) (λ direction. in_row rule layout direction (square x y) || kept_blocks rule layout same (square x y) direction) ds
+    (λ direction. rw home_is (direction-found rule layout maps frame same h n x y direction is same_frame types (omega arith) (omega arith) deep ends))
+    ∙ all-kept rule layout same x y rule.directions same_types (omega (arith, deep.left)) (omega (arith, deep.below))

@@ -1,5 +1,5 @@
 -- Maps of one bit a place: words, 64 places to a word; and squares as places, row after row.
-use Rattle.std.specs.Prelude.{◌≡◌, ℕ, ◌+◌, ◌-◌, ◌*◌, ◌/◌, ◌%◌, ◌<◌, ◌≤◌, Bool, ◌||◌, ◌&&◌, true, false, List, length}
+use Rattle.std.specs.Prelude.{◌≡◌, ℕ, ◌+◌, ◌-◌, ◌*◌, ◌/◌, ◌%◌, ◌<◌, ◌≤◌, Bool, not, ◌||◌, ◌&&◌, true, false, List, length}
 use Rattle.std.specs.List.{All, list_any, range_with_len}
 use Rattle.mls_edgerule.specs.declared.edge_rule.EdgeRule.{EdgeRule}
 use Rattle.mls_geom.specs.Directions.{across, back, moved}
@@ -162,8 +162,18 @@ abbrev pub corner_begins : List ℕ → List ℕ → List ℕ → Frame → ℕ 
 corner_begins before behind beside frame count home n direction flank =
     corner_at before behind beside (leads_on direction) (places_of frame direction) (leads_on flank) (places_of frame flank) count home n
 
-abbrev pub corners_begin : List ℕ → List ℕ → List ℕ → Frame → ℕ → ℕ → ℕ → Direction → Bool
-corners_begin before behind beside frame count home n direction = list_any (corner_begins before behind beside frame count home n direction) (across direction)
+-- the first direction comes before the second one where rules list both
+abbrev pub comes_first : Direction → Direction → Bool
+comes_first Right Up = true
+comes_first Right Down = true
+comes_first Up Left = true
+comes_first Left Down = true
+comes_first flank direction = false
+
+-- the same on either flank of a direction; where corner types are types2, not on one that comes first, whose own blocks these are
+abbrev pub corners_begin : List ℕ → List ℕ → List ℕ → Frame → Bool → ℕ → ℕ → ℕ → Direction → Bool
+corners_begin before behind beside frame same count home n direction =
+    list_any (λ flank. not (same && comes_first flank direction) && corner_begins before behind beside frame count home n direction flank) (across direction)
 
 -- n, and what is read from it, lie in the map
 abbrev pub Reads : Frame → ℕ → List ℕ → ℕ → Type 0

@@ -1,8 +1,8 @@
 //! What the edges of a rule reach, by maps.
-ghost use Rattle.std.specs.Prelude.{◌≡◌, ◌+◌, ◌-◌, ◌*◌, ◌<◌, ◌≤◌, ◌||◌, ◌&&◌, ◌∷◌, [], ℕ, max, not, length, IfOk};
+ghost use Rattle.std.specs.Prelude.{◌≡◌, ◌+◌, ◌-◌, ◌*◌, ◌<◌, ◌≤◌, ◌||◌, ◌&&◌, ◌∷◌, [], ℕ, max, not, true, length, IfOk};
 ghost use Rattle.std.specs.List.{list_any};
 ghost use Rattle.mls_checker.specs.Forbids.{reaches};
-ghost use Rattle.mls_checker.specs.Maps.{HasLow, Reads, ShowTypes, corner_at, corners_begin, has_ahead, has_place, is_level, row_at, row_begins, square};
+ghost use Rattle.mls_checker.specs.Maps.{HasLow, Reads, ShowTypes, comes_first, corner_at, corner_begins, corners_begin, has_ahead, has_place, is_level, places_of, row_at, row_begins, square};
 ghost use Rattle.mls_edgerule.specs.Directions.{directions_in};
 ghost use Rattle.mls_geom.specs.Directions.{across};
 ghost use Rattle.mls_geom.specs.Layouts.{Layout};
@@ -109,11 +109,59 @@ fn add_rows(
     }
 }
 
+/// Whether corner types are the types behind edges.
+fn has_same_types(rule: &EdgeRule) -> bool
+    ensures { result ≡ true → rule.now.corner_types ≡ rule.now.types2 }
+{
+    rule.corner_types == rule.types2
+}
+
+/// Whether a direction comes before another one where rules list both.
+fn comes_first(flank: Direction, direction: Direction) -> bool
+    ensures { result ≡ comes_first flank direction }
+{
+    match (flank, direction) {
+        (Direction::Right, Direction::Up | Direction::Down) => true,
+        (Direction::Up, Direction::Left) => true,
+        (Direction::Left, Direction::Down) => true,
+        _ => false,
+    }
+}
+
+/// Adds the places where corner blocks of the edges in a direction begin on a flank. Where corner types are the types
+/// behind edges, and the flank comes first, these are blocks of the edges in its direction.
+fn add_flank(
+    blocks: &mut [u64],
+    types: &TypeMaps,
+    frame: Frame,
+    same: bool,
+    home: usize,
+    count: usize,
+    direction: Direction,
+    flank: Direction,
+)
+    requires frame { types.now.frame ≡ frame }
+    requires size { length blocks.old ≡ frame.words * frame.rows }
+    requires low { home ≤ 1048576 }
+    requires few { count ≤ 256 }
+    requires across { places_of frame direction + places_of frame flank ≡ 1 + 64 * frame.words }
+    ensures { (n : ℕ) → Reads frame home blocks.old n → has_place blocks.new n ≡ (has_place blocks.old n
+        || (not (same && comes_first flank direction)
+        && corner_begins types.now.before types.now.behind types.now.beside frame count home n direction flank)) }
+{
+    if same && comes_first(flank, direction) {
+        return;
+    }
+    let step = frame.step(direction);
+    add_corner(blocks, types, step, frame.step(flank), home, count);
+}
+
 /// Adds the places where corner blocks of the edges in a direction begin.
 fn add_corners(
     blocks: &mut [u64],
     types: &TypeMaps,
     frame: Frame,
+    same: bool,
     home: usize,
     count: usize,
     direction: Direction,
@@ -123,15 +171,14 @@ fn add_corners(
     requires low { home ≤ 1048576 }
     requires few { count ≤ 256 }
     ensures { (n : ℕ) → Reads frame home blocks.old n → 0 < count → has_place blocks.new n ≡ (has_place blocks.old n
-        || corners_begin types.now.before types.now.behind types.now.beside frame count home n direction) }
+        || corners_begin types.now.before types.now.behind types.now.beside frame same count home n direction) }
 {
     if count == 0 {
         return;
     }
     let (flank, other) = flanks(direction);
-    let step = frame.step(direction);
-    add_corner(blocks, types, step, frame.step(flank), home, count);
-    add_corner(blocks, types, step, frame.step(other), home, count);
+    add_flank(blocks, types, frame, same, home, count, direction, flank);
+    add_flank(blocks, types, frame, same, home, count, direction, other);
 }
 
 /// Finds the places where rows and corner blocks of the edges of a rule begin.
@@ -141,6 +188,7 @@ fn find_beginnings(
     blocks: &mut [u64],
     types: &TypeMaps,
     frame: Frame,
+    same: bool,
     home: usize,
     rule: &EdgeRule,
 )
@@ -158,7 +206,7 @@ fn find_beginnings(
         && row_begins types.now.before types.now.behind frame rule.now.distance home n direction)
         (directions_in rule.now.directions) }
     ensures blocks { (n : ℕ) → Reads frame home blocks.old n → 0 < rule.now.corner_distance → has_place blocks.new n
-        ≡ list_any (corners_begin types.now.before types.now.behind types.now.beside frame rule.now.corner_distance
+        ≡ list_any (corners_begin types.now.before types.now.behind types.now.beside frame same rule.now.corner_distance
         home n) (directions_in rule.now.directions) }
 {
     empty(level);
@@ -168,7 +216,7 @@ fn find_beginnings(
     let corner_distance = rule.corner_distance as usize;
     for direction in rule.directions.list() {
         add_rows(level, upright, types, frame, home, distance, *direction);
-        add_corners(blocks, types, frame, home, corner_distance, *direction);
+        add_corners(blocks, types, frame, same, home, corner_distance, *direction);
     }
 }
 
@@ -251,12 +299,14 @@ impl ReachMaps {
             (λ x y. reaches rule.now layout (square x y)) self.new.level.items }
     {
         let below = words_below(self.frame, rule);
+        let same = has_same_types(rule);
         find_beginnings(
             &mut self.level,
             &mut self.upright,
             &mut self.blocks,
             types,
             self.frame,
+            same,
             below * 64,
             rule,
         );

@@ -1,5 +1,5 @@
 use Rattle.std.proofs.Common.{◌*◌, ◌/◌, ◌%◌, ◌∙◌, length, sym, arith}
-use Rattle.mls_checker.specs.Maps.{has_ahead, has_place}
+use Rattle.mls_checker.specs.Maps.{has_place}
 use Rattle.mls_checker.proofs.MapSteps.{gained-copy, none-ahead, one-wide, wider}
 use Rattle.mls_checker.proofs.map_steps.widen.Goals as goal
 

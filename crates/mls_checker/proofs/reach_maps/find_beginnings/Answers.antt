@@ -24,7 +24,7 @@ loop-direction-preserved c =
           c.add_rows.ensures.upright n (omega (arith, within, c.loop-direction.auto.upright)) ∙ ap (λ b. b || test d) (c.loop-direction.invariant.upright n within)
           ∙ sym (list_any_more test items place Right (omega arith));
       blocks = λ n within some.
-          let test : Direction → Bool = corners_begin types.before types.behind types.beside c.args.frame rule.corner_distance c.args.home n in
+          let test : Direction → Bool = corners_begin types.before types.behind types.beside c.args.frame c.args.same rule.corner_distance c.args.home n in
           c.add_corners.ensures n (omega (arith, within, c.loop-direction.auto.blocks)) some ∙ ap (λ b. b || test d) (c.loop-direction.invariant.blocks n within some)
           ∙ sym (list_any_more test items place Right (omega arith));
     }
@@ -44,5 +44,5 @@ returns-clause-upright c n within =
 pub returns-clause-blocks : goal.returns-clause-blocks
 returns-clause-blocks c n within some =
     let types = c.args.types.now in
-    let test : Direction → Bool = corners_begin types.before types.behind types.beside c.args.frame c.args.rule.now.corner_distance c.args.home n in
+    let test : Direction → Bool = corners_begin types.before types.behind types.beside c.args.frame c.args.same c.args.rule.now.corner_distance c.args.home n in
     c.loop-direction.invariant.blocks n within some ∙ ap (λ (ds : List Direction). list_any test ds) (take_all c.loop-direction.direction-index c.list-direction-items.result.now (omega arith) ∙ c.list-direction-items.ensures)

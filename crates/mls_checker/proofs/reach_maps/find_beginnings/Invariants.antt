@@ -11,5 +11,5 @@ invariant-loop-direction l = record {
   upright : (n : ℕ) → Reads l.frame l.home l.fn.upright n → has_place l.upright n
       ≡ list_any (λ direction. not (is_level direction) && row_begins l.types.before l.types.behind l.frame l.rule.distance l.home n direction) (take l.direction-index l.direction-items);
   blocks : (n : ℕ) → Reads l.frame l.home l.fn.blocks n → 0 < l.rule.corner_distance → has_place l.blocks n
-      ≡ list_any (corners_begin l.types.before l.types.behind l.types.beside l.frame l.rule.corner_distance l.home n) (take l.direction-index l.direction-items);
+      ≡ list_any (corners_begin l.types.before l.types.behind l.types.beside l.frame l.same l.rule.corner_distance l.home n) (take l.direction-index l.direction-items);
 }
