@@ -2,14 +2,14 @@
 use Rattle.std.specs.Prelude.{◌≡◌, ℕ, ◌+◌, ◌-◌, ◌*◌, ◌/◌, ◌%◌, ◌<◌, ◌≤◌, Bool, not, ◌||◌, ◌&&◌, true, false, List, length}
 use Rattle.std.specs.List.{All, list_any, range_with_len}
 use Rattle.mls_edgerule.specs.declared.edge_rule.EdgeRule.{EdgeRule}
-use Rattle.mls_geom.specs.Directions.{across, back, moved}
+use Rattle.mls_geom.specs.Directions.{across}
 use Rattle.mls_geom.specs.Layouts.{Layout}
 use Rattle.mls_geom.specs.Pictures.{Picture}
 use Rattle.mls_geom.specs.Rects.{Point, Rect, holds}
 use Rattle.mls_geom.specs.declared.direction.Direction.{Direction}
 use Rattle.mls_geom.specs.declared.direction.Direction.TheVariants.{Right, Up, Left, Down}
 use Rattle.mls_kinds.specs.KindSets.{has_bit as has_type}
-use Rattle.mls_checker.specs.Forbids.{forbids, in_block, in_row, is_cornered, is_edge}
+use Rattle.mls_checker.specs.Forbids.{forbids}
 use Rattle.mls_checker.specs.Grids.{Band, has_column, marked_in}
 use Rattle.mls_checker.specs.Marking.{SquareSet}
 

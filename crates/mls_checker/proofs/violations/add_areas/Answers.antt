@@ -1,7 +1,7 @@
-use Rattle.std.proofs.Common.{◌≡◌, ℕ, ◌≤◌, ◌<◌, ◌+◌, ◌++◌, length, get_or, List, sym, ap, subst, ◌∙◌, arith, rules}
+use Rattle.std.proofs.Common.{◌≡◌, ◌<◌, ◌+◌, ◌++◌, length, get_or, List, sym, ap, subst, ◌∙◌, arith}
 use Rattle.mls_edgerule.specs.declared.edge_rule.EdgeRule.{EdgeRule}
 use Rattle.mls_geom.specs.Rects.{Rect}
-use Rattle.mls_checker.specs.Copies.{AreListsOf, SideList, copied_layout}
+use Rattle.mls_checker.specs.Copies.{copied_layout}
 use Rattle.mls_checker.specs.Violations.{GainSomeViolations, GainViolations}
 use Rattle.mls_checker.proofs.GainedAreas.{GainSoFar, gain-all, gain-item, gain-none, gain-skip, gain-some}
 use Rattle.mls_checker.proofs.ReachLemmas.{halo-bounds}
