@@ -1,5 +1,6 @@
 """Three etcds to test on, and a network before one of them that can be slow."""
 
+import contextlib
 import pathlib
 import shutil
 import signal
@@ -128,13 +129,17 @@ class SlowNetwork:
         self.port = self.listening.getsockname()[1]
         self.holding = False
         self.kept = []
+        # Both ends of each connection.
+        self.ends = []
         threading.Thread(target=self.accept, daemon=True).start()
 
     def accept(self):
         try:
             while True:
                 near, _ = self.listening.accept()
+                self.ends.append(near)
                 far = socket.create_connection(("127.0.0.1", self.target))
+                self.ends.append(far)
                 threading.Thread(target=self.forth, args=(near, far), daemon=True).start()
                 threading.Thread(target=self.back, args=(far, near), daemon=True).start()
         except OSError:
@@ -172,3 +177,7 @@ class SlowNetwork:
 
     def end(self):
         self.listening.close()
+        for each in self.ends:
+            with contextlib.suppress(OSError):
+                each.shutdown(socket.SHUT_RDWR)
+            each.close()

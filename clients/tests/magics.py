@@ -1,5 +1,6 @@
 """Magic as tests run it, the cells of its package, and compiled processes."""
 
+import atexit
 import functools
 import glob
 import gzip
@@ -18,16 +19,12 @@ needs_magic = unittest.skipUnless(shutil.which("magic"), "magic isn't installed"
 needs_cells = unittest.skipUnless(shutil.which("magic") and any(CELLS.glob("*.mag")), "magic's tutorial isn't installed")
 
 
-# Folders of compiled processes, which go when the tests end.
-KEPT = []
-
-
 @functools.cache
 def compiled(technology):
-    """Returns the process of a technology of Debian's packages, compiled once for all tests."""
+    """Returns the process of a technology of Debian's packages, compiled once; its folder goes when the tests end."""
     found = glob.glob(f"/usr/share/qflow/tech/*/{technology}.tech")
     kept = tempfile.TemporaryDirectory()
-    KEPT.append(kept)
+    atexit.register(kept.cleanup)
     Compiled.of(found[0] if found else technology).write(kept.name)
     return Process.load(kept.name)
 

@@ -1,5 +1,6 @@
 """Several relays at one etcd: nothing is lost or done twice, whatever is killed, stopped or cut off."""
 
+import contextlib
 import getpass
 import json
 import pathlib
@@ -33,11 +34,9 @@ class Machine:
     def wait(self):
         for _ in range(400):
             try:
-                client = Client(self.path)
-                replied = client.ask("?")
-                client.close()
-                if replied != [""]:
-                    return
+                with contextlib.closing(Client(self.path)) as client:
+                    if client.ask("?") != [""]:
+                        return
             except OSError:
                 time.sleep(0.05)
         raise TimeoutError(self.said())

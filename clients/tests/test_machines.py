@@ -1,5 +1,6 @@
 """Two relays behind a haproxy, three etcds, and a team at work while machines fail."""
 
+import contextlib
 import pathlib
 import random
 import re
@@ -60,10 +61,9 @@ class MachinesCase(EtcdCase):
         for _ in range(300):
             try:
                 client = Client(("127.0.0.1", self.port), self.team.context("nobody"), patience=5)
-                replied = client.ask("?")
-                client.close()
-                if replied != [""]:
-                    return
+                with contextlib.closing(client):
+                    if client.ask("?") != [""]:
+                        return
             except OSError:
                 pass
             time.sleep(0.1)
