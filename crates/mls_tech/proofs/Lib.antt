@@ -1,4 +1,5 @@
 pub mod DrcWordLemmas
+pub mod EdgeLines
 pub mod JoinedLines
 pub mod LastBytes
 pub mod Limits

@@ -85,9 +85,11 @@ impl Tech {
 
     /// Returns the plane with this name.
     pub(crate) fn plane_named(&self, name: &[u8]) -> Option<PlaneNumber>
-        ensures { result ≡ spec.number_named self.now.planes name.now }
+        ensures value { result ≡ spec.number_named self.now.planes name.now }
+        ensures known { IfSome result (λ plane. plane < self.now.plane_count) }
     {
-        self.planes.number_of(name).map(PlaneNumber::new)
+        let number = self.planes.number_of(name)?;
+        Some(PlaneNumber::new(number))
     }
 
     /// Returns the first name of a type.

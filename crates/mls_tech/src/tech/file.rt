@@ -1,7 +1,7 @@
 //! The reading of a whole technology file.
-ghost use Rattle.std.specs.Prelude.{◌≡◌, ◌+◌, ◌==◌, None, count_by};
+ghost use Rattle.std.specs.Prelude.{◌≡◌, ◌+◌, ◌==◌, None, Ok, Err, OnOk, IfErr, count_by};
 ghost use Rattle.mls_tech.specs.FileLines.{content_lines};
-ghost use Rattle.mls_tech.specs.Readings.{ReadsUnlessMemory, nothing_read, reading_of};
+ghost use Rattle.mls_tech.specs.Readings.{ReadsUnlessMemory, UnlessMemory, nothing_read, reading_of};
 ghost use Rattle.mls_tech.specs.Readings as spec;
 
 use super::Tech;
@@ -27,6 +27,22 @@ impl Tech {
         }
         read_lines(alloc, bytes)
     }
+
+    /// Adds what the lines ahead state.
+    fn add_lines(&mut self, alloc: Global, lines: &mut FileLines<'_>) -> Result<(), TechFault>
+        ensures ok { OnOk result (spec.read_lines None self.old lines.old.ahead ≡ Ok self.new) }
+        ensures err { IfErr result (λ fault.
+            UnlessMemory fault.kind (spec.read_lines None self.old lines.old.ahead ≡ Err fault)) }
+    {
+        let mut inside = None;
+        while let Some(line) = lines.advance()? {
+            inside = match self.read_line(alloc, inside, line, lines) {
+                Ok(section) => section,
+                Err(kind) => return Err(TechFault { line, kind }),
+            };
+        }
+        Ok(())
+    }
 }
 
 /// Returns the number of the line that follows the bytes, from 1.
@@ -41,13 +57,6 @@ fn read_lines(alloc: Global, bytes: &[u8]) -> Result<Tech, TechFault>
     ensures { ReadsUnlessMemory result (spec.read_lines None nothing_read (content_lines bytes.now)) }
 {
     let mut tech = Tech::new(alloc)?;
-    let mut inside = None;
-    let mut lines = FileLines::new(alloc, bytes);
-    while let Some(line) = lines.advance()? {
-        inside = match tech.read_line(alloc, inside, line, &lines) {
-            Ok(section) => section,
-            Err(kind) => return Err(TechFault { line, kind }),
-        };
-    }
+    tech.add_lines(alloc, &mut FileLines::new(alloc, bytes))?;
     Ok(tech)
 }

@@ -1,5 +1,6 @@
 //! What the lines of each section add to a technology. A technology with a fault isn't read further.
-ghost use Rattle.std.specs.Prelude.{◌≡◌, Ok, OnOk};
+ghost use Rattle.std.specs.Prelude.{◌≡◌, ◌<◌, Ok, OnOk};
+ghost use Rattle.mls_tech.specs.Inner.Additions.{with_plane, with_type};
 ghost use Rattle.mls_tech.specs.Inner.Gives.{GivesUnlessMemory};
 ghost use Rattle.mls_tech.specs.Readings as spec;
 ghost use Rattle.mls_text.specs.Lines.{IsUnbroken};
@@ -13,6 +14,7 @@ use crate::name_kind::NameKind;
 use crate::name_table::NameTable;
 use crate::section::Section;
 use crate::{Rule, RuleLine, Skipped, TechFaultKind};
+use mls_kinds::PlaneNumber;
 use mls_text::{Word, Words};
 use std::alloc::{AllocError, Global};
 use std::mem;
@@ -97,6 +99,14 @@ impl Tech {
         let (Some(names), None) = (words.next(), words.next()) else {
             return Err(TechFaultKind::BadForm);
         };
+        self.add_plane(alloc, names)
+    }
+
+    /// Adds a plane. At a fault no plane has a name.
+    fn add_plane(&mut self, alloc: Global, names: &[u8]) -> Result<(), TechFaultKind>
+        ensures { GivesUnlessMemory (λ _. self.new) result
+            (with_plane self.old names.now) }
+    {
         let mut planes = mem::replace(&mut self.planes, NameTable::new(alloc));
         planes.add_names(alloc, NameKind::PlaneName, self.plane_count, names)?;
         if self.plane_count >= MAX_PLANES {
@@ -119,8 +129,21 @@ impl Tech {
         let plane = self
             .plane_named(without_dash(plane))
             .ok_or(TechFaultKind::UnknownPlane)?;
+        self.add_type(alloc, plane, names)
+    }
+
+    /// Adds a type on a plane. At a fault no type is left, so that none is without a name.
+    fn add_type(
+        &mut self,
+        alloc: Global,
+        plane: PlaneNumber,
+        names: &[u8],
+    ) -> Result<(), TechFaultKind>
+        requires known { plane < self.old.plane_count }
+        ensures { GivesUnlessMemory (λ _. self.new) result
+            (with_type self.old plane names.now) }
+    {
         let kind = self.kinds();
-        // At a fault both stay empty, so that no type is without a name.
         let mut types = mem::replace(&mut self.types, NameTable::new(alloc));
         let mut type_planes = mem::replace(&mut self.type_planes, Vec::new(alloc));
         types.add_names(alloc, NameKind::TypeName, kind, names)?;
