@@ -1,5 +1,5 @@
 //! The runs of one row of painted pieces.
-ghost use Rattle.std.specs.Prelude.{◌≡◌, ℕ, ◌+◌, ◌*◌, ◌<◌, ◌≤◌, IsTrue, length, vec_len, vec_capacity};
+ghost use Rattle.std.specs.Prelude.{◌≡◌, ℕ, ◌+◌, ◌*◌, ◌<◌, ◌≤◌, IsTrue, OnOk, length, vec_len, vec_capacity};
 ghost use Rattle.std.specs.List.{All};
 ghost use Rattle.std.specs.List.Sorted.{IsStrictlyIncreasing};
 ghost use Rattle.mls_geom.specs.Locality.{laid};
@@ -13,6 +13,7 @@ use crate::run::{Run, join_slots};
 use crate::slots::paint_row;
 use crate::world::{HIGH, LOW};
 use mls_kinds::Kind;
+use std::alloc::{AllocError, Global};
 
 /// Buffers in which the runs of a row are found.
 #[derive(Drop)]
@@ -25,6 +26,27 @@ pub(crate) struct Row {
 
 impl Row {
     ghost use Rattle.mls_geom.specs.Sweep.RowRooms.{HasRowRoom};
+
+    /// Creates buffers without room.
+    pub(crate) fn new(alloc: Global) -> Row {
+        Row {
+            lines: Vec::new(alloc),
+            kinds: Vec::new(alloc),
+            free: Vec::new(alloc),
+            runs: Vec::new(alloc),
+        }
+    }
+
+    /// Reserves room for the lines of `pieces` pieces, so many, and those of the world.
+    pub(crate) fn reserve(&mut self, pieces: usize, lines: usize) -> Result<(), AllocError>
+        requires { lines ≡ 2 * pieces + 2 }
+        ensures { OnOk result (HasRowRoom self.new pieces) }
+    {
+        self.lines.reserve_exact(lines)?;
+        self.kinds.reserve_exact(lines)?;
+        self.free.reserve_exact(lines)?;
+        self.runs.reserve_exact(lines)
+    }
 
     /// Fills `runs` with the runs of row `y`, in which the active pieces have squares.
     pub(crate) fn find_runs(&mut self, pieces: &[Piece], active: &[usize], y: u32)
