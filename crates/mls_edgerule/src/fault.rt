@@ -1,11 +1,11 @@
 //! What is wrong with the rules of a technology.
 ghost use Rattle.std.specs.Prelude.{◌≡◌};
 
+use std::fmt;
 use thiserror::Error;
 
 /// Why a rule line can't be compiled.
 #[derive(Clone, Copy, Debug, PartialEq, Eq, Error)]
-#[error("{}", self.text())]
 pub enum RuleFaultKind {
     /// The line's types don't lie on planes as its keyword demands.
     Planes = 1,
@@ -31,6 +31,12 @@ impl RuleFaultKind {
             RuleFaultKind::Planes => "planes",
             RuleFaultKind::TooManyRules => "too many rules",
         }
+    }
+}
+
+impl fmt::Display for RuleFaultKind {
+    fn fmt<W: fmt::Write>(&self, f: &mut fmt::Formatter<W>) -> fmt::Result {
+        f.write_str(self.text())
     }
 }
 

@@ -57,11 +57,11 @@ impl Workspace {
         ensures no_tiles { IfOk result (λ workspace. workspace.pool.places ≡ []) }
     {
         Ok(Workspace {
-            pool: Pool::new(alloc, capacity)?,
-            scratch: Scratch::new(alloc, TILE_ROOM, PIECE_ROOM)?,
             pieces: Vec::with_capacity(alloc, MARK_ROOM)?,
             plane_pieces: plane_lists(alloc)?,
             grid: KindGrid::new(alloc)?,
+            pool: Pool::new(alloc, capacity)?,
+            scratch: Scratch::new(alloc, TILE_ROOM, PIECE_ROOM)?,
         })
     }
     /// Lists the maximal strips of a plane in the list of pieces, by bottom and then left. No memory is taken.

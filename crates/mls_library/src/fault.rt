@@ -5,11 +5,11 @@ ghost use Rattle.mls_library.specs.declared.fault.CellFaultKind.TheVariants.{Mem
 
 use mls_geom::TooMany;
 use std::alloc::{AllocError, AllocFailed};
+use std::fmt;
 use thiserror::Error;
 
 /// What is wrong with a cell.
 #[derive(Clone, Copy, Debug, PartialEq, Eq, Error)]
-#[error("{}", self.text())]
 pub enum CellFaultKind {
     /// The file, or the cell's name, has another form.
     Form,
@@ -68,6 +68,12 @@ impl CellFaultKind {
             CellFaultKind::Triangle => (10, "triangle"),
             CellFaultKind::LibraryFull => (11, "library full"),
         }
+    }
+}
+
+impl fmt::Display for CellFaultKind {
+    fn fmt<W: fmt::Write>(&self, f: &mut fmt::Formatter<W>) -> fmt::Result {
+        f.write_str(self.text())
     }
 }
 

@@ -1,5 +1,5 @@
 //! The strips of a cell's planes.
-ghost use Rattle.std.specs.Prelude.{◌≡◌, ◌≤◌, true, All, IfOk, IfErr, OnOk, length, map, nat_lt};
+ghost use Rattle.std.specs.Prelude.{◌≡◌, ◌≤◌, [], true, All, IfOk, IfErr, OnOk, length, map, nat_lt, vec_capacity};
 ghost use Rattle.std.specs.List.{list_any};
 ghost use Rattle.mls_library.specs.CellFiles.{pieces_on};
 ghost use Rattle.mls_library.specs.Faults.{UnlessMemory};
@@ -68,13 +68,39 @@ pub(crate) fn find_plane_strips(
         ((fault ≡ record { line = 0; kind = TooManyTiles })
         × (list_any (λ count. nat_lt limit count) (tile_counts planes rects.now) ≡ true))) }
 {
-    let mut sweep = sweep_for(alloc, rects.len(), limit)?;
-    let mut pieces = Vec::new(alloc);
     let mut found = Vec::with_capacity(alloc, usize::from(planes))?;
+    let mut sweep = sweep_for(alloc, rects.len(), limit)?;
+    list_plane_strips(alloc, planes, rects, limit, &mut sweep, &mut found)?;
+    Ok(found)
+}
+
+/// Fills `found` with the strips of each plane of a layout.
+///
+/// Fails if a plane has more than the limit.
+fn list_plane_strips(
+    alloc: Global,
+    planes: u8,
+    rects: &[CellRect],
+    limit: CellTiles,
+    sweep: &mut Sweep,
+    found: &mut Vec<Vec<Piece>>,
+) -> Result<(), CellFault>
+    requires planes { planes ≤ 4 }
+    requires pieces_fit { length rects.now ≤ sweep.old.room }
+    requires strips_fit { limit ≤ sweep.old.room }
+    requires none { found.old.items ≡ [] }
+    requires reserved { planes ≤ vec_capacity found.old }
+    ensures strips { OnOk result (AreLayoutStrips limit rects.now (map (λ list. list.items) found.new.items)) }
+    ensures count { OnOk result (length found.new.items ≡ planes) }
+    ensures fault { IfErr result (λ fault. UnlessMemory fault.kind fault.line
+        ((fault ≡ record { line = 0; kind = TooManyTiles })
+        × (list_any (λ count. nat_lt limit count) (tile_counts planes rects.now) ≡ true))) }
+{
+    let mut pieces = Vec::new(alloc);
     for number in 0..planes {
         list_pieces(rects, PlaneNumber::new(number), &mut pieces)?;
-        strips(&[], &pieces, limit.get() as usize, &mut sweep)?;
+        strips(&[], &pieces, limit.get() as usize, sweep)?;
         found.push_reserved(Vec::from_slice(alloc, sweep.strips())?);
     }
-    Ok(found)
+    Ok(())
 }

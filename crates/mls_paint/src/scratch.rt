@@ -1,5 +1,5 @@
 //! Lists in which planes are painted and searched.
-ghost use Rattle.std.specs.Prelude.{◌≡◌, ◌+◌, ◌≤◌, [], IfOk};
+ghost use Rattle.std.specs.Prelude.{◌≡◌, ◌+◌, ◌≤◌, [], IfOk, OnOk, vec_capacity};
 
 use crate::sweeps::Sweeps;
 use mls_geom::Piece;
@@ -45,18 +45,24 @@ impl Scratch {
         ensures pieces { IfOk result (λ s. s.pieces ≡ pieces) }
         ensures none_found { IfOk result (λ s. s.tiles ≡ []) }
     {
-        let search = Search::new(alloc, room)?;
-        let room = room as usize;
+        let tiles = room as usize;
         let pieces = pieces as usize;
+        let touched = Vec::with_capacity(alloc, tiles + pieces)?;
+        let mut gone = Vec::new(alloc);
+        let mut names = Vec::new(alloc);
+        let mut fresh = Vec::new(alloc);
+        reserve(tiles, &mut gone, &mut names, &mut fresh)?;
+        let search = Search::new(alloc, room)?;
+        let sweep = Sweeps::new(alloc, tiles + pieces)?;
         Ok(Scratch {
-            room,
+            room: tiles,
             pieces,
             search,
-            sweep: Sweeps::new(alloc, room + pieces)?,
-            touched: Vec::with_capacity(alloc, room + pieces)?,
-            gone: Vec::with_capacity(alloc, room)?,
-            names: Vec::with_capacity(alloc, room)?,
-            fresh: Vec::with_capacity(alloc, room)?,
+            sweep,
+            touched,
+            gone,
+            names,
+            fresh,
         })
     }
 
@@ -80,4 +86,20 @@ impl Scratch {
     {
         self.search.tiles()
     }
+}
+
+/// Reserves room for so many tiles, names and strips.
+fn reserve(
+    room: usize,
+    gone: &mut Vec<LaidTile>,
+    names: &mut Vec<TileId>,
+    fresh: &mut Vec<Piece>,
+) -> Result<(), AllocError>
+    ensures gone { OnOk result (room ≤ vec_capacity gone.new) }
+    ensures names { OnOk result (room ≤ vec_capacity names.new) }
+    ensures fresh { OnOk result (room ≤ vec_capacity fresh.new) }
+{
+    gone.reserve_exact(room)?;
+    names.reserve_exact(room)?;
+    fresh.reserve_exact(room)
 }

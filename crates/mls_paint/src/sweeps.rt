@@ -52,10 +52,9 @@ fn new_lists(alloc: Global, room: usize) -> Result<Vec<Swept>, AllocError>
     ensures some { IfOk result (λ kept. 0 < vec_len kept) }
     ensures rooms { IfOk result (λ kept. All (λ swept. swept.room ≡ room) kept.items) }
 {
-    let mut kept = Vec::new(alloc);
-    kept.push(Swept::new(alloc, room)?)?;
-    for _ in 1..KEPT {
-        kept.push(Swept::new(alloc, room)?)?;
+    let mut kept = Vec::with_capacity(alloc, KEPT)?;
+    for _ in 0..KEPT {
+        kept.push_reserved(Swept::new(alloc, room)?);
     }
     Ok(kept)
 }

@@ -14,6 +14,7 @@ use crate::{
 };
 use mls_server::Server;
 use std::alloc::{AllocError, Global};
+use std::fmt;
 use std::io::{Read, Write};
 use thiserror::Error;
 
@@ -22,7 +23,6 @@ const KEPT_BYTES: usize = 65_536;
 
 /// Why a script was left before its end.
 #[derive(Clone, Copy, Debug, PartialEq, Eq, Error)]
-#[error("{}", self.text())]
 pub enum ServeFault {
     /// The input failed.
     Read,
@@ -44,6 +44,12 @@ impl ServeFault {
             ServeFault::Write => "output failed",
             ServeFault::Memory => "memory",
         }
+    }
+}
+
+impl fmt::Display for ServeFault {
+    fn fmt<W: fmt::Write>(&self, f: &mut fmt::Formatter<W>) -> fmt::Result {
+        f.write_str(self.text())
     }
 }
 

@@ -8,7 +8,7 @@ use Rattle.mls_geom.proofs.StripPictures.{AreUnorderedStrips-ordered}
 use Rattle.mls_library.specs.CellFiles.{layout_of_rects, pieces_on}
 use Rattle.mls_library.specs.Inner.{AreLayoutStrips, ArePlaneStrips}
 use Rattle.mls_library.proofs.LayoutStrips.{AreLayoutStrips-push, tile_counts-any, too_many}
-use Rattle.mls_library.proofs.plane_strips.find_plane_strips.Goals as goal
+use Rattle.mls_library.proofs.plane_strips.list_plane_strips.Goals as goal
 
 pub loop-number-preserved : goal.loop-number-preserved
 loop-number-preserved c =

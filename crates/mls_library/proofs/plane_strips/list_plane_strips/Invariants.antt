@@ -1,6 +1,6 @@
 use Rattle.std.proofs.Common.{◌≡◌, ◌≤◌, length, map, vec_capacity}
 use Rattle.mls_library.specs.Inner.{AreLayoutStrips}
-use Rattle.mls_library.proofs.plane_strips.find_plane_strips.Given as goal
+use Rattle.mls_library.proofs.plane_strips.list_plane_strips.Given as goal
 
 -- the planes so far have their strips
 abbrev pub invariant-loop-number : goal.invariant-loop-number
