@@ -5,7 +5,7 @@ ghost use Rattle.mls_edgerule.specs.Directions as spec;
 use mls_geom::Direction;
 
 /// The directions in which a rule is checked: across an edge, from its first side to its second.
-#[derive(Clone, Copy, Debug, PartialEq, Eq)]
+#[derive(Clone, Copy, PartialEq, Eq)]
 pub enum Directions {
     RightAndUp,
     Four,

@@ -10,7 +10,7 @@ use mls_kinds::{KindSet, PlaneNumber};
 /// `corner_distance` by `corner_distance` squares.
 ///
 /// Distances are in squares, from 1 to 100, and corner distances from 0 to 100; planes are numbered from 0.
-#[derive(Clone, Copy, Debug, PartialEq, Eq)]
+#[derive(Clone, Copy, PartialEq, Eq)]
 pub struct EdgeRule {
     pub types1: KindSet,
     pub types2: KindSet,

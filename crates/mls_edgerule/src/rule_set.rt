@@ -108,7 +108,7 @@ impl RuleSet {
 }
 
 /// The numbers of the rules of a set that are left, in rising order.
-#[derive(Clone, Debug, Drop)]
+#[derive(Clone, Drop)]
 pub struct RuleNumbers {
     left: RuleSet,
 }

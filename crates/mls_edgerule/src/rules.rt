@@ -11,7 +11,7 @@ use std::marker::Model;
 const RULE_LIMIT: usize = 128;
 
 /// Compiled rules, at most 128, numbered from 1.
-#[derive(Clone, Copy, PartialEq, Eq)]
+#[derive(Clone, Copy)]
 pub struct Rules {
     rules: [EdgeRule; RULE_LIMIT],
     len: usize,

@@ -26,7 +26,7 @@ use Rattle.mls_geom.proofs.TouchedStrips.{one_strip}
 use Rattle.mls_checker.specs.Marking.{SquareSet, squares_of}
 use Rattle.mls_errorplane.specs.ErrorPlanes.{marks_picture}
 use Rattle.mls_errorplane.proofs.CheckedMarks.{mark_kind}
-use Rattle.mls_errorplane.specs.Violations.{set_strips, squares_within}
+use Rattle.mls_errorplane.specs.Violations.{Covers, set_strips, squares_within}
 
 -- ---- two lists of the strips of what is covered are one
 one_way : (p q : Piece) → IsTrue (comes_before p q) → IsTrue (comes_before q p) → ⊥
@@ -52,10 +52,6 @@ covered_strips_are_one extent picture xs ys strips others =
     (found_among extent picture xs ys strips others) (found_among extent picture ys xs others strips)
 
 -- ---- a picture that covers the squares of a set with kind 1
--- kind 1 where the set has the square, and nothing elsewhere
-abbrev pub Covers : Picture → SquareSet → Type 0
-Covers picture set = (x y : ℕ) → picture x y ≡ (if set x y then 1 else uncovered)
-
 -- kind 1, or nothing
 abbrev cover_kind : Bool → ℕ
 cover_kind b = if b then 1 else uncovered

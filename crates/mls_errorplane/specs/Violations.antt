@@ -1,9 +1,11 @@
 -- What rules forbid in a rectangle of a layout, rule by rule, as maximal strips. This project's own.
-use Rattle.std.specs.Prelude.{ℕ, ◌-◌, ◌&&◌, ◌==◌, List, map, filter, length, slice_get}
+use Rattle.std.specs.Prelude.{ℕ, ◌≡◌, ◌-◌, ◌&&◌, ◌==◌, if◌then◌else◌, List, map, filter, length, slice_get}
 use Rattle.std.specs.List.{list_any, sum_by}
 use Rattle.mls_edgerule.specs.RuleSets.{rules_in}
 use Rattle.mls_edgerule.specs.declared.edge_rule.EdgeRule.{EdgeRule}
 use Rattle.mls_geom.specs.Layouts.{Layout}
+use Rattle.mls_geom.specs.Locality.{uncovered}
+use Rattle.mls_geom.specs.Pictures.{Picture}
 use Rattle.mls_geom.specs.Rects.{Rect, holds}
 use Rattle.mls_geom.specs.StripLists.{strips_of}
 use Rattle.mls_geom.specs.World.{world}
@@ -41,6 +43,10 @@ squares_in_all violations x y = list_any (λ violation. squares_of violation.str
 -- the squares of the rectangle that areas have
 abbrev pub squares_within : Rect → List Rect → SquareSet
 squares_within rect areas x y = holds rect x y && squares_of areas x y
+
+-- kind 1 where the set has the square, and nothing elsewhere
+abbrev pub Covers : Picture → SquareSet → Type 0
+Covers picture set = (x y : ℕ) → picture x y ≡ (if set x y then 1 else uncovered)
 
 -- rule n, and the strips of what its areas have of the rectangle
 abbrev pub listed_violation : Rect → List (List Rect) → ℕ → Violation

@@ -1,10 +1,49 @@
 //! What layouts are checked by.
+ghost use Rattle.std.specs.Prelude.{◌≡◌, IfOk};
+ghost use Rattle.mls_checker.specs.Copies.{copied_layout};
+ghost use Rattle.mls_checker.specs.Halos.{zone_of};
+ghost use Rattle.mls_checker.specs.ZoneLayouts.{within};
+ghost use Rattle.mls_geom.specs.Rects.{IsRectangleIn};
+ghost use Rattle.mls_geom.specs.World.{world};
+ghost use Rattle.mls_layout.specs.Uses.{HasLayout, flat_layout};
+
+use crate::dirty::lies_in_world;
+use mls_checker::Snapshot;
 use mls_edgerule::Rules;
-use mls_layout::Uses;
+use mls_geom::Rect;
+use mls_layout::{Uses, Workspace};
+use mls_stitch::Plane;
+use std::alloc::{AllocError, Global};
 
 /// What a layout is checked by: the rules, and the uses that it shows beside its planes.
 #[derive(Clone, Copy)]
 pub struct Basis<'a> {
     pub rules: &'a Rules,
     pub uses: Uses<'a>,
+}
+
+impl<'a> Basis<'a> {
+    /// Copies the squares of a layout on these planes in the rectangle and round it within the rules' halo, with
+    /// stitches.
+    pub(crate) fn copy_round(
+        &self,
+        alloc: Global,
+        planes: &mut [Plane],
+        rect: Rect,
+        workspace: &mut Workspace,
+    ) -> Result<Snapshot, AllocError>
+        requires layout { HasLayout workspace.old.pool planes.old self.now.uses.library.now }
+        ensures legal { IsRectangleIn world rect }
+        ensures zone { IfOk result (λ snapshot. snapshot.zone ≡ zone_of self.now.rules.now rect) }
+        ensures copied { IfOk result (λ snapshot. copied_layout snapshot ≡ within (zone_of self.now.rules.now rect)
+            (flat_layout workspace.old.pool self.now.uses planes.old)) }
+        ensures owners { planes.new ≡ planes.old }
+        ensures pool { workspace.new.pool ≡ workspace.old.pool }
+    {
+        lies_in_world(rect);
+        let zone = rect.grow(self.rules.halo());
+        let mut snapshot = Snapshot::read(alloc, planes, &self.uses, zone, workspace)?;
+        snapshot.stitch(alloc)?;
+        Ok(snapshot)
+    }
 }

@@ -12,7 +12,7 @@ use mls_stitch::Plane;
 use std::alloc::Global;
 
 /// How catching up ended.
-#[derive(Clone, Copy, Debug, PartialEq, Eq)]
+#[derive(Clone, Copy)]
 pub enum CaughtUp {
     /// No area awaits checking.
     Done,

@@ -14,7 +14,7 @@ use mls_geom::Rect;
 use mls_layout::Likeness;
 
 /// Which pieces were checked last, in whose rectangles the marks are right.
-#[derive(Clone, Copy, Debug, PartialEq, Eq)]
+#[derive(Clone, Copy)]
 pub struct Checked {
     /// The last one, or the last that were checked as one.
     pub last: Rect,

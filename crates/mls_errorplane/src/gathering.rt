@@ -8,12 +8,11 @@ ghost use Rattle.mls_errorplane.specs.Halves.{AreHalves};
 ghost use Rattle.mls_errorplane.specs.Violations.{listed_violation, strip_count, violations_in};
 
 use crate::Basis;
-use crate::dirty::lies_in_world;
 use crate::halving::{halves, longer_halves};
 use crate::set_strips::find_strips;
 use crate::violated::why;
 use crate::violation::Violation;
-use mls_checker::{Snapshot, Violations};
+use mls_checker::Violations;
 use mls_edgerule::RuleSet;
 use mls_geom::Rect;
 use mls_layout::{Unlisted, Workspace};
@@ -101,11 +100,11 @@ fn gather_or_cut(
     if let Some(parts) = halves(planes, &basis.uses, rect, workspace) {
         return Ok(Some(parts));
     }
-    lies_in_world(rect);
-    let zone = rect.grow(basis.rules.halo());
-    let mut snapshot = Snapshot::read(alloc, planes, &basis.uses, zone, workspace)?;
-    snapshot.stitch(alloc)?;
-    if found.find(alloc, basis.rules, of, &snapshot, rect)? {
+    let is_gathered = {
+        let snapshot = basis.copy_round(alloc, planes, rect, workspace)?;
+        found.find(alloc, basis.rules, of, &snapshot, rect)?
+    };
+    if is_gathered {
         return Ok(None);
     }
     Ok(Some(longer_halves(rect)))

@@ -28,7 +28,7 @@ use mls_tilepool::Pool;
 
 /// How many squares of the painted part of a piece were marked before it was marked anew, and how many are now. Both
 /// are 0 where nothing was painted.
-#[derive(Clone, Copy, Debug, PartialEq, Eq)]
+#[derive(Clone, Copy)]
 pub struct Recount {
     /// How many squares were marked.
     pub before: u64,

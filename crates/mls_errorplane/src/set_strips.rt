@@ -1,10 +1,10 @@
 //! The maximal strips of the squares that areas have.
-ghost use Rattle.std.specs.Prelude.{◌≡◌, ◌&&◌, ◌<◌, ◌≤◌, ◌+◌, ◌++◌, ℕ, if◌then◌else◌, length, map, IfErr, IfOk, OnOk};
-ghost use Rattle.mls_checker.specs.Marking.{squares_of};
-ghost use Rattle.mls_geom.specs.Locality.{laid, uncovered};
+ghost use Rattle.std.specs.Prelude.{◌≡◌, ◌&&◌, ◌<◌, ◌≤◌, ℕ, if◌then◌else◌, length, map, IfErr, IfOk, OnOk};
+ghost use Rattle.mls_checker.specs.Marking.{SquareSet};
+ghost use Rattle.mls_geom.specs.Locality.{laid};
 ghost use Rattle.mls_geom.specs.Rects.{holds};
 ghost use Rattle.mls_layout.specs.Strips.{IfTooMany};
-ghost use Rattle.mls_errorplane.specs.Violations.{set_strips, squares_within};
+ghost use Rattle.mls_errorplane.specs.Violations.{Covers, set_strips, squares_within};
 
 use crate::dirty::lies_in_world;
 use crate::mark_pieces::MARKED;
@@ -29,15 +29,34 @@ pub(crate) fn find_strips(
 {
     let pieces = pieces_in(alloc, rect, areas)?;
     let mut scratch = Scratch::new(alloc, pieces.len().max(limit))?;
-    fresh_strips(&pieces, limit, &mut scratch)?;
+    list_strips(alloc, &pieces, limit, &mut scratch)
+}
+
+/// Returns the maximal strips of what pieces cover, by bottom and then left, which are found in the scratch.
+///
+/// Fails if there are more than `limit` strips, or memory runs out.
+fn list_strips(
+    alloc: Global,
+    pieces: &[Piece],
+    limit: usize,
+    scratch: &mut Scratch,
+) -> Result<Vec<Rect>, Unlisted>
+    requires pieces_fit { length pieces.now ≤ scratch.old.room }
+    requires strips_fit { limit ≤ scratch.old.room }
+    ensures strips { (set : SquareSet) → Covers (laid pieces.now) set
+        → IfOk result (λ strips. strips.items ≡ set_strips set) }
+    ensures within { IfOk result (λ strips. length strips.items ≤ limit) }
+    ensures too_many { (set : SquareSet) → Covers (laid pieces.now) set
+        → IfErr result (λ fault. IfTooMany fault (limit < length (set_strips set))) }
+{
+    fresh_strips(pieces, limit, scratch)?;
     let strips = rects_of(alloc, scratch.strips())?;
     Ok(strips)
 }
 
 /// Returns pieces with the squares that areas have of a rectangle.
 fn pieces_in(alloc: Global, rect: Rect, areas: &[Area]) -> Result<Vec<Piece>, AllocError>
-    ensures { IfOk result (λ pieces. (x y : ℕ) → laid pieces.items x y
-        ≡ (if squares_within rect areas.now x y then 1 else uncovered)) }
+    ensures { IfOk result (λ pieces. Covers (laid pieces.items) (squares_within rect areas.now)) }
 {
     let mut pieces = Vec::new(alloc);
     for area in areas {

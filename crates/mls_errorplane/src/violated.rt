@@ -4,9 +4,7 @@ ghost use Rattle.mls_checker.specs.Findings.{violated_rules};
 ghost use Rattle.mls_layout.specs.Uses.{HasLayout, flat_layout};
 
 use crate::Basis;
-use crate::dirty::lies_in_world;
 use crate::halving::halves;
-use mls_checker::Snapshot;
 use mls_edgerule::RuleSet;
 use mls_geom::Rect;
 use mls_layout::Workspace;
@@ -36,9 +34,6 @@ pub fn why(
         let more = why(alloc, planes, basis, parts.1, workspace)?;
         return Ok(violated.union(more));
     }
-    lies_in_world(rect);
-    let zone = rect.grow(basis.rules.halo());
-    let mut snapshot = Snapshot::read(alloc, planes, &basis.uses, zone, workspace)?;
-    snapshot.stitch(alloc)?;
+    let snapshot = basis.copy_round(alloc, planes, rect, workspace)?;
     Ok(mls_checker::why(basis.rules, &snapshot, rect))
 }

@@ -14,7 +14,7 @@ use mls_library::{Cell, CellId, Library};
 pub const MOST_USES: usize = 256;
 
 /// A cell that is placed in a layout, moved to the right by `dx` and up by `dy`.
-#[derive(Clone, Copy, Debug, PartialEq, Eq)]
+#[derive(Clone, Copy, PartialEq, Eq)]
 pub struct CellUse {
     pub cell: CellId,
     pub dx: i32,

@@ -2,7 +2,7 @@
 use mls_wire::{Command, Look};
 
 /// A line of a session's own.
-#[derive(Clone, Copy, Debug, PartialEq, Eq)]
+#[derive(Clone, Copy)]
 pub enum SeatLine {
     /// A command.
     Run(Command),

@@ -9,14 +9,14 @@ use std::alloc::{AllocError, Global};
 use std::marker::Model;
 
 /// A command, and the reply to it.
-#[derive(Clone, Copy, Debug, PartialEq, Eq)]
+#[derive(Clone, Copy, PartialEq, Eq)]
 pub struct Said {
     pub command: Command,
     pub reply: Reply,
 }
 
 /// An entry of a journal: a command with its reply, and how many check steps were done since the entry before.
-#[derive(Clone, Copy, Debug, PartialEq, Eq)]
+#[derive(Clone, Copy, PartialEq, Eq)]
 pub struct Entry {
     pub checks_before: u64,
     pub said: Said,

@@ -108,7 +108,7 @@ fn count_layers(tech: &Tech, layers: &[FlatStrips]) -> usize
 
 /// Appends the text of a layout whose planes have these strips, with the areas that await checking, and the marks by
 /// their strips. Out of memory, leaves the beginning of it.
-pub(crate) fn push_marked(
+fn push_marked(
     tech: &Tech,
     layers: &[FlatStrips],
     areas: &[Rect],
@@ -129,12 +129,7 @@ pub(crate) fn push_marked(
 }
 
 /// Returns the number of lines of such a text.
-pub(crate) fn count_marked(
-    tech: &Tech,
-    layers: &[FlatStrips],
-    areas: &[Rect],
-    marks: &[Piece],
-) -> usize
+fn count_marked(tech: &Tech, layers: &[FlatStrips], areas: &[Rect], marks: &[Piece]) -> usize
     requires count { length layers.now ≡ tech.now.plane_count }
     requires listed { (layout : Layout) × ListsPlanes layout layers.now }
     requires marks { (picture : Picture) × (marks.now ≡ strips_of world picture) }
@@ -144,4 +139,32 @@ pub(crate) fn count_marked(
         → result ≡ marked_line_count tech.now layout areas.now picture }
 {
     OTHER_LINES + dirty_line_count(areas) + mark_line_count(marks) + count_layers(tech, layers)
+}
+
+/// Appends such a text, and returns the number of its lines. Out of memory, appends nothing.
+pub(crate) fn add_marked(
+    tech: &Tech,
+    layers: &[FlatStrips],
+    areas: &[Rect],
+    marks: &[Piece],
+    out: &mut Vec<u8>,
+) -> Result<usize, AllocError>
+    requires count { length layers.now ≡ tech.now.plane_count }
+    requires listed { (layout : Layout) × ListsPlanes layout layers.now }
+    requires marks { (picture : Picture) × (marks.now ≡ strips_of world picture) }
+    requires areas { length areas.now ≤ 65 }
+    ensures count { IfOk result (λ lines. (layout : Layout) (picture : Picture) → ListsPlanes layout layers.now
+        → marks.now ≡ strips_of world picture
+        → lines ≡ marked_line_count tech.now layout areas.now picture) }
+    ensures text { OnOk result ((layout : Layout) (picture : Picture) → ListsPlanes layout layers.now
+        → marks.now ≡ strips_of world picture
+        → out.new.items ≡ out.old.items ++ marked_text tech.now layout areas.now picture) }
+    ensures refused { OnErr result (out.new.items ≡ out.old.items) }
+{
+    let len = out.len();
+    if let Err(error) = push_marked(tech, layers, areas, marks, out) {
+        out.truncate(len);
+        return Err(error);
+    }
+    Ok(count_marked(tech, layers, areas, marks))
 }

@@ -2,7 +2,7 @@
 use mls_errorplane::Stepped;
 
 /// How many check steps were done one after another, and how they ended.
-#[derive(Clone, Copy, Debug, PartialEq, Eq)]
+#[derive(Clone, Copy)]
 pub struct StepRun {
     /// How many steps were done.
     pub done: u64,

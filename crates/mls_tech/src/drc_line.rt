@@ -17,7 +17,7 @@ use std::alloc::Global;
 const DISTANCE_LIMIT: u8 = 100;
 
 /// A line of the section `drc`.
-#[derive(Clone, Copy, Debug, PartialEq, Eq)]
+#[derive(Clone, Copy)]
 pub(crate) enum DrcLine<'a> {
     /// A rule, and why it is there.
     States(Rule, &'a [u8]),

@@ -2,14 +2,14 @@
 use mls_kinds::{KindSet, PlaneNumber};
 
 /// Whether types may touch that are spaced apart otherwise.
-#[derive(Clone, Copy, Debug, PartialEq, Eq)]
+#[derive(Clone, Copy)]
 pub enum Adjacency {
     TouchingOk,
     TouchingIllegal,
 }
 
 /// An `edge` or `edge4way` line. Distances are in squares.
-#[derive(Clone, Copy, Debug, PartialEq, Eq)]
+#[derive(Clone, Copy)]
 pub struct Edge {
     pub types1: KindSet,
     pub types2: KindSet,
@@ -22,7 +22,7 @@ pub struct Edge {
 }
 
 /// A rule line. Distances are in squares.
-#[derive(Clone, Copy, Debug, PartialEq, Eq)]
+#[derive(Clone, Copy)]
 pub enum Rule {
     Width(KindSet, u8),
     Spacing(KindSet, KindSet, u8, Adjacency),

@@ -3,7 +3,7 @@ use crate::Rule;
 use mls_text::Word;
 
 /// A line that states a rule.
-#[derive(Debug, Drop)]
+#[derive(Drop)]
 pub struct RuleLine {
     /// The line's number in the file, from 1.
     pub line: usize,
@@ -13,7 +13,7 @@ pub struct RuleLine {
 }
 
 /// A line that was skipped, since its keyword or its adjacency isn't known.
-#[derive(Debug, Drop)]
+#[derive(Drop)]
 pub struct Skipped {
     /// The line's number in the file, from 1.
     pub line: usize,

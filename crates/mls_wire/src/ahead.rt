@@ -94,5 +94,8 @@ fn parse_text<N: Names>(names: &N, bytes: &[u8]) -> Result<Line, LineFault>
 fn begins_stepwise(mut words: Words) -> bool
     ensures { result ≡ is_stepwise words.entry }
 {
-    matches!(words.next(), Some(b"%close" | b"%step" | b"%steps"))
+    let Some(word) = words.next() else {
+        return false;
+    };
+    word == b"%close".as_slice() || word == b"%step".as_slice() || word == b"%steps".as_slice()
 }

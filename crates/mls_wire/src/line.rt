@@ -4,7 +4,7 @@ use std::fmt;
 use thiserror::Error;
 
 /// What a line says. A session that must be open has its id beside its name.
-#[derive(Clone, Copy, Debug, PartialEq, Eq)]
+#[derive(Clone, Copy)]
 pub enum Line {
     /// Nothing: the line has no words, or is a comment.
     Silent,

@@ -12,7 +12,7 @@ use mls_server::{CellId, Command, Look, Name, SessionId};
 use mls_text::{Fields, Words};
 
 /// What a line asks of an open session, if it is no command.
-#[derive(Clone, Copy, Debug, PartialEq, Eq)]
+#[derive(Clone, Copy)]
 enum Asked {
     Close,
     Step,
@@ -37,7 +37,7 @@ impl Asked {
 }
 
 /// What a word asks of the open session whose name comes next.
-#[derive(Clone, Copy, Debug, PartialEq, Eq)]
+#[derive(Clone, Copy)]
 enum Asking {
     /// This, and no words follow the name.
     Alone(Asked),
@@ -48,7 +48,7 @@ enum Asking {
 }
 
 /// What is asked of the squares between four lines.
-#[derive(Clone, Copy, Debug, PartialEq, Eq)]
+#[derive(Clone, Copy)]
 enum Within {
     /// The rules that forbid one.
     Why,
@@ -271,13 +271,19 @@ fn parse_count(mut words: Words) -> Result<u64, LineFault>
 fn parse_command<N: Names>(names: &N, mut words: Words) -> Result<Command, LineFault>
     ensures { result ≡ command_of (N.book names.now) words.entry }
 {
-    match words.next() {
-        None => Err(LineFault::UnknownCommand),
-        Some(b"box") => parse_box(words),
-        Some(b"what") => parse_end(Command::What, words),
-        Some(b"save") => parse_end(Command::Save, words),
-        Some(b"drc") => parse_drc(words),
-        Some(verb) => parse_edit(names, verb, words),
+    let Some(verb) = words.next() else {
+        return Err(LineFault::UnknownCommand);
+    };
+    if verb == b"box".as_slice() {
+        parse_box(words)
+    } else if verb == b"what".as_slice() {
+        parse_end(Command::What, words)
+    } else if verb == b"save".as_slice() {
+        parse_end(Command::Save, words)
+    } else if verb == b"drc".as_slice() {
+        parse_drc(words)
+    } else {
+        parse_edit(names, verb, words)
     }
 }
 
@@ -416,11 +422,15 @@ fn parse_drc(mut words: Words) -> Result<Command, LineFault>
     let (Some(word), None) = (words.next(), words.next()) else {
         return Err(LineFault::UnknownCommand);
     };
-    match word {
-        b"check" => Ok(Command::Check),
-        b"catchup" => Ok(Command::CatchUp),
-        b"why" => Ok(Command::Why),
-        b"count" => Ok(Command::Count),
-        _ => Err(LineFault::UnknownCommand),
+    if word == b"check".as_slice() {
+        Ok(Command::Check)
+    } else if word == b"catchup".as_slice() {
+        Ok(Command::CatchUp)
+    } else if word == b"why".as_slice() {
+        Ok(Command::Why)
+    } else if word == b"count".as_slice() {
+        Ok(Command::Count)
+    } else {
+        Err(LineFault::UnknownCommand)
     }
 }

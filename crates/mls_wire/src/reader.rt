@@ -24,7 +24,7 @@ const KEPT: usize = LINE_LIMIT + 2;
 const AHEAD: usize = 4096;
 
 /// What a script has next.
-#[derive(Clone, Copy, Debug, PartialEq, Eq)]
+#[derive(Clone, Copy)]
 pub enum NextLine {
     /// Nothing: the script has ended.
     End,

@@ -155,11 +155,14 @@ fn serve_line<W: Write>(
     ensures kind { IfErr result (λ fault. fault ≢ ServeFault.Read) }
     ensures cause { IfErr result (λ fault. fault ≡ ServeFault.Write → HasCause output.new) }
 {
-    let response = respond(alloc, server, line);
-    // For its contract alone: the marks are exact after the line.
-    server.stays_sound();
-    text.clear();
-    push_response(server, n, &response, text)?;
+    let pushed = {
+        let response = respond(alloc, server, line);
+        // For its contract alone: the marks are exact after the line.
+        server.stays_sound();
+        text.clear();
+        push_response(server, n, &response, text)
+    };
+    pushed?;
     send(text, output)?;
     give_back(alloc, text);
     Ok(())

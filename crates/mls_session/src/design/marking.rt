@@ -12,7 +12,7 @@ ghost use Rattle.mls_session.specs.Setups.{config_of};
 
 use super::Design;
 use crate::Setup;
-use crate::layers::{count_marked, list_layers, push_marked};
+use crate::layers::{add_marked, list_layers};
 use mls_geom::Rect;
 use mls_layout::{Unlisted, Workspace};
 use mls_library::{error_line_count, most_flat_tiles, push_errors};
@@ -59,13 +59,8 @@ impl Design {
         let layers = list_layers(alloc, &mut self.planes, &basis.uses, most, workspace)?;
         let areas = self.errors.copy_areas(alloc)?;
         self.errors.list_marks(workspace);
-        let len = out.len();
-        let marks = &workspace.pieces;
-        if let Err(error) = push_marked(&setup.tech, &layers, &areas, marks, out) {
-            out.truncate(len);
-            return Err(error.into());
-        }
-        Ok(count_marked(&setup.tech, &layers, &areas, marks))
+        let lines = add_marked(&setup.tech, &layers, &areas, &workspace.pieces, out)?;
+        Ok(lines)
     }
 
     /// Appends the text of the marks and of the areas that await checking in a rectangle, as a cell file, and returns

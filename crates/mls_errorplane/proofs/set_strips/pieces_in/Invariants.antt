@@ -1,7 +1,6 @@
 use Rattle.std.proofs.Common.{take}
 use Rattle.mls_geom.specs.Locality.{laid}
-use Rattle.mls_errorplane.specs.Violations.{squares_within}
-use Rattle.mls_errorplane.proofs.SetStrips.{Covers}
+use Rattle.mls_errorplane.specs.Violations.{Covers, squares_within}
 use Rattle.mls_errorplane.proofs.set_strips.pieces_in.Given as goal
 
 -- the pieces cover the squares of the areas so far

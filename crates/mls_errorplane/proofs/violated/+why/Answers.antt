@@ -5,9 +5,7 @@ use Rattle.mls_layout.specs.Uses.{flat_layout}
 use Rattle.mls_checker.specs.Findings.{violated_rules}
 use Rattle.mls_layout.proofs.LentPlanes.{lent-same}
 use Rattle.mls_errorplane.proofs.ViolatedParts.{violated_rules-parts}
-use Rattle.mls_geom.specs.Rects.{Rect, common, grown}
-use Rattle.mls_geom.specs.World.{world}
-use Rattle.mls_checker.specs.Copies.{Snapshot, copied_layout}
+use Rattle.mls_checker.specs.Halos.{zone_of}
 use Rattle.mls_checker.specs.ZoneLayouts.{within}
 use Rattle.mls_errorplane.proofs.CheckedMarks.{flat-AgreeOutside}
 use Rattle.mls_errorplane.proofs.ViolatedNear.{violated_rules-zone}
@@ -37,7 +35,5 @@ returns-clause-value t c =
     let layout = flat_layout pool c.args.basis.now.uses c.args.planes.now in
     let same = lent-same (λ (p : Pool) (owners : List ℕ). flat_layout p c.args.basis.now.uses owners) pool c.halves.new.workspace.pool c.args.planes.now c.halves.new.planes
     c.halves.ensures.pool c.halves.ensures.owners in
-    let zone = c.grow-zone.ensures.value ∙ ap (λ h. common (grown h rect) world) c.halo.ensures.value in
-    c.why-2.ensures ∙ ap (λ (s : Snapshot). violated_rules rules rect (copied_layout s)) c.stitch.ensures ∙ ap (violated_rules rules rect) (c.in_ok-snapshot.ensures.layout ∙ ap (within c.grow-zone.result) same)
-    ∙ ap (λ (e : Rect). violated_rules rules rect (within e layout)) zone
-    ∙ violated_rules-zone rules rect layout c.lies_in_world.ensures (flat-AgreeOutside pool c.args.basis.now.uses c.args.planes.now c.requires.layout.planes.each)
+    c.why-2.ensures ∙ ap (violated_rules rules rect) (c.in_ok-snapshot.ensures.copied ∙ ap (within (zone_of rules rect)) same)
+    ∙ violated_rules-zone rules rect layout c.in_ok-snapshot.ensures.legal (flat-AgreeOutside pool c.args.basis.now.uses c.args.planes.now c.requires.layout.planes.each)
