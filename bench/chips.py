@@ -1,6 +1,7 @@
 """Whole layouts in Magic, clients/process and KLayout: see chips.sh."""
 
 import argparse
+import contextlib
 import lzma
 import math
 import os
@@ -47,12 +48,15 @@ RULE = re.compile(r"Metal[1-4] (?:width|spacing) (?:<|&lt;) 3")
 
 @dataclass
 class Ran:
-    """What a check took: seconds of a processor, and by the clock, and megabytes; and which rules it found broken."""
+    """What a check took: seconds of a processor, and by the clock, and megabytes; and which rules it found broken.
+
+    One that was ended before it was through has no rules.
+    """
 
     processor: float
     clock: float
     memory: float
-    rules: set
+    rules: set = None
 
 
 def descendants(first):
@@ -82,8 +86,8 @@ def memory(first):
     return count / 1024
 
 
-def run(command, said, text=""):
-    """Runs a check, which writes what it finds to a file; returns what it took, or None where it took too long."""
+def run(command, said, text="", found=None):
+    """Runs a check, which writes what it finds to a file; returns what it took."""
     most, begun = 0.0, time.monotonic()
     with tempfile.TemporaryFile("w+") as script, open(said, "w", encoding="utf-8") as out:
         script.write(text)
@@ -95,47 +99,37 @@ def run(command, said, text=""):
             late = late or time.monotonic() - begun > LIMIT
             if late:
                 for each in reversed(descendants(process.pid)):
-                    os.kill(each, signal.SIGKILL)
+                    with contextlib.suppress(ProcessLookupError):
+                        os.kill(each, signal.SIGKILL)
             ended, _, used = os.wait4(process.pid, 0 if late else os.WNOHANG)
             if not ended:
                 time.sleep(min(1, 0.05 + (time.monotonic() - begun) / 20))
-    clock = time.monotonic() - begun
-    if late:
-        return None
-    return Ran(used.ru_utime + used.ru_stime, clock, most, set())
-
-
-def rules_in(path):
-    """Returns which rules a file names."""
-    with open(path, encoding="utf-8", errors="replace") as lines:
-        return {each.replace("&lt;", "<") for line in lines for each in RULE.findall(line)}
+    ran = Ran(used.ru_utime + used.ru_stime, time.monotonic() - begun, most)
+    if not late:
+        with open(found or said, encoding="utf-8", errors="replace") as lines:
+            # KLayout's file names all rules, and those again of which it has found something.
+            named = (line for line in lines if not found or "<category>'" in line)
+            ran.rules = {each.replace("&lt;", "<") for line in named for each in RULE.findall(line)}
+    return ran
 
 
 def by_magic(layout):
     said = layout.with_suffix(".magic")
     command = ["magic", "-dnull", "-noconsole", "-rcfile", "/dev/null", "-T", str(TECHNOLOGY.with_suffix(""))]
-    ran = run(command, said, MAGIC.format(layout=layout.with_suffix("")))
-    if ran:
-        ran.rules = rules_in(said)
-    return ran
+    return run(command, said, MAGIC.format(layout=layout.with_suffix("")))
 
 
 def by_client(layout, program, process, jobs):
-    said = layout.with_suffix(".said")
-    ran = run([CLIENTS / "process", "check", process, layout, "--server", program, "-j", str(jobs)], said)
-    if ran:
-        ran.rules = rules_in(said)
-    return ran
+    return run(
+        [CLIENTS / "process", "check", process, layout, "--server", program, "-j", str(jobs)], layout.with_suffix(".said")
+    )
 
 
 def by_klayout(layout, threads):
     found = layout.with_suffix(".lyrdb")
     values = {"input": layout, "output": found, "threads": threads}
     words = [word for name, value in values.items() for word in ("-rd", f"{name}={value}")]
-    ran = run(["klayout", "-b", "-r", CLIENTS / "tests/metal.drc", *words], layout.with_suffix(".klayout"))
-    if ran:
-        ran.rules = rules_in(found)
-    return ran
+    return run(["klayout", "-b", "-r", CLIENTS / "tests/metal.drc", *words], layout.with_suffix(".klayout"), found=found)
 
 
 def write(path, cell, count, placed):
@@ -167,23 +161,31 @@ def write(path, cell, count, placed):
 
 
 def compare(layout, title, checks, late):
-    """Prints the rows of a layout. What was too late with a smaller one is left out."""
+    """Prints the rows of a layout. What was ended with a smaller one isn't tried."""
     ran = {}
     for who, check in checks.items():
         if who not in late:
             ran[who] = check(layout)
-            if ran[who] is None:
+            if ran[who].rules is None:
                 late.add(who)
     one = [ran.get(who) for who in ("Magic", "one process", "one thread")]
     many = [None, ran.get("processes"), ran.get("threads")]
-    row(title, "processor", [each and each.processor for each in one])
-    row(title, "clock", [each and each.clock for each in many])
-    row(title, "memory", [each and each.memory for each in (one[0], many[1], many[2])])
-    row(title, "found", [each and len(each.rules) for each in one])
+    row(title, "processor", [figure(each, "processor") for each in one])
+    row(title, "clock", [figure(each, "clock") for each in many])
+    row(title, "memory", [figure(each, "memory") for each in (one[0], many[1], many[2])])
+    row(title, "found", [str(len(each.rules)) if each and each.rules is not None else "" for each in one])
+
+
+def figure(ran, what):
+    """Returns a figure as a row has it, that of an ended check as what there was at least."""
+    if ran is None:
+        return ""
+    number = getattr(ran, what)
+    return f"{'over ' if ran.rules is None else ''}{f'{number:.3g}' if number < 1000 else f'{number:.0f}'}"
 
 
 def row(title, what, figures):
-    print(title, what, *("" if each is None else f"{each:.3g}" if each < 1000 else f"{each:.0f}" for each in figures), sep="\t", flush=True)
+    print(title, what, *figures, sep="\t", flush=True)
 
 
 def main():
@@ -209,6 +211,9 @@ def main():
         text = lzma.decompress((HERE / "layouts/routed.mag.xz").read_bytes()).decode()
         (folder / "block.mag").write_text(text)
         cell = mag.read(text)
+        # The first check has what Python compiles, as every later one of a user.
+        os.environ.pop("PYTHONDONTWRITEBYTECODE", None)
+        by_client(folder / "block.mag", words.program, process, 1)
         for word in words.counts:
             layout = folder / "chip.mag"
             count = write(layout, cell, int(word.removesuffix("placed")), word.endswith("placed"))

@@ -12,7 +12,8 @@
 #   memory      megabytes of all processes together at the most (Pss), looked at once a second
 #   found       how many of the eight rules of widths and distances of metal forbid something
 #
-# What takes over LIMIT seconds by the clock (600) is ended, and isn't tried with a larger layout. It needs Debian's magic,
+# What takes over LIMIT seconds by the clock (600) is ended: its row says `over` what it had taken by then, and it isn't tried
+# with a larger layout, where its column is empty. It needs Debian's magic,
 # klayout and qflow-tech-osu035, and Python 3.11.
 set -eu
 . "$(dirname "${BASH_SOURCE[0]}")/head.sh"

@@ -25,6 +25,7 @@ RUN = [
     ("docs/OPERATING.md", r"echo 'load ", COMMANDS, "test_saved_text_in_magic"),
     ("docs/PROCESS.md", r"clients/process .* TECH ", COMMANDS, "test_forms_of_commands"),
     ("docs/PROCESS.md", r"clients/process .*scmos", COMMANDS, "test_check_of_a_cell"),
+    ("docs/PROCESS.md", r"examples/routed\.sh ", "clients/tests/test_routed.py", "test_from_a_text_in_verilog"),
     ("docs/TUTORIAL.md", r"", "clients/tests/test_tutorial.py", "test_a_day"),
     ("tests/README.md", r"magicd ", PAGES, "test_example"),
 ]
