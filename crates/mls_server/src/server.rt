@@ -34,7 +34,6 @@ pub(crate) struct OpenSession {
 /// A server of up to 64 sessions over one pool.
 ///
 /// It lends each session its setup and its workspace for one call at a time.
-#[derive(Drop)]
 pub struct Server {
     setup: Setup,
     workspace: Workspace,
@@ -55,6 +54,18 @@ impl Model for Server {
     } };
 
     ghost invariant = { λ s. AreOpen s.setup s.workspace.pool s.given s.sessions.entries };
+}
+
+// Written out, so that what a server's end drops is proved here, and not in each crate that lets a server go.
+impl Drop for Server {
+    fn drop(self) {
+        let Server {
+            setup: _setup,
+            workspace: _workspace,
+            given: _,
+            sessions: _sessions,
+        } = self;
+    }
 }
 
 impl Server {
