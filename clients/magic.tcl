@@ -262,7 +262,7 @@ proc ::kolasieve::choose_style {} {
     mark style "" $style {}
 }
 
-# Makes the window hold layers in a box.
+# Makes the window's cell hold layers in a box.
 proc ::kolasieve::told_put {box names layers} {
     set before [magic box values]
     put_box $box
@@ -274,7 +274,16 @@ proc ::kolasieve::told_put {box names layers} {
         }
     }
     magic box values {*}[lmap at $before { string cat $at i }]
+    ask done
     touched
+}
+
+# Refuses while another cell than the window's is edited: it would get what the window's is to hold.
+proc ::kolasieve::check_edited {} {
+    set edited [lindex [magic windowcaption] end]
+    if {$edited ne [magic cellname list window]} {
+        error "$edited is edited, and not the window's cell: select top cell; edit"
+    }
 }
 
 proc ::kolasieve::put_box {box} {
@@ -336,7 +345,11 @@ proc kolasieve {what args} {
         why { ::kolasieve::why }
         next { ::kolasieve::next }
         list { ::kolasieve::list_all }
-        fetch - send - undo { ::kolasieve::ask $what }
+        fetch - undo {
+            ::kolasieve::check_edited
+            ::kolasieve::ask $what
+        }
+        send { ::kolasieve::ask $what }
         leave - close { ::kolasieve::stop $what }
         default { error "kolasieve connect ADDRESSFILE NAME .. | fetch | send | why | next | list | undo | leave | close" }
     }

@@ -3,6 +3,7 @@
 The window writes lines of words parted by tabs:
 
     look PATH CELL BACKUP MODIFIED FOLDERS    a look, as `Look` has it; lists with blanks
+    done                                      a `put` is carried out
     fetch | send                              where both sides differ, takes the server's layout, or the window's
     undo                                      puts back what the last change has replaced
     leave | close                             leaves the sessions, or closes them
@@ -25,7 +26,7 @@ from kolasieve.rects import bounds, grown, meet, squares, strips, without
 from kolasieve.served import ServedFault
 from kolasieve.sessions import InUse, Sessions, apart, layers_of
 from kolasieve.showing import Shown
-from kolasieve.window import WORLD, Look, Unread, layout_of, name_of
+from kolasieve.window import WORLD, Look, Unread, View, name_of
 
 EVERYWHERE = (-WORLD, -WORLD, WORLD, WORLD)
 
@@ -63,9 +64,10 @@ class Following:
         self.take = take
         self.halo = max(group.halo for group in process.groups) * served.grid
         self.shown = Shown(served.grid)
-        # The window: the last look at it, its cell, its rectangles by layer, these as a layout, what rules between cells
-        # forbid, and a cell that waits.
-        self.seen, self.cell, self.rects, self.window, self.between, self.waiting = None, None, {}, Layout(), {}, None
+        # The window: the last look at it, its cell, what it shows, this as a layout, and what it shows of a waiting cell.
+        self.seen, self.cell, self.view, self.window, self.waiting = None, None, None, Layout(), None
+        # What it was to hold in boxes, and how many of these it hasn't taken yet.
+        self.putting, self.puts = [], 0
         # The chip and its cell; whether its sessions are at hand, and whether they can hold the layout.
         self.chip, self.chip_cell, self.is_open, self.is_held = None, None, False, True
         # Boxes in which the chip has to take what the window has, those in which it is taking it, and those that it has
@@ -86,6 +88,8 @@ class Following:
             word, *words = line.decode("utf-8", "surrogateescape").rstrip("\n").split("\t")
             if word == "look":
                 self.look(Look(*words[:3], tuple(words[3].split()), tuple(words[4].split())))
+            elif word == "done":
+                self.puts -= 1
             else:
                 self.asked.append(word)
                 self.changed.set()
@@ -95,46 +99,69 @@ class Following:
         try:
             look.read()
             self.shown.tell("read")
-            if look != self.seen:
+            if look != self.seen or self.has_put():
                 self.seen = look
-                self.take_window(look.cell, *layout_of(self.process, look, self.grid))
+                self.take_window(View(self.process, look, self.grid))
         except Unread as fault:
             self.shown.tell("read")
             self.shown.say(f"the window isn't followed: {fault}")
         except LayoutFault as fault:
             self.shown.say(f"the window isn't followed: {fault}")
 
-    def take_window(self, cell, rects, between):
-        """Takes what the window holds now: what has changed is pending, and another cell waits until that is sent.
-
-        What rules between cells forbid is known already.
-        """
+    def take_window(self, view):
+        """Takes what the window shows now: what has changed is pending, and another cell waits until that is sent."""
         self.waiting = None
-        if self.cell is None:
-            self.show_cell(cell, rects, between)
+        if self.view is None:
+            self.show_cell(view)
             return
-        if cell != self.cell:
-            self.waiting = (cell, rects, between)
+        if view.cell != self.cell:
+            self.waiting = view
             self.changed.set()
             return
-        self.between = between
-        self.shown.forbid_all(between)
-        if rects != self.rects:
-            gone, come = missing(self.rects, rects), missing(rects, self.rects)
+        before, self.view = self.view.layers, view
+        # This is known already.
+        self.shown.forbid_all(view.between)
+        boxes = []
+        if view.layers != before:
+            gone, come = missing(before, view.layers), missing(view.layers, before)
             self.window.exchange(gone, come)
-            self.rects = rects
             boxes = boxes_round(differing(gone, come))
-            self.pending, self.refused = self.pending + self.refused + boxes, []
             if self.undecided:
                 self.edited += boxes
+        boxes += self.not_put()
+        if boxes:
+            self.pending, self.refused = self.pending + self.refused + boxes, []
             self.show_awaiting()
             self.changed.set()
 
-    def show_cell(self, cell, rects, between):
+    def show_cell(self, view):
         """The window's cell is another one from now on."""
-        self.cell, self.rects, self.window, self.between = cell, rects, Layout(rects), between
-        self.waiting, self.is_open = None, False
+        self.view, self.cell, self.window = view, view.cell, Layout(view.layers)
+        self.waiting, self.is_open, self.putting, self.puts = None, False, [], 0
         self.changed.set()
+
+    def put(self, changes):
+        """Has the window hold layers in boxes, by its own cell's paint: nothing of cells that it uses is changed."""
+        used = self.view.used()
+        own = [(box, beside(layers, used.within(box))) for box, layers in changes]
+        self.shown.put(self.names(), own)
+        self.putting += changes
+        self.puts += len(own)
+
+    def has_put(self):
+        return bool(self.putting) and not self.puts
+
+    def not_put(self):
+        """Returns the boxes in which the window shows something else than it was to hold, once it has taken that."""
+        boxes = []
+        if self.has_put():
+            boxes = [box for box, layers in self.putting if self.window.within(box) != layers]
+            self.putting = []
+        if boxes:
+            where = ", ".join(map(self.shown.box, boxes[:4]))
+            stay = f"{len(boxes)} places stay as the window has them"
+            self.shown.say(f"{stay}, since cells that it uses differ there: {where}")
+        return boxes
 
     # ---- the server
 
@@ -151,12 +178,13 @@ class Following:
                 self.shown.say(f"the server can't be reached, and is tried again: {fault}")
                 self.show_awaiting()
                 if self.waiting:
-                    self.show_cell(*self.waiting)
+                    self.show_cell(self.waiting)
             finally:
                 self.is_open = False
                 await self.sessions.hang_up()
             await asyncio.sleep(pause)
             pause = min(2 * pause, LONGEST_PAUSE)
+        self.shown.say("the server couldn't be reached: it may not have what was edited last")
 
     def wants_to_end(self):
         return bool({"leave", "close"} & set(self.asked))
@@ -164,10 +192,10 @@ class Following:
     async def follow_all(self):
         """Follows over these connections, until the sessions are left or closed."""
         while True:
-            if self.cell is not None:
+            if self.view is not None:
                 await self.said_where_late(asyncio.ensure_future(self.follow()))
             if self.waiting:
-                self.show_cell(*self.waiting)
+                self.show_cell(self.waiting)
                 continue
             if self.asked and await self.obey(self.asked.pop(0)):
                 return
@@ -197,9 +225,11 @@ class Following:
     async def obey(self, word):
         """Does what the window has asked for; returns whether that ends it."""
         if word == "leave":
-            await self.sessions.leave()
+            end = "left" if await self.sessions.leave() else "closed: there is no log"
+            self.shown.say(f"{self.sessions.name} is {end}")
         elif word == "close":
             await self.sessions.close()
+            self.shown.say(f"{self.sessions.name} is closed")
         elif word == "undo":
             self.undo()
         elif word in ("fetch", "send") and self.is_open:
@@ -266,7 +296,7 @@ class Following:
             self.under_way = []
 
     def listed(self):
-        return {name: list(rects) for name, rects in self.rects.items()}
+        return {name: list(rects) for name, rects in self.view.layers.items()}
 
     async def settle(self, was_followed, edited):
         """Finds where resumed sessions differ from the window, and which side is right there.
@@ -303,7 +333,7 @@ class Following:
             there = Layout(layers_of(self.process, self.found_there))
             for box in boxes:
                 self.chip.keep(box, there.within(box))
-            self.shown.put(self.names(), [(box, there.within(box)) for box in boxes])
+            self.put([(box, there.within(box)) for box in boxes])
             await self.repair(self.edited)
         else:
             await self.repair(boxes)
@@ -354,7 +384,7 @@ class Following:
             return
         change = self.replaced.pop()
         self.undoing = [box for box, _ in change]
-        self.shown.put(self.names(), change)
+        self.put(change)
 
     # ---- what is forbidden
 
@@ -371,7 +401,7 @@ class Following:
 
     def by_client(self):
         """Returns what the rules of areas and those between cells forbid in the whole window."""
-        layers, found = self.window.rects() if self.process.areas else {}, dict(self.between)
+        layers, found = self.window.rects() if self.process.areas else {}, dict(self.view.between)
         for area in self.process.areas:
             pieces = small_pieces(replace(area, squares=area.squares * self.grid**2), layers)
             found[area.why] = [rect for piece in pieces for rect in piece]
@@ -381,6 +411,12 @@ class Following:
         """Shows where it isn't known what is forbidden."""
         boxes = [*self.pending, *self.under_way, *self.refused]
         self.shown.wait_for([*(grown(box, self.halo) for box in boxes), *self.unsaid])
+
+
+def beside(layers, others):
+    """Returns of layers what others don't have."""
+    found = {name: strips(rects, others.get(name, ())) for name, rects in layers.items()}
+    return {name: rects for name, rects in found.items() if rects}
 
 
 def outside(boxes, holes):

@@ -44,7 +44,8 @@ class GroupRelay:
         Nothing is written to its input, which ends with this process, however that comes.
         """
         pipe = asyncio.subprocess.PIPE
-        return cls(await asyncio.create_subprocess_exec(*command, stdin=pipe, stderr=pipe, start_new_session=True), title)
+        child = await asyncio.create_subprocess_exec(*command, stdin=pipe, stderr=pipe, start_new_session=True)
+        return cls(child, title)
 
     async def tell(self):
         """Passes messages on until the relay ends."""

@@ -87,11 +87,14 @@ class Sessions:
         return Chip(self.process, self.places)
 
     async def leave(self):
-        """Leaves the sessions; those that no log keeps are closed."""
+        """Leaves the sessions; those that no log keeps are closed. Returns whether all are left."""
+        are_left = True
         for place in self.places:
             if not (await place.carry(f"@leave {place.name}".encode())).endswith(b" left\n"):
                 await place.look("close")
+                are_left = False
         self.places = []
+        return are_left
 
     async def close(self):
         """Closes the sessions for good."""

@@ -2,7 +2,7 @@
 
     read                                  the look's files are read
     say TEXT                              for the designer
-    put BOX NAMES {{NAME BOX ..} ..}      in a box the window is to have these layers, and none else of the names
+    put BOX NAMES {{NAME BOX ..} ..}      in a box the window's cell is to have these layers, and none else of the names
     violations TEXT {BOX ..}              what a rule forbids from now on
     awaiting {BOX ..}                     where it isn't known yet what is forbidden
     ended

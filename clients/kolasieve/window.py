@@ -5,9 +5,11 @@ import os
 from dataclasses import dataclass, field
 
 from kolasieve.flat import Flat
-from kolasieve.hierarchy import SUFFIX, LayoutFault, Library
+from kolasieve.hierarchy import SUFFIX, Cell, LayoutFault, Library
+from kolasieve.layout import Layout
 from kolasieve.overlaps import TEXTS, OverlapRules
 from kolasieve.rects import strips
+from kolasieve.sheet import Sheet
 
 # The world's lines run from minus this number to this number.
 WORLD = 1048576
@@ -84,28 +86,37 @@ class Held(Library):
         return use.name if use.name in self.texts else super().find(path, use)
 
 
-def layout_of(process, look, grid):
-    """Returns sets of rectangles by layer, on a grid of so many squares a lambda: what a window shows.
+class View:
+    """What a window shows, on a grid of so many squares a lambda."""
 
-    Besides it returns strips by the texts of rules between cells: what these forbid there.
-    """
-    if name_of(look.cell) not in look.texts and look.written is None:
-        return {}, {text: [] for text in TEXTS}
-    held = Held(process, look)
-    if grid % held.grid:
-        raise LayoutFault(f"lambda is {held.grid} squares in this window, and {grid} of the server (process serve --grid)")
-    bounds = held.top.bounds
-    if bounds and (min(bounds) < -WORLD or max(bounds) > WORLD):
-        raise LayoutFault(f"{look.cell}: {bounds} lies outside the world of {2 * WORLD} squares a side")
-    rules, scale = OverlapRules(process), grid // held.grid
-    layers, placed = Flat(held, rules.watched).within(bounds) if bounds else ({}, [])
-    found = rules.violations(placed)
-    return (
-        {name: set(scaled(strips(rects), scale)) for name, rects in layers.items()},
-        {text: scaled(strips(found.get(text, ())), scale) for text in TEXTS},
-    )
+    def __init__(self, process, look, grid):
+        self.cell = look.cell
+        # Sets of rectangles by layer; and strips by the texts of rules between cells, which these forbid.
+        self.layers, self.between = {}, {text: [] for text in TEXTS}
+        self.held, self.scale = None, 1
+        if name_of(look.cell) in look.texts or look.written is not None:
+            self.take(Held(process, look), grid)
 
+    def take(self, held, grid):
+        if grid % held.grid:
+            sizes = f"lambda is {held.grid} squares in this window, and {grid} of the server"
+            raise LayoutFault(f"{sizes} (process serve --grid)")
+        self.held, self.scale, bounds = held, grid // held.grid, held.top.bounds
+        if bounds is not None:
+            if min(bounds) < -WORLD or max(bounds) > WORLD:
+                raise LayoutFault(f"{self.cell}: {bounds} lies outside the world of {2 * WORLD} squares a side")
+            rules = OverlapRules(held.process)
+            layers, placed = Flat(held, rules.watched).within(bounds)
+            self.layers = {name: set(self.strips(rects)) for name, rects in layers.items()}
+            self.between |= {text: self.strips(rects) for text, rects in rules.violations(placed).items()}
 
-def scaled(rects, scale):
-    """Returns rectangles so many times as far from the middle."""
-    return [tuple(at * scale for at in rect) for rect in rects]
+    def strips(self, rects):
+        return [tuple(at * self.scale for at in rect) for rect in strips(rects)]
+
+    def used(self):
+        """Returns the layout of the cells that the window's cell uses, without its own paint."""
+        if self.held is None or not self.held.top.uses:
+            return Layout()
+        self.held.top = Cell(Sheet([]), self.held.top.uses)
+        layers, _ = Flat(self.held).within(self.held.top.bounds)
+        return Layout({name: self.strips(rects) for name, rects in layers.items()})

@@ -231,7 +231,8 @@ class NearAFullJournal(ServedCase):
         self.compare("ben_top", {"polysilicon": [(0, 0, 99, 20)], "metal1": [(0, 50, 99, 149)]})
         for number in range(len(self.process.groups)):
             with sqlite3.connect(self.folder / "log" / f"g{number}.log") as log:
-                parts = [part for part, in log.execute("select part from lines where cast(line as text) = '@compact ben_top'")]
+                rows = log.execute("select part from lines where cast(line as text) = '@compact ben_top'")
+                parts = [part for part, in rows]
             self.assertGreater(len(parts), 2)
             # The relay's own have other parts.
             self.assertEqual(set(parts), {0})
@@ -313,6 +314,7 @@ class OverRestarts(ServedCase):
         follow.ask("fetch")
         put = follow.wait(lambda word, _: word == "put")
         self.assertRegex(put, r"^put \{0 0 2 9\} \{.*\} \{\{metal1 \{0 0 2 9\}\}\}$")
+        follow.ask("done")
         follow.look({"metal1": [(0, 0, 2, 9)], "polysilicon": [(100, 0, 101, 9)]})
         self.assertEqual(follow.settled(), {METAL: [(2, 0, 3, 9)], WIDTH: [(101, 0, 102, 9)]})
         follow.ask("leave")

@@ -44,6 +44,11 @@ class MagicCase(ServedCase):
     def connect(self, name="ben", *words):
         self.window.tell(" ".join(["kolasieve", "connect", str(self.address), name, *words]))
 
+    def leave(self):
+        """Leaves the sessions, and waits until they have all that the window held then."""
+        self.window.tell("kolasieve leave")
+        self.window.says("ben_top is left")
+
     def written(self, cell):
         """Has Magic write the cell that the window shows, and returns its file."""
         path = self.window.tell(f"::magic::*bypass writeall force {cell}; ::magic::*bypass cellname list filepath {cell}")
@@ -115,7 +120,7 @@ class Painting(MagicCase):
     def use(self, dice):
         """Uses a cell, or does something with one that is used; returns what it was."""
         x, y, used = dice.randrange(40), dice.randrange(40) - BELOW, f"part_{dice.randrange(4)}"
-        commands = ["array {} {}".format(*dice.choices(range(1, 4), k=2)), "move r 3", "clockwise", "sideways", "copy u 2", "delete"]
+        commands = ["move r 3", "clockwise", "sideways", "copy u 2", "delete", "array {} {}".format(*dice.choices((1, 2, 3), k=2))]
         command = f"select cell {used}; {dice.choice(commands)}"
         if used not in self.window.tell("::magic::*bypass cellname list childinst top"):
             command = f"getcell part; identify {used}"
@@ -146,7 +151,8 @@ class Painting(MagicCase):
         self.assertEqual(self.squares("ben_top"), self.told(flattened(Library(process, path))))
         found = violations_by_magic(self.folder, [path], process.path)[path]
         for text in found.keys() - inexact(process, LESS):
-            marks, reach = Index((strip, None) for strip in self.forbidden.get(text.translate(PLAIN), [])), reach_of(process, text)
+            reach, strips = reach_of(process, text), self.forbidden.get(text.translate(PLAIN), [])
+            marks = Index((strip, None) for strip in strips)
             self.assertEqual([box for box in found[text] if not marks.meeting(grown(box, reach))], [], text)
         if not found:
             self.assertEqual(set(self.forbidden) - {text.translate(PLAIN) for text in inexact(process, MORE)}, set())
@@ -181,13 +187,42 @@ class Asking(MagicCase):
         self.window.tell("kolasieve undo")
         self.until(lambda: "metal1" not in self.written("top").read_text(), 0.25)
         self.follow()
-        self.window.tell("kolasieve leave; box values 0 0 1 20; erase poly; box values 60 0 61 9; paint poly")
+        self.leave()
+        self.window.tell("box values 0 0 1 20; erase poly; box values 60 0 61 9; paint poly")
         self.connect()
         self.window.says("the window and the server differ")
         self.window.tell("box values 80 0 81 9; paint poly; kolasieve fetch")
         self.window.says("as the server has them")
         self.follow()
         self.assertRegex(self.written("top").read_text(), "<< polysilicon >>\nrect 0 0 1 20\nrect 80 0 81 9\n<<")
+
+
+    def test_fetch_where_cells_are_used(self):
+        """What the server has comes into the window's own cell; a used cell stays as it is, which is said."""
+        there = {"polysilicon": [(20, 0, 22, 9)], "metal1": [(0, 0, 3, 9)]}
+        self.window.tell("load part; box values 0 0 3 9; paint m1; load top; box values 20 0 22 9; paint poly")
+        self.window.tell("box values 0 0 1 1; getcell part")
+        self.connect()
+        self.until(lambda: self.squares("ben_top") == self.told(there))
+        self.leave()
+        self.window.tell("box values 20 0 22 9; erase poly; select cell part_0; edit")
+        self.window.tell("box values 0 0 3 4; erase m1; box values 6 0 10 9; paint m2")
+        self.connect()
+        self.window.says("the window and the server differ")
+        with self.assertRaisesRegex(RuntimeError, "part is edited, and not the window's cell"):
+            self.window.tell("kolasieve fetch")
+        self.window.tell("select top cell; edit; kolasieve fetch")
+        self.window.says("1 places stay as the window has them, since cells that it uses differ there")
+        self.until(lambda: self.squares("ben_top") == self.told({**there, "metal2": [(6, 0, 10, 9)]}))
+        self.written("part")
+        self.follow()
+        own = "<< polysilicon >>\nrect 20 0 22 9\n<< metal1 >>\nrect 0 0 3 4\nuse part"
+        self.assertIn(own, self.written("top").read_text())
+        self.window.tell("box values 0 0 3 4; erase m1")
+        self.follow()
+        self.window.tell("kolasieve undo")
+        self.until(lambda: own in self.written("top").read_text())
+        self.follow()
 
 
 @needs_window
@@ -281,7 +316,8 @@ class Troubled(MagicCase):
             self.window.said = []
             self.window.tell(f"kolasieve list; ::magic::*bypass feedback save {path}")
             boxes = re.findall(r"box (\S+) \S+ (\S+) \S+\nfeedback add \"kolasieve awaiting", path.read_text())
-            return "areas await" in self.window.said[-1] and any(int(left) <= column < int(right) for left, right in boxes)
+            is_there = any(int(left) <= column < int(right) for left, right in boxes)
+            return is_there and "areas await" in self.window.said[-1]
 
         self.until(is_said)
 

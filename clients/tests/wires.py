@@ -9,7 +9,7 @@ PAUSE = 0.05
 
 
 class Wire:
-    """Hands bytes on between who connects here and a port, until it is cut: then nothing arrives, and nobody is told."""
+    """Hands bytes on between who connects here and a port, until it is cut: nothing arrives then, and nobody is told."""
 
     def __init__(self, case, port):
         self.target = ("127.0.0.1", port)
