@@ -14,6 +14,10 @@ class Area:
         self.squares = squares
         self.layers = layers
 
+    def on(self, grid):
+        """Returns the rule where lambda is so many squares wide."""
+        return Area(self.line, self.why, self.plane, self.squares * grid**2, self.layers)
+
 
 def small_pieces(area, layout):
     """Returns the pieces of a flat layout that have too few squares, each as rectangles that don't overlap.

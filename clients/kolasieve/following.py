@@ -14,7 +14,6 @@ and reads those of `showing.py`.
 import asyncio
 import hashlib
 import re
-from dataclasses import replace
 
 from kolasieve import violations
 from kolasieve.areas import small_pieces
@@ -403,7 +402,7 @@ class Following:
         """Returns what the rules of areas and those between cells forbid in the whole window."""
         layers, found = self.window.rects() if self.process.areas else {}, dict(self.view.between)
         for area in self.process.areas:
-            pieces = small_pieces(replace(area, squares=area.squares * self.grid**2), layers)
+            pieces = small_pieces(area.on(self.grid), layers)
             found[area.why] = [rect for piece in pieces for rect in piece]
         return found
 

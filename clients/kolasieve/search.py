@@ -3,7 +3,7 @@
 import os
 from collections import namedtuple
 
-from kolasieve.areas import Area, small_pieces
+from kolasieve.areas import small_pieces
 from kolasieve.batch import Batches, Part, write
 from kolasieve.flat import Flat
 from kolasieve.live import Live, gathered
@@ -43,7 +43,7 @@ class Search:
         # The layers that the layout may have once it is flat.
         names = self.flat.rules.reachable(library.names)
         self.areas = [
-            Area(area.line, area.why, area.plane, area.squares * library.grid**2, area.layers)
+            area.on(library.grid)
             for area in process.areas
             if choice.has_rule(area.why) and not names.isdisjoint(area.layers)
         ]
