@@ -201,7 +201,6 @@ deep-in frame h x y p deep near =
 pub here-in : (frame : Frame) (h x y : ℕ) → IsDeep frame h x y → IsIn frame (square x y)
 here-in frame h x y deep = deep-in frame h x y (at x y) deep (here_within h x y)
 
-
 -- what is read for a deep square lies in the map
 deep-low : (frame : Frame) (h x y : ℕ) → 1 ≤ h → IsDeep frame h x y → place_of frame x y + (h - 1) * (64 * frame.words + 1) + 64 < 64 * (frame.words * frame.rows)
 deep-low frame h x y some deep =
@@ -335,30 +334,38 @@ direction-found : (rule : EdgeRule) (layout : Layout) (maps : TypeMaps) (frame :
     ≡ (in_row rule layout direction (square x y) || list_any (λ flank. is_kept same direction flank && in_block rule layout direction (square x y) flank) (across direction))
 direction-found rule layout maps frame same h n x y Right is same_frame types far far' deep ends =
     level-case _ _ _ _ _ (never rule.distance) (rows-found rule layout maps frame Right h n x y is same_frame types far deep ends)
-    (rw (when-block (is_kept same Right Up) (λ a b. corner_begins maps.before maps.behind maps.beside frame rule.corner_distance (h * (64 * frame.words)) (n + a * 1 + b * (64 * frame.words)) Right Up)
-    rule.corner_distance (in_block rule layout Right (square x y) Up) (blocks-found rule layout maps frame Right Up h n x y is same_frame refl types far' deep ends refl),
-    when-block (is_kept same Right Down) (λ a b. corner_begins maps.before maps.behind maps.beside frame rule.corner_distance (h * (64 * frame.words)) (n + a * 1 + b * (64 * frame.words)) Right Down)
-    rule.corner_distance (in_block rule layout Right (square x y) Down) (blocks-found rule layout maps frame Right Down h n x y is same_frame refl types far' deep ends refl)) refl)
+    (rw (
+      when-block (is_kept same Right Up) (λ a b. corner_begins maps.before maps.behind maps.beside frame rule.corner_distance (h * (64 * frame.words)) (n + a * 1 + b * (64 * frame.words)) Right Up)
+          rule.corner_distance (in_block rule layout Right (square x y) Up) (blocks-found rule layout maps frame Right Up h n x y is same_frame refl types far' deep ends refl),
+      when-block (is_kept same Right Down) (λ a b. corner_begins maps.before maps.behind maps.beside frame rule.corner_distance (h * (64 * frame.words)) (n + a * 1 + b * (64 * frame.words)) Right Down)
+          rule.corner_distance (in_block rule layout Right (square x y) Down) (blocks-found rule layout maps frame Right Down h n x y is same_frame refl types far' deep ends refl),
+    ) refl)
 direction-found rule layout maps frame same h n x y Left is same_frame types far far' deep ends =
     level-case _ _ _ _ _ (never rule.distance) (rows-found rule layout maps frame Left h n x y is same_frame types far deep ends)
-    (rw (when-block (is_kept same Left Up) (λ a b. corner_begins maps.before maps.behind maps.beside frame rule.corner_distance (h * (64 * frame.words)) (n + a * 1 + b * (64 * frame.words)) Left Up)
-    rule.corner_distance (in_block rule layout Left (square x y) Up) (blocks-found rule layout maps frame Left Up h n x y is same_frame refl types far' deep ends refl),
-    when-block (is_kept same Left Down) (λ a b. corner_begins maps.before maps.behind maps.beside frame rule.corner_distance (h * (64 * frame.words)) (n + a * 1 + b * (64 * frame.words)) Left Down)
-    rule.corner_distance (in_block rule layout Left (square x y) Down) (blocks-found rule layout maps frame Left Down h n x y is same_frame refl types far' deep ends refl)) refl)
+    (rw (
+      when-block (is_kept same Left Up) (λ a b. corner_begins maps.before maps.behind maps.beside frame rule.corner_distance (h * (64 * frame.words)) (n + a * 1 + b * (64 * frame.words)) Left Up)
+          rule.corner_distance (in_block rule layout Left (square x y) Up) (blocks-found rule layout maps frame Left Up h n x y is same_frame refl types far' deep ends refl),
+      when-block (is_kept same Left Down) (λ a b. corner_begins maps.before maps.behind maps.beside frame rule.corner_distance (h * (64 * frame.words)) (n + a * 1 + b * (64 * frame.words)) Left Down)
+          rule.corner_distance (in_block rule layout Left (square x y) Down) (blocks-found rule layout maps frame Left Down h n x y is same_frame refl types far' deep ends refl),
+    ) refl)
 direction-found rule layout maps frame same h n x y Up is same_frame types far far' deep ends =
     let turn : 64 * frame.words + 1 ≡ 1 + 64 * frame.words = omega arith in
     upright-case _ _ _ _ _ (never rule.distance) (rows-found rule layout maps frame Up h n x y is same_frame types far deep ends)
-    (rw (when-block (is_kept same Up Right) (λ a b. corner_begins maps.before maps.behind maps.beside frame rule.corner_distance (h * (64 * frame.words)) (n + a * 1 + b * (64 * frame.words)) Up Right)
-    rule.corner_distance (in_block rule layout Up (square x y) Right) (crossed maps frame rule.corner_distance (h * (64 * frame.words)) n Up Right ∙ blocks-found rule layout maps frame Up Right h n x y is same_frame refl types far' deep ends turn),
-    when-block (is_kept same Up Left) (λ a b. corner_begins maps.before maps.behind maps.beside frame rule.corner_distance (h * (64 * frame.words)) (n + a * 1 + b * (64 * frame.words)) Up Left)
-    rule.corner_distance (in_block rule layout Up (square x y) Left) (crossed maps frame rule.corner_distance (h * (64 * frame.words)) n Up Left ∙ blocks-found rule layout maps frame Up Left h n x y is same_frame refl types far' deep ends turn)) refl)
+    (rw (
+      when-block (is_kept same Up Right) (λ a b. corner_begins maps.before maps.behind maps.beside frame rule.corner_distance (h * (64 * frame.words)) (n + a * 1 + b * (64 * frame.words)) Up Right)
+          rule.corner_distance (in_block rule layout Up (square x y) Right) (crossed maps frame rule.corner_distance (h * (64 * frame.words)) n Up Right ∙ blocks-found rule layout maps frame Up Right h n x y is same_frame refl types far' deep ends turn),
+      when-block (is_kept same Up Left) (λ a b. corner_begins maps.before maps.behind maps.beside frame rule.corner_distance (h * (64 * frame.words)) (n + a * 1 + b * (64 * frame.words)) Up Left)
+          rule.corner_distance (in_block rule layout Up (square x y) Left) (crossed maps frame rule.corner_distance (h * (64 * frame.words)) n Up Left ∙ blocks-found rule layout maps frame Up Left h n x y is same_frame refl types far' deep ends turn),
+    ) refl)
 direction-found rule layout maps frame same h n x y Down is same_frame types far far' deep ends =
     let turn : 64 * frame.words + 1 ≡ 1 + 64 * frame.words = omega arith in
     upright-case _ _ _ _ _ (never rule.distance) (rows-found rule layout maps frame Down h n x y is same_frame types far deep ends)
-    (rw (when-block (is_kept same Down Right) (λ a b. corner_begins maps.before maps.behind maps.beside frame rule.corner_distance (h * (64 * frame.words)) (n + a * 1 + b * (64 * frame.words)) Down Right)
-    rule.corner_distance (in_block rule layout Down (square x y) Right) (crossed maps frame rule.corner_distance (h * (64 * frame.words)) n Down Right ∙ blocks-found rule layout maps frame Down Right h n x y is same_frame refl types far' deep ends turn),
-    when-block (is_kept same Down Left) (λ a b. corner_begins maps.before maps.behind maps.beside frame rule.corner_distance (h * (64 * frame.words)) (n + a * 1 + b * (64 * frame.words)) Down Left)
-    rule.corner_distance (in_block rule layout Down (square x y) Left) (crossed maps frame rule.corner_distance (h * (64 * frame.words)) n Down Left ∙ blocks-found rule layout maps frame Down Left h n x y is same_frame refl types far' deep ends turn)) refl)
+    (rw (
+      when-block (is_kept same Down Right) (λ a b. corner_begins maps.before maps.behind maps.beside frame rule.corner_distance (h * (64 * frame.words)) (n + a * 1 + b * (64 * frame.words)) Down Right)
+          rule.corner_distance (in_block rule layout Down (square x y) Right) (crossed maps frame rule.corner_distance (h * (64 * frame.words)) n Down Right ∙ blocks-found rule layout maps frame Down Right h n x y is same_frame refl types far' deep ends turn),
+      when-block (is_kept same Down Left) (λ a b. corner_begins maps.before maps.behind maps.beside frame rule.corner_distance (h * (64 * frame.words)) (n + a * 1 + b * (64 * frame.words)) Down Left)
+          rule.corner_distance (in_block rule layout Down (square x y) Left) (crossed maps frame rule.corner_distance (h * (64 * frame.words)) n Down Left ∙ blocks-found rule layout maps frame Down Left h n x y is same_frame refl types far' deep ends turn),
+    ) refl)
 
 -- ---- blocks that two directions have
 -- the squares of a corner, seen from the direction and from its flank
@@ -453,8 +460,12 @@ all-kept rule layout same x y RightAndUp types wide high =
 all-kept rule layout same x y Four types wide high =
     four-kept same _ (in_block rule layout Right (square x y) Up) (in_block rule layout Right (square x y) Down) _ (in_block rule layout Up (square x y) Right) (in_block rule layout Up (square x y) Left) _
     (in_block rule layout Left (square x y) Up) (in_block rule layout Left (square x y) Down) _ (in_block rule layout Down (square x y) Right) (in_block rule layout Down (square x y) Left)
-    (λ is. (block-turned rule layout Up Right x y (types is) refl wide high, block-turned rule layout Left Up x y (types is) refl wide high,
-    block-turned rule layout Down Right x y (types is) refl wide high, block-turned rule layout Down Left x y (types is) refl wide high))
+    (λ is. (
+      block-turned rule layout Up Right x y (types is) refl wide high,
+      block-turned rule layout Left Up x y (types is) refl wide high,
+      block-turned rule layout Down Right x y (types is) refl wide high,
+      block-turned rule layout Down Left x y (types is) refl wide high,
+    ))
 
 -- ---- all of a rule
 reads : (frame : Frame) (m n home a b x y : ℕ) → a < m → b < m → n + home ≡ place_of frame x y → IsDeep frame (1 + m) x y

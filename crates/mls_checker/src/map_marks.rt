@@ -68,12 +68,7 @@ impl MapMarks {
             rule.ok_types,
         );
         let below = words_below(self.frame, rule);
-        add_but(
-            &mut self.marked,
-            self.reach.reached(),
-            below,
-            &self.allowed,
-        );
+        add_but(&mut self.marked, self.reach.reached(), below, &self.allowed);
     }
 
     /// Returns the marked squares.

@@ -17,14 +17,7 @@ use mls_geom::Direction;
 use std::alloc::{AllocError, Global};
 
 /// Adds the places where so many steps from an edge begin.
-fn add_row(
-    map: &mut [u64],
-    before: &[u64],
-    behind: &[u64],
-    step: Step,
-    home: usize,
-    count: usize,
-)
+fn add_row(map: &mut [u64], before: &[u64], behind: &[u64], step: Step, home: usize, count: usize)
     requires before { length map.old ≡ length before.now }
     requires behind { length map.old ≡ length behind.now }
     requires short { step.places ≤ 65536 }
@@ -38,14 +31,7 @@ fn add_row(
 }
 
 /// Adds the places where so many steps from an edge that has a corner on a flank begin, with as many to the flank.
-fn add_corner(
-    map: &mut [u64],
-    types: &TypeMaps,
-    step: Step,
-    flank: Step,
-    home: usize,
-    count: usize,
-)
+fn add_corner(map: &mut [u64], types: &TypeMaps, step: Step, flank: Step, home: usize, count: usize)
     requires size { length map.old ≡ types.now.frame.words * types.now.frame.rows }
     requires short { step.places ≤ 65536 }
     requires across { flank.places ≤ 65536 }
@@ -216,7 +202,15 @@ fn find_beginnings(
     let corner_distance = rule.corner_distance as usize;
     for direction in rule.directions.list() {
         add_rows(level, upright, types, frame, home, distance, *direction);
-        add_corners(blocks, types, frame, same, home, corner_distance, *direction);
+        add_corners(
+            blocks,
+            types,
+            frame,
+            same,
+            home,
+            corner_distance,
+            *direction,
+        );
     }
 }
 
