@@ -30,7 +30,6 @@ pub const MARK_ROOM: usize = 32_769;
 ///
 /// All memory is reserved when the workspace is made, so that planes of [`TILE_ROOM`] tiles can be searched,
 /// [`PIECE_ROOM`] pieces painted, [`MARK_ROOM`] listed, and [`TILE_ROOM`] for each of [`MOST_PLANES`] planes.
-#[derive(Drop)]
 pub struct Workspace {
     /// The tiles of all planes.
     pub pool: Pool,
@@ -45,6 +44,19 @@ pub struct Workspace {
     ghost rooms: { HasRooms scratch (vec_capacity pieces) },
     ghost planes: { length plane_pieces.items ≡ most_planes },
     ghost plane_rooms: { All (λ list. vec_capacity list ≡ tile_room) plane_pieces.items },
+}
+
+// Written out, so that what a workspace's end drops is proved here, and not in each crate that lets one go.
+impl Drop for Workspace {
+    fn drop(self) {
+        let Workspace {
+            pool: _pool,
+            scratch: _scratch,
+            pieces: _pieces,
+            plane_pieces: _plane_pieces,
+            grid: _grid,
+        } = self;
+    }
 }
 
 impl Workspace {

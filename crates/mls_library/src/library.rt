@@ -30,7 +30,6 @@ pub struct CellFile<'a> {
 }
 
 /// Cells by name, in the order in which they were loaded, whose planes lie in a pool and never change.
-#[derive(Drop)]
 pub struct Library {
     cells: IndexMap<Vec<u8>, Cell>,
 }
@@ -43,6 +42,13 @@ impl Model for Library {
     ghost Value = { List NamedCell };
 
     ghost view = { λ library. cells_in (λ name. name.items) (λ cell. cell) library.cells.entries };
+}
+
+// Written out, so that what a library's end drops is proved here, and not in each crate that lets one go.
+impl Drop for Library {
+    fn drop(self) {
+        let Library { cells: _cells } = self;
+    }
 }
 
 impl Library {

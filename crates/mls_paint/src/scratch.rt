@@ -11,7 +11,6 @@ use std::marker::Model;
 /// Lists in which the calls of this crate work. Searches leave there what they find.
 ///
 /// All memory is reserved when the scratch is made.
-#[derive(Drop)]
 pub struct Scratch {
     pub(crate) room: usize,
     pub(crate) pieces: usize,
@@ -36,6 +35,22 @@ impl Model for Scratch {
     ghost invariant = { λ s. (s.search.room ≡ s.room) × (s.sweep.room ≡ s.room + s.pieces)
         × (s.room + s.pieces ≤ vec_capacity s.touched) × (s.room ≤ vec_capacity s.gone)
         × (s.room ≤ vec_capacity s.names) × (s.room ≤ vec_capacity s.fresh) };
+}
+
+// Written out, so that what a scratch's end drops is proved here, and not in each crate that lets one go.
+impl Drop for Scratch {
+    fn drop(self) {
+        let Scratch {
+            room: _,
+            pieces: _,
+            search: _search,
+            sweep: _sweep,
+            touched: _touched,
+            gone: _gone,
+            names: _names,
+            fresh: _fresh,
+        } = self;
+    }
 }
 
 impl Scratch {

@@ -13,7 +13,6 @@ use mls_tech::Tech;
 const SPARE: u32 = 64;
 
 /// What a session is opened with, and no command of it changes.
-#[derive(Drop)]
 pub struct Setup {
     /// The technology, whose planes and types the session has.
     pub tech: Tech,
@@ -27,6 +26,20 @@ pub struct Setup {
     pub cell_tiles: CellTiles,
     /// The most entries that the journal may have.
     pub limit: JournalLimit,
+}
+
+// Written out, so that what a setup's end drops is proved here, and not in each crate that lets one go.
+impl Drop for Setup {
+    fn drop(self) {
+        let Setup {
+            tech: _tech,
+            rules: _rules,
+            library: _library,
+            quota: _,
+            cell_tiles: _,
+            limit: _,
+        } = self;
+    }
 }
 
 impl Setup {

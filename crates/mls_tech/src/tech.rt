@@ -16,7 +16,6 @@ use std::alloc::{AllocError, Global};
 use std::marker::Model;
 
 /// A technology: its planes, its types and its rule lines, as a technology file states them.
-#[derive(Drop)]
 pub struct Tech {
     name: Option<Word>,
     planes: NameTable,
@@ -45,6 +44,21 @@ impl Model for Tech {
 
     ghost invariant = { λ tech.
         IsWellFormed tech.name tech.planes tech.plane_count tech.types tech.type_planes.items };
+}
+
+// Written out, so that what a technology's end drops is proved here, and not in each crate that lets one go.
+impl Drop for Tech {
+    fn drop(self) {
+        let Tech {
+            name: _name,
+            planes: _planes,
+            plane_count: _,
+            types: _types,
+            type_planes: _type_planes,
+            rules: _rules,
+            skipped: _skipped,
+        } = self;
+    }
 }
 
 impl Tech {

@@ -26,7 +26,6 @@ pub struct NoRoom;
 /// A pool of tiles. Each tile lies under an owner, and each owner has at most as many tiles as it reserved.
 ///
 /// All memory is reserved when the pool is made.
-#[derive(Drop)]
 pub struct Pool {
     capacity: u32,
     reserved: u32,
@@ -43,6 +42,18 @@ impl Model for Pool {
     ghost view = { λ p. pool_of p.capacity p.places.slots p.rows.slots };
 
     ghost invariant = { λ p. IsPool p.capacity p.reserved p.places p.rows };
+}
+
+// Written out, so that what a pool's end drops is proved here, and not in each crate that lets one go.
+impl Drop for Pool {
+    fn drop(self) {
+        let Pool {
+            capacity: _,
+            reserved: _,
+            places: _places,
+            rows: _rows,
+        } = self;
+    }
 }
 
 /// Creates a slab with room for `capacity` values, whose keys take 32 bits: memory counts as out where there is room
