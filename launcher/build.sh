@@ -87,7 +87,7 @@ prove() {
     if [ ! -e "$here/crates/$1/src/lib.rt" ]; then
         verb=run
     fi
-    (cd "$here/crates/$1" && exec "$here/launcher/rt_once" "$verb" </dev/null >"$logs/$1.log" 2>&1)
+    (cd "$here/crates/$1" && exec rt "$verb" </dev/null >"$logs/$1.log" 2>&1)
 }
 
 stop_all() {

@@ -6,31 +6,8 @@ import re
 import subprocess
 import unittest
 
-from tests.launching import RT, LauncherCase, write_program
+from tests.launching import LauncherCase
 from tests.serving import ROOT, ran
-
-# An `rt` of the known form, of crates that each stand twice on the one below: 2 to the 60 ways lead to the lowest.
-MANY_WAYS = """#!/usr/bin/env python3
-import sys, types
-def load():
-    class Crate:
-        def __init__(self, deps, number):
-            self.deps, self.folder, self.computed = deps, str(number), 0
-        def stamp(self):
-            self.computed += 1
-            return self.folder + "".join(each.stamp()[-5:] for each in self.deps)
-    return types.SimpleNamespace(Crate=Crate)
-rtlib = load()
-def main(words):
-    crates = [rtlib.Crate([], 0)]
-    for number in range(1, 61):
-        crates.append(rtlib.Crate([crates[-1]] * 2, number))
-    once = crates[-1].stamp(), sum(each.computed for each in crates)
-    print(words, len(crates), once[1], once[0] == crates[-1].stamp())
-    return 7
-if __name__ == "__main__":
-    sys.exit(main(sys.argv[1:]))
-"""
 
 
 class Launcher(LauncherCase):
@@ -152,19 +129,6 @@ class Launcher(LauncherCase):
             keyboard.write(b"typed\n\x04")
             output, _ = started.communicate(timeout=60)
         self.assertEqual(output, "program: \ntyped\n")
-
-    def test_stamps_computed_once(self):
-        def once(*words):
-            run = subprocess.run([ROOT / "launcher/rt_once", *words], env=self.environment(), capture_output=True, text=True, timeout=60)
-            return run.stdout, run.returncode
-
-        write_program(self.tools / "rt", MANY_WAYS)
-        self.assertEqual(once("lib", "x"), ("['lib', 'x'] 61 61 True\n", 7))
-        # Another form is run as it is.
-        write_program(self.tools / "rt", MANY_WAYS.replace("range(1, 61)", "range(1, 11)").replace("rtlib = load()", "rtlib=load()"))
-        self.assertEqual(once("lib"), ("['lib'] 11 2047 True\n", 7))
-        write_program(self.tools / "rt", RT)
-        self.assertEqual(once("version"), ("kit of tests\n", 0))
 
 
 if __name__ == "__main__":
