@@ -3,8 +3,9 @@
 # rules are violated in it.
 #
 # Each of two planes has a grid of rectangles, which makes 1, 81, 353 or 1,001 strips; the rectangles are apart from
-# each other, so that no square is forbidden. The rules are the 4 of technology M, and then 40 of distances from 1 to 4.
-# The layout was checked before.
+# each other, so that no square is forbidden. The rules are the 4 of technology M, then 40 of distances from 1 to 4, and
+# then the 80 of a group of planes of Magic's scmos, as `clients/process compile` makes them, which needs Debian's magic and
+# Python 3.11. The layout was checked before.
 #
 #   check     `drc check` of the box that lies the rules' halo inside the piece, so that just the piece awaits checking,
 #             and `%step`, which reads the piece and the halo round it from both planes, and finds the forbidden squares
@@ -30,13 +31,13 @@ trap 'rm -rf "$work"' EXIT
 # turns and m1 over both, and checks them. Where there are 24 columns, rectangles are 6 squares wide and 4 apart
 cells() {
     echo '%open a'
-    awk -v rows="$1" -v columns="$2" 'BEGIN {
+    awk -v rows="$1" -v columns="$2" -v poly="${types[0]}" -v ndiff="${types[1]}" -v m1="${types[2]}" 'BEGIN {
         for (i = 0; i < rows; i++) for (j = 0; j < columns; j++) {
             height = int(256 / rows); bottom = height * i; top = bottom + int(height * 6 / 10)
             width = int(256 / columns); left = width * j; right = left + int(width * 6 / 10)
             printf "a box %d %d %d %d\n", left, bottom, right, top
-            print (i + j) % 2 == 0 ? "a paint poly" : "a paint ndiff"
-            print "a paint m1"
+            print "a paint", (i + j) % 2 == 0 ? poly : ndiff
+            print "a paint", m1
         }
     }'
     echo 'a drc catchup'
@@ -91,9 +92,15 @@ row() {
 }
 
 forty_rules > "$work/forty"
+"$here/clients/process" compile scmos -o "$work/scmos" > "$work/messages" 2>&1 || { cat "$work/messages" >&2; exit 1; }
 printf '%s\t%s\t%s\t%s\n' step rules strips us
-for rules in 4 40; do
-    if [ "$rules" = 4 ]; then words=() halo=4; else words=(--tech "$work/forty") halo=5; fi
+for rules in 4 40 80; do
+    types=(poly ndiff m1)
+    case $rules in
+        4) words=() halo=4 ;;
+        40) words=(--tech "$work/forty") halo=5 ;;
+        80) words=(--tech "$work/scmos/g0.tech") halo=13 types=(polysilicon ndiffusion metal1) ;;
+    esac
     for size in '0 0 1 20000' '5 7 81 4000' '11 15 353 1000' '20 24 1001 400'; do
         read -r rows columns strips n <<< "$size"
         cells "$rows" "$columns" > "$work/layout"
