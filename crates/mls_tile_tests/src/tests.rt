@@ -2,6 +2,5 @@
 mod painting;
 mod pieces;
 mod pools;
-mod replacements;
 mod sheet;
 mod tiles;

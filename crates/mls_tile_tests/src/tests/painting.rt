@@ -1,12 +1,10 @@
 //! Painting over planes of stitched tiles.
 ghost use Rattle.std.specs.Prelude.{◌≤◌, length};
 
-use crate::tests::pieces::{Sides, piece};
-use mls_geom::{Piece, Rect, RectFault};
-use mls_kinds::{Kind, KindSet};
+use crate::tests::pieces::piece;
+use mls_geom::Piece;
 use mls_paint::{
-    Scratch, TooManyTiles, find_area, fits, kinds, overlay, overlay_within, space_plane, strips_of,
-    tile_count,
+    Scratch, TooManyTiles, fits, overlay, overlay_within, space_plane, strips_of, tile_count,
 };
 use mls_stitch::Plane;
 use mls_tilepool::Pool;
@@ -104,21 +102,6 @@ impl Canvas {
             .iter()
             .map(|tile| tile.piece)
             .collect(alloc)
-    }
-
-    /// Returns the rectangles and kinds of the tiles of an area.
-    fn area(&mut self, alloc: Global, area: Rect) -> Result<Vec<Piece>, AllocError> {
-        find_area(&self.pool, &mut self.plane, area, &mut self.scratch);
-        self.scratch
-            .tiles()
-            .iter()
-            .map(|tile| tile.piece)
-            .collect(alloc)
-    }
-
-    /// Returns the kinds of the squares of a rectangle.
-    fn kinds(&mut self, rect: Rect) -> KindSet {
-        kinds(&self.pool, &mut self.plane, rect, &mut self.scratch)
     }
 }
 
@@ -248,124 +231,6 @@ fn turns_change_no_tile(rt: HostRuntime) -> Result<(), Fail> {
         expect_same_in_turns(&rt, rt.alloc(), turns)?;
     }
     Ok(())
-}
-
-/// The corners of the world, and the kinds that are painted there.
-const CORNERS: [(u8, Sides); 4] = [
-    (1, (-1048576, -1048576, -1048575, -1048575)),
-    (2, (1048575, -1048576, 1048576, -1048575)),
-    (3, (-1048576, 1048575, -1048575, 1048576)),
-    (63, (1048575, 1048575, 1048576, 1048576)),
-];
-
-/// Paints the corners.
-fn paint_corners(canvas: &mut Canvas) -> Result<(), Fail> {
-    for (kind, sides) in CORNERS {
-        canvas.paint(&[piece(kind, sides)?], 1024)?;
-    }
-    Ok(())
-}
-
-/// Asserts that each corner has its kind alone.
-fn expect_corners(rt: &impl Abort, canvas: &mut Canvas) -> Result<(), Fail> {
-    for (kind, sides) in CORNERS {
-        let corner = piece(kind, sides)?;
-        let found = canvas.kinds(corner.rect);
-        assert_eq!(rt; found.len(), 1, "at {sides:?}");
-        assert!(rt; found.contains(Kind::new(kind)), "at {sides:?}");
-    }
-    let all = canvas.kinds(Rect::world());
-    assert_eq!(rt; all.bits(), 0x8000_0000_0000_000F);
-    Ok(())
-}
-
-/// Returns the tiles that the leftmost column meets.
-fn leftmost_tiles() -> Result<[Piece; 3], RectFault> {
-    Ok([
-        piece(1, (-1048576, -1048576, -1048575, -1048575))?,
-        piece(0, (-1048576, -1048575, 1048576, 1048575))?,
-        piece(3, (-1048576, 1048575, -1048575, 1048576))?,
-    ])
-}
-
-/// Asserts that an area search of the leftmost column finds them.
-fn expect_leftmost_tiles(rt: &impl Abort, alloc: Global, canvas: &mut Canvas) -> Result<(), Fail> {
-    let left = leftmost_tiles()?;
-    let column = Rect::new(-1048576, -1048576, -1048575, 1048576)?;
-    let found = canvas.area(alloc, column)?;
-    assert_eq!(rt; found.as_slice(), left.as_slice());
-    Ok(())
-}
-
-#[test]
-fn all_corners_of_the_world(rt: HostRuntime) -> Result<(), Fail> {
-    let mut canvas = Canvas::new(rt.alloc())?;
-    paint_corners(&mut canvas)?;
-    expect_corners(&rt, &mut canvas)?;
-    expect_leftmost_tiles(&rt, rt.alloc(), &mut canvas)
-}
-
-/// Returns squares of 2 by 2 along a diagonal, each apart from the next.
-fn diagonal(alloc: Global, count: i32) -> Result<Vec<Piece>, Fail> {
-    let mut pieces = Vec::new(alloc);
-    for step in 0..count {
-        let low = step.saturating_mul(4).saturating_sub(8000);
-        let high = low.saturating_add(2);
-        pieces.push(piece(7, (low, low, high, high))?)?;
-    }
-    Ok(pieces)
-}
-
-/// Asserts that pieces which take one tile too many are refused, and leave the plane as it was.
-fn expect_refused(
-    rt: &impl Abort,
-    alloc: Global,
-    canvas: &mut Canvas,
-    pieces: &[Piece],
-) -> Result<(), Fail>
-    requires { length pieces.now ≤ 4000 }
-{
-    assert!(rt; !canvas.fits(pieces, 16_000));
-    assert_eq!(rt; canvas.paint(pieces, 16_000), Err(TooManyTiles));
-    let space = Piece {
-        rect: Rect::world(),
-        kind: Kind::SPACE,
-    };
-    assert_eq!(rt; canvas.pieces(alloc)?.as_slice(), [space].as_slice());
-    Ok(())
-}
-
-/// Asserts that they are painted at once where there is room for just their tiles.
-fn expect_painted(
-    rt: &impl Abort,
-    canvas: &mut Canvas,
-    pieces: &[Piece],
-) -> Result<(), TooManyTiles>
-    requires { length pieces.now ≤ 4000 }
-{
-    assert!(rt; canvas.fits(pieces, 16_001));
-    canvas.paint(pieces, 16_001)?;
-    assert_eq!(rt; canvas.tile_count(), 16_001);
-    Ok(())
-}
-
-/// Asserts the same of a plane of space.
-fn expect_limit(rt: &impl Abort, alloc: Global, pieces: &[Piece]) -> Result<(), Fail>
-    requires { length pieces.now ≤ 4000 }
-{
-    let mut canvas = Canvas::new(alloc)?;
-    expect_refused(rt, alloc, &mut canvas, pieces)?;
-    expect_painted(rt, &mut canvas, pieces)?;
-    Ok(())
-}
-
-#[test]
-fn overlay_of_4000_pieces(rt: HostRuntime) -> Result<(), Fail> {
-    let pieces = diagonal(rt.alloc(), 4000)?;
-    if pieces.len() > 4000 {
-        return Err(Fail::new("too many pieces"));
-    }
-    expect_limit(&rt, rt.alloc(), &pieces)
 }
 
 /// How many bars stand in the middle, and how many squares lie far to the left and to the right of them.

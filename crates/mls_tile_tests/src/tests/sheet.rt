@@ -1,19 +1,15 @@
 //! A plane of tiles in a pool of its own, as the tests see it.
-ghost use Rattle.std.specs.Prelude.{◌≡◌, ◌≢◌, ◌<◌, ◌≤◌, ℕ, IfOk, IsTrue, OnOk, Some, map};
-ghost use Rattle.mls_geom.specs.Locality.{HaveKinds, uncovered};
-ghost use Rattle.mls_geom.specs.Rects.{IsRectangleIn};
-ghost use Rattle.mls_geom.specs.World.{AreLegal, world};
-ghost use Rattle.mls_stitch.specs.Splits.{JoinInX, JoinInY};
+ghost use Rattle.std.specs.Prelude.{◌≡◌, ◌≢◌, ◌<◌, ◌≤◌, ℕ, IfOk, IsTrue, OnOk, Some};
+ghost use Rattle.mls_stitch.specs.Splits.{JoinInY};
 ghost use Rattle.mls_stitch.specs.Tilings.{HasPlane, block_at};
-ghost use Rattle.mls_stitch.specs.Areas.{AreInArea};
 ghost use Rattle.mls_tilepool.specs.Pools.{count_of, tiles_of};
 
 use crate::tests::pieces::{Sides, sides_of};
-use mls_geom::{Piece, Point, Rect, Scratch as Sweep, fresh_strips, strips};
+use mls_geom::{Piece, Point, Rect, Scratch as Sweep, strips};
 use mls_kinds::Kind;
 use mls_stitch::{LaidTile, Plane, Scratch};
 use mls_tilepool::{Pool, Tile, TileId};
-use std::alloc::{AllocError, Global};
+use std::alloc::Global;
 use std::marker::Model;
 use std::test::Fail;
 
@@ -31,73 +27,10 @@ pub struct Row {
     pub stitches: [Option<Square>; 4],
 }
 
-/// A line of a square, at which tiles are split and joined.
-#[derive(Clone, Copy)]
-pub enum Line {
-    Left,
-    Bottom,
-}
-
 /// Returns the coordinates of a square.
 fn square_of(at: Point) -> Square {
     let user = |coordinate: u32| (i64::from(coordinate) - 4_194_304) as i32;
     (user(at.column()), user(at.row()))
-}
-
-/// Returns the names of tiles.
-fn names_of(alloc: Global, tiles: &[LaidTile]) -> Result<Vec<TileId>, AllocError>
-    ensures { IfOk result (λ ids. ids.items ≡ map (λ tile. tile.id) tiles.now) }
-{
-    tiles.iter().map(|tile| tile.id).collect(alloc)
-}
-
-/// Returns the rectangles and kinds of tiles.
-fn pieces_of(alloc: Global, tiles: &[LaidTile]) -> Result<Vec<Piece>, AllocError>
-    ensures { IfOk result (λ pieces. pieces.items ≡ map (λ tile. tile.piece) tiles.now) }
-{
-    tiles.iter().map(|tile| tile.piece).collect(alloc)
-}
-
-/// Reads a piece.
-fn read(piece: Piece)
-    ensures kind { piece.kind < uncovered }
-    ensures legal { IsRectangleIn world piece.rect }
-{
-    let _kind = piece.kind.number();
-    let _area = piece.rect.area();
-}
-
-/// Reads each piece.
-fn read_all(pieces: &[Piece])
-    ensures kinds { HaveKinds pieces.now }
-    ensures legal { AreLegal pieces.now }
-{
-    for piece in pieces {
-        read(*piece);
-    }
-}
-
-/// Finds the tiles of an area, and leaves them in the scratch. Fails if the scratch has less room than the plane has
-/// tiles.
-fn find_area(plane: &mut Plane, pool: &Pool, area: Rect, scratch: &mut Scratch) -> Result<(), Fail>
-    requires { HasPlane pool.now plane.old }
-    ensures found { OnOk result (AreInArea (block_at (tiles_of pool.now plane.old)) area scratch.new.tiles) }
-    ensures room { OnOk result (count_of pool.now plane.old ≤ scratch.new.room) }
-    ensures plane { plane.new ≡ plane.old }
-{
-    if pool.count(plane.owner()) as usize > scratch.room() {
-        return Err(Fail::new("no room"));
-    }
-    plane.area(pool, area, scratch);
-    Ok(())
-}
-
-/// Returns whether the column's left line runs through the piece.
-fn cuts_x(piece: &Piece, x: u32) -> bool
-    ensures { IsTrue result → (piece.now.rect.left < x) × (x < piece.now.rect.right) }
-{
-    let sides = piece.rect.area();
-    sides.left < x && x < sides.right
 }
 
 /// Returns whether the row's bottom line runs through the piece.
@@ -106,14 +39,6 @@ fn cuts_y(piece: &Piece, y: u32) -> bool
 {
     let sides = piece.rect.area();
     sides.bottom < y && y < sides.top
-}
-
-/// Returns whether the second piece lies to the right of the first, along a whole side, and has its kind.
-fn join_in_x(a: &Piece, b: &Piece) -> bool
-    ensures { IsTrue result → JoinInX a.now b.now }
-{
-    let (p, q) = (a.rect.area(), b.rect.area());
-    q.left == p.right && q.bottom == p.bottom && q.top == p.top && b.kind == a.kind
 }
 
 /// Returns whether the second piece lies above the first, along a whole side, and has its kind.
@@ -132,33 +57,6 @@ pub fn check_room(pool: &Pool, plane: &Plane, scratch: &Scratch) -> Result<(), F
     if pool.count(plane.owner()) as usize > scratch.room() {
         return Err(Fail::new("no room"));
     }
-    Ok(())
-}
-
-/// Paints a piece: the tiles that it touches give way to the strips of what they and the piece cover.
-fn repaint(
-    alloc: Global,
-    pool: &mut Pool,
-    plane: &mut Plane,
-    piece: &Piece,
-    scratch: &mut Scratch,
-    sweep: &mut Sweep,
-) -> Result<(), Fail>
-    requires { HasPlane pool.old plane.old }
-    ensures { HasPlane pool.new plane.new }
-{
-    find_area(plane, pool, piece.rect.grow(1), scratch)?;
-    let names = names_of(alloc, scratch.tiles())?;
-    let mut pieces = pieces_of(alloc, scratch.tiles())?;
-    read(*piece);
-    read_all(&pieces);
-    let limit = ROOM as usize;
-    if pieces.len() >= limit || !sweep.holds(limit, limit) || scratch.room() < limit {
-        return Err(Fail::new("no room"));
-    }
-    pieces.push(*piece)?;
-    fresh_strips(&pieces, limit, sweep)?;
-    plane.replace(pool, &names, sweep.strips(), None, scratch)?;
     Ok(())
 }
 
@@ -241,12 +139,6 @@ impl Sheet {
         Some(square_of(tile.corner))
     }
 
-    /// Returns the lower-left square of the tile that is found at a square.
-    pub fn find(&mut self, x: i32, y: i32) -> Option<Square> {
-        let id = self.plane.find(&self.pool, Point::new(x, y)?);
-        self.corner(id)
-    }
-
     /// Returns the tile that holds a square.
     fn tile(&mut self, x: i32, y: i32) -> Result<LaidTile, Fail>
         ensures laid { IfOk result (λ tile. block_at self.old tile.id ≡ Some tile.piece) }
@@ -300,65 +192,35 @@ impl Sheet {
         Ok(rows)
     }
 
-    /// Splits the tile that holds a square at a line of the square.
-    pub fn split(&mut self, line: Line, x: i32, y: i32) -> Result<(), Fail> {
-        let square = Point::new(x, y).ok_or("no square")?;
-        let (column, row) = (square.column(), square.row());
+    /// Splits the tile that holds a square at the square's bottom line.
+    pub fn split(&mut self, x: i32, y: i32) -> Result<(), Fail> {
+        let row = Point::new(x, y).ok_or("no square")?.row();
         let LaidTile { id, piece } = self.tile(x, y)?;
         check_room(&self.pool, &self.plane, &self.scratch)?;
-        let has_room = self.scratch.room() >= 2;
-        match line {
-            Line::Left if has_room && cuts_x(&piece, column) => {
-                self.plane
-                    .split_x(&mut self.pool, id, column, &mut self.scratch)?;
-            }
-            Line::Bottom if has_room && cuts_y(&piece, row) => {
-                self.plane
-                    .split_y(&mut self.pool, id, row, &mut self.scratch)?;
-            }
-            _ => return Err(Fail::new("no line to split at")),
+        if self.scratch.room() < 2 || !cuts_y(&piece, row) {
+            return Err(Fail::new("no line to split at"));
         }
+        self.plane
+            .split_y(&mut self.pool, id, row, &mut self.scratch)?;
         Ok(())
     }
 
-    /// Joins the tiles on both sides of a line of a square.
-    pub fn join(&mut self, line: Line, x: i32, y: i32) -> Result<(), Fail> {
-        let (beside_x, beside_y) = match line {
-            Line::Left => (x.saturating_sub(1), y),
-            Line::Bottom => (x, y.saturating_sub(1)),
-        };
+    /// Joins the tile that holds a square with the one that holds the square below it.
+    pub fn join(&mut self, x: i32, y: i32) -> Result<(), Fail> {
         let LaidTile {
             id: first,
             piece: a,
-        } = self.tile(beside_x, beside_y)?;
+        } = self.tile(x, y.saturating_sub(1))?;
         let LaidTile {
             id: second,
             piece: b,
         } = self.tile(x, y)?;
         check_room(&self.pool, &self.plane, &self.scratch)?;
-        match line {
-            Line::Left if join_in_x(&a, &b) => {
-                self.plane
-                    .join_x(&mut self.pool, first, second, &mut self.scratch);
-            }
-            Line::Bottom if join_in_y(&a, &b) => {
-                self.plane
-                    .join_y(&mut self.pool, first, second, &mut self.scratch);
-            }
-            _ => return Err(Fail::new("no side to join at")),
+        if !join_in_y(&a, &b) {
+            return Err(Fail::new("no side to join at"));
         }
+        self.plane
+            .join_y(&mut self.pool, first, second, &mut self.scratch);
         Ok(())
-    }
-
-    /// Paints a piece.
-    pub fn paint(&mut self, alloc: Global, piece: Piece) -> Result<(), Fail> {
-        repaint(
-            alloc,
-            &mut self.pool,
-            &mut self.plane,
-            &piece,
-            &mut self.scratch,
-            &mut self.sweep,
-        )
     }
 }
