@@ -1,10 +1,10 @@
-//! Pieces with as many marks, sides and tiles in a row as there may be.
+//! A piece with as many sides and tiles in a row as there may be.
 use crate::tests::checks::piece;
 use crate::tests::layouts::Layout;
 use crate::tests::rule_files::{TWO_PLANES, rules_of_lines};
-use mls_checker::{Marks, check, why};
+use mls_checker::{check, why};
 use mls_edgerule::{RuleSet, Rules};
-use mls_geom::{Piece, Point, Rect};
+use mls_geom::{Piece, Rect};
 use std::alloc::{AllocError, Global};
 use std::process::Abort;
 use std::test::Fail;
@@ -15,12 +15,6 @@ const POLY: u8 = 1;
 const NDIFF: u8 = 2;
 
 const M1: u8 = 3;
-
-/// Rules that mark poly under each row of metal, and diffusion under each row of space above one.
-const CHEQUER_RULES: [&str; 2] = [
-    "edge space m1 1 space,ndiff 0 0 \"poly under metal\" active",
-    "edge m1 space 1 space,poly 0 0 \"diffusion beside metal\" active",
-];
 
 /// Returns columns one square wide beside each other, of poly and diffusion by turns.
 fn columns(alloc: Global, from: i32, to: i32) -> Result<Vec<Piece>, Fail> {
@@ -48,46 +42,6 @@ fn lattice(alloc: Global, from: i32, to: i32) -> Result<Layout, Fail> {
     let columns = columns(alloc, from, to)?;
     let rows = rows(alloc, from, to)?;
     Layout::new(alloc)?.with(&columns)?.with(&rows)
-}
-
-/// Asserts that a square is marked, and the one below or above it is not.
-fn expect_alone(rt: &impl Abort, marks: &Marks, x: i32, y: i32) -> Result<(), Fail> {
-    let square = Point::new(x, y).ok_or("no square")?;
-    let beside = Point::new(x, y ^ 1).ok_or("no square")?;
-    assert!(rt; marks.is_marked(square), "at {x}, {y}");
-    assert!(rt; !marks.is_marked(beside), "below or above {x}, {y}");
-    Ok(())
-}
-
-/// Asserts that marks are every second square of a piece.
-fn expect_chequered(rt: &impl Abort, marks: &Marks) -> Result<(), Fail> {
-    assert_eq!(rt; marks.areas().len(), 33_800);
-    for (x, y) in [(0, 0), (1, 1), (100, 100), (257, 257), (259, 259), (259, 1)] {
-        expect_alone(rt, marks, x, y)?;
-    }
-    Ok(())
-}
-
-/// Asserts that every second square of a piece is marked, as on a chequer.
-fn expect_chequer(
-    rt: &impl Abort,
-    alloc: Global,
-    rules: &Rules,
-    layout: &mut Layout,
-    looked: Rect,
-) -> Result<(), Fail> {
-    let snapshot = layout.snapshot(alloc, looked.grow(rules.halo()))?;
-    assert_eq!(rt; why(rules, &snapshot, looked).bits(), 0b11);
-    let finding = check(alloc, rules, snapshot, looked)?;
-    expect_chequered(rt, finding.marks())
-}
-
-#[test]
-fn chequer_of_marks(rt: HostRuntime) -> Result<(), Fail> {
-    let rules = rules_of_lines(rt.alloc(), TWO_PLANES, &CHEQUER_RULES)?;
-    let looked = Rect::new(0, 0, 260, 260)?;
-    let mut layout = lattice(rt.alloc(), -10, 270)?;
-    expect_chequer(&rt, rt.alloc(), &rules, &mut layout, looked)
 }
 
 /// Rules of the greatest distance.
