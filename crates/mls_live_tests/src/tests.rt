@@ -1,11 +1,11 @@
 //! The tests, and what they share.
 mod commands;
+mod few_turns;
 mod gates;
 mod holding;
 mod in_hand;
 mod many_seats;
 mod moments;
-mod refused_seats;
 mod retiring;
 mod servers;
 mod settling;
@@ -13,7 +13,6 @@ mod stages;
 mod stories;
 
 use crate::tests::many_seats::MANY;
-use crate::tests::refused_seats::TWO;
 use crate::tests::servers::SMALL;
 use crate::tests::stories::{Story, play};
 use std::test::Fail;
@@ -44,18 +43,8 @@ fn notices_and_channels(rt: HostRuntime) -> Result<(), Fail> {
 }
 
 #[test]
-fn seats_of_a_small_pool(rt: HostRuntime) -> Result<(), Fail> {
-    play(&rt, rt.alloc(), TWO, Story::SmallPool)
-}
-
-#[test]
-fn save_at_a_seat(rt: HostRuntime) -> Result<(), Fail> {
-    play(&rt, rt.alloc(), SMALL, Story::Saving)
-}
-
-#[test]
 fn worker_of_no_turns(rt: HostRuntime) -> Result<(), Fail> {
-    play(&rt, rt.alloc(), SMALL, Story::NoTurns)
+    play(&rt, rt.alloc(), SMALL, Story::FewTurns)
 }
 
 #[test]

@@ -30,16 +30,6 @@ fn name_of(number: u8) -> [u8; 2] {
     [b'a'.wrapping_add(number / 8), b'a'.wrapping_add(number % 8)]
 }
 
-/// How often a session was refused because one of its name is open, and then because sessions are full, until it was
-/// opened.
-#[derive(Clone, Copy, Debug)]
-struct Refusals {
-    already: u32,
-    full: u32,
-    other: u32,
-    is_opened: bool,
-}
-
 /// A session is opened anew under the name of one whose seat is being retired with all others.
 pub fn retire_many<N: Naming + Send + Sync, R: Threads + Wait + Clock + Abort + Sync>(
     stage: &Stage<'_, N, R>,
@@ -49,9 +39,9 @@ pub fn retire_many<N: Naming + Send + Sync, R: Threads + Wait + Clock + Abort + 
     let seats = many(stage)?;
     stage.expect_refused(b"x", OpenFault::SessionsFull)?;
     stage.expect_refused(b"aa", OpenFault::OpenAlready)?;
-    let (retired, refusals) = retire_beside(stage, seats)?;
+    let (retired, is_opened) = retire_beside(stage, seats)?;
     assert_eq!(stage.rt; retired.out, 0);
-    assert!(stage.rt; refusals.is_opened && refusals.other == 0, "{refusals:?}");
+    assert!(stage.rt; is_opened, "another refusal");
     let _other = stage.seat(b"x")?;
     Ok(())
 }
@@ -69,13 +59,13 @@ fn many<'s, N: Naming, R: Wait + Abort>(stage: &Stage<'s, N, R>) -> Result<Vec<S
 fn retire_beside<N: Naming + Send + Sync, R: Threads + Wait + Abort + Sync>(
     stage: &Stage<'_, N, R>,
     seats: Vec<Seat<'_, N>>,
-) -> Result<(Retired, Refusals), Fail>
+) -> Result<(Retired, bool), Fail>
     requires { N.parts ≡ 65 }
 {
     thread::scope(
         thread::scope_env(),
         stage.rt,
-        move |scope| -> Result<(Retired, Refusals), Fail>
+        move |scope| -> Result<(Retired, bool), Fail>
             requires { N.parts ≡ 65 }
         {
             let opener = scope.spawn(move || open_again(stage))?;
@@ -85,31 +75,20 @@ fn retire_beside<N: Naming + Send + Sync, R: Threads + Wait + Abort + Sync>(
     )
 }
 
-/// Asks for the session of the last seat until it is opened. Its seat is then dropped.
-fn open_again<N: Naming, R: Wait>(stage: &Stage<'_, N, R>) -> Refusals {
-    let mut refusals = Refusals {
-        already: 0,
-        full: 0,
-        other: 0,
-        is_opened: false,
-    };
+/// Asks for the session of the last seat until it is opened, and returns whether it was refused because it is open, and
+/// then because sessions are full. Its seat is then dropped.
+fn open_again<N: Naming, R: Wait>(stage: &Stage<'_, N, R>) -> bool {
     let Some(name) = Name::new(&name_of(MOST - 1)) else {
-        return refusals;
+        return false;
     };
+    let mut is_closed = false;
     for _ in 0..MOST_ASKED {
         match stage.live.seat(stage.rt, stage.alloc, name).err() {
-            None => {
-                refusals.is_opened = true;
-                break;
-            }
-            Some(OpenFault::OpenAlready) if refusals.full == 0 => {
-                refusals.already = refusals.already.saturating_add(1);
-            }
-            Some(OpenFault::SessionsFull) => {
-                refusals.full = refusals.full.saturating_add(1);
-            }
-            Some(_) => refusals.other = refusals.other.saturating_add(1),
+            None => return true,
+            Some(OpenFault::OpenAlready) if !is_closed => {}
+            Some(OpenFault::SessionsFull) => is_closed = true,
+            Some(_) => return false,
         }
     }
-    refusals
+    false
 }

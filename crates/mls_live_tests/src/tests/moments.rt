@@ -1,13 +1,11 @@
 //! Seats that are retired while a check runs, notices of closed sessions, and channels whose other end is gone.
-//!
-//! A worker that doesn't end in time fails its test.
 ghost use Rattle.std.specs.Prelude.{◌≡◌};
 
 use crate::tests::commands::{THIN_BAR, THIN_BAR_ERRORS};
-use crate::tests::gates::{Flag, UntilReleased};
+use crate::tests::gates::UntilReleased;
 use crate::tests::stages::Stage;
 use crossbeam_channel::Receiver;
-use mls_live::{Gate, Naming, Plain, Seat, Worked};
+use mls_live::{Naming, Plain, Seat, Worked};
 use mls_server::SessionId;
 use mls_session::Command;
 use std::alloc::Global;
@@ -15,70 +13,30 @@ use std::process::Abort;
 use std::sync::Wait;
 use std::test::Fail;
 use std::thread;
-use std::thread::{JoinHandle, Threads};
+use std::thread::Threads;
 use std::time::Clock;
 
 /// How many notices wait at once.
 const NOTICES: u32 = 1_000_000;
 
-/// How often the end of a worker is waited for, each time as long as a thread waits for another.
-const WAITS: u32 = 4;
-
-/// No checks.
-const NOTHING: Worked = Worked {
-    finished: 0,
-    stale: 0,
-    full: 0,
-    refused: 0,
-};
-
-/// Works until the notices end, or so many turns are taken, and says that it has ended.
-fn work_to_the_end<N: Naming, G: Gate, R: Wait + Abort>(
-    stage: &Stage<'_, N, R>,
-    notices: Receiver<SessionId, Global>,
-    (gate, turns): (&G, u64),
-    ended: &Flag,
-) -> Worked {
-    let worked = stage.work(notices, gate, turns);
-    ended.raise();
-    worked
-}
-
-/// Returns what a worker did, which ends in time.
-fn joined<R: Threads + Wait + Clock + Abort>(
-    rt: &R,
-    worker: JoinHandle<Worked>,
-    ended: &Flag,
-) -> Worked {
-    let in_time = (0..WAITS).any(|_| ended.wait(rt));
-    assert!(rt; in_time, "the worker hasn't ended");
-    worker.join(rt)
-}
-
-/// Asserts how many checks a worker finishes, in a thread of its own, and that none of its checks ends in another way.
-fn expect_finished<N: Naming + Send + Sync, R: Threads + Wait + Clock + Abort + Sync>(
-    stage: &Stage<'_, N, R>,
-    notices: Receiver<SessionId, Global>,
-    turns: u64,
-    finished: u64,
-) -> Result<(), Fail> {
-    let flag = Flag::new();
-    let ended = &flag;
-    let worked = thread::scope(
-        thread::scope_env(),
-        stage.rt,
-        move |scope| -> Result<Worked, Fail> {
-            let task = (&Plain, turns);
-            let worker = scope.spawn(move || work_to_the_end(stage, notices, task, ended))?;
-            Ok(joined(stage.rt, worker, ended))
-        },
-    )?;
-    let wanted = Worked {
+/// Returns what a worker says that finished so many checks, and whose checks ended in no other way.
+fn only_finished(finished: u64) -> Worked {
+    Worked {
         finished,
-        ..NOTHING
-    };
-    assert_eq!(stage.rt; worked, wanted);
-    Ok(())
+        stale: 0,
+        full: 0,
+        refused: 0,
+    }
+}
+
+/// Asserts how many checks a worker finishes, and that none of its checks ends in another way.
+fn expect_finished<N: Naming, R: Wait + Abort>(
+    stage: &Stage<'_, N, R>,
+    notices: Receiver<SessionId, Global>,
+    finished: u64,
+) {
+    let worked = stage.work(notices, &Plain, u64::MAX);
+    assert_eq!(stage.rt; worked, only_finished(finished));
 }
 
 /// Closes the session of a seat.
@@ -122,19 +80,16 @@ fn close_beside_worker<N: Naming + Send + Sync, R: Threads + Wait + Clock + Abor
 {
     let mut a = stage.seat(b"a")?;
     let notices = stage.notices_of(&mut a)?;
-    let flag = Flag::new();
-    let ended = &flag;
     thread::scope(
         thread::scope_env(),
         stage.rt,
         move |scope| -> Result<(), Fail>
             requires { N.parts ≡ 65 }
         {
-            let task = (gate, u64::MAX);
-            let worker = scope.spawn(move || work_to_the_end(stage, notices, task, ended))?;
+            let worker = scope.spawn(move || stage.work(notices, gate, u64::MAX))?;
             let mut a = open_in_mid_check(stage, a, gate, is_drawn_again)?;
             gate.released.raise();
-            assert_eq!(stage.rt; joined(stage.rt, worker, ended), NOTHING);
+            assert_eq!(stage.rt; worker.join(stage.rt), only_finished(0));
             stage.expect_count(&mut a, 0, usize::from(is_drawn_again));
             close(stage, a)
         },
@@ -163,23 +118,18 @@ fn open_in_mid_check<'s, N: Naming, R: Wait + Clock + Abort>(
 }
 
 /// Notices that count for nothing, many notices, and channels and seats that are dropped.
-pub fn try_channels<N: Naming + Send + Sync, R: Threads + Wait + Clock + Abort + Sync>(
-    stage: &Stage<'_, N, R>,
-) -> Result<(), Fail>
+pub fn try_channels<N: Naming, R: Wait + Abort>(stage: &Stage<'_, N, R>) -> Result<(), Fail>
     requires { N.parts ≡ 65 }
 {
     odd_notices(stage)?;
     many_notices(stage)?;
     no_receiver(stage)?;
-    late_worker(stage)?;
     no_sender(stage)?;
     seat_dropped_early(stage)
 }
 
 /// Among notices of a session that was closed and of ids that were never given is one that counts.
-fn odd_notices<N: Naming + Send + Sync, R: Threads + Wait + Clock + Abort + Sync>(
-    stage: &Stage<'_, N, R>,
-) -> Result<(), Fail>
+fn odd_notices<N: Naming, R: Wait + Abort>(stage: &Stage<'_, N, R>) -> Result<(), Fail>
     requires { N.parts ≡ 65 }
 {
     let closed = stage.bar_seat(b"closed")?;
@@ -188,11 +138,11 @@ fn odd_notices<N: Naming + Send + Sync, R: Threads + Wait + Clock + Abort + Sync
     let open = stage.bar_seat(b"open")?;
     let ids = [id, SessionId::of(0), SessionId::of(u64::MAX), open.id(), id];
     send_and_work(stage, &ids, 1)?;
-    close_checked(stage, open)
+    close_counted(stage, open, THIN_BAR_ERRORS, 0)
 }
 
-/// Sends notices over and over, and asserts that a worker then finishes one check.
-fn send_and_work<N: Naming + Send + Sync, R: Threads + Wait + Clock + Abort + Sync>(
+/// Sends notices over and over, and asserts that a worker then finishes one check, or none where there are no notices.
+fn send_and_work<N: Naming, R: Wait + Abort>(
     stage: &Stage<'_, N, R>,
     ids: &[SessionId],
     rounds: u32,
@@ -204,29 +154,30 @@ fn send_and_work<N: Naming + Send + Sync, R: Threads + Wait + Clock + Abort + Sy
         }
     }
     drop(to);
-    expect_finished(stage, from, u64::MAX, 1)
+    expect_finished(stage, from, u64::from(!ids.is_empty()));
+    Ok(())
 }
 
-/// Asserts that the bar of a session is checked, and closes the session.
-fn close_checked<N: Naming, R: Wait + Abort>(
+/// Asserts how many squares of a session are marked and how many areas await checking, and closes the session.
+fn close_counted<N: Naming, R: Wait + Abort>(
     stage: &Stage<'_, N, R>,
     mut seat: Seat<'_, N>,
+    errors: u64,
+    pending: usize,
 ) -> Result<(), Fail>
     requires { N.parts ≡ 65 }
 {
-    stage.expect_count(&mut seat, THIN_BAR_ERRORS, 0);
+    stage.expect_count(&mut seat, errors, pending);
     close(stage, seat)
 }
 
 /// A million notices wait, all of one session.
-fn many_notices<N: Naming + Send + Sync, R: Threads + Wait + Clock + Abort + Sync>(
-    stage: &Stage<'_, N, R>,
-) -> Result<(), Fail>
+fn many_notices<N: Naming, R: Wait + Abort>(stage: &Stage<'_, N, R>) -> Result<(), Fail>
     requires { N.parts ≡ 65 }
 {
     let seat = stage.bar_seat(b"many")?;
     send_and_work(stage, &[seat.id()], NOTICES)?;
-    close_checked(stage, seat)
+    close_counted(stage, seat, THIN_BAR_ERRORS, 0)
 }
 
 /// The receiver is gone, and the seat goes on.
@@ -238,52 +189,25 @@ fn no_receiver<N: Naming, R: Wait + Abort>(stage: &Stage<'_, N, R>) -> Result<()
     stage.expect_painted(&mut seat, THIN_BAR);
     stage.expect_count(&mut seat, 0, 1);
     stage.expect_done(&mut seat, Command::CatchUp);
-    stage.expect_count(&mut seat, THIN_BAR_ERRORS, 0);
-    stage.expect_audited(&seat, 5);
-    close(stage, seat)
-}
-
-/// The first worker starts after all paints, and ends after its first turn; the next one takes what is left.
-fn late_worker<N: Naming + Send + Sync, R: Threads + Wait + Clock + Abort + Sync>(
-    stage: &Stage<'_, N, R>,
-) -> Result<(), Fail>
-    requires { N.parts ≡ 65 }
-{
-    let (to, from) = crossbeam_channel::unbounded(stage.alloc)?;
-    let mut a = stage.seat(b"a")?;
-    let mut b = stage.seat(b"b")?;
-    a.notify(to.clone()?);
-    b.notify(to);
-    stage.expect_painted(&mut a, THIN_BAR);
-    stage.expect_painted(&mut b, THIN_BAR);
-    expect_finished(stage, from.clone()?, 1, 1)?;
-    stage.expect_count(&mut b, 0, 1);
-    close_checked(stage, a)?;
-    expect_finished(stage, from, 1, 1)?;
-    close_checked(stage, b)
+    stage.expect_audited(&seat, 4);
+    close_counted(stage, seat, THIN_BAR_ERRORS, 0)
 }
 
 /// The sender is dropped before a worker starts, which ends at once.
-fn no_sender<N: Naming + Send + Sync, R: Threads + Wait + Clock + Abort + Sync>(
-    stage: &Stage<'_, N, R>,
-) -> Result<(), Fail>
+fn no_sender<N: Naming, R: Wait + Abort>(stage: &Stage<'_, N, R>) -> Result<(), Fail>
     requires { N.parts ≡ 65 }
 {
-    let (to, from) = crossbeam_channel::unbounded::<SessionId, Global>(stage.alloc)?;
-    drop(to);
-    let mut seat = stage.bar_seat(b"quiet")?;
-    expect_finished(stage, from, u64::MAX, 0)?;
-    stage.expect_count(&mut seat, 0, 1);
-    close(stage, seat)
+    let seat = stage.bar_seat(b"quiet")?;
+    send_and_work(stage, &[], 0)?;
+    close_counted(stage, seat, 0, 1)
 }
 
 /// A seat is dropped with its sender, and not retired: its session stays open, and what it left is checked.
-fn seat_dropped_early<N: Naming + Send + Sync, R: Threads + Wait + Clock + Abort + Sync>(
-    stage: &Stage<'_, N, R>,
-) -> Result<(), Fail> {
+fn seat_dropped_early<N: Naming, R: Wait + Abort>(stage: &Stage<'_, N, R>) -> Result<(), Fail> {
     let mut seat = stage.seat(b"dropped")?;
     let notices = stage.notices_of(&mut seat)?;
     stage.expect_painted(&mut seat, THIN_BAR);
     drop(seat);
-    expect_finished(stage, notices, u64::MAX, 1)
+    expect_finished(stage, notices, 1);
+    Ok(())
 }

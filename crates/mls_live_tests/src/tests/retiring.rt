@@ -56,11 +56,23 @@ pub fn retire_four<N: Naming, R: Wait + Abort>(stage: &Stage<'_, N, R>) -> Resul
     requires { N.parts ≡ 65 }
 {
     let [a, b, c, d] = &DRAWINGS;
-    let first = vec![in stage.alloc; drawn(stage, a)?, drawn(stage, b)?]?;
-    let last = vec![in stage.alloc; drawn(stage, c)?, drawn(stage, d)?]?;
+    let first = both_drawn(stage, [a, b])?;
+    let last = both_drawn(stage, [c, d])?;
     expect_retired(stage, first, 10, 2);
     expect_retired(stage, last, 22, 0);
     Ok(())
+}
+
+/// Opens sessions for two drawings.
+fn both_drawn<'s, N: Naming, R: Wait + Abort>(
+    stage: &Stage<'s, N, R>,
+    drawings: [&Drawing; 2],
+) -> Result<Vec<Seat<'s, N>>, Fail> {
+    let mut seats = Vec::new(stage.alloc);
+    for drawing in drawings {
+        seats.push(drawn(stage, drawing)?)?;
+    }
+    Ok(seats)
 }
 
 /// Opens a session for a drawing, and returns its seat once the squares are counted and the list is audited.

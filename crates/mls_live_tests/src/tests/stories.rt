@@ -3,11 +3,11 @@ ghost use Rattle.std.specs.Prelude.{◌≡◌, []};
 ghost use Rattle.mls_server.specs.Servers.{world_of};
 ghost use Rattle.mls_server.specs.Settings.{terms_for};
 
+use crate::tests::few_turns::end_workers;
 use crate::tests::holding::{check_two, paint_held};
 use crate::tests::in_hand::check_two_pieces;
 use crate::tests::many_seats::retire_many;
 use crate::tests::moments::{close_twice, try_channels};
-use crate::tests::refused_seats::{end_worker, refuse_seats, save};
 use crate::tests::retiring::retire_four;
 use crate::tests::servers::{Room, new_server};
 use crate::tests::settling::settle;
@@ -31,9 +31,7 @@ pub enum Story {
     ManySeats,
     ClosedInMidCheck,
     Channels,
-    SmallPool,
-    Saving,
-    NoTurns,
+    FewTurns,
     Retiring,
     Settling,
     TwoPieces,
@@ -53,9 +51,7 @@ impl Story {
             Story::ManySeats => retire_many(stage),
             Story::ClosedInMidCheck => close_twice(stage),
             Story::Channels => try_channels(stage),
-            Story::SmallPool => refuse_seats(stage),
-            Story::Saving => save(stage),
-            Story::NoTurns => end_worker(stage),
+            Story::FewTurns => end_workers(stage),
             Story::Retiring => retire_four(stage),
             Story::Settling => settle(stage),
             Story::TwoPieces => check_two_pieces(stage),
