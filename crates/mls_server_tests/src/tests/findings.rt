@@ -1,14 +1,13 @@
 //! Findings that come back to a server after its sessions have changed.
 use crate::tests::servers::{
-    cell_named, close, command, finish, finish_ref, found, grab_fault, has_journal, journal_len,
-    new_server, open, run, save, step, stocked_server,
+    cell_named, close, command, finish, finish_ref, found, new_server, open, stocked_server,
 };
 use mls_checker::Finding;
 use mls_errorplane::Outcome;
 use mls_geom::Rect;
 use mls_kinds::{Kind, KindSet};
-use mls_server::{Answer, Event, GrabFault, Name, NotOpen, Server, SessionId};
-use mls_session::{Command, Quota, Reply};
+use mls_server::{NotOpen, Server, SessionId};
+use mls_session::{Command, Reply};
 use mls_tech::TECHNOLOGY_M;
 use std::alloc::Global;
 use std::process::Abort;
@@ -130,7 +129,7 @@ fn expect_finished(rt: &impl Abort, alloc: Global, server: &mut Server) -> Resul
 
 /// A server with technology M.
 fn usual_server(alloc: Global) -> Result<Server, Fail> {
-    new_server(alloc, TECHNOLOGY_M, Quota::default())
+    new_server(alloc, TECHNOLOGY_M)
 }
 
 #[test]
@@ -167,18 +166,10 @@ fn expect_strangers(rt: &impl Abort, alloc: Global, server: &mut Server) -> Resu
     Ok(())
 }
 
-/// Findings are judged by what a session shows, and ids that were never given are open nowhere.
-fn expect_others(rt: &impl Abort, alloc: Global, server: &mut Server) -> Result<(), Fail> {
-    expect_strangers(rt, alloc, server)?;
-    expect_not_open(rt, alloc, server, SessionId::of(0));
-    expect_not_open(rt, alloc, server, SessionId::of(5));
-    Ok(())
-}
-
 #[test]
 fn findings_of_other_sessions(rt: HostRuntime) -> Result<(), Fail> {
     let mut server = usual_server(rt.alloc())?;
-    expect_others(&rt, rt.alloc(), &mut server)
+    expect_strangers(&rt, rt.alloc(), &mut server)
 }
 
 /// Asserts that a finding is stale in a session with the bar that it was made for.
@@ -202,7 +193,7 @@ fn found_round_bar(rt: &impl Abort, alloc: Global, server: &mut Server) -> Resul
 
 /// Returns what a server with other rules finds in the bar.
 fn found_under_other_rules(rt: &impl Abort, alloc: Global) -> Result<Finding, Fail> {
-    let mut other = new_server(alloc, OTHER_RULES, Quota::default())?;
+    let mut other = new_server(alloc, OTHER_RULES)?;
     found_round_bar(rt, alloc, &mut other)
 }
 
@@ -362,64 +353,4 @@ fn expect_placed(rt: &impl Abort, alloc: Global, server: &mut Server) -> Result<
 fn findings_beside_placed_cells(rt: HostRuntime) -> Result<(), Fail> {
     let mut server = stocked_server(rt.alloc(), NAME, CELL)?;
     expect_placed(&rt, rt.alloc(), &mut server)
-}
-
-/// Asserts that an id that was never given is open nowhere.
-fn expect_not_open(rt: &impl Abort, alloc: Global, server: &mut Server, id: SessionId) {
-    expect_no_reply(rt, command(alloc, server, id, Command::Count));
-    expect_no_reply(rt, save(alloc, server, id));
-    assert_eq!(rt; grab_fault(alloc, server, id), Some(GrabFault::NotOpen));
-    assert_eq!(rt; step(alloc, server, id), Err(NotOpen));
-    expect_no_journal(rt, server, id);
-    assert_eq!(rt; close(server, id), Err(NotOpen));
-}
-
-/// Asserts that a command had no session.
-fn expect_no_reply(rt: &impl Abort, replied: Result<Reply, NotOpen>) {
-    assert_eq!(rt; replied, Err(NotOpen));
-}
-
-/// Asserts that a session has no journal.
-fn expect_no_journal(rt: &impl Abort, server: &Server, id: SessionId) {
-    assert_eq!(rt; journal_len(server, id), None);
-    assert!(rt; !has_journal(server, id));
-}
-
-/// What a server without sessions answers to events of which some name a session by an id that was never given.
-fn answers(alloc: Global, server: &mut Server) -> Result<Vec<Answer>, Fail> {
-    let name = Name::new(b"a").ok_or("no name")?;
-    let events = [
-        Event::Command(SessionId::of(1), Command::Count),
-        Event::Open(name),
-        Event::Command(SessionId::of(2), Command::Count),
-        Event::Step(SessionId::of(2)),
-        Event::Steps(SessionId::of(2), 3),
-        Event::Save(SessionId::of(2)),
-        Event::Close(SessionId::of(1)),
-        Event::Close(SessionId::of(1)),
-    ];
-    Ok(run(alloc, server, &events)?)
-}
-
-/// Asserts that the opening and the first closing alone were answered.
-fn expect_answers(rt: &impl Abort, answers: &[Answer]) -> Result<(), Fail> {
-    let [first, opened, command, step, steps, saved, closed, again] = answers else {
-        return Err("other answers".into());
-    };
-    assert!(rt; matches!(first, Answer::Commanded(Err(NotOpen))));
-    assert!(rt; matches!(opened, Answer::Opened(Ok(_))));
-    assert!(rt; matches!(command, Answer::Commanded(Err(NotOpen))));
-    assert!(rt; matches!(step, Answer::Stepped(Err(NotOpen))));
-    assert!(rt; matches!(steps, Answer::SteppedTimes(Err(NotOpen))));
-    assert!(rt; matches!(saved, Answer::Saved(Err(NotOpen), _)));
-    assert!(rt; matches!(closed, Answer::Closed(Ok(()))));
-    assert!(rt; matches!(again, Answer::Closed(Err(NotOpen))));
-    Ok(())
-}
-
-#[test]
-fn events_with_ids_that_were_never_given(rt: HostRuntime) -> Result<(), Fail> {
-    let mut server = usual_server(rt.alloc())?;
-    let answers = answers(rt.alloc(), &mut server)?;
-    expect_answers(&rt, &answers)
 }

@@ -7,40 +7,23 @@ ghost use Rattle.std.specs.Prelude.{◌≡◌, [], IfOk};
 ghost use Rattle.mls_server.specs.Servers.{world_of};
 
 use mls_checker::{Finding, check};
-use mls_edgerule::{Rules, compile};
-use mls_errorplane::{Outcome, Stepped};
+use mls_edgerule::compile;
+use mls_errorplane::Outcome;
 use mls_library::{CellFault, CellId};
-use mls_server::{Answer, Capacity, Event, GrabFault, Limits, Name, NotOpen, Server, SessionId};
-use mls_session::{Command, Job, Quota, Reply};
+use mls_server::{Capacity, Limits, Name, NotOpen, Server, SessionId};
+use mls_session::{Command, Job, Reply};
 use mls_tech::{TECHNOLOGY_M, Tech};
-use std::alloc::{AllocError, Global};
+use std::alloc::Global;
 use std::test::Fail;
 
-/// Starts a server on which no session is open.
-fn start(alloc: Global, tech: Tech, rules: Rules, limits: Limits) -> Result<Server, AllocError>
+/// A server with the technology of a file, on which no session is open.
+pub fn new_server(alloc: Global, file: &[u8]) -> Result<Server, Fail>
     ensures { IfOk result (λ server. (world_of server).seats ≡ []) }
 {
-    Server::new(alloc, tech, rules, Capacity::default(), limits)
-}
-
-/// A server with the technology of a file.
-pub fn new_server(alloc: Global, file: &[u8], quota: Quota) -> Result<Server, Fail> {
     let tech = Tech::read(alloc, file)?;
     let rules = compile(&tech)?;
-    let limits = Limits {
-        quota,
-        ..Limits::default()
-    };
-    Ok(start(alloc, tech, rules, limits)?)
-}
-
-/// A server with technology M, on which no session is open.
-fn idle_server(alloc: Global) -> Result<Server, Fail>
-    ensures { IfOk result (λ server. (world_of server).seats ≡ []) }
-{
-    let tech = Tech::read(alloc, TECHNOLOGY_M)?;
-    let rules = compile(&tech)?;
-    Ok(start(alloc, tech, rules, Limits::default())?)
+    let (capacity, limits) = (Capacity::default(), Limits::default());
+    Ok(Server::new(alloc, tech, rules, capacity, limits)?)
 }
 
 /// Loads a cell.
@@ -52,7 +35,7 @@ fn load(alloc: Global, server: &mut Server, name: &[u8], file: &[u8]) -> Result<
 
 /// A server with technology M and a cell.
 pub fn stocked_server(alloc: Global, name: &[u8], file: &[u8]) -> Result<Server, Fail> {
-    let mut server = idle_server(alloc)?;
+    let mut server = new_server(alloc, TECHNOLOGY_M)?;
     load(alloc, &mut server, name, file)?;
     Ok(server)
 }
@@ -85,22 +68,6 @@ pub fn command(
     server.command(alloc, id, command)
 }
 
-/// Saves the layout of a session, and returns the reply.
-pub fn save(alloc: Global, server: &mut Server, id: SessionId) -> Result<Reply, NotOpen> {
-    let mut text = Vec::new(alloc);
-    server.save(id, &mut text)
-}
-
-/// Does a check step in a session.
-pub fn step(alloc: Global, server: &mut Server, id: SessionId) -> Result<Stepped, NotOpen> {
-    server.step(alloc, id)
-}
-
-/// Why a session has no answer to whether it has a job.
-pub fn grab_fault(alloc: Global, server: &mut Server, id: SessionId) -> Option<GrabFault> {
-    server.grab(alloc, id).err()
-}
-
 /// Checks the first piece of a session.
 pub fn found(alloc: Global, server: &mut Server, id: SessionId) -> Option<Finding> {
     let Ok(Some(job)) = server.grab(alloc, id) else {
@@ -126,23 +93,4 @@ pub fn finish_ref(
     finding: &Finding,
 ) -> Result<Outcome, NotOpen> {
     server.finish_ref(id, finding)
-}
-
-/// How many entries the journal of a session has.
-pub fn journal_len(server: &Server, id: SessionId) -> Option<usize> {
-    server.journal_len(id)
-}
-
-/// Whether a session has a journal.
-pub fn has_journal(server: &Server, id: SessionId) -> bool {
-    server.journal(id).is_some()
-}
-
-/// Answers events.
-pub fn run(
-    alloc: Global,
-    server: &mut Server,
-    events: &[Event],
-) -> Result<Vec<Answer>, AllocError> {
-    server.run(alloc, events)
 }
