@@ -121,7 +121,7 @@ fn stepped(alloc: Global, server: &mut Server, count: u8) -> Returned {
 }
 
 /// Prints how loading a cell ended.
-fn print_loaded<R: Print>(rt: &R, loaded: Option<Result<CellId, CellFault>>) -> Result<()> {
+pub fn print_loaded<R: Print>(rt: &R, loaded: Option<Result<CellId, CellFault>>) -> Result<()> {
     match loaded {
         Some(Ok(_)) => println!(rt; "loaded")?,
         Some(Err(fault)) => {

@@ -10,7 +10,6 @@ mod calls;
 mod checks;
 mod frugal;
 mod libraries;
-mod looks;
 mod making;
 mod ready;
 mod rows;

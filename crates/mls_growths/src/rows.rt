@@ -9,7 +9,6 @@ use crate::frugal::FrugalCall::{
 };
 use crate::frugal::{FrugalCall, FrugalScene};
 use crate::libraries::LibraryScene;
-use crate::looks::LookScene;
 use crate::making::{Made, Making};
 use crate::runs::{Change, RunScene};
 use crate::scene::play;
@@ -18,7 +17,6 @@ use crate::seats::{SeatCall, play_at};
 use crate::servers::{CELL_TILES, new_server, replies, stock};
 use anyhow::{Context, Result};
 use mls_server::Server;
-use mls_session::Look;
 use std::alloc::Global;
 use std::marker::Brand;
 use std::sync::Wait;
@@ -45,7 +43,6 @@ pub enum Asked {
     Load,
     /// A call that is made the first time, and one that is made again.
     Call([Call; 2]),
-    Look(Look),
     /// Answers events, first changed so.
     Run(Change),
     Check,
@@ -63,30 +60,6 @@ a box 0 0 2 10
 b box 0 0 2 10
 b paint m1
 ";
-
-/// Which rules forbid some square of the bar.
-const BAR_WHY: Look = Look::Why {
-    left: 0,
-    bottom: 0,
-    right: 2,
-    top: 10,
-};
-
-/// The marks of the bar, and the areas that await checking there.
-const BAR_ERRORS: Look = Look::Errors {
-    left: 0,
-    bottom: 0,
-    right: 2,
-    top: 10,
-};
-
-/// What each rule forbids in the bar.
-const BAR_VIOLATIONS: Look = Look::Violations {
-    left: 0,
-    bottom: 0,
-    right: 2,
-    top: 10,
-};
 
 /// A bar in session a that takes two pieces, and one in session b.
 const LONG_BAR: &[u8] = b"%open a
@@ -218,14 +191,6 @@ fn row_named(name: &str, number: Option<u8>) -> Option<Row> {
         "server_load" => Row::Ask(b"", Asked::Load),
         "open" => asks(TWO_BARS, Call::Open),
         "save" => asks(TWO_BARS, Call::Save),
-        "look_save" => Row::Ask(TWO_BARS, Asked::Look(Look::Save)),
-        "look_why" => Row::Ask(TWO_BARS, Asked::Look(BAR_WHY)),
-        "look_stat" => Row::Ask(TWO_BARS, Asked::Look(Look::Status)),
-        "look_uses" => Row::Ask(PLACED, Asked::Look(Look::Uses)),
-        "look_marks" => Row::Ask(PLACED, Asked::Look(Look::Marks)),
-        "look_errors" => Row::Ask(TWO_BARS, Asked::Look(BAR_ERRORS)),
-        "look_violations" => Row::Ask(TWO_BARS, Asked::Look(BAR_VIOLATIONS)),
-        "look_journal" => Row::Ask(PLACED, Asked::Look(Look::Journal)),
         "why" => asks(TWO_BARS, Call::Why),
         "what" => asks(PLACED, Call::What),
         "grab" => asks(TWO_BARS, Call::Grab),
@@ -360,7 +325,6 @@ fn play_asked<R: Print>(
     match *asked {
         Asked::Load => play_calls(rt, alloc, server, [Call::Load, Call::Load], calls),
         Asked::Call(made) => play_calls(rt, alloc, server, made, calls),
-        Asked::Look(look) => play_looks(rt, alloc, server, look, calls),
         Asked::Run(change) => play_runs(rt, alloc, server, change, calls),
         Asked::Check => play_checks(rt, alloc, server, calls),
         Asked::Serve(count) => play_script(rt, alloc, server, count, calls),
@@ -377,18 +341,6 @@ fn play_calls<R: Print>(
     calls: u8,
 ) -> Result<()> {
     let mut scene = ServerScene::new(alloc, server, made)?;
-    play(rt, alloc, &mut scene, calls)
-}
-
-/// Looks at a session.
-fn play_looks<R: Print>(
-    rt: &R,
-    alloc: Global,
-    server: &mut Server,
-    look: Look,
-    calls: u8,
-) -> Result<()> {
-    let mut scene = LookScene::new(alloc, server, look)?;
     play(rt, alloc, &mut scene, calls)
 }
 

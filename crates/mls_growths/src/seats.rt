@@ -12,6 +12,7 @@ use mls_live::{Live, Naming, Plain, Retired, Seat, Worked, work};
 use mls_server::{Name, NotOpen, OpenFault, Server, SessionId};
 use mls_session::{Command, Look, Looked, Reply};
 use std::alloc::Global;
+use std::mem::replace;
 use std::sync::Wait;
 use std::sync::ledger::Blank;
 
@@ -86,7 +87,7 @@ fn play_seated<N: Naming, R: Print + Wait>(
     match asked {
         SeatCall::Work { left_out } => play_work(rt, alloc, live, &mut seats, left_out, calls),
         SeatCall::Seat => play_seats(rt, alloc, live, &mut seats, calls),
-        SeatCall::Retire => play_retired(rt, alloc, live, seats, calls),
+        SeatCall::Retire => play_retired(rt, alloc, live, &mut seats, calls),
     }
 }
 
@@ -142,7 +143,7 @@ fn play_retired<'l, N: Naming, R: Print + Wait>(
     rt: &R,
     alloc: Global,
     live: &'l Live<N>,
-    seats: Vec<Seat<'l, N>>,
+    seats: &mut Vec<Seat<'l, N>>,
     calls: u8,
 ) -> Result<()>
     requires parts { N.parts ≡ 65 }
@@ -150,16 +151,15 @@ fn play_retired<'l, N: Naming, R: Print + Wait>(
     println!(rt; "made")?;
     if calls == 0 {
         println!(rt; "done")?;
-        let mut seats = seats;
-        return show_seats(rt, alloc, live, &mut seats);
+        return show_seats(rt, alloc, live, seats);
     }
-    let first = retired(rt, live, seats);
+    let first = retired(rt, live, replace(seats, Vec::new(alloc)));
     println!(rt; "done")?;
     print_retired(rt, first)?;
     for _ in 1..calls {
         print_retired(rt, retired(rt, live, Vec::new(alloc)))?;
     }
-    show_seats(rt, alloc, live, &mut Vec::new(alloc))
+    show_seats(rt, alloc, live, seats)
 }
 
 /// Prints how many seats had the list of the journal, and how the journals stand to the lists.
@@ -287,18 +287,7 @@ impl<'l, N: Naming, R: Print + Wait> Scene<R> for SeatScene<'_, 'l, N> {
         _alloc: Global,
         answer: Option<Result<Seat<'l, N>, OpenFault>>,
     ) -> Result<()> {
-        match answer {
-            Some(Ok(seat)) => {
-                let number = seat.id().number();
-                self.seats.push(seat)?;
-                println!(rt; "c seat {number}")?;
-            }
-            Some(Err(fault)) => {
-                println!(rt; "c refused open {} {}", fault.number(), fault.text())?;
-            }
-            None => println!(rt; "nothing")?,
-        }
-        Ok(())
+        show_opened(rt, b'c', answer, self.seats)
     }
 
     fn show(&mut self, rt: &R, alloc: Global) -> Result<()> {
@@ -338,24 +327,26 @@ fn show_seats<'l, N: Naming, R: Print + Wait>(
         show_seat(rt, alloc, seat)?;
     }
     for letter in *b"pqrst" {
-        show_opened(rt, opened(rt, alloc, live, letter), seats)?;
+        show_opened(rt, letter, opened(rt, alloc, live, letter), seats)?;
     }
     Ok(())
 }
 
-/// Prints how opening a session ended, and keeps its seat.
+/// Prints how opening a session of this name ended, and keeps its seat.
 fn show_opened<'l, N: Naming, R: Print>(
     rt: &R,
+    letter: u8,
     opened: Option<Result<Seat<'l, N>, OpenFault>>,
     seats: &mut Vec<Seat<'l, N>>,
 ) -> Result<()> {
+    let name = char::from(letter);
     match opened {
         Some(Ok(seat)) => {
             let number = seat.id().number();
             seats.push(seat)?;
-            println!(rt; "seat {number}")?;
+            println!(rt; "{name} seat {number}")?;
         }
-        Some(Err(fault)) => println!(rt; "{fault}")?,
+        Some(Err(fault)) => println!(rt; "{name} refused open {} {fault}", fault.number())?,
         None => {}
     }
     Ok(())

@@ -14,9 +14,9 @@ use mls_library::{CellFault, CellId};
 use mls_server::{
     Answer, Capacity, Event, GrabFault, Limits, Name, NotOpen, OpenFault, Server, SessionId,
 };
-use mls_session::{Command, Look, Looked, Quota, Reply, StepRun, Stepped};
+use mls_session::{Command, Quota, Reply, StepRun, Stepped};
 use mls_tech::{TECHNOLOGY_M, Tech};
-use mls_wire::{Response, ServeFault, Watched, push_looked, push_response, push_saved, serve};
+use mls_wire::{Response, ServeFault, Watched, push_response, push_saved, serve};
 use std::alloc::{AllocError, Global};
 
 /// How many tiles a session reserves under the least quota: 69 for each of three planes.
@@ -148,32 +148,6 @@ pub fn finish_ref(
     finding: &Finding,
 ) -> Result<Outcome, NotOpen> {
     server.finish_ref(id, finding)
-}
-
-/// Looks at a session.
-pub fn look(
-    alloc: Global,
-    server: &mut Server,
-    id: SessionId,
-    asked: Look,
-    out: &mut Vec<u8>,
-) -> Result<Looked, NotOpen> {
-    server.look(alloc, id, asked, out)
-}
-
-/// Prints the reply line to a look at a session, without the text that comes with it.
-pub fn print_look<R: Print>(
-    rt: &R,
-    alloc: Global,
-    server: &Server,
-    letter: u8,
-    looked: &Result<Looked, NotOpen>,
-) -> Result<()> {
-    let name = Name::new(&[letter]).context("no name")?;
-    let mut text = Vec::new(alloc);
-    push_looked(server, &name, looked, b"", &mut text)?;
-    rt.write_all(&text)?;
-    Ok(())
 }
 
 /// What is printed of the answer to an event whose answer has no text.
