@@ -31,6 +31,9 @@ ROUNDS = 5
 TIMES = 50
 OVER = 20
 
+# How many rectangles of a cell are checked together with magicd, by as many checks as it takes.
+CHECKED = 20_000
+
 # The technology M for Magic, which reads it for magicd too.
 TECHNOLOGY = ROOT / "examples/m_magic.tech"
 
@@ -146,10 +149,12 @@ class Magicd:
         }
 
     def whole_check(self, technology, rectangles):
-        """Returns the seconds of the whole check of a group's part of a layout."""
+        """Returns the seconds of the whole check of a group's part of a layout, which is asked for again and again."""
         (self.folder / "c.mag").write_text(cell(rectangles))
         words = ["--tech", technology, f"c={self.folder / 'c.mag'}"]
-        return self.took(["%open a", "a dump c 0 0"], ["a drc catchup"], words=words)
+        checked = ["%open a", "a dump c 0 0", "a drc catchup", f"a {line(around(rectangles))}"]
+        times = max(1, CHECKED // len(rectangles))
+        return self.took(checked, ["a drc check", "a drc catchup"] * times, times, words)
 
 
 class Magic:
@@ -246,7 +251,10 @@ def row(layout, measure, unit, programs):
     """Prints a row, whose last cell names the program that is quickest, and how many times as long ours takes."""
 
     def shown(seconds):
-        return "" if seconds is None else f"{seconds * SCALE[unit]:.{0 if seconds * SCALE[unit] >= 10 else 2}f} {unit}"
+        if seconds is None:
+            return ""
+        value = seconds * SCALE[unit]
+        return f"< 0.01 {unit}" if value < 0.005 else f"{value:.{0 if value >= 10 else 2}f} {unit}"
 
     there = {name: seconds for name, seconds in programs.items() if seconds is not None}
     quickest = min(there, key=there.get)

@@ -16,7 +16,7 @@
 # The last layouts are three cells of Magic's package in scmos, flattened by the client; 256 inverters that were drawn in
 # scmos, flattened, 8,288 rectangles; and a corner of a block that qflow placed and routed on cells of 0.35 micrometres,
 # 8,212 rectangles of metal and contacts with random pieces over them. Magic checks each at once, magicd as groups of planes
-# (clients/process), one after another.
+# (clients/process), one after another; both again and again.
 #
 # Each time is by the clock, the median of five, without the start: Magic and KLayout time themselves, and magicd's is that
 # of a script less that of the script without the lines. All run in one thread. The last column names the program that is

@@ -10,8 +10,8 @@
 #              most squares in a grid that a cell's plane has room for
 #   dump       a cell of some 1,000 tiles, into an empty session and then over itself, one square to the right and back
 #
-# Each time is the difference of two scripts or of two command lines, of each the least of five runs. They take turns with
-# the script of the first step, and the last column is how many times as long a step takes as the paint of one square.
+# Each time is the processor's, the difference of two scripts or of two command lines, of each the least of five runs that take turns. The
+# last column is how many times as long a step takes as the first one, the paint of one square.
 set -eu
 . "$(dirname "${BASH_SOURCE[0]}")/head.sh"
 work=$(mktemp -d)
@@ -72,41 +72,34 @@ overlapping() {
     }'
 }
 
-# run_timed I SCRIPT WORD..: runs magicd on a script with these words; keeps the least nanoseconds of all runs with this I
+# run_timed I SCRIPT WORD..: runs magicd on a script with these words
 run_timed() {
-    local i=$1 script=$2 start took
-    shift 2
-    start=$(date +%s%N)
-    "$program" --quota 16384 --journal 65536 "$@" < "$script" > "$work/out"
-    took=$(($(date +%s%N) - start))
+    spent "$program" --quota 16384 --journal 65536 "${@:3}" < "$2" > "$work/out"
     if grep -q refused "$work/out"; then echo "a line was refused" >&2; exit 1; fi
-    if [ -z "${least[i]:-}" ] || [ "$took" -lt "${least[i]}" ]; then least[i]=$took; fi
+    keep "$1"
 }
 
 # row STEP SIZE N: the row of a step that is taken N times more by the script "more" and the words "more_words" than by
 # "less" and "less_words"
 row() {
+    local us
     least=()
     for _ in 1 2 3 4 5; do
-        run_timed 0 /dev/null
-        run_timed 1 "$work/paint"
-        run_timed 2 "$work/less" "${less_words[@]}"
-        run_timed 3 "$work/more" "${more_words[@]}"
+        run_timed 0 "$work/less" "${less_words[@]}"
+        run_timed 1 "$work/more" "${more_words[@]}"
     done
-    awk -v OFS='\t' -v step="$1" -v size="$2" -v n="$3" -v paint="$(((least[1] - least[0]) / squares))" \
-        -v ns="$((least[3] - least[2]))" 'BEGIN {
-            print step, size, sprintf("%.2f", ns / n / 1000), sprintf("%.2f", ns / n / paint)
-        }'
+    us=$(each "$((least[1] - least[0]))" "$3")
+    paint=${paint:-$us}
+    printf '%s\t%s\t%s\t%s\n' "$1" "$2" "$us" "$(ratio "$us" "$paint")"
 }
 
-printf '%s\t%s\t%s\t%s\n' step size us paints
-squares=$((88 * 88))
-erase 88 0 > "$work/paint"
+paint=
+printf '%s\t%s\t%s\t%s\n' step size us 'times a paint'
 less_words=()
 more_words=()
 cp /dev/null "$work/less"
-cp "$work/paint" "$work/more"
-row 'paint one square' "$squares squares" "$squares"
+erase 88 0 > "$work/more"
+row 'paint one square' '7744 squares' 7744
 for k in 7 22 44; do
     erase "$k" 0 > "$work/less"
     erase "$k" 15000 > "$work/more"

@@ -17,12 +17,11 @@
 #
 # Each time is the processor's, in the program and in the system, for one such step, with the reading of its lines and
 # the writing of their replies, in microseconds. It is the difference of two scripts, one with hundreds or thousands of
-# steps and one without, of each the least of five runs that take turns. The bench fails where a rule is violated, a
+# steps and one without, of each the least of three runs that take turns. The bench fails where a rule is violated, a
 # square is marked, or an area is left to be checked.
 #
 # It runs the program that it builds, or PROGRAM.
 set -eu
-TIMEFORMAT='%U %S'
 . "$(dirname "${BASH_SOURCE[0]}")/head.sh"
 work=$(mktemp -d)
 trap 'rm -rf "$work"' EXIT
@@ -63,32 +62,26 @@ repeat() {
         END { for (i = 0; i < n; i++) printf "%s", lines }'
 }
 
-# run_timed I SCRIPT: runs magicd on a script, and keeps the least microseconds of all runs with this I
+# run_timed I SCRIPT: runs magicd on a script
 run_timed() {
-    local us
-    { time "$program" --quota 16384 --journal 65536 "${words[@]}" < "$2" > "$work/out" 2> "$work/messages" ||
-        { cat "$work/messages" >&3; exit 1; }; } 3>&2 2> "$work/time"
+    spent "$program" --quota 16384 --journal 65536 "${words[@]}" < "$2" > "$work/out"
     if grep -m 1 -vxE 'a (opened|ok|step done|why 0|count 0 errors 0 pending)' "$work/out" >&2; then exit 1; fi
-    us=$(awk '{ printf "%d", 1e6 * ($1 + $2) }' "$work/time")
-    if [ -z "${least[$1]:-}" ] || [ "$us" -lt "${least[$1]}" ]; then least[$1]=$us; fi
+    keep "$1"
 }
 
 # row STEP STRIPS N LEFT SIDE LINE..: the row of a step that is these lines, taken N times on the layout, for the box of
 # this side whose left and lower edges lie at LEFT
 row() {
-    local step=$1 strips=$2 n=$3 box="a box $4 $4 $(($4 + $5)) $(($4 + $5))" us
+    local step=$1 strips=$2 n=$3 box="a box $4 $4 $(($4 + $5)) $(($4 + $5))"
     shift 5
     least=()
     { cat "$work/layout"; echo "$box"; echo 'a drc count'; } > "$work/less"
     { cat "$work/layout"; echo "$box"; repeat "$n" "$@"; echo 'a drc count'; } > "$work/more"
-    for _ in 1 2 3 4 5; do
+    for _ in 1 2 3; do
         run_timed 0 "$work/less"
         run_timed 1 "$work/more"
     done
-    us=$((least[1] - least[0]))
-    awk -v OFS='\t' -v step="$step" -v rules="$rules" -v strips="$strips" -v n="$n" -v us="$us" 'BEGIN {
-        print step, rules, strips, sprintf("%.2f", us / n)
-    }'
+    printf '%s\t%s\t%s\t%s\n' "$step" "$rules" "$strips" "$(each "$((least[1] - least[0]))" "$n")"
 }
 
 forty_rules > "$work/forty"
@@ -101,7 +94,7 @@ for rules in 4 40 80; do
         40) words=(--tech "$work/forty") halo=5 ;;
         80) words=(--tech "$work/scmos/g0.tech") halo=13 types=(polysilicon ndiffusion metal1) ;;
     esac
-    for size in '0 0 1 20000' '5 7 81 4000' '11 15 353 1000' '20 24 1001 400'; do
+    for size in '0 0 1 20000' '5 7 81 2000' '11 15 353 400' '20 24 1001 200'; do
         read -r rows columns strips n <<< "$size"
         cells "$rows" "$columns" > "$work/layout"
         row check "$strips" "$n" "$halo" "$((256 - 2 * halo))" 'a drc check' '%step a'

@@ -14,9 +14,9 @@
 #   count             the number of marks in a scatter that was checked
 #   why               the rules that are violated in a box of 20 by 20 somewhere in a scatter
 #   why, world        the rules that are violated anywhere in the world, where the layout is three bars
-#   empty world       the whole world is checked, which is empty: 67,108,864 pieces
+#   empty world       the whole world is checked, which is empty: 67,108,864 pieces; 500 times
 #
-# Each time is the difference of two scripts, of each the least of five runs that take turns. The rows of scatters have the
+# Each time is the processor's, the difference of two scripts, of each the least of three runs that take turns. The rows of scatters have the
 # number of marked squares at the end.
 set -eu
 . "$(dirname "${BASH_SOURCE[0]}")/head.sh"
@@ -83,28 +83,23 @@ empty() {
     if [ "$#" -gt 0 ]; then printf '%s\n' "$@"; fi
 }
 
-# run_timed I SCRIPT: runs magicd on a script, and keeps the least nanoseconds of all runs with this I
+# run_timed I SCRIPT: runs magicd on a script
 run_timed() {
-    local start took
-    start=$(date +%s%N)
-    "$program" --quota 16384 --journal 65536 < "$2" > "$work/out"
-    took=$(($(date +%s%N) - start))
+    spent "$program" --quota 16384 --journal 65536 < "$2" > "$work/out"
     if grep -qE 'refused|fault' "$work/out"; then echo "a line was refused" >&2; exit 1; fi
-    if [ -z "${least[$1]:-}" ] || [ "$took" -lt "${least[$1]}" ]; then least[$1]=$took; fi
+    keep "$1"
 }
 
 # row STEP SIZE N: the row of a step that is taken N times more by the script "more" than by the script "less"
 row() {
     local errors
     least=()
-    for _ in 1 2 3 4 5; do
+    for _ in 1 2 3; do
         run_timed 0 "$work/less"
         run_timed 1 "$work/more"
     done
     errors=$(sed -n 's/^a count \([0-9]*\) errors .*/\1/p' "$work/out" | tail -n 1)
-    awk -v OFS='\t' -v step="$1" -v size="$2" -v n="$3" -v ns="$((least[1] - least[0]))" -v errors="${errors:--}" 'BEGIN {
-        print step, size, errors, sprintf("%.2f", ns / n / 1000)
-    }'
+    printf '%s\t%s\t%s\t%s\n' "$1" "$2" "${errors:--}" "$(each "$((least[1] - least[0]))" "$3")"
 }
 
 printf '%s\t%s\t%s\t%s\n' step size errors us
@@ -117,8 +112,8 @@ for size in '8900 1160' '16000 800' '4000 500'; do
     cp "$work/more" "$work/less"
     scatter "$n" "$side" box 10 > "$work/more"
     row 'check the box' "$n over $side" 10
-    scatter "$n" "$side" count 10000 > "$work/more"
-    row count "$n over $side" 10000
+    scatter "$n" "$side" count 30000 > "$work/more"
+    row count "$n over $side" 30000
 done
 for size in 540:1014 2200:3937 8900:14373; do
     n=${size%:*}
@@ -133,8 +128,9 @@ for size in 540:1014 2200:3937 8900:14373; do
     row why "${size#*:} tiles of poly" 15000
 done
 world 'a drc why' 0 > "$work/less"
-world 'a drc why' 10 > "$work/more"
-row 'why, world' '3 bars' 10
+world 'a drc why' 1000 > "$work/more"
+row 'why, world' '3 bars' 1000
+mapfile -t checks < <(for ((i = 0; i < 500; i++)); do printf '%s\n' 'a drc check' 'a drc catchup'; done)
 empty > "$work/less"
-empty 'a drc check' 'a drc catchup' 'a drc count' > "$work/more"
-row 'empty world' '67108864 pieces' 1
+empty "${checks[@]}" 'a drc count' > "$work/more"
+row 'empty world' '67108864 pieces' 500

@@ -7,7 +7,7 @@
 # side, strewn over 1,160 by 1,160 squares by a fixed generator (Park and Miller 1988), poly and ndiff by turns. The
 # lines repaint the squares, the short bars or the rectangles, one after another, now with ndiff and now with poly, and
 # look at each. The last rows paint all 16,000 rectangles, once the quota is full those that still fit, and have 60,000 lines
-# that only set a box, and 200,000 blank ones.
+# that only set a box, and 1,000,000 blank ones.
 set -eu
 . "$(dirname "${BASH_SOURCE[0]}")/head.sh"
 scripts=$(mktemp -d)
@@ -80,25 +80,21 @@ blanks() {
     awk -v n="$1" 'BEGIN { for (i = 0; i < n; i++) print "" }'
 }
 
+# took FILE: how many microseconds of a processor magicd takes for a script, the least of three runs
+took() {
+    local least=()
+    for _ in 1 2 3; do
+        spent "$program" --quota 16384 --journal 65536 < "$1" > "$scripts/out"
+        keep 0
+    done
+    echo "${least[0]}"
+}
+
 # line SHAPE N: the row of a line of this shape, of which there are N
 line() {
     "$1" 0 > "$scripts/before"
     "$1" "$2" > "$scripts/after"
-    awk -v shape="$1" -v n="$2" -v b="$(seconds "$scripts/before")" -v a="$(seconds "$scripts/after")" \
-        'BEGIN { printf "%s\t%.2f us each\n", shape, (a - b) / n * 1e6 }'
-}
-
-# seconds FILE: how long magicd takes for a script, the best of three runs
-seconds() {
-    local best= start end took
-    for _ in 1 2 3; do
-        start=$(date +%s%N)
-        "$program" --quota 16384 --journal 65536 < "$1" > "$scripts/out"
-        end=$(date +%s%N)
-        took=$((end - start))
-        if [ -z "$best" ] || [ "$took" -lt "$best" ]; then best=$took; fi
-    done
-    awk -v ns="$best" 'BEGIN { printf "%.6f", ns / 1e9 }'
+    printf '%s\t%s us each\n' "$1" "$(each "$(($(took "$scripts/after") - $(took "$scripts/before")))" "$2")"
 }
 
 # micros SHAPE N ROUNDS: microseconds for one round of a box, a paint and a look
@@ -106,33 +102,32 @@ micros() {
     local before after
     "$1" "$2" 0 > "$scripts/before"
     "$1" "$2" "$3" > "$scripts/after"
-    before=$(seconds "$scripts/before")
-    after=$(seconds "$scripts/after")
+    before=$(took "$scripts/before")
+    after=$(took "$scripts/after")
     if grep -q refused "$scripts/out"; then echo "a line was refused" >&2; exit 1; fi
-    awk -v n="$3" -v b="$before" -v a="$after" 'BEGIN { printf "%.1f", (a - b) / n * 1e6 }'
+    each "$((after - before))" "$3"
 }
 
 # row SHAPE N TILES MICROS: a row of the table; a round has three lines
 row() {
-    awk -v OFS='\t' -v shape="$1 of $2" -v tiles="$3" -v us="$4" \
-        'BEGIN { print shape, tiles, sprintf("%.0f", 3e6 / us), us }'
+    printf '%s\t%s\t%s\t%s\n' "$1 of $2" "$3" "$(awk -v us="$4" 'BEGIN { print int(3e3 / us) * 1000 }')" "$4"
 }
 
 printf '%s\t%s\t%s\t%s\n' shape tiles lines/s us/round
 for k in 7 12 22 34; do
-    grid_us=$(micros grid "$k" 3333)
+    grid_us=$(micros grid "$k" 15000)
     row grid "$((k * k))" "$((2 * k * k + 2 * k + 1))" "$grid_us"
 done
-comb_us=$(micros comb 400 3000)
+comb_us=$(micros comb 400 15000)
 row comb 400 2401 "$comb_us"
-awk -v grid="$grid_us" -v comb="$comb_us" 'BEGIN { printf "grid/comb\t%.4f\n", grid / comb }'
+printf 'comb/grid of 1156\t%s times\n' "$(ratio "$comb_us" "$grid_us")"
 for size in 270:1020 1100:3924 4450:14932; do
-    scatter_us=$(micros scatter "${size%:*}" 3000)
+    scatter_us=$(micros scatter "${size%:*}" 15000)
     row scatter "${size%:*}" "${size#*:}" "$scatter_us"
     if [ -z "${first_us:-}" ]; then first_us=$scatter_us; fi
 done
-awk -v last="$scatter_us" -v first="$first_us" 'BEGIN { printf "scatter of 14932 tiles/of 1020\t%.2f\n", last / first }'
+printf 'scatter of 4450/of 270\t%s times\n' "$(ratio "$scatter_us" "$first_us")"
 scatter 16000 0 > "$scripts/all"
-awk -v s="$(seconds "$scripts/all")" 'BEGIN { printf "16000 boxes and paints\t%.1f us each\n", s / 16000 * 1e6 }'
+printf '16000 boxes and paints\t%s us each\n' "$(each "$(took "$scripts/all")" 16000)"
 line boxes 60000
-line blanks 200000
+line blanks 1000000

@@ -85,7 +85,7 @@ status=0
 message=
 base=$(timed empty)
 
-printf '%s\t%s\t%s\t%s\t%s\t%s\t%s\n' file '1 MB' '2 MB' '4 MB' '8 MB' '16 MB' times
+printf '%s\t%s\t%s\t%s\t%s\t%s\t%s\n' 'file: ms of' '1 MB' '2 MB' '4 MB' '8 MB' '16 MB' '16 MB/8 MB'
 for kind in comments parens open skipped name joined rects skip digits line faults; do
     row=()
     for size in ${SIZES:-1 2 4 8 16}; do

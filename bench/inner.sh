@@ -14,14 +14,21 @@
 # Each time is that of one such step, the least of three runs of all 1,000; of a build the least of three builds.
 #
 # The program, bench/inner, is proved and built over a copy of the crates that it stands on, with what is proved of
-# them: the gate doesn't wait for it. The first time that takes a quarter of an hour where they are proved. PROGRAM names one
-# that was built so.
+# them: the gate doesn't wait for it. That takes up to a quarter of an hour where they are proved, and again only where a
+# source is newer. PROGRAM names one that was built so.
 set -eu
 builds_own=yes
 . "$(dirname "${BASH_SOURCE[0]}")/head.sh"
-work=$(mktemp -d)
-trap 'rm -rf "$work"' EXIT
+built=$here/bench/inner/out/mls_bench
 below=(mls_kinds mls_geom mls_tilepool mls_stitch mls_paint)
+
+# Whether the program is built, and no source of it is newer.
+is_built() {
+    local name folders=("$here/bench/inner")
+    [ -x "$built" ] || return 1
+    for name in "${below[@]}"; do folders+=("$here/crates/$name"/{src,specs,proofs}); done
+    [ -z "$(find "${folders[@]}" -path "*/out" -prune -o -type f -newer "$built" -print -quit)" ]
+}
 
 # Makes the copy: the crates below, and the program as a crate of its own, with the files' names without `.in`.
 copy() {
@@ -42,16 +49,22 @@ copy() {
 
 # Builds the program, and compares what it prints of itself.
 build() {
+    work=$(mktemp -d)
+    trap 'rm -rf "$work"' EXIT
     copy
     if ! (cd "$work/crates/mls_bench" && rt run > "$work/steps" 2> "$work/log"); then
         grep -v '^checked ' "$work/log" | tail -n 50 >&2
         echo "the build failed" >&2
         exit 1
     fi
-    program=$work/crates/mls_bench/out/mls_bench
-    "$program" | diff "$here/bench/inner/stdout" - >&2
+    "$work/crates/mls_bench/out/mls_bench" | diff "$here/bench/inner/stdout" - >&2
+    mkdir -p "${built%/*}"
+    install "$work/crates/mls_bench/out/mls_bench" "$built"
 }
 
-[ -n "$program" ] || build
+if [ -z "$program" ]; then
+    is_built || build
+    program=$built
+fi
 printf '%s\t%s\t%s\n' step tiles ns
 "$program" time

@@ -5,9 +5,9 @@
 # a layout of its own: some 2,000 tiles. The sessions take turns, a line each. The pool has room for 64 of them.
 #
 # The columns are how many sessions there are, how many lines they have together, the microseconds a line, how many times as
-# long that is as with one session, and the most memory that the program held, in megabytes. The time is the difference of
-# the script and of one that opens the sessions alone, of each the least of five runs. A last row has 64 sessions of which
-# one paints, and the others are open.
+# long that is as with one session, and the most memory that the program held, in megabytes. The time is the processor's, the difference of
+# a script in which each session paints its squares ten times over and of one that opens the sessions alone, of each the
+# least of three runs. A last row has 64 sessions of which one paints, and the others are open.
 set -eu
 . "$(dirname "${BASH_SOURCE[0]}")/head.sh"
 work=$(mktemp -d)
@@ -18,43 +18,37 @@ opened() {
     awk -v n="$1" 'BEGIN { for (s = 0; s < n; s++) printf "%%open s%d\n", s }'
 }
 
-# painted N: the boxes and paints of N sessions, a line of each in turn
+# painted N TIMES: the boxes and paints of N sessions, a line of each in turn, so many times over
 painted() {
-    awk -v n="$1" 'BEGIN {
-        for (p = 0; p < 1000; p++) {
-            left = 20 * (p % 32); bottom = 20 * int(p / 32)
+    awk -v n="$1" -v times="$2" 'BEGIN {
+        for (p = 0; p < 1000 * times; p++) {
+            left = 20 * (p % 32); bottom = 20 * int(p % 1000 / 32)
             for (s = 0; s < n; s++) printf "s%d box %d %d %d %d\n", s, left, bottom, left + 10, bottom + 10
-            for (s = 0; s < n; s++) printf "s%d paint poly\n", s
+            for (s = 0; s < n; s++) printf "s%d paint %s\n", s, int(p / 1000) % 2 ? "ndiff" : "poly"
         }
     }'
 }
 
-# serve SCRIPT: runs magicd on a script
-serve() {
-    "$program" --quota 4096 --pool 1048576 < "$1" > "$work/out"
-    if grep -qE 'refused|fault' "$work/out"; then echo "a line was refused" >&2; exit 1; fi
-}
+options=(--quota 4096 --pool 1048576 --journal 65536)
 
-# run_timed I SCRIPT: runs magicd on a script, and keeps the least nanoseconds of all runs with this I
+# run_timed I SCRIPT: runs magicd on a script
 run_timed() {
-    local start took
-    start=$(date +%s%N)
-    serve "$2"
-    took=$(($(date +%s%N) - start))
-    if [ -z "${least[$1]:-}" ] || [ "$took" -lt "${least[$1]}" ]; then least[$1]=$took; fi
+    spent "$program" "${options[@]}" < "$2" > "$work/out"
+    if grep -qE 'refused|fault' "$work/out"; then echo "a line was refused" >&2; exit 1; fi
+    keep "$1"
 }
 
 # memory_of SCRIPT: the most memory that magicd held, in kilobytes, once it has answered a script of which each line has one
 # line of reply; its input is held open until then
 memory_of() {
-    local lines pid
+    local lines
     lines=$(wc -l < "$1")
     mkfifo "$work/input"
-    serve "$work/input" &
+    "$program" "${options[@]}" < "$work/input" > "$work/out" &
     exec 3> "$work/input"
     cat "$1" >&3
-    until [ "$(wc -l < "$work/out")" -ge "$lines" ]; do sleep 0.1; done
-    for pid in $(pgrep -P "$!"); do sed -n 's/^VmHWM:[^0-9]*\([0-9]*\) kB$/\1/p' "/proc/$pid/status"; done
+    until [ "$(wc -l < "$work/out")" -ge "$lines" ]; do kill -0 "$!"; sleep 0.1; done
+    sed -n 's/^VmHWM:[^0-9]*\([0-9]*\) kB$/\1/p' "/proc/$!/status"
     exec 3>&-
     wait "$!"
     rm "$work/input"
@@ -62,22 +56,21 @@ memory_of() {
 
 # row OPEN PAINTING: the row of so many open sessions, of which so many paint
 row() {
-    local lines memory us
+    local lines memory
     opened "$1" > "$work/less"
     opened "$1" > "$work/more"
-    painted "$2" >> "$work/more"
-    lines=$(($2 * 2000))
+    painted "$2" 10 >> "$work/more"
+    lines=$(($2 * 20000))
     least=()
-    for _ in 1 2 3 4 5; do
+    for _ in 1 2 3; do
         run_timed 0 "$work/less"
         run_timed 1 "$work/more"
     done
-    memory=$(memory_of "$work/more")
-    us=$(awk -v ns="$((least[1] - least[0]))" -v lines="$lines" 'BEGIN { printf "%.2f", ns / lines / 1000 }')
+    { opened "$1"; painted "$2" 1; } > "$work/more"
+    memory=$(memory_of "$work/more" | awk '{ printf "%.1f", $1 / 1024 }')
+    us=$(each "$((least[1] - least[0]))" "$lines")
     alone=${alone:-$us}
-    awk -v OFS='\t' -v open="$1" -v lines="$lines" -v us="$us" -v alone="$alone" -v memory="$memory" 'BEGIN {
-        print open, lines, us, sprintf("%.2f", us / alone), sprintf("%.1f", memory / 1024)
-    }'
+    printf '%s\t%s\t%s\t%s\t%s\n' "$1" "$lines" "$us" "$(ratio "$us" "$alone")" "$memory"
 }
 
 alone=

@@ -272,8 +272,9 @@ def print_rows(tally, memory, seconds, warm):
     rows["sessions closed"] = tally["%close"]
     rows[f"kB after {warm} seconds"] = memory.first
     rows["kB at most after that"] = memory.most
+    print("what", "number", sep="\t")
     for name, value in rows.items():
-        print(f"{name:24} {value:12}")
+        print(name, value, sep="\t")
 
 
 def main(path, seconds):

@@ -20,7 +20,7 @@
 #
 #   place             a line `getcell` or `dump`
 #   first check       all areas that the 256 lines left are checked
-#   check the box     the box round all is checked once more, ten times
+#   check the box     the box round all is checked once more
 #   edit              a square of 2 by 2 of ndiff in a gap is painted or erased, at 20 places by turns
 #   edit, catch up    the same, and checked after each edit; less the time of the edits
 #   what, why         the types, and the rules that are violated, in a box of 20 by 20 somewhere in the layout; less the
@@ -39,7 +39,6 @@
 # cells that are placed and with cells that are dumped, and how many times as long the first take. It runs the program
 # that it builds, or PROGRAM. With ROWS=PATTERN it takes only the rows whose text and layout have the pattern.
 set -eu
-TIMEFORMAT='%U %S'
 . "$(dirname "${BASH_SOURCE[0]}")/head.sh"
 work=$(mktemp -d)
 trap 'rm -rf "$work"' EXIT
@@ -101,22 +100,20 @@ repeated() {
     for ((i = 0; i < times; i++)); do printf '%s\n' "$@"; done
 }
 
-# took I SCRIPT: runs magicd on a script, and keeps the least microseconds of all runs with this I
+# took I SCRIPT: runs magicd on a script
 took() {
-    local us
-    { time "$program" "${words[@]}" < "$2" > "$work/out" 2> "$work/messages"; } 2> "$work/time"
+    spent "$program" "${words[@]}" < "$2" > "$work/out"
     if grep -qE 'refused|fault|full' "$work/out"; then
         echo "a line was refused" >&2
         grep -E -m 1 'refused|fault|full' "$work/out" >&2
         exit 1
     fi
-    us=$(awk '{ printf "%d", 1e6 * ($1 + $2) }' "$work/time")
-    if [ -z "${least[$1]:-}" ] || [ "$us" -lt "${least[$1]}" ]; then least[$1]=$us; fi
+    keep "$1"
 }
 
 # row TEXT TIMES: the row of what the script "more" takes longer than the script "less", by lines taken so many times
 row() {
-    local word
+    local word placed dumped
     if ! [[ "$1, $layout" =~ ${ROWS:-} ]]; then return 0; fi
     least=()
     for word in getcell dump; do
@@ -129,11 +126,9 @@ row() {
         took 2 "$work/less.dump"
         took 3 "$work/more.dump"
     done
-    awk -v OFS='\t' -v text="$1" -v layout="$layout" -v n="$2" -v placed="$((least[1] - least[0]))" \
-        -v dumped="$((least[3] - least[2]))" 'BEGIN {
-            times = dumped > 0 ? sprintf("%.2f", placed / dumped) : "-"
-            print text, layout, sprintf("%.2f", placed / n), sprintf("%.2f", dumped / n), times
-        }'
+    placed=$(each "$((least[1] - least[0]))" "$2")
+    dumped=$(each "$((least[3] - least[2]))" "$2")
+    printf '%s\t%s\t%s\t%s\t%s\n' "$1" "$layout" "$placed" "$dumped" "$(ratio "$placed" "$dumped")"
 }
 
 # checked LINE..: the script of the layout, checked, and these lines
@@ -142,9 +137,9 @@ checked() {
     printf '%s\n' 'a drc catchup' "$@"
 }
 
-# usual K: the rows of a layout that is a grid of K by K squares
+# usual K CHECKS TIMES: the rows of a layout that is a grid of K by K squares, where lines about all of it come so often
 usual() {
-    local k=$1 line all="a box 0 0 $((8 * $1)) $((8 * $1))"
+    local k=$1 checks=$2 times=$3 line all="a box 0 0 $((8 * $1)) $((8 * $1))"
     words=(--quota 16384 --journal 65536 "c=$work/small.mag")
     echo '%open a' > "$work/less"
     laid "$layout" > "$work/more"
@@ -153,8 +148,8 @@ usual() {
     checked > "$work/more"
     row 'first check' 1
     checked "$all" > "$work/less"
-    { cat "$work/less"; repeated 10 'a drc check' 'a drc catchup'; } > "$work/more"
-    row 'check the box' 10
+    { cat "$work/less"; repeated "$checks" 'a drc check' 'a drc catchup'; } > "$work/more"
+    row 'check the box' "$checks"
     checked > "$work/less"
     { checked; edits "$k" 5000; } > "$work/more"
     row edit 5000
@@ -166,35 +161,35 @@ usual() {
         { checked; looks "$k" 15000 "a $line"; } > "$work/more"
         row "${line#drc }" 15000
         checked "$all" > "$work/less"
-        { cat "$work/less"; repeated 50 "a $line"; } > "$work/more"
-        row "${line#drc } of all" 50
+        { cat "$work/less"; repeated "$times" "a $line"; } > "$work/more"
+        row "${line#drc } of all" "$times"
         checked 'a box -1048576 -1048576 1048576 1048576' > "$work/less"
-        { cat "$work/less"; repeated 5 "a $line"; } > "$work/more"
-        row "${line#drc } of the world" 5
+        { cat "$work/less"; repeated "$times" "a $line"; } > "$work/more"
+        row "${line#drc } of the world" "$times"
     done
 }
 
-# worst: the rows of cells with as many tiles as they may have
+# worst TIMES: the rows of cells with as many tiles as they may have
 worst() {
-    local line
+    local times=$1 line
     words=(--tech "$work/tech" --quota 16384 --journal 65536 "c=$work/large.mag")
     checked 'a box 3 3 253 253' > "$work/less"
     for line in what 'drc why'; do
-        { cat "$work/less"; repeated 10 "a $line"; } > "$work/more"
-        row "${line#drc }" 10
+        { cat "$work/less"; repeated "$times" "a $line"; } > "$work/more"
+        row "${line#drc }" "$times"
     done
-    { cat "$work/less"; repeated 10 'a drc check' '%step a'; } > "$work/more"
-    row step 10
+    { cat "$work/less"; repeated "$times" 'a drc check' '%step a'; } > "$work/more"
+    row step "$times"
 }
 
-# wide: the rows of a cell whose squares lie all over the world
+# wide TIMES: the rows of a cell whose squares lie all over the world
 wide() {
-    local line
+    local times=$1 line
     words=(--tech "$work/tech" --quota 16384 "c=$work/$layout.mag")
     { laid "$layout"; echo 'a box -1048576 -1048576 1048576 1048576'; } > "$work/less"
     for line in what 'drc why'; do
-        { cat "$work/less"; repeated 10 "a $line"; } > "$work/more"
-        row "${line#drc } of the world" 10
+        { cat "$work/less"; repeated "$times" "a $line"; } > "$work/more"
+        row "${line#drc } of the world" "$times"
     done
 }
 
@@ -208,8 +203,14 @@ printf '%s\n' planes active metal1 end types 'active poly' 'active ndiff' 'metal
 
 printf '%s\t%s\t%s\t%s\t%s\n' row layout 'us placed' 'us dumped' times
 layout=apart
-usual 80
+usual 80 10 20
 layout='on top'
-usual 5
-for layout in deep shifted; do worst; done
-for layout in far spread; do wide; done
+usual 5 2000 4000
+layout=deep
+worst 200
+layout=shifted
+worst 10
+layout=far
+wide 400
+layout=spread
+wide 20

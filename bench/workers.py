@@ -170,7 +170,7 @@ def print_least(step, number, rounds):
 
 def print_steps(programs):
     """Prints how long whole checks and edits take with each program, which take turns."""
-    print_row("step", "workers", "ms", "each", "times", "aim")
+    print_row("step", "workers", "ms", "a second", "times", "aim")
     for step, time_step, number in [("whole", time_whole, CHECKS), ("edits", time_edits, EDITS)]:
         rounds = {workers: [] for workers in programs}
         for _ in range(ROUNDS):
@@ -181,11 +181,11 @@ def print_steps(programs):
 
 def print_paints(programs):
     """Prints how long paints take with each program."""
-    print_row("step", "workers", "paints", "half", "99", "longest", "aim")
+    print_row("step", "workers", "half within us", "99 of 100 within us", "longest us", "aim us")
     for workers, program in programs.items():
         times = time_paints(program, workers)
         micros = [f"{times[place] * 1e6:.0f}" for place in (PAINTS // 2, PAINTS * 99 // 100, -1)]
-        print_row("paint", workers, PAINTS, *micros, "2000" if workers == 4 else "-")
+        print_row("paint", workers, *micros, "2000" if workers == 4 else "-")
 
 
 def print_all(programs):

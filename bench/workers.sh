@@ -13,9 +13,9 @@
 #             milliseconds from the first line until no area is left, edits a second, and the same. An edit sets the box
 #             to 2 by 2 squares too close to one of the layout's and paints it, and the next one erases it
 #   paint     such an edit, made in the sessions by turns, half a millisecond after the one before, while workers check:
-#             a session of which no area is left when its turn comes is first asked to be checked as a whole. How many
-#             were timed, and the microseconds from sending its two lines until the second reply was read, within which
-#             half of them and 99 of a hundred were done, and the longest. With 0 workers nothing is checked
+#             a session of which no area is left when its turn comes is first asked to be checked as a whole. The
+#             microseconds from sending its two lines until the second reply was read, within which half of the 1,024
+#             paints and 99 of a hundred were done, and the longest. With 0 workers nothing is checked
 #
 # Of `whole` and `edits` there are ten rounds, in which the numbers of workers take turns; the row has the least time.
 # `drc count`, asked each millisecond, says when no area of a session is left. The bench fails where one is after a

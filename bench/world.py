@@ -1,8 +1,8 @@
 """Times checks of the whole world. Called by bench/world.sh, which says what the rows are."""
 import dataclasses
-import os
 import pathlib
 import random
+import resource
 import subprocess
 import sys
 import tempfile
@@ -84,29 +84,33 @@ def setting(layout, sides):
     return [*layout, "drc catchup", box(sides)]
 
 
+def spent():
+    """Returns the seconds of a processor that all ended programs took."""
+    used = resource.getrusage(resource.RUSAGE_CHILDREN)
+    return used.ru_utime + used.ru_stime
+
+
 def run(program, words, lines):
     """Runs a script of one session, and returns the processor's seconds and the replies, without the name."""
     script = "%open a\n" + "".join(f"a {line}\n" for line in lines)
-    before = os.times()
+    before = spent()
     ran = subprocess.run([program, *words], input=script.encode(), capture_output=True, check=True, timeout=600)
-    after = os.times()
-    spent = after.children_user + after.children_system - before.children_user - before.children_system
-    return spent, [line.partition(" ")[2] for line in ran.stdout.decode().splitlines()]
+    return spent() - before, [line.partition(" ")[2] for line in ran.stdout.decode().splitlines()]
 
 
 def catching_up(program, words, layout, sides, times):
     """Returns how many seconds checks take that are asked for so many times and caught up with."""
     lines = setting(layout, sides)
     checks = [*lines, *["drc check"] * times, "drc catchup", "drc count"]
-    bare, spent = [], []
+    bare, checked = [], []
     for _ in range(RUNS):
         seconds, before = run(program, words, [*lines, "drc count"])
         bare.append(seconds)
         seconds, after = run(program, words, checks)
-        spent.append(seconds)
+        checked.append(seconds)
         if set(after[1:-1]) != {"ok"} or before[-1] != after[-1] or not after[-1].endswith(" 0 pending"):
             raise Failed(f"{after[-1]} after {before[-1]}, or a line that isn't ok: {set(after[1:-1])}")
-    return min(spent) - min(bare)
+    return min(checked) - min(bare)
 
 
 def by_workers(program, words, layout, sides, times):
@@ -133,7 +137,9 @@ def by_workers(program, words, layout, sides, times):
 
 
 def shown(seconds):
-    return "-" if seconds is None else f"{seconds * 1e3:.0f}"
+    if seconds is None:
+        return "-"
+    return "< 1 ms" if seconds < 0.001 else f"{seconds * 1e3:.0f} ms"
 
 
 def files(folder, layout):
@@ -152,7 +158,8 @@ def files(folder, layout):
 
 def main(program, asked):
     with tempfile.TemporaryDirectory() as folder:
-        print("layout", *(f"catchup {n}" for n in asked), *(f"worker {n}" for n in asked), sep="\t", flush=True)
+        titles = [f"{by} {n} check{'s' * (n > 1)}" for by in ("catching up with", "one worker,") for n in asked]
+        print("layout", *titles, sep="\t", flush=True)
         for name, layout in LAYOUTS.items():
             words = [*OPTIONS, *files(pathlib.Path(folder), layout)]
             each = [(timed, times) for timed in (catching_up, by_workers) for times in asked]

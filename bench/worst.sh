@@ -3,9 +3,9 @@
 #
 #     bench/worst.sh [PROGRAM ..]
 #
-# Without a program it takes PROGRAM, or builds this repository's own. With ROWS=PATTERN it takes only the rows whose text has the pattern. Each
-# time is the processor's, in the program and in the system, and that of a script with the line less that of the script
-# without it, of each the least of three runs; a run that takes more than ten seconds is taken once, and one of more than 120
+# Without a program it takes PROGRAM, or builds this repository's own. With ROWS=PATTERN it takes only the rows whose text
+# has the pattern. Each time is the processor's, in the program and in the system, and that of a script with the line less
+# that of the script without it, of each the least of three runs; a run that takes more than ten seconds is taken once, and one of more than 120
 # is cut off. Programs take turns, run by run. The columns are the row, its aim in milliseconds, the milliseconds of each
 # program, and how many times as long the first takes as the last. An aim of `e + 100` is within 100 ms of the row of the same
 # line over an empty world.
@@ -228,7 +228,7 @@ takes() {
 # print_row TEXT AIM [TIMES]: a row of what was taken with 2 P and 2 P + 1 for the P-th program, one of so many times; a line
 # that was refused, or cut off after 120 seconds, is said to be
 print_row() {
-    awk -v text="$1" -v aim="$2" -v times="${3:-1}" -v least="${least[*]}" '
+    awk -v text="$1" -v aim="$2" -v times="${3:-1}" -v least="${least[*]}" -v grain="$grain" '
         function ms(p) {
             if (us[p] == "refused" || us[p + 1] == "refused") return 0
             if (us[p + 1] == "over") return 120000
@@ -236,11 +236,12 @@ print_row() {
         }
         BEGIN {
             form = times > 1 ? "\t%s%.4f" : "\t%s%.0f"
+            least_ms = grain / 1000 / times
             printf "%s\t%s", text, aim
             n = split(least, us, " ")
             for (p = 1; p < n; p += 2) {
                 if (us[p] == "refused" || us[p + 1] == "refused") printf "\trefused"
-                else printf form, us[p + 1] == "over" ? "over " : "", ms(p)
+                else printf form, us[p + 1] == "over" ? "over " : ms(p) < least_ms ? "< " : "", ms(p) < least_ms ? least_ms : ms(p)
             }
             if (n > 2) printf "\t%.2f", ms(1) / (ms(n - 1) * times > 1 ? ms(n - 1) : 1 / times)
             print ""
@@ -379,6 +380,7 @@ for look in %why %violations; do
 done
 line 200 M columns 8000 "%violations $world_of_a"
 line - 'R 128' squares 84 '%violations a 0 0 20 20'
+line - 'R 128' squares 84 "$world" 'a drc why'
 
 # Cells
 loaded 100 'nested, largest last' 8000

@@ -24,6 +24,10 @@ old
 <!-- bench/two.sh -->
 another
 <!-- end -->
+
+<!-- bench/chips.sh -->
+by its name alone
+<!-- end -->
 """
 
 README = "before\n<!-- bench/one.sh: 16,000 -->\nold\n<!-- end -->\nafter\n"
@@ -91,14 +95,19 @@ class All(unittest.TestCase):
         (self.top / "bench/one.sh").chmod(0o755)
         shutil.copy(ROOT / "bench/all", self.top / "bench")
 
-    def all(self, *names):
-        return run(self.top / "bench/all", *names, PROGRAM="/a/program")
+    def bench(self, name, text):
+        path = self.top / "bench" / f"{name}.sh"
+        path.write_text(f"#!/usr/bin/env bash\n{text}\n")
+        path.chmod(0o755)
+
+    def all(self, *names, program="/a/program"):
+        return run(self.top / "bench/all", *names, PROGRAM=program)
 
     def test_tables_are_written(self):
         self.assertEqual(self.all("one").returncode, 0)
         page = (self.top / "docs/PERFORMANCE.md").read_text()
         form = (
-            r"\n<!-- bench/one\.sh -->\n`bench/one\.sh` of `/a/program`, \d{4}-\d\d-\d\d, .*, \d+ cores, .*others \d+\.\d cores:\n\n"
+            r"\n<!-- bench/one\.sh -->\n`bench/one\.sh` of `/a/program` at `unknown`, \d{4}-\d\d-\d\d, .*, \d+ cores, .*others \d+\.\d cores:\n\n"
             r"\|layout\|line\|µs\|\n\|---\|---\|---\|\n\|1,000\|paint\|0\.5\|\n\|16,000\|paint /a/program\|123,456\|\n<!-- end -->\n"
         )
         self.assertRegex(page, "(?i)" + form)
@@ -110,7 +119,7 @@ class All(unittest.TestCase):
         rows = [
             ["row", "aim ms", "ms"], ["M: nothing: a drc why, world", "-", "7"], ["M: comb 9: a drc why, world", "e + 100", "107"],
             ["M: bars 9: a drc why, world", "e + 100", "108"], ["M: bars 9: a erase poly", "60", "60"], ["M: comb 9: a erase poly", "60", "over 120000"],
-            ["D 2: comb 9: %step a", "-", "1001"], ["R 128: comb 9: %step a", "60", "refused"], ["M: steps 9: a paint m1", "0.04", "0.0312"],
+            ["D 2: comb 9: %step a", "1000", "1001"], ["R 128: comb 9: %step a", "60", "refused"], ["M: steps 9: a paint m1", "0.04", "< 0.0312"],
         ]
         script = "printf '" + "\\n".join("\\t".join(row).replace("%", "%%") for row in rows) + "\\n'"
         (self.top / "bench/one.sh").rename(self.top / "bench/worst.sh").write_text(f"#!/usr/bin/env bash\n{script}\n")
@@ -119,13 +128,13 @@ class All(unittest.TestCase):
         self.assertEqual(self.all("worst").returncode, 0)
         kept = re.findall(r"(?m)^\|(.*?)\|.*\|(.*)\|$", page.read_text())
         self.assertEqual(kept[2:], [
-            ("M: bars 9: a drc why, world", "108"), ("M: comb 9: a erase poly", "over 120,000"), ("D 2: comb 9: %step a", "1001"),
-            ("R 128: comb 9: %step a", "refused"), ("4 others, at most", "107"),
+            ("M: nothing: a drc why, world", "7"), ("M: bars 9: a drc why, world", "108"), ("M: comb 9: a erase poly", "over 120,000"), ("D 2: comb 9: %step a", "1001"),
+            ("R 128: comb 9: %step a", "refused"), ("3 others, at most", "107"),
         ])
 
     def test_rows_that_are_slower_placed(self):
         rows = ["row\tlayout\tus placed\tus dumped\ttimes", "place\tapart\t8\t40\t0.20", "what\tapart\t15\t9\t1.67",
-                "step\tshifted\t60001\t-\t-", "why\tdeep\t3\t0\t-"]
+                "step\tshifted\t60001\t-\t-", "why\tdeep\t< 3\t0\t-"]
         bench = (self.top / "bench/one.sh").rename(self.top / "bench/uses.sh")
         bench.write_text("#!/usr/bin/env bash\ncat << 'END'\n" + "\n".join(rows) + "\nEND\n")
         page = self.top / "docs/PERFORMANCE.md"
@@ -134,14 +143,38 @@ class All(unittest.TestCase):
         kept = re.findall(r"(?m)^\|(\w+.*?)\|", page.read_text())
         self.assertEqual(kept, ["row", "what", "step", "2 others"])
 
+    def test_head_that_comes_again(self):
+        self.bench("one", "printf 'step\\tms\\nwhole\\t1\\nstep\\thalf us\\taim\\npaint\\t2\\t3\\n'")
+        self.assertEqual(self.all("one").returncode, 0)
+        tables = "|step|ms|\n|---|---|\n|whole|1|\n\n|step|half µs|aim|\n|---|---|---|\n|paint|2|3|\n<!-- end -->"
+        self.assertIn(tables, (self.top / "docs/PERFORMANCE.md").read_text())
+
+    def test_revision(self):
+        (self.top / "crates").mkdir()
+        (self.top / "crates/source").touch()
+        (self.top / "magicd").write_text("#!/usr/bin/env bash\n")
+        (self.top / "magicd").chmod(0o755)
+        self.bench("two", "printf 'head\\nrow\\n'")
+        for words in (["init", "-q"], ["add", "-A"], ["-c", "user.name=n", "-c", "user.email=e", "commit", "-qm", "first"]):
+            subprocess.run(["git", *words], cwd=self.top, check=True)
+        for source, dirty in (("", ""), ("", ""), ("changed", "-dirty")):
+            (self.top / "crates/source").write_text(source)
+            self.assertEqual(self.all(program="").returncode, 0)
+            said = re.findall(r"`bench/\w+\.sh` of `(\w{12})(-dirty)?`, ", (self.top / "docs/PERFORMANCE.md").read_text())
+            self.assertEqual([each for _, each in said], [dirty, dirty])
+
     def test_faults(self):
         ended = self.all("three")
         self.assertEqual((ended.returncode, ended.stderr[:17]), (1, "bench/all: three:"))
-        (self.top / "bench/one.sh").write_text("#!/usr/bin/env bash\nexit 3\n")
-        ended = self.all("one")
+        self.bench("one", "exit 3")
+        self.bench("two", "printf 'head\\nrow\\n'")
+        ended = self.all()
         self.assertEqual(ended.returncode, 1)
-        self.assertIn("bench/one.sh failed with status 3", ended.stderr)
-        self.assertEqual((self.top / "docs/PERFORMANCE.md").read_text(), PAGE)
+        self.assertTrue(ended.stderr.endswith("\nbench/all: 1 of 2 benches failed: bench/one.sh failed with status 3\n"), ended.stderr)
+        page = (self.top / "docs/PERFORMANCE.md").read_text()
+        self.assertIn("<!-- bench/one.sh -->\nold\n", page)
+        self.assertIn("|head|\n|---|\n|row|\n", page)
+        self.assertIn("by its name alone", page)
 
 
 if __name__ == "__main__":
