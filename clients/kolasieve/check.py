@@ -2,17 +2,19 @@
 
 import contextlib
 import os
+from collections import namedtuple
 
 from kolasieve import pool
 from kolasieve.bands import Bands
 from kolasieve.batch import CheckFault
 from kolasieve.hierarchy import SUFFIX, Library
+from kolasieve.placed import Placed
 from kolasieve.progress import Progress
 from kolasieve.rects import common, grown, meet
 from kolasieve.report import Report, Violation
 from kolasieve.scratch import scratch_folder
 from kolasieve.search import Search, rules_of
-from kolasieve.windows import Sizes, plan
+from kolasieve.windows import Sizes, around, plan
 
 # How the name of a file in the stream format ends, which Magic reads.
 STREAM = ".gds"
@@ -20,6 +22,23 @@ STREAM = ".gds"
 # How often each process takes a window at least, so that all end together, and how many rectangles are worth it.
 TURNS = 3
 LEAST = 4000
+
+
+class Task(namedtuple("Task", "cores moves weight")):
+    """Windows to check together, moves to all places that show the same, and about how many rectangles windows have."""
+
+
+def joined(tasks, most):
+    """Returns tasks, those for one place each together as far as they have no more rectangles than one may have."""
+    done, alone = [], []
+    for task in tasks:
+        if len(task.moves) > 1:
+            done.append(task)
+        elif alone and alone[-1].weight + task.weight <= most:
+            alone[-1] = Task(alone[-1].cores + task.cores, task.moves, alone[-1].weight + task.weight)
+        else:
+            alone.append(task)
+    return done + alone
 
 
 class Choice:
@@ -65,7 +84,7 @@ class Check:
             library = Library(self.process, top, folders)
             self.build()
             search = Search(library, choice, scratch)
-            bands = self.bands(search, self.windows(search, library, choice), scratch)
+            bands = self.bands(search, self.tasks(search, library, choice), scratch)
             self.say("joining what was found")
             rules = [rule for rule in rules if bands.has(rule)]
             violations = [Violation(rule.text, bands.joined([rule]), rule.is_proved) for rule in rules]
@@ -86,7 +105,7 @@ class Check:
         return cell_of(self.process.path, path, cell, scratch)
 
     def build(self):
-        """Starts and ends a magicd that is a script: the launcher's first call builds it, and several would side by side."""
+        """Starts and ends a magicd that is a script: the launcher's first call builds it; several would side by side."""
         with contextlib.suppress(OSError), open(self.server, "rb") as file:
             if file.read(2) != b"#!":
                 return
@@ -98,29 +117,38 @@ class Check:
         if fault := asyncio.run(Program.build([self.server])):
             raise CheckFault(fault)
 
-    def windows(self, search, library, choice):
-        """Returns the windows that processes take at a time, each with about how many rectangles it has."""
-        if library.top.bounds is None:
+    def tasks(self, search, library, choice):
+        """Returns what processes do at a time: windows, and where else the same is found."""
+        top = library.top
+        if top.bounds is None:
             return []
         most = self.sizes.rects
         if self.jobs > 1:
-            most = min(most, max(LEAST, library.top.size // (TURNS * self.jobs)))
-        region = grown(library.top.bounds, search.border)
-        if not choice.region:
-            return list(plan(region, library.top.weight, search.border, most))
-        chosen = tuple(number * library.grid for number in choice.region)
-        windows = plan(chosen, library.top.weight, search.border, most)
-        return [(common(core, chosen), weight) for core, weight in windows]
+            most = min(most, max(LEAST, top.size // (TURNS * self.jobs)))
+        region = around(grown(top.bounds, search.border))
+        if choice.region:
+            region = tuple(number * library.grid for number in choice.region)
+        return joined(self.parts(search, top, region, most), most)
 
-    def bands(self, search, windows, scratch):
-        """Returns all that is found in windows."""
-        jobs = max(1, min(self.jobs, len(windows)))
+    def parts(self, search, top, region, most):
+        """Yields a task for each window of a region, of those that show the same for one."""
+        for part, moves in Placed(top, search.reach, self.sizes.large).parts(region):
+            near = grown(part, search.border)
+            for core, weight in plan(part, lambda rect, near=near: top.weight(common(rect, near)), search.border, most):
+                yield Task([common(core, part)], moves, weight)
+
+    def bands(self, search, tasks, scratch):
+        """Returns all that is found by tasks."""
+        jobs = max(1, min(self.jobs, len(tasks)))
         search.use(self.server, self.sizes, max(1, self.jobs // jobs))
         bands = Bands(scratch, search.flat.top.bounds)
-        progress = Progress([weight for _, weight in windows], self.say)
-        with contextlib.closing(pool.results(search, windows, jobs)) as results:
-            for weight, found, layers in results:
+        progress = Progress([task.weight for task in tasks], self.say)
+        items = enumerate(task.cores for task in tasks)
+        with contextlib.closing(pool.results(search, items, jobs)) as results:
+            for number, found, layers in results:
+                task = tasks[number]
                 for key, rects in [*found.items(), *layers.items()]:
-                    bands.add(key, rects)
-                progress.add(weight, sum(map(len, found.values())))
+                    for x, y in task.moves:
+                        bands.add(key, [(l + x, b + y, r + x, t + y) for l, b, r, t in rects])
+                progress.add(task.weight, sum(map(len, found.values())) * len(task.moves))
         return bands

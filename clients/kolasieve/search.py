@@ -59,6 +59,8 @@ class Search:
             reach = max(reach, *(rule.reach * library.grid for rule in live.rules))
         # How far round a window the layout is looked at.
         self.border = max(NEAR, reach + 1)
+        # How far round a square the layout says what is forbidden there: a piece with fewer squares isn't as long.
+        self.reach = max([self.border, *(area.squares for area in self.areas)])
         self.batches = []
         self.sizes = None
         self.at_once = 1
@@ -85,28 +87,34 @@ class Search:
         self.sizes = sizes
         self.at_once = at_once
 
-    def __call__(self, window):
-        """Returns the weight of a window, what is forbidden in it by rule, and its layers, where the report has these."""
-        core, weight = window
-        layers, placed = self.flat.within(grown(core, self.border))
-        found = {Named(text): rects for text, rects in self.by_servers(core, layers).items()}
-        found |= dict(self.by_client(core, layers, placed))
-        if not self.choice.has_layers:
-            return weight, found, {}
-        return weight, found, {name: clipped(rects, core) for name, rects in layers.items()}
+    def __call__(self, item):
+        """Returns an item's number, what is forbidden in its windows by rule, and layers, where the report has these."""
+        number, cores = item
+        windows, found, shown = [], {}, {}
+        for core in cores:
+            layers, placed = self.flat.within(grown(core, self.border))
+            windows.append(self.window(core, layers))
+            add(found, self.by_client(core, layers, placed))
+            if self.choice.has_layers:
+                add(shown, ((name, clipped(rects, core)) for name, rects in layers.items()))
+        add(found, self.by_servers(windows))
+        return number, found, shown
 
-    def by_servers(self, core, layers):
-        """Returns what all groups forbid."""
+    def window(self, core, layers):
+        """Returns a window with what groups look at, as it is painted in turn."""
         shown = {
             name: rects
             for name, rects in in_order(self.process, layers).items()
             if rects and any(part.images[name] for part in self.parts)
         }
-        windows, found = list(fitting(Window(core, self.border, shown), self.sizes, self.parts)), {}
-        for part in side_by_side([each.violations(windows) for each in self.batches], self.at_once):
-            for text, rects in part.items():
-                found.setdefault(text, []).extend(rects)
-        return found
+        return Window(core, self.border, shown)
+
+    def by_servers(self, windows):
+        """Yields what groups forbid."""
+        fit = [part for window in windows for part in fitting(window, self.sizes, self.parts)]
+        for found in side_by_side([each.violations(fit) for each in self.batches], self.at_once):
+            for text, rects in found.items():
+                yield Named(text), rects
 
     def by_client(self, core, layers, placed):
         """Yields what the rules forbid that speak of areas, or of several cells."""
@@ -114,8 +122,13 @@ class Search:
             if self.choice.has_rule(text):
                 yield Named(text, False), clipped(rects, core)
         for area in self.areas:
-            # A piece with fewer squares isn't as long as these are many.
             if set(area.layers) & set(layers):
                 near, _ = self.flat.within(grown(core, area.squares))
                 pieces = small_pieces(area, near)
                 yield Named(area.why, False), clipped([rect for piece in pieces for rect in piece], core)
+
+
+def add(found, more):
+    """Adds to lists by key."""
+    for key, rects in more:
+        found.setdefault(key, []).extend(rects)

@@ -67,6 +67,10 @@ class Sheet:
         found = [(name, layer.within(rect)) for name, layer in self.layers]
         return [(name, rects) for name, rects in found if rects]
 
+    def has(self, rect):
+        """Returns whether any of the rectangles has a square in one."""
+        return any(layer.has(rect) for _, layer in self.layers)
+
     def weight(self, rect):
         """Returns about how many rectangles have a square in a rectangle, at least one where any has."""
         return sum(layer.weight(rect) for _, layer in self.layers)
@@ -122,6 +126,12 @@ class Layer:
         if covers(rect, self.bounds) and self.numbers is not None:
             return list(rects_of(self.numbers))
         return clipped((each for _, numbers in self.near(rect) for each in rects_of(numbers)), rect)
+
+    def has(self, rect):
+        """Returns whether any of the rectangles has a square in one."""
+        if not meet(self.bounds, rect):
+            return False
+        return any(meet(each, rect) for _, numbers in self.near(rect) for each in rects_of(numbers))
 
     def weight(self, rect):
         """Returns about how many of the rectangles have a square in one, at least one where any has."""

@@ -15,14 +15,18 @@ LEAST = 64
 
 
 class Sizes:
-    """The most that a session's window may have, squares a side and tiles of a plane; and rectangles of one for a process."""
+    """The most that a session's window may have, squares a side and tiles of a plane, and a process's, rectangles.
+
+    A cell with so many rectangles is large.
+    """
 
     tiles = 16384
 
-    def __init__(self, side=1 << 19, tiles=tiles, rects=30000):
+    def __init__(self, side=1 << 19, tiles=tiles, rects=30000, large=2000):
         self.side = side
         self.tiles = tiles
         self.rects = rects
+        self.large = large
 
 
 def around(rect):
