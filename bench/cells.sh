@@ -10,8 +10,8 @@
 #              most squares in a grid that a cell's plane has room for
 #   dump       a cell of some 1,000 tiles, into an empty session and then over itself, one square to the right and back
 #
-# Each time is the processor's, the difference of two scripts or of two command lines, of each the least of five runs that take turns. The
-# last column is how many times as long a step takes as the first one, the paint of one square.
+# Each time is the processor's, the difference of two scripts or of two command lines, of each the least of five runs
+# that take turns. The last column is how many times as long a step takes as the first one, the paint of one square.
 set -eu
 . "$(dirname "${BASH_SOURCE[0]}")/head.sh"
 work=$(mktemp -d)

@@ -16,8 +16,8 @@
 #   why, world        the rules that are violated anywhere in the world, where the layout is three bars
 #   empty world       the whole world is checked, which is empty: 67,108,864 pieces; 500 times
 #
-# Each time is the processor's, the difference of two scripts, of each the least of three runs that take turns. The rows of scatters have the
-# number of marked squares at the end.
+# Each time is the processor's, the difference of two scripts, of each the least of three runs that take turns. The rows
+# of scatters have the number of marked squares at the end.
 set -eu
 . "$(dirname "${BASH_SOURCE[0]}")/head.sh"
 work=$(mktemp -d)

@@ -4,10 +4,11 @@
 # Each session paints 1,000 squares of poly with a side of 10, each 10 apart from the others, a box and a paint a square, into
 # a layout of its own: some 2,000 tiles. The sessions take turns, a line each. The pool has room for 64 of them.
 #
-# The columns are how many sessions there are, how many lines they have together, the microseconds a line, how many times as
-# long that is as with one session, and the most memory that the program held, in megabytes. The time is the processor's, the difference of
-# a script in which each session paints its squares ten times over and of one that opens the sessions alone, of each the
-# least of three runs. A last row has 64 sessions of which one paints, and the others are open.
+# The columns are how many sessions there are, how many lines they have together, the microseconds a line, how many
+# times as long that is as with one session, and the most memory that the program held, in megabytes. The time is the
+# processor's, the difference of a script in which each session paints its squares ten times over and of one that opens
+# the sessions alone, of each the least of three runs. A last row has 64 sessions of which one paints, and the others
+# are open.
 set -eu
 . "$(dirname "${BASH_SOURCE[0]}")/head.sh"
 work=$(mktemp -d)

@@ -87,6 +87,13 @@ class Links(unittest.TestCase):
                     self.assertTrue(not heading or heading in anchors(to.read_text()))
 
 
+class Pages(unittest.TestCase):
+    def test_each_has_a_row(self):
+        named = re.findall(r"`(\w+)`", "".join(re.findall(r"(?m)^\| (`[^|]*)\|", (ROOT / "tests/README.md").read_text())))
+        pages = {each.stem for each in (ROOT / "tests/pages").glob("*.page")}
+        self.assertEqual(pages - set(named), set())
+
+
 class Commands(unittest.TestCase):
     def test_of_the_readme(self):
         played = given(self, "README.md")
