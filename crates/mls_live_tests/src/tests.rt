@@ -3,7 +3,6 @@ mod commands;
 mod few_turns;
 mod gates;
 mod holding;
-mod in_hand;
 mod many_seats;
 mod moments;
 mod retiring;
@@ -55,9 +54,4 @@ fn all_retired(rt: HostRuntime) -> Result<(), Fail> {
 #[test]
 fn world_settled(rt: HostRuntime) -> Result<(), Fail> {
     play(&rt, rt.alloc(), SMALL, Story::Settling)
-}
-
-#[test]
-fn two_pieces_at_one_notice(rt: HostRuntime) -> Result<(), Fail> {
-    play(&rt, rt.alloc(), SMALL, Story::TwoPieces)
 }

@@ -17,7 +17,7 @@ use std::thread::Threads;
 use std::time::Clock;
 
 /// How many notices wait at once.
-const NOTICES: u32 = 1_000_000;
+const NOTICES: u32 = 100_000;
 
 /// Returns what a worker says that finished so many checks, and whose checks ended in no other way.
 fn only_finished(finished: u64) -> Worked {
@@ -171,7 +171,7 @@ fn close_counted<N: Naming, R: Wait + Abort>(
     close(stage, seat)
 }
 
-/// A million notices wait, all of one session.
+/// A hundred thousand notices wait, all of one session.
 fn many_notices<N: Naming, R: Wait + Abort>(stage: &Stage<'_, N, R>) -> Result<(), Fail>
     requires { N.parts ≡ 65 }
 {

@@ -5,7 +5,6 @@ ghost use Rattle.mls_server.specs.Settings.{terms_for};
 
 use crate::tests::few_turns::end_workers;
 use crate::tests::holding::{check_two, paint_held};
-use crate::tests::in_hand::check_two_pieces;
 use crate::tests::many_seats::retire_many;
 use crate::tests::moments::{close_twice, try_channels};
 use crate::tests::retiring::retire_four;
@@ -34,7 +33,6 @@ pub enum Story {
     FewTurns,
     Retiring,
     Settling,
-    TwoPieces,
 }
 
 impl Story {
@@ -54,7 +52,6 @@ impl Story {
             Story::FewTurns => end_workers(stage),
             Story::Retiring => retire_four(stage),
             Story::Settling => settle(stage),
-            Story::TwoPieces => check_two_pieces(stage),
         }
     }
 }
