@@ -20,14 +20,13 @@ from kolasieve.areas import small_pieces
 from kolasieve.carrier import Lost
 from kolasieve.chip import OutOfStep, Refused
 from kolasieve.hierarchy import LayoutFault
-from kolasieve.layout import Layout, boxes_round, differing, missing
-from kolasieve.rects import bounds, grown, meet, squares, strips, without
+from kolasieve.layout import Layout, boxes_round
+from kolasieve.overlaps import TEXTS
+from kolasieve.rects import bounds, clipped, grown, meet, squares, strips, without
 from kolasieve.served import ServedFault
 from kolasieve.sessions import InUse, Sessions, apart, layers_of
 from kolasieve.showing import Shown
-from kolasieve.window import WORLD, Look, Unread, View, name_of
-
-EVERYWHERE = (-WORLD, -WORLD, WORLD, WORLD)
+from kolasieve.window import EVERYWHERE, Look, Unread, View, name_of
 
 # The pause after a connection is lost, in seconds; each further one is twice as long, up to the longest.
 FIRST_PAUSE = 0.2
@@ -62,9 +61,10 @@ class Following:
         # Which side is right where both differ at first, if that is decided.
         self.take = take
         self.halo = max(group.halo for group in process.groups) * served.grid
+        self.areas = [area.on(served.grid) for area in process.areas]
         self.shown = Shown(served.grid)
-        # The window: the last look at it, its cell, what it shows, this as a layout, and what it shows of a waiting cell.
-        self.seen, self.cell, self.view, self.window, self.waiting = None, None, None, Layout(), None
+        # The window: the last look at it, what it shows, and what it shows of a cell that waits.
+        self.seen, self.view, self.waiting = None, None, None
         # What it was to hold in boxes, and how many of these it hasn't taken yet.
         self.putting, self.puts = [], 0
         # The chip and its cell; whether its sessions are at hand, and whether they can hold the layout.
@@ -100,44 +100,42 @@ class Following:
             self.shown.tell("read")
             if look != self.seen or self.has_put():
                 self.seen = look
-                self.take_window(View(self.process, look, self.grid))
+                self.take_window(look)
         except Unread as fault:
             self.shown.tell("read")
             self.shown.say(f"the window isn't followed: {fault}")
         except LayoutFault as fault:
             self.shown.say(f"the window isn't followed: {fault}")
 
-    def take_window(self, view):
+    def take_window(self, look):
         """Takes what the window shows now: what has changed is pending, and another cell waits until that is sent."""
-        self.waiting = None
-        if self.view is None:
-            self.show_cell(view)
-            return
-        if view.cell != self.cell:
-            self.waiting = view
+        if self.view is None or look.cell != self.view.cell:
+            self.waiting = View(self.process, look, self.grid)
+            if self.view is None:
+                self.show_waiting()
             self.changed.set()
             return
-        before, self.view = self.view.layers, view
+        self.waiting = None
+        boxes = self.view.take(look)
         # This is known already.
-        self.shown.forbid_all(view.between)
-        boxes = []
-        if view.layers != before:
-            gone, come = missing(before, view.layers), missing(view.layers, before)
-            self.window.exchange(gone, come)
-            boxes = boxes_round(differing(gone, come))
-            if self.undecided:
-                self.edited += boxes
+        self.shown.take(EVERYWHERE, self.view.between.rects())
+        if self.undecided:
+            self.edited += boxes
         boxes += self.not_put()
         if boxes:
             self.pending, self.refused = self.pending + self.refused + boxes, []
             self.show_awaiting()
             self.changed.set()
 
-    def show_cell(self, view):
-        """The window's cell is another one from now on."""
-        self.view, self.cell, self.window = view, view.cell, Layout(view.layers)
-        self.waiting, self.is_open, self.putting, self.puts = None, False, [], 0
-        self.changed.set()
+    def show_waiting(self):
+        """The window's cell is from now on the one that waits."""
+        self.view, self.waiting = self.waiting, None
+        self.is_open, self.putting, self.puts = False, [], 0
+
+    @property
+    def window(self):
+        """What the window shows, as a layout."""
+        return self.view.layout
 
     def put(self, changes):
         """Has the window hold layers in boxes, by its own cell's paint: nothing of cells that it uses is changed."""
@@ -177,7 +175,7 @@ class Following:
                 self.shown.say(f"the server can't be reached, and is tried again: {fault}")
                 self.show_awaiting()
                 if self.waiting:
-                    self.show_cell(self.waiting)
+                    self.show_waiting()
             finally:
                 self.is_open = False
                 await self.sessions.hang_up()
@@ -194,7 +192,7 @@ class Following:
             if self.view is not None:
                 await self.said_where_late(asyncio.ensure_future(self.follow()))
             if self.waiting:
-                self.show_cell(self.waiting)
+                self.show_waiting()
                 continue
             if self.asked and await self.obey(self.asked.pop(0)):
                 return
@@ -272,19 +270,19 @@ class Following:
             await self.sessions.close()
         elif self.sessions.places:
             await self.sessions.leave()
-        if self.chip_cell != self.cell:
+        if self.chip_cell != self.view.cell:
             self.shown.forget()
             self.replaced, self.undoing = [], []
-        is_new = await self.sessions.open(session_name(self.name, self.cell))
-        was_followed, edited = self.chip_cell == self.cell, [EVERYWHERE] if is_new else self.pending
-        self.chip, self.chip_cell, self.is_open = self.sessions.chip(), self.cell, True
+        is_new = await self.sessions.open(session_name(self.name, self.view.cell))
+        was_followed, edited = self.chip_cell == self.view.cell, [EVERYWHERE] if is_new else self.pending
+        self.chip, self.chip_cell, self.is_open = self.sessions.chip(), self.view.cell, True
         self.pending, self.refused, self.undecided, self.edited, self.is_held = [], [], [], [], True
         self.under_way = [EVERYWHERE]
         self.show_awaiting()
         try:
             if is_new:
                 self.shown.say(f"{self.sessions.name} is opened")
-                await self.chip.load(self.listed())
+                await self.chip.load(self.window.rects())
             else:
                 await self.settle(was_followed, edited)
             await self.show(EVERYWHERE)
@@ -294,15 +292,12 @@ class Following:
         finally:
             self.under_way = []
 
-    def listed(self):
-        return {name: list(rects) for name, rects in self.view.layers.items()}
-
     async def settle(self, was_followed, edited):
         """Finds where resumed sessions differ from the window, and which side is right there.
 
         Where only differs what was edited while the sessions weren't at hand, it is the window.
         """
-        self.chip.take(self.listed())
+        self.chip.take(self.window.rects())
         self.chip.is_in_step = True
         rects = await self.compare()
         self.shown.say(f"{self.sessions.name} is resumed" + (f", {squares(strips(rects))} squares differ" if rects else ""))
@@ -391,20 +386,27 @@ class Following:
         """Shows what is forbidden in a rectangle, and where it wasn't said before."""
         rect = bounds([rect, *self.unsaid])
         try:
-            self.shown.take(rect, await self.chip.violations(rect), self.by_client())
+            self.shown.take(rect, self.by_server(await self.chip.violations(rect)))
+            for area in self.areas:
+                self.show_area(area, rect)
+            self.shown.take(EVERYWHERE, self.view.between.rects())
             self.under_way, self.unsaid = [], []
             self.show_awaiting()
         except violations.NotChecked as fault:
             self.unsaid = [rect]
             self.shown.say(f"the server doesn't say what is forbidden: {fault}")
 
-    def by_client(self):
-        """Returns what the rules of areas and those between cells forbid in the whole window."""
-        layers, found = self.window.rects() if self.process.areas else {}, dict(self.view.between)
-        for area in self.process.areas:
-            pieces = small_pieces(area.on(self.grid), layers)
-            found[area.why] = [rect for piece in pieces for rect in piece]
-        return found
+    def by_server(self, found):
+        """Returns what rules of groups forbid by their texts, those among them that forbid nothing now."""
+        by_client = {*TEXTS, *(area.why for area in self.areas)}
+        return {text: found.get(text, []) for text in {**self.shown.found.layers, **found} if text not in by_client}
+
+    def show_area(self, area, rect):
+        """Shows what a rule of areas forbids where something has changed in a rectangle."""
+        # A piece with fewer squares isn't as long as these are many.
+        near = grown(rect, area.squares)
+        pieces = small_pieces(area, self.window.within(grown(near, area.squares)))
+        self.shown.take(near, {area.why: clipped([each for piece in pieces for each in piece], near)})
 
     def show_awaiting(self):
         """Shows where it isn't known what is forbidden."""

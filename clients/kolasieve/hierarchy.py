@@ -149,7 +149,7 @@ class Library:
         """Returns the file of a cell, which must be of this technology."""
         try:
             with self.opened(path) as lines:
-                file = mag.read_packed(lines, Packed)
+                file = self.parsed(path, lines)
         except OSError as fault:
             raise LayoutFault(f"{path}: {fault.strerror}") from None
         except mag.MagFault as fault:
@@ -163,6 +163,10 @@ class Library:
     def opened(self, path):
         """Returns the open file of a cell."""
         return open(path, encoding="latin-1")
+
+    def parsed(self, path, lines):
+        """Returns what the open file of a cell has."""
+        return mag.read_packed(lines, Packed)
 
     def find(self, path, use):
         """Returns the file of a used cell: where the use says, beside its user, or in the folders, in this order."""

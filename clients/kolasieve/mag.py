@@ -1,7 +1,6 @@
 """Cell files of Magic: rectangles by section, uses of other cells, and the scale that all numbers are in."""
 
 import io
-from array import array
 from math import gcd
 from operator import ge
 
@@ -128,8 +127,8 @@ class Reading:
             return False
         del words[::5]
         try:
-            numbers = array("q", map(int, words))
-        except (ValueError, OverflowError):
+            numbers = list(map(int, words))
+        except ValueError:
             return False
         if any(map(ge, numbers[0::4], numbers[2::4])) or any(map(ge, numbers[1::4], numbers[3::4])):
             return False

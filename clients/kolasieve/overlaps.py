@@ -11,6 +11,9 @@ EXACT = "This layer can't abut or partially overlap between subcells"
 NONE = "Can't overlap those layers"
 TEXTS = [EXACT, NONE]
 
+# How far round a square these rules look.
+NEAR = 2
+
 
 class OverlapRules:
     """The lines `exact_overlap` and `no_overlap` of a technology, as names of layers."""

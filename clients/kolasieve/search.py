@@ -7,15 +7,12 @@ from kolasieve.areas import small_pieces
 from kolasieve.batch import Batches, Part, write
 from kolasieve.flat import Flat
 from kolasieve.live import Live, gathered
-from kolasieve.overlaps import TEXTS, OverlapRules
+from kolasieve.overlaps import NEAR, TEXTS, OverlapRules
 from kolasieve.paint import in_order
 from kolasieve.rects import clipped, grown
 from kolasieve.scaling import scaled
 from kolasieve.script import side_by_side
 from kolasieve.windows import Window, fitting
-
-# How far round a window rules between cells look.
-NEAR = 2
 
 
 class Named(namedtuple("Named", "text is_proved", defaults=[True])):

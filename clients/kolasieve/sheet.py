@@ -90,6 +90,15 @@ class Layer:
         if self.numbers is None:
             self.fill(rects)
 
+    def is_same(self, other):
+        """Returns whether another layer has the same rectangles in the same order."""
+        return self.numbers == other.numbers and self.levels == other.levels
+
+    def __iter__(self):
+        if self.numbers is not None:
+            return rects_of(self.numbers)
+        return chain.from_iterable(rects_of(numbers) for bins in self.levels.values() for numbers in bins.values())
+
     def fill(self, rects):
         side = side_for(self.bounds, self.count)
         while rects:

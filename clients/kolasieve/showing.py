@@ -10,7 +10,8 @@
 
 import sys
 
-from kolasieve.rects import meet, strips, without
+from kolasieve.layout import Layout
+from kolasieve.window import EVERYWHERE
 from kolasieve.report import tcl_word
 
 
@@ -19,7 +20,8 @@ class Shown:
 
     def __init__(self, grid):
         self.grid = grid
-        self.found = {}
+        # Maximal strips by the rules' texts.
+        self.found = Layout()
         self.awaiting = []
         self.said = None
 
@@ -47,32 +49,15 @@ class Shown:
             painted = " ".join("{%s %s}" % (name, " ".join(map(self.box, rects))) for name, rects in layers.items())
             self.tell("put", self.box(box), "{%s}" % " ".join(names), "{%s}" % painted)
 
-    def take(self, rect, found, everywhere):
-        """Takes what rules forbid in a rectangle, and others everywhere; what the former forbid outside it they still do."""
-        new = {}
-        for text, rects in self.found.items():
-            new[text] = [part for each in rects for part in (without(each, rect) if meet(each, rect) else [each])]
+    def take(self, rect, found):
+        """Takes what some rules forbid in a rectangle, by their texts; what they forbid outside it they still do."""
         for text, rects in found.items():
-            new[text] = new.get(text, []) + rects
-        self.forbid_all({**new, **everywhere})
-
-    def forbid_all(self, found):
-        """Tells the window what rules forbid from now on, and nothing of others."""
-        for text, rects in found.items():
-            self.forbid(text, rects)
-
-    def forbid(self, text, rects):
-        """Tells the window what a rule forbids, where it is something else than before."""
-        rects = strips(rects)
-        if rects != self.found.get(text, []):
-            self.tell("violations", tcl_word(text), self.boxes(rects))
-        self.found[text] = rects
+            if self.found.keep_layer(text, rect, rects):
+                self.tell("violations", tcl_word(text), self.boxes(self.found.strips(text)))
 
     def forget(self):
         """Nothing is known any more, as of another cell."""
-        for text in self.found:
-            self.forbid(text, [])
-        self.found = {}
+        self.take(EVERYWHERE, {text: [] for text in self.found.layers})
 
     def wait_for(self, rects):
         """Tells the window where it isn't known what is forbidden."""

@@ -4,19 +4,24 @@ import io
 import os
 from dataclasses import dataclass, field
 
+from kolasieve.changes import changed
 from kolasieve.flat import Flat
 from kolasieve.hierarchy import SUFFIX, Cell, LayoutFault, Library
-from kolasieve.layout import Layout
-from kolasieve.overlaps import TEXTS, OverlapRules
-from kolasieve.rects import strips
+from kolasieve.layout import Layout, boxes_round, differing, missing
+from kolasieve.overlaps import NEAR, TEXTS, OverlapRules
+from kolasieve.rects import clipped, grown, strips
 from kolasieve.sheet import Sheet
 
 # The world's lines run from minus this number to this number.
 WORLD = 1048576
+EVERYWHERE = (-WORLD, -WORLD, WORLD, WORLD)
 
 # How cells begin in a crash backup, and how it ends.
 FILE, END = "file ", "end "
 CELL_END = "<< end >>\n"
+
+# A cell without a square.
+NOTHING = Cell(Sheet([]), [])
 
 
 class Unread(Exception):
@@ -72,51 +77,101 @@ def file_of(path):
 
 
 class Held(Library):
-    """The cells of a window: those that a backup has, and others as their files are."""
+    """The cells of a window: those that a backup has, and others as their files are. A new cell has neither."""
 
-    def __init__(self, process, look):
+    def __init__(self, process, look, before=None):
+        """Takes what was held before: a cell of which all is as it was there is the same object."""
         self.texts = look.texts
+        # The text and the parsed file of each cell, and the cells by what they are made of.
+        self.files, self.made = {}, {}
+        self.files_before, self.made_before = (before.files, before.made) if before else ({}, {})
         name = name_of(look.cell)
-        super().__init__(process, name if name in self.texts else file_of(look.path), look.folders)
+        if name in self.texts or look.written is not None:
+            super().__init__(process, name if name in self.texts else file_of(look.path), look.folders)
+        else:
+            self.process, self.grid, self.top = process, 1, NOTHING
+        del self.files_before, self.made_before
 
     def opened(self, path):
         return io.StringIO(f"{self.texts[path]}{CELL_END}") if path in self.texts else super().opened(path)
 
+    def parsed(self, path, lines):
+        text = lines.read()
+        before, file = self.files_before.get(path, (None, None))
+        self.files[path] = text, file if text == before else super().parsed(path, io.StringIO(text))
+        return self.files[path][1]
+
     def find(self, path, use):
         return use.name if use.name in self.texts else super().find(path, use)
 
+    def cell(self, path, file, used):
+        parts = self.grid, file, *(self.cells[each] for each in used)
+        self.made[parts] = self.made_before.get(parts) or super().cell(path, file, used)
+        return self.made[parts]
+
 
 class View:
-    """What a window shows, on a grid of so many squares a lambda."""
+    """What a window shows of a cell, on a grid of so many squares a lambda, look after look."""
 
     def __init__(self, process, look, grid):
+        self.process = process
         self.cell = look.cell
-        # Sets of rectangles by layer; and strips by the texts of rules between cells, which these forbid.
-        self.layers, self.between = {}, {text: [] for text in TEXTS}
-        self.held, self.scale = None, 1
-        if name_of(look.cell) in look.texts or look.written is not None:
-            self.take(Held(process, look), grid)
+        self.grid = grid
+        self.rules = OverlapRules(process)
+        # The flat layout; and by the texts of rules between cells what these forbid.
+        self.layout, self.between = Layout(), Layout({text: [] for text in TEXTS})
+        # The cells, and how many squares a number of theirs is.
+        self.held, self.top, self.scale = None, NOTHING, 1
+        self.take(look)
 
-    def take(self, held, grid):
-        if grid % held.grid:
-            sizes = f"lambda is {held.grid} squares in this window, and {grid} of the server"
+    def take(self, look):
+        """Takes another look at the cell; returns boxes that have all squares of which it shows something else now.
+
+        Only what has changed is looked at anew. A look that can't be followed leaves all as it was.
+        """
+        held = Held(self.process, look, self.held)
+        if self.grid % held.grid:
+            sizes = f"lambda is {held.grid} squares in this window, and {self.grid} of the server"
             raise LayoutFault(f"{sizes} (process serve --grid)")
-        self.held, self.scale, bounds = held, grid // held.grid, held.top.bounds
-        if bounds is not None:
-            if min(bounds) < -WORLD or max(bounds) > WORLD:
-                raise LayoutFault(f"{self.cell}: {bounds} lies outside the world of {2 * WORLD} squares a side")
-            rules = OverlapRules(held.process)
-            layers, placed = Flat(held, rules.watched).within(bounds)
-            self.layers = {name: set(self.strips(rects)) for name, rects in layers.items()}
-            self.between |= {text: self.strips(rects) for text, rects in rules.violations(placed).items()}
+        scale = self.grid // held.grid
+        if held.top.bounds and max(map(abs, held.top.bounds)) * scale > WORLD:
+            raise LayoutFault(f"{self.cell}: {held.top.bounds} lies outside the world of {2 * WORLD} squares a side")
+        boxes = changed(self.top, held.top) if scale == self.scale else self.everywhere(held.top, scale)
+        self.held, self.top, self.scale = held, held.top, scale
+        flat = Flat(held, self.rules.watched)
+        return boxes_round([rect for box in boxes for rect in self.look_again(flat, box)])
+
+    def everywhere(self, cell, scale):
+        """Returns boxes that have all that it shows, and all of a cell on another scale, in this cell's numbers."""
+        boxes = [cell.bounds] if cell.bounds else []
+        if self.top.bounds:
+            left, bottom, right, top = self.scaled(self.top.bounds)
+            boxes.append((left // scale, bottom // scale, -(-right // scale), -(-top // scale)))
+        return boxes_round(boxes)
+
+    def look_again(self, flat, box):
+        """Takes what the cells show in and round a box; returns rectangles of the squares that were others before."""
+        around, near = grown(box, 2 * NEAR), grown(box, NEAR)
+        layers, placed = flat.within(around)
+        forbidden = self.rules.violations(placed)
+        box = self.scaled(around)
+        before, now = self.layout.within(box), {name: self.strips(rects) for name, rects in layers.items()}
+        gone, come = missing(before, now), missing(now, before)
+        for name in {**gone, **come}:
+            self.layout.keep_layer(name, box, now.get(name, ()))
+        for text in TEXTS:
+            self.between.keep_layer(text, self.scaled(near), self.strips(clipped(forbidden.get(text, ()), near)))
+        return differing(gone, come)
+
+    def scaled(self, rect):
+        return tuple(at * self.scale for at in rect)
 
     def strips(self, rects):
-        return [tuple(at * self.scale for at in rect) for rect in strips(rects)]
+        return list(map(self.scaled, strips(rects)))
 
     def used(self):
         """Returns the layout of the cells that the window's cell uses, without its own paint."""
-        if self.held is None or not self.held.top.uses:
-            return Layout()
-        self.held.top = Cell(Sheet([]), self.held.top.uses)
-        layers, _ = Flat(self.held).within(self.held.top.bounds)
+        flat = Flat(self.held)
+        flat.top = Cell(Sheet([]), self.top.uses)
+        layers, _ = flat.within(flat.top.bounds) if self.top.uses else ({}, [])
         return Layout({name: self.strips(rects) for name, rects in layers.items()})
