@@ -199,6 +199,22 @@ class OnHalfOfLambda(ServedCase):
         self.assertEqual(follow.settled(), {WIDTH: [(1.5, 0, 2, 20)]})
 
 
+class OfAreas(ServedCase):
+    """A rule of areas forbids whole pieces, however far from a change they reach."""
+
+    technology = "SCN4M_SUBM.20"
+
+    def test_pieces_come_apart_and_together(self):
+        [area] = self.process.areas
+        follow, halves, joint = Companion(self, "ben"), [(0, 0, 1, 15), (0, 16, 1, 30)], [(1, 14, 3, 17)]
+        # Where something is edited beside, an end of this one is looked at alone.
+        long, beside = [(130, 0, 160, 1)], [(200, 0, 202, 9)]
+        for rects, found in (([(0, 0, 1, 30)], []), (halves, halves), (halves + joint, []), (halves[:1], halves[:1])):
+            for metal in ([], beside):
+                follow.look({"psubstratepdiff": rects + long, "metal1": metal})
+                self.assertEqual(follow.settled().get(area.why, []), found)
+
+
 class Refusing(ServedCase):
     """Sessions that take little: what is refused is said, and tried again with the next change."""
 

@@ -5,6 +5,7 @@ import random
 import unittest
 
 from kolasieve import mag, rects
+from kolasieve.layout import Layout, boxes_round, differing, missing
 
 FILE = """magic
 tech scmos
@@ -95,14 +96,18 @@ class Files(unittest.TestCase):
             self.assertEqual(str(caught.exception), fault)
 
 
+def random_rect(dice):
+    left, bottom = dice.randrange(12), dice.randrange(12)
+    return left, bottom, left + dice.randrange(1, 6), bottom + dice.randrange(1, 6)
+
+
 class Rectangles(unittest.TestCase):
     def test_as_squares(self):
         dice = random.Random(1)
         for _ in range(800):
             found = []
             for _ in range(dice.randrange(1, 14)):
-                left, bottom = dice.randrange(12), dice.randrange(12)
-                found.append((left, bottom, left + dice.randrange(1, 6), bottom + dice.randrange(1, 6)))
+                found.append(random_rect(dice))
             together = squares(found)
             self.assertEqual(rects.strips(found), strips_of(together), found)
             entries = [(rect, place) for place, rect in enumerate(found)]
@@ -119,4 +124,17 @@ class Rectangles(unittest.TestCase):
                 self.assertEqual(squares(left), squares([one]) - squares([other]))
                 self.assertEqual(rects.squares(left), len(squares(left)))
 
-
+    def test_a_layout_that_is_replaced_in_part(self):
+        """A layer has the strips of its squares, whatever its parts were replaced by."""
+        dice, layout, told = random.Random(1), Layout(), set()
+        for _ in range(400):
+            box, *rest = (random_rect(dice) for _ in range(dice.randrange(1, 5)))
+            inside, before = rects.clipped(rest, box), layout.rects()
+            now = told - squares([box]) | squares(inside)
+            self.assertEqual(layout.keep_layer("m", box, inside), now != told)
+            self.assertEqual(layout.strips("m"), strips_of(now))
+            changed = differing(missing(before, layout.rects()), missing(layout.rects(), before))
+            self.assertEqual(squares(changed), now ^ told)
+            self.assertLessEqual(now ^ told, squares(boxes_round(changed)))
+            look, told = random_rect(dice), now
+            self.assertEqual(layout.within(look).get("m", []), strips_of(told & squares([look])))

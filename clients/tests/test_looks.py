@@ -13,7 +13,7 @@ from kolasieve.rects import covers, grown
 from kolasieve.window import Look, View
 
 CELLS = ["leaf", "branch", "top"]
-SEEDS, STEPS = 6, 40
+SEEDS, STEPS = 10, 40
 
 
 class Cells:
@@ -24,19 +24,19 @@ class Cells:
         # Magic writes layers in this order.
         self.order = [layer.name for layer in process.layers if not layer.parts]
         # Few types, so that they come together often.
-        self.types = [*dice.sample(self.order, 4), "metal1", "polycontact", "ntransistor", "ntransistor"]
+        self.types = [*dice.sample(self.order, 2), "metal1", "polycontact", "ntransistor"]
         self.paint = {cell: {} for cell in CELLS}
         self.uses = {cell: [] for cell in CELLS}
         self.halves = set()
 
     def rect(self):
-        left, bottom = self.dice.randrange(40), self.dice.randrange(40)
+        left, bottom = self.dice.randrange(30), self.dice.randrange(30)
         return left, bottom, left + self.dice.randrange(1, 12), bottom + self.dice.randrange(1, 12)
 
     def change(self):
         """Changes something; returns what it was."""
         cell = self.dice.choice(CELLS)
-        often, seldom = ["paint", "paint", "erase"] * 3, ["use", "use", "move", "remove", "swap", "scale", "nothing"]
+        often, seldom = ["paint", "paint", "erase"] * 3, ["use", "use", "move", "array", "remove", "swap", "scale", "scale"]
         what = self.dice.choice(often + seldom)
         paint, uses = self.paint[cell], self.uses[cell]
         if what == "paint":
@@ -50,21 +50,26 @@ class Cells:
         elif what == "move" and uses:
             at = self.dice.randrange(len(uses))
             uses[at] = self.use(uses[at][0])
+        elif what == "array" and uses:
+            at = self.dice.randrange(len(uses))
+            uses[at] = uses[at][0], self.array(), uses[at][2]
         elif what == "remove" and uses:
             uses.remove(self.dice.choice(uses))
         elif what == "swap":
             self.dice.shuffle(uses)
-        elif what == "scale" and cell == "leaf":
-            self.halves ^= {cell}
+        elif what == "scale":
+            self.halves ^= {"leaf"}
         return what, cell
 
     def use(self, name):
-        """Returns lines that use a cell, below which any timestamp may stand."""
+        """Returns the name of a cell that is used, and the lines of its array and its transform."""
         a, b, d, e = self.dice.choice(TURNS)
-        at = a, b, self.dice.randrange(-40, 40), d, e, self.dice.randrange(-40, 40)
+        at = a, b, self.dice.randrange(-30, 30), d, e, self.dice.randrange(-30, 30)
+        return name, self.array(), "transform %d %d %d %d %d %d\n" % at
+
+    def array(self):
         last, step, top = self.dice.choice([1, 2, 9]), self.dice.choice([30, -7]), self.dice.randrange(3)
-        array = f"array 0 {last} {step} 0 {top} 33\n"
-        return name, self.dice.choice(["", array]) + "timestamp %d\n", "transform %d %d %d %d %d %d\n" % at
+        return self.dice.choice(["", f"array 0 {last} {step} 0 {top} 33\n"])
 
     def text(self, cell):
         """Returns the text of a cell as a backup has it, the rectangles in any order."""
@@ -72,8 +77,9 @@ class Cells:
         for name in sorted(self.paint[cell], key=self.order.index):
             rects = self.dice.sample(self.paint[cell][name], len(self.paint[cell][name]))
             lines += [f"<< {name} >>\n", *("rect %d %d %d %d\n" % rect for rect in rects)]
-        for number, (name, head, transform) in enumerate(self.uses[cell]):
-            lines += [f"use {name} {name}_{number}\n", head % self.dice.randrange(9), transform, "box 0 0 1 1\n"]
+        for number, (name, array, transform) in enumerate(self.uses[cell]):
+            time = self.dice.randrange(9)
+            lines += [f"use {name} {name}_{number}\n", array, f"timestamp {time}\n", transform, "box 0 0 1 1\n"]
         return "".join(lines)
 
     def look(self):
