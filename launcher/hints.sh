@@ -1,5 +1,5 @@
-# What a first user meets, said before the program starts: sourced by ./magicd, which sets `say`. The program's own
-# messages come behind it.
+# What a first user meets, said before the program starts: sourced by ./magicd, which sets `here` and `say`. The program's
+# own messages come behind it.
 
 # The status with which the program will end for its words or its files, as far as is seen here.
 fault=0
@@ -64,6 +64,13 @@ look_at_cell() {
     esac
 }
 
+look_at_option() {
+    if ! grep -qF -- " ${1%%=*} " "$here/launcher/help.txt"; then
+        say "$1: there is no such option; --help shows all"
+        fault=2
+    fi
+}
+
 # Looks at the words of a command line, and sets `fault`.
 look_at_words() {
     local is_option=yes
@@ -76,7 +83,7 @@ look_at_words() {
                 ;;
             yes--tech=*) look_at_technology "${1#*=}" ;;
             yes--quota | yes--pool | yes--journal | yes--cell-tiles | yes--workers) [ $# -eq 1 ] || shift ;;
-            yes-*) ;;
+            yes-*) look_at_option "$1" ;;
             *) look_at_cell "$1" ;;
         esac
         shift

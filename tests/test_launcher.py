@@ -120,6 +120,16 @@ class Launcher(LauncherCase):
             self.assertRegex(said, "\\Amagicd: none: ")
         self.assertEqual(self.calls(), [])
 
+    def test_options_that_are_none(self):
+        for words in (["--wrokers", "2"], ["--quota", "9", "-x=c", "--live"], ["--try", "--wells"]):
+            output, said, status = self.ended(*words)
+            self.assertEqual((output, status), ("", 2))
+            self.assertRegex(said, r"\Amagicd: (--wrokers|-x=c|--wells): there is no such option; --help shows all\n")
+        self.assertEqual(self.calls(), [])
+        self.built()
+        for words in (["--live", "--quota=9", "--workers", "2"], ["--", "-x=c"]):
+            self.assertNotIn("no such option", self.said_before(*words))
+
     def test_terminal(self):
         self.built()
         ours, theirs = pty.openpty()
