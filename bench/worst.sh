@@ -31,11 +31,11 @@
 #                         81, 353 and 1,001 strips of each of two planes
 #   far apart             4,000 bars, and a cell of 1,280 squares by turns far to the left and far to the right of them
 #
-# Rules: M is the technology that is built in; D N is the rule `spacing poly poly N touching_illegal` alone, W N the rule
-# `width poly N` alone, X N the rule `spacing poly ndiff N touching_illegal` alone; R 128 has 128 rules of distances from 1 to
-# 100, F 40 those of bench/check.sh. A `step` checks one piece; `world` is a line with the box round the world; cells are loaded
-# at the start. The last rows are usual lines, each taken 300 times: a step of a piece of 256 by 256 with `drc check` before it,
-# and `drc why` of a box of 20 by 20.
+# Rules: M is the technology that is built in; D N is the rule `spacing poly poly N touching_illegal` alone, W N the
+# rule `width poly N` alone, X N the rule `spacing poly ndiff N touching_illegal` alone; R 128 has 128 rules of
+# distances from 1 to 100, F 40 those of bench/check.sh. A `step` checks one piece; `world` is a line with the box round
+# the world; cells are loaded at the start. The last rows are usual lines, each taken again and again: a step of a piece
+# of 256 by 256 with `drc check` before it, and `drc why` of a box of 20 by 20.
 set -eu
 TIMEFORMAT='%U %S'
 PROGRAM=${PROGRAM:-${1:-}}
@@ -235,7 +235,7 @@ print_row() {
             return us[p + 1] > us[p] ? (us[p + 1] - us[p]) / 1000 / times : 0
         }
         BEGIN {
-            form = times > 1 ? "\t%s%.4f" : "\t%s%.0f"
+            form = times > 1 ? "\t%s%.3g" : "\t%s%.0f"
             least_ms = grain / 1000 / times
             printf "%s\t%s", text, aim
             n = split(least, us, " ")
@@ -268,6 +268,7 @@ line() {
     local aim=$1 tech=$2 shape=$3 n=$4 text before=()
     shift 4
     text="$tech: $shape${n:+ $n}: ${*: -1}"
+    text=${text/ $world_of_a/, world}
     if [ "$#" -gt 1 ] && [ "$1" = "$world" ]; then text="$text, world"; fi
     if ! takes "$text"; then return 0; fi
     if [ "$#" -gt 1 ]; then before=("${@:1:$#-1}"); fi
@@ -281,7 +282,7 @@ line() {
 
 # looked AIM SHAPE N TIMES LINE: the row of a line that comes so many times, over a shape that was caught up with
 looked() {
-    local aim=$1 shape=$2 n=$3 times=$4 text="M: $2 $3: $5" i
+    local aim=$1 shape=$2 n=$3 times=$4 text="M: $2 $3: ${5/ $world_of_a/, world}" i
     if ! takes "$text"; then return 0; fi
     technology M
     less_words=("${words[@]}")
@@ -399,11 +400,11 @@ loaded 100 'strewn and covered' 16000
 loaded 100 grid 44
 
 # Usual lines, of a piece with its halo
-for cells in '0 0 0.001' '5 7 0.04' '11 15 -' '20 24 0.6'; do
-    read -r rows columns aim <<< "$cells"
-    often "$aim" M "$rows" "$columns" 300 4 248 'a drc check' '%step a'
+for cells in '0 0 20000 0.001' '5 7 2000 0.04' '11 15 300 -' '20 24 300 0.6'; do
+    read -r rows columns times aim <<< "$cells"
+    often "$aim" M "$rows" "$columns" "$times" 4 248 'a drc check' '%step a'
     if [ "$rows" = 20 ]; then aim=4; else aim=-; fi
-    often "$aim" 'F 40' "$rows" "$columns" 300 5 246 'a drc check' '%step a'
+    often "$aim" 'F 40' "$rows" "$columns" "$times" 5 246 'a drc check' '%step a'
 done
-often 0.025 M 20 24 300 118 20 'a drc why'
-often - 'F 40' 20 24 300 118 20 'a drc why'
+often 0.025 M 20 24 3000 118 20 'a drc why'
+often - 'F 40' 20 24 3000 118 20 'a drc why'
