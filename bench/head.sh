@@ -33,14 +33,14 @@ keep() {
 grain=2000
 
 # each MICROSECONDS TIMES: what one of so many steps takes, in microseconds, of what all together take; below the grain, only
-# that it is less
+# that it is less; and where they seem to take less than nothing, a dash: other programs have disturbed it
 each() {
     awk -v us="$1" -v times="$2" -v grain="$grain" '
         function shown(x) { return sprintf(x >= 100 ? "%.0f" : x >= 10 ? "%.1f" : x >= 0.1 ? "%.2f" : "%.3f", x) }
-        BEGIN { print us < grain ? "< " shown(grain / times) : shown(us / times) }'
+        BEGIN { print us < -grain ? "-" : us < grain ? "< " shown(grain / times) : shown(us / times) }'
 }
 
 # ratio TIME OTHER: how many times as long one time takes as the other, as `each` shows them; nothing where one isn't known
 ratio() {
-    case "$1$2" in *'<'*) echo - ;; *) awk -v a="$1" -v b="$2" 'BEGIN { printf "%.2f\n", a / b }' ;; esac
+    case "$1$2" in *['<-']*) echo - ;; *) awk -v a="$1" -v b="$2" 'BEGIN { printf "%.2f\n", a / b }' ;; esac
 }

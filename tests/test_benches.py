@@ -134,14 +134,14 @@ class All(unittest.TestCase):
 
     def test_rows_that_are_slower_placed(self):
         rows = ["row\tlayout\tus placed\tus dumped\ttimes", "place\tapart\t8\t40\t0.20", "what\tapart\t15\t9\t1.67",
-                "step\tshifted\t60001\t-\t-", "why\tdeep\t< 3\t0\t-"]
+                "step\tshifted\t60001\t-\t-", "step\tfar\t-\t5\t-", "why\tdeep\t< 3\t0\t-"]
         bench = (self.top / "bench/one.sh").rename(self.top / "bench/uses.sh")
         bench.write_text("#!/usr/bin/env bash\ncat << 'END'\n" + "\n".join(rows) + "\nEND\n")
         page = self.top / "docs/PERFORMANCE.md"
         page.write_text(PAGE.replace("one.sh", "uses.sh"))
         self.assertEqual(self.all("uses").returncode, 0)
         kept = re.findall(r"(?m)^\|(\w+.*?)\|", page.read_text())
-        self.assertEqual(kept, ["row", "what", "step", "2 others"])
+        self.assertEqual(kept, ["row", "what", "step", "3 others"])
 
     def test_head_that_comes_again(self):
         self.bench("one", "printf 'step\\tms\\nwhole\\t1\\nstep\\thalf us\\taim\\npaint\\t2\\t3\\n'")
