@@ -110,7 +110,7 @@ micros() {
 
 # row SHAPE N TILES MICROS: a row of the table; a round has three lines
 row() {
-    printf '%s\t%s\t%s\t%s\n' "$1 of $2" "$3" "$(awk -v us="$4" 'BEGIN { print us + 0 > 0 ? int(3e3 / us) * 1000 : "-" }')" "$4"
+    printf '%s\t%s\t%s\t%s\n' "$1 of $2" "$3" "$(awk -v us="$4" 'BEGIN { print (us + 0 > 0 ? int(3e3 / us) * 1000 : "-") }')" "$4"
 }
 
 printf '%s\t%s\t%s\t%s\n' shape tiles lines/s us/round

@@ -37,7 +37,7 @@ grain=2000
 each() {
     awk -v us="$1" -v times="$2" -v grain="$grain" '
         function shown(x) { return sprintf(x >= 100 ? "%.0f" : x >= 10 ? "%.1f" : x >= 0.1 ? "%.2f" : "%.3f", x) }
-        BEGIN { print us < -grain ? "-" : us < grain ? "< " shown(grain / times) : shown(us / times) }'
+        BEGIN { print (us < -grain ? "-" : us < grain ? "< " shown(grain / times) : shown(us / times)) }'
 }
 
 # ratio TIME OTHER: how many times as long one time takes as the other, as `each` shows them; nothing where one isn't known
