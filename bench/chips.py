@@ -25,7 +25,13 @@ from kolasieve.rects import bounds
 TECHNOLOGY = pathlib.Path("/usr/share/qflow/tech/osu035/SCN4M_SUBM.20.tech")
 
 # After how many seconds a check is ended.
-LIMIT = float(os.environ.get("LIMIT", "600"))
+LIMIT = float(os.environ.get("LIMIT", "400"))
+
+# What is checked where nothing else is said.
+COUNTS = ["10000", "100000", "1000000", "10000000", "10000000placed"]
+
+# Who looks at each use of a cell as if the layout were flat.
+FLAT = ("one thread", "threads")
 
 # How far copies lie apart, so that nothing of one is too near to another.
 GAP = 20
@@ -160,14 +166,15 @@ def write(path, cell, count, placed):
     return copies * each
 
 
-def compare(layout, title, checks, late):
-    """Prints the rows of a layout. What was ended with a smaller one isn't tried."""
+def compare(layout, count, is_placed, checks, paces):
+    """Prints the rows of a layout. `paces` has what a rectangle took before: what would take too long isn't tried."""
     ran = {}
     for who, check in checks.items():
-        if who not in late:
+        kind = who, is_placed and who not in FLAT
+        if paces.get(kind, 0) * count <= LIMIT:
             ran[who] = check(layout)
-            if ran[who].rules is None:
-                late.add(who)
+            paces[kind] = ran[who].clock / count
+    title = f"{count:,}{' placed' if is_placed else ''}"
     one = [ran.get(who) for who in ("Magic", "one process", "one thread")]
     many = [None, ran.get("processes"), ran.get("threads")]
     row(title, "processor", [figure(each, "processor") for each in one])
@@ -191,14 +198,14 @@ def row(title, what, figures):
 def main():
     parser = argparse.ArgumentParser()
     parser.add_argument("program", type=pathlib.Path)
-    parser.add_argument("counts", nargs="*", default=["10000", "100000", "1000000", "10000000", "10000000placed"], help="a number, or one and `placed`")
+    parser.add_argument("counts", nargs="*", default=COUNTS, help="a number, or one and `placed`")
     words = parser.parse_args()
     missing = [each for each in ("magic", "klayout") if not shutil.which(each)]
     if missing or not TECHNOLOGY.exists():
         raise SystemExit("chips: Debian's magic, klayout and qflow-tech-osu035 must be installed")
     print("rectangles", "what", "Magic", "Kolasieve", "KLayout", sep="\t", flush=True)
     with tempfile.TemporaryDirectory() as name:
-        folder, late = pathlib.Path(name), set()
+        folder, paces = pathlib.Path(name), {}
         process = folder / "process"
         subprocess.run([CLIENTS / "process", "compile", TECHNOLOGY, "-o", process], capture_output=True, check=True)
         checks = {
@@ -216,8 +223,9 @@ def main():
         by_client(folder / "block.mag", words.program, process, 1)
         for word in words.counts:
             layout = folder / "chip.mag"
-            count = write(layout, cell, int(word.removesuffix("placed")), word.endswith("placed"))
-            compare(layout, f"{count:,}{' placed' if word.endswith('placed') else ''}", checks, late)
+            is_placed = word.endswith("placed")
+            count = write(layout, cell, int(word.removesuffix("placed")), is_placed)
+            compare(layout, count, is_placed, checks, paces)
 
 
 main()
