@@ -149,7 +149,7 @@ class Library:
         """Returns the file of a cell, which must be of this technology."""
         try:
             with self.opened(path) as lines:
-                file = self.parsed(path, lines)
+                file = self.parsed(lines)
         except OSError as fault:
             raise LayoutFault(f"{path}: {fault.strerror}") from None
         except mag.MagFault as fault:
@@ -164,7 +164,7 @@ class Library:
         """Returns the open file of a cell."""
         return open(path, encoding="latin-1")
 
-    def parsed(self, path, lines):
+    def parsed(self, lines):
         """Returns what the open file of a cell has."""
         return mag.read_packed(lines, Packed)
 

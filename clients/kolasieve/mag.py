@@ -73,10 +73,30 @@ def rects_of(numbers):
     return zip(*[iter(numbers)] * 4)
 
 
-def read_packed(text, new):
-    """Returns the same, each section in what `new` makes, with the numbers of its rectangles one behind the other."""
+def rects_in(lines):
+    """Returns the numbers of lines that are all rectangles, one behind the other, or None."""
+    words, count = lines.split(), lines.count("\n")
+    if len(words) != 5 * count or words[::5] != ["rect"] * count:
+        return None
+    if not lines.startswith("rect ") or lines.count("\nrect ") + 1 != count:
+        return None
+    del words[::5]
+    try:
+        numbers = list(map(int, words))
+    except ValueError:
+        return None
+    if any(map(ge, numbers[0::4], numbers[2::4])) or any(map(ge, numbers[1::4], numbers[3::4])):
+        return None
+    return numbers
+
+
+def read_packed(text, new, numbers_in=rects_in):
+    """Returns the same, each section in what `new` makes, with the numbers of its rectangles one behind the other.
+
+    `numbers_in` reads lines of rectangles, as `rects_in`.
+    """
     file = io.StringIO(text, None) if isinstance(text, str) else text
-    reading = Reading(file, new)
+    reading = Reading(file, new, numbers_in)
     while not reading.is_whole and (chunk := file.read(CHUNK)):
         reading.take(chunk + file.readline())
     if not reading.is_whole:
@@ -87,8 +107,9 @@ def read_packed(text, new):
 class Reading:
     """How far a file is read: its cell, the section, and the numbers of this one."""
 
-    def __init__(self, file, new):
+    def __init__(self, file, new, numbers_in):
         self.new = new
+        self.numbers_in = numbers_in
         self.cell = Cell()
         self.is_whole = False
         self.section = None
@@ -120,20 +141,11 @@ class Reading:
 
     def take_rects(self, lines):
         """Reads lines that are all rectangles, and returns whether they are."""
-        words, count = lines.split(), lines.count("\n")
-        if len(words) != 5 * count or words[::5] != ["rect"] * count:
-            return False
-        if not lines.startswith("rect ") or lines.count("\nrect ") + 1 != count:
-            return False
-        del words[::5]
-        try:
-            numbers = list(map(int, words))
-        except ValueError:
-            return False
-        if any(map(ge, numbers[0::4], numbers[2::4])) or any(map(ge, numbers[1::4], numbers[3::4])):
+        numbers = self.numbers_in(lines)
+        if numbers is None:
             return False
         self.numbers.extend(numbers)
-        self.count += count
+        self.count += len(numbers) // 4
         return True
 
     def take_line(self, line):

@@ -4,13 +4,14 @@ import io
 import os
 from dataclasses import dataclass, field
 
+from kolasieve import mag
 from kolasieve.changes import changed
 from kolasieve.flat import Flat
 from kolasieve.hierarchy import SUFFIX, Cell, LayoutFault, Library
 from kolasieve.layout import Layout, boxes_round, differing, missing
 from kolasieve.overlaps import NEAR, TEXTS, OverlapRules
 from kolasieve.rects import clipped, grown, strips
-from kolasieve.sheet import Sheet
+from kolasieve.sheet import Packed, Sheet
 
 # The world's lines run from minus this number to this number.
 WORLD = 1048576
@@ -67,6 +68,12 @@ def texts_of(text, path):
     return [each.partition("\n")[2].rpartition(f"{CELL_END}{END}")[0] or each.partition("\n")[2] for each in cells]
 
 
+def packed_in(lines):
+    """Returns the numbers of lines that are all rectangles, in little memory, or None."""
+    numbers = mag.rects_in(lines)
+    return None if numbers is None else Packed(numbers).numbers
+
+
 def name_of(path):
     """Returns the name that a cell's uses have for it."""
     return os.path.basename(path).removesuffix(SUFFIX)
@@ -76,38 +83,54 @@ def file_of(path):
     return path.removesuffix(SUFFIX) + SUFFIX
 
 
+class Memory:
+    """What was made of something in this look or the one before."""
+
+    def __init__(self):
+        self.now, self.before = {}, {}
+
+    def turn(self):
+        """Begins another look."""
+        self.now, self.before = {}, self.now
+
+    def of(self, key, make):
+        """Returns what was made of a key, or makes it of it now."""
+        if key not in self.now:
+            self.now[key] = self.before[key] if key in self.before else make()
+        return self.now[key]
+
+
 class Held(Library):
     """The cells of a window: those that a backup has, and others as their files are. A new cell has neither."""
 
-    def __init__(self, process, look, before=None):
-        """Takes what was held before: a cell of which all is as it was there is the same object."""
+    def __init__(self, process, look, memory):
+        """Takes a memory: a cell of which all is as it was in the last look is the same object."""
         self.texts = look.texts
-        # The text and the parsed file of each cell, and the cells by what they are made of.
-        self.files, self.made = {}, {}
-        self.files_before, self.made_before = (before.files, before.made) if before else ({}, {})
+        self.memory = memory
         name = name_of(look.cell)
         if name in self.texts or look.written is not None:
             super().__init__(process, name if name in self.texts else file_of(look.path), look.folders)
         else:
             self.process, self.grid, self.top = process, 1, NOTHING
-        del self.files_before, self.made_before
 
     def opened(self, path):
         return io.StringIO(f"{self.texts[path]}{CELL_END}") if path in self.texts else super().opened(path)
 
-    def parsed(self, path, lines):
+    def parsed(self, lines):
         text = lines.read()
-        before, file = self.files_before.get(path, (None, None))
-        self.files[path] = text, file if text == before else super().parsed(path, io.StringIO(text))
-        return self.files[path][1]
+        return self.memory.of(text, lambda: mag.read_packed(io.StringIO(text), Packed, self.numbers_in))
+
+    def numbers_in(self, lines):
+        """Returns the numbers of lines that are all rectangles, or None."""
+        return self.memory.of(("lines", lines), lambda: packed_in(lines))
 
     def find(self, path, use):
         return use.name if use.name in self.texts else super().find(path, use)
 
     def cell(self, path, file, used):
+        make = super().cell
         parts = self.grid, file, *(self.cells[each] for each in used)
-        self.made[parts] = self.made_before.get(parts) or super().cell(path, file, used)
-        return self.made[parts]
+        return self.memory.of(parts, lambda: make(path, file, used))
 
 
 class View:
@@ -122,6 +145,7 @@ class View:
         self.layout, self.between = Layout(), Layout({text: [] for text in TEXTS})
         # The cells, and how many squares a number of theirs is.
         self.held, self.top, self.scale = None, NOTHING, 1
+        self.memory = Memory()
         self.take(look)
 
     def take(self, look):
@@ -129,7 +153,8 @@ class View:
 
         Only what has changed is looked at anew. A look that can't be followed leaves all as it was.
         """
-        held = Held(self.process, look, self.held)
+        self.memory.turn()
+        held = Held(self.process, look, self.memory)
         if self.grid % held.grid:
             sizes = f"lambda is {held.grid} squares in this window, and {self.grid} of the server"
             raise LayoutFault(f"{sizes} (process serve --grid)")

@@ -56,7 +56,8 @@ class Cells:
         elif what == "remove" and uses:
             uses.remove(self.dice.choice(uses))
         elif what == "swap":
-            self.dice.shuffle(uses)
+            for each in (uses, *paint.values()):
+                self.dice.shuffle(each)
         elif what == "scale":
             self.halves ^= {"leaf"}
         return what, cell
@@ -72,14 +73,13 @@ class Cells:
         return self.dice.choice(["", f"array 0 {last} {step} 0 {top} 33\n"])
 
     def text(self, cell):
-        """Returns the text of a cell as a backup has it, the rectangles in any order."""
+        """Returns the text of a cell as a backup has it."""
         lines = ["magic\ntech scmos\n", "magscale 1 2\n" if cell in self.halves else "", "timestamp 1\n"]
         for name in sorted(self.paint[cell], key=self.order.index):
-            rects = self.dice.sample(self.paint[cell][name], len(self.paint[cell][name]))
-            lines += [f"<< {name} >>\n", *("rect %d %d %d %d\n" % rect for rect in rects)]
+            lines += [f"<< {name} >>\n", *("rect %d %d %d %d\n" % rect for rect in self.paint[cell][name])]
         for number, (name, array, transform) in enumerate(self.uses[cell]):
-            time = self.dice.randrange(9)
-            lines += [f"use {name} {name}_{number}\n", array, f"timestamp {time}\n", transform, "box 0 0 1 1\n"]
+            time = f"timestamp {len(self.paint[name])}\n"
+            lines += [f"use {name} {name}_{number}\n", array, time, transform, "box 0 0 1 1\n"]
         return "".join(lines)
 
     def look(self):
