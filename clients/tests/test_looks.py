@@ -8,7 +8,7 @@ from tests.magics import compiled
 from tests.test_layouts_flat import TURNS
 
 from kolasieve.flat import Flat
-from kolasieve.overlaps import TEXTS
+from kolasieve.overlaps import EXACT, TEXTS
 from kolasieve.rects import covers, grown
 from kolasieve.window import Look, View
 
@@ -36,7 +36,7 @@ class Cells:
     def change(self):
         """Changes something; returns what it was."""
         cell = self.dice.choice(CELLS)
-        often, seldom = ["paint", "paint", "erase"] * 3, ["use", "use", "move", "array", "remove", "swap", "scale", "scale"]
+        often, seldom = ["paint", "paint", "erase"] * 3, ["use", "use", "move", "array", "remove", "swap", "swap", "scale"]
         what = self.dice.choice(often + seldom)
         paint, uses = self.paint[cell], self.uses[cell]
         if what == "paint":
@@ -112,6 +112,31 @@ class Looks(unittest.TestCase):
                     self.differ_within(boxes, before, view.layout.rects())
                 forbidden.update(text for text in TEXTS if view.between.strips(text))
         self.assertEqual(forbidden, set(TEXTS))
+
+    def test_used_cells_in_another_order(self):
+        """Where two cells lie over each other, the second one shows."""
+        cells = Cells(self.process, random.Random(1))
+        cells.paint |= {"leaf": {"ndiffusion": [(0, 0, 4, 4)]}, "branch": {"pdiffusion": [(0, 0, 4, 4)]}}
+        cells.uses["top"] = [("leaf", "", "transform 1 0 0 0 1 0\n"), ("branch", "", "transform 1 0 1 0 1 0\n")]
+        view = View(self.process, cells.look(), 1)
+        self.assertEqual(view.layout.rects(), {"ndiffusion": [(0, 0, 1, 4)], "pdiffusion": [(1, 0, 5, 4)]})
+        cells.uses["top"].reverse()
+        view.take(cells.look())
+        self.assertEqual(view.layout.rects(), {"ndiffusion": [(0, 0, 4, 4)], "pdiffusion": [(4, 0, 5, 4)]})
+
+    def test_a_change_beside_cells_that_touch(self):
+        """Contacts of two cells touch, one of them near a change and the other one not."""
+        cells = Cells(self.process, random.Random(1))
+        cells.paint |= {"leaf": {"polycontact": [(0, 0, 4, 4)]}}
+        cells.uses["top"] = [("leaf", "", f"transform 1 0 {left} 0 1 0\n") for left in (0, 4)]
+        view = View(self.process, cells.look(), 1)
+        for right in range(-6, 8):
+            self.assertEqual(view.between.within((0, 0, 8, 4)), {EXACT: [(3, 0, 5, 4)]})
+            cells.paint["top"] = {"metal3": [(-9, 0, right, 4)]}
+            view.take(cells.look())
+        cells.uses["top"].pop()
+        view.take(cells.look())
+        self.assertEqual(view.between.within((0, 0, 8, 4)), {})
 
     def differ_within(self, boxes, before, now):
         """All squares that have changed lie in some boxes."""
