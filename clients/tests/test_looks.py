@@ -36,8 +36,8 @@ class Cells:
     def change(self):
         """Changes something; returns what it was."""
         cell = self.dice.choice(CELLS)
-        often, seldom = ["paint", "paint", "erase"] * 3, ["use", "use", "move", "array", "remove", "swap", "swap", "scale"]
-        what = self.dice.choice(often + seldom)
+        seldom = ["use", "use", "move", "array", "remove", "swap", "swap", "scale"]
+        what = self.dice.choice(["paint", "paint", "erase"] * 3 + seldom)
         paint, uses = self.paint[cell], self.uses[cell]
         if what == "paint":
             paint.setdefault(self.dice.choice(self.types), []).append(self.rect())
