@@ -120,6 +120,7 @@ class All(unittest.TestCase):
             ["row", "aim ms", "ms"], ["M: nothing: a drc why, world", "-", "7"], ["M: comb 9: a drc why, world", "e + 100", "107"],
             ["M: bars 9: a drc why, world", "e + 100", "108"], ["M: bars 9: a erase poly", "60", "60"], ["M: comb 9: a erase poly", "60", "over 120000"],
             ["D 2: comb 9: %step a", "1000", "1001"], ["R 128: comb 9: %step a", "60", "refused"], ["M: steps 9: a paint m1", "0.04", "< 0.0312"],
+            ["M: steps 9: a drc why", "-", "101"],
         ]
         script = "printf '" + "\\n".join("\\t".join(row).replace("%", "%%") for row in rows) + "\\n'"
         (self.top / "bench/one.sh").rename(self.top / "bench/worst.sh").write_text(f"#!/usr/bin/env bash\n{script}\n")
@@ -128,8 +129,8 @@ class All(unittest.TestCase):
         self.assertEqual(self.all("worst").returncode, 0)
         kept = re.findall(r"(?m)^\|(.*?)\|.*\|(.*)\|$", page.read_text())
         self.assertEqual(kept[2:], [
-            ("M: nothing: a drc why, world", "7"), ("M: bars 9: a drc why, world", "108"), ("M: comb 9: a erase poly", "over 120,000"), ("D 2: comb 9: %step a", "1001"),
-            ("R 128: comb 9: %step a", "refused"), ("3 others, at most", "107"),
+            ("M: bars 9: a drc why, world", "108"), ("M: comb 9: a erase poly", "over 120,000"), ("D 2: comb 9: %step a", "1001"),
+            ("R 128: comb 9: %step a", "refused"), ("M: steps 9: a drc why", "101"), ("4 others, at most", "107"),
         ])
 
     def test_rows_that_are_slower_placed(self):
