@@ -1,5 +1,5 @@
 -- Squares that rules forbid, found on maps.
-use Rattle.std.proofs.Common.{◌≡◌, ℕ, ◌+◌, ◌-◌, ◌*◌, ◌/◌, ◌%◌, ◌≤◌, ◌<◌, max, Bool, true, false, not, ◌||◌, ◌&&◌, List, length, drop, get_or, suc, add-one, drop-cons, refl, sym, ap, ◌∙◌, arith}
+use Rattle.std.proofs.Common.{◌≡◌, ℕ, ◌+◌, ◌-◌, ◌*◌, ◌/◌, ◌%◌, ◌≤◌, ◌<◌, max, Bool, true, false, not, ◌||◌, ◌&&◌, List, [], ◌∷◌, ◌==◌, length, drop, get_or, suc, add-one, drop-cons, refl, sym, ap, ◌∙◌, arith}
 use Rattle.std.proofs.Math.Bool.{and_comm, or_comm}
 use Rattle.std.proofs.lemmas.Nat.{mul-le}
 use Rattle.mls_edgerule.specs.declared.edge_rule.EdgeRule.{EdgeRule}
@@ -7,10 +7,16 @@ use Rattle.mls_geom.specs.Layouts.{Layout}
 use Rattle.mls_edgerule.specs.Halos.{halo_of}
 use Rattle.mls_geom.specs.Rects.{IsRectangleIn, Rect, holds}
 use Rattle.mls_geom.specs.World.{world}
-use Rattle.mls_geom.proofs.Holds.{holds_between}
+use Rattle.std.proofs.lemmas.Bool.{and_parts, or_left}
+use Rattle.std.proofs.lemmas.Bool.Decides.{nat_tests}
+use Rattle.std.proofs.lemmas.List.Elements.{All-head}
+use Rattle.mls_geom.proofs.Holds.{between_holds, holds_between}
+use Rattle.mls_checker.specs.Findings.{forbids_in}
 use Rattle.mls_checker.specs.Forbids.{forbidden, forbids, is_disallowed, reaches}
 use Rattle.mls_checker.specs.Grids.{Band, IsBand, has_column, squares_of_words}
 use Rattle.mls_checker.specs.Maps.{FitsIn, Frame, GainsDeep, HasDeep, HasLow, IsDeep, IsRound, Shows, forbidden_by_any, has_place, of_types, place_of, square, with_map}
+use Rattle.mls_checker.specs.Marking.{AreInside, SquareSet, has_some, squares_of}
+use Rattle.mls_checker.proofs.FoundInRect.{none_in_rect, rect_finds}
 use Rattle.mls_checker.proofs.MapFrames.{place-in}
 use Rattle.mls_checker.proofs.MapReaches.{deep-home, here-in}
 use Rattle.mls_checker.proofs.FoundSquares.{and_in, in_world}
@@ -137,3 +143,40 @@ pub forbidden-in : (rules : List EdgeRule) (layout : Layout) (piece : Rect) (x y
 forbidden-in rules layout piece x y inside =
     and_in (holds piece x y) (forbidden_by_any rules layout x y) (forbidden rules layout x y)
     (λ here. ap (λ b. b && forbidden_by_any rules layout x y) (sym (in_world piece x y inside here)))
+
+-- ---- areas of marks
+not-zero : (n : ℕ) → not (suc n == 0) ≡ true
+not-zero n = grind (arith, nat_tests)
+
+-- there is an area exactly where some square of the rectangle is in the set that they have
+pub areas-any : (areas : List Rect) (rect : Rect) (set : SquareSet) → AreInside rect areas → ((x y : ℕ) → squares_of areas x y ≡ (holds rect x y && set x y))
+    → not (length areas == 0) ≡ has_some rect set
+areas-any [] rect set inside are = sym (none_in_rect rect set (λ x y here. sym (are x y ∙ ap (λ b. b && set x y) here)))
+areas-any (area ∷ areas) rect set inside are =
+    let first = All-head (λ (e : Rect). IsRectangleIn rect e) area areas inside in
+    let here = between_holds area area.left area.bottom (omega arith) (omega (arith, first.wide)) (omega arith) (omega (arith, first.tall)) in
+    let marked = or_left (holds area area.left area.bottom) (squares_of areas area.left area.bottom) here in
+    let parts = and_parts (holds rect area.left area.bottom) (set area.left area.bottom) (sym (are area.left area.bottom) ∙ marked) in
+    not-zero (length areas) ∙ sym (rect_finds rect set (area.left, area.bottom, parts.0, parts.1))
+
+-- the same of a map on which a rule alone has marked
+pub rule-found : (rule : EdgeRule) (layout : Layout) (frame : Frame) (rect : Rect) (old new : List ℕ) (areas : List Rect)
+    → IsRound frame rect (1 + max rule.distance rule.corner_distance) → ((n : ℕ) → has_place old n ≡ false)
+    → GainsDeep frame (1 + max rule.distance rule.corner_distance) (λ x y. forbids rule layout (square x y)) old new
+    → AreInside rect areas → ((x y : ℕ) → squares_of areas x y ≡ (holds rect x y && has_place new (place_of frame x y)))
+    → not (length areas == 0) ≡ forbids_in rect layout rule
+rule-found rule layout frame rect old new areas round none gains inside are =
+    let h = 1 + max rule.distance rule.corner_distance in
+    areas-any areas rect (λ x y. forbids rule layout (square x y)) inside
+    (λ x y. are x y ∙ and_in (holds rect x y) (has_place new (place_of frame x y)) (forbids rule layout (square x y))
+    (λ here. gains x y (deep-in-piece frame rect h h x y round (omega arith) here) ∙ ap (λ b. b || forbids rule layout (square x y)) (none (place_of frame x y))))
+
+-- a frame round a piece is one with a narrower margin
+pub narrower : (frame : Frame) (piece : Rect) (margin less : ℕ) → IsRound frame piece margin → less ≤ margin → IsRound frame piece less
+narrower frame piece margin less round few = record {
+  left = omega (arith, round.left);
+  below = omega (arith, round.below);
+  right = omega (arith, round.right);
+  above = omega (arith, round.above);
+  even = round.even;
+}

@@ -1,13 +1,13 @@
 -- Lists of words that gain the shifted words of another list.
-use Rattle.std.proofs.Common.{◌≡◌, ℕ, ◌+◌, ◌-◌, ◌*◌, ◌/◌, ◌%◌, ◌<◌, ◌≤◌, ◌^◌, inl, inr, ◌==◌, Bool, false, ◌||◌, ◌&&◌, List, length, set, refl, sym, ap, ◌∙◌, arith}
+use Rattle.std.proofs.Common.{◌≡◌, ℕ, ◌+◌, ◌-◌, ◌*◌, ◌/◌, ◌%◌, ◌<◌, ◌≤◌, ◌^◌, inl, inr, ◌==◌, Bool, false, not, ◌||◌, ◌&&◌, List, length, set, refl, sym, ap, ◌∙◌, arith}
 use Rattle.std.specs.Prelude.{bit_or, nat_lt, nat_le, slice_index}
-use Rattle.std.specs.Int.{bit_at}
+use Rattle.std.specs.Int.{bit_at, bit_not, w64}
 use Rattle.std.proofs.Math.Bool.{or-false}
 use Rattle.std.proofs.lemmas.Bool.{cases_eq, cases_lt, lt-ltb, le-leb, lt-leb}
 use Rattle.std.proofs.lemmas.Nat.{pow_pos, shr_split}
 use Rattle.std.proofs.lemmas.Nat.Bits.{bit_at_cat_low, bit_at_cat_high, bit_at-zero}
 use Rattle.mls_kinds.specs.KindSets.{has_bit}
-use Rattle.mls_kinds.proofs.BitLemmas.{has_bit-or, has_bit_above}
+use Rattle.mls_kinds.proofs.BitLemmas.{has_bit-not, has_bit-or, has_bit_above}
 use Rattle.mls_checker.specs.Grids.{has_column}
 use Rattle.mls_checker.specs.Maps.{has_place}
 use Rattle.mls_checker.proofs.WordBits.{shifted-bit}
@@ -94,3 +94,17 @@ one-more-on old words row v columns r k more within is gives before = elim (case
       ∙ ap (λ b. b || more) before ∙ gained (has_column old r k) (nat_lt r row) (nat_lt r (row + 1)) more tests.0 tests.1
   | inr other ↦ set-there words row v r k other ∙ before ∙ ap (λ t. has_column old r k || (t && more)) (below-there row r other)
 ]
+
+-- a row more has the columns that it hadn't
+pub inverted-here : (old words : List ℕ) (row v r k : ℕ) → row < length words → r < row + 1 → k < 64 → v ≡ bit_not w64 (slice_index words row) → slice_index words row < 2 ^ 64
+    → (row ≤ r → has_column words r k ≡ has_column old r k) → (r < row → has_column words r k ≡ not (has_column old r k))
+    → has_column (set words row v) r k ≡ not (has_column old r k)
+inverted-here old words row v r k within less below is fits rest done = elim (cases_eq r row) [
+  | inl same ↦ set-here words row v r k within same ∙ ap (λ n. has_bit n k) is ∙ has_bit-not w64 (slice_index words row) k fits below
+      ∙ ap (λ i. not (has_column words i k)) (sym same) ∙ ap not (rest (omega (arith, same)))
+  | inr other ↦ set-there words row v r k other ∙ done (omega (arith, other))
+]
+
+-- and the rows after it have theirs still
+pub kept-there : (old words : List ℕ) (row v r k : ℕ) → row + 1 ≤ r → has_column words r k ≡ has_column old r k → has_column (set words row v) r k ≡ has_column old r k
+kept-there old words row v r k after before = set-there words row v r k (λ same. omega (arith, same)) ∙ before

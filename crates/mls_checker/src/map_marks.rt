@@ -1,21 +1,23 @@
 //! Marks that are found on maps of one bit a square.
 ghost use Rattle.std.specs.Prelude.{◌≡◌, ◌+◌, ◌*◌, ◌≤◌, ◌&&◌, ℕ, max, false, length, IfOk};
 ghost use Rattle.mls_checker.specs.Copies.{copied_layout};
+ghost use Rattle.mls_checker.specs.Findings.{forbids_in, violated_rules};
 ghost use Rattle.mls_checker.specs.Forbids.{forbids};
-ghost use Rattle.mls_checker.specs.Maps.{AreTypeMaps, GainsDeep, HasDeep, IsRound, forbidden_by_any, has_place, square};
+ghost use Rattle.mls_checker.specs.Maps.{AreTypeMaps, GainsDeep, HasDeep, IsRound, forbidden_by_any, has_place, place_of, square};
 ghost use Rattle.mls_checker.specs.Marking.{marks};
 ghost use Rattle.mls_edgerule.specs.Halos.{halo_of};
 ghost use Rattle.mls_geom.specs.Rects.{holds};
 
 use crate::covering::is_needed;
 use crate::grid::Grid;
+use crate::idle::is_idle;
 use crate::map_frame::Frame;
-use crate::map_words::add_but;
+use crate::map_words::{add_but, empty};
 use crate::reach_maps::{ReachMaps, words_below};
 use crate::runs::areas_of;
-use crate::type_map::{TypeMap, TypeMaps, list_maps, load_types};
+use crate::type_map::{Shown, TypeMaps, list_maps};
 use crate::{Marks, Snapshot};
-use mls_edgerule::EdgeRule;
+use mls_edgerule::{EdgeRule, RuleSet, Rules};
 use mls_geom::Rect;
 use std::alloc::{AllocError, Global};
 
@@ -50,25 +52,42 @@ impl MapMarks {
     }
 
     /// Marks the squares that the rule forbids.
-    fn add(&mut self, kept: &[TypeMap], rule: &EdgeRule, snapshot: &Snapshot)
-        requires { AreTypeMaps self.old.frame (copied_layout snapshot.now) kept.now }
+    fn add(&mut self, shown: &Shown<'_>, rule: &EdgeRule)
+        requires shown { shown.now.frame ≡ self.old.frame }
+        requires kept { AreTypeMaps shown.now.frame (copied_layout shown.now.snapshot.now) shown.now.kept.now }
         ensures frame { self.new.frame ≡ self.old.frame }
         ensures marked { GainsDeep self.old.frame (1 + max rule.now.distance rule.now.corner_distance)
-            (λ x y. forbids rule.now (copied_layout snapshot.now) (square x y))
+            (λ x y. forbids rule.now (copied_layout shown.now.snapshot.now) (square x y))
             self.old.marked.items self.new.marked.items }
     {
-        self.types.show(kept, rule, snapshot);
+        self.types.show(shown, rule);
         self.reach.find_reach(&self.types, rule);
-        load_types(
-            &mut self.allowed,
-            kept,
-            self.frame,
-            snapshot,
-            rule.check_plane,
-            rule.ok_types,
-        );
+        shown.load(&mut self.allowed, rule.check_plane, rule.ok_types);
         let below = words_below(self.frame, rule);
         add_but(&mut self.marked, self.reach.reached(), below, &self.allowed);
+    }
+
+    /// Marks the squares that the rule forbids, and no others. Returns whether some of them lie in a rectangle.
+    fn find_any(
+        &mut self,
+        alloc: Global,
+        shown: &Shown<'_>,
+        rule: &EdgeRule,
+        rect: Rect,
+    ) -> Result<bool, AllocError>
+        requires shown { shown.now.frame ≡ self.old.frame }
+        requires kept { AreTypeMaps shown.now.frame (copied_layout shown.now.snapshot.now) shown.now.kept.now }
+        requires round { IsRound self.old.frame rect (1 + max rule.now.distance rule.now.corner_distance) }
+        ensures frame { self.new.frame ≡ self.old.frame }
+        ensures any { IfOk result (λ any. any ≡ forbids_in rect (copied_layout shown.now.snapshot.now) rule.now) }
+    {
+        if is_idle(rule, shown.snapshot) {
+            return Ok(false);
+        }
+        empty(&mut self.marked);
+        self.add(shown, rule);
+        let marks = marks_of(alloc, &self.marked, self.frame, rect)?;
+        Ok(!marks.areas.is_empty())
     }
 
     /// Returns the marked squares.
@@ -92,16 +111,35 @@ fn find_forbidden(
 {
     let mut marks = MapMarks::new(alloc, frame)?;
     let kept = list_maps(alloc, rules, snapshot, frame);
+    let shown = Shown {
+        frame,
+        snapshot,
+        kept: &kept,
+    };
     let mut index = rules.len();
     'rules: while index > 0 {
         let later = &rules[index..];
         index -= 1;
         let rule = &rules[index];
         if is_needed(rule, later, snapshot) {
-            marks.add(&kept, rule, snapshot);
+            marks.add(&shown, rule);
         }
     }
     Ok(marks)
+}
+
+/// Returns the squares of a piece that a map has.
+fn marks_of(alloc: Global, map: &[u64], frame: Frame, piece: Rect) -> Result<Marks, AllocError>
+    requires size { length map.now ≡ frame.words * frame.rows }
+    requires round { IsRound frame piece 0 }
+    ensures rect { IfOk result (λ marked. marked.rect ≡ piece) }
+    ensures marks { IfOk result (λ marked. (x y : ℕ) → marks marked x y
+        ≡ (holds piece x y && has_place map.now (place_of frame x y))) }
+{
+    let mut grid = Grid::new(alloc, piece)?;
+    grid.mark(map, frame);
+    let areas = areas_of(alloc, &grid)?;
+    Ok(Marks { rect: piece, areas })
 }
 
 /// Finds the squares of a piece that the rules forbid, on maps of the piece with so many squares more on each side.
@@ -118,8 +156,32 @@ pub(crate) fn mark_on_maps(
         ≡ (holds piece x y && forbidden_by_any rules.now (copied_layout snapshot.now) x y)) }
 {
     let found = find_forbidden(alloc, rules, snapshot, frame)?;
-    let mut grid = Grid::new(alloc, piece)?;
-    grid.mark(found.marked(), frame);
-    let areas = areas_of(alloc, &grid)?;
-    Ok(Marks { rect: piece, areas })
+    marks_of(alloc, found.marked(), frame, piece)
+}
+
+/// Finds the rules that forbid some square of a rectangle, on maps of it with so many squares more on each side.
+pub(crate) fn violated_on_maps(
+    alloc: Global,
+    rules: &Rules,
+    snapshot: &Snapshot,
+    rect: Rect,
+    frame: Frame,
+) -> Result<RuleSet, AllocError>
+    requires { IsRound frame rect (halo_of rules.now) }
+    ensures { IfOk result (λ violated. violated ≡ violated_rules rules.now rect (copied_layout snapshot.now)) }
+{
+    let mut marks = MapMarks::new(alloc, frame)?;
+    let kept = list_maps(alloc, rules.as_slice(), snapshot, frame);
+    let shown = Shown {
+        frame,
+        snapshot,
+        kept: &kept,
+    };
+    let mut violated = RuleSet::empty();
+    for (index, rule) in rules.as_slice().iter().enumerate() {
+        if marks.find_any(alloc, &shown, rule, rect)? {
+            violated.insert(index + 1);
+        }
+    }
+    Ok(violated)
 }

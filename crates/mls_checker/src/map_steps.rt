@@ -2,7 +2,7 @@
 ghost use Rattle.std.specs.Prelude.{◌≡◌, ◌+◌, ◌-◌, ◌*◌, ◌<◌, ◌≤◌, ℕ, length};
 ghost use Rattle.mls_checker.specs.Maps.{has_ahead, has_place, place_before, start_of};
 
-use crate::map_words::{add_ahead, empty, is_empty};
+use crate::map_words::{Ahead, add_ahead, empty, is_empty};
 
 /// A step from each place of a map to another: so many places on, or back.
 #[derive(Clone, Copy)]
@@ -60,7 +60,11 @@ pub(crate) fn widen(map: &mut [u64], moved: &mut [u64], places: usize, count: us
     'passes: while wide < count {
         let more = wide.min(count - wide);
         moved.copy_from_slice(map);
-        add_ahead(map, moved, places * more);
+        let ahead = Ahead {
+            map: moved,
+            places: places * more,
+        };
+        add_ahead(map, &ahead);
         wide += more;
     }
 }

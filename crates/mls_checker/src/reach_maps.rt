@@ -9,7 +9,7 @@ ghost use Rattle.mls_geom.specs.Layouts.{Layout};
 
 use crate::map_frame::Frame;
 use crate::map_steps::{Step, widen};
-use crate::map_words::{add_common, add_common_of_three, empty};
+use crate::map_words::{Ahead, add_common, add_common_of_three, empty};
 use crate::type_map::TypeMaps;
 use crate::words::join;
 use mls_edgerule::EdgeRule;
@@ -17,17 +17,25 @@ use mls_geom::Direction;
 use std::alloc::{AllocError, Global};
 
 /// Adds the places where so many steps from an edge begin.
-fn add_row(map: &mut [u64], before: &[u64], behind: &[u64], step: Step, home: usize, count: usize)
-    requires before { length map.old ≡ length before.now }
-    requires behind { length map.old ≡ length behind.now }
+fn add_row(map: &mut [u64], types: &TypeMaps, step: Step, home: usize, count: usize)
+    requires size { length map.old ≡ types.now.frame.words * types.now.frame.rows }
     requires short { step.places ≤ 65536 }
     requires low { home ≤ 1048576 }
     requires few { count ≤ 256 }
     ensures { (n : ℕ) → n + home + step.places + 64 < 64 * length map.old → has_place map.new n
-        ≡ (has_place map.old n || row_at before.now behind.now step.is_on step.places count home n) }
+        ≡ (has_place map.old n
+        || row_at types.now.before types.now.behind step.is_on step.places count home n) }
 {
     let start = step.start(home, count);
-    add_common(map, behind, start, before, step.before(start));
+    let behind = Ahead {
+        map: types.behind(),
+        places: start,
+    };
+    let before = Ahead {
+        map: types.before(),
+        places: step.before(start),
+    };
+    add_common(map, &behind, &before);
 }
 
 /// Adds the places where so many steps from an edge that has a corner on a flank begin, with as many to the flank.
@@ -43,15 +51,19 @@ fn add_corner(map: &mut [u64], types: &TypeMaps, step: Step, flank: Step, home: 
 {
     let start = flank.start(step.start(home, count), count);
     let first = flank.before(start);
-    add_common_of_three(
-        map,
-        types.behind(),
-        first,
-        types.before(),
-        step.before(first),
-        types.beside(),
-        step.before(start),
-    );
+    let behind = Ahead {
+        map: types.behind(),
+        places: first,
+    };
+    let before = Ahead {
+        map: types.before(),
+        places: step.before(first),
+    };
+    let beside = Ahead {
+        map: types.beside(),
+        places: step.before(start),
+    };
+    add_common_of_three(map, &behind, &before, &beside);
 }
 
 /// Returns the two directions across a direction.
@@ -61,37 +73,6 @@ fn flanks(direction: Direction) -> (Direction, Direction)
     match direction {
         Direction::Right | Direction::Left => (Direction::Up, Direction::Down),
         Direction::Up | Direction::Down => (Direction::Right, Direction::Left),
-    }
-}
-
-/// Adds the places where rows of the edges in a direction begin, to the one or to the other map.
-fn add_rows(
-    level: &mut [u64],
-    upright: &mut [u64],
-    types: &TypeMaps,
-    frame: Frame,
-    home: usize,
-    count: usize,
-    direction: Direction,
-)
-    requires frame { types.now.frame ≡ frame }
-    requires level { length level.old ≡ frame.words * frame.rows }
-    requires upright { length upright.old ≡ frame.words * frame.rows }
-    requires low { home ≤ 1048576 }
-    requires few { count ≤ 256 }
-    ensures level { (n : ℕ) → Reads frame home level.old n → has_place level.new n ≡ (has_place level.old n
-        || (is_level direction && row_begins types.now.before types.now.behind frame count home n direction)) }
-    ensures upright { (n : ℕ) → Reads frame home upright.old n → has_place upright.new n ≡ (has_place upright.old n
-        || (not (is_level direction) && row_begins types.now.before types.now.behind frame count home n direction)) }
-{
-    let step = frame.step(direction);
-    match direction {
-        Direction::Right | Direction::Left => {
-            add_row(level, types.before(), types.behind(), step, home, count);
-        }
-        Direction::Up | Direction::Down => {
-            add_row(upright, types.before(), types.behind(), step, home, count);
-        }
     }
 }
 
@@ -114,103 +95,123 @@ fn comes_first(flank: Direction, direction: Direction) -> bool
     }
 }
 
-/// Adds the places where corner blocks of the edges in a direction begin on a flank. Where corner types are the types
-/// behind edges, and the flank comes first, these are blocks of the edges in its direction.
-fn add_flank(
-    blocks: &mut [u64],
-    types: &TypeMaps,
-    frame: Frame,
+/// The edges of a rule, whose rows and corner blocks begin so many places before them.
+#[derive(Clone, Copy)]
+struct Edges<'a> {
+    types: &'a TypeMaps,
+    /// Corner types are the types behind edges.
     same: bool,
     home: usize,
-    count: usize,
-    direction: Direction,
-    flank: Direction,
-)
-    requires frame { types.now.frame ≡ frame }
-    requires size { length blocks.old ≡ frame.words * frame.rows }
-    requires low { home ≤ 1048576 }
-    requires few { count ≤ 256 }
-    requires across { places_of frame direction + places_of frame flank ≡ 1 + 64 * frame.words }
-    ensures { (n : ℕ) → Reads frame home blocks.old n → has_place blocks.new n ≡ (has_place blocks.old n
-        || (not (same && comes_first flank direction)
-        && corner_begins types.now.before types.now.behind types.now.beside frame count home n direction flank)) }
-{
-    if same && comes_first(flank, direction) {
-        return;
-    }
-    let step = frame.step(direction);
-    add_corner(blocks, types, step, frame.step(flank), home, count);
 }
 
-/// Adds the places where corner blocks of the edges in a direction begin.
-fn add_corners(
-    blocks: &mut [u64],
-    types: &TypeMaps,
-    frame: Frame,
-    same: bool,
-    home: usize,
-    count: usize,
-    direction: Direction,
-)
-    requires frame { types.now.frame ≡ frame }
-    requires size { length blocks.old ≡ frame.words * frame.rows }
-    requires low { home ≤ 1048576 }
-    requires few { count ≤ 256 }
-    ensures { (n : ℕ) → Reads frame home blocks.old n → 0 < count → has_place blocks.new n ≡ (has_place blocks.old n
-        || corners_begin types.now.before types.now.behind types.now.beside frame same count home n direction) }
-{
-    if count == 0 {
-        return;
+impl Edges<'_> {
+    /// Adds the places where rows of the edges in a direction begin, to the one or to the other map.
+    fn add_rows(&self, level: &mut [u64], upright: &mut [u64], count: usize, direction: Direction)
+        requires level { length level.old ≡ self.now.types.now.frame.words * self.now.types.now.frame.rows }
+        requires upright { length upright.old ≡ self.now.types.now.frame.words * self.now.types.now.frame.rows }
+        requires low { self.now.home ≤ 1048576 }
+        requires few { count ≤ 256 }
+        ensures level { (n : ℕ) → Reads self.now.types.now.frame self.now.home level.old n → has_place level.new n
+            ≡ (has_place level.old n || (is_level direction && row_begins self.now.types.now.before
+            self.now.types.now.behind self.now.types.now.frame count self.now.home n direction)) }
+        ensures upright { (n : ℕ) → Reads self.now.types.now.frame self.now.home upright.old n
+            → has_place upright.new n
+            ≡ (has_place upright.old n || (not (is_level direction) && row_begins self.now.types.now.before
+            self.now.types.now.behind self.now.types.now.frame count self.now.home n direction)) }
+    {
+        let step = self.types.frame().step(direction);
+        match direction {
+            Direction::Right | Direction::Left => {
+                add_row(level, self.types, step, self.home, count);
+            }
+            Direction::Up | Direction::Down => {
+                add_row(upright, self.types, step, self.home, count);
+            }
+        }
     }
-    let (flank, other) = flanks(direction);
-    add_flank(blocks, types, frame, same, home, count, direction, flank);
-    add_flank(blocks, types, frame, same, home, count, direction, other);
-}
 
-/// Finds the places where rows and corner blocks of the edges of a rule begin.
-fn find_beginnings(
-    level: &mut [u64],
-    upright: &mut [u64],
-    blocks: &mut [u64],
-    types: &TypeMaps,
-    frame: Frame,
-    same: bool,
-    home: usize,
-    rule: &EdgeRule,
-)
-    requires frame { types.now.frame ≡ frame }
-    requires level { length level.old ≡ frame.words * frame.rows }
-    requires upright { length upright.old ≡ frame.words * frame.rows }
-    requires blocks { length blocks.old ≡ frame.words * frame.rows }
-    requires low { home ≤ 1048576 }
-    ensures level { (n : ℕ) → Reads frame home level.old n → has_place level.new n
-        ≡ list_any (λ direction. is_level direction
-        && row_begins types.now.before types.now.behind frame rule.now.distance home n direction)
-        (directions_in rule.now.directions) }
-    ensures upright { (n : ℕ) → Reads frame home upright.old n → has_place upright.new n
-        ≡ list_any (λ direction. not (is_level direction)
-        && row_begins types.now.before types.now.behind frame rule.now.distance home n direction)
-        (directions_in rule.now.directions) }
-    ensures blocks { (n : ℕ) → Reads frame home blocks.old n → 0 < rule.now.corner_distance → has_place blocks.new n
-        ≡ list_any (corners_begin types.now.before types.now.behind types.now.beside frame same rule.now.corner_distance
-        home n) (directions_in rule.now.directions) }
-{
-    empty(level);
-    empty(upright);
-    empty(blocks);
-    let distance = rule.distance as usize;
-    let corner_distance = rule.corner_distance as usize;
-    for direction in rule.directions.list() {
-        add_rows(level, upright, types, frame, home, distance, *direction);
-        add_corners(
+    /// Adds the places where corner blocks of the edges in a direction begin on a flank. Where corner types are the
+    /// types behind edges, and the flank comes first, these are blocks of the edges in its direction.
+    fn add_flank(&self, blocks: &mut [u64], count: usize, direction: Direction, flank: Direction)
+        requires size { length blocks.old ≡ self.now.types.now.frame.words * self.now.types.now.frame.rows }
+        requires low { self.now.home ≤ 1048576 }
+        requires few { count ≤ 256 }
+        requires across { places_of self.now.types.now.frame direction + places_of self.now.types.now.frame flank
+            ≡ 1 + 64 * self.now.types.now.frame.words }
+        ensures { (n : ℕ) → Reads self.now.types.now.frame self.now.home blocks.old n → has_place blocks.new n
+            ≡ (has_place blocks.old n || (not (self.now.same && comes_first flank direction)
+            && corner_begins self.now.types.now.before self.now.types.now.behind self.now.types.now.beside
+            self.now.types.now.frame count self.now.home n direction flank)) }
+    {
+        if self.same && comes_first(flank, direction) {
+            return;
+        }
+        let frame = self.types.frame();
+        let step = frame.step(direction);
+        add_corner(
             blocks,
-            types,
-            frame,
-            same,
-            home,
-            corner_distance,
-            *direction,
+            self.types,
+            step,
+            frame.step(flank),
+            self.home,
+            count,
         );
+    }
+
+    /// Adds the places where corner blocks of the edges in a direction begin.
+    fn add_corners(&self, blocks: &mut [u64], count: usize, direction: Direction)
+        requires size { length blocks.old ≡ self.now.types.now.frame.words * self.now.types.now.frame.rows }
+        requires low { self.now.home ≤ 1048576 }
+        requires few { count ≤ 256 }
+        ensures { (n : ℕ) → Reads self.now.types.now.frame self.now.home blocks.old n → 0 < count
+            → has_place blocks.new n ≡ (has_place blocks.old n
+            || corners_begin self.now.types.now.before self.now.types.now.behind self.now.types.now.beside
+            self.now.types.now.frame self.now.same count self.now.home n direction) }
+    {
+        if count == 0 {
+            return;
+        }
+        let (flank, other) = flanks(direction);
+        self.add_flank(blocks, count, direction, flank);
+        self.add_flank(blocks, count, direction, other);
+    }
+
+    /// Finds the places where rows and corner blocks of the edges of a rule begin.
+    fn find_beginnings(
+        &self,
+        level: &mut [u64],
+        upright: &mut [u64],
+        blocks: &mut [u64],
+        rule: &EdgeRule,
+    )
+        requires level { length level.old ≡ self.now.types.now.frame.words * self.now.types.now.frame.rows }
+        requires upright { length upright.old ≡ self.now.types.now.frame.words * self.now.types.now.frame.rows }
+        requires blocks { length blocks.old ≡ self.now.types.now.frame.words * self.now.types.now.frame.rows }
+        requires low { self.now.home ≤ 1048576 }
+        ensures level { (n : ℕ) → Reads self.now.types.now.frame self.now.home level.old n → has_place level.new n
+            ≡ list_any (λ direction. is_level direction
+            && row_begins self.now.types.now.before self.now.types.now.behind self.now.types.now.frame
+            rule.now.distance self.now.home n direction) (directions_in rule.now.directions) }
+        ensures upright { (n : ℕ) → Reads self.now.types.now.frame self.now.home upright.old n
+            → has_place upright.new n
+            ≡ list_any (λ direction. not (is_level direction)
+            && row_begins self.now.types.now.before self.now.types.now.behind self.now.types.now.frame
+            rule.now.distance self.now.home n direction) (directions_in rule.now.directions) }
+        ensures blocks { (n : ℕ) → Reads self.now.types.now.frame self.now.home blocks.old n
+            → 0 < rule.now.corner_distance → has_place blocks.new n
+            ≡ list_any (corners_begin self.now.types.now.before self.now.types.now.behind self.now.types.now.beside
+            self.now.types.now.frame self.now.same rule.now.corner_distance self.now.home n)
+            (directions_in rule.now.directions) }
+    {
+        empty(level);
+        empty(upright);
+        empty(blocks);
+        let distance = rule.distance as usize;
+        let corner_distance = rule.corner_distance as usize;
+        for direction in rule.directions.list() {
+            self.add_rows(level, upright, distance, *direction);
+            self.add_corners(blocks, corner_distance, *direction);
+        }
     }
 }
 
@@ -293,17 +294,12 @@ impl ReachMaps {
             (λ x y. reaches rule.now layout (square x y)) self.new.level.items }
     {
         let below = words_below(self.frame, rule);
-        let same = has_same_types(rule);
-        find_beginnings(
-            &mut self.level,
-            &mut self.upright,
-            &mut self.blocks,
+        let edges = Edges {
             types,
-            self.frame,
-            same,
-            below * 64,
-            rule,
-        );
+            same: has_same_types(rule),
+            home: below * 64,
+        };
+        edges.find_beginnings(&mut self.level, &mut self.upright, &mut self.blocks, rule);
         let row = self.frame.step(Direction::Up);
         spread(
             &mut self.level,

@@ -9,7 +9,7 @@ use Rattle.mls_checker.proofs.finding.find_on_maps.Goals as goal
 
 pub mark_on_maps-requires : goal.mark_on_maps-requires
 mark_on_maps-requires c =
-    subst (λ (margin : ℕ). IsRound c.in_ok-frame.frame c.args.piece margin) (c.halo.ensures.value ∙ ap halo_of (sym c.as_slice.ensures.value)) c.in_ok-frame.ensures
+    subst (λ (margin : ℕ). IsRound c.in_ok-frame.frame c.args.piece margin) (ap halo_of (sym c.as_slice.ensures.value)) c.in_ok-frame.ensures
 
 pub returns-in-Ok : goal.returns-in-Ok
 returns-in-Ok c =

@@ -3,7 +3,7 @@ use Rattle.mls_geom.specs.Rects.{Rect, common}
 use Rattle.mls_checker.specs.Copies.{copied_layout}
 use Rattle.mls_checker.specs.Sides.{IsBefore, faced}
 use Rattle.mls_checker.proofs.FacedSides.{part-IsBefore}
-use Rattle.mls_checker.proofs.side_scan.Scan.scan_side.Goals as goal
+use Rattle.mls_checker.proofs.side_scan.Scan.add_edges.Goals as goal
 
 pub add_to-requires-clause-before : goal.add_to-requires-clause-before
 add_to-requires-clause-before g c =

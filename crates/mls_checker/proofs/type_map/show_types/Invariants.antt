@@ -1,9 +1,0 @@
-use Rattle.std.proofs.Common.{◌≡◌, ℕ, true, take}
-use Rattle.mls_geom.specs.Rects.{holds}
-use Rattle.mls_checker.specs.Grids.{in_kinds}
-use Rattle.mls_checker.specs.Maps.{frame_area, has_place, place_of}
-use Rattle.mls_checker.proofs.type_map.show_types.Given as goal
-
--- the map has the squares of the tiles before this one
-abbrev pub invariant-loop-tile : goal.invariant-loop-tile
-invariant-loop-tile l = (x y : ℕ) → holds (frame_area l.fn.frame) x y ≡ true → has_place l.map (place_of l.fn.frame x y) ≡ in_kinds (take l.tile-index l.tile-items) l.fn.types x y
