@@ -82,9 +82,9 @@ impl Field {
         (x(left), y(bottom), x(right), y(top))
     }
 
-    /// The rectangle of all blocks and of four squares around them.
+    /// The rectangle of all blocks and of twelve squares around them.
     fn whole(self) -> Result<Rect, RectFault> {
-        Ok(self.rect((0, 0, 16, 16))?.grow(4))
+        Ok(self.rect((0, 0, 16, 16))?.grow(12))
     }
 
     /// The rectangle of all that a check looks at.
