@@ -15,10 +15,12 @@ PLAIN = {
     "open": ["c refused open 4 memory"],
     "save": ["a refused 9 memory", "kept"],
     "why": ["a refused 9 memory"],
+    "why_dense": ["a refused 9 memory"],
     "what": ["a refused 9 memory"],
     "grab": ["a grab memory"],
     "step": ["a step memory"],
     "check": ["memory"],
+    "check_dense": ["memory"],
     "run": ["memory"],
     "seat": ["c refused open 4 memory"],
 }
@@ -48,6 +50,8 @@ HALFWAY = {
         1: ("finished 1 stale 0 full 0 refused 0", "finished 1 stale 0 full 0 refused 1"),
     },
 }
+# Rows of dense pieces: so many growths at least make no difference, those of the maps.
+MAPS = {"check_dense": 9}
 SERVED_LINES = 7
 # Rows of calls that take no memory.
 FRUGAL = ["retire", "smallest_quota", "whole_world", "other_calls", "placed_cells"]

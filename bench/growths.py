@@ -1,7 +1,7 @@
 """Judges runs in which growths of memory are refused. Called by bench/growths.sh, which says what is tried."""
 import sys
 
-from growth_calls import FRUGAL, ROWS, SHORT, try_frugal, try_row, try_setup
+from growth_calls import FRUGAL, MAPS, ROWS, SHORT, try_frugal, try_row, try_setup
 from growth_runs import Failed
 from growth_scripts import scripts
 from growth_trials import SAYS
@@ -31,6 +31,8 @@ def main(words):
             print(f"{row:24} {count:8}  {said}")
             if not count:
                 raise Failed("it asks for no growth")
+            if not short and met["usual"] < MAPS.get(row, 0):
+                raise Failed("it makes no maps")
 
         tried(row, try_it)
     for row in FRUGAL:

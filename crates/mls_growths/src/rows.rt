@@ -89,6 +89,15 @@ b box 0 0 2 10
 b paint m1
 ";
 
+/// A cell with more tiles than a map has words, placed in session a, under its box, and a bar in session b.
+const PLACED_GRID: &[u8] = b"%open a
+a getcell grid 0 0
+a box 0 0 32 9
+%open b
+b box 0 0 2 10
+b paint m1
+";
+
 const OPENED: &[u8] = b"%open a\n";
 
 /// A bar in session a, of which the check is made before the calls.
@@ -192,10 +201,12 @@ fn row_named(name: &str, number: Option<u8>) -> Option<Row> {
         "open" => asks(TWO_BARS, Call::Open),
         "save" => asks(TWO_BARS, Call::Save),
         "why" => asks(TWO_BARS, Call::Why),
+        "why_dense" => asks(PLACED_GRID, Call::Why),
         "what" => asks(PLACED, Call::What),
         "grab" => asks(TWO_BARS, Call::Grab),
         "step" => asks(TWO_BARS, Call::Step),
         "check" => Row::Ask(TWO_BARS, Asked::Check),
+        "check_dense" => Row::Ask(PLACED_GRID, Asked::Check),
         "catchup" => catches_up(TWO_BARS, number),
         "catchup_in_two_pieces" => catches_up(LONG_BAR, number),
         "steps_in_two_pieces" => steps_on(number),
@@ -298,7 +309,7 @@ fn more_tiles(asked: &Asked) -> u32 {
     }
 }
 
-/// Loads the cell and serves a script, and then asks for something.
+/// Loads the cells and serves a script, and then asks for something.
 fn play_after<R: Print>(
     rt: &R,
     alloc: Global,

@@ -37,6 +37,38 @@ rect 1 0 4 3
 /// How many tiles the cell takes.
 pub const CELL_TILES: u32 = 10;
 
+/// The name of the other cell that servers have, and its file: a grid of diffusion, and a bar of poly beside it.
+const GRID_NAME: &[u8] = b"grid";
+
+const GRID: &[u8] = b"magic
+tech M
+<< ndiff >>
+rect 0 0 1 9
+rect 2 0 3 9
+rect 4 0 5 9
+rect 6 0 7 9
+rect 8 0 9 9
+rect 10 0 11 9
+rect 12 0 13 9
+rect 14 0 15 9
+rect 16 0 17 9
+rect 18 0 19 9
+rect 20 0 21 9
+rect 22 0 23 9
+rect 24 0 25 9
+rect 26 0 27 9
+rect 0 1 27 2
+rect 0 3 27 4
+rect 0 5 27 6
+rect 0 7 27 8
+<< poly >>
+rect 29 0 30 9
+<< end >>
+";
+
+/// How many tiles that cell takes: 27 in each of 5 rows and 10 others on one plane, and one on the other.
+const GRID_TILES: u32 = 146;
+
 /// The first two ids that a server gives.
 pub fn id_a() -> SessionId {
     SessionId::of(1)
@@ -46,14 +78,13 @@ pub fn id_b() -> SessionId {
     SessionId::of(2)
 }
 
-/// Creates a server with technology M and the least quota, whose pool has room for one cell and four sessions, and so
+/// Creates a server with technology M and the least quota, whose pool has room for its cells and four sessions, and so
 /// many tiles more.
 pub fn new_server(alloc: Global, more: u32) -> Result<Server>
     ensures { IfOk result (λ server. (world_of server).seats ≡ []) }
 {
-    let capacity = Capacity::new((CELL_TILES + 4 * SESSION).saturating_add(more)).context(
-        "no pool",
-    )?;
+    let tiles = CELL_TILES + GRID_TILES + 4 * SESSION;
+    let capacity = Capacity::new(tiles.saturating_add(more)).context("no pool")?;
     let quota = Quota::new(5).context("no quota")?;
     let tech = Tech::read(alloc, TECHNOLOGY_M)?;
     let rules = compile(&tech)?;
@@ -64,12 +95,21 @@ pub fn new_server(alloc: Global, more: u32) -> Result<Server>
     Ok(Server::new(alloc, tech, rules, capacity, limits)?)
 }
 
-/// Loads the cell into a server.
+/// Loads the cells into a server.
 pub fn stock(alloc: Global, server: &mut Server) -> Result<()>
     requires idle { (world_of server.old).seats ≡ [] }
     ensures idle { OnOk result ((world_of server.new).seats ≡ []) }
 {
-    server.load(alloc, CELL_NAME, CELL)?;
+    stock_cell(alloc, server, CELL_NAME, CELL)?;
+    stock_cell(alloc, server, GRID_NAME, GRID)
+}
+
+/// Loads a cell of this name into a server.
+fn stock_cell(alloc: Global, server: &mut Server, name: &[u8], file: &[u8]) -> Result<()>
+    requires idle { (world_of server.old).seats ≡ [] }
+    ensures idle { OnOk result ((world_of server.new).seats ≡ []) }
+{
+    server.load(alloc, name, file)?;
     Ok(())
 }
 

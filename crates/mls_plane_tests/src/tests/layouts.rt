@@ -15,7 +15,7 @@ use std::marker::Model;
 use std::test::Fail;
 
 /// How many tiles each plane may have.
-const ROOM: u32 = 1_024;
+const ROOM: u32 = 16_384;
 
 /// Adds a plane to those of a layout, over which pieces are painted.
 fn add_plane(
@@ -24,9 +24,9 @@ fn add_plane(
     pieces: &[Piece],
 ) -> Result<(), Fail>
     requires strips { All (λ owner. HasStrips workspace.old.pool owner) planes.old.items }
-    requires rooms { All (λ owner. room_of workspace.old.pool owner ≡ Some 1024) planes.old.items }
+    requires rooms { All (λ owner. room_of workspace.old.pool owner ≡ Some 16384) planes.old.items }
     ensures strips { OnOk result (All (λ owner. HasStrips workspace.new.pool owner) planes.new.items) }
-    ensures rooms { OnOk result (All (λ owner. room_of workspace.new.pool owner ≡ Some 1024) planes.new.items) }
+    ensures rooms { OnOk result (All (λ owner. room_of workspace.new.pool owner ≡ Some 16384) planes.new.items) }
 {
     let Workspace { pool, scratch, .. } = workspace;
     if pieces.len() > scratch.pieces() {
@@ -57,7 +57,7 @@ impl Model for Layout {
     ghost view = { λ l. l.workspace.pool };
 
     ghost invariant = { λ l. All (λ owner. HasStrips l.workspace.pool owner) l.planes.items
-        × All (λ owner. room_of l.workspace.pool owner ≡ Some 1024) l.planes.items × (l.library ≡ []) };
+        × All (λ owner. room_of l.workspace.pool owner ≡ Some 16384) l.planes.items × (l.library ≡ []) };
 }
 
 impl Layout {

@@ -19,11 +19,14 @@ use std::test::Fail;
 /// How many layouts are checked by the rules of each technology.
 const LAYOUTS: usize = 300;
 
-/// How many dense layouts are checked by the rules of each technology.
-const DENSE_LAYOUTS: usize = 4;
-
-/// How many layouts are checked by each rule of a technology alone.
+/// How many layouts are checked by each rule of a technology alone, and by two rules.
 const LAYOUTS_A_RULE: usize = 60;
+
+/// How many layouts are checked on wide fields.
+const WIDE_LAYOUTS: usize = 8;
+
+/// The side of a block of a wide field.
+const WIDE: i32 = 8;
 
 /// The types of the pieces that are painted on a plane, each as likely as the others.
 type Types = [u8; 4];
@@ -34,19 +37,24 @@ const TWO_PLANES_TYPES: &[Types] = &[[1, 1, 2, 0], [3, 3, 3, 0]];
 /// `q` on the plane `p`.
 const ONE_PLANE_TYPES: &[Types] = &[[1, 1, 1, 0]];
 
-/// 16 by 16 blocks on which pieces are painted: the lower-left corner, the side of a block, and whether each block is a
-/// piece.
+/// 16 by 16 blocks on which pieces are painted, for rules of some halo.
 #[derive(Clone, Copy)]
 struct Field {
     left: i32,
     bottom: i32,
+    /// The side of a block.
     scale: i32,
-    is_dense: bool,
+    halo: u32,
+    /// Whether each block is a piece.
+    is_full: bool,
+    /// Whether one plane more is full of bricks, which no rule looks at.
+    has_bricks: bool,
 }
 
 impl Field {
-    /// The field of a layout: in the middle of the world and in its corners in turn.
-    fn of_layout(number: usize, scale: i32) -> Field {
+    /// The field of a layout: in the middle of the world and in its corners in turn. One of two has bricks, and one of
+    /// two is full.
+    fn of_layout(number: usize, scale: i32, halo: u32) -> Field {
         let low = -1048576;
         let high = 1048576i32.saturating_sub(scale.saturating_mul(16));
         let (left, bottom) = match number % 5 {
@@ -60,17 +68,9 @@ impl Field {
             left,
             bottom,
             scale,
-            is_dense: false,
-        }
-    }
-
-    /// The same field, each of whose blocks is a piece.
-    fn dense(self) -> Field {
-        Field {
-            left: self.left,
-            bottom: self.bottom,
-            scale: self.scale,
-            is_dense: true,
+            halo,
+            is_full: number % 4 > 1,
+            has_bricks: number % 2 == 1,
         }
     }
 
@@ -82,15 +82,61 @@ impl Field {
         (x(left), y(bottom), x(right), y(top))
     }
 
-    /// The rectangle of all blocks and of four squares around them.
+    /// The rectangle of all blocks and of twelve squares around them.
     fn whole(self) -> Result<Rect, RectFault> {
-        Ok(self.rect((0, 0, 16, 16))?.grow(4))
+        Ok(self.rect((0, 0, 16, 16))?.grow(12))
+    }
+
+    /// The rectangle of all that a check looks at.
+    fn zone(self) -> Result<Rect, RectFault> {
+        Ok(self.whole()?.grow(self.halo))
+    }
+
+    /// Whether a square is of a brick, which is as wide as a block and one square high.
+    fn is_brick(self, column: i32, row: i32) -> bool {
+        let place = if self.scale == WIDE {
+            column >> 3
+        } else {
+            column
+        };
+        (place ^ row) & 1 == 0
+    }
+
+    /// Whether the bricks alone make a piece dense.
+    fn is_dense_by_bricks(self, piece: Rect) -> bool {
+        let squares = piece.grow(self.halo).area().size();
+        let tiles = if self.scale == WIDE {
+            squares / 8
+        } else {
+            squares
+        };
+        self.has_bricks && is_dense(tiles, words_of(piece, self.halo))
     }
 
     /// The rectangle of some blocks.
     fn rect(self, blocks: Sides) -> Result<Rect, RectFault> {
         let (left, bottom, right, top) = self.sides(blocks);
         Rect::new(left, bottom, right, top)
+    }
+}
+
+/// Random layouts, and what was seen in them.
+#[derive(Drop)]
+struct Trial {
+    dice: Dice,
+    /// Whether a check went by sides.
+    went_by_sides: bool,
+    /// Whether the first rule forbade a square that no other rule did.
+    forbade_alone: bool,
+}
+
+impl Trial {
+    fn new() -> Trial {
+        Trial {
+            dice: Dice::new(4),
+            went_by_sides: false,
+            forbade_alone: false,
+        }
     }
 }
 
@@ -130,7 +176,7 @@ fn random_pieces(
     field: Field,
     types: Types,
 ) -> Result<Vec<Piece>, Fail> {
-    if field.is_dense {
+    if field.is_full {
         return random_blocks(alloc, dice, field, types);
     }
     let mut pieces = Vec::new(alloc);
@@ -179,7 +225,8 @@ fn expect_same_squares(
     Ok(())
 }
 
-/// Asserts that a check of a piece finds the squares and the rules that the plain program found.
+/// Asserts that a check of a piece finds the squares and the rules that the plain program found. Returns how much was
+/// looked at.
 fn expect_same(
     rt: &impl Abort,
     alloc: Global,
@@ -187,11 +234,54 @@ fn expect_same(
     layout: &mut Layout,
     forbidden: &Forbidden,
     piece: Rect,
-) -> Result<(), Fail> {
+) -> Result<u64, Fail> {
     let snapshot = layout.snapshot(alloc, piece.grow(rules.halo()))?;
     expect_same_rules(rt, rules, &snapshot, forbidden, piece);
     let finding = check(alloc, rules, snapshot, piece)?;
-    expect_same_squares(rt, &finding, forbidden, piece)
+    expect_same_squares(rt, &finding, forbidden, piece)?;
+    Ok(finding.edges())
+}
+
+/// Returns how many words a map of a piece has: in each row those of the piece, and on each side those of the halo.
+fn words_of(piece: Rect, halo: u32) -> u64 {
+    let lines = piece.area();
+    let beside = halo.div_ceil(64).saturating_mul(2);
+    let width = lines.right.saturating_sub(lines.left);
+    let height = lines.top.saturating_sub(lines.bottom);
+    let words = width.div_ceil(64).saturating_add(beside);
+    let rows = height.saturating_add(halo.saturating_mul(2));
+    u64::from(words).saturating_mul(u64::from(rows))
+}
+
+/// Whether a piece of so many tiles is dense, a map of which has so many words.
+fn is_dense(tiles: u64, words: u64) -> bool {
+    tiles > words.saturating_add(8)
+}
+
+/// Asserts that a check that looked at so much went by maps of so many words, or by sides; or that all rules were idle.
+fn expect_way(rt: &impl Abort, looked_at: u64, words: u64, by_maps: bool) {
+    assert!(rt;
+        looked_at == 0 || (looked_at == words) == by_maps,
+        "{looked_at} looked at, {words} words"
+    );
+}
+
+/// Asserts the same of a piece of a field, and that it is checked on maps if the bricks make it dense. Returns whether
+/// it was checked by sides.
+fn expect_same_in_piece(
+    rt: &impl Abort,
+    alloc: Global,
+    rules: &Rules,
+    layout: &mut Layout,
+    forbidden: &Forbidden,
+    (field, piece): (Field, Rect),
+) -> Result<bool, Fail> {
+    let looked_at = expect_same(rt, alloc, rules, layout, forbidden, piece)?;
+    let words = words_of(piece, field.halo);
+    if field.is_dense_by_bricks(piece) {
+        expect_way(rt, looked_at, words, true);
+    }
+    Ok(looked_at != 0 && looked_at != words)
 }
 
 /// Asserts the same of a layout: of all its squares, and of two random pieces.
@@ -201,16 +291,44 @@ fn expect_same_in_pieces(
     rules: &Rules,
     layout: &mut Layout,
     forbidden: &Forbidden,
-    dice: &mut Dice,
+    trial: &mut Trial,
     field: Field,
 ) -> Result<(), Fail> {
     let whole = field.whole()?;
-    expect_same(rt, alloc, rules, layout, forbidden, whole)?;
+    trial.went_by_sides |= expect_same_in_piece(
+        rt,
+        alloc,
+        rules,
+        layout,
+        forbidden,
+        (field, whole),
+    )?;
     for _ in 0..2 {
-        let part = field.rect(dice.area())?;
-        expect_same(rt, alloc, rules, layout, forbidden, part)?;
+        let part = field.rect(trial.dice.area())?;
+        expect_same_in_piece(rt, alloc, rules, layout, forbidden, (field, part))?;
     }
     Ok(())
+}
+
+/// The bricks of a field.
+fn bricks(alloc: Global, field: Field) -> Result<Vec<Piece>, Fail> {
+    let zone = field.zone()?;
+    let mut bricks = Vec::new(alloc);
+    for row in zone.bottom()..zone.top() {
+        for column in zone.left()..zone.right() {
+            if field.is_brick(column, row) {
+                let (right, top) = (column.saturating_add(1), row.saturating_add(1));
+                bricks.push(piece(1, (column, row, right, top))?)?;
+            }
+        }
+    }
+    Ok(bricks)
+}
+
+/// A layout with an empty plane more, and one of bricks.
+fn with_bricks(alloc: Global, layout: Layout, field: Field) -> Result<Layout, Fail> {
+    let bricks = bricks(alloc, field)?;
+    layout.with(&[])?.with(&bricks)
 }
 
 /// A layout with one random plane more, which is painted on squares too.
@@ -250,7 +368,23 @@ fn random_layout(
         )?;
         plane = plane.saturating_add(1);
     }
+    if field.has_bricks {
+        layout = with_bricks(alloc, layout, field)?;
+    }
     Ok(layout)
+}
+
+/// Whether the first rule forbids a square of a piece that no other rule does.
+fn forbids_alone(forbidden: &Forbidden, piece: Rect) -> bool {
+    let lines = piece.area();
+    for row in lines.bottom..lines.top {
+        for column in lines.left..lines.right {
+            if forbidden.rules_at(Square { column, row }) == 1 {
+                return true;
+            }
+        }
+    }
+    false
 }
 
 /// Asserts the same of a layout and of squares that show it.
@@ -260,11 +394,13 @@ fn expect_same_as_squares(
     rules: &Rules,
     layout: &mut Layout,
     squares: &Squares,
-    dice: &mut Dice,
+    trial: &mut Trial,
     field: Field,
 ) -> Result<(), Fail> {
-    let forbidden = find(alloc, rules, squares, field.whole()?)?;
-    expect_same_in_pieces(rt, alloc, rules, layout, &forbidden, dice, field)
+    let whole = field.whole()?;
+    let forbidden = find(alloc, rules, squares, whole)?;
+    trial.forbade_alone |= forbids_alone(&forbidden, whole);
+    expect_same_in_pieces(rt, alloc, rules, layout, &forbidden, trial, field)
 }
 
 /// Asserts the same of a random layout with these planes, on squares of space.
@@ -274,11 +410,11 @@ fn expect_same_on_squares(
     rules: &Rules,
     squares: &mut Squares,
     planes: &[Types],
-    dice: &mut Dice,
+    trial: &mut Trial,
     field: Field,
 ) -> Result<(), Fail> {
-    let mut layout = random_layout(alloc, squares, planes, dice, field)?;
-    expect_same_as_squares(rt, alloc, rules, &mut layout, squares, dice, field)
+    let mut layout = random_layout(alloc, squares, planes, &mut trial.dice, field)?;
+    expect_same_as_squares(rt, alloc, rules, &mut layout, squares, trial, field)
 }
 
 /// Asserts the same of a random layout with these planes.
@@ -287,43 +423,30 @@ fn expect_same_in_layout(
     alloc: Global,
     rules: &Rules,
     planes: &[Types],
-    dice: &mut Dice,
+    trial: &mut Trial,
     field: Field,
 ) -> Result<(), Fail> {
-    let zone = field.whole()?.grow(rules.halo());
-    let mut squares = Squares::new(alloc, zone, planes.len())?;
-    expect_same_on_squares(rt, alloc, rules, &mut squares, planes, dice, field)
+    let mut squares = Squares::new(alloc, field.zone()?, planes.len())?;
+    expect_same_on_squares(rt, alloc, rules, &mut squares, planes, trial, field)
 }
 
-/// Asserts the same of random layouts.
+/// Asserts the same of random layouts with blocks of this side, and that some were checked by sides. Returns whether
+/// the first rule forbade a square that no other rule did.
 fn expect_same_by_rules(
     rt: &impl Abort,
     alloc: Global,
     rules: &Rules,
     planes: &[Types],
     layouts: usize,
-) -> Result<(), Fail> {
-    let mut dice = Dice::new(4);
+    scale: i32,
+) -> Result<bool, Fail> {
+    let mut trial = Trial::new();
     for number in 0..layouts {
-        let field = Field::of_layout(number, 1);
-        expect_same_in_layout(rt, alloc, rules, planes, &mut dice, field)?;
+        let field = Field::of_layout(number, scale, rules.halo());
+        expect_same_in_layout(rt, alloc, rules, planes, &mut trial, field)?;
     }
-    Ok(())
-}
-
-/// Asserts the same of random layouts that are dense.
-fn expect_same_by_rules_densely(
-    rt: &impl Abort,
-    alloc: Global,
-    rules: &Rules,
-    planes: &[Types],
-) -> Result<(), Fail> {
-    let mut dice = Dice::new(6);
-    for number in 0..DENSE_LAYOUTS {
-        let field = Field::of_layout(number, 1).dense();
-        expect_same_in_layout(rt, alloc, rules, planes, &mut dice, field)?;
-    }
-    Ok(())
+    assert!(rt; trial.went_by_sides);
+    Ok(trial.forbade_alone)
 }
 
 /// Asserts the same by each of these rule lines alone, after these planes and types.
@@ -336,7 +459,7 @@ fn expect_same_by_each(
 ) -> Result<(), Fail> {
     for line in lines {
         let rules = rules_of_lines(alloc, planes, &[*line])?;
-        expect_same_by_rules(rt, alloc, &rules, types, layouts)?;
+        expect_same_by_rules(rt, alloc, &rules, types, layouts, 1)?;
     }
     Ok(())
 }
@@ -344,7 +467,8 @@ fn expect_same_by_each(
 #[test]
 fn technology_m(rt: HostRuntime) -> Result<(), Fail> {
     let rules = rules_of(rt.alloc(), TECHNOLOGY_M)?;
-    expect_same_by_rules(&rt, rt.alloc(), &rules, TWO_PLANES_TYPES, LAYOUTS)
+    expect_same_by_rules(&rt, rt.alloc(), &rules, TWO_PLANES_TYPES, LAYOUTS, 1)?;
+    Ok(())
 }
 
 /// Rules of every kind: on one plane and on two, with and without corners, and with types on both sides of their edges.
@@ -366,21 +490,15 @@ const LINES: [&str; 12] = [
 #[test]
 fn rules_of_every_kind(rt: HostRuntime) -> Result<(), Fail> {
     let rules = rules_of_lines(rt.alloc(), TWO_PLANES, &LINES)?;
-    expect_same_by_rules(&rt, rt.alloc(), &rules, TWO_PLANES_TYPES, LAYOUTS)
-}
-
-#[test]
-fn dense_layouts(rt: HostRuntime) -> Result<(), Fail> {
-    let rules = rules_of(rt.alloc(), TECHNOLOGY_M)?;
-    expect_same_by_rules_densely(&rt, rt.alloc(), &rules, TWO_PLANES_TYPES)?;
-    for line in LINES {
-        let rules = rules_of_lines(rt.alloc(), TWO_PLANES, &[line])?;
-        expect_same_by_rules_densely(&rt, rt.alloc(), &rules, TWO_PLANES_TYPES)?;
-    }
-    for line in SPACE_LINES {
-        let rules = rules_of_lines(rt.alloc(), ONE_PLANE, &[line])?;
-        expect_same_by_rules_densely(&rt, rt.alloc(), &rules, ONE_PLANE_TYPES)?;
-    }
+    expect_same_by_rules(&rt, rt.alloc(), &rules, TWO_PLANES_TYPES, LAYOUTS, 1)?;
+    expect_same_by_rules(
+        &rt,
+        rt.alloc(),
+        &rules,
+        TWO_PLANES_TYPES,
+        WIDE_LAYOUTS,
+        WIDE,
+    )?;
     Ok(())
 }
 
@@ -405,34 +523,111 @@ fn row_of_squares(
     Layout::new(alloc)?.with(&active)?.with(&metal)
 }
 
-/// Returns how much a check of such a row looked at, which finds what the plain program finds.
-fn looked_at(
+/// Returns how many tiles the zone round such a row has, and the space round the zone.
+fn tiles_of_row(count: i32, has_bar: bool) -> u64 {
+    let squares = u64::from(count.unsigned_abs());
+    squares
+        .saturating_mul(2)
+        .saturating_add(12)
+        .saturating_add(u64::from(has_bar))
+}
+
+/// Asserts the same of such a row, and that it goes by maps where it has enough tiles.
+fn expect_same_in_row(
     rt: &impl Abort,
     alloc: Global,
     rules: &Rules,
     count: i32,
     has_bar: bool,
-) -> Result<u64, Fail> {
+) -> Result<(), Fail> {
     let looked = Rect::new(0, 0, 120, 4)?;
     let mut squares = Squares::new(alloc, looked.grow(rules.halo()), 2)?;
     let mut layout = row_of_squares(alloc, &mut squares, count, has_bar)?;
     let forbidden = find(alloc, rules, &squares, looked)?;
-    let snapshot = layout.snapshot(alloc, looked.grow(rules.halo()))?;
-    let finding = check(alloc, rules, snapshot, looked)?;
-    expect_same_squares(rt, &finding, &forbidden, looked)?;
-    Ok(finding.edges())
+    let looked_at = expect_same(rt, alloc, rules, &mut layout, &forbidden, looked)?;
+    // 12 rows of 4 words.
+    expect_way(
+        rt,
+        looked_at,
+        48,
+        is_dense(tiles_of_row(count, has_bar), 48),
+    );
+    Ok(())
 }
 
 #[test]
 fn each_number_of_tiles(rt: HostRuntime) -> Result<(), Fail> {
     let rules = rules_of(rt.alloc(), TECHNOLOGY_M)?;
     for count in 0..40 {
-        looked_at(&rt, rt.alloc(), &rules, count, false)?;
-        looked_at(&rt, rt.alloc(), &rules, count, true)?;
+        expect_same_in_row(&rt, rt.alloc(), &rules, count, false)?;
+        expect_same_in_row(&rt, rt.alloc(), &rules, count, true)?;
     }
-    // 12 rows of 4 words. With 22 squares there are 56 tiles, 8 more than words, and 57 with the bar.
-    assert!(&rt; looked_at(&rt, rt.alloc(), &rules, 22, false)? != 48);
-    assert_eq!(&rt; looked_at(&rt, rt.alloc(), &rules, 22, true)?, 48);
+    Ok(())
+}
+
+/// Pairs of rule lines that differ in one thing or in distances, and whether the first forbids squares alone.
+const PAIRS: [(&str, &str, bool); 9] = [
+    (
+        "edge4way space poly 2 poly poly 2 \"\"",
+        "edge4way space poly 3 poly poly 3 \"\"",
+        false,
+    ),
+    (
+        "edge4way space poly 2 poly poly 3 \"\"",
+        "edge4way space poly 3 poly poly 2 \"\"",
+        true,
+    ),
+    (
+        "edge4way space poly 3 poly poly 2 \"\"",
+        "edge4way space poly 2 poly poly 3 \"\"",
+        true,
+    ),
+    (
+        "edge4way space poly 1 poly poly 3 \"\"",
+        "edge4way space poly 1 poly ndiff 3 \"\"",
+        true,
+    ),
+    (
+        "edge4way space poly 2 poly 0 0 \"\"",
+        "edge space poly 2 poly 0 0 \"\"",
+        true,
+    ),
+    (
+        "edge4way space m1 2 space 0 0 \"\" active",
+        "edge4way space m1 2 space 0 0 \"\"",
+        true,
+    ),
+    (
+        "edge4way space poly 2 poly 0 0 \"\"",
+        "edge4way space poly 2 poly,ndiff 0 0 \"\"",
+        true,
+    ),
+    (
+        "edge4way space poly 2 poly 0 0 \"\"",
+        "edge4way ndiff poly 2 poly 0 0 \"\"",
+        true,
+    ),
+    (
+        "edge4way space poly 2 space 0 0 \"\"",
+        "edge4way space ndiff 2 space 0 0 \"\"",
+        true,
+    ),
+];
+
+#[test]
+fn rules_that_differ_in_one_thing(rt: HostRuntime) -> Result<(), Fail> {
+    for (first, second, alone) in PAIRS {
+        let rules = rules_of_lines(rt.alloc(), TWO_PLANES, &[first, second])?;
+        let found = expect_same_by_rules(
+            &rt,
+            rt.alloc(),
+            &rules,
+            TWO_PLANES_TYPES,
+            LAYOUTS_A_RULE,
+            1,
+        )?;
+        assert_eq!(&rt; found, alone, "{first}");
+    }
     Ok(())
 }
 
@@ -449,16 +644,21 @@ const FAR_LINES: [&str; 6] = [
     "spacing m1 poly 100 touching_illegal \"\"",
     "edge space poly 100 poly poly 100 \"\"",
     "edge space m1 100 space,ndiff space,m1 100 \"\" active",
-    "edge4way poly,space poly,ndiff 100 poly,ndiff ndiff 100 \"\"",
+    "edge4way poly,space poly,ndiff 99 poly,ndiff ndiff 100 \"\"",
 ];
 
 #[test]
 fn rules_that_reach_far(rt: HostRuntime) -> Result<(), Fail> {
-    let mut dice = Dice::new(5);
-    for (number, line) in FAR_LINES.iter().enumerate() {
-        let rules = rules_of_lines(rt.alloc(), TWO_PLANES, &[*line])?;
-        let field = Field::of_layout(number, 16);
-        expect_same_in_layout(&rt, rt.alloc(), &rules, TWO_PLANES_TYPES, &mut dice, field)?;
+    for line in FAR_LINES {
+        let rules = rules_of_lines(rt.alloc(), TWO_PLANES, &[line])?;
+        expect_same_by_rules(
+            &rt,
+            rt.alloc(),
+            &rules,
+            TWO_PLANES_TYPES,
+            WIDE_LAYOUTS,
+            WIDE,
+        )?;
     }
     Ok(())
 }
