@@ -51,7 +51,7 @@ HALFWAY = {
     },
 }
 # Rows of dense pieces: so many growths at least make no difference, those of the maps.
-MAPS = {"check_dense": 9}
+MAPS = {"check_dense": 9, "why_dense": 9}
 SERVED_LINES = 7
 # Rows of calls that take no memory.
 FRUGAL = ["retire", "smallest_quota", "whole_world", "other_calls", "placed_cells"]
