@@ -1,8 +1,9 @@
 #!/usr/bin/env python3
 """gate.py FILE COMMAND..: runs the command, as `rt ci`, and writes to FILE how many minutes of a processor each crate took.
 
-Once a second it looks at the processes of the prover: which crate each one checks, and whether it proves the crate, its
-tests, or a wrong body, which is checked in a folder of its own. What a process took after it was last seen isn't counted.
+Once a second it looks at the prover's processes in its own session: which crate each one checks, and whether it proves the
+crate, its tests, or a wrong body, which is checked in a folder of its own. What a process took after it was last seen isn't
+counted.
 Ends with the command's status.
 """
 
@@ -20,6 +21,8 @@ KINDS = ("proof", "tests", "wrong bodies")
 def checked_by(process):
     """Returns the crate that a process checks, which of KINDS, and the minutes that it has taken; None where it checks none."""
     try:
+        if os.getsid(int(process)) != os.getsid(0):
+            return None
         with open(f"/proc/{process}/cmdline", "rb") as file:
             words = file.read().decode(errors="replace").split("\0")
         if os.path.basename(words[0]) != "rattle" or "--crate-name" not in words:
