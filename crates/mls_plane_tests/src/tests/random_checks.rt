@@ -82,9 +82,10 @@ impl Field {
         (x(left), y(bottom), x(right), y(top))
     }
 
-    /// The rectangle of all blocks and of twelve squares around them.
+    /// The rectangle of all blocks and of the squares around them: so many that a layout of few tiles goes by sides.
     fn whole(self) -> Result<Rect, RectFault> {
-        Ok(self.rect((0, 0, 16, 16))?.grow(12))
+        let around = if self.scale == WIDE { 4 } else { 12 };
+        Ok(self.rect((0, 0, 16, 16))?.grow(around))
     }
 
     /// The rectangle of all that a check looks at.
