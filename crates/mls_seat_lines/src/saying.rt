@@ -61,7 +61,7 @@ fn run<N: Naming, B: Names, R: Wait>(
     if is_save(&command) {
         return save(rt, voice, name, seat, out);
     }
-    let result = seat.call(rt, voice.alloc, command);
+    let result = seat.command(rt, voice.alloc, command);
     let response = Response::Answered(*name, Answer::Commanded(result));
     push_response(voice.names, 0, &response, out)
 }

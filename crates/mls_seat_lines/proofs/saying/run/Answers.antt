@@ -9,7 +9,7 @@ pub returns : goal.returns
 unfolding response_text
 returns g c =
     let book = g.B.Names.book c.args.voice.now.names.now in
-    let text = answer_text book c.args.name.now (Commanded c.call-result.result) in
-    let says = says_command g.N.Naming.terms book c.args.name.now (list_of c.args.seat.now) (list_of c.call-result.new.self) c.args.command c.call-result.result text
-    (sym c.is_save.ensures ∙ c.if-is_save.false) c.call-result.ensures.list refl c.call-result.ensures.replied in
+    let text = answer_text book c.args.name.now (Commanded c.command-result.result) in
+    let says = says_command g.N.Naming.terms book c.args.name.now (list_of c.args.seat.now) (list_of c.command-result.new.self) c.args.command c.command-result.result text
+    (sym c.is_save.ensures ∙ c.if-is_save.false) c.command-result.ensures.list refl c.command-result.ensures.replied in
     (text, says, c.push_response.ensures)
