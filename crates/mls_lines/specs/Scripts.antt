@@ -1,5 +1,5 @@
 -- What is written to lines that are carried out as they come. This project's own.
-use Rattle.std.specs.Prelude.{◌≡◌, ◌⊎◌, ℕ, ◌<◌, ◌-◌, Bool, true, Option, Some, None, List, [], ◌∷◌, ◌++◌, slice_get, option_map}
+use Rattle.std.specs.Prelude.{◌≡◌, ◌≢◌, ◌⊎◌, ℕ, ◌<◌, ◌-◌, Bool, true, Option, Some, None, Result, IfErr, IfOk, OnErr, List, [], ◌∷◌, ◌++◌, slice_get, option_map}
 use Rattle.std.specs.List.{All, flat_map, list_all}
 use Rattle.mls_seat_lines.specs.mls_server.LegalLists.{IsLegalList}
 use Rattle.mls_seat_lines.specs.mls_server.Settings.{terms_for}
@@ -66,6 +66,18 @@ AreReplies terms book script audited out =
 -- all of them, or not
 abbrev pub AreSomeReplies : Terms → Names → Option (List ℕ) → List ℕ → Type 0
 AreSomeReplies terms book script out = (audited : Bool) × AreReplies terms book script audited out
+
+-- how writing replies ends: the output gained replies, and all lists of sessions that were closed were audited, or not all; or it failed, and gained a beginning of
+-- some
+abbrev pub EndsWriting : {W E : Type 0} → Terms → Names → Option (List ℕ) → (W → Option (List ℕ)) → Result Bool E → Watched W → Watched W → Type 0
+EndsWriting terms book script contents written old new =
+    IfOk written (λ audited. Gains (contents old.device) (contents new.device) (AreReplies terms book script audited))
+    × OnErr written ((out : List ℕ) × AreSomeReplies terms book script out × AppendsFront (contents old.device) (contents new.device) out)
+    × OnErr written (HasCause new)
+
+-- how reading lines ends: where it fails, the input or memory does
+abbrev pub EndsReading : {R T : Type 0} → Result T ServeFault → Watched R → Type 0
+EndsReading read input = IfErr read (λ fault. fault ≡ Read → HasCause input) × IfErr read (λ fault. fault ≢ Write)
 
 -- the script fails with this fault; only where the output fails, the last reply may lack its end
 abbrev pub EndsLines : {R W : Type 0} → Terms → Names → Option (List ℕ) → ServeFault → Watched R → (W → Option (List ℕ)) → Watched W → Watched W → Type 0

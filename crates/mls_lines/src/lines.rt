@@ -1,11 +1,10 @@
 //! A server whose lines are carried out as they come.
-ghost use Rattle.std.specs.Prelude.{◌≡◌, ◌≢◌, ℕ, List, [], IfOk, IfErr, OnOk, OnErr};
+ghost use Rattle.std.specs.Prelude.{◌≡◌, [], IfOk, IfErr};
 ghost use Rattle.mls_seat_lines.specs.mls_server.Servers.{world_of};
 ghost use Rattle.mls_seat_lines.specs.mls_server.Settings.{terms_for};
 ghost use Rattle.mls_seat_lines.specs.Glossaries.{book_in, glossary_of};
-ghost use Rattle.mls_lines.specs.Scripts.{AreReplies, AreSomeReplies, EndsLines, FailsLines, WritesLines};
-ghost use Rattle.mls_seat_lines.specs.mls_wire.Serving.{AppendsFront, Gains};
-ghost use Rattle.mls_seat_lines.specs.mls_wire.Watches.{HasCause};
+ghost use Rattle.mls_lines.specs.Scripts.{AreReplies, EndsLines, EndsReading, EndsWriting, FailsLines, WritesLines};
+ghost use Rattle.mls_seat_lines.specs.mls_wire.Serving.{Gains};
 
 use crate::Glossary;
 use crate::hall::{Hall, Queued, Reply, Scripted};
@@ -147,13 +146,8 @@ fn run<N: Scripted + Send + Sync, I: Read, W: Write + Send, T: Threads + Wait + 
     requires parts { N.parts ≡ 65 }
     requires called { shared.0.now.glossary ≡ N.glossary }
     requires script { I.remaining input.old.device ≡ N.script }
-    ensures read { IfErr result.read (λ fault. fault ≡ ServeFault.Read → HasCause input.new) }
-    ensures kind { IfErr result.read (λ fault. fault ≢ ServeFault.Write) }
-    ensures written { IfOk result.written (λ audited. Gains (W.contents output.old.device) (W.contents output.new.device)
-        (AreReplies N.terms (book_in N.glossary) N.script audited)) }
-    ensures front { OnErr result.written ((out : List ℕ) × AreSomeReplies N.terms (book_in N.glossary) N.script out
-        × AppendsFront (W.contents output.old.device) (W.contents output.new.device) out) }
-    ensures cause { OnErr result.written (HasCause output.new) }
+    ensures read { EndsReading result.read input.new }
+    ensures written { EndsWriting N.terms (book_in N.glossary) N.script W.contents result.written output.old output.new }
 {
     let (hall, live) = shared;
     let Ends {
@@ -169,20 +163,14 @@ fn run<N: Scripted + Send + Sync, I: Read, W: Write + Send, T: Threads + Wait + 
         rt,
         &mut || -> (Result<bool, WriteFault>, Result<(), AllocError>)
             requires { (N.parts ≡ 65) × (hall.now.glossary ≡ N.glossary) }
-            ensures { IfOk result.0 (λ audited. Gains (W.contents output.entry.now.device) (W.contents output.exit.now.device)
-                (AreReplies N.terms (book_in N.glossary) N.script audited))
-                × OnErr result.0 ((out : List ℕ) × AreSomeReplies N.terms (book_in N.glossary) N.script out
-                × AppendsFront (W.contents output.entry.now.device) (W.contents output.exit.now.device) out)
-                × OnErr result.0 (HasCause output.exit.now) }
+            ensures { EndsWriting N.terms (book_in N.glossary) N.script W.contents result.0
+                output.entry.now output.exit.now }
         {
             join_mut(
                 rt,
                 &mut || -> Result<bool, WriteFault>
-                    ensures { IfOk result (λ audited. Gains (W.contents output.entry.now.device)
-                        (W.contents output.exit.now.device) (AreReplies N.terms (book_in N.glossary) N.script audited))
-                        × OnErr result ((out : List ℕ) × AreSomeReplies N.terms (book_in N.glossary) N.script out
-                        × AppendsFront (W.contents output.entry.now.device) (W.contents output.exit.now.device) out)
-                        × OnErr result (HasCause output.exit.now) }
+                    ensures { EndsWriting N.terms (book_in N.glossary) N.script W.contents result
+                        output.entry.now output.exit.now }
                 { write_replies(rt, hall, &replies, output) },
                 &mut || -> Result<(), AllocError>
                     requires { (N.parts ≡ 65) × (hall.now.glossary ≡ N.glossary) }
@@ -196,8 +184,7 @@ fn run<N: Scripted + Send + Sync, I: Read, W: Write + Send, T: Threads + Wait + 
         },
         &mut || -> Result<(), ServeFault>
             requires { (I.remaining input.now.device ≡ N.script) × (hall.now.glossary ≡ N.glossary) }
-            ensures { IfErr result (λ fault. fault ≡ ServeFault.Read → HasCause input.exit.now)
-                × IfErr result (λ fault. fault ≢ ServeFault.Write) }
+            ensures { EndsReading result input.exit.now }
         {
             match desk.take() {
                 Some(desk) => read_lines(rt, hall, desk, input),

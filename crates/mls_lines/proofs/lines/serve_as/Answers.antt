@@ -15,7 +15,7 @@ pub returns-in_err-audited-clause-failed : goal.returns-in_err-audited-clause-fa
 returns-in_err-audited-clause-failed g c =
     if_err c.from_residual-in_err-audited.result Write
     (λ fault. EndsLines g.N.Naming.terms (book_in g.N.Scripted.glossary) g.N.Scripted.script fault c.run-read.new.input g.W.Write.contents c.args.output.now c.run-read.new.output)
-    c.from_residual-in_err-audited.ensures (rw c.in_err-audited.was at c.run-read.ensures.cause, rw c.in_err-audited.was at c.run-read.ensures.front)
+    c.from_residual-in_err-audited.ensures (rw c.in_err-audited.was at c.run-read.ensures.written.2, rw c.in_err-audited.was at c.run-read.ensures.written.1)
 
 pub returns-in_err-read-clause-failed : goal.returns-in_err-read-clause-failed
 returns-in_err-read-clause-failed g c =
@@ -24,15 +24,15 @@ returns-in_err-read-clause-failed g c =
     (λ given. EndsLines g.N.Naming.terms (book_in g.N.Scripted.glossary) g.N.Scripted.script given c.run-read.new.input g.W.Write.contents c.args.output.now c.run-read.new.output)
     c.from_residual-in_err-read.ensures
     (reading_ends g.N.Naming.terms (book_in g.N.Scripted.glossary) g.N.Scripted.script fault c.run-read.new.input g.W.Write.contents c.args.output.now c.run-read.new.output
-    (rw c.in_err-read.was at c.run-read.ensures.kind) (rw c.in_err-read.was at c.run-read.ensures.read)
-    (replies_some g.N.Naming.terms (book_in g.N.Scripted.glossary) g.N.Scripted.script _ _ _ (rw c.in_ok-audited.was at c.run-read.ensures.written)))
+    (rw c.in_err-read.was at c.run-read.ensures.read.1) (rw c.in_err-read.was at c.run-read.ensures.read.0)
+    (replies_some g.N.Naming.terms (book_in g.N.Scripted.glossary) g.N.Scripted.script _ _ _ (rw c.in_ok-audited.was at c.run-read.ensures.written.0)))
 
 pub returns-in_err-answered-clause-failed : goal.returns-in_err-answered-clause-failed
 returns-in_err-answered-clause-failed g c =
     if_err c.from_residual-in_err-answered.result Memory
     (λ fault. EndsLines g.N.Naming.terms (book_in g.N.Scripted.glossary) g.N.Scripted.script fault c.run-read.new.input g.W.Write.contents c.args.output.now c.run-read.new.output)
-    c.from_residual-in_err-answered.ensures (replies_some g.N.Naming.terms (book_in g.N.Scripted.glossary) g.N.Scripted.script _ _ _ (rw c.in_ok-audited.was at c.run-read.ensures.written))
+    c.from_residual-in_err-answered.ensures (replies_some g.N.Naming.terms (book_in g.N.Scripted.glossary) g.N.Scripted.script _ _ _ (rw c.in_ok-audited.was at c.run-read.ensures.written.0))
 
 pub returns-then-is_closed-clause-failed : goal.returns-then-is_closed-clause-failed
 returns-then-is_closed-clause-failed g c =
-    replies_some g.N.Naming.terms (book_in g.N.Scripted.glossary) g.N.Scripted.script _ _ _ (rw c.in_ok-audited.was at c.run-read.ensures.written)
+    replies_some g.N.Naming.terms (book_in g.N.Scripted.glossary) g.N.Scripted.script _ _ _ (rw c.in_ok-audited.was at c.run-read.ensures.written.0)
