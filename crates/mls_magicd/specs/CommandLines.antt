@@ -94,8 +94,8 @@ abbrev pub AskForLive : List Text → Type 0
 AskForLive words = live_named words ≡ Some (codes "true")
 
 -- they don't
-abbrev pub AskForBatch : List Text → Type 0
-AskForBatch words = (live_named words ≡ None) ⊎ (live_named words ≡ Some (codes "false"))
+abbrev pub AskForNoLive : List Text → Type 0
+AskForNoLive words = (live_named words ≡ None) ⊎ (live_named words ≡ Some (codes "false"))
 
 -- the words that are no options, and so name cells, in order
 unfoldable pub cell_words : List Text → List Text
@@ -180,7 +180,7 @@ pub record ParsesAs (words : List Text) (options : Options) : Type 0 where
   pub cell_tiles : IsNumberFor cell_tiles_option words options.cell_tiles
   pub workers : IsNumberFor workers_option words options.workers
   pub live : AskForLive words → options.live ≡ true
-  pub batch : AskForBatch words → options.live ≡ false
+  pub no_live : AskForNoLive words → options.live ≡ false
   pub cells : NamesFiles (cell_words words) (map file_of options.cells.items)
 
 -- the fault is one of the parser's

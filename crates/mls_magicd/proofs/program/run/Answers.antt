@@ -9,7 +9,7 @@ returns-in-Err-clause-refused g c is =
     let reads_as = g.F.Files.reads_as c.args.files.now in
     let may_fail = g.F.Files.may_fail c.args.files.now in
     let words = map g.S.AsStr.text c.args.words.now in
-    let faults = c.args.streams.now.faults in
+    let faults = c.args.devices.now.faults in
     let start = subst (λ (f : Fault). FailsAtStart reads_as may_fail words g.E.Write.contents faults faults f) (sym c.into.ensures) (c.in-Err.ensures, refl) in (
       refused-words reads_as may_fail words g.E.Write.contents faults faults c.fail.new.faults c.into.result (sym c.fail.ensures.status ∙ is) start c.fail.ensures.reported,
       refl,
@@ -17,22 +17,22 @@ returns-in-Err-clause-refused g c is =
     )
 
 pub returns-in-Err-clause-failed : goal.returns-in-Err-clause-failed
-returns-in-Err-clause-failed g c batch zero is =
-    let faults = c.args.streams.now.faults in
+returns-in-Err-clause-failed g c no_live zero is =
+    let faults = c.args.devices.now.faults in
     let start = subst (λ (f : Fault). FailsAtStart (g.F.Files.reads_as c.args.files.now) (g.F.Files.may_fail c.args.files.now) (map g.S.AsStr.text c.args.words.now)
     g.E.Write.contents faults faults f) (sym c.into.ensures) (c.in-Err.ensures, refl) in
     inl ((c.into.result, faults, sym c.fail.ensures.status ∙ is, start, c.fail.ensures.reported), refl, refl)
 
-pub returns-in-Err-clause-failed_by_crew : goal.returns-in-Err-clause-failed_by_crew
-returns-in-Err-clause-failed_by_crew g c batch workers named some is =
-    let faults = c.args.streams.now.faults in
+pub returns-in-Err-clause-failed_in_batch : goal.returns-in-Err-clause-failed_in_batch
+returns-in-Err-clause-failed_in_batch g c no_live workers named some is =
+    let faults = c.args.devices.now.faults in
     let start = subst (λ (f : Fault). FailsAtStart (g.F.Files.reads_as c.args.files.now) (g.F.Files.may_fail c.args.files.now) (map g.S.AsStr.text c.args.words.now)
     g.E.Write.contents faults faults f) (sym c.into.ensures) (c.in-Err.ensures, refl) in
     inl ((c.into.result, faults, sym c.fail.ensures.status ∙ is, start, c.fail.ensures.reported), refl, refl)
 
-pub returns-in-Err-clause-failed_live : goal.returns-in-Err-clause-failed_live
-returns-in-Err-clause-failed_live g c asks is =
-    let faults = c.args.streams.now.faults in
+pub returns-in-Err-clause-failed_in_stream : goal.returns-in-Err-clause-failed_in_stream
+returns-in-Err-clause-failed_in_stream g c asks is =
+    let faults = c.args.devices.now.faults in
     let start = subst (λ (f : Fault). FailsAtStart (g.F.Files.reads_as c.args.files.now) (g.F.Files.may_fail c.args.files.now) (map g.S.AsStr.text c.args.words.now)
     g.E.Write.contents faults faults f) (sym c.into.ensures) (c.in-Err.ensures, refl) in
     inl ((c.into.result, faults, sym c.fail.ensures.status ∙ is, start, c.fail.ensures.reported), refl, refl)
