@@ -14,6 +14,8 @@ use Rattle.mls_lines.specs.mls_session.Quotas.{least_quota, most_quota, default_
 use Rattle.mls_lines.specs.mls_server.Capacities.{greatest_capacity, default_capacity}
 use Rattle.mls_magicd.specs.WorkerCounts.{most_workers, default_workers}
 use Rattle.mls_magicd.specs.declared.cell_argument.CellArgument.{CellArgument}
+use Rattle.mls_magicd.specs.declared.options.Mode.{Mode}
+use Rattle.mls_magicd.specs.declared.options.Mode.TheVariants.{Alone, Batch, Stream}
 use Rattle.mls_magicd.specs.declared.options.Options.{Options}
 use Rattle.mls_magicd.specs.declared.options.OptionsFault.{OptionsFault}
 use Rattle.mls_magicd.specs.declared.options.OptionsFault.TheVariants.{Memory, Refused, BadCell}
@@ -163,6 +165,12 @@ abbrev pub IsBadWord : List Text → OptionsFault → Type 0
 IsBadWord words (BadCell word) = bad_word words ≡ Some word.now
 IsBadWord words Memory = ⊤
 IsBadWord words (Refused text) = ⊥
+
+-- ---- how the script is served
+
+-- with these options it is served so
+unfoldable pub mode_of : Options → Mode
+mode_of options = if options.live then Stream else if options.workers == 0 then Alone else Batch
 
 -- ---- the whole line
 

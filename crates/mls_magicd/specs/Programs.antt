@@ -16,6 +16,8 @@ use Rattle.mls_magicd.specs.Technologies.{HasReading, LacksTechnology}
 use Rattle.mls_magicd.specs.declared.cells.LoadFault.{LoadFault}
 use Rattle.mls_magicd.specs.declared.fault.Fault.{Fault}
 use Rattle.mls_magicd.specs.declared.fault.Fault.TheVariants.{Options as BadOptions, Technology, Rule, Cell, Memory, Serve, Differs}
+use Rattle.mls_magicd.specs.declared.options.Mode.{Mode}
+use Rattle.mls_magicd.specs.declared.options.Mode.TheVariants.{Alone, Batch, Stream}
 use Rattle.mls_magicd.specs.declared.options.Options.{Options}
 use Rattle.mls_magicd.specs.declared.options.OptionsFault.TheVariants.{Refused, BadCell, Memory as OptionsMemory}
 
@@ -145,21 +147,21 @@ ServesScript old script written now = (last : World) × WritesRun old script wri
 
 -- it gained those of a run that was cut by this fault
 abbrev pub FailsInScript : {R W : Type 0} → World → Option (List ℕ) → Option (List ℕ) → Option (List ℕ) → Option (List ℕ)
-    → Watched R → Watched W → ServeFault → Type 0
-FailsInScript old script rest written now input output fault =
+    → Watched R → Watched W → Fault → Type 0
+FailsInScript old script rest written now input output (Serve fault) =
     ((last : World) × WritesCutRun old fault script rest written now last × IsLeftBy old last) × HasReason fault input output
-
--- so it did, and the fault was reported after the skipped lines
-abbrev pub EndsInScript : {R W E : Type 0} → World → Option (List ℕ) → Option (List ℕ) → Option (List ℕ) → Option (List ℕ)
-    → Watched R → Watched W → (E → Option (List ℕ)) → Watched E → Watched E → Type 0
-EndsInScript old script rest written now input output contents before after =
-    (fault : ServeFault) × FailsInScript old script rest written now input output fault
-    × ReportsAll contents before after (skipped_lines old.setting.tech ++ serve_fault_line fault ∷ [])
+FailsInScript old script rest written now input output _ = ⊥
 
 -- it failed so, and the fault was reported after the skipped lines
 abbrev pub ReportsEnd : {E : Type 0} → World → (Fault → Type 0) → (E → Option (List ℕ)) → Watched E → Watched E → Type 0
 ReportsEnd on fails messages before after =
     (fault : Fault) × fails fault × ReportsAll messages before after (skipped_lines on.setting.tech ++ fault_message fault ∷ [])
+
+-- so it did, and the fault was reported after the skipped lines
+abbrev pub EndsInScript : {R W E : Type 0} → World → Option (List ℕ) → Option (List ℕ) → Option (List ℕ) → Option (List ℕ)
+    → Watched R → Watched W → (E → Option (List ℕ)) → Watched E → Watched E → Type 0
+EndsInScript old script rest written now input output messages before after =
+    ReportsEnd old (FailsInScript old script rest written now input output) messages before after
 
 -- ---- the script, with workers
 
@@ -186,3 +188,18 @@ FailsInStream on script input contents old new _ = ⊥
 abbrev pub EndsInStream : {R W E : Type 0} → World → Option (List ℕ) → Watched R → (W → Option (List ℕ)) → Watched W → Watched W
     → (E → Option (List ℕ)) → Watched E → Watched E → Type 0
 EndsInStream on script input contents old new messages before after = ReportsEnd on (FailsInStream on script input contents old new) messages before after
+
+-- ---- the script, in one of these modes
+
+-- it is served so on this world, and the whole of it was audited
+abbrev pub ServesAs : Mode → World → Option (List ℕ) → Option (List ℕ) → Option (List ℕ) → Type 0
+ServesAs Alone on script written now = ServesScript on script written now
+ServesAs Batch on script written now = WritesBatch on script written now true
+ServesAs Stream on script written now = WritesStream on script written now true
+
+-- it fails so with this fault
+abbrev pub FailsAs : {R W : Type 0} → Mode → World → (R → Option (List ℕ)) → (W → Option (List ℕ)) → Watched R → Watched R → Watched W → Watched W → Fault → Type 0
+FailsAs Alone on remaining contents before input old new fault =
+    FailsInScript on (remaining before.device) (remaining input.device) (contents old.device) (contents new.device) input new fault
+FailsAs Batch on remaining contents before input old new fault = FailsInBatch on (remaining before.device) input contents old new fault
+FailsAs Stream on remaining contents before input old new fault = FailsInStream on (remaining before.device) input contents old new fault

@@ -5,9 +5,8 @@ ghost use Rattle.mls_lines.specs.Scripts.{WritesStream};
 ghost use Rattle.mls_lines.specs.mls_server.Servers.{world_of};
 ghost use Rattle.mls_lines.specs.mls_server.Worlds.{World};
 ghost use Rattle.mls_tech.specs.Readings.{reading_of};
-ghost use Rattle.mls_lines.specs.mls_wire.declared.serving.ServeFault.{ServeFault};
 ghost use Rattle.mls_magicd.specs.Cells.{LoadsCells};
-ghost use Rattle.mls_magicd.specs.CommandLines.{AskForNoLive, AskForLive, ParsesAs, IsNumberFor, file_of, workers_option};
+ghost use Rattle.mls_magicd.specs.CommandLines.{AskForNoLive, AskForLive, ParsesAs, IsNumberFor, file_of, mode_of, workers_option};
 ghost use Rattle.mls_magicd.specs.Messages.{Reports, ReportsAll, fault_message};
 ghost use Rattle.mls_magicd.specs.Programs as spec;
 ghost use Rattle.mls_magicd.specs.Technologies.{text_in};
@@ -15,7 +14,7 @@ ghost use Rattle.mls_lines.specs.Glossaries.{glossary_of};
 
 use crate::cells::load_cells;
 use crate::messages::{report_fault, report_skipped};
-use crate::options::Options;
+use crate::options::{Mode, Options};
 use crate::technology::TechnologyText;
 use crate::{Devices, Fault, Files};
 use mls_crew::Batch;
@@ -115,13 +114,7 @@ pub fn run<T: Threads + Wait + Sync, S: AsStr, F: Files, R: Read, W: Write + Sen
         Ok(options) => options,
         Err(fault) => return fail(&mut devices.faults, &fault.into()),
     };
-    if options.live {
-        return run_stream(rt, alloc, files, &options, devices);
-    }
-    match options.workers.get() {
-        0 => run_script(alloc, files, &options, devices),
-        _ => run_batch(rt, alloc, files, &options, devices),
-    }
+    run_as(rt, alloc, files, &options, devices)
 }
 
 /// Reports a fault and returns the exit status that it ends the program with.
@@ -133,8 +126,9 @@ pub fn fail<E: Write>(faults: &mut Watched<E>, fault: &Fault<'_>) -> u8
     fault.status()
 }
 
-/// Runs the program without workers.
-fn run_script<F: Files, R: Read, W: Write, E: Write>(
+/// Runs the program in the mode that the options ask for.
+fn run_as<T: Threads + Wait + Sync, F: Files, R: Read, W: Write + Send, E: Write>(
+    rt: &T,
     alloc: Global,
     files: &F,
     options: &Options<'_>,
@@ -145,25 +139,58 @@ fn run_script<F: Files, R: Read, W: Write, E: Write>(
     ensures status { result ≤ spec.failed }
     ensures served { (words : List (List ℕ)) → ParsesAs words options.now → result ≡ spec.done
         → (on : World) × spec.IsConfiguredBy (F.reads_as files.now) words on
-        × spec.ServesScript on (R.remaining devices.old.input.device) (W.contents devices.old.output.device)
-        (W.contents devices.new.output.device)
+        × spec.ServesAs (mode_of options.now) on (R.remaining devices.old.input.device)
+        (W.contents devices.old.output.device) (W.contents devices.new.output.device)
         × ReportsAll E.contents devices.old.faults devices.new.faults (spec.skipped_lines on.setting.tech) }
     ensures failed { (words : List (List ℕ)) → ParsesAs words options.now → result ≡ spec.failed →
         (spec.EndsAtStart (F.reads_as files.now) (F.may_fail files.now) words E.contents devices.old.faults
         devices.new.faults
         × (devices.new.input ≡ devices.old.input) × (devices.new.output ≡ devices.old.output))
         ⊎ ((on : World) × spec.IsConfiguredBy (F.reads_as files.now) words on
-        × spec.EndsInScript on (R.remaining devices.old.input.device) (R.remaining devices.new.input.device)
-        (W.contents devices.old.output.device) (W.contents devices.new.output.device)
-        devices.new.input devices.new.output E.contents devices.old.faults devices.new.faults) }
+        × spec.ReportsEnd on (spec.FailsAs (mode_of options.now) on R.remaining W.contents devices.old.input
+        devices.new.input devices.old.output devices.new.output)
+        E.contents devices.old.faults devices.new.faults) }
 {
-    match serve_script(alloc, files, options, devices) {
+    match serve_as(rt, alloc, files, options, devices) {
         Ok(()) => DONE,
         Err(fault) => fail(&mut devices.faults, &fault),
     }
 }
 
-/// Serves the script of the input with what the options name.
+/// Serves the script of the input in the mode that the options ask for. Where that is [`Mode::Alone`], by what is given
+/// nothing that starts threads or waits.
+fn serve_as<'a, T: Threads + Wait + Sync, F: Files, R: Read, W: Write + Send, E: Write>(
+    rt: &T,
+    alloc: Global,
+    files: &F,
+    options: &Options<'a>,
+    devices: &mut Devices<R, W, E>,
+) -> Result<(), Fault<'a>>
+    requires input_sound { devices.old.input.failed ≡ false }
+    requires output_sound { devices.old.output.failed ≡ false }
+    ensures ok { OnOk result ((words : List (List ℕ)) → ParsesAs words options.now → (on : World)
+        × spec.IsConfiguredBy (F.reads_as files.now) words on
+        × spec.ServesAs (mode_of options.now) on (R.remaining devices.old.input.device)
+        (W.contents devices.old.output.device) (W.contents devices.new.output.device)
+        × ReportsAll E.contents devices.old.faults devices.new.faults (spec.skipped_lines on.setting.tech)) }
+    ensures err { IfErr result (λ fault. (words : List (List ℕ)) → ParsesAs words options.now →
+        (spec.FailsAtStart (F.reads_as files.now) (F.may_fail files.now) words E.contents devices.old.faults
+        devices.new.faults fault
+        × (devices.new.input ≡ devices.old.input) × (devices.new.output ≡ devices.old.output))
+        ⊎ ((on : World) × spec.IsConfiguredBy (F.reads_as files.now) words on
+        × spec.FailsAs (mode_of options.now) on R.remaining W.contents devices.old.input devices.new.input
+        devices.old.output devices.new.output fault
+        × ReportsAll E.contents devices.old.faults devices.new.faults (spec.skipped_lines on.setting.tech))) }
+    ensures status { IfErr result (λ fault. spec.status_after fault ≡ spec.failed) }
+{
+    match options.mode() {
+        Mode::Alone => serve_script(alloc, files, options, devices),
+        Mode::Batch => serve_batch(rt, alloc, files, options, devices),
+        Mode::Stream => serve_stream(rt, alloc, files, options, devices),
+    }
+}
+
+/// Serves the script of the input by this thread alone, with what the options name.
 fn serve_script<'a, F: Files, R: Read, W: Write, E: Write>(
     alloc: Global,
     files: &F,
@@ -181,11 +208,10 @@ fn serve_script<'a, F: Files, R: Read, W: Write, E: Write>(
         (spec.FailsAtStart (F.reads_as files.now) (F.may_fail files.now) words E.contents devices.old.faults
         devices.new.faults fault
         × (devices.new.input ≡ devices.old.input) × (devices.new.output ≡ devices.old.output))
-        ⊎ ((on : World) × (cause : ServeFault) × (fault ≡ Fault.Serve cause)
-        × spec.IsConfiguredBy (F.reads_as files.now) words on
+        ⊎ ((on : World) × spec.IsConfiguredBy (F.reads_as files.now) words on
         × spec.FailsInScript on (R.remaining devices.old.input.device) (R.remaining devices.new.input.device)
         (W.contents devices.old.output.device) (W.contents devices.new.output.device)
-        devices.new.input devices.new.output cause
+        devices.new.input devices.new.output fault
         × ReportsAll E.contents devices.old.faults devices.new.faults (spec.skipped_lines on.setting.tech))) }
     ensures status { IfErr result (λ fault. spec.status_after fault ≡ spec.failed) }
 {
@@ -209,46 +235,15 @@ fn serve_at<'a, R: Read, W: Write, E: Write>(
     requires output_sound { devices.old.output.failed ≡ false }
     ensures ok { OnOk result (spec.ServesScript (world_of server.old) (R.remaining devices.old.input.device)
         (W.contents devices.old.output.device) (W.contents devices.new.output.device)) }
-    ensures err { IfErr result (λ fault. (cause : ServeFault) × (fault ≡ Fault.Serve cause)
-        × spec.FailsInScript (world_of server.old) (R.remaining devices.old.input.device)
-        (R.remaining devices.new.input.device) (W.contents devices.old.output.device)
-        (W.contents devices.new.output.device) devices.new.input devices.new.output cause) }
+    ensures err { IfErr result (λ fault. spec.FailsInScript (world_of server.old)
+        (R.remaining devices.old.input.device) (R.remaining devices.new.input.device)
+        (W.contents devices.old.output.device) (W.contents devices.new.output.device)
+        devices.new.input devices.new.output fault) }
     ensures status { IfErr result (λ fault. spec.status_after fault ≡ spec.failed) }
     ensures faults { devices.new.faults ≡ devices.old.faults }
 {
     serve(alloc, server, &mut devices.input, &mut devices.output)?;
     Ok(())
-}
-
-/// Runs the program with workers: serves the script as one batch.
-fn run_batch<T: Threads + Wait + Sync, F: Files, R: Read, W: Write, E: Write>(
-    rt: &T,
-    alloc: Global,
-    files: &F,
-    options: &Options<'_>,
-    devices: &mut Devices<R, W, E>,
-) -> u8
-    requires input_sound { devices.old.input.failed ≡ false }
-    requires output_sound { devices.old.output.failed ≡ false }
-    ensures status { result ≤ spec.failed }
-    ensures served { (words : List (List ℕ)) → ParsesAs words options.now → result ≡ spec.done
-        → (on : World) × spec.IsConfiguredBy (F.reads_as files.now) words on
-        × WritesBatch on (R.remaining devices.old.input.device) (W.contents devices.old.output.device)
-        (W.contents devices.new.output.device) true
-        × ReportsAll E.contents devices.old.faults devices.new.faults (spec.skipped_lines on.setting.tech) }
-    ensures failed { (words : List (List ℕ)) → ParsesAs words options.now → result ≡ spec.failed →
-        (spec.EndsAtStart (F.reads_as files.now) (F.may_fail files.now) words E.contents devices.old.faults
-        devices.new.faults
-        × (devices.new.input ≡ devices.old.input) × (devices.new.output ≡ devices.old.output))
-        ⊎ ((on : World) × spec.IsConfiguredBy (F.reads_as files.now) words on
-        × spec.EndsInBatch on (R.remaining devices.old.input.device) devices.new.input W.contents devices.old.output
-        devices.new.output
-        E.contents devices.old.faults devices.new.faults) }
-{
-    match serve_batch(rt, alloc, files, options, devices) {
-        Ok(()) => DONE,
-        Err(fault) => fail(&mut devices.faults, &fault),
-    }
 }
 
 /// Serves the script of the input as one batch, with workers and what the options name.
@@ -282,35 +277,6 @@ fn serve_batch<'a, T: Threads + Wait + Sync, F: Files, R: Read, W: Write, E: Wri
         return Err(Fault::Differs);
     }
     Ok(())
-}
-
-/// Runs the program with `--live`: serves the script as a stream.
-fn run_stream<T: Threads + Wait + Sync, F: Files, R: Read, W: Write + Send, E: Write>(
-    rt: &T,
-    alloc: Global,
-    files: &F,
-    options: &Options<'_>,
-    devices: &mut Devices<R, W, E>,
-) -> u8
-    ensures status { result ≤ spec.failed }
-    ensures served { (words : List (List ℕ)) → ParsesAs words options.now → result ≡ spec.done
-        → (on : World) × spec.IsConfiguredBy (F.reads_as files.now) words on
-        × WritesStream on (R.remaining devices.old.input.device) (W.contents devices.old.output.device)
-        (W.contents devices.new.output.device) true
-        × ReportsAll E.contents devices.old.faults devices.new.faults (spec.skipped_lines on.setting.tech) }
-    ensures failed { (words : List (List ℕ)) → ParsesAs words options.now → result ≡ spec.failed →
-        (spec.EndsAtStart (F.reads_as files.now) (F.may_fail files.now) words E.contents devices.old.faults
-        devices.new.faults
-        × (devices.new.input ≡ devices.old.input) × (devices.new.output ≡ devices.old.output))
-        ⊎ ((on : World) × spec.IsConfiguredBy (F.reads_as files.now) words on
-        × spec.EndsInStream on (R.remaining devices.old.input.device) devices.new.input W.contents devices.old.output
-        devices.new.output
-        E.contents devices.old.faults devices.new.faults) }
-{
-    match serve_stream(rt, alloc, files, options, devices) {
-        Ok(()) => DONE,
-        Err(fault) => fail(&mut devices.faults, &fault),
-    }
 }
 
 /// Serves the script of the input as a stream, with what the options name.

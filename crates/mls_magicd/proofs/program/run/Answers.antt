@@ -2,6 +2,7 @@ use Rattle.std.proofs.Common.{◌∙◌, inl, map, refl, subst, sym}
 use Rattle.mls_magicd.specs.Programs.{FailsAtStart}
 use Rattle.mls_magicd.specs.declared.fault.Fault.{Fault}
 use Rattle.mls_magicd.proofs.Refusals.{refused-words}
+use Rattle.mls_magicd.proofs.Modes.{asked_alone, asked_batch, asked_stream}
 use Rattle.mls_magicd.proofs.program.run.Goals as goal
 
 pub returns-in-Err-clause-refused : goal.returns-in-Err-clause-refused
@@ -36,3 +37,27 @@ returns-in-Err-clause-failed_in_stream g c asks is =
     let start = subst (λ (f : Fault). FailsAtStart (g.F.Files.reads_as c.args.files.now) (g.F.Files.may_fail c.args.files.now) (map g.S.AsStr.text c.args.words.now)
     g.E.Write.contents faults faults f) (sym c.into.ensures) (c.in-Err.ensures, refl) in
     inl ((c.into.result, faults, sym c.fail.ensures.status ∙ is, start, c.fail.ensures.reported), refl, refl)
+
+pub returns-clause-served : goal.returns-clause-served
+returns-clause-served g c no zero is =
+    rw (asked_alone (map g.S.AsStr.text c.args.words.now) c.in-Ok.options c.in-Ok.ensures no zero) at (c.run_as.ensures.served (map g.S.AsStr.text c.args.words.now) c.in-Ok.ensures is)
+
+pub returns-clause-failed : goal.returns-clause-failed
+returns-clause-failed g c no zero is =
+    rw (asked_alone (map g.S.AsStr.text c.args.words.now) c.in-Ok.options c.in-Ok.ensures no zero) at (c.run_as.ensures.failed (map g.S.AsStr.text c.args.words.now) c.in-Ok.ensures is)
+
+pub returns-clause-served_in_batch : goal.returns-clause-served_in_batch
+returns-clause-served_in_batch g c no workers named some is =
+    rw (asked_batch (map g.S.AsStr.text c.args.words.now) c.in-Ok.options workers c.in-Ok.ensures no named some) at (c.run_as.ensures.served (map g.S.AsStr.text c.args.words.now) c.in-Ok.ensures is)
+
+pub returns-clause-failed_in_batch : goal.returns-clause-failed_in_batch
+returns-clause-failed_in_batch g c no workers named some is =
+    rw (asked_batch (map g.S.AsStr.text c.args.words.now) c.in-Ok.options workers c.in-Ok.ensures no named some) at (c.run_as.ensures.failed (map g.S.AsStr.text c.args.words.now) c.in-Ok.ensures is)
+
+pub returns-clause-served_in_stream : goal.returns-clause-served_in_stream
+returns-clause-served_in_stream g c asks is =
+    rw (asked_stream (map g.S.AsStr.text c.args.words.now) c.in-Ok.options c.in-Ok.ensures asks) at (c.run_as.ensures.served (map g.S.AsStr.text c.args.words.now) c.in-Ok.ensures is)
+
+pub returns-clause-failed_in_stream : goal.returns-clause-failed_in_stream
+returns-clause-failed_in_stream g c asks is =
+    rw (asked_stream (map g.S.AsStr.text c.args.words.now) c.in-Ok.options c.in-Ok.ensures asks) at (c.run_as.ensures.failed (map g.S.AsStr.text c.args.words.now) c.in-Ok.ensures is)

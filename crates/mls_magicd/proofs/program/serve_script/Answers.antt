@@ -34,4 +34,4 @@ returns-clause-err g c = if_err-map c.serve_at.result _ _ _ (λ fault fails stat
     let begun = started (g.F.Files.reads_as c.args.files.now) (g.F.Files.may_fail c.args.files.now) words g.E.Write.contents c.args.devices.now.faults c.read_technology.new.faults
     (bare_world c.args.options.now read.field-0.tech read.field-0.rules) (map file_of c.args.options.now.cells.items) (read.ensures.bare words parsed) parsed.cells read.ensures.reported on c.in_ok-server.ensures.loads in
     let reported = subst (λ faults. ReportsAll g.E.Write.contents c.args.devices.now.faults faults (skipped_lines on.setting.tech)) (sym c.serve_at.ensures.faults) begun.1 in
-    inr (on, fails.0, fails.1, begun.0, fails.2, reported)) c.serve_at.ensures.err c.serve_at.ensures.status
+    inr (on, begun.0, fails, reported)) c.serve_at.ensures.err c.serve_at.ensures.status
