@@ -1,22 +1,22 @@
 //! `magicd`: a layout server on standard input and output.
 #![tactic(auto)]
 
-use mls_magicd::{HostFiles, OptionsFault, Streams, fail, run};
+use mls_magicd::{Devices, HostFiles, OptionsFault, fail, run};
 use std::env;
 use std::io::ErrorKind;
 use std::process::ExitCode;
 
 fn main(rt: HostRuntime) -> ExitCode {
-    let mut streams = Streams::new(rt.stdin(), rt.stdout(), rt.stderr());
+    let mut devices = Devices::new(rt.stdin(), rt.stdout(), rt.stderr());
     let status = match command_line(&rt) {
         Ok(words) => run(
             &rt,
             rt.alloc(),
             words.as_slice(),
             &HostFiles::new(&rt),
-            &mut streams,
+            &mut devices,
         ),
-        Err(fault) => fail(&mut streams.faults, &fault.into()),
+        Err(fault) => fail(&mut devices.faults, &fault.into()),
     };
     ExitCode::from(status)
 }

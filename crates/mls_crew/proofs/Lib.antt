@@ -1,5 +1,5 @@
 pub mod CountdownLemmas
-pub mod LineLists
+pub mod RequestLists
 pub mod SortedLines
 pub mod Outputs
 pub mod Results

@@ -12,22 +12,22 @@ same_sorted head head' handed handed' opened p q =
     ap (λ h. let s : Sorted = record { head = h; handed = handed; opened = opened } in s) p
     ∙ ap (λ h. let s : Sorted = record { head = head'; handed = h; opened = opened } in s) q
 
-module _ (book : Names) (said : Result Line LineFault) (next : Sorted) where
+module _ (book : Names) (read : Result Line LineFault) (next : Sorted) where
   pub Sorts-snoc :
       (n : ℕ) (opened : List (List ℕ)) (lines : List (Result Line LineFault)) (sorted : Sorted) → Sorts book n opened lines sorted
-      → SortsLine book (n + length lines) sorted.opened said next → Sorts book n opened (lines ++ said ∷ []) (followed_by sorted next)
+      → SortsLine book (n + length lines) sorted.opened read next → Sorts book n opened (lines ++ read ∷ []) (followed_by sorted next)
   Sorts-snoc n opened [] sorted none line = (
     next,
     record { head = []; handed = []; opened = next.opened },
-    subst (λ (m : ℕ). SortsLine book m opened said next) (add-zero n) (subst (λ (s : Sorted). SortsLine book (n + 0) s.opened said next) none line),
+    subst (λ (m : ℕ). SortsLine book m opened read next) (add-zero n) (subst (λ (s : Sorted). SortsLine book (n + 0) s.opened read next) none line),
     refl,
     ap (λ (s : Sorted). followed_by s next) none
         ∙ same_sorted next.head (next.head ++ []) next.handed (next.handed ++ []) next.opened (sym (append-nil next.head)) (sym (append-nil next.handed)),
   )
   Sorts-snoc n opened (one ∷ lines) sorted (first, rest, says, more, is) line =
       let at : n + length (one ∷ lines) ≡ n + 1 + length lines = omega arith in
-      let here : SortsLine book (n + 1 + length lines) rest.opened said next =
-      subst (λ (m : ℕ). SortsLine book m rest.opened said next) at (subst (λ (s : Sorted). SortsLine book (n + length (one ∷ lines)) s.opened said next) is line) in (
+      let here : SortsLine book (n + 1 + length lines) rest.opened read next =
+      subst (λ (m : ℕ). SortsLine book m rest.opened read next) at (subst (λ (s : Sorted). SortsLine book (n + length (one ∷ lines)) s.opened read next) is line) in (
         first,
         followed_by rest next,
         says,
@@ -39,13 +39,13 @@ module _ (book : Names) (said : Result Line LineFault) (next : Sorted) where
 
 -- the line at an index more
 pub Sorts-next :
-    (book : Names) (lines : List (Result Line LineFault)) (index n : ℕ) (sorted : Sorted) (said : Result Line LineFault) (next : Sorted) → index < length lines → n ≡ index + 1
-    → Sorts book 1 [] (take index lines) sorted → SortsLine book n sorted.opened (get_or lines index said) next → Sorts book 1 [] (take (index + 1) lines) (followed_by sorted next)
-Sorts-next book lines index n sorted said next within is sorts line =
+    (book : Names) (lines : List (Result Line LineFault)) (index n : ℕ) (sorted : Sorted) (read : Result Line LineFault) (next : Sorted) → index < length lines → n ≡ index + 1
+    → Sorts book 1 [] (take index lines) sorted → SortsLine book n sorted.opened (get_or lines index read) next → Sorts book 1 [] (take (index + 1) lines) (followed_by sorted next)
+Sorts-next book lines index n sorted read next within is sorts line =
     let one : index + 1 ≡ suc index = omega arith in
     let at : n ≡ 1 + length (take index lines) = omega (arith, length-take {A = Result Line LineFault}) in
-    subst (λ (done : List (Result Line LineFault)). Sorts book 1 [] done (followed_by sorted next)) (sym (ap (λ count. take count lines) one ∙ take-suc lines index said within))
-    (Sorts-snoc book (get_or lines index said) next 1 [] (take index lines) sorted sorts (subst (λ (m : ℕ). SortsLine book m sorted.opened (get_or lines index said) next) at line))
+    subst (λ (done : List (Result Line LineFault)). Sorts book 1 [] done (followed_by sorted next)) (sym (ap (λ count. take count lines) one ∙ take-suc lines index read within))
+    (Sorts-snoc book (get_or lines index read) next 1 [] (take index lines) sorted sorts (subst (λ (m : ℕ). SortsLine book m sorted.opened (get_or lines index read) next) at line))
 
 -- a name more
 pub opened_one : (before : Sorted) (opened : List (List ℕ)) (name : List ℕ) → opened ≡ before.opened ++ name ∷ []

@@ -1,4 +1,4 @@
--- Which lines of a script have replies at once, and which are handed to a session. This project's own.
+-- Which lines of a script have replies at once, and which make a request that is handed to a session. This project's own.
 use Rattle.std.specs.Prelude.{◌≡◌, ◌⊎◌, ℕ, ◌+◌, Option, Some, None, Result, Ok, Err, List, [], ◌∷◌, ◌++◌}
 use Rattle.std.specs.List.{position}
 use Rattle.mls_seat_lines.specs.mls_server.declared.answer.Answer.TheVariants.{Opened}
@@ -13,8 +13,8 @@ use Rattle.mls_seat_lines.specs.mls_wire.declared.line.LineFault.{LineFault}
 use Rattle.mls_seat_lines.specs.mls_wire.declared.line.LineFault.TheVariants.{NotOpen, UnknownCommand}
 use Rattle.mls_seat_lines.specs.mls_wire.declared.response.Response.TheVariants.{Answered, Fault}
 use Rattle.mls_crew.specs.declared.handed.Handed.{Handed}
-use Rattle.mls_seat_lines.specs.declared.seat_line.SeatLine.{SeatLine}
-use Rattle.mls_seat_lines.specs.declared.seat_line.SeatLine.TheVariants.{Audit as AuditLine, Look as LookLine, Run as RunLine}
+use Rattle.mls_seat_lines.specs.declared.request.Request.{Request}
+use Rattle.mls_seat_lines.specs.declared.request.Request.TheVariants.{Audit as AuditRequest, Look as LookRequest, Run as RunRequest}
 
 -- the number of the session of this name, in the order of opening
 abbrev pub number_of_session : List (List ℕ) → List ℕ → Option ℕ
@@ -39,10 +39,10 @@ at_once opened text = record { head = text; handed = []; opened = opened }
 abbrev pub faulty : Names → ℕ → LineFault → List (List ℕ) → Sorted
 faulty book n fault opened = at_once opened (response_text book n (Fault fault))
 
--- the line is handed to the session of this number, or there is none
-abbrev pub handed_to : Names → ℕ → List (List ℕ) → Option ℕ → SeatLine → Sorted
-handed_to book n opened (Some session) line = record { head = []; handed = record { session = session; line = line } ∷ []; opened = opened }
-handed_to book n opened None line = faulty book n NotOpen opened
+-- the request of line n is handed to the session of this number, or there is none
+abbrev pub handed_to : Names → ℕ → List (List ℕ) → Option ℕ → Request → Sorted
+handed_to book n opened (Some session) request = record { head = []; handed = record { session = session; request = request } ∷ []; opened = opened }
+handed_to book n opened None request = faulty book n NotOpen opened
 
 -- a session of this name was opened, where none had been; or opening is refused by a fault, the first where one had been
 abbrev pub SortsOpening : Names → ℕ → List (List ℕ) → List ℕ → Sorted → Type 0
@@ -59,13 +59,13 @@ SortsLine book n opened (Ok (Open name)) sorted = SortsOpening book n opened nam
 SortsLine book n opened (Ok (Close name id)) sorted = sorted ≡ faulty book n UnknownCommand opened
 SortsLine book n opened (Ok (Step name id)) sorted = sorted ≡ faulty book n UnknownCommand opened
 SortsLine book n opened (Ok (Steps name id most)) sorted = sorted ≡ faulty book n UnknownCommand opened
-SortsLine book n opened (Ok (Audit name id)) sorted = sorted ≡ handed_to book n opened (number_of_session opened name) AuditLine
-SortsLine book n opened (Ok (Look name id look)) sorted = sorted ≡ handed_to book n opened (number_of_session opened name) (LookLine look)
-SortsLine book n opened (Ok (Run name id command)) sorted = sorted ≡ handed_to book n opened (number_of_session opened name) (RunLine command)
+SortsLine book n opened (Ok (Audit name id)) sorted = sorted ≡ handed_to book n opened (number_of_session opened name) AuditRequest
+SortsLine book n opened (Ok (Look name id look)) sorted = sorted ≡ handed_to book n opened (number_of_session opened name) (LookRequest look)
+SortsLine book n opened (Ok (Run name id command)) sorted = sorted ≡ handed_to book n opened (number_of_session opened name) (RunRequest command)
 
 -- the lines from line n on are sorted one after another
 abbrev pub Sorts : Names → ℕ → List (List ℕ) → List (Result Line LineFault) → Sorted → Type 0
 Sorts book n opened [] sorted = sorted ≡ at_once opened []
-Sorts book n opened (said ∷ lines) sorted =
-    (first : Sorted) × (rest : Sorted) × SortsLine book n opened said first × Sorts book (n + 1) first.opened lines rest
+Sorts book n opened (read ∷ lines) sorted =
+    (first : Sorted) × (rest : Sorted) × SortsLine book n opened read first × Sorts book (n + 1) first.opened lines rest
     × (sorted ≡ followed_by first rest)

@@ -1,11 +1,12 @@
-//! Whole scripts: each session's lines in a thread of their own, and workers that check beside them.
+//! Whole scripts, each a batch: each session's requests in a thread of their own, and workers that check beside them.
 #![tactic(auto)]
 
-mod crew;
+mod batch;
 mod handed;
+mod serving;
 mod sorting;
-mod speaking;
 mod threads;
 
-pub use crew::{Crew, Served};
+pub use batch::Batch;
 pub use handed::Handed;
+pub use mls_seat_lines::Served;

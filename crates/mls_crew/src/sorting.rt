@@ -1,4 +1,4 @@
-//! Which lines of a script have their replies at once, and which are handed to a session.
+//! Which lines of a script have their replies at once, and which make a request that is handed to a session.
 ghost use Rattle.std.specs.Prelude.{◌≡◌, ◌+◌, ◌<◌, [], IfOk, Ok, OnOk, length, slice_index_or, vec_len};
 ghost use Rattle.mls_seat_lines.specs.mls_live.Lists.{list_of};
 ghost use Rattle.mls_seat_lines.specs.Glossaries.{book_in};
@@ -8,31 +8,31 @@ ghost use Rattle.mls_seat_lines.specs.mls_wire.Replies.{response_text};
 use crate::Handed;
 use crossbeam_channel::Sender;
 use mls_seat_lines::{
-    Answer, Glossary, Line, LineFault, Live, Name, Naming, OpenFault, Response, Seat, SeatLine,
+    Answer, Glossary, Line, LineFault, Live, Name, Naming, OpenFault, Request, Response, Seat,
     SessionId, push_response,
 };
 use std::alloc::{AllocError, Global};
 use std::marker::Model;
 use std::sync::Wait;
 
-/// A seat at which nothing was said yet.
+/// A seat at which nothing was asked for yet.
 #[derive(Drop)]
 pub struct Fresh<'l, N: Naming> {
     pub seat: Seat<'l, N>,
     pub ghost silent: { length (list_of seat) ≡ 0 },
 }
 
-/// What opens sessions and answers lines.
+/// What opens sessions, and replies to lines that make no request.
 #[derive(Drop)]
-pub struct Desk<'l, N: Naming> {
+pub struct Opener<'l, N: Naming> {
     pub alloc: Global,
     pub live: &'l Live<N>,
     pub glossary: &'l Glossary,
     pub notices: Sender<SessionId, Global>,
 }
 
-/// The lines of a script, sorted: the text of those that have replies at once, those that are handed to a session,
-/// and the names of the sessions that were opened.
+/// The lines of a script, sorted: the text of those that have replies at once, the requests that are handed to a
+/// session, and the names of the sessions that were opened.
 #[derive(Drop)]
 pub struct Sorting {
     head: Vec<u8>,
@@ -67,7 +67,7 @@ impl Sorting {
         self.head
     }
 
-    /// Returns the lines that are handed to sessions.
+    /// Returns the requests that are handed to sessions.
     pub fn handed(&self) -> &[Handed]
         ensures { result.now ≡ self.now.handed }
     {
@@ -93,20 +93,20 @@ impl Sorting {
     fn sort_line<'l, N: Naming, R: Wait>(
         &mut self,
         rt: &R,
-        desk: &Desk<'l, N>,
+        opener: &Opener<'l, N>,
         n: u128,
-        said: &Result<Line, LineFault>,
+        read: &Result<Line, LineFault>,
         seats: &mut Vec<Fresh<'l, N>>,
     ) -> Result<(), AllocError>
         requires paired { length self.old.opened ≡ vec_len seats.old }
         ensures sorts { OnOk result ((sorted : _) × SortsLine
-            (book_in desk.now.glossary.now) n self.old.opened said.now sorted
+            (book_in opener.now.glossary.now) n self.old.opened read.now sorted
             × (self.new ≡ followed_by self.old sorted)) }
         ensures paired { OnOk result (length self.new.opened ≡ vec_len seats.new) }
     {
-        match said {
-            Err(fault) => self.refuse(desk, n, *fault),
-            Ok(line) => self.sort_read(rt, desk, n, line, seats),
+        match read {
+            Err(fault) => self.refuse(opener, n, *fault),
+            Ok(line) => self.sort_read(rt, opener, n, line, seats),
         }
     }
 
@@ -114,70 +114,70 @@ impl Sorting {
     fn sort_read<'l, N: Naming, R: Wait>(
         &mut self,
         rt: &R,
-        desk: &Desk<'l, N>,
+        opener: &Opener<'l, N>,
         n: u128,
         line: &Line,
         seats: &mut Vec<Fresh<'l, N>>,
     ) -> Result<(), AllocError>
         requires paired { length self.old.opened ≡ vec_len seats.old }
-        ensures sorts { OnOk result ((sorted : _) × SortsLine (book_in desk.now.glossary.now) n self.old.opened
+        ensures sorts { OnOk result ((sorted : _) × SortsLine (book_in opener.now.glossary.now) n self.old.opened
             (Ok line.now) sorted × (self.new ≡ followed_by self.old sorted)) }
         ensures paired { OnOk result (length self.new.opened ≡ vec_len seats.new) }
     {
         match line {
             Line::Silent => Ok(()),
-            Line::Open(name) => self.open(rt, desk, n, name, seats),
-            Line::Close(_, _) => self.refuse(desk, n, LineFault::UnknownCommand),
-            Line::Step(_, _) => self.refuse(desk, n, LineFault::UnknownCommand),
-            Line::Steps(_, _, _) => self.refuse(desk, n, LineFault::UnknownCommand),
-            Line::Audit(name, _) => self.hand(desk, n, name, SeatLine::Audit),
-            Line::Look(name, _, look) => self.hand(desk, n, name, SeatLine::Look(*look)),
-            Line::Run(name, _, command) => self.hand(desk, n, name, SeatLine::Run(*command)),
+            Line::Open(name) => self.open(rt, opener, n, name, seats),
+            Line::Close(_, _) => self.refuse(opener, n, LineFault::UnknownCommand),
+            Line::Step(_, _) => self.refuse(opener, n, LineFault::UnknownCommand),
+            Line::Steps(_, _, _) => self.refuse(opener, n, LineFault::UnknownCommand),
+            Line::Audit(name, _) => self.hand(opener, n, name, Request::Audit),
+            Line::Look(name, _, look) => self.hand(opener, n, name, Request::Look(*look)),
+            Line::Run(name, _, command) => self.hand(opener, n, name, Request::Run(*command)),
         }
     }
 
     /// Replies to line `n` at once.
     fn answer<N: Naming>(
         &mut self,
-        desk: &Desk<'_, N>,
+        opener: &Opener<'_, N>,
         n: u128,
         response: &Response,
     ) -> Result<(), AllocError>
         ensures { OnOk result (self.new ≡ followed_by self.old
-            (at_once self.old.opened (response_text (book_in desk.now.glossary.now) n response.now))) }
+            (at_once self.old.opened (response_text (book_in opener.now.glossary.now) n response.now))) }
     {
-        push_response(desk.glossary, n, response, &mut self.head)
+        push_response(opener.glossary, n, response, &mut self.head)
     }
 
     /// Replies to line `n` with its fault.
     fn refuse<N: Naming>(
         &mut self,
-        desk: &Desk<'_, N>,
+        opener: &Opener<'_, N>,
         n: u128,
         fault: LineFault,
     ) -> Result<(), AllocError>
         ensures { OnOk result (self.new ≡ followed_by self.old
-            (faulty (book_in desk.now.glossary.now) n fault self.old.opened)) }
+            (faulty (book_in opener.now.glossary.now) n fault self.old.opened)) }
     {
-        self.answer(desk, n, &Response::Fault(fault))
+        self.answer(opener, n, &Response::Fault(fault))
     }
 
-    /// Hands line `n` to the session of this name.
+    /// Hands the request of line `n` to the session of this name.
     fn hand<N: Naming>(
         &mut self,
-        desk: &Desk<'_, N>,
+        opener: &Opener<'_, N>,
         n: u128,
         name: &Name,
-        line: SeatLine,
+        request: Request,
     ) -> Result<(), AllocError>
         ensures { OnOk result (self.new ≡ followed_by self.old
-            (handed_to (book_in desk.now.glossary.now) n self.old.opened
-            (number_of_session self.old.opened name.now) line)) }
+            (handed_to (book_in opener.now.glossary.now) n self.old.opened
+            (number_of_session self.old.opened name.now) request)) }
     {
         let Some(session) = self.session(name) else {
-            return self.refuse(desk, n, LineFault::NotOpen);
+            return self.refuse(opener, n, LineFault::NotOpen);
         };
-        self.handed.push(Handed { session, line })?;
+        self.handed.push(Handed { session, request })?;
         Ok(())
     }
 
@@ -185,44 +185,44 @@ impl Sorting {
     fn open<'l, N: Naming, R: Wait>(
         &mut self,
         rt: &R,
-        desk: &Desk<'l, N>,
+        opener: &Opener<'l, N>,
         n: u128,
         name: &Name,
         seats: &mut Vec<Fresh<'l, N>>,
     ) -> Result<(), AllocError>
         requires paired { length self.old.opened ≡ vec_len seats.old }
         ensures opens { OnOk result ((sorted : _) × SortsOpening
-            (book_in desk.now.glossary.now) n self.old.opened name.now sorted
+            (book_in opener.now.glossary.now) n self.old.opened name.now sorted
             × (self.new ≡ followed_by self.old sorted)) }
         ensures paired { OnOk result (length self.new.opened ≡ vec_len seats.new) }
     {
         if self.session(name).is_some() {
-            return self.answer_opening(desk, n, name, OpenFault::OpenAlready);
+            return self.answer_opening(opener, n, name, OpenFault::OpenAlready);
         }
-        match desk.live.seat(rt, desk.alloc, *name) {
+        match opener.live.seat(rt, opener.alloc, *name) {
             Ok(seat) => {
-                seats.push(notifying(desk, seat))?;
+                seats.push(notifying(opener, seat))?;
                 self.names.push(*name)?;
                 Ok(())
             }
-            Err(fault) => self.answer_opening(desk, n, name, fault),
+            Err(fault) => self.answer_opening(opener, n, name, fault),
         }
     }
 
     /// Replies to line `n` why the session can't be opened.
     fn answer_opening<N: Naming>(
         &mut self,
-        desk: &Desk<'_, N>,
+        opener: &Opener<'_, N>,
         n: u128,
         name: &Name,
         fault: OpenFault,
     ) -> Result<(), AllocError>
         ensures { OnOk result (self.new ≡ followed_by self.old
-            (at_once self.old.opened (response_text (book_in desk.now.glossary.now) n
+            (at_once self.old.opened (response_text (book_in opener.now.glossary.now) n
             (Response.Answered name.now (Answer.Opened (Err fault)))))) }
     {
         self.answer(
-            desk,
+            opener,
             n,
             &Response::Answered(*name, Answer::Opened(Err(fault))),
         )
@@ -230,10 +230,10 @@ impl Sorting {
 }
 
 /// Returns a seat with a sender of its own, or with none where it is refused.
-fn notifying<'l, N: Naming>(desk: &Desk<'_, N>, mut seat: Seat<'l, N>) -> Fresh<'l, N>
+fn notifying<'l, N: Naming>(opener: &Opener<'_, N>, mut seat: Seat<'l, N>) -> Fresh<'l, N>
     requires { list_of seat ≡ [] }
 {
-    if let Ok(notices) = desk.notices.clone() {
+    if let Ok(notices) = opener.notices.clone() {
         seat.notify(notices);
     }
     Fresh { seat }
@@ -242,18 +242,18 @@ fn notifying<'l, N: Naming>(desk: &Desk<'_, N>, mut seat: Seat<'l, N>) -> Fresh<
 /// Sorts the lines of a script, and opens its sessions.
 pub fn sort<'l, N: Naming, R: Wait>(
     rt: &R,
-    desk: &Desk<'l, N>,
+    opener: &Opener<'l, N>,
     script: &[Result<Line, LineFault>],
     seats: &mut Vec<Fresh<'l, N>>,
 ) -> Result<Sorting, AllocError>
     requires { vec_len seats.old ≡ 0 }
-    ensures sorts { IfOk result (λ sorted. Sorts (book_in desk.now.glossary.now) 1 [] script.now sorted) }
+    ensures sorts { IfOk result (λ sorted. Sorts (book_in opener.now.glossary.now) 1 [] script.now sorted) }
     ensures paired { IfOk result (λ sorted. length sorted.opened ≡ vec_len seats.new) }
 {
-    let mut sorting = Sorting::new(desk.alloc);
+    let mut sorting = Sorting::new(opener.alloc);
     let mut n: u128 = 1;
-    for said in script {
-        sorting.sort_line(rt, desk, n, said, seats)?;
+    for read in script {
+        sorting.sort_line(rt, opener, n, read, seats)?;
         n += 1;
     }
     Ok(sorting)

@@ -4,8 +4,8 @@ ghost use Rattle.mls_seat_lines.specs.Glossaries.{book_in};
 ghost use Rattle.mls_crew.specs.Countdowns.{CountsDown};
 ghost use Rattle.mls_crew.specs.Scripts.{GivesGroups};
 
+use crate::serving::{GroupText, Part, ServedSeat, serve_session};
 use crate::sorting::{Fresh, Sorting};
-use crate::speaking::{GroupText, Part, Spoken, speak};
 use crossbeam_channel::Receiver;
 use mls_seat_lines::{Live, Naming, Plain, Seat, SessionId, work};
 use std::alloc::{AllocError, Global};
@@ -13,16 +13,16 @@ use std::sync::Wait;
 use std::thread;
 use std::thread::{Promise, PromisedHandle, Scope, Threads};
 
-impl<'s, 'l, N: Naming> Promise<Spoken<'l, N>> for Part<'s> {
+impl<'s, 'l, N: Naming> Promise<ServedSeat<'l, N>> for Part<'s> {
     ghost use Rattle.mls_crew.specs.Scripts.{GivesPart};
 
-    ghost kept_by = { λ part spoken. IfOk spoken.group
+    ghost kept_by = { λ part served. IfOk served.group
         (GivesPart N.terms (book_in part.glossary.now) part.sorting.now part.session) };
 }
 
-/// Says the lines of each session in a thread of its own while workers check, one for each receiver, closes the
+/// Serves the requests of each session in a thread of its own while workers check, one for each receiver, closes the
 /// sessions, and returns their texts.
-pub fn say_groups<'l, N: Naming + Send + Sync, R: Threads + Wait + Sync>(
+pub fn serve_sessions<'l, N: Naming + Send + Sync, R: Threads + Wait + Sync>(
     rt: &R,
     live: &'l Live<N>,
     part: Part<'_>,
@@ -44,9 +44,9 @@ pub fn say_groups<'l, N: Naming + Send + Sync, R: Threads + Wait + Sync>(
                 (book_in part.entry.glossary.now) part.entry.sorting.now groups.items) }
         {
             start_workers(rt, scope, part.alloc, live, receivers)?;
-            let spoken = speak_all(rt, scope, part, fresh)?;
+            let served = serve_all(rt, scope, part, fresh)?;
             // In the scope, since the workers wait for it.
-            retired(rt, live, spoken)
+            retired(rt, live, served)
         },
     )
 }
@@ -55,17 +55,17 @@ pub fn say_groups<'l, N: Naming + Send + Sync, R: Threads + Wait + Sync>(
 fn retired<N: Naming, R: Wait>(
     rt: &R,
     live: &Live<N>,
-    spoken: AllSpoken<'_, '_, N>,
+    served: ServedSeats<'_, '_, N>,
 ) -> Result<Vec<GroupText>, AllocError>
     requires { N.parts ≡ 65 }
-    ensures { IfOk result (λ groups. (spoken.entry.failed ≡ false) × (groups ≡ spoken.entry.groups)) }
+    ensures { IfOk result (λ groups. (served.entry.failed ≡ false) × (groups ≡ served.entry.groups)) }
 {
-    let AllSpoken {
+    let ServedSeats {
         part: _,
         seats,
         groups,
         failed,
-    } = spoken;
+    } = served;
     let _ = live.retire(rt, seats);
     if failed {
         return Err(AllocError);
@@ -73,10 +73,10 @@ fn retired<N: Naming, R: Wait>(
     Ok(groups)
 }
 
-/// The seats of all sessions once their lines were said, in the order of opening, and their texts.
+/// The seats of all sessions once their requests were served, in the order of opening, and their texts.
 #[derive(Drop)]
-struct AllSpoken<'s, 'l, N: Naming> {
-    /// What was to be said.
+struct ServedSeats<'s, 'l, N: Naming> {
+    /// What was to be served.
     part: Part<'s>,
     seats: Vec<Seat<'l, N>>,
     groups: Vec<GroupText>,
@@ -84,14 +84,14 @@ struct AllSpoken<'s, 'l, N: Naming> {
     failed: bool,
 }
 
-impl<'s, N: Naming> AllSpoken<'s, '_, N> {
+impl<'s, N: Naming> ServedSeats<'s, '_, N> {
     /// Creates the texts of no session, with room for as many as there are.
     fn new(part: Part<'s>, sessions: usize) -> Result<Self, AllocError>
-        ensures part { IfOk result (λ spoken. spoken.part ≡ part.entry) }
-        ensures seats { IfOk result (λ spoken. (vec_len spoken.seats ≡ 0) × (sessions ≤ vec_capacity spoken.seats)) }
-        ensures groups { IfOk result (λ spoken. (vec_len spoken.groups ≡ 0) × (sessions ≤ vec_capacity spoken.groups)) }
+        ensures part { IfOk result (λ served. served.part ≡ part.entry) }
+        ensures seats { IfOk result (λ served. (vec_len served.seats ≡ 0) × (sessions ≤ vec_capacity served.seats)) }
+        ensures groups { IfOk result (λ served. (vec_len served.groups ≡ 0) × (sessions ≤ vec_capacity served.groups)) }
     {
-        Ok(AllSpoken {
+        Ok(ServedSeats {
             part,
             seats: Vec::with_capacity(part.alloc, sessions)?,
             groups: Vec::with_capacity(part.alloc, sessions)?,
@@ -114,79 +114,79 @@ fn start_workers<'s, 'l: 's, E, N: Naming + Send + Sync + 's, R: Threads + Wait 
     Ok(())
 }
 
-/// Says the lines of each session in a thread of its own.
+/// Serves the requests of each session in a thread of its own.
 ///
 /// Where a thread can't be started, what runs ends all the same: the results of the others are taken, since one that
 /// isn't taken keeps its sender.
-fn speak_all<'s, 'l: 's, E, N: Naming + Send + Sync + 's, R: Threads + Wait + Sync>(
+fn serve_all<'s, 'l: 's, E, N: Naming + Send + Sync + 's, R: Threads + Wait + Sync>(
     rt: &'s R,
     scope: &Scope<'s, E>,
     part: Part<'s>,
     fresh: Vec<Fresh<'l, N>>,
-) -> Result<AllSpoken<'s, 'l, N>, AllocError>
+) -> Result<ServedSeats<'s, 'l, N>, AllocError>
     requires { vec_len fresh ≡ length part.sorting.now.opened }
-    ensures { IfOk result (λ spoken. spoken.failed ≡ false
-        → GivesGroups N.terms (book_in part.entry.glossary.now) part.entry.sorting.now spoken.groups.items) }
+    ensures { IfOk result (λ served. served.failed ≡ false
+        → GivesGroups N.terms (book_in part.entry.glossary.now) part.entry.sorting.now served.groups.items) }
 {
-    let spoken = AllSpoken::new(part, fresh.len())?;
-    let mut speakers = Vec::with_capacity(part.alloc, fresh.len())?;
-    let started = start_speakers(rt, scope, part, fresh, &mut speakers);
-    let spoken = joined(rt, speakers, spoken);
+    let served = ServedSeats::new(part, fresh.len())?;
+    let mut handles = Vec::with_capacity(part.alloc, fresh.len())?;
+    let started = start_seats(rt, scope, part, fresh, &mut handles);
+    let served = joined(rt, handles, served);
     started?;
-    Ok(spoken)
+    Ok(served)
 }
 
-/// Starts a speaker for each session, the one that was opened last first.
+/// Starts a thread for each seat, that of the session that was opened last first.
 ///
 /// Where a thread can't be started, the seats that are left are dropped, and their senders with them.
-fn start_speakers<'s, 'l: 's, E, N: Naming + Send + Sync + 's, R: Threads + Wait + Sync>(
+fn start_seats<'s, 'l: 's, E, N: Naming + Send + Sync + 's, R: Threads + Wait + Sync>(
     rt: &'s R,
     scope: &Scope<'s, E>,
     part: Part<'s>,
     mut fresh: Vec<Fresh<'l, N>>,
-    speakers: &mut Vec<PromisedHandle<Spoken<'l, N>, Part<'s>>>,
+    handles: &mut Vec<PromisedHandle<ServedSeat<'l, N>, Part<'s>>>,
 ) -> Result<(), AllocError>
     requires paired { vec_len fresh ≡ length part.sorting.now.opened }
-    requires none { speakers.old.items ≡ [] }
-    requires room { vec_len fresh ≤ vec_capacity speakers.old }
-    ensures all { OnOk result (vec_len speakers.new ≡ length part.entry.sorting.now.opened) }
-    ensures within { vec_len speakers.new ≤ length part.entry.sorting.now.opened }
-    ensures wanted { vec_len speakers.new ≡ length part.entry.sorting.now.opened
-        → CountsDown (λ session speaker. speaker.promise ≡ record part.entry { session = session }) 0
-        speakers.new.items }
+    requires none { handles.old.items ≡ [] }
+    requires room { vec_len fresh ≤ vec_capacity handles.old }
+    ensures all { OnOk result (vec_len handles.new ≡ length part.entry.sorting.now.opened) }
+    ensures within { vec_len handles.new ≤ length part.entry.sorting.now.opened }
+    ensures wanted { vec_len handles.new ≡ length part.entry.sorting.now.opened
+        → CountsDown (λ session handle. handle.promise ≡ record part.entry { session = session }) 0
+        handles.new.items }
 {
     while let Some(seat) = fresh.pop() {
         let mine = part.of(fresh.len());
         let name = part.sorting.name(fresh.len());
-        match scope.spawn_with(mine, move || speak(rt, mine, name, seat)) {
-            Ok(speaker) => speakers.push_reserved(speaker),
+        match scope.spawn_with(mine, move || serve_session(rt, mine, name, seat)) {
+            Ok(handle) => handles.push_reserved(handle),
             Err(_) => return Err(AllocError),
         }
     }
     Ok(())
 }
 
-/// Takes the results of all speakers, in the order of opening.
+/// Takes the results of all these threads, in the order of opening.
 fn joined<'s, 'l, N: Naming, R: Threads>(
     rt: &R,
-    mut speakers: Vec<PromisedHandle<Spoken<'l, N>, Part<'s>>>,
-    mut spoken: AllSpoken<'s, 'l, N>,
-) -> AllSpoken<'s, 'l, N>
-    requires wanted { vec_len speakers ≡ length spoken.part.sorting.now.opened
-        → CountsDown (λ session speaker. speaker.promise ≡ record spoken.part { session = session }) 0 speakers.items }
-    requires seats { (vec_len spoken.seats ≡ 0) × (vec_len speakers ≤ vec_capacity spoken.seats) }
-    requires groups { (vec_len spoken.groups ≡ 0) × (vec_len speakers ≤ vec_capacity spoken.groups) }
-    ensures { vec_len speakers.entry ≡ length spoken.entry.part.sorting.now.opened → result.failed ≡ false
-        → GivesGroups N.terms (book_in spoken.entry.part.glossary.now) spoken.entry.part.sorting.now
+    mut handles: Vec<PromisedHandle<ServedSeat<'l, N>, Part<'s>>>,
+    mut served: ServedSeats<'s, 'l, N>,
+) -> ServedSeats<'s, 'l, N>
+    requires wanted { vec_len handles ≡ length served.part.sorting.now.opened
+        → CountsDown (λ session handle. handle.promise ≡ record served.part { session = session }) 0 handles.items }
+    requires seats { (vec_len served.seats ≡ 0) × (vec_len handles ≤ vec_capacity served.seats) }
+    requires groups { (vec_len served.groups ≡ 0) × (vec_len handles ≤ vec_capacity served.groups) }
+    ensures { vec_len handles.entry ≡ length served.entry.part.sorting.now.opened → result.failed ≡ false
+        → GivesGroups N.terms (book_in served.entry.part.glossary.now) served.entry.part.sorting.now
         result.groups.items }
 {
-    while let Some(speaker) = speakers.pop() {
-        let Spoken { seat, group } = speaker.join(rt);
-        spoken.seats.push_reserved(seat);
+    while let Some(handle) = handles.pop() {
+        let ServedSeat { seat, group } = handle.join(rt);
+        served.seats.push_reserved(seat);
         match group {
-            Ok(group) => spoken.groups.push_reserved(group),
-            Err(_) => spoken.failed = true,
+            Ok(group) => served.groups.push_reserved(group),
+            Err(_) => served.failed = true,
         }
     }
-    spoken
+    served
 }

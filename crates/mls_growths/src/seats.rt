@@ -212,7 +212,7 @@ fn called<N: Naming, R: Wait>(
     seat: &mut Seat<'_, N>,
     command: Command,
 ) -> Result<Reply, NotOpen> {
-    seat.call(rt, alloc, command)
+    seat.command(rt, alloc, command)
 }
 
 /// Saves a layout.

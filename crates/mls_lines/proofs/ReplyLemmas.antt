@@ -10,36 +10,36 @@ use Rattle.std.specs.List.{list_all}
 use Rattle.mls_seat_lines.specs.mls_session.OwnSteps.{Terms}
 use Rattle.mls_seat_lines.specs.mls_wire.NameBooks.{Names}
 use Rattle.mls_seat_lines.specs.mls_wire.Serving.{AppendsFront, Gains}
-use Rattle.mls_lines.specs.Scripts.{AreReplies, AreSomeReplies, IsTold, Told}
+use Rattle.mls_lines.specs.Scripts.{AreReplies, AreSomeReplies, IsReply, ReplyText}
 
-abbrev audited_of : Told → Bool
-audited_of told = told.audited
+abbrev audited_of : ReplyText → Bool
+audited_of reply = reply.audited
 
 module _ (terms : Terms) (book : Names) (script : Option (List ℕ)) where
-  replies_push : (out : List ℕ) (audited : Bool) (told : Told) → AreReplies terms book script audited out → IsTold terms book script told
-      → AreReplies terms book script (audited && told.audited) (out ++ told.text)
-  replies_push out audited told (all, are, is, both) one = (
-    all ++ told ∷ [],
-    All-push (λ t. IsTold terms book script t) all told are one,
-    ap (λ o. o ++ told.text) is ∙ ap (λ t. flat_map (λ (x : Told). x.text) all ++ t) (sym (append-nil told.text)) ∙ sym (flat_map-append (λ (x : Told). x.text) all (told ∷ [])),
-    ap (λ b. b && told.audited) both ∙ ap (λ b. list_all audited_of all && b) (sym (and-true told.audited)) ∙ sym (list_all-append audited_of all (told ∷ [])),
+  replies_push : (out : List ℕ) (audited : Bool) (reply : ReplyText) → AreReplies terms book script audited out → IsReply terms book script reply
+      → AreReplies terms book script (audited && reply.audited) (out ++ reply.text)
+  replies_push out audited reply (all, are, is, both) one = (
+    all ++ reply ∷ [],
+    All-push (λ t. IsReply terms book script t) all reply are one,
+    ap (λ o. o ++ reply.text) is ∙ ap (λ t. flat_map (λ (x : ReplyText). x.text) all ++ t) (sym (append-nil reply.text)) ∙ sym (flat_map-append (λ (x : ReplyText). x.text) all (reply ∷ [])),
+    ap (λ b. b && reply.audited) both ∙ ap (λ b. list_all audited_of all && b) (sym (and-true reply.audited)) ∙ sym (list_all-append audited_of all (reply ∷ [])),
   )
 
   -- nothing was written yet
   pub replies_none : (a : Option (List ℕ)) → Gains a a (AreReplies terms book script true)
-  replies_none a = ([], ([], All-nil (λ t. IsTold terms book script t), refl, refl), Appends-nil a)
+  replies_none a = ([], ([], All-nil (λ t. IsReply terms book script t), refl, refl), Appends-nil a)
 
   -- a reply more
-  pub replies_more : (a b c : Option (List ℕ)) (audited : Bool) (told : Told) → Gains a b (AreReplies terms book script audited) → IsTold terms book script told
-      → Appends b c told.text → Gains a c (AreReplies terms book script (audited && told.audited))
-  replies_more a b c audited told (out, are, grew) one grows = (out ++ told.text, replies_push out audited told are one, Appends-trans a b c out told.text grew grows)
+  pub replies_more : (a b c : Option (List ℕ)) (audited : Bool) (reply : ReplyText) → Gains a b (AreReplies terms book script audited) → IsReply terms book script reply
+      → Appends b c reply.text → Gains a c (AreReplies terms book script (audited && reply.audited))
+  replies_more a b c audited reply (out, are, grew) one grows = (out ++ reply.text, replies_push out audited reply are one, Appends-trans a b c out reply.text grew grows)
 
   -- a beginning of a reply more
-  pub replies_front : (a b c : Option (List ℕ)) (audited : Bool) (told : Told) → Gains a b (AreReplies terms book script audited) → IsTold terms book script told
-      → AppendsFront b c told.text → (whole : List ℕ) × AreSomeReplies terms book script whole × AppendsFront a c whole
-  replies_front a b c audited told (out, are, grew) one (front, missing, split, grows) = (
-    out ++ told.text,
-    (audited && told.audited, replies_push out audited told are one),
+  pub replies_front : (a b c : Option (List ℕ)) (audited : Bool) (reply : ReplyText) → Gains a b (AreReplies terms book script audited) → IsReply terms book script reply
+      → AppendsFront b c reply.text → (whole : List ℕ) × AreSomeReplies terms book script whole × AppendsFront a c whole
+  replies_front a b c audited reply (out, are, grew) one (front, missing, split, grows) = (
+    out ++ reply.text,
+    (audited && reply.audited, replies_push out audited reply are one),
     (out ++ front, missing, ap (λ t. out ++ t) split ∙ sym (append_assoc out front missing), Appends-trans a b c out front grew grows),
   )
 

@@ -18,9 +18,9 @@ use Rattle.mls_seat_lines.specs.mls_wire.declared.line.Line.TheVariants.{Silent,
 use Rattle.mls_seat_lines.specs.mls_wire.declared.line.LineFault.{LineFault}
 use Rattle.mls_seat_lines.specs.mls_wire.declared.line.LineFault.TheVariants.{NotOpen, UnknownCommand}
 use Rattle.mls_seat_lines.specs.mls_wire.declared.response.Response.TheVariants.{Fault}
-use Rattle.mls_seat_lines.specs.SeatLines.{SaysLine}
-use Rattle.mls_seat_lines.specs.declared.seat_line.SeatLine.{SeatLine}
-use Rattle.mls_seat_lines.specs.declared.seat_line.SeatLine.TheVariants.{Audit as AuditLine, Look as LookLine, Run as RunLine}
+use Rattle.mls_seat_lines.specs.Requests.{ServesRequest}
+use Rattle.mls_seat_lines.specs.declared.request.Request.{Request}
+use Rattle.mls_seat_lines.specs.declared.request.Request.TheVariants.{Audit as AuditRequest, Look as LookRequest, Run as RunRequest}
 use Rattle.mls_lines.specs.declared.seating.Sitting.{Sitting}
 use Rattle.mls_seat_lines.specs.mls_live.declared.naming.Naming.{Ghosts}
 
@@ -64,11 +64,11 @@ ClosesAt terms book n name None text audited now = IsFaulty book n NotOpen None 
 ClosesAt terms book n name (Some held) text audited now =
     (text ≡ answer_text book name (Closed (Ok tt))) × (now ≡ None) × (audited ≡ true → IsLegalList terms held.said)
 
--- the line is said at the seat
-abbrev pub SaysAt : Terms → Names → ℕ → SeatLine → Option OpenSeat → List ℕ → Option OpenSeat → Type 0
-SaysAt terms book n line None text now = IsFaulty book n NotOpen None text now
-SaysAt terms book n line (Some held) text now =
-    (said : List Said) × SaysLine terms book held.name held.said line text said × (now ≡ Some (record held { said = said }))
+-- the request of line n is served at the seat
+abbrev pub ServesAt : Terms → Names → ℕ → Request → Option OpenSeat → List ℕ → Option OpenSeat → Type 0
+ServesAt terms book n request None text now = IsFaulty book n NotOpen None text now
+ServesAt terms book n request (Some held) text now =
+    (said : List Said) × ServesRequest terms book held.name held.said request text said × (now ≡ Some (record held { said = said }))
 
 -- line n, which says this, has this text and leaves this session; where one is closed, its list was audited, or not. Check steps are no lines here
 abbrev pub AnswersLine : Terms → Names → ℕ → Result Line LineFault → Option OpenSeat → List ℕ → Bool → Option OpenSeat → Type 0
@@ -76,7 +76,7 @@ AnswersLine terms book n (Err fault) held text audited now = IsFaulty book n fau
 AnswersLine terms book n (Ok Silent) held text audited now = (text ≡ []) × (now ≡ held)
 AnswersLine terms book n (Ok (Open name)) held text audited now = OpensAt book name held text now
 AnswersLine terms book n (Ok (Close name id)) held text audited now = ClosesAt terms book n name held text audited now
-AnswersLine terms book n (Ok (Audit name id)) held text audited now = SaysAt terms book n AuditLine held text now
-AnswersLine terms book n (Ok (Look name id look)) held text audited now = SaysAt terms book n (LookLine look) held text now
-AnswersLine terms book n (Ok (Run name id command)) held text audited now = SaysAt terms book n (RunLine command) held text now
+AnswersLine terms book n (Ok (Audit name id)) held text audited now = ServesAt terms book n AuditRequest held text now
+AnswersLine terms book n (Ok (Look name id look)) held text audited now = ServesAt terms book n (LookRequest look) held text now
+AnswersLine terms book n (Ok (Run name id command)) held text audited now = ServesAt terms book n (RunRequest command) held text now
 AnswersLine terms book n (Ok _) held text audited now = IsFaulty book n UnknownCommand held text now

@@ -1,6 +1,6 @@
 pub mod Answers
 pub mod Beside
-pub mod Rosters
+pub mod DispatchTables
 pub mod Scripts
 pub use Rattle.mls_seat_lines.specs.Glossaries
 pub use Rattle.mls_seat_lines.specs.mls_library

@@ -1,5 +1,5 @@
 -- What is written to lines that are carried out as they come. This project's own.
-use Rattle.std.specs.Prelude.{◌≡◌, ◌⊎◌, ℕ, ◌<◌, ◌-◌, Bool, true, Option, Some, None, List, [], ◌∷◌, ◌++◌, slice_get, option_map}
+use Rattle.std.specs.Prelude.{◌≡◌, ◌≢◌, ◌⊎◌, ℕ, ◌<◌, ◌-◌, Bool, true, Option, Some, None, Result, IfErr, IfOk, OnErr, List, [], ◌∷◌, ◌++◌, slice_get, option_map}
 use Rattle.std.specs.List.{All, flat_map, list_all}
 use Rattle.mls_seat_lines.specs.mls_server.LegalLists.{IsLegalList}
 use Rattle.mls_seat_lines.specs.mls_server.Settings.{terms_for}
@@ -39,39 +39,51 @@ AnswersLines terms book script from before (one ∷ more) to after =
 abbrev pub HasAnswered : Terms → Names → Option (List ℕ) → ℕ → Option OpenSeat → Type 0
 HasAnswered terms book script to after = (answered : List Answered) × AnswersLines terms book script 0 None answered to after
 
--- what a seat tells: a text, and whether a list was audited where a session was closed
-pub record Told : Type 0 where
+-- a reply: its text, and whether a list was audited where a session was closed
+pub record ReplyText : Type 0 where
   pub text : List ℕ
   pub audited : Bool
 
 -- it is what the last of some lines of the script has, which are carried out in their order at a seat, at which first no session is open
-abbrev pub IsReply : Terms → Names → Option (List ℕ) → Told → Type 0
-IsReply terms book script told =
+abbrev pub IsLineReply : Terms → Names → Option (List ℕ) → ReplyText → Type 0
+IsLineReply terms book script reply =
     (earlier : List Answered) × (last : Answered) × AnswersLines terms book script 0 None (earlier ++ last ∷ []) last.n last.after
-    × (told ≡ record { text = last.text; audited = last.audited })
+    × (reply ≡ record { text = last.text; audited = last.audited })
 
 -- after such lines the session that is open is closed, without a text. Where its list was audited, it is that of a legal journal
-abbrev pub IsEnding : Terms → Names → Option (List ℕ) → Told → Type 0
-IsEnding terms book script told =
-    (to : ℕ) × (held : OpenSeat) × HasAnswered terms book script to (Some held) × (told.text ≡ []) × (told.audited ≡ true → IsLegalList terms held.said)
+abbrev pub IsEndReply : Terms → Names → Option (List ℕ) → ReplyText → Type 0
+IsEndReply terms book script reply =
+    (to : ℕ) × (held : OpenSeat) × HasAnswered terms book script to (Some held) × (reply.text ≡ []) × (reply.audited ≡ true → IsLegalList terms held.said)
 
-abbrev pub IsTold : Terms → Names → Option (List ℕ) → Told → Type 0
-IsTold terms book script told = ∥ IsReply terms book script told ⊎ IsEnding terms book script told ∥₁
+abbrev pub IsReply : Terms → Names → Option (List ℕ) → ReplyText → Type 0
+IsReply terms book script reply = ∥ IsLineReply terms book script reply ⊎ IsEndReply terms book script reply ∥₁
 
--- the bytes are the texts of what seats tell, one whole after another, and all lists of sessions that were closed were audited, or not all
+-- the bytes are the texts of replies, one whole after another, and all lists of sessions that were closed were audited, or not all
 abbrev pub AreReplies : Terms → Names → Option (List ℕ) → Bool → List ℕ → Type 0
 AreReplies terms book script audited out =
-    (all : List Told) × All (λ told. IsTold terms book script told) all × (out ≡ flat_map (λ told. told.text) all) × (audited ≡ list_all (λ told. told.audited) all)
+    (all : List ReplyText) × All (λ reply. IsReply terms book script reply) all × (out ≡ flat_map (λ reply. reply.text) all) × (audited ≡ list_all (λ reply. reply.audited) all)
 
 -- all of them, or not
 abbrev pub AreSomeReplies : Terms → Names → Option (List ℕ) → List ℕ → Type 0
 AreSomeReplies terms book script out = (audited : Bool) × AreReplies terms book script audited out
 
+-- how writing replies ends: the output gained replies, and all lists of sessions that were closed were audited, or not all; or it failed, and gained a beginning of
+-- some
+abbrev pub EndsWriting : {W E : Type 0} → Terms → Names → Option (List ℕ) → (W → Option (List ℕ)) → Result Bool E → Watched W → Watched W → Type 0
+EndsWriting terms book script contents written old new =
+    IfOk written (λ audited. Gains (contents old.device) (contents new.device) (AreReplies terms book script audited))
+    × OnErr written ((out : List ℕ) × AreSomeReplies terms book script out × AppendsFront (contents old.device) (contents new.device) out)
+    × OnErr written (HasCause new)
+
+-- how reading lines ends: where it fails, the input or memory does
+abbrev pub EndsReading : {R T : Type 0} → Result T ServeFault → Watched R → Type 0
+EndsReading read input = IfErr read (λ fault. fault ≡ Read → HasCause input) × IfErr read (λ fault. fault ≢ Write)
+
 -- the script fails with this fault; only where the output fails, the last reply may lack its end
-abbrev pub EndsLines : {R W : Type 0} → Terms → Names → Option (List ℕ) → ServeFault → Watched R → (W → Option (List ℕ)) → Watched W → Watched W → Type 0
-EndsLines terms book script Read input contents old new = HasCause input × Gains (contents old.device) (contents new.device) (AreSomeReplies terms book script)
-EndsLines terms book script Memory input contents old new = Gains (contents old.device) (contents new.device) (AreSomeReplies terms book script)
-EndsLines terms book script Write input contents old new =
+abbrev pub EndsStream : {R W : Type 0} → Terms → Names → Option (List ℕ) → ServeFault → Watched R → (W → Option (List ℕ)) → Watched W → Watched W → Type 0
+EndsStream terms book script Read input contents old new = HasCause input × Gains (contents old.device) (contents new.device) (AreSomeReplies terms book script)
+EndsStream terms book script Memory input contents old new = Gains (contents old.device) (contents new.device) (AreSomeReplies terms book script)
+EndsStream terms book script Write input contents old new =
     HasCause new × ((out : List ℕ) × AreSomeReplies terms book script out × AppendsFront (contents old.device) (contents new.device) out)
 
 -- ---- over a server in which no session is open
@@ -79,8 +91,8 @@ abbrev pub book_on : World → Names
 book_on on = book_in (glossary_of on.setting)
 
 -- the output gained replies to lines of the script, and all lists of sessions that were closed were audited, or not all
-abbrev pub WritesLines : World → Option (List ℕ) → Option (List ℕ) → Option (List ℕ) → Bool → Type 0
-WritesLines on script written now audited = Gains written now (AreReplies (terms_for on.setting) (book_on on) script audited)
+abbrev pub WritesStream : World → Option (List ℕ) → Option (List ℕ) → Option (List ℕ) → Bool → Type 0
+WritesStream on script written now audited = Gains written now (AreReplies (terms_for on.setting) (book_on on) script audited)
 
-abbrev pub FailsLines : {R W : Type 0} → World → ServeFault → Option (List ℕ) → Watched R → (W → Option (List ℕ)) → Watched W → Watched W → Type 0
-FailsLines on fault script input contents old new = EndsLines (terms_for on.setting) (book_on on) script fault input contents old new
+abbrev pub FailsStream : {R W : Type 0} → World → ServeFault → Option (List ℕ) → Watched R → (W → Option (List ℕ)) → Watched W → Watched W → Type 0
+FailsStream on fault script input contents old new = EndsStream (terms_for on.setting) (book_on on) script fault input contents old new

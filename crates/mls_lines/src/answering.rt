@@ -5,7 +5,7 @@ ghost use Rattle.mls_seat_lines.specs.mls_server.LegalLists.{IsLegalList};
 ghost use Rattle.mls_seat_lines.specs.mls_wire.Pushes.{Appends};
 ghost use Rattle.mls_seat_lines.specs.mls_wire.Replies.{answer_text, response_text};
 ghost use Rattle.mls_seat_lines.specs.mls_wire.ScriptLines.{bytes_of_line};
-ghost use Rattle.mls_lines.specs.Answers.{AnswersLine, ClosesAt, OpensAt, SaysAt, fault_alone, held_by, name_held};
+ghost use Rattle.mls_lines.specs.Answers.{AnswersLine, ClosesAt, OpensAt, ServesAt, fault_alone, held_by, name_held};
 ghost use Rattle.mls_seat_lines.specs.Glossaries.{book_in};
 ghost use Rattle.mls_lines.specs.Beside.{says_beside};
 
@@ -13,8 +13,8 @@ use crate::hall::{Hall, Scripted};
 use crate::seating::{Sitting, parse};
 use crossbeam_channel::Sender;
 use mls_seat_lines::{
-    Answer, Command, Line, LineFault, Live, Name, Naming, OpenFault, Response, ScriptLine, Seat,
-    SeatLine, SessionId, Voice, push_response, say_line,
+    Answer, Command, Line, LineFault, Live, Name, Naming, OpenFault, Request, Response, ScriptLine,
+    Seat, SessionId, Wording, push_response, serve_request,
 };
 use std::alloc::{AllocError, Global};
 use std::sync::Wait;
@@ -68,9 +68,9 @@ impl<'l, N: Scripted> Clerk<'l, N> {
             (held_by sitting.old) text audited (held_by sitting.new)
             × IfOk result (λ known. known ≡ audited) × Appends result out.old out.new text }
     {
-        match says::<N>(self.hall, name_of(sitting), line) {
+        match parsed::<N>(self.hall, name_of(sitting), line) {
             Err(fault) => done(push_fault::<N>(self.hall, line.n, fault, out), true),
-            Ok(said) => self.carry_out(rt, sitting, line.n, said, out),
+            Ok(asked) => self.carry_out(rt, sitting, line.n, asked, out),
         }
     }
 
@@ -80,55 +80,55 @@ impl<'l, N: Scripted> Clerk<'l, N> {
         rt: &R,
         sitting: &mut Option<Sitting<'l, N>>,
         n: u128,
-        said: Line,
+        asked: Line,
         out: &mut Vec<u8>,
     ) -> Result<bool, AllocError>
         requires parts { N.parts ≡ 65 }
-        ensures { (text : List ℕ) × (audited : Bool) × AnswersLine N.terms (book_in N.glossary) n (Ok said)
+        ensures { (text : List ℕ) × (audited : Bool) × AnswersLine N.terms (book_in N.glossary) n (Ok asked)
             (held_by sitting.old) text audited (held_by sitting.new)
             × IfOk result (λ known. known ≡ audited) × Appends result out.old out.new text }
     {
-        match said {
+        match asked {
             Line::Silent => Ok(true),
             Line::Open(name) => done(self.open(rt, sitting, name, out), true),
             Line::Close(name, _) => self.close(rt, sitting, n, name, out),
             Line::Step(_, _) => done(self.refuse_steps(n, out), true),
             Line::Steps(_, _, _) => done(self.refuse_steps(n, out), true),
-            Line::Audit(_, _) => done(self.say(rt, sitting, n, SeatLine::Audit, out), true),
+            Line::Audit(_, _) => done(self.serve(rt, sitting, n, Request::Audit, out), true),
             Line::Look(_, _, look) => {
-                done(self.say(rt, sitting, n, SeatLine::Look(look), out), true)
+                done(self.serve(rt, sitting, n, Request::Look(look), out), true)
             }
             Line::Run(_, _, command) => {
-                done(self.say(rt, sitting, n, SeatLine::Run(command), out), true)
+                done(self.serve(rt, sitting, n, Request::Run(command), out), true)
             }
         }
     }
 
-    /// Says a line at the seat.
-    fn say<R: Wait>(
+    /// Serves a request at the seat.
+    fn serve<R: Wait>(
         &self,
         rt: &R,
         sitting: &mut Option<Sitting<'l, N>>,
         n: u128,
-        line: SeatLine,
+        request: Request,
         out: &mut Vec<u8>,
     ) -> Result<(), AllocError>
-        ensures { (text : List ℕ) × SaysAt N.terms (book_in N.glossary) n line
+        ensures { (text : List ℕ) × ServesAt N.terms (book_in N.glossary) n request
             (held_by sitting.old) text (held_by sitting.new)
             × Appends result out.old out.new text }
     {
         let Some(sitting) = sitting else {
             return push_fault::<N>(self.hall, n, LineFault::NotOpen, out);
         };
-        if is_catch_up(&line) {
+        if is_catch_up(&request) {
             sitting.seat.work_off(rt, self.hall.alloc, MOST_TURNS);
         }
         let name = sitting.name;
-        let voice = Voice {
+        let wording = Wording {
             alloc: self.hall.alloc,
             names: &self.hall.glossary,
         };
-        say_line(rt, &voice, &name, &mut sitting.seat, &line, out)
+        serve_request(rt, &wording, &name, &mut sitting.seat, &request, out)
     }
 
     /// Opens a session of this name, or replies why it can't be opened.
@@ -225,9 +225,9 @@ impl<'l, N: Scripted> Clerk<'l, N> {
     }
 }
 
-/// Returns whether a line asks that all areas be checked.
-fn is_catch_up(line: &SeatLine) -> bool {
-    matches!(line, SeatLine::Run(Command::CatchUp))
+/// Returns whether a request is that all areas be checked.
+fn is_catch_up(request: &Request) -> bool {
+    matches!(request, Request::Run(Command::CatchUp))
 }
 
 /// Returns whether a list was audited, where the line has its reply.
@@ -240,7 +240,7 @@ fn done(replied: Result<(), AllocError>, audited: bool) -> Result<bool, AllocErr
 }
 
 /// Returns what a line says where this session is open, or none, or its first fault.
-fn says<N: Scripted>(
+fn parsed<N: Scripted>(
     hall: &Hall,
     held: Option<Name>,
     line: &Numbered<'_>,
@@ -276,38 +276,38 @@ pub fn push_alone<N: Scripted>(
         (says_beside (book_in N.glossary) None (bytes_of_line line.now.line)) None text true None
         × Appends result out.old out.new text }
 {
-    match says::<N>(hall, None, line) {
+    match parsed::<N>(hall, None, line) {
         Err(fault) => push_fault::<N>(hall, line.n, fault, out),
-        Ok(said) => push_said_alone::<N>(hall, line.n, &said, out),
+        Ok(asked) => push_asked_alone::<N>(hall, line.n, &asked, out),
     }
 }
 
 /// Appends the reply text of line `n`, of which no thread has the name.
-fn push_said_alone<N: Scripted>(
+fn push_asked_alone<N: Scripted>(
     hall: &Hall,
     n: u128,
-    said: &Line,
+    asked: &Line,
     out: &mut Vec<u8>,
 ) -> Result<(), AllocError>
     requires { hall.now.glossary ≡ N.glossary }
-    ensures { (text : List ℕ) × AnswersLine N.terms (book_in N.glossary) n (Ok said.now) None text true None
+    ensures { (text : List ℕ) × AnswersLine N.terms (book_in N.glossary) n (Ok asked.now) None text true None
         × Appends result out.old out.new text }
 {
-    match said {
+    match asked {
         Line::Silent => Ok(()),
         Line::Open(name) => {
             let full = Answer::Opened(Err(OpenFault::SessionsFull));
             push_answer::<N>(hall, *name, full, out)
         }
-        said => push_fault::<N>(hall, n, fault_alone(said), out),
+        asked => push_fault::<N>(hall, n, fault_alone(asked), out),
     }
 }
 
 /// Returns the fault of a line of an open session, where no thread has its name.
-fn fault_alone(said: &Line) -> LineFault
-    ensures { result ≡ fault_alone said.now }
+fn fault_alone(asked: &Line) -> LineFault
+    ensures { result ≡ fault_alone asked.now }
 {
-    match said {
+    match asked {
         // The workers take check steps.
         Line::Step(_, _) | Line::Steps(_, _, _) => LineFault::UnknownCommand,
         Line::Silent

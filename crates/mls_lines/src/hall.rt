@@ -1,10 +1,10 @@
 //! What all threads share.
 ghost use Rattle.std.specs.Prelude.{◌≡◌, ℕ, List, Option, Some};
 ghost use Rattle.mls_seat_lines.specs.Glossaries.{Glossary, book_in};
-ghost use Rattle.mls_lines.specs.Scripts.{IsScriptLine, IsTold};
+ghost use Rattle.mls_lines.specs.Scripts.{IsScriptLine, IsReply};
 
 use crate::Glossary;
-use crate::roster::Roster;
+use crate::dispatch_table::DispatchTable;
 use mls_seat_lines::Naming;
 use std::alloc::Global;
 use std::marker::{Brand, PhantomData};
@@ -32,7 +32,7 @@ impl Scripted for Brand {
 pub struct Hall {
     pub alloc: Global,
     pub glossary: Glossary,
-    pub roster: Mutex<Roster>,
+    pub table: Mutex<DispatchTable>,
     /// Whether the output failed.
     pub unwritten: AtomicBool,
     /// Whether memory ran out for a reply, or a thread couldn't be started.
@@ -76,13 +76,13 @@ pub struct Reply<N: Scripted> {
     /// Whether the list of the session that was closed, if any, is that of its journal.
     pub audited: bool,
     of: PhantomData<N>,
-    pub ghost told: { IsTold N.terms (book_in N.glossary) N.script (record { text = text.items; audited = audited }) },
+    pub ghost is_reply: { IsReply N.terms (book_in N.glossary) N.script (record { text = text.items; audited = audited }) },
 }
 
 impl<N: Scripted> Reply<N> {
     /// Returns a reply of this text.
     pub fn new(text: Vec<u8>, audited: bool) -> Self
-        requires { IsTold N.terms (book_in N.glossary) N.script (record { text = text.items; audited = audited }) }
+        requires { IsReply N.terms (book_in N.glossary) N.script (record { text = text.items; audited = audited }) }
     {
         Reply {
             text,

@@ -1,6 +1,6 @@
 //! The reader of lines.
 ghost use Rattle.std.specs.Prelude.{◌≡◌, ◌≢◌, ◌<◌, false, IfErr, IsFalse};
-ghost use Rattle.mls_lines.specs.Rosters as spec;
+ghost use Rattle.mls_lines.specs.DispatchTables as spec;
 ghost use Rattle.mls_lines.specs.Scripts.{IsScriptLine};
 ghost use Rattle.mls_seat_lines.specs.mls_wire.ScriptLines.{bytes_of_line};
 ghost use Rattle.mls_seat_lines.specs.mls_wire.Watches.{HasCause};
@@ -17,7 +17,7 @@ use std::sync::Wait;
 
 /// Where the reader hands lines and replies.
 #[derive(Drop)]
-pub struct Desk<N: Scripted> {
+pub struct ReaderEnds<N: Scripted> {
     /// The queues of the threads for names.
     pub queues: Vec<Sender<Queued<N>, Global>>,
     pub replies: Sender<Reply<N>, Global>,
@@ -29,7 +29,7 @@ pub struct Desk<N: Scripted> {
 pub fn read_lines<N: Scripted, I: Read, R: Wait>(
     rt: &R,
     hall: &Hall,
-    desk: Desk<N>,
+    ends: ReaderEnds<N>,
     input: &mut Watched<I>,
 ) -> Result<(), ServeFault>
     requires called { hall.now.glossary ≡ N.glossary }
@@ -45,10 +45,10 @@ pub fn read_lines<N: Scripted, I: Read, R: Wait>(
         match reader.next_line(input)? {
             NextLine::End => break,
             NextLine::LastLine => {
-                hand(rt, hall, &desk, Numbered::new(n, reader.line()))?;
+                hand(rt, hall, &ends, Numbered::new(n, reader.line()))?;
                 break;
             }
-            NextLine::Line => hand(rt, hall, &desk, Numbered::new(n, reader.line()))?,
+            NextLine::Line => hand(rt, hall, &ends, Numbered::new(n, reader.line()))?,
         }
         n += 1;
     }
@@ -59,7 +59,7 @@ pub fn read_lines<N: Scripted, I: Read, R: Wait>(
 fn hand<N: Scripted, R: Wait>(
     rt: &R,
     hall: &Hall,
-    desk: &Desk<N>,
+    ends: &ReaderEnds<N>,
     line: Numbered<'_>,
 ) -> Result<(), AllocError>
     requires called { hall.now.glossary ≡ N.glossary }
@@ -67,19 +67,19 @@ fn hand<N: Scripted, R: Wait>(
     requires line { IsScriptLine N.script line.n (bytes_of_line line.line) }
 {
     match thread_for(rt, hall, line.line) {
-        Some(thread) => queue(rt, hall, desk, thread, line),
-        None => reply(rt, hall, desk, &line),
+        Some(thread) => queue(rt, hall, ends, thread, line),
+        None => reply(rt, hall, ends, &line),
     }
 }
 
 /// Returns the number of the thread that a line is for, if any.
 fn thread_for<R: Wait>(rt: &R, hall: &Hall, line: ScriptLine<'_>) -> Option<usize> {
     let name = name_for(line)?;
-    hall.roster.lock(rt).place(&name, is_opening(line))
+    hall.table.lock(rt).dispatch(&name, is_opening(line))
 }
 
 /// Returns the name of the session that a line is for. Only the first two words are looked at.
-#[tactic(auto, unfolding(crate::specs::Rosters::name_for))]
+#[tactic(auto, unfolding(crate::specs::DispatchTables::name_for))]
 fn name_for(line: ScriptLine<'_>) -> Option<Name>
     ensures { result ≡ spec.name_for (bytes_of_line line.entry) }
 {
@@ -119,13 +119,13 @@ fn begins_opening(mut words: Words<'_>) -> bool
 fn queue<N: Scripted, R: Wait>(
     rt: &R,
     hall: &Hall,
-    desk: &Desk<N>,
+    ends: &ReaderEnds<N>,
     thread: usize,
     line: Numbered<'_>,
 ) -> Result<(), AllocError>
     requires { IsScriptLine N.script line.n (bytes_of_line line.line) }
 {
-    let (Some(queue), ScriptLine::Text(bytes)) = (desk.queues.get(thread), line.line) else {
+    let (Some(queue), ScriptLine::Text(bytes)) = (ends.queues.get(thread), line.line) else {
         return Err(AllocError);
     };
     let queued = Queued::<N>::new(line.n, bytes.to_vec(hall.alloc)?);
@@ -136,7 +136,7 @@ fn queue<N: Scripted, R: Wait>(
 fn reply<N: Scripted, R: Wait>(
     rt: &R,
     hall: &Hall,
-    desk: &Desk<N>,
+    ends: &ReaderEnds<N>,
     line: &Numbered<'_>,
 ) -> Result<(), AllocError>
     requires called { hall.now.glossary ≡ N.glossary }
@@ -149,5 +149,5 @@ fn reply<N: Scripted, R: Wait>(
         return Ok(());
     }
     let reply = Reply::<N>::new(text, true);
-    desk.replies.send(rt, reply).map_err(|_| AllocError)
+    ends.replies.send(rt, reply).map_err(|_| AllocError)
 }

@@ -14,7 +14,7 @@ use std::thread::{Scope, Threads};
 
 /// A thread for names, before it runs: its number, its lines, and where replies and notices go.
 #[derive(Drop)]
-pub struct Place<N: Scripted> {
+pub struct NameThread<N: Scripted> {
     pub number: usize,
     pub lines: Receiver<Queued<N>, Global>,
     pub replies: Sender<Reply<N>, Global>,
@@ -26,7 +26,7 @@ pub fn answer_all<N: Scripted + Send + Sync, R: Threads + Wait + Sync>(
     rt: &R,
     hall: &Hall,
     live: &Live<N>,
-    places: Vec<Place<N>>,
+    name_threads: Vec<NameThread<N>>,
     workers: Vec<Receiver<SessionId, Global>>,
 ) -> Result<(), AllocError>
     requires parts { N.parts ≡ 65 }
@@ -37,7 +37,7 @@ pub fn answer_all<N: Scripted + Send + Sync, R: Threads + Wait + Sync>(
         rt,
         move |scope| -> Result<(), AllocError>
             requires { (N.parts ≡ 65) × (hall.now.glossary ≡ N.glossary) }
-        { start(rt, scope, (hall, live), places, workers) },
+        { start(rt, scope, (hall, live), name_threads, workers) },
     );
     if answered.is_err() {
         hall.refused.store(true, Ordering::SeqCst);
@@ -50,14 +50,14 @@ fn start<'s, E, N: Scripted + Send + Sync + 's, R: Threads + Wait + Sync>(
     rt: &'s R,
     scope: &Scope<'s, E>,
     shared: (&'s Hall, &'s Live<N>),
-    mut places: Vec<Place<N>>,
+    mut name_threads: Vec<NameThread<N>>,
     workers: Vec<Receiver<SessionId, Global>>,
 ) -> Result<(), AllocError>
     requires parts { N.parts ≡ 65 }
     requires called { shared.0.now.glossary ≡ N.glossary }
 {
     let (hall, live) = shared;
-    let mut handles = Vec::with_capacity(hall.alloc, places.len())?;
+    let mut handles = Vec::with_capacity(hall.alloc, name_threads.len())?;
     for from in workers {
         let alloc = hall.alloc;
         if scope
@@ -68,8 +68,8 @@ fn start<'s, E, N: Scripted + Send + Sync + 's, R: Threads + Wait + Sync>(
             return Err(AllocError);
         }
     }
-    while let Some(place) = places.pop() {
-        match scope.spawn(move || answer_lines(rt, hall, live, place)) {
+    while let Some(name_thread) = name_threads.pop() {
+        match scope.spawn(move || answer_lines(rt, hall, live, name_thread)) {
             Ok(handle) => handles.push_reserved(handle),
             Err(_) => {
                 hall.refused.store(true, Ordering::SeqCst);
@@ -90,17 +90,17 @@ fn answer_lines<'l, N: Scripted, R: Wait>(
     rt: &R,
     hall: &'l Hall,
     live: &'l Live<N>,
-    place: Place<N>,
+    name_thread: NameThread<N>,
 )
     requires parts { N.parts ≡ 65 }
     requires called { hall.now.glossary ≡ N.glossary }
 {
-    let Place {
+    let NameThread {
         number,
         lines,
         replies,
         notices,
-    } = place;
+    } = name_thread;
     let mut progress = Progress::new(Clerk {
         hall,
         live,
@@ -120,7 +120,7 @@ fn answer_lines<'l, N: Scripted, R: Wait>(
                 hall.refused.store(true, Ordering::SeqCst);
             }
         }
-        hall.roster.lock(rt).leave(number, progress.is_open());
+        hall.table.lock(rt).line_done(number, progress.is_open());
     }
     if let Some(last) = progress.end(rt)
         && replies.send(rt, last).is_err()

@@ -2,6 +2,7 @@ mod CellLoads
 mod CellWords
 mod Ends
 mod MessageLemmas
+mod Modes
 mod NumberLemmas
 mod NumberTexts
 mod OptionLemmas

@@ -14,6 +14,8 @@ use Rattle.mls_lines.specs.mls_session.Quotas.{least_quota, most_quota, default_
 use Rattle.mls_lines.specs.mls_server.Capacities.{greatest_capacity, default_capacity}
 use Rattle.mls_magicd.specs.WorkerCounts.{most_workers, default_workers}
 use Rattle.mls_magicd.specs.declared.cell_argument.CellArgument.{CellArgument}
+use Rattle.mls_magicd.specs.declared.options.Mode.{Mode}
+use Rattle.mls_magicd.specs.declared.options.Mode.TheVariants.{Alone, Batch, Stream}
 use Rattle.mls_magicd.specs.declared.options.Options.{Options}
 use Rattle.mls_magicd.specs.declared.options.OptionsFault.{OptionsFault}
 use Rattle.mls_magicd.specs.declared.options.OptionsFault.TheVariants.{Memory, Refused, BadCell}
@@ -94,8 +96,8 @@ abbrev pub AskForLive : List Text → Type 0
 AskForLive words = live_named words ≡ Some (codes "true")
 
 -- they don't
-abbrev pub AskForBatch : List Text → Type 0
-AskForBatch words = (live_named words ≡ None) ⊎ (live_named words ≡ Some (codes "false"))
+abbrev pub AskForNoLive : List Text → Type 0
+AskForNoLive words = (live_named words ≡ None) ⊎ (live_named words ≡ Some (codes "false"))
 
 -- the words that are no options, and so name cells, in order
 unfoldable pub cell_words : List Text → List Text
@@ -164,6 +166,12 @@ IsBadWord words (BadCell word) = bad_word words ≡ Some word.now
 IsBadWord words Memory = ⊤
 IsBadWord words (Refused text) = ⊥
 
+-- ---- how the script is served
+
+-- with these options it is served so
+unfoldable pub mode_of : Options → Mode
+mode_of options = if options.live then Stream else if options.workers == 0 then Alone else Batch
+
 -- ---- the whole line
 
 -- the parser finds no fault in the words, and each word that names a cell has a `=`
@@ -180,7 +188,7 @@ pub record ParsesAs (words : List Text) (options : Options) : Type 0 where
   pub cell_tiles : IsNumberFor cell_tiles_option words options.cell_tiles
   pub workers : IsNumberFor workers_option words options.workers
   pub live : AskForLive words → options.live ≡ true
-  pub batch : AskForBatch words → options.live ≡ false
+  pub no_live : AskForNoLive words → options.live ≡ false
   pub cells : NamesFiles (cell_words words) (map file_of options.cells.items)
 
 -- the fault is one of the parser's

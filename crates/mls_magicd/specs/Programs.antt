@@ -1,9 +1,9 @@
 -- What the program does with its words, its technology and its script. This project's own.
 use Rattle.std.specs.Prelude.{◌≡◌, ◌≢◌, ◌⊎◌, ℕ, false, Option, Some, Ok, Err, List, [], ◌∷◌, ◌++◌, map, ⊤}
-use Rattle.mls_crew.specs.Scripts.{FailsCrew, WritesCrew}
+use Rattle.mls_crew.specs.Scripts.{FailsBatch, WritesBatch}
 use Rattle.mls_edgerule.specs.Compiling.{compiled}
 use Rattle.mls_edgerule.specs.declared.edge_rule.EdgeRule.{EdgeRule}
-use Rattle.mls_lines.specs.Scripts.{FailsLines, WritesLines}
+use Rattle.mls_lines.specs.Scripts.{FailsStream, WritesStream}
 use Rattle.mls_tech.specs.Readings.{Tech}
 use Rattle.mls_lines.specs.mls_server.Worlds.{MarksAreExact, MarksAreRight, World}
 use Rattle.mls_lines.specs.mls_wire.Serving.{HasReason, WritesRun, WritesCutRun}
@@ -16,6 +16,8 @@ use Rattle.mls_magicd.specs.Technologies.{HasReading, LacksTechnology}
 use Rattle.mls_magicd.specs.declared.cells.LoadFault.{LoadFault}
 use Rattle.mls_magicd.specs.declared.fault.Fault.{Fault}
 use Rattle.mls_magicd.specs.declared.fault.Fault.TheVariants.{Options as BadOptions, Technology, Rule, Cell, Memory, Serve, Differs}
+use Rattle.mls_magicd.specs.declared.options.Mode.{Mode}
+use Rattle.mls_magicd.specs.declared.options.Mode.TheVariants.{Alone, Batch, Stream}
 use Rattle.mls_magicd.specs.declared.options.Options.{Options}
 use Rattle.mls_magicd.specs.declared.options.OptionsFault.TheVariants.{Refused, BadCell, Memory as OptionsMemory}
 
@@ -25,7 +27,7 @@ use Rattle.mls_magicd.specs.declared.options.OptionsFault.TheVariants.{Refused, 
 abbrev pub done : ℕ
 done = 0
 
--- a file is bad or can't be read, or a stream or memory failed
+-- a file is bad or can't be read, or a device or memory failed
 abbrev pub failed : ℕ
 failed = 1
 
@@ -145,44 +147,59 @@ ServesScript old script written now = (last : World) × WritesRun old script wri
 
 -- it gained those of a run that was cut by this fault
 abbrev pub FailsInScript : {R W : Type 0} → World → Option (List ℕ) → Option (List ℕ) → Option (List ℕ) → Option (List ℕ)
-    → Watched R → Watched W → ServeFault → Type 0
-FailsInScript old script rest written now input output fault =
+    → Watched R → Watched W → Fault → Type 0
+FailsInScript old script rest written now input output (Serve fault) =
     ((last : World) × WritesCutRun old fault script rest written now last × IsLeftBy old last) × HasReason fault input output
-
--- so it did, and the fault was reported after the skipped lines
-abbrev pub EndsInScript : {R W E : Type 0} → World → Option (List ℕ) → Option (List ℕ) → Option (List ℕ) → Option (List ℕ)
-    → Watched R → Watched W → (E → Option (List ℕ)) → Watched E → Watched E → Type 0
-EndsInScript old script rest written now input output contents before after =
-    (fault : ServeFault) × FailsInScript old script rest written now input output fault
-    × ReportsAll contents before after (skipped_lines old.setting.tech ++ serve_fault_line fault ∷ [])
+FailsInScript old script rest written now input output _ = ⊥
 
 -- it failed so, and the fault was reported after the skipped lines
 abbrev pub ReportsEnd : {E : Type 0} → World → (Fault → Type 0) → (E → Option (List ℕ)) → Watched E → Watched E → Type 0
 ReportsEnd on fails messages before after =
     (fault : Fault) × fails fault × ReportsAll messages before after (skipped_lines on.setting.tech ++ fault_message fault ∷ [])
 
+-- so it did, and the fault was reported after the skipped lines
+abbrev pub EndsInScript : {R W E : Type 0} → World → Option (List ℕ) → Option (List ℕ) → Option (List ℕ) → Option (List ℕ)
+    → Watched R → Watched W → (E → Option (List ℕ)) → Watched E → Watched E → Type 0
+EndsInScript old script rest written now input output messages before after =
+    ReportsEnd old (FailsInScript old script rest written now input output) messages before after
+
 -- ---- the script, with workers
 
--- the script fails with this fault, or all was written, and what some session was told isn't what its journal has
-abbrev pub FailsInCrew : {R W : Type 0} → World → Option (List ℕ) → Watched R → (W → Option (List ℕ)) → Watched W → Watched W → Fault → Type 0
-FailsInCrew on script input contents old new (Serve fault) = FailsCrew on fault script input contents old new
-FailsInCrew on script input contents old new Differs = WritesCrew on script (contents old.device) (contents new.device) false
-FailsInCrew on script input contents old new _ = ⊥
+-- the script fails with this fault, or all was written, and some session's list wasn't that of its journal at its end
+abbrev pub FailsInBatch : {R W : Type 0} → World → Option (List ℕ) → Watched R → (W → Option (List ℕ)) → Watched W → Watched W → Fault → Type 0
+FailsInBatch on script input contents old new (Serve fault) = FailsBatch on fault script input contents old new
+FailsInBatch on script input contents old new Differs = WritesBatch on script (contents old.device) (contents new.device) false
+FailsInBatch on script input contents old new _ = ⊥
 
 -- so it did, and the fault was reported after the skipped lines
-abbrev pub EndsInCrew : {R W E : Type 0} → World → Option (List ℕ) → Watched R → (W → Option (List ℕ)) → Watched W → Watched W
+abbrev pub EndsInBatch : {R W E : Type 0} → World → Option (List ℕ) → Watched R → (W → Option (List ℕ)) → Watched W → Watched W
     → (E → Option (List ℕ)) → Watched E → Watched E → Type 0
-EndsInCrew on script input contents old new messages before after = ReportsEnd on (FailsInCrew on script input contents old new) messages before after
+EndsInBatch on script input contents old new messages before after = ReportsEnd on (FailsInBatch on script input contents old new) messages before after
 
 -- ---- the script, answered as it comes
 
 -- the script fails with this fault, or all was answered, and some session's list wasn't that of its journal at its end
-abbrev pub FailsLive : {R W : Type 0} → World → Option (List ℕ) → Watched R → (W → Option (List ℕ)) → Watched W → Watched W → Fault → Type 0
-FailsLive on script input contents old new (Serve fault) = FailsLines on fault script input contents old new
-FailsLive on script input contents old new Differs = WritesLines on script (contents old.device) (contents new.device) false
-FailsLive on script input contents old new _ = ⊥
+abbrev pub FailsInStream : {R W : Type 0} → World → Option (List ℕ) → Watched R → (W → Option (List ℕ)) → Watched W → Watched W → Fault → Type 0
+FailsInStream on script input contents old new (Serve fault) = FailsStream on fault script input contents old new
+FailsInStream on script input contents old new Differs = WritesStream on script (contents old.device) (contents new.device) false
+FailsInStream on script input contents old new _ = ⊥
 
 -- so it did, and the fault was reported after the skipped lines
-abbrev pub EndsLive : {R W E : Type 0} → World → Option (List ℕ) → Watched R → (W → Option (List ℕ)) → Watched W → Watched W
+abbrev pub EndsInStream : {R W E : Type 0} → World → Option (List ℕ) → Watched R → (W → Option (List ℕ)) → Watched W → Watched W
     → (E → Option (List ℕ)) → Watched E → Watched E → Type 0
-EndsLive on script input contents old new messages before after = ReportsEnd on (FailsLive on script input contents old new) messages before after
+EndsInStream on script input contents old new messages before after = ReportsEnd on (FailsInStream on script input contents old new) messages before after
+
+-- ---- the script, in one of these modes
+
+-- it is served so on this world, and the whole of it was audited
+abbrev pub ServesAs : Mode → World → Option (List ℕ) → Option (List ℕ) → Option (List ℕ) → Type 0
+ServesAs Alone on script written now = ServesScript on script written now
+ServesAs Batch on script written now = WritesBatch on script written now true
+ServesAs Stream on script written now = WritesStream on script written now true
+
+-- it fails so with this fault
+abbrev pub FailsAs : {R W : Type 0} → Mode → World → (R → Option (List ℕ)) → (W → Option (List ℕ)) → Watched R → Watched R → Watched W → Watched W → Fault → Type 0
+FailsAs Alone on remaining contents before input old new fault =
+    FailsInScript on (remaining before.device) (remaining input.device) (contents old.device) (contents new.device) input new fault
+FailsAs Batch on remaining contents before input old new fault = FailsInBatch on (remaining before.device) input contents old new fault
+FailsAs Stream on remaining contents before input old new fault = FailsInStream on (remaining before.device) input contents old new fault

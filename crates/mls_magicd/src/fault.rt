@@ -8,7 +8,7 @@ use mls_tech::TechFault;
 use std::alloc::AllocError;
 use thiserror::Error;
 
-/// The exit status where a file is bad or can't be read, or a stream or memory failed.
+/// The exit status where a file is bad or can't be read, or a device or memory failed.
 const FAILED: u8 = 1;
 
 /// The exit status where the words of the command line are refused.

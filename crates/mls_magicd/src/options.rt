@@ -3,7 +3,7 @@ ghost use Rattle.std.specs.Prelude.{◌≡◌, ◌<◌, ◌^◌, max, IfOk, IfEr
 ghost use Rattle.std.specs.Range.{range_inclusive_start, range_inclusive_end};
 ghost use Rattle.clap.specs.Words.{found_of, kind_of};
 ghost use Rattle.clap.specs.declared.error.kind.ErrorKind.TheVariants.{OutOfMemory};
-ghost use Rattle.mls_magicd.specs.CommandLines.{NumberOption, magicd, tech_rule, number_rule, live_rule, cells_rule, file_of, words_found, IsBadWord, IsFoundNumber, IsOwnArg, IsOwnCommand, IsParserFault, NamesFiles, ParsesWords, ranged_option};
+ghost use Rattle.mls_magicd.specs.CommandLines.{NumberOption, magicd, tech_rule, number_rule, live_rule, cells_rule, file_of, words_found, IsBadWord, IsFoundNumber, IsOwnArg, IsOwnCommand, IsParserFault, NamesFiles, ParsesWords, mode_of, ranged_option};
 
 use crate::cell_argument::CellArgument;
 use crate::workers::Workers;
@@ -35,6 +35,17 @@ pub struct Options<'a> {
     pub live: bool,
     /// The cells, in order.
     pub cells: Vec<CellArgument<'a>>,
+}
+
+/// How a script is served.
+#[derive(Clone, Copy)]
+pub enum Mode {
+    /// By one thread, a line after another.
+    Alone,
+    /// As a batch, beside workers.
+    Batch,
+    /// As a stream, beside workers or none.
+    Stream,
 }
 
 /// Why the words of the command line are refused.
@@ -90,6 +101,20 @@ impl<'a> Options<'a> {
                 })
             }
             Err(error) => Err(refusal(alloc, &error)),
+        }
+    }
+
+    /// Returns how the script is to be served.
+    #[tactic(auto, unfolding(crate::specs::CommandLines::mode_of))]
+    pub fn mode(&self) -> Mode
+        ensures { result ≡ mode_of self.now }
+    {
+        if self.live {
+            Mode::Stream
+        } else if self.workers.get() == 0 {
+            Mode::Alone
+        } else {
+            Mode::Batch
         }
     }
 }

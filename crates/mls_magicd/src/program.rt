@@ -1,13 +1,12 @@
-//! The whole program, over any words, files and streams.
+//! The whole program, over any words, files and devices.
 ghost use Rattle.std.specs.Prelude.{◌≡◌, ◌≢◌, ◌≤◌, ◌⊎◌, ℕ, List, [], Ok, OnOk, IfOk, IfErr, false, true, map};
-ghost use Rattle.mls_crew.specs.Scripts.{WritesCrew};
-ghost use Rattle.mls_lines.specs.Scripts.{WritesLines};
+ghost use Rattle.mls_crew.specs.Scripts.{WritesBatch};
+ghost use Rattle.mls_lines.specs.Scripts.{WritesStream};
 ghost use Rattle.mls_lines.specs.mls_server.Servers.{world_of};
 ghost use Rattle.mls_lines.specs.mls_server.Worlds.{World};
 ghost use Rattle.mls_tech.specs.Readings.{reading_of};
-ghost use Rattle.mls_lines.specs.mls_wire.declared.serving.ServeFault.{ServeFault};
 ghost use Rattle.mls_magicd.specs.Cells.{LoadsCells};
-ghost use Rattle.mls_magicd.specs.CommandLines.{AskForBatch, AskForLive, ParsesAs, IsNumberFor, file_of, workers_option};
+ghost use Rattle.mls_magicd.specs.CommandLines.{AskForNoLive, AskForLive, ParsesAs, IsNumberFor, file_of, mode_of, workers_option};
 ghost use Rattle.mls_magicd.specs.Messages.{Reports, ReportsAll, fault_message};
 ghost use Rattle.mls_magicd.specs.Programs as spec;
 ghost use Rattle.mls_magicd.specs.Technologies.{text_in};
@@ -15,12 +14,12 @@ ghost use Rattle.mls_lines.specs.Glossaries.{glossary_of};
 
 use crate::cells::load_cells;
 use crate::messages::{report_fault, report_skipped};
-use crate::options::Options;
+use crate::options::{Mode, Options};
 use crate::technology::TechnologyText;
-use crate::{Fault, Files, Streams};
-use mls_crew::Crew;
+use crate::{Devices, Fault, Files};
+use mls_crew::Batch;
 use mls_edgerule::{Rules, compile};
-use mls_lines::{Glossary, Limits, Lines, Server, Watched, serve};
+use mls_lines::{Glossary, Limits, Server, Stream, Watched, serve};
 use mls_tech::Tech;
 use std::alloc::{AllocError, Global};
 use std::convert::AsStr;
@@ -38,90 +37,84 @@ pub fn run<T: Threads + Wait + Sync, S: AsStr, F: Files, R: Read, W: Write + Sen
     alloc: Global,
     words: &[S],
     files: &F,
-    streams: &mut Streams<R, W, E>,
+    devices: &mut Devices<R, W, E>,
 ) -> u8
-    requires input_sound { streams.old.input.failed ≡ false }
-    requires output_sound { streams.old.output.failed ≡ false }
-    requires faults_sound { streams.old.faults.failed ≡ false }
+    requires input_sound { devices.old.input.failed ≡ false }
+    requires output_sound { devices.old.output.failed ≡ false }
+    requires faults_sound { devices.old.faults.failed ≡ false }
     ensures status { result ≤ spec.bad_command_line }
 
     // The words have a fault, it was reported, and no line of the script was read.
     ensures refused { result ≡ spec.bad_command_line
-        → spec.RefusesWords (map S.text words.now) E.contents streams.old.faults streams.new.faults
-        × (streams.new.input ≡ streams.old.input) × (streams.new.output ≡ streams.old.output) }
+        → spec.RefusesWords (map S.text words.now) E.contents devices.old.faults devices.new.faults
+        × (devices.new.input ≡ devices.old.input) × (devices.new.output ≡ devices.old.output) }
 
     // Without workers, the output is the reply text of the script's run over the technology, the cells and the limits
     // that the words name, and the skipped lines of the technology were reported.
-    ensures served { AskForBatch (map S.text words.now) → IsNumberFor workers_option (map S.text words.now) 0
+    ensures served { AskForNoLive (map S.text words.now) → IsNumberFor workers_option (map S.text words.now) 0
         → result ≡ spec.done
         → (on : World) × spec.IsConfiguredBy (F.reads_as files.now) (map S.text words.now) on
-        × spec.ServesScript on (R.remaining streams.old.input.device) (W.contents streams.old.output.device)
-        (W.contents streams.new.output.device)
-        × ReportsAll E.contents streams.old.faults streams.new.faults (spec.skipped_lines on.setting.tech) }
+        × spec.ServesScript on (R.remaining devices.old.input.device) (W.contents devices.old.output.device)
+        (W.contents devices.new.output.device)
+        × ReportsAll E.contents devices.old.faults devices.new.faults (spec.skipped_lines on.setting.tech) }
 
     // Either the start failed, for a reason that was reported, and no line of the script was read; or the script
     // was left before its end, for a reason that was reported, and the output is that of a run that was cut.
-    ensures failed { AskForBatch (map S.text words.now) → IsNumberFor workers_option (map S.text words.now) 0
+    ensures failed { AskForNoLive (map S.text words.now) → IsNumberFor workers_option (map S.text words.now) 0
         → result ≡ spec.failed →
         (spec.EndsAtStart (F.reads_as files.now) (F.may_fail files.now)
-        (map S.text words.now) E.contents streams.old.faults streams.new.faults
-        × (streams.new.input ≡ streams.old.input) × (streams.new.output ≡ streams.old.output))
+        (map S.text words.now) E.contents devices.old.faults devices.new.faults
+        × (devices.new.input ≡ devices.old.input) × (devices.new.output ≡ devices.old.output))
         ⊎ ((on : World) × spec.IsConfiguredBy (F.reads_as files.now) (map S.text words.now) on
-        × spec.EndsInScript on (R.remaining streams.old.input.device) (R.remaining streams.new.input.device)
-        (W.contents streams.old.output.device) (W.contents streams.new.output.device)
-        streams.new.input streams.new.output E.contents streams.old.faults streams.new.faults) }
+        × spec.EndsInScript on (R.remaining devices.old.input.device) (R.remaining devices.new.input.device)
+        (W.contents devices.old.output.device) (W.contents devices.new.output.device)
+        devices.new.input devices.new.output E.contents devices.old.faults devices.new.faults) }
 
     // With workers, the output is what the lines of each session give at its seat over that technology, those cells
     // and limits, and the whole of it was audited.
-    ensures served_by_crew { AskForBatch (map S.text words.now) → (workers : ℕ)
+    ensures served_in_batch { AskForNoLive (map S.text words.now) → (workers : ℕ)
         → IsNumberFor workers_option (map S.text words.now) workers → workers ≢ 0
         → result ≡ spec.done
         → (on : World) × spec.IsConfiguredBy (F.reads_as files.now) (map S.text words.now) on
-        × WritesCrew on (R.remaining streams.old.input.device) (W.contents streams.old.output.device)
-        (W.contents streams.new.output.device) true
-        × ReportsAll E.contents streams.old.faults streams.new.faults (spec.skipped_lines on.setting.tech) }
+        × WritesBatch on (R.remaining devices.old.input.device) (W.contents devices.old.output.device)
+        (W.contents devices.new.output.device) true
+        × ReportsAll E.contents devices.old.faults devices.new.faults (spec.skipped_lines on.setting.tech) }
 
     // Either the start failed, as above; or the script failed, for a reason that was reported.
-    ensures failed_by_crew { AskForBatch (map S.text words.now) → (workers : ℕ)
+    ensures failed_in_batch { AskForNoLive (map S.text words.now) → (workers : ℕ)
         → IsNumberFor workers_option (map S.text words.now) workers → workers ≢ 0
         → result ≡ spec.failed →
         (spec.EndsAtStart (F.reads_as files.now) (F.may_fail files.now)
-        (map S.text words.now) E.contents streams.old.faults streams.new.faults
-        × (streams.new.input ≡ streams.old.input) × (streams.new.output ≡ streams.old.output))
+        (map S.text words.now) E.contents devices.old.faults devices.new.faults
+        × (devices.new.input ≡ devices.old.input) × (devices.new.output ≡ devices.old.output))
         ⊎ ((on : World) × spec.IsConfiguredBy (F.reads_as files.now) (map S.text words.now) on
-        × spec.EndsInCrew on (R.remaining streams.old.input.device) streams.new.input W.contents streams.old.output
-        streams.new.output
-        E.contents streams.old.faults streams.new.faults) }
+        × spec.EndsInBatch on (R.remaining devices.old.input.device) devices.new.input W.contents devices.old.output
+        devices.new.output
+        E.contents devices.old.faults devices.new.faults) }
 
     // With `--live`, the output is whole replies to lines of the script, each what its session's seat gave, and the lists
     // of all sessions that were closed were audited.
-    ensures served_live { AskForLive (map S.text words.now) → result ≡ spec.done
+    ensures served_in_stream { AskForLive (map S.text words.now) → result ≡ spec.done
         → (on : World) × spec.IsConfiguredBy (F.reads_as files.now) (map S.text words.now) on
-        × WritesLines on (R.remaining streams.old.input.device) (W.contents streams.old.output.device)
-        (W.contents streams.new.output.device) true
-        × ReportsAll E.contents streams.old.faults streams.new.faults (spec.skipped_lines on.setting.tech) }
+        × WritesStream on (R.remaining devices.old.input.device) (W.contents devices.old.output.device)
+        (W.contents devices.new.output.device) true
+        × ReportsAll E.contents devices.old.faults devices.new.faults (spec.skipped_lines on.setting.tech) }
 
     // Either the start failed, as above; or the script failed, for a reason that was reported.
-    ensures failed_live { AskForLive (map S.text words.now) → result ≡ spec.failed →
+    ensures failed_in_stream { AskForLive (map S.text words.now) → result ≡ spec.failed →
         (spec.EndsAtStart (F.reads_as files.now) (F.may_fail files.now)
-        (map S.text words.now) E.contents streams.old.faults streams.new.faults
-        × (streams.new.input ≡ streams.old.input) × (streams.new.output ≡ streams.old.output))
+        (map S.text words.now) E.contents devices.old.faults devices.new.faults
+        × (devices.new.input ≡ devices.old.input) × (devices.new.output ≡ devices.old.output))
         ⊎ ((on : World) × spec.IsConfiguredBy (F.reads_as files.now) (map S.text words.now) on
-        × spec.EndsLive on (R.remaining streams.old.input.device) streams.new.input W.contents streams.old.output
-        streams.new.output
-        E.contents streams.old.faults streams.new.faults) }
+        × spec.EndsInStream on (R.remaining devices.old.input.device) devices.new.input W.contents devices.old.output
+        devices.new.output
+        E.contents devices.old.faults devices.new.faults) }
 {
     let options = match Options::parse(alloc, words) {
         Ok(options) => options,
-        Err(fault) => return fail(&mut streams.faults, &fault.into()),
+        Err(fault) => return fail(&mut devices.faults, &fault.into()),
     };
-    if options.live {
-        return run_live(rt, alloc, files, &options, streams);
-    }
-    match options.workers.get() {
-        0 => run_script(alloc, files, &options, streams),
-        _ => run_crew(rt, alloc, files, &options, streams),
-    }
+    run_as(rt, alloc, files, &options, devices)
 }
 
 /// Reports a fault and returns the exit status that it ends the program with.
@@ -133,263 +126,235 @@ pub fn fail<E: Write>(faults: &mut Watched<E>, fault: &Fault<'_>) -> u8
     fault.status()
 }
 
-/// Runs the program without workers.
-fn run_script<F: Files, R: Read, W: Write, E: Write>(
+/// Runs the program in the mode that the options ask for.
+fn run_as<T: Threads + Wait + Sync, F: Files, R: Read, W: Write + Send, E: Write>(
+    rt: &T,
     alloc: Global,
     files: &F,
     options: &Options<'_>,
-    streams: &mut Streams<R, W, E>,
+    devices: &mut Devices<R, W, E>,
 ) -> u8
-    requires input_sound { streams.old.input.failed ≡ false }
-    requires output_sound { streams.old.output.failed ≡ false }
+    requires input_sound { devices.old.input.failed ≡ false }
+    requires output_sound { devices.old.output.failed ≡ false }
     ensures status { result ≤ spec.failed }
     ensures served { (words : List (List ℕ)) → ParsesAs words options.now → result ≡ spec.done
         → (on : World) × spec.IsConfiguredBy (F.reads_as files.now) words on
-        × spec.ServesScript on (R.remaining streams.old.input.device) (W.contents streams.old.output.device)
-        (W.contents streams.new.output.device)
-        × ReportsAll E.contents streams.old.faults streams.new.faults (spec.skipped_lines on.setting.tech) }
+        × spec.ServesAs (mode_of options.now) on (R.remaining devices.old.input.device)
+        (W.contents devices.old.output.device) (W.contents devices.new.output.device)
+        × ReportsAll E.contents devices.old.faults devices.new.faults (spec.skipped_lines on.setting.tech) }
     ensures failed { (words : List (List ℕ)) → ParsesAs words options.now → result ≡ spec.failed →
-        (spec.EndsAtStart (F.reads_as files.now) (F.may_fail files.now) words E.contents streams.old.faults
-        streams.new.faults
-        × (streams.new.input ≡ streams.old.input) × (streams.new.output ≡ streams.old.output))
+        (spec.EndsAtStart (F.reads_as files.now) (F.may_fail files.now) words E.contents devices.old.faults
+        devices.new.faults
+        × (devices.new.input ≡ devices.old.input) × (devices.new.output ≡ devices.old.output))
         ⊎ ((on : World) × spec.IsConfiguredBy (F.reads_as files.now) words on
-        × spec.EndsInScript on (R.remaining streams.old.input.device) (R.remaining streams.new.input.device)
-        (W.contents streams.old.output.device) (W.contents streams.new.output.device)
-        streams.new.input streams.new.output E.contents streams.old.faults streams.new.faults) }
+        × spec.ReportsEnd on (spec.FailsAs (mode_of options.now) on R.remaining W.contents devices.old.input
+        devices.new.input devices.old.output devices.new.output)
+        E.contents devices.old.faults devices.new.faults) }
 {
-    match serve_script(alloc, files, options, streams) {
+    match serve_as(rt, alloc, files, options, devices) {
         Ok(()) => DONE,
-        Err(fault) => fail(&mut streams.faults, &fault),
+        Err(fault) => fail(&mut devices.faults, &fault),
     }
 }
 
-/// Serves the script of the input with what the options name.
+/// Serves the script of the input in the mode that the options ask for. Where that is [`Mode::Alone`], by what is given
+/// nothing that starts threads or waits.
+fn serve_as<'a, T: Threads + Wait + Sync, F: Files, R: Read, W: Write + Send, E: Write>(
+    rt: &T,
+    alloc: Global,
+    files: &F,
+    options: &Options<'a>,
+    devices: &mut Devices<R, W, E>,
+) -> Result<(), Fault<'a>>
+    requires input_sound { devices.old.input.failed ≡ false }
+    requires output_sound { devices.old.output.failed ≡ false }
+    ensures ok { OnOk result ((words : List (List ℕ)) → ParsesAs words options.now → (on : World)
+        × spec.IsConfiguredBy (F.reads_as files.now) words on
+        × spec.ServesAs (mode_of options.now) on (R.remaining devices.old.input.device)
+        (W.contents devices.old.output.device) (W.contents devices.new.output.device)
+        × ReportsAll E.contents devices.old.faults devices.new.faults (spec.skipped_lines on.setting.tech)) }
+    ensures err { IfErr result (λ fault. (words : List (List ℕ)) → ParsesAs words options.now →
+        (spec.FailsAtStart (F.reads_as files.now) (F.may_fail files.now) words E.contents devices.old.faults
+        devices.new.faults fault
+        × (devices.new.input ≡ devices.old.input) × (devices.new.output ≡ devices.old.output))
+        ⊎ ((on : World) × spec.IsConfiguredBy (F.reads_as files.now) words on
+        × spec.FailsAs (mode_of options.now) on R.remaining W.contents devices.old.input devices.new.input
+        devices.old.output devices.new.output fault
+        × ReportsAll E.contents devices.old.faults devices.new.faults (spec.skipped_lines on.setting.tech))) }
+    ensures status { IfErr result (λ fault. spec.status_after fault ≡ spec.failed) }
+{
+    match options.mode() {
+        Mode::Alone => serve_script(alloc, files, options, devices),
+        Mode::Batch => serve_batch(rt, alloc, files, options, devices),
+        Mode::Stream => serve_stream(rt, alloc, files, options, devices),
+    }
+}
+
+/// Serves the script of the input by this thread alone, with what the options name.
 fn serve_script<'a, F: Files, R: Read, W: Write, E: Write>(
     alloc: Global,
     files: &F,
     options: &Options<'a>,
-    streams: &mut Streams<R, W, E>,
+    devices: &mut Devices<R, W, E>,
 ) -> Result<(), Fault<'a>>
-    requires input_sound { streams.old.input.failed ≡ false }
-    requires output_sound { streams.old.output.failed ≡ false }
+    requires input_sound { devices.old.input.failed ≡ false }
+    requires output_sound { devices.old.output.failed ≡ false }
     ensures ok { OnOk result ((words : List (List ℕ)) → ParsesAs words options.now → (on : World)
         × spec.IsConfiguredBy (F.reads_as files.now) words on
-        × spec.ServesScript on (R.remaining streams.old.input.device) (W.contents streams.old.output.device)
-        (W.contents streams.new.output.device)
-        × ReportsAll E.contents streams.old.faults streams.new.faults (spec.skipped_lines on.setting.tech)) }
+        × spec.ServesScript on (R.remaining devices.old.input.device) (W.contents devices.old.output.device)
+        (W.contents devices.new.output.device)
+        × ReportsAll E.contents devices.old.faults devices.new.faults (spec.skipped_lines on.setting.tech)) }
     ensures err { IfErr result (λ fault. (words : List (List ℕ)) → ParsesAs words options.now →
-        (spec.FailsAtStart (F.reads_as files.now) (F.may_fail files.now) words E.contents streams.old.faults
-        streams.new.faults fault
-        × (streams.new.input ≡ streams.old.input) × (streams.new.output ≡ streams.old.output))
-        ⊎ ((on : World) × (cause : ServeFault) × (fault ≡ Fault.Serve cause)
-        × spec.IsConfiguredBy (F.reads_as files.now) words on
-        × spec.FailsInScript on (R.remaining streams.old.input.device) (R.remaining streams.new.input.device)
-        (W.contents streams.old.output.device) (W.contents streams.new.output.device)
-        streams.new.input streams.new.output cause
-        × ReportsAll E.contents streams.old.faults streams.new.faults (spec.skipped_lines on.setting.tech))) }
+        (spec.FailsAtStart (F.reads_as files.now) (F.may_fail files.now) words E.contents devices.old.faults
+        devices.new.faults fault
+        × (devices.new.input ≡ devices.old.input) × (devices.new.output ≡ devices.old.output))
+        ⊎ ((on : World) × spec.IsConfiguredBy (F.reads_as files.now) words on
+        × spec.FailsInScript on (R.remaining devices.old.input.device) (R.remaining devices.new.input.device)
+        (W.contents devices.old.output.device) (W.contents devices.new.output.device)
+        devices.new.input devices.new.output fault
+        × ReportsAll E.contents devices.old.faults devices.new.faults (spec.skipped_lines on.setting.tech))) }
     ensures status { IfErr result (λ fault. spec.status_after fault ≡ spec.failed) }
 {
     let Technology { tech, rules, .. } = read_technology(
         alloc,
         files,
         options,
-        &mut streams.faults,
+        &mut devices.faults,
     )?;
     let mut server = start(alloc, files, options, tech, rules)?;
-    serve_at(alloc, &mut server, streams)
+    serve_at(alloc, &mut server, devices)
 }
 
 /// Serves the script of the input at a server.
 fn serve_at<'a, R: Read, W: Write, E: Write>(
     alloc: Global,
     server: &mut Server,
-    streams: &mut Streams<R, W, E>,
+    devices: &mut Devices<R, W, E>,
 ) -> Result<(), Fault<'a>>
-    requires input_sound { streams.old.input.failed ≡ false }
-    requires output_sound { streams.old.output.failed ≡ false }
-    ensures ok { OnOk result (spec.ServesScript (world_of server.old) (R.remaining streams.old.input.device)
-        (W.contents streams.old.output.device) (W.contents streams.new.output.device)) }
-    ensures err { IfErr result (λ fault. (cause : ServeFault) × (fault ≡ Fault.Serve cause)
-        × spec.FailsInScript (world_of server.old) (R.remaining streams.old.input.device)
-        (R.remaining streams.new.input.device) (W.contents streams.old.output.device)
-        (W.contents streams.new.output.device) streams.new.input streams.new.output cause) }
+    requires input_sound { devices.old.input.failed ≡ false }
+    requires output_sound { devices.old.output.failed ≡ false }
+    ensures ok { OnOk result (spec.ServesScript (world_of server.old) (R.remaining devices.old.input.device)
+        (W.contents devices.old.output.device) (W.contents devices.new.output.device)) }
+    ensures err { IfErr result (λ fault. spec.FailsInScript (world_of server.old)
+        (R.remaining devices.old.input.device) (R.remaining devices.new.input.device)
+        (W.contents devices.old.output.device) (W.contents devices.new.output.device)
+        devices.new.input devices.new.output fault) }
     ensures status { IfErr result (λ fault. spec.status_after fault ≡ spec.failed) }
-    ensures faults { streams.new.faults ≡ streams.old.faults }
+    ensures faults { devices.new.faults ≡ devices.old.faults }
 {
-    serve(alloc, server, &mut streams.input, &mut streams.output)?;
+    serve(alloc, server, &mut devices.input, &mut devices.output)?;
     Ok(())
 }
 
-/// Runs the program with workers.
-fn run_crew<T: Threads + Wait + Sync, F: Files, R: Read, W: Write, E: Write>(
-    rt: &T,
-    alloc: Global,
-    files: &F,
-    options: &Options<'_>,
-    streams: &mut Streams<R, W, E>,
-) -> u8
-    requires input_sound { streams.old.input.failed ≡ false }
-    requires output_sound { streams.old.output.failed ≡ false }
-    ensures status { result ≤ spec.failed }
-    ensures served { (words : List (List ℕ)) → ParsesAs words options.now → result ≡ spec.done
-        → (on : World) × spec.IsConfiguredBy (F.reads_as files.now) words on
-        × WritesCrew on (R.remaining streams.old.input.device) (W.contents streams.old.output.device)
-        (W.contents streams.new.output.device) true
-        × ReportsAll E.contents streams.old.faults streams.new.faults (spec.skipped_lines on.setting.tech) }
-    ensures failed { (words : List (List ℕ)) → ParsesAs words options.now → result ≡ spec.failed →
-        (spec.EndsAtStart (F.reads_as files.now) (F.may_fail files.now) words E.contents streams.old.faults
-        streams.new.faults
-        × (streams.new.input ≡ streams.old.input) × (streams.new.output ≡ streams.old.output))
-        ⊎ ((on : World) × spec.IsConfiguredBy (F.reads_as files.now) words on
-        × spec.EndsInCrew on (R.remaining streams.old.input.device) streams.new.input W.contents streams.old.output
-        streams.new.output
-        E.contents streams.old.faults streams.new.faults) }
-{
-    match serve_crew(rt, alloc, files, options, streams) {
-        Ok(()) => DONE,
-        Err(fault) => fail(&mut streams.faults, &fault),
-    }
-}
-
-/// Serves the script of the input with workers, and what the options name.
-fn serve_crew<'a, T: Threads + Wait + Sync, F: Files, R: Read, W: Write, E: Write>(
+/// Serves the script of the input as one batch, with workers and what the options name.
+fn serve_batch<'a, T: Threads + Wait + Sync, F: Files, R: Read, W: Write, E: Write>(
     rt: &T,
     alloc: Global,
     files: &F,
     options: &Options<'a>,
-    streams: &mut Streams<R, W, E>,
+    devices: &mut Devices<R, W, E>,
 ) -> Result<(), Fault<'a>>
-    requires input_sound { streams.old.input.failed ≡ false }
-    requires output_sound { streams.old.output.failed ≡ false }
+    requires input_sound { devices.old.input.failed ≡ false }
+    requires output_sound { devices.old.output.failed ≡ false }
     ensures ok { OnOk result ((words : List (List ℕ)) → ParsesAs words options.now → (on : World)
         × spec.IsConfiguredBy (F.reads_as files.now) words on
-        × WritesCrew on (R.remaining streams.old.input.device) (W.contents streams.old.output.device)
-        (W.contents streams.new.output.device) true
-        × ReportsAll E.contents streams.old.faults streams.new.faults (spec.skipped_lines on.setting.tech)) }
+        × WritesBatch on (R.remaining devices.old.input.device) (W.contents devices.old.output.device)
+        (W.contents devices.new.output.device) true
+        × ReportsAll E.contents devices.old.faults devices.new.faults (spec.skipped_lines on.setting.tech)) }
     ensures err { IfErr result (λ fault. (words : List (List ℕ)) → ParsesAs words options.now →
-        (spec.FailsAtStart (F.reads_as files.now) (F.may_fail files.now) words E.contents streams.old.faults
-        streams.new.faults fault
-        × (streams.new.input ≡ streams.old.input) × (streams.new.output ≡ streams.old.output))
+        (spec.FailsAtStart (F.reads_as files.now) (F.may_fail files.now) words E.contents devices.old.faults
+        devices.new.faults fault
+        × (devices.new.input ≡ devices.old.input) × (devices.new.output ≡ devices.old.output))
         ⊎ ((on : World) × spec.IsConfiguredBy (F.reads_as files.now) words on
-        × spec.FailsInCrew on (R.remaining streams.old.input.device) streams.new.input W.contents streams.old.output
-        streams.new.output fault
-        × ReportsAll E.contents streams.old.faults streams.new.faults (spec.skipped_lines on.setting.tech))) }
+        × spec.FailsInBatch on (R.remaining devices.old.input.device) devices.new.input W.contents devices.old.output
+        devices.new.output fault
+        × ReportsAll E.contents devices.old.faults devices.new.faults (spec.skipped_lines on.setting.tech))) }
     ensures status { IfErr result (λ fault. spec.status_after fault ≡ spec.failed) }
 {
-    let crew = start_crew(alloc, files, options, &mut streams.faults)?;
-    let served = crew.serve(rt, alloc, &mut streams.input, &mut streams.output)?;
+    let batch = start_batch(alloc, files, options, &mut devices.faults)?;
+    let served = batch.serve(rt, alloc, &mut devices.input, &mut devices.output)?;
     if !served.audited {
         return Err(Fault::Differs);
     }
     Ok(())
 }
 
-/// Runs the program with lines that are carried out as they come.
-fn run_live<T: Threads + Wait + Sync, F: Files, R: Read, W: Write + Send, E: Write>(
-    rt: &T,
-    alloc: Global,
-    files: &F,
-    options: &Options<'_>,
-    streams: &mut Streams<R, W, E>,
-) -> u8
-    ensures status { result ≤ spec.failed }
-    ensures served { (words : List (List ℕ)) → ParsesAs words options.now → result ≡ spec.done
-        → (on : World) × spec.IsConfiguredBy (F.reads_as files.now) words on
-        × WritesLines on (R.remaining streams.old.input.device) (W.contents streams.old.output.device)
-        (W.contents streams.new.output.device) true
-        × ReportsAll E.contents streams.old.faults streams.new.faults (spec.skipped_lines on.setting.tech) }
-    ensures failed { (words : List (List ℕ)) → ParsesAs words options.now → result ≡ spec.failed →
-        (spec.EndsAtStart (F.reads_as files.now) (F.may_fail files.now) words E.contents streams.old.faults
-        streams.new.faults
-        × (streams.new.input ≡ streams.old.input) × (streams.new.output ≡ streams.old.output))
-        ⊎ ((on : World) × spec.IsConfiguredBy (F.reads_as files.now) words on
-        × spec.EndsLive on (R.remaining streams.old.input.device) streams.new.input W.contents streams.old.output
-        streams.new.output
-        E.contents streams.old.faults streams.new.faults) }
-{
-    match serve_live(rt, alloc, files, options, streams) {
-        Ok(()) => DONE,
-        Err(fault) => fail(&mut streams.faults, &fault),
-    }
-}
-
-/// Answers the lines of the input as they come, with what the options name.
-fn serve_live<'a, T: Threads + Wait + Sync, F: Files, R: Read, W: Write + Send, E: Write>(
+/// Serves the script of the input as a stream, with what the options name.
+fn serve_stream<'a, T: Threads + Wait + Sync, F: Files, R: Read, W: Write + Send, E: Write>(
     rt: &T,
     alloc: Global,
     files: &F,
     options: &Options<'a>,
-    streams: &mut Streams<R, W, E>,
+    devices: &mut Devices<R, W, E>,
 ) -> Result<(), Fault<'a>>
     ensures ok { OnOk result ((words : List (List ℕ)) → ParsesAs words options.now → (on : World)
         × spec.IsConfiguredBy (F.reads_as files.now) words on
-        × WritesLines on (R.remaining streams.old.input.device) (W.contents streams.old.output.device)
-        (W.contents streams.new.output.device) true
-        × ReportsAll E.contents streams.old.faults streams.new.faults (spec.skipped_lines on.setting.tech)) }
+        × WritesStream on (R.remaining devices.old.input.device) (W.contents devices.old.output.device)
+        (W.contents devices.new.output.device) true
+        × ReportsAll E.contents devices.old.faults devices.new.faults (spec.skipped_lines on.setting.tech)) }
     ensures err { IfErr result (λ fault. (words : List (List ℕ)) → ParsesAs words options.now →
-        (spec.FailsAtStart (F.reads_as files.now) (F.may_fail files.now) words E.contents streams.old.faults
-        streams.new.faults fault
-        × (streams.new.input ≡ streams.old.input) × (streams.new.output ≡ streams.old.output))
+        (spec.FailsAtStart (F.reads_as files.now) (F.may_fail files.now) words E.contents devices.old.faults
+        devices.new.faults fault
+        × (devices.new.input ≡ devices.old.input) × (devices.new.output ≡ devices.old.output))
         ⊎ ((on : World) × spec.IsConfiguredBy (F.reads_as files.now) words on
-        × spec.FailsLive on (R.remaining streams.old.input.device) streams.new.input W.contents streams.old.output
-        streams.new.output fault
-        × ReportsAll E.contents streams.old.faults streams.new.faults (spec.skipped_lines on.setting.tech))) }
+        × spec.FailsInStream on (R.remaining devices.old.input.device) devices.new.input W.contents devices.old.output
+        devices.new.output fault
+        × ReportsAll E.contents devices.old.faults devices.new.faults (spec.skipped_lines on.setting.tech))) }
     ensures status { IfErr result (λ fault. spec.status_after fault ≡ spec.failed) }
 {
-    let lines = start_lines(alloc, files, options, &mut streams.faults)?;
-    let served = lines.serve(rt, alloc, &mut streams.input, &mut streams.output)?;
+    let stream = start_stream(alloc, files, options, &mut devices.faults)?;
+    let served = stream.serve(rt, alloc, &mut devices.input, &mut devices.output)?;
     if !served.audited {
         return Err(Fault::Differs);
     }
     Ok(())
 }
 
-/// Does what comes before lines that are carried out as they come: makes the server, loads cells, and notes what
-/// names mean.
-fn start_lines<'a, F: Files, E: Write>(
+/// Does what comes before a stream: makes the server, loads cells, and notes what names mean.
+fn start_stream<'a, F: Files, E: Write>(
     alloc: Global,
     files: &F,
     options: &Options<'a>,
     faults: &mut Watched<E>,
-) -> Result<Lines, Fault<'a>>
-    ensures ok { IfOk result (λ lines. (words : List (List ℕ)) → ParsesAs words options.now
-        → spec.IsConfiguredBy (F.reads_as files.now) words (world_of lines.server)
-        × ReportsAll E.contents faults.old faults.new (spec.skipped_lines (world_of lines.server).setting.tech)) }
-    ensures idle { IfOk result (λ lines. (world_of lines.server).seats ≡ []) }
-    ensures glossary { IfOk result (λ lines. lines.glossary ≡ glossary_of (world_of lines.server).setting) }
+) -> Result<Stream, Fault<'a>>
+    ensures ok { IfOk result (λ stream. (words : List (List ℕ)) → ParsesAs words options.now
+        → spec.IsConfiguredBy (F.reads_as files.now) words (world_of stream.server)
+        × ReportsAll E.contents faults.old faults.new (spec.skipped_lines (world_of stream.server).setting.tech)) }
+    ensures idle { IfOk result (λ stream. (world_of stream.server).seats ≡ []) }
+    ensures glossary { IfOk result (λ stream. stream.glossary ≡ glossary_of (world_of stream.server).setting) }
     ensures err { IfErr result (λ fault. (words : List (List ℕ)) → ParsesAs words options.now
         → spec.FailsAtStart (F.reads_as files.now)
         (F.may_fail files.now) words E.contents faults.old faults.new fault) }
     ensures status { IfErr result (λ fault. spec.status_after fault ≡ spec.failed) }
 {
-    let Crew {
+    let Batch {
         server,
         tech,
         workers,
-    } = start_crew(alloc, files, options, faults)?;
+    } = start_batch(alloc, files, options, faults)?;
     let Ok(glossary) = Glossary::new(alloc, &server, tech) else {
         return Err(Fault::Memory);
     };
-    Ok(Lines {
+    Ok(Stream {
         server,
         glossary,
         workers,
     })
 }
 
-/// Does what comes before a script with workers: reads the technology for the server and for the crew, makes the server
+/// Does what comes before a batch: reads the technology for the server and for the batch, makes the server
 /// and loads the cells.
-fn start_crew<'a, F: Files, E: Write>(
+fn start_batch<'a, F: Files, E: Write>(
     alloc: Global,
     files: &F,
     options: &Options<'a>,
     faults: &mut Watched<E>,
-) -> Result<Crew, Fault<'a>>
-    ensures ok { IfOk result (λ crew. (words : List (List ℕ)) → ParsesAs words options.now
-        → spec.IsConfiguredBy (F.reads_as files.now) words (world_of crew.server)
-        × ReportsAll E.contents faults.old faults.new (spec.skipped_lines (world_of crew.server).setting.tech)) }
-    ensures idle { IfOk result (λ crew. (world_of crew.server).seats ≡ []) }
-    ensures tech { IfOk result (λ crew. crew.tech ≡ (world_of crew.server).setting.tech) }
+) -> Result<Batch, Fault<'a>>
+    ensures ok { IfOk result (λ batch. (words : List (List ℕ)) → ParsesAs words options.now
+        → spec.IsConfiguredBy (F.reads_as files.now) words (world_of batch.server)
+        × ReportsAll E.contents faults.old faults.new (spec.skipped_lines (world_of batch.server).setting.tech)) }
+    ensures idle { IfOk result (λ batch. (world_of batch.server).seats ≡ []) }
+    ensures tech { IfOk result (λ batch. batch.tech ≡ (world_of batch.server).setting.tech) }
     ensures err { IfErr result (λ fault. (words : List (List ℕ)) → ParsesAs words options.now
         → spec.FailsAtStart (F.reads_as files.now)
         (F.may_fail files.now) words E.contents faults.old faults.new fault) }
@@ -401,7 +366,7 @@ fn start_crew<'a, F: Files, E: Write>(
         return Err(Fault::Memory);
     };
     let server = start(alloc, files, options, tech, rules)?;
-    Ok(Crew {
+    Ok(Batch {
         server,
         tech: again,
         workers: options.workers.get() as usize,

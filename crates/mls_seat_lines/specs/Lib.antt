@@ -1,5 +1,5 @@
 pub mod Glossaries
-pub mod SeatLines
+pub mod Requests
 pub use Rattle.mls_wire.specs.mls_library
 pub use Rattle.mls_live.specs as mls_live
 pub use Rattle.mls_wire.specs.mls_server

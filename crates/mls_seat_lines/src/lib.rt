@@ -1,9 +1,10 @@
-//! Lines of one session: carried out at its seat, with their replies appended to a text, and what names mean there.
+//! Requests of one session: served at its seat, with their replies appended to a text, and what names mean there.
 #![tactic(auto)]
 
 mod glossary;
-mod saying;
-mod seat_line;
+mod request;
+mod served;
+mod serving;
 
 pub use glossary::Glossary;
 pub use mls_live::{Live, Naming, Plain, Seat, work};
@@ -12,5 +13,6 @@ pub use mls_wire::{
     LineReader, Name, NextLine, OpenFault, Quota, Response, ScriptLine, ServeFault, Server,
     SessionId, Sessions, Watched, WriteFault, parse_line, push_response, read_script, send, serve,
 };
-pub use saying::{Voice, say_line};
-pub use seat_line::SeatLine;
+pub use request::Request;
+pub use served::Served;
+pub use serving::{Wording, serve_request};

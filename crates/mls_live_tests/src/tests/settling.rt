@@ -20,7 +20,7 @@ const WORLD: Command = Command::Box {
 const PIECES: u64 = 8192 * 8192;
 
 /// An empty world is done after its first piece, by a worker in one turn, and then by the seat in one.
-pub fn settle<N: Naming, R: Wait + Abort>(stage: &Stage<'_, N, R>) -> Result<(), Fail>
+pub fn settle_world<N: Naming, R: Wait + Abort>(stage: &Stage<'_, N, R>) -> Result<(), Fail>
     requires { N.parts ≡ 65 }
 {
     let mut a = stage.seat(b"a")?;

@@ -53,13 +53,13 @@ impl<'s, N: Naming, R: Wait + Abort> Stage<'s, N, R> {
     }
 
     /// Carries out a command.
-    pub fn call(&self, seat: &mut Seat<'_, N>, command: Command) -> Result<Reply, NotOpen> {
-        seat.call(self.rt, self.alloc, command)
+    pub fn command(&self, seat: &mut Seat<'_, N>, command: Command) -> Result<Reply, NotOpen> {
+        seat.command(self.rt, self.alloc, command)
     }
 
     /// Asserts that a command is done.
     pub fn expect_done(&self, seat: &mut Seat<'_, N>, command: Command) {
-        let reply = self.call(seat, command);
+        let reply = self.command(seat, command);
         assert_eq!(self.rt; reply, Ok(Reply::Done), "to {command:?}");
     }
 
@@ -72,7 +72,7 @@ impl<'s, N: Naming, R: Wait + Abort> Stage<'s, N, R> {
 
     /// Asserts how many squares are marked, and how many areas await checking.
     pub fn expect_count(&self, seat: &mut Seat<'_, N>, errors: u64, pending: usize) {
-        let reply = self.call(seat, Command::Count);
+        let reply = self.command(seat, Command::Count);
         assert_eq!(self.rt; reply, Ok(Reply::Count { errors, pending }));
     }
 

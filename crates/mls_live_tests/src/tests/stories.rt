@@ -9,7 +9,7 @@ use crate::tests::many_seats::retire_many;
 use crate::tests::moments::{close_twice, try_channels};
 use crate::tests::retiring::retire_four;
 use crate::tests::servers::{Room, new_server};
-use crate::tests::settling::settle;
+use crate::tests::settling::settle_world;
 use crate::tests::stages::Stage;
 use mls_live::{Live, Naming};
 use mls_server::Server;
@@ -51,7 +51,7 @@ impl Story {
             Story::Channels => try_channels(stage),
             Story::FewTurns => end_workers(stage),
             Story::Retiring => retire_four(stage),
-            Story::Settling => settle(stage),
+            Story::Settling => settle_world(stage),
         }
     }
 }

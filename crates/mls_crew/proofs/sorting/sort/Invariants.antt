@@ -3,9 +3,9 @@ use Rattle.mls_seat_lines.specs.Glossaries.{book_in}
 use Rattle.mls_crew.specs.Sorting.{Sorts}
 use Rattle.mls_crew.proofs.sorting.sort.Given as goal
 
-abbrev pub invariant-loop-said : goal.invariant-loop-said
-invariant-loop-said g l = record {
-  sorts : Sorts (book_in l.desk.glossary.now) 1 [] (take l.said-index l.script) l.sorting;
+abbrev pub invariant-loop-read : goal.invariant-loop-read
+invariant-loop-read g l = record {
+  sorts : Sorts (book_in l.opener.glossary.now) 1 [] (take l.read-index l.script) l.sorting;
   paired : length l.sorting.opened ≡ vec_len l.seats;
-  numbered : l.n ≡ l.said-index + 1;
+  numbered : l.n ≡ l.read-index + 1;
 }

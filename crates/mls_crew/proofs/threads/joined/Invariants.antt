@@ -4,19 +4,19 @@ use Rattle.mls_crew.specs.Countdowns.{CountsDown}
 use Rattle.mls_crew.specs.Scripts.{GivesPart, no_text}
 use Rattle.mls_crew.proofs.threads.joined.Given as goal
 
-abbrev pub invariant-loop-speaker : goal.invariant-loop-speaker
-invariant-loop-speaker g l = record {
-  part : l.spoken.part ≡ l.fn.spoken.part;
-  count : vec_len l.spoken.seats + vec_len l.speakers ≡ vec_len l.fn.speakers;
-  seats : vec_len l.fn.speakers ≤ vec_capacity l.spoken.seats;
-  room : vec_len l.fn.speakers ≤ vec_capacity l.spoken.groups;
-  fewer : vec_len l.spoken.groups ≤ vec_len l.spoken.seats;
-  wanted : vec_len l.fn.speakers ≡ length l.fn.spoken.part.sorting.now.opened
-      → CountsDown (λ session speaker. speaker.promise ≡ record l.fn.spoken.part { session = session }) (vec_len l.spoken.seats) l.speakers.items;
-  groups : vec_len l.fn.speakers ≡ length l.fn.spoken.part.sorting.now.opened → l.spoken.failed ≡ false → (vec_len l.spoken.groups ≡ vec_len l.spoken.seats)
-      × ((session : ℕ) → session < vec_len l.spoken.groups
-      → GivesPart g.N.Naming.terms (book_in l.fn.spoken.part.glossary.now) l.fn.spoken.part.sorting.now session (get_or l.spoken.groups.items session no_text));
+abbrev pub invariant-loop-handle : goal.invariant-loop-handle
+invariant-loop-handle g l = record {
+  part : l.served.part ≡ l.fn.served.part;
+  count : vec_len l.served.seats + vec_len l.handles ≡ vec_len l.fn.handles;
+  seats : vec_len l.fn.handles ≤ vec_capacity l.served.seats;
+  room : vec_len l.fn.handles ≤ vec_capacity l.served.groups;
+  fewer : vec_len l.served.groups ≤ vec_len l.served.seats;
+  wanted : vec_len l.fn.handles ≡ length l.fn.served.part.sorting.now.opened
+      → CountsDown (λ session handle. handle.promise ≡ record l.fn.served.part { session = session }) (vec_len l.served.seats) l.handles.items;
+  groups : vec_len l.fn.handles ≡ length l.fn.served.part.sorting.now.opened → l.served.failed ≡ false → (vec_len l.served.groups ≡ vec_len l.served.seats)
+      × ((session : ℕ) → session < vec_len l.served.groups
+      → GivesPart g.N.Naming.terms (book_in l.fn.served.part.glossary.now) l.fn.served.part.sorting.now session (get_or l.served.groups.items session no_text));
 }
 
-abbrev pub decreases-loop-speaker : goal.decreases-loop-speaker
-decreases-loop-speaker g l = vec_len l.speakers
+abbrev pub decreases-loop-handle : goal.decreases-loop-handle
+decreases-loop-handle g l = vec_len l.handles

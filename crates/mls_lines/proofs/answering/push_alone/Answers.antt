@@ -7,7 +7,7 @@ use Rattle.mls_lines.proofs.answering.push_alone.Goals as goal
 pub returns-in-Err : goal.returns-in-Err
 returns-in-Err g c =
     let text = response_text (book_in g.N.Scripted.glossary) c.args.line.now.n (Fault c.in-Err.fault) in
-    rw (sym c.says.ensures ∙ c.in-Err.is) (text, (refl, refl), c.push_fault.ensures)
+    rw (sym c.parsed.ensures ∙ c.in-Err.is) (text, (refl, refl), c.push_fault.ensures)
 
 pub returns-in-Ok : goal.returns-in-Ok
-returns-in-Ok g c = rw (sym c.says.ensures ∙ c.in-Ok.is) c.push_said_alone.ensures
+returns-in-Ok g c = rw (sym c.parsed.ensures ∙ c.in-Ok.is) c.push_asked_alone.ensures

@@ -6,4 +6,4 @@ use Rattle.mls_crew.proofs.sorting.Sorting.sort_line.Goals as goal
 
 pub returns-in-Err-clause-sorts : goal.returns-in-Err-clause-sorts
 returns-in-Err-clause-sorts g c =
-    rw c.in-Err.is (on_ok-map c.refuse.result _ _ (λ is. (faulty (book_in c.args.desk.now.glossary.now) c.args.n c.in-Err.fault c.args.self.now.opened, refl, is)) c.refuse.ensures)
+    rw c.in-Err.is (on_ok-map c.refuse.result _ _ (λ is. (faulty (book_in c.args.opener.now.glossary.now) c.args.n c.in-Err.fault c.args.self.now.opened, refl, is)) c.refuse.ensures)

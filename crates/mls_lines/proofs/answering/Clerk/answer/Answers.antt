@@ -19,11 +19,11 @@ says_held book held name line result said same says is = ap (λ (n : Option (Lis
 pub returns-in-Err : goal.returns-in-Err
 returns-in-Err g c =
     let book = book_in g.N.Scripted.glossary in
-    let says = says_held book (name_held (held_by c.args.sitting.now)) c.name_of.result (bytes_of_line c.args.line.now.line) c.says.result (Err c.in-Err.fault) c.name_of.ensures c.says.ensures c.in-Err.is in
+    let says = says_held book (name_held (held_by c.args.sitting.now)) c.name_of.result (bytes_of_line c.args.line.now.line) c.parsed.result (Err c.in-Err.fault) c.name_of.ensures c.parsed.ensures c.in-Err.is in
     let text = response_text book c.args.line.now.n (Fault c.in-Err.fault) in
     rw says (text, true, (refl, refl), c.done.ensures.known, appends_as c.push_fault.result c.done.result _ _ _ c.done.ensures.same c.push_fault.ensures)
 
 pub returns-in-Ok : goal.returns-in-Ok
 returns-in-Ok g c =
-    let says = says_held (book_in g.N.Scripted.glossary) (name_held (held_by c.args.sitting.now)) c.name_of.result (bytes_of_line c.args.line.now.line) c.says.result (Ok c.in-Ok.said) c.name_of.ensures c.says.ensures c.in-Ok.is in
+    let says = says_held (book_in g.N.Scripted.glossary) (name_held (held_by c.args.sitting.now)) c.name_of.result (bytes_of_line c.args.line.now.line) c.parsed.result (Ok c.in-Ok.asked) c.name_of.ensures c.parsed.ensures c.in-Ok.is in
     rw says c.carry_out.ensures

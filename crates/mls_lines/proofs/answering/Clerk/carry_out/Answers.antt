@@ -19,18 +19,18 @@ returns-in-Open g c =
 
 pub returns-in-Audit : goal.returns-in-Audit
 returns-in-Audit g c =
-    let (text, does, appended) = c.say.ensures in
-    rw c.in-Audit.is (text, true, does, c.done-in-Audit.ensures.known, appends_as c.say.result c.done-in-Audit.result _ _ _ c.done-in-Audit.ensures.same appended)
+    let (text, does, appended) = c.serve.ensures in
+    rw c.in-Audit.is (text, true, does, c.done-in-Audit.ensures.known, appends_as c.serve.result c.done-in-Audit.result _ _ _ c.done-in-Audit.ensures.same appended)
 
 pub returns-in-Look : goal.returns-in-Look
 returns-in-Look g c =
-    let (text, does, appended) = c.say-in-Look.ensures in
-    rw c.in-Look.is (text, true, does, c.done-in-Look.ensures.known, appends_as c.say-in-Look.result c.done-in-Look.result _ _ _ c.done-in-Look.ensures.same appended)
+    let (text, does, appended) = c.serve-in-Look.ensures in
+    rw c.in-Look.is (text, true, does, c.done-in-Look.ensures.known, appends_as c.serve-in-Look.result c.done-in-Look.result _ _ _ c.done-in-Look.ensures.same appended)
 
 pub returns-in-Run : goal.returns-in-Run
 returns-in-Run g c =
-    let (text, does, appended) = c.say-in-Run.ensures in
-    rw c.in-Run.is (text, true, does, c.done-in-Run.ensures.known, appends_as c.say-in-Run.result c.done-in-Run.result _ _ _ c.done-in-Run.ensures.same appended)
+    let (text, does, appended) = c.serve-in-Run.ensures in
+    rw c.in-Run.is (text, true, does, c.done-in-Run.ensures.known, appends_as c.serve-in-Run.result c.done-in-Run.result _ _ _ c.done-in-Run.ensures.same appended)
 
 pub returns-in-Step : goal.returns-in-Step
 returns-in-Step g c =

@@ -27,7 +27,7 @@ returns-in_ok-cells-in-Ok g c =
       cell_tiles = number cell_tiles_option 4 c.number_of-in-Ok-3.result cell_tiles_stands (c.number_of-in-Ok-3.ensures (omega arith));
       workers = number workers_option 5 c.number_of-in-Ok-4.result workers_stands (c.number_of-in-Ok-4.ensures (omega arith));
       live = λ asks. c.get_flag.ensures.value (live-named _ command m built taken.matches ∙ asks);
-      batch = λ asks. elim asks [
+      no_live = λ asks. elim asks [
         | inl none ↦ c.get_flag.ensures.none (live-named _ command m built taken.matches ∙ none)
         | inr given ↦ c.get_flag.ensures.other (live-named _ command m built taken.matches ∙ given)
       ];

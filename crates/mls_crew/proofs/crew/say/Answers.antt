@@ -1,9 +1,0 @@
-use Rattle.std.proofs.Common.{IfOk, subst}
-use Rattle.mls_seat_lines.specs.Glossaries.{Glossary, book_in}
-use Rattle.mls_crew.specs.Scripts.{GivesLines}
-use Rattle.mls_crew.proofs.crew.say.Goals as goal
-
-pub returns : goal.returns
-returns g c =
-    subst (λ (glossary : Glossary). IfOk c.say_at.result (λ output. GivesLines g.N.Naming.terms (book_in glossary) c.args.script.now output.audited output.text.items))
-    c.in_ok-glossary.ensures c.say_at.ensures
