@@ -16,13 +16,13 @@ asked_stream words options parsed asks = rw (parsed.live asks) refl
 
 pub asked_alone : (words : List (List ℕ)) (options : Options) → ParsesAs words options → AskForNoLive words → IsNumberFor workers_option words 0 → mode_of options ≡ Alone
 unfolding mode_of
-asked_alone words options parsed no zero =
-    rw (parsed.no_live no, one_number workers_option (number_given workers_option words) options.workers 0 parsed.workers zero) refl
+asked_alone words options parsed no_live zero =
+    rw (parsed.no_live no_live, one_number workers_option (number_given workers_option words) options.workers 0 parsed.workers zero) refl
 
 pub asked_batch :
     (words : List (List ℕ)) (options : Options) (workers : ℕ) → ParsesAs words options → AskForNoLive words → IsNumberFor workers_option words workers → workers ≢ 0
     → mode_of options ≡ Batch
 unfolding mode_of
-asked_batch words options workers parsed no named some =
+asked_batch words options workers parsed no_live named some =
     let same = one_number workers_option (number_given workers_option words) options.workers workers parsed.workers named in
-    rw (parsed.no_live no, ne_eqb options.workers 0 (λ zero. some (sym same ∙ zero))) refl
+    rw (parsed.no_live no_live, ne_eqb options.workers 0 (λ zero. some (sym same ∙ zero))) refl

@@ -1,5 +1,5 @@
 -- What the program does with its words, its technology and its script. This project's own.
-use Rattle.std.specs.Prelude.{◌≡◌, ◌≢◌, ◌⊎◌, ℕ, false, Option, Some, Ok, Err, List, [], ◌∷◌, ◌++◌, map, ⊤}
+use Rattle.std.specs.Prelude.{◌≡◌, ◌≢◌, ◌⊎◌, ℕ, true, false, Option, Some, Ok, Err, List, [], ◌∷◌, ◌++◌, map, ⊤}
 use Rattle.mls_crew.specs.Scripts.{FailsBatch, WritesBatch}
 use Rattle.mls_edgerule.specs.Compiling.{compiled}
 use Rattle.mls_edgerule.specs.declared.edge_rule.EdgeRule.{EdgeRule}

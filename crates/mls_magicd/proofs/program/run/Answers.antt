@@ -39,20 +39,20 @@ returns-in-Err-clause-failed_in_stream g c asks is =
     inl ((c.into.result, faults, sym c.fail.ensures.status ∙ is, start, c.fail.ensures.reported), refl, refl)
 
 pub returns-clause-served : goal.returns-clause-served
-returns-clause-served g c no zero is =
-    rw (asked_alone (map g.S.AsStr.text c.args.words.now) c.in-Ok.options c.in-Ok.ensures no zero) at (c.run_as.ensures.served (map g.S.AsStr.text c.args.words.now) c.in-Ok.ensures is)
+returns-clause-served g c no_live zero is =
+    rw (asked_alone (map g.S.AsStr.text c.args.words.now) c.in-Ok.options c.in-Ok.ensures no_live zero) at (c.run_as.ensures.served (map g.S.AsStr.text c.args.words.now) c.in-Ok.ensures is)
 
 pub returns-clause-failed : goal.returns-clause-failed
-returns-clause-failed g c no zero is =
-    rw (asked_alone (map g.S.AsStr.text c.args.words.now) c.in-Ok.options c.in-Ok.ensures no zero) at (c.run_as.ensures.failed (map g.S.AsStr.text c.args.words.now) c.in-Ok.ensures is)
+returns-clause-failed g c no_live zero is =
+    rw (asked_alone (map g.S.AsStr.text c.args.words.now) c.in-Ok.options c.in-Ok.ensures no_live zero) at (c.run_as.ensures.failed (map g.S.AsStr.text c.args.words.now) c.in-Ok.ensures is)
 
 pub returns-clause-served_in_batch : goal.returns-clause-served_in_batch
-returns-clause-served_in_batch g c no workers named some is =
-    rw (asked_batch (map g.S.AsStr.text c.args.words.now) c.in-Ok.options workers c.in-Ok.ensures no named some) at (c.run_as.ensures.served (map g.S.AsStr.text c.args.words.now) c.in-Ok.ensures is)
+returns-clause-served_in_batch g c no_live workers named some is =
+    rw (asked_batch (map g.S.AsStr.text c.args.words.now) c.in-Ok.options workers c.in-Ok.ensures no_live named some) at (c.run_as.ensures.served (map g.S.AsStr.text c.args.words.now) c.in-Ok.ensures is)
 
 pub returns-clause-failed_in_batch : goal.returns-clause-failed_in_batch
-returns-clause-failed_in_batch g c no workers named some is =
-    rw (asked_batch (map g.S.AsStr.text c.args.words.now) c.in-Ok.options workers c.in-Ok.ensures no named some) at (c.run_as.ensures.failed (map g.S.AsStr.text c.args.words.now) c.in-Ok.ensures is)
+returns-clause-failed_in_batch g c no_live workers named some is =
+    rw (asked_batch (map g.S.AsStr.text c.args.words.now) c.in-Ok.options workers c.in-Ok.ensures no_live named some) at (c.run_as.ensures.failed (map g.S.AsStr.text c.args.words.now) c.in-Ok.ensures is)
 
 pub returns-clause-served_in_stream : goal.returns-clause-served_in_stream
 returns-clause-served_in_stream g c asks is =
