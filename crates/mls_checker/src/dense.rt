@@ -12,7 +12,7 @@ use mls_geom::Rect;
 const LEAST_TILES: usize = 8;
 
 /// How many words of a map take as long as the sides of a tile.
-const WORDS_OF_TILE: usize = 4;
+const WORDS_OF_TILE: usize = 2;
 
 /// Returns the squares of maps of a rectangle and of those round it that the rules can tell from it, if it is dense:
 /// then maps take less time than sides.

@@ -256,7 +256,7 @@ fn words_of(piece: Rect, halo: u32) -> u64 {
 
 /// Whether a piece of so many tiles is dense, a map of which has so many words.
 fn is_dense(tiles: u64, words: u64) -> bool {
-    tiles > (words / 4).saturating_add(8)
+    tiles > (words / 2).saturating_add(8)
 }
 
 /// Asserts that a check that looked at so much went by maps of so many words, or by sides; or that all rules were idle.
