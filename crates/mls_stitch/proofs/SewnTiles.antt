@@ -1,11 +1,12 @@
 -- Tiles are stitched to fresh ones, one by one: each leads to the last of those up to the square beyond it, and the last of these lead back.
-use Rattle.std.proofs.Common.{◌≡◌, ℕ, ◌+◌, ◌-◌, ◌<◌, ◌≤◌, Bool, true, List, length, get_or, All, Some, Option, sym, ap, subst, ◌∙◌, arith, inl, inr}
+use Rattle.std.proofs.Common.{◌≡◌, ℕ, ◌+◌, ◌-◌, ◌<◌, ◌≤◌, Bool, true, List, ◌++◌, length, take, drop, get_or, All, Some, Option, sym, ap, subst, subst₂, ◌∙◌, arith, inl, inr}
 use Rattle.std.specs.List.{AllWithin}
 use Rattle.std.specs.List.Sorted.{IsPermutation}
 use Rattle.std.proofs.lemmas.Bool.{cases_lt, false≢true}
 use Rattle.std.proofs.lemmas.List.Elements.{All-contains, AllWithin-more, Contains-append_cases, at_read}
 use Rattle.std.proofs.lemmas.List.Sorted.{All-permutation, IsPermutation-refl, IsPermutation-sym, IsPermutation-trans}
 use Rattle.std.proofs.lemmas.Option.{same_Some}
+use Rattle.std.proofs.Math.Seq.{drop-append_seam, take-append_seam}
 use Rattle.mls_geom.specs.declared.piece.Piece.{Piece}
 use Rattle.mls_tilepool.specs.declared.tile.Tile.{Tile}
 use Rattle.mls_stitch.proofs.FreshTiles.{entry-keys_of}
@@ -13,7 +14,7 @@ use Rattle.mls_stitch.proofs.SettingStitches.{AreLed-later, IsSet, KeepStitches-
 use Rattle.mls_stitch.proofs.Sides.{HoldsAt-block, placed_tile}
 use Rattle.mls_stitch.proofs.TilesBeyond.{back_early, back_later, last_has_beyond}
 use Rattle.mls_stitch.specs.Lookups.{BeginUpTo, AreSortedFor, HasNoLastWith, IsLastWith, back_of, leads_to}
-use Rattle.mls_stitch.specs.Pending.{AreInPlace, AreLed, AreListed, AreSewn, AwaitStitches, IsLed, IsSewn, IsStitchedAt, KeepStitches}
+use Rattle.mls_stitch.specs.Pending.{AreInPlace, AreLed, AreListed, AreSewn, AreSewnAcross, AwaitStitches, IsLed, IsSewn, IsStitchedAt, KeepStitches}
 use Rattle.mls_stitch.specs.Stitches.{HoldsAt, LeadsTo, beyond, stitch_of}
 use Rattle.mls_stitch.specs.Tilings.{AreTiledAs}
 use Rattle.mls_stitch.specs.Walks.{IsLaid}
@@ -196,68 +197,58 @@ all_stitched {old} {new} {blocks} {around} {fresh} waits keeps led = record {
       right tile block there laid;
 }
 
--- four rounds, over the four sides of the tiles around, of which two sew the fresh tiles to each other
+-- two rounds, one over the upper and the lower sides and one over the right and the left ones
 module _
-    {a b c d e : List (ℕ × Tile)} {blocks : ℕ → Option Piece} {around f g h i j : List LaidTile} (waits : AwaitStitches a blocks around f) (fg : IsPermutation f g) (gh : IsPermutation g h)
-    (hi : IsPermutation h i) (ij : IsPermutation i j) (up : AreSewn a b blocks Rt around g) (rows : AreSewn a b blocks Rt g g) (down : AreSewn b c blocks Lb around h) (right : AreSewn c d blocks Tr around i)
-    (columns : AreSewn c d blocks Tr i i) (left : AreSewn d e blocks Bl around j)
+    {a b c : List (ℕ × Tile)} {blocks : ℕ → Option Piece} {around f g h : List LaidTile} (waits : AwaitStitches a blocks around f) (fg : IsPermutation f g) (gh : IsPermutation g h)
+    (rows : AreSewnAcross a b blocks Rt around g) (columns : AreSewnAcross b c blocks Tr around h)
   where
     -- each list is the first one in another order
-    to_f : IsPermutation g f
-    to_f = IsPermutation-sym f g fg
+    from_g : IsPermutation g f
+    from_g = IsPermutation-sym f g fg
 
     from_h : IsPermutation h f
     from_h = IsPermutation-sym f h (IsPermutation-trans f g h fg gh)
-
-    from_i : IsPermutation i f
-    from_i = IsPermutation-sym f i (IsPermutation-trans f h i (IsPermutation-trans f g h fg gh) hi)
-
-    from_j : IsPermutation j f
-    from_j = IsPermutation-sym f j (IsPermutation-trans f i j (IsPermutation-trans f h i (IsPermutation-trans f g h fg gh) hi) ij)
 
     same : IsPermutation around around
     same = IsPermutation-refl around
 
     -- and what leads where it is to lead after a round still does in the end
-    after_b : KeepStitches b e blocks
-    after_b = KeepStitches-trans down.keeps (KeepStitches-trans right.keeps left.keeps)
+    after_b : KeepStitches b c blocks
+    after_b = columns.onward.keeps
 
-    after_c : KeepStitches c e blocks
-    after_c = KeepStitches-trans right.keeps left.keeps
+    at_end : KeepStitches c c blocks
+    at_end = KeepStitches-refl after_b.place
 
-    at_end : KeepStitches e e blocks
-    at_end = KeepStitches-refl left.keeps.place
-
-    by_lb : AreAllLed e blocks Lb around f
+    by_lb : AreAllLed c blocks Lb around f
     by_lb = record {
-      inward = AreLed-later Lb after_c same from_h down.onward;
-      among = AreLed-later Lb after_b to_f to_f rows.back;
-      outward = AreLed-later Lb after_b to_f same up.back;
+      inward = AreLed-later Lb after_b same from_g rows.back.onward;
+      among = AreLed-later Lb after_b from_g from_g rows.among.back;
+      outward = AreLed-later Lb after_b from_g same rows.onward.back;
     }
 
-    by_rt : AreAllLed e blocks Rt around f
+    by_rt : AreAllLed c blocks Rt around f
     by_rt = record {
-      inward = AreLed-later Rt after_b same to_f up.onward;
-      among = AreLed-later Rt after_b to_f to_f rows.onward;
-      outward = AreLed-later Rt after_c from_h same down.back;
+      inward = AreLed-later Rt after_b same from_g rows.onward.onward;
+      among = AreLed-later Rt after_b from_g from_g rows.among.onward;
+      outward = AreLed-later Rt after_b from_g same rows.back.back;
     }
 
-    by_bl : AreAllLed e blocks Bl around f
+    by_bl : AreAllLed c blocks Bl around f
     by_bl = record {
-      inward = AreLed-later Bl at_end same from_j left.onward;
-      among = AreLed-later Bl left.keeps from_i from_i columns.back;
-      outward = AreLed-later Bl left.keeps from_i same right.back;
+      inward = AreLed-later Bl at_end same from_h columns.back.onward;
+      among = AreLed-later Bl at_end from_h from_h columns.among.back;
+      outward = AreLed-later Bl at_end from_h same columns.onward.back;
     }
 
-    by_tr : AreAllLed e blocks Tr around f
+    by_tr : AreAllLed c blocks Tr around f
     by_tr = record {
-      inward = AreLed-later Tr left.keeps same from_i right.onward;
-      among = AreLed-later Tr left.keeps from_i from_i columns.onward;
-      outward = AreLed-later Tr at_end from_j same left.back;
+      inward = AreLed-later Tr at_end same from_h columns.onward.onward;
+      among = AreLed-later Tr at_end from_h from_h columns.among.onward;
+      outward = AreLed-later Tr at_end from_h same columns.back.back;
     }
 
-    pub AreTiledAs-sewn : AreTiledAs e blocks
-    AreTiledAs-sewn = all_stitched waits (KeepStitches-trans up.keeps after_b) (each_stitch (λ stitch. AreAllLed e blocks stitch around f) by_lb by_bl by_tr by_rt)
+    pub AreTiledAs-sewn : AreTiledAs c blocks
+    AreTiledAs-sewn = all_stitched waits (KeepStitches-trans rows.onward.keeps after_b) (each_stitch (λ stitch. AreAllLed c blocks stitch around f) by_lb by_bl by_tr by_rt)
 
 -- tiles that lie in place, with the listed ones that are to be stitched
 pub record AreReady (tiles : List (ℕ × Tile)) (blocks : ℕ → Option Piece) (around fresh : List LaidTile) : Type 0 where
@@ -275,3 +266,13 @@ pub round :
 round {blocks = blocks} before permuted sews keeps =
     let sewn = sews before.place before.laid_around before.laid_fresh in
     (sewn, record { place = (keeps sewn).place; laid_around = before.laid_around; laid_fresh = All-permutation (IsLaid blocks) _ _ permuted before.laid_fresh })
+
+-- a list is parted in one way at a length, so the tiles wait as the list is parted
+pub AwaitStitches-split :
+    {tiles : List (ℕ × Tile)} {blocks : ℕ → Option Piece} {around fresh beside laid list : List LaidTile} → list ≡ around ++ fresh → list ≡ beside ++ laid → length beside ≡ length around
+    → AwaitStitches tiles blocks around fresh → AwaitStitches tiles blocks beside laid
+AwaitStitches-split {tiles} {blocks} {around} {fresh} {beside} {laid} one other long waits =
+    let whole : beside ++ laid ≡ around ++ fresh = sym other ∙ one in
+    let first : beside ≡ around = sym (take-append_seam beside laid) ∙ ap (take (length beside)) whole ∙ ap (λ n. take n (around ++ fresh)) long ∙ take-append_seam around fresh in
+    let rest : laid ≡ fresh = sym (drop-append_seam beside laid) ∙ ap (drop (length beside)) whole ∙ ap (λ n. drop n (around ++ fresh)) long ∙ drop-append_seam around fresh in
+    subst₂ (AwaitStitches tiles blocks) (sym first) (sym rest) waits

@@ -13,7 +13,7 @@ use Rattle.mls_geom.specs.World.{world}
 use Rattle.mls_geom.specs.declared.piece.Piece.{Piece}
 use Rattle.mls_geom.proofs.Holds.{holds_between, between_holds}
 use Rattle.mls_stitch.proofs.Sides.{left_neighbour, legal-AreBlocks, lower_neighbour, one_block, right_neighbour, upper_neighbour}
-use Rattle.mls_stitch.specs.Lookups.{BeginUpTo, AreSortedFor, back_of, first_square, from_end, is_up_to, leads_to, place_beyond, start_of}
+use Rattle.mls_stitch.specs.Lookups.{BeginUpTo, AreSortedFor, back_of, first_square, from_end, is_up_to, leads_to, place_beyond, rank_of, start_of}
 use Rattle.mls_stitch.specs.Stitches.{beyond}
 use Rattle.mls_stitch.specs.Tilings.{AreBlocks}
 use Rattle.mls_stitch.specs.Walks.{IsLaid}
@@ -248,21 +248,34 @@ module _
         back_is stitch tile.id e.id c.id tile.piece e.piece c.piece tiling laid (listed j d (omega (arith, order, within))) (listed k d within) held
         (up_to_later stitch entries sorted j k d order within) (parted.before k d (omega arith) early)
 
--- the order of places
-abbrev pub place_cmp : Place → Place → Ordering
-place_cmp = then_cmp (on (λ (p : Place). p.line) nat_cmp) (on (λ (p : Place). p.along) nat_cmp)
+-- the number of a place tells its order where places along the line are below the end
+rank_up_to : (p q : Place) → p.along < 4294967296 → q.along < 4294967296 → rank_of p ≤ rank_of q → is_up_to p q ≡ true
+rank_up_to p q below_p below_q order = grind (arith, nat_tests)
 
-place_cmp_total : IsTotalOrder place_cmp
-place_cmp_total = then_total (on_total (λ (p : Place). p.line) nat_cmp_total) (on_total (λ (p : Place). p.along) nat_cmp_total)
+along_below : (stitch : Stitch) (p : Rect) → IsRectangleIn world p → (start_of stitch p).along < 4294967296
+along_below Lb p legal = omega arith
+along_below Bl p legal = omega arith
+along_below Tr p legal = omega (arith, legal.tall, legal.top_in)
+along_below Rt p legal = omega (arith, legal.wide, legal.right_in)
 
-not_above : (p q : Place) → is_lt (place_cmp q p) ≡ false → is_up_to p q ≡ true
-not_above p q not_less = grind (arith, nat_tests)
+not_above : (m n : ℕ) → is_lt (nat_cmp n m) ≡ false → m ≤ n
+not_above m n not_less = grind (arith, nat_tests)
 
 -- a sort by where the tiles begin sorts them
-pub AreSortedFor-from_sort : (stitch : Stitch) (entries : List LaidTile) → IsSortedByKey (λ (entry : LaidTile). start_of stitch entry.piece.rect) place_cmp entries → AreSortedFor stitch entries
-AreSortedFor-from_sort stitch entries sorted = λ i j d below within.
-    not_above (start_of stitch (get_or entries i d).piece.rect) (start_of stitch (get_or entries j d).piece.rect)
-    (sorted_far _ (ranks_by place_cmp_total (λ (entry : LaidTile). start_of stitch entry.piece.rect)) entries sorted i j d (omega arith) within)
+pub AreSortedFor-from_sort :
+    (stitch : Stitch) (entries : List LaidTile) → All (λ entry. IsRectangleIn world entry.piece.rect) entries
+    → IsSortedByKey (λ (entry : LaidTile). rank_of (start_of stitch entry.piece.rect)) nat_cmp entries → AreSortedFor stitch entries
+AreSortedFor-from_sort stitch entries legal sorted = λ i j d below within.
+    let p = get_or entries i d in
+    let q = get_or entries j d in
+    rank_up_to (start_of stitch p.piece.rect) (start_of stitch q.piece.rect) (along_below stitch p.piece.rect (legal i d (omega (arith, below, within)))) (along_below stitch q.piece.rect (legal j d within))
+    (not_above (rank_of (start_of stitch p.piece.rect)) (rank_of (start_of stitch q.piece.rect))
+    (sorted_far _ (ranks_by nat_cmp_total (λ (entry : LaidTile). rank_of (start_of stitch entry.piece.rect))) entries sorted i j d (omega arith) within))
+
+-- tiles that lie in place lie in the world
+pub AreLegal-laid :
+    (blocks : ℕ → Option Piece) (entries : List LaidTile) → AreBlocks blocks → All (IsLaid blocks) entries → All (λ entry. IsRectangleIn world entry.piece.rect) entries
+AreLegal-laid blocks entries tiling laid = λ k d within. legal-AreBlocks blocks (get_or entries k d).id (get_or entries k d).piece tiling (laid k d within)
 
 -- and parts them at each place
 pub IsPartitionedBy-sorted :

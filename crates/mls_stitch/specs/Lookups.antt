@@ -1,6 +1,6 @@
 -- How the tile beyond another is looked up. A stitch sees the squares in lines: columns where it leads to a side, rows where it leads up or down. The
 -- stitches that lead down or to the left see them from the other end, so that all four see the same.
-use Rattle.std.specs.Prelude.{◌≡◌, ℕ, ◌-◌, ◌<◌, ◌≤◌, Bool, true, false, ◌&&◌, ◌||◌, ◌==◌, nat_lt, nat_le, IsTrue, List, length, slice_index_or}
+use Rattle.std.specs.Prelude.{◌≡◌, ℕ, ◌+◌, ◌-◌, ◌*◌, ◌<◌, ◌≤◌, Bool, true, false, ◌&&◌, ◌||◌, ◌==◌, nat_lt, nat_le, IsTrue, List, length, slice_index_or}
 use Rattle.std.specs.List.{AllPairs, AllWithin}
 use Rattle.mls_geom.specs.Rects.{Rect, Point, holds}
 use Rattle.mls_stitch.specs.Stitches.{beyond}
@@ -44,6 +44,10 @@ place_beyond stitch rect = place_of stitch (beyond stitch rect)
 -- by line, and then along it
 abbrev pub is_up_to : Place → Place → Bool
 is_up_to p q = nat_lt p.line q.line || (p.line == q.line && nat_le p.along q.along)
+
+-- as one number, in that order
+abbrev pub rank_of : Place → ℕ
+rank_of place = place.line * 4294967296 + place.along
 
 -- the tiles are in the order in which they begin
 abbrev pub AreSortedFor : Stitch → List LaidTile → Type 0

@@ -72,3 +72,9 @@ pub record AreSewn (old new : List (ℕ × Tile)) (blocks : ℕ → Option Piece
   pub keeps : KeepStitches old new blocks
   pub onward : AreLed new blocks stitch tiles fresh
   pub back : AreLed new blocks (back_of stitch) fresh tiles
+
+-- so do tiles around and fresh ones, over one side of each tile around and over the one across, and the fresh ones over these sides
+pub record AreSewnAcross (old new : List (ℕ × Tile)) (blocks : ℕ → Option Piece) (stitch : Stitch) (around fresh : List LaidTile) : Type 0 where
+  pub onward : AreSewn old new blocks stitch around fresh
+  pub among : AreSewn old new blocks stitch fresh fresh
+  pub back : AreSewn old new blocks (back_of stitch) around fresh

@@ -1,16 +1,20 @@
 //! Looking up the tiles beyond another.
 ghost use Rattle.std.specs.Prelude.{◌≡◌, ◌-◌, ◌<◌, ◌≤◌, ◌↔◌, true, false, IfNone, IfSome, IsSomeAnd, IsTrue, Some, length, slice_get};
-ghost use Rattle.std.specs.List.{AllWithin};
+ghost use Rattle.std.specs.List.{All, AllWithin};
 ghost use Rattle.std.specs.List.Sorted.{IsPermutation};
-ghost use Rattle.mls_geom.specs.Rects.{holds};
+ghost use Rattle.mls_geom.specs.Rects.{IsRectangleIn, holds};
+ghost use Rattle.mls_geom.specs.World.{world};
 ghost use Rattle.mls_stitch.specs.Placing.{inside_only};
-ghost use Rattle.mls_stitch.specs.Lookups.{BeginUpTo, AreSortedFor, HasNoLastWith, IsLastWith, back_of, first_square, is_up_to, leads_to, place_of, start_of};
+ghost use Rattle.mls_stitch.specs.Lookups.{BeginUpTo, AreSortedFor, HasNoLastWith, IsLastWith, back_of, first_square, is_up_to, leads_to, place_of, rank_of, start_of};
 ghost use Rattle.mls_stitch.specs.Stitches.{beyond};
 
 use crate::{LaidTile, Stitch};
 use mls_geom::Rect;
 use mls_tilepool::TileId;
 use std::marker::Model;
+
+/// How many steps a search near another place takes before it looks at all.
+const MOST_STEPS: usize = 8;
 
 /// A square of the world or next to it, counted as [`Point`](mls_geom::Point) is.
 #[derive(Clone, Copy)]
@@ -86,7 +90,7 @@ pub(crate) fn inside_only(stitch: Stitch, rect: Rect, to: Option<TileId>) -> Opt
 
 /// A line of squares as a stitch sees it, and a place along that line. The stitches that lead down or to the left count
 /// both from the other end.
-#[derive(Clone, Copy, PartialEq, Eq, PartialOrd, Ord)]
+#[derive(Clone, Copy)]
 struct Place {
     line: u32,
     along: u32,
@@ -106,11 +110,18 @@ impl Place {
         Place { line, along }
     }
 
+    /// Returns the place as one number, in the order of places.
+    fn rank(self) -> u64
+        ensures { result ≡ rank_of self }
+    {
+        self.line as u64 * 4_294_967_296 + self.along as u64
+    }
+
     /// Returns whether this place comes before `other`, or is the same.
     fn is_up_to(self, other: Place) -> bool
         ensures { result ≡ is_up_to self other }
     {
-        self <= other
+        self.rank() <= other.rank()
     }
 }
 
@@ -123,10 +134,11 @@ fn start(stitch: Stitch, entry: &LaidTile) -> Place
 
 /// Sorts the tiles by where they begin for the tiles whose stitch leads to them.
 pub(crate) fn sort_for(stitch: Stitch, entries: &mut [LaidTile])
+    requires { All (λ entry. IsRectangleIn world entry.piece.rect) entries.old }
     ensures moved { IsPermutation entries.old entries.new }
     ensures sorted { AreSortedFor stitch entries.new }
 {
-    entries.sort_unstable_by_key(|entry| start(stitch, entry));
+    entries.sort_unstable_by_key(|entry| start(stitch, entry).rank());
 }
 
 /// Returns whether the tile at the index begins at the place or before it. None is at the index that ends the list.
@@ -155,8 +167,16 @@ fn are_first(entries: &[LaidTile], stitch: Stitch, place: Place, count: usize) -
     count == 0 || begins_up_to(entries, stitch, place, count - 1)
 }
 
-/// Returns how many of the tiles begin at the place or before it. Looks first whether they are `near` ones, or one
-/// more.
+/// Returns the next count to look at after one that isn't how many of the tiles begin at the place or before it.
+fn next_count(entries: &[LaidTile], stitch: Stitch, place: Place, count: usize) -> usize {
+    if begins_up_to(entries, stitch, place, count) {
+        count.saturating_add(1)
+    } else {
+        count.saturating_sub(1)
+    }
+}
+
+/// Returns how many of the tiles begin at the place or before it. Looks first for a few steps from `near` on.
 fn count_up_to(entries: &[LaidTile], stitch: Stitch, place: Place, near: usize) -> usize
     requires { AreSortedFor stitch entries.now }
     ensures bound { result ≤ length entries.now }
@@ -165,12 +185,12 @@ fn count_up_to(entries: &[LaidTile], stitch: Stitch, place: Place, near: usize) 
     ensures after { AllWithin (λ entry. is_up_to (start_of stitch entry.piece.rect) place ≡ false) entries.now result
         (length entries.now) }
 {
-    if are_first(entries, stitch, place, near) {
-        return near;
-    }
-    let more = near.saturating_add(1);
-    if are_first(entries, stitch, place, more) {
-        return more;
+    let mut count = near;
+    for _ in 0..MOST_STEPS {
+        if are_first(entries, stitch, place, count) {
+            return count;
+        }
+        count = next_count(entries, stitch, place, count);
     }
     entries.partition_point(|entry| start(stitch, entry).is_up_to(place))
 }
@@ -182,8 +202,7 @@ fn leads_to(stitch: Stitch, from: &LaidTile, to: &LaidTile) -> bool
     Square::beyond(stitch, from.piece.rect).is_in(to.piece.rect)
 }
 
-/// Returns how many of the tiles begin at the square beyond `tile` or before it. Looks first whether they are `near`
-/// ones, or one more.
+/// Returns how many of the tiles begin at the square beyond `tile` or before it. Looks first near the first `near` ones.
 pub(crate) fn count_beyond(
     entries: &[LaidTile],
     stitch: Stitch,

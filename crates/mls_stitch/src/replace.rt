@@ -8,7 +8,7 @@ ghost use Rattle.mls_stitch.specs.Replacements.{Replaces, TakePlace};
 use crate::around::list_around;
 use crate::place::place_instead;
 use crate::replacement::Replacement;
-use crate::stitching::stitch_listed;
+use crate::stitching::stitch_from;
 use crate::{Plane, Scratch};
 use mls_geom::{Piece, Rect};
 use mls_tilepool::{NoRoom, Owner, Pool, TileId};
@@ -76,8 +76,13 @@ impl Plane {
         let kept = scratch.entries.len();
         place_instead(pool, &self.owner, touched, fresh, &mut scratch.entries);
         self.hints.keep_last(&scratch.entries);
-        let (around, laid) = scratch.entries.split_at_mut(kept);
-        stitch_listed(pool, &self.owner, around, laid);
+        stitch_from(
+            pool,
+            &self.owner,
+            kept,
+            &mut scratch.entries,
+            &mut scratch.found,
+        );
         Ok(())
     }
 }

@@ -1,14 +1,15 @@
 //! Setting the stitches of tiles that lie in place.
-ghost use Rattle.std.specs.Prelude.{◌≡◌, ◌≤◌, ◌↔◌, ℕ, IfSome, IsSome, IsTrue, Option, Some, length};
+ghost use Rattle.std.specs.Prelude.{◌≡◌, ◌≤◌, ◌↔◌, ◌+◌, ◌++◌, ℕ, IfSome, IsSome, IsTrue, List, Option, Some, length, vec_len, vec_capacity};
 ghost use Rattle.std.specs.List.{All};
 ghost use Rattle.std.specs.List.Sorted.{IsPermutation};
 ghost use Rattle.mls_geom.specs.declared.piece.Piece.{Piece};
 ghost use Rattle.mls_tilepool.specs.Pools.{Changes, count_of, tile_at, tiles_of};
 ghost use Rattle.mls_stitch.specs.Lookups.{BeginUpTo, AreSortedFor, back_of};
-ghost use Rattle.mls_stitch.specs.Pending.{AreInPlace, AreSewn, AwaitStitches, IsLed, IsSewn, KeepStitches};
+ghost use Rattle.mls_stitch.specs.Pending.{AreInPlace, AreSewn, AreSewnAcross, AwaitStitches, IsLed, IsSewn, KeepStitches};
 ghost use Rattle.mls_stitch.specs.Stitches.{stitch_of, with_stitch};
 ghost use Rattle.mls_stitch.specs.Tilings.{AreTiledAs, ChangesOnly};
 ghost use Rattle.mls_stitch.specs.Walks.{IsLaid};
+ghost use Rattle.mls_stitch.specs.declared.laid_tile.LaidTile.{LaidTile};
 
 use crate::lookup::{count_beyond, last_back, last_onward, sort_for};
 use crate::{LaidTile, Stitch};
@@ -142,74 +143,94 @@ fn stitch_sides(
     }
 }
 
-/// Stitches the tiles around and fresh ones together over one side of each tile around, if there are any.
-fn stitch_around(
-    pool: &mut Pool,
-    owner: &Owner,
-    stitch: Stitch,
-    around: &[LaidTile],
-    fresh: &mut [LaidTile],
-)
-    requires { (blocks : ℕ → Option Piece) × AreInPlace (tiles_of pool.old owner.now) blocks
-        × All (IsLaid blocks) around.now × All (IsLaid blocks) fresh.old }
-    ensures sewn { (blocks : ℕ → Option Piece) → AreInPlace (tiles_of pool.old owner.now) blocks
-        → All (IsLaid blocks) around.now → All (IsLaid blocks) fresh.old
-        → AreSewn (tiles_of pool.old owner.now) (tiles_of pool.new owner.now) blocks stitch around.now fresh.new }
-    ensures moved { IsPermutation fresh.old fresh.new }
-    ensures count { count_of pool.new owner.now ≡ count_of pool.old owner.now }
-    ensures only { ChangesOnly pool.old pool.new owner.now }
+/// Fills the list with the tiles.
+fn list_all(tiles: &[LaidTile], list: &mut Vec<LaidTile>)
+    requires { length tiles.now ≤ vec_capacity list.old }
+    ensures same { list.new.items ≡ tiles.now }
+    ensures room { vec_capacity list.new ≡ vec_capacity list.old }
 {
-    if around.is_empty() {
-        return;
+    list.clear();
+    for tile in tiles {
+        list.push_reserved(*tile);
     }
-    sort_for(stitch, fresh);
-    stitch_sides(pool, owner, stitch, around, fresh);
 }
 
-/// Stitches the tiles around and fresh ones together over one side of each tile around, and the fresh ones over the
-/// same side and the one across.
-fn stitch_all(
+/// Stitches tiles around and fresh ones together over one side of each tile around and over the one across, and the
+/// fresh ones over these sides. The fresh ones are listed twice.
+fn stitch_across(
     pool: &mut Pool,
     owner: &Owner,
     stitch: Stitch,
     around: &[LaidTile],
     fresh: &mut [LaidTile],
+    again: &mut [LaidTile],
 )
-    requires { (blocks : ℕ → Option Piece) × AreInPlace (tiles_of pool.old owner.now) blocks
+    requires place { (blocks : ℕ → Option Piece) × AreInPlace (tiles_of pool.old owner.now) blocks
         × All (IsLaid blocks) around.now × All (IsLaid blocks) fresh.old }
+    requires same { IsPermutation fresh.old again.old }
     ensures sewn { (blocks : ℕ → Option Piece) → AreInPlace (tiles_of pool.old owner.now) blocks
         → All (IsLaid blocks) around.now → All (IsLaid blocks) fresh.old
-        → AreSewn (tiles_of pool.old owner.now) (tiles_of pool.new owner.now) blocks stitch around.now fresh.new
-        × AreSewn (tiles_of pool.old owner.now) (tiles_of pool.new owner.now) blocks stitch fresh.new fresh.new }
+        → AreSewnAcross (tiles_of pool.old owner.now) (tiles_of pool.new owner.now) blocks stitch around.now fresh.new }
     ensures moved { IsPermutation fresh.old fresh.new }
+    ensures same { IsPermutation fresh.new again.new }
     ensures count { count_of pool.new owner.now ≡ count_of pool.old owner.now }
     ensures only { ChangesOnly pool.old pool.new owner.now }
 {
     sort_for(stitch, fresh);
+    sort_for(stitch.back(), again);
     stitch_sides(pool, owner, stitch, around, fresh);
-    stitch_sides(pool, owner, stitch, fresh, fresh);
+    // The squares beyond these come in order, from the other end: the next is found near the one before.
+    stitch_sides(pool, owner, stitch, again, fresh);
+    stitch_sides(pool, owner, stitch.back(), around, again);
 }
 
 /// Sets each stitch of the fresh tiles and of those around them that leads from or to a fresh tile. In the order of
-/// n log n for n tiles.
+/// n log n for n tiles. Works in the list `again`.
 pub(crate) fn stitch_listed(
     pool: &mut Pool,
     owner: &Owner,
     around: &[LaidTile],
     fresh: &mut [LaidTile],
+    again: &mut Vec<LaidTile>,
 )
     // Some blocks are those as which the tiles are placed.
-    requires { (blocks : ℕ → Option Piece) × AwaitStitches (tiles_of pool.old owner.now) blocks around.now fresh.old }
+    requires waits { (blocks : ℕ → Option Piece)
+        × AwaitStitches (tiles_of pool.old owner.now) blocks around.now fresh.old }
+    requires room { length fresh.old ≤ vec_capacity again.old }
     ensures stitched { (blocks : ℕ → Option Piece)
         → AwaitStitches (tiles_of pool.old owner.now) blocks around.now fresh.old
         → AreTiledAs (tiles_of pool.new owner.now) blocks }
+    ensures room { vec_capacity again.new ≡ vec_capacity again.old }
     ensures count { count_of pool.new owner.now ≡ count_of pool.old owner.now }
     ensures only { ChangesOnly pool.old pool.new owner.now }
 {
-    // Tiles of one height are in order for both stitches between rows at once, but from the other end, and those of one
-    // width for both between columns.
-    stitch_all(pool, owner, Stitch::Rt, around, fresh);
-    stitch_around(pool, owner, Stitch::Lb, around, fresh);
-    stitch_all(pool, owner, Stitch::Tr, around, fresh);
-    stitch_around(pool, owner, Stitch::Bl, around, fresh);
+    list_all(fresh, again);
+    stitch_across(pool, owner, Stitch::Rt, around, fresh, again);
+    stitch_across(pool, owner, Stitch::Tr, around, fresh, again);
+}
+
+/// Stitches the listed tiles but for the first `kept` ones, which are fresh, and these, which are those around them. Works
+/// in the list `again`.
+pub(crate) fn stitch_from(
+    pool: &mut Pool,
+    owner: &Owner,
+    kept: usize,
+    entries: &mut Vec<LaidTile>,
+    again: &mut Vec<LaidTile>,
+)
+    requires waits { (blocks : ℕ → Option Piece) × (around : List LaidTile) × (fresh : List LaidTile)
+        × (entries.old.items ≡ around ++ fresh) × (length around ≡ kept)
+        × AwaitStitches (tiles_of pool.old owner.now) blocks around fresh }
+    requires room { vec_len entries.old ≤ vec_capacity again.old + kept }
+    ensures stitched { (blocks : ℕ → Option Piece) (around fresh : List LaidTile)
+        → entries.old.items ≡ around ++ fresh → length around ≡ kept
+        → AwaitStitches (tiles_of pool.old owner.now) blocks around fresh
+        → AreTiledAs (tiles_of pool.new owner.now) blocks }
+    ensures room { vec_capacity entries.new ≡ vec_capacity entries.old }
+    ensures again_room { vec_capacity again.new ≡ vec_capacity again.old }
+    ensures count { count_of pool.new owner.now ≡ count_of pool.old owner.now }
+    ensures only { ChangesOnly pool.old pool.new owner.now }
+{
+    let (around, fresh) = entries.split_at_mut(kept);
+    stitch_listed(pool, owner, around, fresh, again);
 }

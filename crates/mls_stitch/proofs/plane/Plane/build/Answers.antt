@@ -13,11 +13,15 @@ index-requires c =
     let long = Lays-long c.place_all.ensures.laid in
     omega (arith, some, long, ap length c.clear.ensures.items, c.place_all.new.entries.ok.0)
 
-pub stitch_listed-requires : goal.stitch_listed-requires
-stitch_listed-requires c =
+pub stitch_listed-requires-clause-waits : goal.stitch_listed-requires-clause-waits
+stitch_listed-requires-clause-waits c =
     let laid = rw (c.requires.empty, c.clear.ensures.items) at c.place_all.ensures.laid in
     let entries = c.place_all.new.entries.items in
     (fresh_at entries, rw c.deref_mut.ensures.value (AwaitStitches-built c.args.pieces.now entries c.requires.strips laid))
+
+pub stitch_listed-requires-clause-room : goal.stitch_listed-requires-clause-room
+stitch_listed-requires-clause-room c =
+    omega (arith, Lays-long c.place_all.ensures.laid, ap length c.clear.ensures.items, ap length c.deref_mut.ensures.value, c.requires.scratch, ap (λ s. s.room) c.scratch.view_is, c.scratch.invariant.1)
 
 pub returns-clause-plane : goal.returns-clause-plane
 returns-clause-plane c =

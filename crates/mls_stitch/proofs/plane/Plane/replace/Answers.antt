@@ -1,11 +1,11 @@
 -- The fresh tiles lie in place of the touched ones, and with those around them wait for their stitches.
-use Rattle.std.proofs.Common.{◌+◌, ◌∙◌, length, length-append, refl, sym, ap, subst, arith}
+use Rattle.std.proofs.Common.{◌+◌, ◌≤◌, ◌∙◌, length, length-append, refl, sym, ap, subst, arith}
 use Rattle.std.proofs.lemmas.Bool.{both_ways}
 use Rattle.mls_tilepool.specs.Pools.{count_of, room_of, tiles_of}
 use Rattle.mls_stitch.specs.Fresh.{replaced}
 use Rattle.mls_stitch.specs.Replacements.{Replaces, TakePlace}
 use Rattle.mls_stitch.specs.Tilings.{HasPlane, block_at}
-use Rattle.mls_stitch.proofs.Laying.{IsOwner-ChangesOnly}
+use Rattle.mls_stitch.proofs.Laying.{IsOwner-ChangesOnly, Lays-long}
 use Rattle.mls_stitch.proofs.PoolChanges.{ChangesOnly-trans}
 use Rattle.mls_stitch.proofs.ReplacedPlanes.{AwaitStitches-parted, Replaces-instead, has_enough, has_no_room, tiles_there, touched_few}
 use Rattle.mls_stitch.proofs.ShownTiles.{KeysDiffer-tiles_of}
@@ -36,12 +36,8 @@ pub place_instead-requires-clause-there : goal.place_instead-requires-clause-the
 place_instead-requires-clause-there c =
     rw c.self.view_is (tiles_there (tiles_of c.args.pool.now c.args.self.now) c.args.touched.now c.requires.pieces.there)
 
-pub split_at_mut-around-requires : goal.split_at_mut-around-requires
-split_at_mut-around-requires c =
-    omega (arith, ap length c.place_instead.ensures.laid.listed, length-append c.list_around.new.entries.items c.place_instead.ensures.laid.laid)
-
-pub stitch_listed-requires : goal.stitch_listed-requires
-stitch_listed-requires c =
+pub stitch_from-requires-clause-waits : goal.stitch_from-requires-clause-waits
+stitch_from-requires-clause-waits c =
     let owner = c.self.inside.owner in
     let tiles = tiles_of c.args.pool.now owner in
     let touched = c.args.touched.now in
@@ -51,8 +47,13 @@ stitch_listed-requires c =
     let lays = c.place_instead.ensures.laid in
     let waits =
     AwaitStitches-parted tiles (tiles_of c.place_instead.new.pool owner) touched fresh c.list_around.new.entries.items c.place_instead.new.entries.items home.plane takes lays
-    c.list_around.ensures.around c.split_at_mut-around.result.0.now c.split_at_mut-around.result.1.now (sym c.deref_mut.ensures.value ∙ c.split_at_mut-around.ensures.value) (omega (arith, c.split_at_mut-around.ensures.front_len, c.len-kept.ensures)) in
-    (replaced (block_at tiles) touched lays.laid, waits)
+    c.list_around.ensures.around c.list_around.new.entries.items lays.laid lays.listed refl in
+    (replaced (block_at tiles) touched lays.laid, c.list_around.new.entries.items, lays.laid, lays.listed, omega (arith, c.len-kept.ensures, c.list_around.new.entries.ok.0), waits)
+
+pub stitch_from-requires-clause-room : goal.stitch_from-requires-clause-room
+stitch_from-requires-clause-room c =
+    omega (arith, Lays-long c.place_instead.ensures.laid, c.requires.pieces_fit, ap (λ s. s.room) c.scratch.view_is, c.scratch.invariant.1, c.list_around.ensures.found_room, c.len-kept.ensures,
+    c.list_around.new.entries.ok.0, c.place_instead.new.entries.ok.0)
 
 pub returns-clause-no_room : goal.returns-clause-no_room
 returns-clause-no_room c =
@@ -67,7 +68,7 @@ pub returns-clause-replaced : goal.returns-clause-replaced
 returns-clause-replaced c =
     let owner = c.self.inside.owner in
     let old = c.args.pool.now in
-    let new = c.stitch_listed.new.pool in
+    let new = c.stitch_from.new.pool in
     let tiles = tiles_of old owner in
     let touched = c.args.touched.now in
     let fresh = c.args.fresh.now in
@@ -76,16 +77,17 @@ returns-clause-replaced c =
     let lays = c.place_instead.ensures.laid in
     let waits =
     AwaitStitches-parted tiles (tiles_of c.place_instead.new.pool owner) touched fresh c.list_around.new.entries.items c.place_instead.new.entries.items home.plane takes lays
-    c.list_around.ensures.around c.split_at_mut-around.result.0.now c.split_at_mut-around.result.1.now (sym c.deref_mut.ensures.value ∙ c.split_at_mut-around.ensures.value) (omega (arith, c.split_at_mut-around.ensures.front_len, c.len-kept.ensures)) in
-    let tiled = c.stitch_listed.ensures.stitched (replaced (block_at tiles) touched lays.laid) waits in
+    c.list_around.ensures.around c.list_around.new.entries.items lays.laid lays.listed refl in
+    let tiled = c.stitch_from.ensures.stitched (replaced (block_at tiles) touched lays.laid) c.list_around.new.entries.items lays.laid lays.listed
+    (omega (arith, c.len-kept.ensures, c.list_around.new.entries.ok.0)) waits in
     subst (λ o. Replaces (tiles_of old o) (tiles_of new o) touched fresh) c.self.view_is
     (Replaces-instead tiles (tiles_of c.place_instead.new.pool owner) touched fresh c.list_around.new.entries.items c.place_instead.new.entries.items home.plane takes lays (tiles_of new owner) tiled
-    (KeysDiffer-tiles_of old owner) (KeysDiffer-tiles_of new owner) c.stitch_listed.ensures.count)
+    (KeysDiffer-tiles_of old owner) (KeysDiffer-tiles_of new owner) c.stitch_from.ensures.count)
 
 pub returns-clause-home : goal.returns-clause-home
 returns-clause-home c =
     let owner = c.self.inside.owner in
-    let new = c.stitch_listed.new.pool in
+    let new = c.stitch_from.new.pool in
     let tiles = tiles_of c.args.pool.now owner in
     let touched = c.args.touched.now in
     let fresh = c.args.fresh.now in
@@ -94,10 +96,11 @@ returns-clause-home c =
     let takes : TakePlace (block_at tiles) touched fresh = rw c.self.view_is c.requires.pieces in
     let waits =
     AwaitStitches-parted tiles (tiles_of c.place_instead.new.pool owner) touched fresh c.list_around.new.entries.items c.place_instead.new.entries.items home.plane takes lays
-    c.list_around.ensures.around c.split_at_mut-around.result.0.now c.split_at_mut-around.result.1.now (sym c.deref_mut.ensures.value ∙ c.split_at_mut-around.ensures.value) (omega (arith, c.split_at_mut-around.ensures.front_len, c.len-kept.ensures)) in
-    let tiled = c.stitch_listed.ensures.stitched (replaced (block_at tiles) touched lays.laid) waits in
+    c.list_around.ensures.around c.list_around.new.entries.items lays.laid lays.listed refl in
+    let tiled = c.stitch_from.ensures.stitched (replaced (block_at tiles) touched lays.laid) c.list_around.new.entries.items lays.laid lays.listed
+    (omega (arith, c.len-kept.ensures, c.list_around.new.entries.ok.0)) waits in
     let here : HasPlane new owner = record {
-      live = IsOwner-ChangesOnly owner (ChangesOnly-trans c.place_instead.ensures.only c.stitch_listed.ensures.only) home.live;
+      live = IsOwner-ChangesOnly owner (ChangesOnly-trans c.place_instead.ensures.only c.stitch_from.ensures.only) home.live;
       plane = IsPlane-AreTiledAs (tiles_of new owner) (replaced (block_at tiles) touched lays.laid) tiled;
     } in
     subst (HasPlane new) c.self.view_is here
