@@ -34,13 +34,7 @@ impl Plane {
         scratch.entries.clear();
         place_all(pool, &owner, pieces, &mut scratch.entries);
         let hints = Hints::new(&scratch.entries[0]);
-        stitch_listed(
-            pool,
-            &owner,
-            &[],
-            &mut scratch.entries,
-            &mut scratch.found,
-        );
+        stitch_listed(pool, &owner, &[], &mut scratch.entries, &mut scratch.found);
         Plane { owner, hints }
     }
 }

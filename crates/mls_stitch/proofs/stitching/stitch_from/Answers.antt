@@ -15,8 +15,15 @@ stitch_listed-requires-clause-waits c =
 
 pub stitch_listed-requires-clause-room : goal.stitch_listed-requires-clause-room
 stitch_listed-requires-clause-room c =
-    omega (arith, ap length c.split_at_mut-around.ensures.value, length-append c.split_at_mut-around.result.0.now c.split_at_mut-around.result.1.now, c.split_at_mut-around.ensures.front_len,
-    ap length c.deref_mut.ensures.value, c.requires.room, c.args.entries.now.ok.0)
+    omega (
+      arith,
+      ap length c.split_at_mut-around.ensures.value,
+      length-append c.split_at_mut-around.result.0.now c.split_at_mut-around.result.1.now,
+      c.split_at_mut-around.ensures.front_len,
+      ap length c.deref_mut.ensures.value,
+      c.requires.room,
+      c.args.entries.now.ok.0,
+    )
 
 pub returns-clause-stitched : goal.returns-clause-stitched
 returns-clause-stitched c = λ blocks around fresh is long waits.

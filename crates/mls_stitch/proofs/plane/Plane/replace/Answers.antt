@@ -52,8 +52,17 @@ stitch_from-requires-clause-waits c =
 
 pub stitch_from-requires-clause-room : goal.stitch_from-requires-clause-room
 stitch_from-requires-clause-room c =
-    omega (arith, Lays-long c.place_instead.ensures.laid, c.requires.pieces_fit, ap (λ s. s.room) c.scratch.view_is, c.scratch.invariant.1, c.list_around.ensures.found_room, c.len-kept.ensures,
-    c.list_around.new.entries.ok.0, c.place_instead.new.entries.ok.0)
+    omega (
+      arith,
+      Lays-long c.place_instead.ensures.laid,
+      c.requires.pieces_fit,
+      ap (λ s. s.room) c.scratch.view_is,
+      c.scratch.invariant.1,
+      c.list_around.ensures.found_room,
+      c.len-kept.ensures,
+      c.list_around.new.entries.ok.0,
+      c.place_instead.new.entries.ok.0,
+    )
 
 pub returns-clause-no_room : goal.returns-clause-no_room
 returns-clause-no_room c =
