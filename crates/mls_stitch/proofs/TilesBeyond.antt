@@ -1,12 +1,11 @@
 -- The tile beyond another is the last one that begins at the square beyond it or before: the tile that has that square begins on its line, and every
 -- tile that begins in between would begin on a square of that one. The tiles whose stitch leads back are the last of those that begin there or before.
-use Rattle.std.proofs.Common.{◌≡◌, ℕ, ◌-◌, ◌<◌, ◌≤◌, IsTrue, true, false, List, length, get_or, All, Option, Some, Ordering, le_refl, sym, ap, ◌∙◌, arith, inl, inr}
-use Rattle.std.specs.Cmp.{IsTotalOrder}
+use Rattle.std.proofs.Common.{◌≡◌, ℕ, ◌-◌, ◌<◌, ◌≤◌, IsTrue, true, false, List, length, get_or, All, Option, Some, le_refl, sym, ap, ◌∙◌, arith, inl, inr}
 use Rattle.std.specs.List.Sorted.{IsPartitionedBy, IsSortedByKey}
-use Rattle.std.specs.Ordering.{is_lt, nat_cmp, on, then_cmp}
+use Rattle.std.specs.Ordering.{is_lt, nat_cmp}
 use Rattle.std.proofs.lemmas.Bool.{cases_lt, false≢true}
 use Rattle.std.proofs.lemmas.Bool.Decides.{nat_tests}
-use Rattle.std.proofs.lemmas.Cmp.{nat_cmp_total, on_total, then_total}
+use Rattle.std.proofs.lemmas.Cmp.{nat_cmp_total}
 use Rattle.std.proofs.lemmas.List.Sorted.{ranks_by, sorted_far}
 use Rattle.mls_geom.specs.Rects.{Rect, Point, IsRectangleIn, holds}
 use Rattle.mls_geom.specs.World.{world}

@@ -1,5 +1,5 @@
 -- The fresh tiles lie in place of the touched ones, and with those around them wait for their stitches.
-use Rattle.std.proofs.Common.{◌+◌, ◌≤◌, ◌∙◌, length, length-append, refl, sym, ap, subst, arith}
+use Rattle.std.proofs.Common.{◌+◌, length, refl, ap, subst, arith}
 use Rattle.std.proofs.lemmas.Bool.{both_ways}
 use Rattle.mls_tilepool.specs.Pools.{count_of, room_of, tiles_of}
 use Rattle.mls_stitch.specs.Fresh.{replaced}
