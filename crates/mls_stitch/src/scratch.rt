@@ -13,7 +13,7 @@ pub struct Scratch {
     room: usize,
     // Twice as many: a tile may be found more than once.
     pub(crate) tiles: Vec<LaidTile>,
-    // What is searched where the tiles stay.
+    // What is searched where the tiles stay, and then tiles to be stitched in another order.
     pub(crate) found: Vec<LaidTile>,
     // Twice as many: tiles to be stitched, and their neighbours.
     pub(crate) entries: Vec<LaidTile>,
