@@ -1,7 +1,6 @@
 -- Squares of frames as places.
 use Rattle.std.proofs.Common.{◌≡◌, ℕ, ◌+◌, ◌-◌, ◌*◌, ◌/◌, ◌%◌, ◌<◌, ◌≤◌, ◌==◌, min, inl, inr, Bool, true, false, ◌||◌, ◌&&◌, List, length, set, refl, sym, ap, ◌∙◌, arith}
 use Rattle.std.specs.Prelude.{bit_or, nat_lt, slice_index}
-use Rattle.std.proofs.Math.Bool.{and-true}
 use Rattle.std.proofs.lemmas.Bool.{cases_eq, cases_lt}
 use Rattle.std.proofs.lemmas.Bool.Decides.{nat_tests}
 use Rattle.std.proofs.lemmas.Nat.{mul-le}
@@ -9,7 +8,7 @@ use Rattle.mls_geom.specs.Directions.{back, moved}
 use Rattle.mls_geom.specs.Rects.{Rect, common, holds}
 use Rattle.mls_geom.specs.declared.direction.Direction.{Direction}
 use Rattle.mls_geom.specs.declared.direction.Direction.TheVariants.{Right, Up, Left, Down}
-use Rattle.mls_geom.proofs.Holds.{holds_between, holds_common}
+use Rattle.mls_geom.proofs.Holds.{holds_between}
 use Rattle.mls_geom.proofs.ShiftedSquares.{at}
 use Rattle.mls_kinds.specs.KindSets.{has_bit}
 use Rattle.mls_checker.specs.Grids.{has_column, is_between}
