@@ -61,9 +61,9 @@ column-row old words s from row word columns v r o k within on here there is bef
       gained-row words (s * row + word) v columns (s * r + o) k within same is ∙ ap (λ b. b || has_bit columns k) before
       ∙ column-here (has_column old (s * r + o) k) (has_bit columns k) from row r o word on at.0 at.1
   | inr other ↦ set-there words (s * row + word) v (s * r + o) k other ∙ before ∙ ap (λ b. has_column old (s * r + o) k || b) (elim (cases_eq r row) [
-      | inl same ↦ other-word (has_bit columns k) from row r o word (λ at. other (ap (λ i. s * i + o) same ∙ ap (λ i. s * row + i) at))
-      | inr apart ↦ other-row (has_bit columns k) from row r o word apart
-    ])
+    | inl same ↦ other-word (has_bit columns k) from row r o word (λ at. other (ap (λ i. s * i + o) same ∙ ap (λ i. s * row + i) at))
+    | inr apart ↦ other-row (has_bit columns k) from row r o word apart
+  ])
 ]
 
 -- ---- squares and steps
@@ -146,4 +146,4 @@ area-word frame area old cur new word bottom top columns is_bottom is_top bits g
     one-word-more (has_place old n) (has_place cur n) (has_place new n) (is_between bottom top r) (has_bit columns k) (holds e x y) w word (before x y here)
     (place-at new n row k at below ∙ gained r w k (omega (arith, lines.0, lines.1)) ∙ ap (λ b. b || (is_between bottom top r && (w == word && has_bit columns k))) (sym (place-at cur n row k at below)))
     (λ same. ap (λ b. is_between bottom top r && b) (bits k below ∙ ap (is_between (e.left - frame.left) (e.right - frame.left)) (column same))
-        ∙ rw (is_bottom, is_top) (lines-of e frame.left frame.bottom x y (omega arith) (omega (arith, lines.0)) (omega arith) (omega (arith, lines.2))))
+    ∙ rw (is_bottom, is_top) (lines-of e frame.left frame.bottom x y (omega arith) (omega (arith, lines.0)) (omega arith) (omega (arith, lines.2))))

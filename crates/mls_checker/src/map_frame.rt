@@ -146,6 +146,13 @@ pub(crate) fn fill_area(map: &mut [u64], frame: Frame, area: &Area)
     for word in left / COLUMNS..(right - 1) / COLUMNS + 1 {
         let first = left.saturating_sub(word * COLUMNS);
         let last = (right - word * COLUMNS).min(COLUMNS);
-        fill_column(map, frame.words(), word as usize, bottom, top, mask(first, last));
+        fill_column(
+            map,
+            frame.words(),
+            word as usize,
+            bottom,
+            top,
+            mask(first, last),
+        );
     }
 }

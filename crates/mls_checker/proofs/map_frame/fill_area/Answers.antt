@@ -18,5 +18,5 @@ loop-word-preserved c =
     let low = ap (λ (e : Rect). e.bottom) whole in
     area-word frame c.args.area.now c.args.map.now c.loop-word.map c.fill_column.new.map c.loop-word.word _ _ _ (omega (arith, bottom, low)) (omega (arith, top, low))
     (λ k below. c.mask.ensures k ∙ between-in-word (e.left - frame.left) (e.right - frame.left) c.saturating_sub-first.result c.min-last.result c.loop-word.word k
-        (omega (arith, left, line)) (omega (arith, right, line)) below)
+    (omega (arith, left, line)) (omega (arith, right, line)) below)
     (rw c.words.ensures at c.fill_column.ensures) c.loop-word.invariant
