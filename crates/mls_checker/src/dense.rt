@@ -17,7 +17,7 @@ const LEAST_TILES: usize = 8;
 const WORDS_OF_TILE: usize = 8;
 
 /// The maps that the rules share take as long as those that so many rules have for themselves, as was measured.
-const RULES_OF_SHARED: usize = 24;
+const RULES_OF_SHARED: usize = 4;
 
 /// Returns how many of the rules aren't idle.
 fn count_active(rules: &[EdgeRule], snapshot: &Snapshot) -> usize {

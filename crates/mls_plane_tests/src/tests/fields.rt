@@ -28,7 +28,7 @@ pub fn words_of(piece: Rect, halo: u32) -> u64 {
 /// Whether a piece of so many tiles is dense, a map of which has so many words, by so many rules that aren't idle.
 pub fn is_dense(tiles: u64, words: u64, rules: u64) -> bool {
     let by_sides = rules.saturating_mul(tiles.saturating_sub(8).saturating_mul(8));
-    by_sides > words.saturating_mul(rules.saturating_add(24))
+    by_sides > words.saturating_mul(rules.saturating_add(4))
 }
 
 /// 16 by 16 blocks on which pieces are painted, for rules of some halo.

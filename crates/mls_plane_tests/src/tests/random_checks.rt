@@ -339,12 +339,7 @@ impl Row {
 }
 
 /// Asserts the same of such a row, and that it goes by maps where it has enough tiles.
-fn expect_same_in_row(
-    rt: &impl Abort,
-    alloc: Global,
-    rules: &Rules,
-    row: Row,
-) -> Result<(), Fail> {
+fn expect_same_in_row(rt: &impl Abort, alloc: Global, rules: &Rules, row: Row) -> Result<(), Fail> {
     let looked = Rect::new(0, 0, 120, 4)?;
     let mut squares = Squares::new(alloc, looked.grow(rules.halo()), 2)?;
     let mut layout = row.layout(alloc, &mut squares)?;
@@ -356,9 +351,9 @@ fn expect_same_in_row(
     Ok(())
 }
 
-/// Numbers of squares round those from which rows are dense: with two rules that aren't idle from 87 tiles on, and with
-/// three from 63 on.
-const SQUARES: [u8; 9] = [0, 1, 23, 24, 25, 26, 36, 37, 38];
+/// Numbers of squares round those from which rows are dense: with two rules that aren't idle from 27 tiles on, and with
+/// three from 23 on.
+const SQUARES: [u8; 9] = [0, 1, 2, 3, 4, 5, 6, 7, 8];
 
 /// Asserts the same of rows of such numbers of squares with these bars.
 fn expect_same_in_rows(
