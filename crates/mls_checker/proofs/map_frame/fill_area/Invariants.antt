@@ -1,4 +1,4 @@
-use Rattle.std.proofs.Common.{◌≡◌, ℕ, ◌-◌, ◌*◌, ◌/◌, ◌||◌, ◌&&◌, nat_lt, true}
+use Rattle.std.proofs.Common.{◌≡◌, ℕ, ◌-◌, ◌/◌, ◌||◌, ◌&&◌, nat_lt, true}
 use Rattle.mls_geom.specs.Rects.{common, holds}
 use Rattle.mls_checker.specs.Maps.{frame_area, has_place, place_of}
 use Rattle.mls_checker.proofs.map_frame.fill_area.Given as goal
