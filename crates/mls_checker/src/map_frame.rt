@@ -1,8 +1,9 @@
 //! Squares as places of a map, row after row.
-ghost use Rattle.std.specs.Prelude.{◌≡◌, ◌+◌, ◌-◌, ◌*◌, ◌<◌, ◌≤◌, ◌||◌, ℕ, true, length, IfSome};
-ghost use Rattle.mls_checker.specs.Grids.{is_between};
+ghost use Rattle.std.specs.Prelude.{◌≡◌, ◌+◌, ◌-◌, ◌*◌, ◌<◌, ◌≤◌, ◌==◌, ◌||◌, ◌&&◌, ℕ, true, length, IfSome};
+ghost use Rattle.mls_checker.specs.Grids.{has_column, is_between};
 ghost use Rattle.mls_checker.specs.Maps.{IsFrame, IsRound, frame_area, has_place, leads_on, place_of, places_of};
 ghost use Rattle.mls_geom.specs.Rects.{holds};
+ghost use Rattle.mls_kinds.specs.KindSets.{has_bit};
 
 use crate::map_steps::Step;
 use crate::words::{COLUMNS, mask};
@@ -112,17 +113,18 @@ impl Frame {
     }
 }
 
-/// Adds the places from one up to another.
-fn fill_places(map: &mut [u64], from: usize, to: usize)
-    requires some { from < to }
-    requires within { to ≤ 64 * length map.old }
-    ensures { (n : ℕ) → has_place map.new n ≡ (has_place map.old n || is_between from to n) }
+/// Adds the columns of a word to one word of each row from one line up to another, in a map whose rows have so many
+/// words.
+fn fill_column(map: &mut [u64], words: usize, word: usize, from: usize, to: usize, columns: u64)
+    requires word { word < words }
+    requires ordered { from ≤ to }
+    requires within { words * to ≤ length map.old }
+    ensures { (row other column : ℕ) → other < words → has_column map.new (words * row + other) column
+        ≡ (has_column map.old (words * row + other) column
+        || (is_between from to row && (other == word && has_bit columns column))) }
 {
-    let end = (to - 1) / 64 + 1;
-    for row in from / 64..end {
-        let first = from.saturating_sub(row * 64);
-        let last = (to - row * 64).min(64);
-        map[row] |= mask(first as u32, last as u32);
+    for row in from..to {
+        map[words * row + word] |= columns;
     }
 }
 
@@ -137,11 +139,20 @@ pub(crate) fn fill_area(map: &mut [u64], frame: Frame, area: &Area)
     if !part.has_squares() {
         return;
     }
-    let from = (part.left - whole.left) as usize;
-    let to = (part.right - whole.left) as usize;
-    let places = 64 * frame.words();
-    for row in part.bottom..part.top {
-        let start = (row - whole.bottom) as usize * places;
-        fill_places(map, start + from, start + to);
+    let left = part.left - whole.left;
+    let right = part.right - whole.left;
+    let bottom = (part.bottom - whole.bottom) as usize;
+    let top = (part.top - whole.bottom) as usize;
+    for word in left / COLUMNS..(right - 1) / COLUMNS + 1 {
+        let first = left.saturating_sub(word * COLUMNS);
+        let last = (right - word * COLUMNS).min(COLUMNS);
+        fill_column(
+            map,
+            frame.words(),
+            word as usize,
+            bottom,
+            top,
+            mask(first, last),
+        );
     }
 }

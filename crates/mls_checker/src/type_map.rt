@@ -193,7 +193,12 @@ fn keep_map(
     Ok(())
 }
 
-/// Keeps a map of each kind that a plane shows, if it is known which.
+/// Whether no maps of kinds are to be kept: there are many maps, or some of the plane, the first of which are of its kinds.
+fn has_kinds(kept: &[TypeMap], plane: PlaneNumber) -> bool {
+    kept.len() >= MOST_MAPS || kept.iter().any(|one| one.plane == plane)
+}
+
+/// Keeps a map of each kind that a plane shows, if it is known which, unless maps of it are kept.
 fn keep_kinds(
     kept: &mut Vec<TypeMap>,
     frame: Frame,
@@ -203,6 +208,9 @@ fn keep_kinds(
     requires { AreTypeMaps frame (copied_layout snapshot.now) kept.old.items }
     ensures { AreTypeMaps frame (copied_layout snapshot.now) kept.new.items }
 {
+    if has_kinds(kept, plane) {
+        return Ok(());
+    }
     let kinds = snapshot.kinds(plane).unwrap_or(KindSet::empty());
     for number in 0..KINDS {
         let kind = Kind::new(number);

@@ -20,7 +20,7 @@ ghost use Rattle.mls_errorplane.specs.DirtyLists.{IsDirtyList, first_piece_of};
 ghost use Rattle.mls_errorplane.specs.MarkPlanes.{most_pieces};
 
 use crate::{Basis, Dirty, Recount, mark};
-use mls_checker::{Finding, Snapshot, check};
+use mls_checker::{Finding, Snapshot, check_here};
 use mls_edgerule::Rules;
 use mls_geom::Rect;
 use mls_layout::{MARK_ROOM, Workspace};
@@ -314,7 +314,7 @@ fn check_piece(
 {
     let zone = piece.grow(basis.rules.halo());
     let snapshot = Snapshot::read(alloc, planes, &basis.uses, zone, workspace)?;
-    check(alloc, basis.rules, snapshot, piece)
+    check_here(alloc, basis.rules, snapshot, piece)
 }
 
 /// Returns whether the finding is of this piece and by these rules.

@@ -2,13 +2,14 @@
 ghost use Rattle.std.specs.Prelude.{◌≡◌};
 ghost use Rattle.mls_checker.specs.Halos.{zone_of};
 
-use crate::tests::checks::{Sides, piece};
+use crate::tests::checks::piece;
 use crate::tests::dice::Dice;
+use crate::tests::fields::{Field, Types, WIDE, is_dense, random_layout, words_of};
 use crate::tests::layouts::Layout;
 use crate::tests::rule_files::{ONE_PLANE, TWO_PLANES, rules_of, rules_of_lines};
 use mls_checker::{Finding, Snapshot, check, why};
 use mls_edgerule::Rules;
-use mls_geom::{Piece, Point, Rect, RectFault};
+use mls_geom::{Piece, Point, Rect};
 use mls_kinds::PlaneNumber;
 use mls_plain_check::{Forbidden, Square, Squares, find};
 use mls_tech::TECHNOLOGY_M;
@@ -25,106 +26,18 @@ const LAYOUTS_A_RULE: usize = 60;
 /// How many layouts are checked on wide fields.
 const WIDE_LAYOUTS: usize = 8;
 
-/// The side of a block of a wide field.
-const WIDE: i32 = 8;
-
-/// The types of the pieces that are painted on a plane, each as likely as the others.
-type Types = [u8; 4];
-
 /// `poly` and `ndiff` on the plane `active`, `m1` on the plane `metal1`.
 const TWO_PLANES_TYPES: &[Types] = &[[1, 1, 2, 0], [3, 3, 3, 0]];
 
 /// `q` on the plane `p`.
 const ONE_PLANE_TYPES: &[Types] = &[[1, 1, 1, 0]];
 
-/// 16 by 16 blocks on which pieces are painted, for rules of some halo.
-#[derive(Clone, Copy)]
-struct Field {
-    left: i32,
-    bottom: i32,
-    /// The side of a block.
-    scale: i32,
-    halo: u32,
-    /// Whether each block is a piece.
-    is_full: bool,
-    /// Whether one plane more is full of bricks, which no rule looks at.
-    has_bricks: bool,
-}
-
-impl Field {
-    /// The field of a layout: in the middle of the world and in its corners in turn. One of two has bricks, and one of
-    /// two is full.
-    fn of_layout(number: usize, scale: i32, halo: u32) -> Field {
-        let low = -1048576;
-        let high = 1048576i32.saturating_sub(scale.saturating_mul(16));
-        let (left, bottom) = match number % 5 {
-            0 => (0, 0),
-            1 => (low, low),
-            2 => (high, low),
-            3 => (low, high),
-            _ => (high, high),
-        };
-        Field {
-            left,
-            bottom,
-            scale,
-            halo,
-            is_full: number % 4 > 1,
-            has_bricks: number % 2 == 1,
-        }
-    }
-
-    /// The squares of some blocks, given the numbers of their lines.
-    fn sides(self, blocks: Sides) -> Sides {
-        let (left, bottom, right, top) = blocks;
-        let x = |line: i32| self.left.saturating_add(line.saturating_mul(self.scale));
-        let y = |line: i32| self.bottom.saturating_add(line.saturating_mul(self.scale));
-        (x(left), y(bottom), x(right), y(top))
-    }
-
-    /// The rectangle of all blocks and of the squares around them: so many that a layout of few tiles goes by sides.
-    fn whole(self) -> Result<Rect, RectFault> {
-        let around = if self.scale == WIDE { 4 } else { 12 };
-        Ok(self.rect((0, 0, 16, 16))?.grow(around))
-    }
-
-    /// The rectangle of all that a check looks at.
-    fn zone(self) -> Result<Rect, RectFault> {
-        Ok(self.whole()?.grow(self.halo))
-    }
-
-    /// Whether a square is of a brick, which is as wide as a block and one square high.
-    fn is_brick(self, column: i32, row: i32) -> bool {
-        let place = if self.scale == WIDE {
-            column >> 3
-        } else {
-            column
-        };
-        (place ^ row) & 1 == 0
-    }
-
-    /// Whether the bricks alone make a piece dense.
-    fn is_dense_by_bricks(self, piece: Rect) -> bool {
-        let squares = piece.grow(self.halo).area().size();
-        let tiles = if self.scale == WIDE {
-            squares / 8
-        } else {
-            squares
-        };
-        self.has_bricks && is_dense(tiles, words_of(piece, self.halo))
-    }
-
-    /// The rectangle of some blocks.
-    fn rect(self, blocks: Sides) -> Result<Rect, RectFault> {
-        let (left, bottom, right, top) = self.sides(blocks);
-        Rect::new(left, bottom, right, top)
-    }
-}
-
 /// Random layouts, and what was seen in them.
 #[derive(Drop)]
 struct Trial {
     dice: Dice,
+    /// The field of the layout that is checked.
+    field: Field,
     /// Whether a check went by sides.
     went_by_sides: bool,
     /// Whether the first rule forbade a square that no other rule did.
@@ -132,60 +45,14 @@ struct Trial {
 }
 
 impl Trial {
-    fn new() -> Trial {
+    fn new(field: Field) -> Trial {
         Trial {
             dice: Dice::new(4),
+            field,
             went_by_sides: false,
             forbade_alone: false,
         }
     }
-}
-
-/// One of the types.
-fn random_type(dice: &mut Dice, types: Types) -> u8 {
-    types[usize::from(dice.roll() % 4)]
-}
-
-/// A random piece on a field.
-fn random_piece(dice: &mut Dice, field: Field, types: Types) -> Result<Piece, RectFault> {
-    let sides = field.sides(dice.area());
-    piece(random_type(dice, types), sides)
-}
-
-/// The blocks of a field, each of a random type.
-fn random_blocks(
-    alloc: Global,
-    dice: &mut Dice,
-    field: Field,
-    types: Types,
-) -> Result<Vec<Piece>, Fail> {
-    let mut pieces = Vec::new(alloc);
-    for row in 0i32..16 {
-        for column in 0i32..16 {
-            let right = column.saturating_add(1);
-            let block = field.sides((column, row, right, row.saturating_add(1)));
-            pieces.push(piece(random_type(dice, types), block)?)?;
-        }
-    }
-    Ok(pieces)
-}
-
-/// Five random pieces on a field, or its blocks.
-fn random_pieces(
-    alloc: Global,
-    dice: &mut Dice,
-    field: Field,
-    types: Types,
-) -> Result<Vec<Piece>, Fail> {
-    if field.is_full {
-        return random_blocks(alloc, dice, field, types);
-    }
-    let mut pieces = Vec::new(alloc);
-    for _ in 0..5 {
-        let next = random_piece(dice, field, types)?;
-        pieces.push(next)?;
-    }
-    Ok(pieces)
 }
 
 /// Asserts that a piece of a copy breaks the rules that the plain program found.
@@ -243,22 +110,6 @@ fn expect_same(
     Ok(finding.edges())
 }
 
-/// Returns how many words a map of a piece has: in each row those of the piece, and on each side those of the halo.
-fn words_of(piece: Rect, halo: u32) -> u64 {
-    let lines = piece.area();
-    let beside = halo.div_ceil(64).saturating_mul(2);
-    let width = lines.right.saturating_sub(lines.left);
-    let height = lines.top.saturating_sub(lines.bottom);
-    let words = width.div_ceil(64).saturating_add(beside);
-    let rows = height.saturating_add(halo.saturating_mul(2));
-    u64::from(words).saturating_mul(u64::from(rows))
-}
-
-/// Whether a piece of so many tiles is dense, a map of which has so many words.
-fn is_dense(tiles: u64, words: u64) -> bool {
-    tiles > (words / 2).saturating_add(8)
-}
-
 /// Asserts that a check that looked at so much went by maps of so many words, or by sides; or that all rules were idle.
 fn expect_way(rt: &impl Abort, looked_at: u64, words: u64, by_maps: bool) {
     assert!(rt;
@@ -293,86 +144,15 @@ fn expect_same_in_pieces(
     layout: &mut Layout,
     forbidden: &Forbidden,
     trial: &mut Trial,
-    field: Field,
 ) -> Result<(), Fail> {
-    let whole = field.whole()?;
-    trial.went_by_sides |= expect_same_in_piece(
-        rt,
-        alloc,
-        rules,
-        layout,
-        forbidden,
-        (field, whole),
-    )?;
+    let field = trial.field;
+    let whole = (field, field.whole()?);
+    trial.went_by_sides |= expect_same_in_piece(rt, alloc, rules, layout, forbidden, whole)?;
     for _ in 0..2 {
         let part = field.rect(trial.dice.area())?;
         expect_same_in_piece(rt, alloc, rules, layout, forbidden, (field, part))?;
     }
     Ok(())
-}
-
-/// The bricks of a field.
-fn bricks(alloc: Global, field: Field) -> Result<Vec<Piece>, Fail> {
-    let zone = field.zone()?;
-    let mut bricks = Vec::new(alloc);
-    for row in zone.bottom()..zone.top() {
-        for column in zone.left()..zone.right() {
-            if field.is_brick(column, row) {
-                let (right, top) = (column.saturating_add(1), row.saturating_add(1));
-                bricks.push(piece(1, (column, row, right, top))?)?;
-            }
-        }
-    }
-    Ok(bricks)
-}
-
-/// A layout with an empty plane more, and one of bricks.
-fn with_bricks(alloc: Global, layout: Layout, field: Field) -> Result<Layout, Fail> {
-    let bricks = bricks(alloc, field)?;
-    layout.with(&[])?.with(&bricks)
-}
-
-/// A layout with one random plane more, which is painted on squares too.
-fn with_random_plane(
-    alloc: Global,
-    layout: Layout,
-    squares: &mut Squares,
-    plane: PlaneNumber,
-    types: Types,
-    dice: &mut Dice,
-    field: Field,
-) -> Result<Layout, Fail> {
-    let pieces = random_pieces(alloc, dice, field, types)?;
-    squares.paint(plane, &pieces);
-    layout.with(&pieces)
-}
-
-/// A random layout with these planes, which is painted on squares too.
-fn random_layout(
-    alloc: Global,
-    squares: &mut Squares,
-    planes: &[Types],
-    dice: &mut Dice,
-    field: Field,
-) -> Result<Layout, Fail> {
-    let mut layout = Layout::new(alloc)?;
-    let mut plane = 0u8;
-    for types in planes {
-        layout = with_random_plane(
-            alloc,
-            layout,
-            squares,
-            PlaneNumber::new(plane),
-            *types,
-            dice,
-            field,
-        )?;
-        plane = plane.saturating_add(1);
-    }
-    if field.has_bricks {
-        layout = with_bricks(alloc, layout, field)?;
-    }
-    Ok(layout)
 }
 
 /// Whether the first rule forbids a square of a piece that no other rule does.
@@ -396,12 +176,11 @@ fn expect_same_as_squares(
     layout: &mut Layout,
     squares: &Squares,
     trial: &mut Trial,
-    field: Field,
 ) -> Result<(), Fail> {
-    let whole = field.whole()?;
+    let whole = trial.field.whole()?;
     let forbidden = find(alloc, rules, squares, whole)?;
     trial.forbade_alone |= forbids_alone(&forbidden, whole);
-    expect_same_in_pieces(rt, alloc, rules, layout, &forbidden, trial, field)
+    expect_same_in_pieces(rt, alloc, rules, layout, &forbidden, trial)
 }
 
 /// Asserts the same of a random layout with these planes, on squares of space.
@@ -412,10 +191,9 @@ fn expect_same_on_squares(
     squares: &mut Squares,
     planes: &[Types],
     trial: &mut Trial,
-    field: Field,
 ) -> Result<(), Fail> {
-    let mut layout = random_layout(alloc, squares, planes, &mut trial.dice, field)?;
-    expect_same_as_squares(rt, alloc, rules, &mut layout, squares, trial, field)
+    let mut layout = random_layout(alloc, squares, planes, &mut trial.dice, trial.field)?;
+    expect_same_as_squares(rt, alloc, rules, &mut layout, squares, trial)
 }
 
 /// Asserts the same of a random layout with these planes.
@@ -425,10 +203,9 @@ fn expect_same_in_layout(
     rules: &Rules,
     planes: &[Types],
     trial: &mut Trial,
-    field: Field,
 ) -> Result<(), Fail> {
-    let mut squares = Squares::new(alloc, field.zone()?, planes.len())?;
-    expect_same_on_squares(rt, alloc, rules, &mut squares, planes, trial, field)
+    let mut squares = Squares::new(alloc, trial.field.zone()?, planes.len())?;
+    expect_same_on_squares(rt, alloc, rules, &mut squares, planes, trial)
 }
 
 /// Asserts the same of random layouts with blocks of this side, and that some were checked by sides. Returns whether
@@ -441,10 +218,10 @@ fn expect_same_by_rules(
     layouts: usize,
     scale: i32,
 ) -> Result<bool, Fail> {
-    let mut trial = Trial::new();
+    let mut trial = Trial::new(Field::of_layout(0, scale, rules.halo()));
     for number in 0..layouts {
-        let field = Field::of_layout(number, scale, rules.halo());
-        expect_same_in_layout(rt, alloc, rules, planes, &mut trial, field)?;
+        trial.field = Field::of_layout(number, scale, rules.halo());
+        expect_same_in_layout(rt, alloc, rules, planes, &mut trial)?;
     }
     assert!(rt; trial.went_by_sides);
     Ok(trial.forbade_alone)
@@ -503,65 +280,107 @@ fn rules_of_every_kind(rt: HostRuntime) -> Result<(), Fail> {
     Ok(())
 }
 
-/// Squares of poly in a row, each apart, and a bar of metal along the lower side of the zone, if there is one.
-fn row_of_squares(
-    alloc: Global,
-    squares: &mut Squares,
-    count: i32,
-    has_bar: bool,
-) -> Result<Layout, Fail> {
-    let mut active = Vec::new(alloc);
-    for number in 0..count {
-        let left = number.saturating_mul(2);
-        active.push(piece(1, (left, 1, left.saturating_add(1), 2))?)?;
-    }
-    let mut metal = Vec::new(alloc);
-    if has_bar {
-        metal.push(piece(3, (-4, -4, 124, -3))?)?;
-    }
-    squares.paint(PlaneNumber::new(0), &active);
-    squares.paint(PlaneNumber::new(1), &metal);
-    Layout::new(alloc)?.with(&active)?.with(&metal)
+/// Squares of poly in a row, each apart, and bars along the lower side of the zone round it.
+#[derive(Clone, Copy)]
+struct Row {
+    squares: u8,
+    has_poly_bar: bool,
+    has_metal_bar: bool,
 }
 
-/// Returns how many tiles the zone round such a row has, and the space round the zone.
-fn tiles_of_row(count: i32, has_bar: bool) -> u64 {
-    let squares = u64::from(count.unsigned_abs());
-    squares
-        .saturating_mul(2)
-        .saturating_add(12)
-        .saturating_add(u64::from(has_bar))
+impl Row {
+    /// What the row has on the first plane.
+    fn active(self, alloc: Global) -> Result<Vec<Piece>, Fail> {
+        let mut active = Vec::new(alloc);
+        for number in 0..self.squares {
+            let left = i32::from(number).saturating_mul(2);
+            active.push(piece(1, (left, 1, left.saturating_add(1), 2))?)?;
+        }
+        if self.has_poly_bar {
+            active.push(piece(1, (-4, -4, 124, -3))?)?;
+        }
+        Ok(active)
+    }
+
+    /// What it has on the second plane.
+    fn metal(self, alloc: Global) -> Result<Vec<Piece>, Fail> {
+        let mut metal = Vec::new(alloc);
+        if self.has_metal_bar {
+            metal.push(piece(3, (-4, -4, 124, -3))?)?;
+        }
+        Ok(metal)
+    }
+
+    /// The layout, which is painted on squares too.
+    fn layout(self, alloc: Global, squares: &mut Squares) -> Result<Layout, Fail> {
+        let active = self.active(alloc)?;
+        let metal = self.metal(alloc)?;
+        squares.paint(PlaneNumber::new(0), &active);
+        squares.paint(PlaneNumber::new(1), &metal);
+        Layout::new(alloc)?.with(&active)?.with(&metal)
+    }
+
+    /// How many tiles the zone round the row has, and the space round the zone.
+    fn tiles(self) -> u64 {
+        u64::from(self.squares)
+            .saturating_mul(2)
+            .saturating_add(12)
+            .saturating_add(u64::from(self.has_poly_bar))
+            .saturating_add(u64::from(self.has_metal_bar))
+    }
+
+    /// How many rules of technology M aren't idle: two of poly alone, and one of metal.
+    fn rules(self) -> u64 {
+        let has_poly = self.squares > 0 || self.has_poly_bar;
+        u64::from(has_poly)
+            .saturating_mul(2)
+            .saturating_add(u64::from(self.has_metal_bar))
+    }
 }
 
 /// Asserts the same of such a row, and that it goes by maps where it has enough tiles.
-fn expect_same_in_row(
-    rt: &impl Abort,
-    alloc: Global,
-    rules: &Rules,
-    count: i32,
-    has_bar: bool,
-) -> Result<(), Fail> {
+fn expect_same_in_row(rt: &impl Abort, alloc: Global, rules: &Rules, row: Row) -> Result<(), Fail> {
     let looked = Rect::new(0, 0, 120, 4)?;
     let mut squares = Squares::new(alloc, looked.grow(rules.halo()), 2)?;
-    let mut layout = row_of_squares(alloc, &mut squares, count, has_bar)?;
+    let mut layout = row.layout(alloc, &mut squares)?;
     let forbidden = find(alloc, rules, &squares, looked)?;
     let looked_at = expect_same(rt, alloc, rules, &mut layout, &forbidden, looked)?;
     // 12 rows of 4 words.
-    expect_way(
-        rt,
-        looked_at,
-        48,
-        is_dense(tiles_of_row(count, has_bar), 48),
-    );
+    let by_maps = is_dense(row.tiles(), 48, row.rules());
+    expect_way(rt, looked_at, 48, by_maps);
+    Ok(())
+}
+
+/// Numbers of squares round those from which rows are dense: with two rules that aren't idle from 27 tiles on, and with
+/// three from 23 on.
+const SQUARES: [u8; 9] = [0, 1, 2, 3, 4, 5, 6, 7, 8];
+
+/// Asserts the same of rows of such numbers of squares with these bars.
+fn expect_same_in_rows(
+    rt: &impl Abort,
+    alloc: Global,
+    rules: &Rules,
+    has_poly_bar: bool,
+    has_metal_bar: bool,
+) -> Result<(), Fail> {
+    for squares in SQUARES {
+        let row = Row {
+            squares,
+            has_poly_bar,
+            has_metal_bar,
+        };
+        expect_same_in_row(rt, alloc, rules, row)?;
+    }
     Ok(())
 }
 
 #[test]
 fn each_number_of_tiles(rt: HostRuntime) -> Result<(), Fail> {
     let rules = rules_of(rt.alloc(), TECHNOLOGY_M)?;
-    for count in 0..40 {
-        expect_same_in_row(&rt, rt.alloc(), &rules, count, false)?;
-        expect_same_in_row(&rt, rt.alloc(), &rules, count, true)?;
+    for has_poly_bar in [false, true] {
+        for has_metal_bar in [false, true] {
+            expect_same_in_rows(&rt, rt.alloc(), &rules, has_poly_bar, has_metal_bar)?;
+        }
     }
     Ok(())
 }
