@@ -1,5 +1,5 @@
-use Rattle.std.proofs.Common.{false, true}
-use Rattle.mls_errorplane.proofs.ShownBeside.{differing-beside, differing-inside}
+use Rattle.std.proofs.Common.{false}
+use Rattle.mls_errorplane.proofs.ShownBeside.{differing-inside}
 use Rattle.mls_errorplane.proofs.differing.differing_in.Goals as goal
 
 pub returns-then-eq-clause-inside : goal.returns-then-eq-clause-inside
