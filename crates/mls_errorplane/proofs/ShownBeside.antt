@@ -1,29 +1,26 @@
 -- Parts beside which tiles show a set of squares.
-use Rattle.std.proofs.Common.{◌≡◌, ℕ, ◌+◌, ◌-◌, ◌<◌, Bool, true, false, cond, if◌then◌else◌, true≢false, inl, inr, List, get_or, length, take, All, refl, sym, ap, subst, ◌∙◌, arith}
+use Rattle.std.proofs.Common.{◌≡◌, ℕ, ◌+◌, ◌-◌, ◌<◌, true, if◌then◌else◌, inl, inr, List, get_or, length, take, All, refl, sym, ap, subst, ◌∙◌, arith}
 use Rattle.std.proofs.Math.Path.{fun_ext}
-use Rattle.std.proofs.lemmas.Bool.{and_from, and_parts, both_ways, cases_Bool, cond-false, cond-true, false_from_ne_true}
+use Rattle.std.proofs.lemmas.Bool.{both_ways, cases_Bool, cond-false, cond-true, false_from_ne_true}
 use Rattle.std.proofs.lemmas.List.Elements.{All-contains, All-push}
 use Rattle.mls_geom.specs.Pictures.{overlaid}
 use Rattle.mls_geom.specs.declared.piece.Piece.{Piece}
 use Rattle.mls_geom.specs.Rects.{Rect, IsRectangleIn, IsWithin, has_squares, holds}
-use Rattle.mls_geom.proofs.Holds.{between_holds, has_squares_lines, holds_between, square_has_squares}
+use Rattle.mls_geom.proofs.Holds.{between_holds, has_squares_lines, holds_between}
 use Rattle.mls_tilepool.specs.Pools.{Pool, tiles_of}
 use Rattle.mls_stitch.specs.Areas.{MeetArea}
 use Rattle.mls_stitch.specs.Tilings.{HasPlane, block_at}
 use Rattle.mls_stitch.specs.declared.laid_tile.LaidTile.{LaidTile}
 use Rattle.mls_paint.specs.Planes.{picture_in}
 use Rattle.mls_checker.specs.Findings.{Finding}
-use Rattle.mls_checker.specs.Marking.{IsBoundsOf, Marks, SquareSet, differing_squares, differs, marks}
+use Rattle.mls_checker.specs.Marking.{Marks, SquareSet, marks}
 use Rattle.mls_checker.proofs.Copying.{found-HasPiece}
 use Rattle.mls_checker.proofs.Prefixes.{take_next}
 use Rattle.mls_errorplane.specs.MarkPlanes.{remarked}
-use Rattle.mls_errorplane.specs.PaintedMarks.{Paints, ShowsBeside, ShowsSet}
+use Rattle.mls_errorplane.specs.PaintedMarks.{Paints, ShowsBeside}
 use Rattle.mls_errorplane.proofs.PaintedPieces.{holds_inside, overlaid-part}
 
 -- ---- areas
-none_held : (e : Rect) (x y : ℕ) → has_squares e ≡ false → holds e x y ≡ false
-none_held e x y none = false_from_ne_true (holds e x y) (λ here. both_ways (has_squares e) none (square_has_squares e x y here))
-
 -- an area with squares, all of them a rectangle's, goes no further than that
 pub within-from_squares : (outer e : Rect) → has_squares e ≡ true → ((x y : ℕ) → holds e x y ≡ true → holds outer x y ≡ true) → IsWithin outer e
 within-from_squares outer e some inside =
@@ -43,10 +40,6 @@ beside-wider :
 beside-wider rect part wider set tile more shows x y here out held =
     shows x y here (false_from_ne_true (holds part x y) (λ inside. both_ways (holds wider x y) out (more x y inside))) held
 
--- and where none are left out, it shows the set
-pub ShowsSet-beside : (rect part : Rect) (set : SquareSet) (tile : LaidTile) → has_squares part ≡ false → ShowsBeside rect part set tile → ShowsSet rect set tile
-ShowsSet-beside rect part set tile none shows x y here held = shows x y here (none_held part x y none) held
-
 -- tiles so far and the next
 pub beside-next :
     (rect part wider : Rect) (set : SquareSet) (tiles : List LaidTile) (i : ℕ) (tile : LaidTile) → i < length tiles → tile ≡ get_or tiles i tile
@@ -55,26 +48,6 @@ pub beside-next :
 beside-next rect part wider set tiles i tile within is more shows new =
     rw (take_next tiles i tile within is)
     (All-push (ShowsBeside rect wider set) (take i tiles) tile (λ k d at. beside-wider rect part wider set (get_or (take i tiles) k d) more (shows k d at)) new)
-
--- ---- bounds of what differs
-not_differing : (wanted is : Bool) → differs wanted is ≡ false → wanted ≡ is
-not_differing true true same = refl
-not_differing true false same = absurd (true≢false same)
-not_differing false true same = absurd (true≢false same)
-not_differing false false same = refl
-
-module _ (found : Marks) (area bounds : Rect) (wanted : Bool) (are : IsBoundsOf (differing_squares found area wanted) bounds) where
-  -- they go no further than the marks' rectangle
-  pub differing-inside : (x y : ℕ) → holds bounds x y ≡ true → holds found.rect x y ≡ true
-  differing-inside = are.least found.rect (λ x y here. (and_parts _ _ (and_parts _ _ here).0).0)
-
-  -- beside them a tile of kind 1, or of kind 0, shows the marks
-  pub differing-beside : (tile : LaidTile) → area ≡ tile.piece.rect → tile.piece.kind ≡ (if wanted then 1 else 0) → ShowsBeside found.rect bounds (marks found) tile
-  differing-beside tile of_tile kind x y here out held =
-      let in_area : holds area x y ≡ true = ap (λ (e : Rect). holds e x y) of_tile ∙ held in
-      let same : differs wanted (marks found x y) ≡ false = false_from_ne_true (differs wanted (marks found x y))
-      (λ differ. both_ways (holds bounds x y) out (are.all x y (and_from _ _ (and_from _ _ here in_area) differ))) in
-      kind ∙ ap (λ (b : Bool). cond {A = ℕ} b 1 0) (not_differing wanted (marks found x y) same)
 
 -- ---- pictures
 -- where tiles show a set beside a part, marking the part anew is marking the rectangle anew
