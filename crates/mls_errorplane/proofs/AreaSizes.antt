@@ -12,7 +12,7 @@ use Rattle.mls_errorplane.specs.DirtyLists.{IsDirtyList, area_of, dropped, piece
 use Rattle.mls_errorplane.specs.MarkPlanes.{most_pieces}
 
 -- a rectangle without squares has the size 0
-pub size_of-none : (e : Rect) → has_squares e ≡ false → size_of e ≡ 0
+size_of-none : (e : Rect) → has_squares e ≡ false → size_of e ≡ 0
 size_of-none e none = elim (cases_lt e.left e.right) [
   | inl wide ↦
       let flat : e.top - e.bottom ≡ 0 = elim (cases_lt e.bottom e.top) [ inl tall ↦ absurd (grind (arith, nat_tests)) | inr flat ↦ omega (arith, flat) ] in

@@ -2,12 +2,11 @@
 use Rattle.std.proofs.Common.{◌≡◌, ℕ, zero, suc, ◌+◌, ◌-◌, ◌<◌, ◌≤◌, Bool, ◌||◌, ◌&&◌, true, false, inl, inr, List, [], ◌∷◌, All, refl, sym, ap, ◌∙◌, arith}
 use Rattle.std.specs.List.{list_any, range_with_len, sum_by}
 use Rattle.std.proofs.lemmas.Bool.{both_ways, cases_Bool, cases_lt, false_from_ne_true}
-use Rattle.std.proofs.lemmas.Bool.Decides.{nat_tests}
 use Rattle.std.proofs.lemmas.List.Elements.{All-head, All-tail}
 use Rattle.std.proofs.lemmas.List.Sums.{sum_by-cons}
 use Rattle.mls_geom.specs.Pictures.{columns}
 use Rattle.mls_geom.specs.Rects.{Rect, IsRectangleIn, common, has_squares, holds, size_of}
-use Rattle.mls_geom.proofs.Holds.{has_squares_lines, holds_between, holds_common}
+use Rattle.mls_geom.proofs.Holds.{has_squares_lines, holds_between, holds_common, square_has_squares}
 use Rattle.mls_errorplane.proofs.RangeSums.{sum_by-plus}
 use Rattle.mls_errorplane.proofs.SquareCounts.{bit, count_in, count_in-agree, count_in-none, count_in-rect}
 
@@ -101,12 +100,9 @@ and_true false = refl
 pub in_common : (extent r : Rect) (x y : ℕ) → holds extent x y ≡ true → holds r x y ≡ holds (common r extent) x y
 in_common e r x y inside = sym (holds_common r e x y ∙ ap (λ b. holds r x y && b) inside ∙ and_true (holds r x y))
 
-has_squares-holds : (e : Rect) (x y : ℕ) → holds e x y ≡ true → has_squares e ≡ true
-has_squares-holds e x y inside = grind (arith, nat_tests)
-
 pub not_common : (extent r : Rect) (x y : ℕ) → has_squares (common r extent) ≡ false → holds extent x y ≡ true → holds r x y ≡ false
 not_common e r x y none inside =
-    false_from_ne_true (holds r x y) (λ here. both_ways (has_squares (common r e)) none (has_squares-holds (common r e) x y (sym (in_common e r x y inside) ∙ here)))
+    false_from_ne_true (holds r x y) (λ here. both_ways (has_squares (common r e)) none (square_has_squares (common r e) x y (sym (in_common e r x y inside) ∙ here)))
 
 -- a rectangle has as many squares in an extent as the lines of their common squares say, if there are any
 pub count_in-meeting : (extent r : Rect) → has_squares (common r extent) ≡ true → count_in extent (holds r) ≡ size_of (common r extent)

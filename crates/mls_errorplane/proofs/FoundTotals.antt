@@ -4,6 +4,7 @@ use Rattle.std.specs.List.{list_any, sum_by}
 use Rattle.std.proofs.lemmas.Bool.{and_from, cases_Bool, or_left, or_right}
 use Rattle.std.proofs.lemmas.List.Folds.{list_any-from_Any}
 use Rattle.mls_geom.specs.Rects.{Rect, IsRectangleIn, common, holds, size_of}
+use Rattle.mls_geom.specs.World.{world}
 use Rattle.mls_geom.proofs.InnerRects.{IsRectangleIn-itself}
 use Rattle.mls_tilepool.specs.Pools.{Pool, tiles_of}
 use Rattle.mls_stitch.specs.Areas.{MeetArea}
@@ -14,7 +15,6 @@ use Rattle.mls_errorplane.specs.MarkPlanes.{is_marked, marked_count}
 use Rattle.mls_errorplane.specs.PaintedMarks.{marked_part, space_size}
 use Rattle.mls_errorplane.proofs.CoveredOnce.{count_in-common, count_in-list, whole-from-both}
 use Rattle.mls_errorplane.proofs.FoundCounts.{in_tile, in_tiles, marked_by_tiles}
-use Rattle.mls_errorplane.proofs.PaintedPieces.{holds_inside}
 use Rattle.mls_errorplane.proofs.ShownMarks.{in_space, space-le}
 use Rattle.mls_errorplane.proofs.SquareCounts.{count_in, count_in-agree, count_in-none}
 
@@ -35,23 +35,23 @@ exactly a b m s size one other all whole = omega (arith, one, other, all, whole)
 
 -- tiles found in a rectangle that have as many squares of it together as it has have its marked squares, each once
 pub marked_count-total :
-    (pool : Pool) (owner : ℕ) (area r : Rect) (tiles listed : List LaidTile) (count : ℕ) → HasPlane pool owner → MeetArea (block_at (tiles_of pool owner)) area tiles
-    → listed ≡ tiles → IsRectangleIn area r → count ≡ sum_by (marked_part r) listed → count + sum_by (space_size r) listed ≡ size_of r
+    (pool : Pool) (owner : ℕ) (r : Rect) (tiles listed : List LaidTile) (count : ℕ) → HasPlane pool owner → MeetArea (block_at (tiles_of pool owner)) r tiles
+    → IsRectangleIn world r → listed ≡ tiles → count ≡ sum_by (marked_part r) listed → count + sum_by (space_size r) listed ≡ size_of r
     → count ≡ marked_count r (picture_in pool owner)
 unfolding marked_count
-marked_count-total pool owner area r tiles listed count plane are same legal counted whole =
+marked_count-total pool owner r tiles listed count plane are legal same counted whole =
     let space : ℕ → ℕ → Bool = λ x y. list_any (λ t. in_space t x y) tiles in
     let covered : (x y : ℕ) → holds r x y ≡ true → (in_tiles tiles x y || space x y) ≡ true = λ x y inside.
-    (let (k, t, at, is, held) = are.whole x y (holds_inside area r x y legal inside) in
+    (let (k, t, at, is, held) = are.whole x y inside in
     elim (cases_Bool (t.piece.kind == 0)) [
       | inl is_space ↦ or_right (in_tiles tiles x y) (space x y) (list_any-from_Any (λ (u : LaidTile). in_space u x y) tiles (k, t, at, is, and_from _ _ is_space held))
       | inr marked ↦ or_left (in_tiles tiles x y) (space x y) (list_any-from_Any (λ (u : LaidTile). in_tile u x y) tiles (k, t, at, is, and_from _ _ (not_of _ marked) held))
     ]) in
     let shown : count_in r (is_marked (picture_in pool owner)) ≡ count_in r (in_tiles tiles) =
-    count_in-agree r (is_marked (picture_in pool owner)) (in_tiles tiles) (λ x y inside. marked_by_tiles pool owner area tiles x y plane are (holds_inside area r x y legal inside)) in
+    count_in-agree r (is_marked (picture_in pool owner)) (in_tiles tiles) (λ x y inside. marked_by_tiles pool owner r tiles x y plane are inside) in
     let sums = λ (list : List LaidTile). sum_by (marked_part r) list in
     let total : sum_by (marked_part r) tiles + sum_by (space_size r) tiles ≡ size_of r =
     subst (λ (list : List LaidTile). sum_by (marked_part r) list + sum_by (space_size r) list ≡ size_of r) same
     (subst (λ n. n + sum_by (space_size r) listed ≡ size_of r) counted whole) in
-    let exact = exactly _ _ _ _ _ (marked-le r tiles) (space-le r tiles) total (whole-from-both r (in_tiles tiles) space (IsRectangleIn-itself area r legal) covered) in
+    let exact = exactly _ _ _ _ _ (marked-le r tiles) (space-le r tiles) total (whole-from-both r (in_tiles tiles) space (IsRectangleIn-itself world r legal) covered) in
     counted ∙ ap sums same ∙ sym exact ∙ sym shown

@@ -1,5 +1,4 @@
 pub mod AlikeLayouts
-pub mod AreaCounts
 pub mod AreaSizes
 pub mod CarriedCounts
 pub mod CarriedMarks

@@ -1,14 +1,14 @@
 -- Pieces that mark more and more squares.
-use Rattle.std.proofs.Common.{◌≡◌, ℕ, ◌==◌, Bool, ◌||◌, not, true, false, cond, List, [], ◌∷◌, ◌++◌, refl, ap, ◌∙◌, arith}
+use Rattle.std.proofs.Common.{◌≡◌, ℕ, Bool, ◌||◌, true, false, cond, List, [], ◌∷◌, ◌++◌, refl, ap, ◌∙◌, arith}
 use Rattle.std.proofs.Math.Path.{fun_ext}
-use Rattle.mls_checker.specs.Marking.{Marks, SquareSet, marks}
+use Rattle.mls_checker.specs.Marking.{SquareSet}
 use Rattle.mls_geom.specs.Pictures.{Picture, overlaid}
 use Rattle.mls_geom.specs.Rects.{Rect, IsRectangleIn, holds}
 use Rattle.mls_geom.specs.declared.piece.Piece.{Piece}
 use Rattle.mls_geom.proofs.Holds.{between_holds, holds_between}
 use Rattle.mls_geom.proofs.Overlays.{overlaid_append}
-use Rattle.mls_errorplane.specs.MarkPlanes.{is_marked, remarked}
-use Rattle.mls_errorplane.specs.PaintedMarks.{AreMarked, Paints}
+use Rattle.mls_errorplane.specs.MarkPlanes.{remarked}
+use Rattle.mls_errorplane.specs.PaintedMarks.{Paints}
 
 -- a square of one more rectangle is marked
 push_at : (in_run in_rect in_set : Bool) (kind : ℕ) → (in_run ≡ true → in_rect ≡ true) → cond in_run 1 (cond in_rect (cond in_set 1 0) kind) ≡ cond in_rect (cond (in_set || in_run) 1 0) kind
@@ -46,14 +46,3 @@ Paints-agree pieces rect a b same paints = λ below x y. paints below x y ∙ ag
 pub overlaid-part :
     (pieces over : List Piece) (part : Rect) (set : SquareSet) (below : Picture) → Paints pieces part set → over ≡ pieces → overlaid below over ≡ remarked below part set
 overlaid-part pieces over part set below paints listed = ap (overlaid below) listed ∙ fun_ext (λ x. fun_ext (λ y. paints below x y))
-
--- a square of a rectangle that was marked anew is marked where the set has it
-marked_at : (here set : Bool) (kind : ℕ) → here ≡ true → not (cond here (cond set 1 0) kind == 0) ≡ set
-marked_at true true kind inside = refl
-marked_at true false kind inside = refl
-marked_at false set kind inside = absurd (cc)
-
--- so a picture in which a part was marked anew has the marked squares there
-pub AreMarked-remarked : (found : Marks) (part : Rect) (below above : Picture) → above ≡ remarked below part (marks found) → AreMarked found part above
-AreMarked-remarked found part below above marked = λ x y here.
-    ap (λ (p : Picture). is_marked p x y) marked ∙ marked_at (holds part x y) (marks found x y) (below x y) here

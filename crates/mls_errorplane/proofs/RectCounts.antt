@@ -5,7 +5,7 @@ use Rattle.std.proofs.lemmas.Bool.{cond-false}
 use Rattle.mls_geom.specs.Pictures.{Picture, columns, empty_picture}
 use Rattle.mls_geom.specs.Rects.{Rect, IsRectangleIn, holds}
 use Rattle.mls_geom.specs.World.{world}
-use Rattle.mls_checker.specs.Marking.{SquareSet}
+use Rattle.mls_checker.specs.Marking.{SquareSet, square_count}
 use Rattle.mls_geom.proofs.CornerCounts.{sum_by-between, sum_by-none}
 use Rattle.mls_geom.proofs.Holds.{between_holds, holds_between}
 use Rattle.mls_errorplane.specs.MarkPlanes.{is_marked, marked_count, remarked}
@@ -33,7 +33,7 @@ and_in true b here = refl
 and_in false b here = absurd (cc)
 
 -- are as many as in the rectangle alone
-pub count_in-part : (e r : Rect) (set : ℕ → ℕ → Bool) → IsRectangleIn e r → count_in e (λ x y. holds r x y && set x y) ≡ count_in r set
+count_in-part : (e r : Rect) (set : ℕ → ℕ → Bool) → IsRectangleIn e r → count_in e (λ x y. holds r x y && set x y) ≡ count_in r set
 count_in-part e r set legal =
     let row = λ (y : ℕ). sum_by (λ x. bit (holds r x y && set x y)) (columns e) in
     let part = λ (y : ℕ). sum_by (λ x. bit (set x y)) (columns r) in
@@ -87,6 +87,29 @@ marked_count-changed e r old new legal same =
     count_in-agree e (λ x y. not (holds r x y) && is_marked new x y) (λ x y. not (holds r x y) && is_marked old x y)
     (λ x y _. outside_same (holds r x y) (is_marked new x y) (is_marked old x y) (λ out. ap (λ n. not (n == 0)) (same x y out))) in
     omega (arith, before, after, others)
+
+-- the marked squares of a picture are counted as those of any set
+marked_count-set : (rect : Rect) (picture : Picture) → marked_count rect picture ≡ square_count rect (is_marked picture)
+unfolding marked_count square_count
+marked_count-set rect picture = refl
+
+square_count-agree : (rect : Rect) (a b : SquareSet) → ((x y : ℕ) → holds rect x y ≡ true → a x y ≡ b x y) → square_count rect a ≡ square_count rect b
+unfolding square_count
+square_count-agree rect a b same = count_in-agree rect a b same
+
+-- a square of a rectangle that was marked anew is marked where the set has it
+marked_at : (here set : Bool) (kind : ℕ) → here ≡ true → not (cond here (cond set 1 0) kind == 0) ≡ set
+marked_at true true kind inside = refl
+marked_at true false kind inside = refl
+marked_at false set kind inside = absurd (cc)
+
+-- so a rectangle that was marked anew has as many marked squares as the set has in it
+pub marked_count-anew :
+    (rect piece : Rect) (set : SquareSet) (old new : Picture) → rect ≡ piece → new ≡ remarked old piece set → marked_count rect new ≡ square_count rect set
+marked_count-anew rect piece set old new of_piece marked =
+    marked_count-set rect new
+    ∙ square_count-agree rect (is_marked new) set (λ x y here.
+    ap (λ (p : Picture). is_marked p x y) marked ∙ marked_at (holds piece x y) (set x y) (old x y) (sym (ap (λ (r : Rect). holds r x y) of_piece) ∙ here))
 
 -- so once a rectangle of the world was marked anew
 pub marked_count-remarked :

@@ -1,19 +1,19 @@
 -- Parts beside which tiles show a set of squares.
-use Rattle.std.proofs.Common.{◌≡◌, ℕ, ◌+◌, ◌<◌, Bool, ◌||◌, true, false, if◌then◌else◌, inl, inr, List, get_or, length, take, All, refl, sym, ap, subst, ◌∙◌, arith}
+use Rattle.std.proofs.Common.{◌≡◌, ℕ, ◌+◌, ◌-◌, ◌<◌, true, if◌then◌else◌, inl, inr, List, get_or, length, take, All, refl, sym, ap, subst, ◌∙◌, arith}
 use Rattle.std.proofs.Math.Path.{fun_ext}
 use Rattle.std.proofs.lemmas.Bool.{both_ways, cases_Bool, cond-false, cond-true, false_from_ne_true}
 use Rattle.std.proofs.lemmas.List.Elements.{All-contains, All-push}
-use Rattle.std.proofs.lemmas.List.Folds.{list_any_more}
 use Rattle.mls_geom.specs.Pictures.{overlaid}
 use Rattle.mls_geom.specs.declared.piece.Piece.{Piece}
-use Rattle.mls_geom.specs.Rects.{Rect, IsRectangleIn, IsWithin, common, holds}
+use Rattle.mls_geom.specs.Rects.{Rect, IsRectangleIn, IsWithin, has_squares, holds}
+use Rattle.mls_geom.proofs.Holds.{between_holds, has_squares_lines, holds_between}
 use Rattle.mls_tilepool.specs.Pools.{Pool, tiles_of}
 use Rattle.mls_stitch.specs.Areas.{MeetArea}
 use Rattle.mls_stitch.specs.Tilings.{HasPlane, block_at}
 use Rattle.mls_stitch.specs.declared.laid_tile.LaidTile.{LaidTile}
 use Rattle.mls_paint.specs.Planes.{picture_in}
 use Rattle.mls_checker.specs.Findings.{Finding}
-use Rattle.mls_checker.specs.Marking.{Marks, SquareSet, marks, squares_of}
+use Rattle.mls_checker.specs.Marking.{Marks, SquareSet, marks}
 use Rattle.mls_checker.proofs.Copying.{found-HasPiece}
 use Rattle.mls_checker.proofs.Prefixes.{take_next}
 use Rattle.mls_errorplane.specs.MarkPlanes.{remarked}
@@ -21,27 +21,16 @@ use Rattle.mls_errorplane.specs.PaintedMarks.{Paints, ShowsBeside}
 use Rattle.mls_errorplane.proofs.PaintedPieces.{holds_inside, overlaid-part}
 
 -- ---- areas
-either : (P : Type 0) (a b : Bool) → (a || b) ≡ true → (a ≡ true → P) → (b ≡ true → P) → P
-either P true b both one other = one refl
-either P false b both one other = other both
-
--- a square of the areas so far and the next is of those or of this
-pub held-next :
-    {P : Type 0} → (areas : List Rect) (i : ℕ) (area : Rect) (x y : ℕ) → i < length areas → area ≡ get_or areas i area → squares_of (take (i + 1) areas) x y ≡ true
-    → (squares_of (take i areas) x y ≡ true → P) → (holds area x y ≡ true → P) → P
-held-next {P} areas i area x y within is here before in_area =
-    let next : squares_of (take (i + 1) areas) x y ≡ (squares_of (take i areas) x y || holds area x y) =
-    list_any_more (λ (e : Rect). holds e x y) areas i area within ∙ ap (λ (e : Rect). squares_of (take i areas) x y || holds e x y) (sym is) in
-    either P (squares_of (take i areas) x y) (holds area x y) (sym next ∙ here) before in_area
-
--- what a rectangle has in common with another one lies in that
-pub common_within : (rect tile part area : Rect) → area ≡ rect → part ≡ common tile area → IsWithin rect part
-common_within rect tile part area is same = rw same (rw is (record {
-  left = omega arith;
-  bottom = omega arith;
-  right = omega arith;
-  top = omega arith;
-}))
+-- an area with squares, all of them a rectangle's, goes no further than that
+pub within-from_squares : (outer e : Rect) → has_squares e ≡ true → ((x y : ℕ) → holds e x y ≡ true → holds outer x y ≡ true) → IsWithin outer e
+within-from_squares outer e some inside =
+    let lines = has_squares_lines e some in
+    let first = holds_between outer e.left e.bottom (inside e.left e.bottom (between_holds e e.left e.bottom (omega arith) lines.0 (omega arith) lines.1)) in
+    let last =
+    holds_between outer (e.right - 1) (e.top - 1)
+    (inside (e.right - 1) (e.top - 1)
+    (between_holds e (e.right - 1) (e.top - 1) (omega (arith, lines.0)) (omega (arith, lines.0)) (omega (arith, lines.1)) (omega (arith, lines.1)))) in
+    record { left = first.0; bottom = first.2; right = omega (arith, last.1, lines.0); top = omega (arith, last.3, lines.1) }
 
 -- ---- tiles
 -- where more squares are left out, a tile shows the set beside them, too

@@ -13,12 +13,12 @@ use Rattle.mls_stitch.specs.Tilings.{HasPlane, block_at}
 use Rattle.mls_stitch.specs.declared.laid_tile.LaidTile.{LaidTile}
 use Rattle.mls_paint.specs.Planes.{picture_in}
 use Rattle.mls_checker.specs.Findings.{Finding}
-use Rattle.mls_checker.specs.Marking.{AreInside, Marks, SquareSet, marks, squares_of}
+use Rattle.mls_checker.specs.Marking.{Marks, SquareSet, marks, square_count}
 use Rattle.mls_checker.proofs.Copying.{found-HasPiece}
 use Rattle.mls_errorplane.specs.MarkPlanes.{remarked}
 use Rattle.mls_errorplane.specs.PaintedMarks.{IsSettled, ShowsSet, space_size}
 use Rattle.mls_errorplane.proofs.CoveredOnce.{apart-from_counts, count_in-common, count_in-list}
-use Rattle.mls_errorplane.proofs.SquareCounts.{count_in, count_in-none, count_in-rect}
+use Rattle.mls_errorplane.proofs.SquareCounts.{count_in, count_in-none}
 
 -- the squares of a tile of space
 abbrev pub in_space : LaidTile → ℕ → ℕ → Bool
@@ -32,11 +32,6 @@ kind-le e r false = let none : count_in e (λ x y. false) ≡ 0 = count_in-none 
 pub space-le : (rect : Rect) (tiles : List LaidTile) → count_in rect (λ x y. list_any (λ tile. in_space tile x y) tiles) ≤ sum_by (space_size rect) tiles
 space-le rect tiles = count_in-list rect in_space (space_size rect) tiles (λ k tile within. kind-le rect (get_or tiles k tile).piece.rect ((get_or tiles k tile).piece.kind == 0))
 
-areas-le : (rect : Rect) (areas : List Rect) → AreInside rect areas → count_in rect (squares_of areas) ≤ sum_by size_of areas
-areas-le rect areas inside =
-    count_in-list rect (λ (area : Rect). holds area) size_of areas
-    (λ k area within. let size : count_in rect (holds (get_or areas k area)) ≡ size_of (get_or areas k area) = count_in-rect rect (get_or areas k area) (inside k area within) in omega (arith, size))
-
 -- ---- the tiles
 not_zero : (n : ℕ) → (n == 0) ≡ false → n ≢ 0
 not_zero n other is = true≢false (sym (eq-eqb n 0 is) ∙ other)
@@ -49,31 +44,33 @@ left_out : (a b : Bool) → (a && b) ≡ false → b ≡ true → a ≡ false
 left_out a true none here = and_true_out a none
 left_out a false none here = absurd (true≢false (sym here))
 
-sum-le : (a b c d e : ℕ) → a ≤ c → b ≤ d → d + c ≤ e → a + b ≤ e
-sum-le a b c d e one other both = omega (arith, one, other, both)
+in_set : (kind : ℕ) (b : Bool) → kind ≢ 0 → kind ≡ (if b then 1 else 0) → b ≡ true
+in_set kind true some is = refl
+in_set kind false some is = absurd (some is)
+
+sum-le : (a b d e : ℕ) → b ≤ d → d + a ≤ e → a + b ≤ e
+sum-le a b d e few both = omega (arith, few, both)
 
 -- settled tiles show the set, if the set and the space among them have no more squares than the rectangle
 pub ShowsSet-settled :
-    (tiles : List LaidTile) (rect : Rect) (areas : List Rect) → AreInside rect areas
-    → ((x y : ℕ) → holds rect x y ≡ true → Any (λ tile. IsTrue (holds tile.piece.rect x y)) tiles) → All (IsSettled rect (squares_of areas)) tiles
-    → sum_by (space_size rect) tiles + sum_by size_of areas ≤ size_of rect → All (ShowsSet rect (squares_of areas)) tiles
-ShowsSet-settled tiles rect areas inside whole settled few k d within x y here held =
+    (tiles : List LaidTile) (rect : Rect) (set : SquareSet) → ((x y : ℕ) → holds rect x y ≡ true → Any (λ tile. IsTrue (holds tile.piece.rect x y)) tiles)
+    → All (IsSettled rect set) tiles → sum_by (space_size rect) tiles + square_count rect set ≤ size_of rect → All (ShowsSet rect set) tiles
+unfolding square_count
+ShowsSet-settled tiles rect set whole settled few k d within x y here held =
     let tile = get_or tiles k d in
     let space : ℕ → ℕ → Bool = λ x y. list_any (λ t. in_space t x y) tiles in
-    let covered : (x y : ℕ) → holds rect x y ≡ true → (squares_of areas x y || space x y) ≡ true = λ x y inside.
+    let covered : (x y : ℕ) → holds rect x y ≡ true → (set x y || space x y) ≡ true = λ x y inside.
     (let (i, t, at, is, holding) = whole x y inside in
     elim (cases_Bool (t.piece.kind == 0)) [
-      | inl is_space ↦ or_right (squares_of areas x y) (space x y) (list_any-from_Any (λ (u : LaidTile). in_space u x y) tiles (i, t, at, is, and_from _ _ is_space holding))
-      | inr marked ↦ or_left (squares_of areas x y) (space x y)
-          ((All-contains (IsSettled rect (squares_of areas)) tiles t settled (i, at, is) x y inside holding (not_zero t.piece.kind marked)).1)
+      | inl is_space ↦ or_right (set x y) (space x y) (list_any-from_Any (λ (u : LaidTile). in_space u x y) tiles (i, t, at, is, and_from _ _ is_space holding))
+      | inr marked ↦ (let some = not_zero t.piece.kind marked in
+          or_left (set x y) (space x y) (in_set t.piece.kind (set x y) some (All-contains (IsSettled rect set) tiles t settled (i, at, is) some x y inside holding)))
     ]) in
-    let apart =
-    apart-from_counts rect (squares_of areas) space covered (sum-le _ _ _ _ _ (areas-le rect areas inside) (space-le rect tiles) few) x y here in
+    let apart = apart-from_counts rect set space covered (sum-le (count_in rect set) _ _ _ (space-le rect tiles) few) x y here in
     elim (cases_Bool (tile.piece.kind == 0)) [
       | inl is_space ↦ (let there = list_any_at (λ (t : LaidTile). in_space t x y) tiles k d within (and_from _ _ is_space held) in
-          eqb-true tile.piece.kind 0 is_space ∙ sym (cond-false (squares_of areas x y) 1 0 (left_out (squares_of areas x y) (space x y) apart there)))
-      | inr marked ↦ (let both = settled k d within x y here held (not_zero tile.piece.kind marked) in
-          both.0 ∙ sym (cond-true (squares_of areas x y) 1 0 both.1))
+          eqb-true tile.piece.kind 0 is_space ∙ sym (cond-false (set x y) 1 0 (left_out (set x y) (space x y) apart there)))
+      | inr marked ↦ settled k d within (not_zero tile.piece.kind marked) x y here held
     ]
 
 -- a picture in which a rectangle has the marks of a set already is as it is when the rectangle is marked anew
@@ -95,18 +92,7 @@ remarked-shown pool owner rect found set plane are shows =
     ∙ All-contains (ShowsSet rect set) found tile shows (k, within, is) x y here held)
 
 -- ---- a finding
--- settled tiles show the marks
-pub ShowsSet-found :
-    (tiles : List LaidTile) (rect : Rect) (areas : List Rect) (found : Marks) → rect ≡ found.rect → areas ≡ found.areas → AreInside found.rect found.areas
-    → ((x y : ℕ) → holds found.rect x y ≡ true → Any (λ tile. IsTrue (holds tile.piece.rect x y)) tiles) → All (IsSettled rect (squares_of areas)) tiles
-    → sum_by (space_size rect) tiles + sum_by size_of areas ≤ size_of rect → All (ShowsSet found.rect (marks found)) tiles
-ShowsSet-found tiles rect areas found of_marks listed inside whole settled few =
-    ShowsSet-settled tiles found.rect found.areas inside whole
-    (subst (λ (e : Rect). All (IsSettled e (squares_of found.areas)) tiles) of_marks (subst (λ (list : List Rect). All (IsSettled rect (squares_of list)) tiles) listed settled))
-    (subst (λ (e : Rect). sum_by (space_size e) tiles + sum_by size_of found.areas ≤ size_of e) of_marks
-    (subst (λ (list : List Rect). sum_by (space_size rect) tiles + sum_by size_of list ≤ size_of rect) listed few))
-
--- where each of them shows the marks, marking the finding changes nothing
+-- where each tile found in its rectangle shows the marks, marking the finding changes nothing
 pub remarked-found :
     (pool : Pool) (owner : ℕ) (found : Marks) (finding : Finding) (area : Rect) (tiles listed : List LaidTile) → HasPlane pool owner
     → MeetArea (block_at (tiles_of pool owner)) area tiles → area ≡ found.rect → listed ≡ tiles → All (ShowsSet found.rect (marks found)) listed → found ≡ finding.marks

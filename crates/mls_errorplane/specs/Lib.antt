@@ -1,4 +1,3 @@
-pub mod AreaOrder
 pub mod Carrying
 pub mod CatchingUp
 pub mod Checkings

@@ -1,11 +1,11 @@
 -- What pieces paint on an error plane, and what its tiles show already. No public contract names these.
 use Rattle.std.specs.Prelude.{◌≡◌, ◌≢◌, ℕ, ◌==◌, true, false, if◌then◌else◌, List}
-use Rattle.mls_checker.specs.Marking.{Marks, SquareSet, marks}
+use Rattle.mls_checker.specs.Marking.{SquareSet}
 use Rattle.mls_geom.specs.Pictures.{Picture, overlaid}
 use Rattle.mls_geom.specs.Rects.{Rect, common, holds, size_of}
 use Rattle.mls_geom.specs.declared.piece.Piece.{Piece}
 use Rattle.mls_stitch.specs.declared.laid_tile.LaidTile.{LaidTile}
-use Rattle.mls_errorplane.specs.MarkPlanes.{is_marked, remarked}
+use Rattle.mls_errorplane.specs.MarkPlanes.{remarked}
 
 -- painted over any picture, the pieces mark the squares of the rectangle as the set says, and change no others
 abbrev pub Paints : List Piece → Rect → SquareSet → Type 0
@@ -16,10 +16,9 @@ abbrev pub ShowsSet : Rect → SquareSet → LaidTile → Type 0
 ShowsSet rect set tile =
     (x y : ℕ) → holds rect x y ≡ true → holds tile.piece.rect x y ≡ true → tile.piece.kind ≡ (if set x y then 1 else 0)
 
--- the tile is space, or of kind 1 with all its squares of the rectangle in the set
+-- the tile is space, or shows the set
 abbrev pub IsSettled : Rect → SquareSet → LaidTile → Type 0
-IsSettled rect set tile =
-    (x y : ℕ) → holds rect x y ≡ true → holds tile.piece.rect x y ≡ true → tile.piece.kind ≢ 0 → (tile.piece.kind ≡ 1) × (set x y ≡ true)
+IsSettled rect set tile = tile.piece.kind ≢ 0 → ShowsSet rect set tile
 
 -- how many marked squares of the rectangle a tile has
 abbrev pub marked_part : Rect → LaidTile → ℕ
@@ -33,7 +32,3 @@ space_size rect tile = if tile.piece.kind == 0 then size_of (common tile.piece.r
 abbrev pub ShowsBeside : Rect → Rect → SquareSet → LaidTile → Type 0
 ShowsBeside rect part set tile =
     (x y : ℕ) → holds rect x y ≡ true → holds part x y ≡ false → holds tile.piece.rect x y ≡ true → tile.piece.kind ≡ (if set x y then 1 else 0)
-
--- the picture's marked squares in the part are those of the marks
-abbrev pub AreMarked : Marks → Rect → Picture → Type 0
-AreMarked found part picture = (x y : ℕ) → holds part x y ≡ true → is_marked picture x y ≡ marks found x y

@@ -1,46 +1,25 @@
-//! In which part of a rectangle tiles show other marks than were found.
+//! Where tiles show other marks than were found.
 ghost use Rattle.std.specs.Prelude.{◌≡◌, ℕ, true};
 ghost use Rattle.std.specs.List.{All};
-ghost use Rattle.mls_checker.specs.Marking.{marks, squares_of};
-ghost use Rattle.mls_geom.specs.Rects.{IsRectangleIn, IsWithin, Rect, holds};
+ghost use Rattle.mls_checker.specs.Marking.{marks};
+ghost use Rattle.mls_geom.specs.Rects.{IsWithin, holds};
 ghost use Rattle.mls_errorplane.specs.PaintedMarks.{ShowsBeside};
 
-use crate::shown_marks::is_settled;
+use crate::mark_pieces::MARKED;
 use mls_checker::Marks;
 use mls_geom::{Area, Rect};
 use mls_kinds::Kind;
 use mls_stitch::LaidTile;
 
-/// How many pairs of a tile and an area are looked at. Where there are more, the whole rectangle is taken to differ.
-const MOST_PAIRS: usize = 4096;
-
-/// Returns a part of the marks' rectangle outside of which the tiles have kind 1 in its marked squares, and kind 0 in
-/// its others.
-pub(crate) fn differing_part(tiles: &[LaidTile], found: &Marks) -> Rect
-    ensures inside { IsRectangleIn found.now.rect result }
+/// Returns the bounds of the squares of the marks' rectangle that [`differing_in`] has of each tile. Where there are
+/// none, the bounds have no squares.
+pub(crate) fn bounds_of_differing(tiles: &[LaidTile], found: &Marks) -> Area
+    ensures within { IsWithin found.now.rect result }
     ensures beside { All (ShowsBeside found.now.rect result (marks found.now)) tiles.now }
 {
-    let rect = found.rect();
-    let areas = found.areas();
-    if tiles.len().saturating_mul(areas.len()) > MOST_PAIRS {
-        return rect;
-    }
-    let bounds = bounds_of_differing(tiles, rect, areas);
-    if !bounds.has_squares() {
-        return rect;
-    }
-    Rect::between(bounds.left, bounds.bottom, bounds.right, bounds.top)
-}
-
-/// Returns the bounds of squares of the rectangle, among them all in which the tiles differ from the areas. Where
-/// there are none, the bounds have no squares.
-fn bounds_of_differing(tiles: &[LaidTile], rect: Rect, areas: &[Area]) -> Area
-    ensures within { IsWithin rect result }
-    ensures beside { All (ShowsBeside rect result (squares_of areas.now)) tiles.now }
-{
-    let mut bounds = nowhere_in(rect);
+    let mut bounds = nowhere_in(found.rect());
     for tile in tiles {
-        bounds = with_tile(bounds, tile, rect, areas);
+        bounds = with_tile(bounds, tile, found);
     }
     bounds
 }
@@ -58,45 +37,32 @@ fn nowhere_in(rect: Rect) -> Area
     }
 }
 
-/// Returns the bounds, joined with those of squares in which a tile differs from the areas.
-fn with_tile(bounds: Area, tile: &LaidTile, rect: Rect, areas: &[Area]) -> Area
-    requires within { IsWithin rect bounds }
-    ensures within { IsWithin rect result }
+/// Returns the bounds, joined with those of squares in which a tile shows other marks.
+fn with_tile(bounds: Area, tile: &LaidTile, found: &Marks) -> Area
+    requires within { IsWithin found.now.rect bounds }
+    ensures within { IsWithin found.now.rect result }
     ensures wider { (x y : ℕ) → holds bounds x y ≡ true → holds result x y ≡ true }
-    ensures beside { ShowsBeside rect result (squares_of areas.now) tile.now }
+    ensures beside { ShowsBeside found.now.rect result (marks found.now) tile.now }
 {
-    let part = tile.piece.rect.area().common(rect.area());
+    let differing = differing_in(tile, found);
+    if !differing.has_squares() {
+        return bounds;
+    }
+    bounds.joined(differing)
+}
+
+/// Returns the bounds of a tile's squares in the marks' rectangle that have kind 1 and aren't marked, or kind 0 and
+/// are. Where the tile has another kind, all its squares in the rectangle count.
+pub(crate) fn differing_in(tile: &LaidTile, found: &Marks) -> Area
+    ensures inside { (x y : ℕ) → holds result x y ≡ true → holds found.now.rect x y ≡ true }
+    ensures beside { ShowsBeside found.now.rect result (marks found.now) tile.now }
+{
+    let area = tile.piece.rect.area();
     if tile.piece.kind == Kind::SPACE {
-        return with_areas(bounds, part, areas);
+        return found.differing(area, false);
     }
-    if is_settled(tile, rect, areas) {
-        return bounds;
+    if tile.piece.kind.number() == MARKED {
+        return found.differing(area, true);
     }
-    bounds.joined(part)
-}
-
-/// Returns the bounds, joined with those of the squares that a part has in the areas.
-fn with_areas(bounds: Area, part: Area, areas: &[Area]) -> Area
-    ensures within { (rect : Rect) → IsWithin rect bounds → IsWithin rect part → IsWithin rect result }
-    ensures wider { (x y : ℕ) → holds bounds x y ≡ true → holds result x y ≡ true }
-    ensures held { (x y : ℕ) → holds part x y ≡ true → squares_of areas.now x y ≡ true → holds result x y ≡ true }
-{
-    let mut bounds = bounds;
-    for area in areas {
-        bounds = with_common(bounds, part, *area);
-    }
-    bounds
-}
-
-/// Returns the bounds, joined with those of the squares that a part and an area have in common.
-fn with_common(bounds: Area, part: Area, area: Area) -> Area
-    ensures within { (rect : Rect) → IsWithin rect bounds → IsWithin rect part → IsWithin rect result }
-    ensures wider { (x y : ℕ) → holds bounds x y ≡ true → holds result x y ≡ true }
-    ensures held { (x y : ℕ) → holds part x y ≡ true → holds area x y ≡ true → holds result x y ≡ true }
-{
-    let common = area.common(part);
-    if !common.has_squares() {
-        return bounds;
-    }
-    bounds.joined(common)
+    area.common(found.rect().area())
 }

@@ -1,7 +1,6 @@
 //! Areas of a layout that await checking, and the marks that checks leave (Taylor and Ousterhout 1984).
 #![tactic(auto)]
 
-mod area_counts;
 mod basis;
 mod carrying;
 mod catching_up;

@@ -12,22 +12,20 @@ ghost use Rattle.mls_stitch.specs.Areas.{MeetArea};
 ghost use Rattle.mls_stitch.specs.Tilings.{ChangesOnly, HasPlane, block_at};
 ghost use Rattle.mls_tilepool.specs.Pools.{room_of, tiles_of};
 ghost use Rattle.mls_errorplane.specs.MarkPlanes.{marked_count, most_pieces, remarked};
-ghost use Rattle.mls_errorplane.specs.PaintedMarks.{AreMarked, marked_part, space_size};
+ghost use Rattle.mls_errorplane.specs.PaintedMarks.{marked_part, space_size};
 
-use crate::area_counts::count_areas;
-use crate::differing::differing_part;
 use crate::dirty::lies_in_world;
 use crate::mark_pieces::list_pieces;
-use crate::shown_marks::{show, space_size};
-use mls_checker::{Finding, Marks};
+use crate::shown_marks::{differing_part, space_size};
+use mls_checker::Finding;
 use mls_geom::{Piece, Rect};
 use mls_kinds::Kind;
 use mls_paint::{Scratch, TooManyTiles, find_area, find_meeting, overlay, tile_count};
 use mls_stitch::{LaidTile, Plane};
 use mls_tilepool::Pool;
 
-/// How many squares of the painted part of a piece were marked before it was marked anew, and how many are now. Both
-/// are 0 where nothing was painted.
+/// How many squares of a piece were marked before it was marked anew, and how many are now. Both are 0 where nothing
+/// was painted.
 #[derive(Clone, Copy)]
 pub struct Recount {
     /// How many squares were marked.
@@ -75,14 +73,13 @@ pub fn mark(
     let found = finding.marks();
     let rect = found.rect();
     find_meeting(pool, plane, rect, scratch);
-    if show(scratch.tiles(), found) {
+    let Some(part) = differing_part(scratch.tiles(), found) else {
         return keep(pool, plane, limit);
-    }
-    let part = differing_part(scratch.tiles(), found);
+    };
     list_pieces(found, part, pieces);
-    let before = count_shown(pool, plane, rect, part, scratch);
+    let before = count_shown(pool, plane, rect, scratch);
     overlay(pool, plane, pieces, limit, scratch)?;
-    let after = count_painted(pool, plane, found, part, scratch);
+    let after = found.count();
     Ok(Recount { before, after })
 }
 
@@ -101,44 +98,21 @@ fn keep(pool: &Pool, plane: &Plane, limit: u32) -> Result<Recount, TooManyTiles>
     })
 }
 
-/// Returns how many squares are marked in a part of an area in which tiles were found. Searches again only where some
-/// of these share a square.
-fn count_shown(pool: &Pool, plane: &mut Plane, area: Rect, part: Rect, scratch: &mut Scratch) -> u64
+/// Returns how many squares are marked in a rectangle in which tiles were found. Searches again only where some of
+/// these share a square.
+fn count_shown(pool: &Pool, plane: &mut Plane, rect: Rect, scratch: &mut Scratch) -> u64
     requires plane { HasPlane pool.now plane.old }
     requires room { HasRoomFor pool.now plane.old scratch.old }
-    requires found { MeetArea (block_at (tiles_of pool.now plane.old)) area scratch.old.tiles }
-    requires inside { IsRectangleIn area part }
-    ensures value { result ≡ marked_count part (picture_in pool.now plane.old) }
-    ensures legal { IsRectangleIn world part }
+    requires found { MeetArea (block_at (tiles_of pool.now plane.old)) rect scratch.old.tiles }
+    ensures value { result ≡ marked_count rect (picture_in pool.now plane.old) }
+    ensures legal { IsRectangleIn world rect }
     ensures plane { plane.new ≡ plane.old }
     ensures rooms { KeepsRoom scratch.old scratch.new }
 {
-    lies_in_world(part);
-    match count_tiles(scratch.tiles(), part) {
+    lies_in_world(rect);
+    match count_tiles(scratch.tiles(), rect) {
         Some(count) => count,
-        None => marked_in(pool, plane, part, scratch),
-    }
-}
-
-/// Returns how many squares are marked in a part of the marks' rectangle where those of the marks are. Searches only
-/// where some areas of the marks may share a square.
-fn count_painted(
-    pool: &Pool,
-    plane: &mut Plane,
-    found: &Marks,
-    part: Rect,
-    scratch: &mut Scratch,
-) -> u64
-    requires plane { HasPlane pool.now plane.old }
-    requires room { HasRoomFor pool.now plane.old scratch.old }
-    requires marked { AreMarked found.now part (picture_in pool.now plane.old) }
-    ensures value { result ≡ marked_count part (picture_in pool.now plane.old) }
-    ensures plane { plane.new ≡ plane.old }
-    ensures rooms { KeepsRoom scratch.old scratch.new }
-{
-    match count_areas(found, part) {
-        Some(count) => count,
-        None => marked_in(pool, plane, part, scratch),
+        None => marked_in(pool, plane, rect, scratch),
     }
 }
 

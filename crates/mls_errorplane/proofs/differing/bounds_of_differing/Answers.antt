@@ -1,6 +1,6 @@
 use Rattle.std.proofs.Common.{List, All, subst}
 use Rattle.std.proofs.lemmas.List.{take_all}
-use Rattle.mls_checker.specs.Marking.{squares_of}
+use Rattle.mls_checker.specs.Marking.{marks}
 use Rattle.mls_stitch.specs.declared.laid_tile.LaidTile.{LaidTile}
 use Rattle.mls_errorplane.specs.PaintedMarks.{ShowsBeside}
 use Rattle.mls_errorplane.proofs.ShownBeside.{beside-next}
@@ -9,11 +9,11 @@ use Rattle.mls_errorplane.proofs.differing.bounds_of_differing.Goals as goal
 pub loop-tile-preserved : goal.loop-tile-preserved
 loop-tile-preserved c = record {
   within = c.with_tile-bounds.ensures.within;
-  beside = beside-next c.args.rect c.loop-tile.bounds c.with_tile-bounds.result (squares_of c.args.areas.now) c.args.tiles.now c.loop-tile.tile-index c.tile-item.result c.loop-tile-test.true
+  beside = beside-next c.args.found.now.rect c.loop-tile.bounds c.with_tile-bounds.result (marks c.args.found.now) c.args.tiles.now c.loop-tile.tile-index c.tile-item.result c.loop-tile-test.true
       c.tile-item.is c.with_tile-bounds.ensures.wider c.loop-tile.invariant.beside c.with_tile-bounds.ensures.beside;
 }
 
 pub returns-clause-beside : goal.returns-clause-beside
 returns-clause-beside c =
-    subst (λ (list : List LaidTile). All (ShowsBeside c.args.rect c.loop-tile.bounds (squares_of c.args.areas.now)) list) (take_all c.loop-tile.tile-index c.args.tiles.now c.loop-tile-test.false)
+    subst (λ (list : List LaidTile). All (ShowsBeside c.args.found.now.rect c.loop-tile.bounds (marks c.args.found.now)) list) (take_all c.loop-tile.tile-index c.args.tiles.now c.loop-tile-test.false)
     c.loop-tile.invariant.beside

@@ -1,12 +1,12 @@
--- beside the bounds the tiles so far show the areas
+-- beside the bounds the tiles so far show the marks
 use Rattle.std.proofs.Common.{All, take}
-use Rattle.mls_checker.specs.Marking.{squares_of}
+use Rattle.mls_checker.specs.Marking.{marks}
 use Rattle.mls_geom.specs.Rects.{IsWithin}
 use Rattle.mls_errorplane.specs.PaintedMarks.{ShowsBeside}
 use Rattle.mls_errorplane.proofs.differing.bounds_of_differing.Given as goal
 
 abbrev pub invariant-loop-tile : goal.invariant-loop-tile
 invariant-loop-tile l = record {
-  within : IsWithin l.fn.rect l.bounds;
-  beside : All (ShowsBeside l.fn.rect l.bounds (squares_of l.fn.areas)) (take l.tile-index l.tiles);
+  within : IsWithin l.fn.found.rect l.bounds;
+  beside : All (ShowsBeside l.fn.found.rect l.bounds (marks l.fn.found)) (take l.tile-index l.tiles);
 }

@@ -1,6 +1,14 @@
-use Rattle.mls_errorplane.proofs.ShownBeside.{common_within}
+use Rattle.std.proofs.Common.{sym, arith}
+use Rattle.mls_errorplane.proofs.ShownBeside.{within-from_squares}
 use Rattle.mls_errorplane.proofs.differing.with_tile.Goals as goal
 
-pub returns-then-eq-clause-within : goal.returns-then-eq-clause-within
-returns-then-eq-clause-within c =
-    c.with_areas.ensures.within c.args.rect c.requires.within (common_within c.args.rect c.area.result c.common-part.result c.area-2.result c.area-2.ensures.value c.common-part.ensures)
+pub returns-clause-within : goal.returns-clause-within
+returns-clause-within c =
+    let new = within-from_squares c.args.found.now.rect c.differing_in-differing.result (sym c.if-not-has_squares.ensures) c.differing_in-differing.ensures.inside in
+    let old = c.requires.within in
+    rw c.joined.ensures (record {
+      left = omega (arith, old.left, new.left);
+      bottom = omega (arith, old.bottom, new.bottom);
+      right = omega (arith, old.right, new.right);
+      top = omega (arith, old.top, new.top);
+    })

@@ -1,35 +1,34 @@
 use Rattle.std.proofs.Common.{◌≡◌, ℕ, ◌<◌, ◌↔◌, IsErr, false, true, refl, sym, ap, subst, ◌∙◌, arith}
-use Rattle.mls_checker.specs.Marking.{marks}
+use Rattle.mls_checker.specs.Marking.{Marks, marks, square_count}
 use Rattle.mls_geom.specs.Pictures.{Picture, overlaid}
+use Rattle.mls_geom.specs.Rects.{Rect}
 use Rattle.mls_geom.specs.TileCounts.{tile_count}
 use Rattle.mls_geom.specs.World.{world}
 use Rattle.mls_paint.specs.Planes.{picture_in}
 use Rattle.mls_errorplane.specs.MarkPlanes.{marked_count, remarked}
-use Rattle.mls_errorplane.specs.PaintedMarks.{AreMarked}
-use Rattle.mls_errorplane.proofs.PaintedPieces.{AreMarked-remarked, overlaid-part}
-use Rattle.mls_errorplane.proofs.RectCounts.{marked_count-part, marked_count-remarked}
+use Rattle.mls_errorplane.proofs.RectCounts.{marked_count-anew, marked_count-part, marked_count-remarked}
 use Rattle.mls_errorplane.proofs.ShownBeside.{overlaid-found}
 use Rattle.mls_errorplane.proofs.ShownMarks.{on_ok, remarked-found}
 use Rattle.mls_errorplane.proofs.marks.mark.Goals as goal
-use Rattle.mls_errorplane.proofs.marks.mark.Goals.{After-overlay, After-show}
+use Rattle.mls_errorplane.proofs.marks.mark.Goals.{After-overlay, In_default}
 
 -- ---- where the plane shows the marks already
 shown_already :
-    (c : After-show) → c.show.result ≡ true
+    (c : In_default)
     → remarked (picture_in c.args.pool.now c.args.plane.now) c.args.finding.now.piece (marks c.args.finding.now.marks) ≡ picture_in c.args.pool.now c.args.plane.now
-shown_already c shown =
+shown_already c =
     remarked-found c.args.pool.now c.args.plane.now c.marks-found.result.now c.args.finding.now c.rect-rect.result c.find_meeting.new.scratch.tiles c.tiles.result.now c.requires.strips.plane
-    c.find_meeting.ensures.found c.rect-rect.ensures c.tiles.ensures (c.show.ensures shown) c.marks-found.ensures.value c.marks-found.ensures.exact.rect
+    c.find_meeting.ensures.found c.rect-rect.ensures c.tiles.ensures (c.in_default.ensures.same refl) c.marks-found.ensures.value c.marks-found.ensures.exact.rect
 
-pub returns-then-show-clause-marks : goal.returns-then-show-clause-marks
-returns-then-show-clause-marks c = on_ok c.keep.result (sym (shown_already (goal.at.returns-then-show-clause-marks c).After-show c.if-show.true))
+pub returns-in_default-clause-marks : goal.returns-in_default-clause-marks
+returns-in_default-clause-marks c = on_ok c.keep.result (sym (shown_already (goal.at.returns-in_default-clause-marks c).In_default))
 
-pub returns-then-show-clause-too_many : goal.returns-then-show-clause-too_many
-returns-then-show-clause-too_many c =
+pub returns-in_default-clause-too_many : goal.returns-in_default-clause-too_many
+returns-in_default-clause-too_many c =
     let full =
     subst (λ (owner : ℕ). IsErr c.keep.result ↔ (c.args.limit < tile_count world (picture_in c.args.pool.now owner))) c.find_meeting.ensures.plane c.keep.ensures.too_many in
     subst (λ (picture : Picture). IsErr c.keep.result ↔ (c.args.limit < tile_count world picture))
-    (sym (shown_already (goal.at.returns-then-show-clause-too_many c).After-show c.if-show.true)) full
+    (sym (shown_already (goal.at.returns-in_default-clause-too_many c).In_default)) full
 
 -- ---- where pieces are painted
 module _ (c : After-overlay) where
@@ -43,19 +42,18 @@ module _ (c : After-overlay) where
   -- over the plane they mark the finding's piece
   whole : overlaid below c.deref.result.now ≡ remarked below c.args.finding.now.piece (marks c.args.finding.now.marks)
   whole =
-      overlaid-found c.args.pool.now c.args.plane.now c.list_pieces.new.pieces.items c.deref.result.now c.differing_part-part.result c.rect-rect.result c.marks-found.result.now c.args.finding.now
-      c.find_meeting.new.scratch.tiles c.tiles-2.result.now c.requires.strips.plane c.find_meeting.ensures.found c.rect-rect.ensures c.tiles-2.ensures c.differing_part-part.ensures.inside
-      c.differing_part-part.ensures.beside c.list_pieces.ensures.painted c.deref.ensures.value c.marks-found.ensures.value c.marks-found.ensures.exact.rect
+      overlaid-found c.args.pool.now c.args.plane.now c.list_pieces.new.pieces.items c.deref.result.now c.in-Some.part c.rect-rect.result c.marks-found.result.now c.args.finding.now
+      c.find_meeting.new.scratch.tiles c.tiles.result.now c.requires.strips.plane c.find_meeting.ensures.found c.rect-rect.ensures c.tiles.ensures c.in-Some.ensures.inside
+      c.in-Some.ensures.beside c.list_pieces.ensures.painted c.deref.ensures.value c.marks-found.ensures.value c.marks-found.ensures.exact.rect
 
-  -- and the part of it where the marks differ
-  in_part : overlaid below c.deref.result.now ≡ remarked below c.differing_part-part.result (marks c.marks-found.result.now)
-  in_part =
-      overlaid-part c.list_pieces.new.pieces.items c.deref.result.now c.differing_part-part.result (marks c.marks-found.result.now) below c.list_pieces.ensures.painted c.deref.ensures.value
+  -- whose squares are those of the marks' rectangle
+  piece : c.rect-rect.result ≡ c.args.finding.now.piece
+  piece = c.rect-rect.ensures ∙ ap (λ (m : Marks). m.rect) c.marks-found.ensures.value ∙ c.marks-found.ensures.exact.rect
 
   -- where as many squares were marked as were counted
-  before : c.count_shown-before.result ≡ marked_count c.differing_part-part.result below
+  before : c.count_shown-before.result ≡ marked_count c.rect-rect.result below
   before =
-      subst (λ (owner : ℕ). c.count_shown-before.result ≡ marked_count c.differing_part-part.result (picture_in c.args.pool.now owner)) c.find_meeting.ensures.plane
+      subst (λ (owner : ℕ). c.count_shown-before.result ≡ marked_count c.rect-rect.result (picture_in c.args.pool.now owner)) c.find_meeting.ensures.plane
       c.count_shown-before.ensures.value
 
 pub returns-clause-marks : goal.returns-clause-marks
@@ -80,27 +78,22 @@ returns-in_err-overlay-clause-too_many c =
     let more = subst (λ (count : ℕ). c.args.limit < count) (ap (tile_count world) (whole at)) full in
     ((λ _. more), (λ _. c.from_residual.ensures.0))
 
-pub count_painted-after-requires-clause-marked : goal.count_painted-after-requires-clause-marked
-count_painted-after-requires-clause-marked c =
-    let at = (goal.at.count_painted-after-requires-clause-marked c).After-overlay in
-    let marked =
-    subst (λ (owner : ℕ). picture_in c.overlay.new.pool owner ≡ overlaid (picture_in c.args.pool.now owner) c.deref.result.now) (plane at) c.in_ok-overlay.ensures.picture ∙ in_part at in
-    subst (λ (owner : ℕ). AreMarked c.marks-found.result.now c.differing_part-part.result (picture_in c.overlay.new.pool owner)) (sym (c.overlay.ensures.plane ∙ plane at))
-    (AreMarked-remarked c.marks-found.result.now c.differing_part-part.result (below at) (picture_in c.overlay.new.pool c.args.plane.now) marked)
-
 pub returns-clause-recount : goal.returns-clause-recount
 returns-clause-recount c =
     let at = (goal.at.returns-clause-recount c).After-overlay in
     let above = picture_in c.overlay.new.pool c.args.plane.now in
-    let part = c.differing_part-part.result in
+    let rect = c.rect-rect.result in
+    let finding = c.args.finding.now in
     let marked =
-    subst (λ (owner : ℕ). picture_in c.overlay.new.pool owner ≡ overlaid (picture_in c.args.pool.now owner) c.deref.result.now) (plane at) c.in_ok-overlay.ensures.picture ∙ in_part at in
-    let after : c.count_painted-after.result ≡ marked_count part above =
-    subst (λ (owner : ℕ). c.count_painted-after.result ≡ marked_count part (picture_in c.overlay.new.pool owner)) (c.overlay.ensures.plane ∙ plane at) c.count_painted-after.ensures.value in
-    let both = marked_count-remarked part part (marks c.marks-found.result.now) (below at) above c.count_shown-before.ensures.legal refl marked in
+    subst (λ (owner : ℕ). picture_in c.overlay.new.pool owner ≡ overlaid (picture_in c.args.pool.now owner) c.deref.result.now) (plane at) c.in_ok-overlay.ensures.picture ∙ whole at in
+    let after : c.count-after.result ≡ marked_count rect above =
+    c.count-after.ensures ∙ ap (λ (e : Rect). square_count e (marks c.marks-found.result.now)) (sym c.rect-rect.ensures)
+    ∙ ap (λ (m : Marks). square_count rect (marks m)) c.marks-found.ensures.value
+    ∙ sym (marked_count-anew rect finding.piece (marks finding.marks) (below at) above (piece at) marked) in
+    let both = marked_count-remarked rect finding.piece (marks finding.marks) (below at) above c.count_shown-before.ensures.legal (piece at) marked in
     omega (arith, before at, after, both)
 
 pub returns-clause-few : goal.returns-clause-few
 returns-clause-few c =
     let at = (goal.at.returns-clause-few c).After-overlay in
-    omega (arith, before at, marked_count-part world c.differing_part-part.result (below at) c.count_shown-before.ensures.legal)
+    omega (arith, before at, marked_count-part world c.rect-rect.result (below at) c.count_shown-before.ensures.legal)
