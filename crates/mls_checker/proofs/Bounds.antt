@@ -1,5 +1,5 @@
 -- The smallest area that has the squares of a set, line by line.
-use Rattle.std.proofs.Common.{◌≡◌, ℕ, ◌+◌, ◌-◌, ◌<◌, ◌≤◌, min, max, Bool, true, false, ◌||◌, ◌&&◌, absurd, true≢false, refl, sym, ap, ◌∙◌, arith}
+use Rattle.std.proofs.Common.{◌≡◌, ℕ, ◌+◌, ◌-◌, ◌<◌, ◌≤◌, min, max, Bool, true, false, ◌||◌, ◌&&◌, inl, inr, true≢false, refl, sym, ap, ◌∙◌, arith}
 use Rattle.std.specs.Prelude.{nat_lt}
 use Rattle.std.proofs.lemmas.Bool.{and_from, and_parts, or_left, or_right, or_cases}
 use Rattle.std.proofs.lemmas.Bool.Decides.{nat_tests}
@@ -74,4 +74,10 @@ pub own-bounds : (set : SquareSet) (e : Rect) → ((x y : ℕ) → set x y ≡ h
 own-bounds set e same = record {
   all = λ x y here. sym (same x y) ∙ here;
   least = λ other has x y here. has x y (same x y ∙ here);
+}
+
+pub bounds-same : (set other : SquareSet) (e : Rect) → ((x y : ℕ) → set x y ≡ other x y) → IsBoundsOf set e → IsBoundsOf other e
+bounds-same set other e same is = record {
+  all = λ x y here. is.all x y (same x y ∙ here);
+  least = λ rect has. is.least rect (λ x y here. has x y (sym (same x y) ∙ here));
 }

@@ -55,9 +55,9 @@ abbrev pub row_squares : Frame → List ℕ → Bool → Rect → ℕ → Square
 row_squares frame words wanted area row x y = is_between row (row + 1) y && (holds area x y && differs wanted (has_place words (place_of frame x y)))
 
 -- ---- areas of a map
--- the areas lie in the map's rectangle, few in each row, and have exactly the marked squares, which number the count
-pub record AreMarksOf (map : MarkMap) (areas : List Rect) (count : ℕ) : Type 0 where
+-- the areas lie in the map's rectangle, few in each row, and have exactly the marked squares, which are so many
+pub record AreMarksOf (map : MarkMap) (areas : List Rect) (number : ℕ) : Type 0 where
   pub inside : AreInside map.rect areas
   pub few : length areas ≤ runs_of_rows map.rect
   pub squares : (x y : ℕ) → squares_of areas x y ≡ mapped map x y
-  pub count : count ≡ square_count map.rect (squares_of areas)
+  pub count : number ≡ square_count map.rect (squares_of areas)

@@ -1,5 +1,5 @@
 //! The last of the places of maps of one bit a place, and the first and the last together.
-ghost use Rattle.std.specs.Prelude.{◌≡◌, ◌*◌, ◌-◌, ◌<◌, ◌≤◌, ℕ, true, not, length, IfNone, IfSome};
+ghost use Rattle.std.specs.Prelude.{◌≡◌, ◌*◌, ◌/◌, ◌%◌, ◌-◌, ◌<◌, ◌≤◌, ℕ, true, not, length, IfNone, IfSome};
 ghost use Rattle.mls_checker.specs.Grids.{has_column};
 ghost use Rattle.mls_checker.specs.MarkMaps.{ArePlaceEnds};
 ghost use Rattle.mls_checker.specs.Maps.{has_place};
@@ -38,7 +38,7 @@ fn last_place(map: &[u64], has: bool, from: usize, limit: usize) -> usize
         let word = word_to(map, has, end - 1);
         let first = (end - 1) / PLACES * PLACES;
         if word != 0 {
-            return from.max(first + PLACES - word.leading_zeros() as usize);
+            return from.max(first + (PLACES - word.leading_zeros() as usize));
         }
         end = first;
     }
