@@ -30,13 +30,13 @@ loop-index-preserved c =
     let same = ap length c.as_slice-rule-items.ensures.value in
     let few : index < 128 = omega (arith, same) in
     record {
-      frame = c.in_ok-find_any.ensures.frame ∙ c.loop-index.invariant.frame;
+      frame = c.find_any.ensures.frame ∙ c.loop-index.invariant.frame;
       violated = elim c.if-branch.branch [
         | then-branch w ↦
             w.violated-is ∙ w.insert.ensures ∙ ap (λ set. with_rule set (index + 1)) c.loop-index.invariant.violated
-            ∙ with_violated rules c.args.rect layout index rule below (sym c.rule-item.is) few (sym c.in_ok-find_any.ensures.any ∙ w.if-branch.true)
+            ∙ with_violated rules c.args.rect layout index rule below (sym c.rule-item.is) few (sym c.find_any.ensures.any ∙ w.if-branch.true)
         | else-branch w ↦
-            w.violated-is ∙ c.loop-index.invariant.violated ∙ without_violated rules c.args.rect layout index rule below (sym c.rule-item.is) (sym c.in_ok-find_any.ensures.any ∙ w.if-branch.false)
+            w.violated-is ∙ c.loop-index.invariant.violated ∙ without_violated rules c.args.rect layout index rule below (sym c.rule-item.is) (sym c.find_any.ensures.any ∙ w.if-branch.false)
       ];
     }
 
