@@ -1,5 +1,5 @@
-use Rattle.std.proofs.Common.{◌||◌, length, ap, sym, subst, ◌∙◌, arith}
-use Rattle.mls_checker.specs.Grids.{Band, marked_in}
+use Rattle.std.proofs.Common.{◌||◌, ◌≡◌, ◌-◌, ◌<◌, length, ap, sym, subst, ◌∙◌, arith}
+use Rattle.mls_checker.specs.Grids.{Band, is_between, marked_in}
 use Rattle.mls_checker.specs.Maps.{FitsIn, has_place, place_of}
 use Rattle.mls_checker.proofs.LaidBands.{laid-band}
 use Rattle.mls_checker.proofs.MapMarks.{band-word}
@@ -14,12 +14,16 @@ pub lay_column-requires-clause-within : goal.lay_column-requires-clause-within
 lay_column-requires-clause-within c row within =
     let fits = subst (λ (b : Band). FitsIn c.args.frame b.area) (sym c.self.view_is) c.requires.fits in
     let long = ap length c.deref.ensures.value in
-    rw (c.words.ensures, c.requires.size) (band-word c.args.frame _ c.first_word-first.result row fits c.self.invariant.wide c.first_word-first.ensures (omega (arith, c.self.invariant.marked, long)))
+    let few : row < length c.deref.result.now = within in
+    rw (c.words.ensures, c.requires.size) (band-word c.args.frame _ c.first_word-first.result row fits c.self.invariant.wide c.first_word-first.ensures (omega (arith, c.self.invariant.marked, long, few)))
 
 pub returns : goal.returns
 returns c x y here =
     let fits = subst (λ (b : Band). FitsIn c.args.frame b.area) (sym c.self.view_is) c.requires.fits in
     let there = rw (c.deref.ensures.value, c.words.ensures) at c.lay_column.ensures.there in
     let others = rw (c.deref.ensures.value, c.words.ensures) at c.lay_column.ensures.others in
-    laid-band c.args.frame _ c.args.map.now c.lay_column.new.map c.first_word-first.result c.mask-columns.result x y c.self.invariant fits c.first_word-first.ensures c.mask-columns.ensures there others here
+    let band : Band = record { area = c.self.inside.area; reached = c.self.inside.reached; marked = c.self.inside.marked.items } in
+    let zero : band.area.left - band.area.left ≡ 0 = omega arith in
+    laid-band c.args.frame band c.args.map.now c.lay_column.new.map c.first_word-first.result c.columns_of-columns.result x y c.self.invariant fits c.first_word-first.ensures
+    (λ k. c.columns_of-columns.ensures k ∙ ap (λ n. is_between n (band.area.right - band.area.left) k) zero) there others here
     ∙ ap (λ (b : Band). has_place c.args.map.now (place_of c.args.frame x y) || marked_in b x y) c.self.view_is
