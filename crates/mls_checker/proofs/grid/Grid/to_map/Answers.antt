@@ -1,4 +1,4 @@
-use Rattle.std.proofs.Common.{◌≡◌, ◌||◌, ◌&&◌, List, ℕ, false, ap, sym, subst, ◌∙◌, rules}
+use Rattle.std.proofs.Common.{◌≡◌, ◌/◌, ◌%◌, ◌||◌, ◌&&◌, List, ℕ, false, ap, sym, subst, ◌∙◌, rules}
 use Rattle.std.specs.List.{All}
 use Rattle.mls_geom.specs.Rects.{holds}
 use Rattle.mls_checker.specs.Grids.{Band, Grid, marked_squares}
@@ -19,7 +19,7 @@ returns-clause-squares c x y =
     let frame = c.of-frame.result in
     let old = c.deref_mut.result.now in
     let none : has_place old (place_of frame x y) ≡ false =
-    ap (λ (words : List ℕ). has_place words (place_of frame x y)) (c.deref_mut.ensures.value ∙ c.in_ok-words.ensures.items_if_clones_equal (λ y is. is)) ∙ zero-row _ _ _ in
+    ap (λ (words : List ℕ). has_place words (place_of frame x y)) (c.deref_mut.ensures.value ∙ c.in_ok-words.ensures.items_if_clones_equal (λ y is. is)) ∙ zero-row c.size.result (place_of frame x y / 64) (place_of frame x y % 64) in
     let back = given-back c.in_ok-words.words.items old c.lay_bands.new.map c.in_ok-words.words.len c.deref_mut.ensures.value c.lay_bands.auto.map c.deref_mut.ensures.len in
     ap (λ (m : MarkMap). mapped m x y) c.new.ensures
     ∙ ap (λ (words : List ℕ). holds grid.rect x y && has_place words (place_of frame x y)) back
