@@ -3,7 +3,7 @@ use Rattle.std.proofs.Common.{◌≡◌, ℕ, ◌/◌, ◌%◌, ◌&&◌, false,
 use Rattle.std.specs.List.{count_by, sum_by}
 use Rattle.std.proofs.Math.Bool.{and-false}
 use Rattle.std.proofs.lemmas.List.Elements.{All-nil}
-use Rattle.std.proofs.lemmas.List.Folds.{sum_by-cons}
+use Rattle.std.proofs.lemmas.List.Sums.{sum_by-cons}
 use Rattle.mls_geom.specs.Pictures.{columns, rows}
 use Rattle.mls_geom.specs.Rects.{Rect, IsRectangleIn, holds}
 use Rattle.mls_checker.specs.Maps.{Frame, place_of}
