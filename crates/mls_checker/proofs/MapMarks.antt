@@ -7,20 +7,16 @@ use Rattle.mls_geom.specs.Layouts.{Layout}
 use Rattle.mls_edgerule.specs.Halos.{halo_of}
 use Rattle.mls_geom.specs.Rects.{IsRectangleIn, Rect, holds}
 use Rattle.mls_geom.specs.World.{world}
-use Rattle.std.proofs.lemmas.Bool.{and_parts, or_left}
-use Rattle.std.proofs.lemmas.Bool.Decides.{nat_tests}
-use Rattle.std.proofs.lemmas.List.Elements.{All-head}
-use Rattle.mls_geom.proofs.Holds.{between_holds, holds_between}
+use Rattle.mls_geom.proofs.Holds.{holds_between}
 use Rattle.mls_checker.specs.Findings.{forbids_in}
 use Rattle.mls_checker.specs.Forbids.{forbidden, forbids, is_disallowed, reaches}
-use Rattle.mls_checker.specs.Grids.{Band, IsBand, has_column, squares_of_words}
-use Rattle.mls_checker.specs.Maps.{FitsIn, Frame, GainsDeep, HasDeep, HasLow, IsDeep, IsRound, Shows, forbidden_by_any, has_place, of_types, place_of, square, with_map}
-use Rattle.mls_checker.specs.Marking.{AreInside, SquareSet, has_some, squares_of}
-use Rattle.mls_checker.proofs.FoundInRect.{none_in_rect, rect_finds}
+use Rattle.mls_checker.specs.Grids.{has_column}
+use Rattle.mls_checker.specs.Maps.{FitsIn, Frame, GainsDeep, HasDeep, HasLow, IsDeep, IsRound, Shows, forbidden_by_any, has_place, of_types, place_of, square}
+use Rattle.mls_checker.specs.Marking.{has_some}
+use Rattle.mls_checker.proofs.FoundInRect.{some-same}
 use Rattle.mls_checker.proofs.MapFrames.{place-in}
 use Rattle.mls_checker.proofs.MapReaches.{deep-home, here-in}
 use Rattle.mls_checker.proofs.FoundSquares.{and_in, in_world}
-use Rattle.mls_checker.proofs.MapWords.{place-at}
 use Rattle.mls_checker.proofs.ReachLemmas.{halo-bounds}
 
 -- a word and a bit of a place that lies so many words before another
@@ -69,28 +65,12 @@ band-word frame e first row fits wide is within =
     omega (arith, is, fits.left, fits.right, high)
 
 -- the place of a square is one of its row's word
-band-place : (frame : Frame) (e : Rect) (first x y : ℕ) → FitsIn frame e → e.left ≤ x → e.bottom ≤ y → first ≡ (e.bottom - frame.bottom) * frame.words + (e.left - frame.left) / 64
+pub band-place : (frame : Frame) (e : Rect) (first x y : ℕ) → FitsIn frame e → e.left ≤ x → e.bottom ≤ y → first ≡ (e.bottom - frame.bottom) * frame.words + (e.left - frame.left) / 64
     → place_of frame x y ≡ 64 * (first + (y - e.bottom) * frame.words) + (x - e.left)
 band-place frame e first x y fits on up is =
     let rows : y - frame.bottom ≡ (e.bottom - frame.bottom) + (y - e.bottom) = omega (arith, fits.below) in
     let columns : x - frame.left ≡ 64 * ((e.left - frame.left) / 64) + (x - e.left) = omega (arith, fits.left, fits.even) in
     ap (λ r. r * (64 * frame.words) + (x - frame.left)) rows ∙ omega (arith, columns, is)
-
-in-band : (here new old m : Bool) → (here ≡ true → new ≡ (old || m)) → (here && new) ≡ ((here && old) || (here && m))
-in-band true new old m is = is refl
-in-band false new old m is = refl
-
-pub band-marked : (frame : Frame) (map : List ℕ) (band : Band) (new : List ℕ) (first x y : ℕ) → IsBand band → FitsIn frame band.area
-    → first ≡ (band.area.bottom - frame.bottom) * frame.words + (band.area.left - frame.left) / 64
-    → ((row column : ℕ) → row < length band.marked → has_column new row column ≡ (has_column band.marked row column || has_column map (first + row * frame.words) column))
-    → squares_of_words band.area new x y ≡ with_map frame map band x y
-band-marked frame map band new first x y is fits first_is gained =
-    in-band (holds band.area x y) (has_column new (y - band.area.bottom) (x - band.area.left)) (has_column band.marked (y - band.area.bottom) (x - band.area.left)) (has_place map (place_of frame x y))
-    (λ here.
-    let lines = holds_between band.area x y here in
-    gained (y - band.area.bottom) (x - band.area.left) (omega (arith, lines.2, lines.3, is.marked))
-    ∙ ap (λ b. has_column band.marked (y - band.area.bottom) (x - band.area.left) || b)
-    (sym (place-at map (place_of frame x y) (first + (y - band.area.bottom) * frame.words) (x - band.area.left) (band-place frame band.area first x y fits lines.0 lines.2 first_is) (omega (arith, lines.0, lines.1, is.narrow)))))
 
 -- ---- rules in turn
 shallower : (frame : Frame) (less more x y : ℕ) → less ≤ more → IsDeep frame more x y → IsDeep frame less x y
@@ -144,32 +124,16 @@ forbidden-in rules layout piece x y inside =
     and_in (holds piece x y) (forbidden_by_any rules layout x y) (forbidden rules layout x y)
     (λ here. ap (λ b. b && forbidden_by_any rules layout x y) (sym (in_world piece x y inside here)))
 
--- ---- areas of marks
-not-zero : (n : ℕ) → not (suc n == 0) ≡ true
-not-zero n = grind (arith, nat_tests)
-
--- there is an area exactly where some square of the rectangle is in the set that they have
-pub areas-any : (areas : List Rect) (rect : Rect) (set : SquareSet) → AreInside rect areas → ((x y : ℕ) → squares_of areas x y ≡ (holds rect x y && set x y))
-    → not (length areas == 0) ≡ has_some rect set
-areas-any [] rect set inside are = sym (none_in_rect rect set (λ x y here. sym (are x y ∙ ap (λ b. b && set x y) here)))
-areas-any (area ∷ areas) rect set inside are =
-    let first = All-head (λ (e : Rect). IsRectangleIn rect e) area areas inside in
-    let here = between_holds area area.left area.bottom (omega arith) (omega (arith, first.wide)) (omega arith) (omega (arith, first.tall)) in
-    let marked = or_left (holds area area.left area.bottom) (squares_of areas area.left area.bottom) here in
-    let parts = and_parts (holds rect area.left area.bottom) (set area.left area.bottom) (sym (are area.left area.bottom) ∙ marked) in
-    not-zero (length areas) ∙ sym (rect_finds rect set (area.left, area.bottom, parts.0, parts.1))
-
--- the same of a map on which a rule alone has marked
-pub rule-found : (rule : EdgeRule) (layout : Layout) (frame : Frame) (rect : Rect) (old new : List ℕ) (areas : List Rect)
+-- ---- a rule alone
+-- some square of the rectangle is on a map on which a rule alone has marked exactly where the rule forbids one
+pub rule-found : (rule : EdgeRule) (layout : Layout) (frame : Frame) (rect : Rect) (old new : List ℕ)
     → IsRound frame rect (1 + max rule.distance rule.corner_distance) → ((n : ℕ) → has_place old n ≡ false)
     → GainsDeep frame (1 + max rule.distance rule.corner_distance) (λ x y. forbids rule layout (square x y)) old new
-    → AreInside rect areas → ((x y : ℕ) → squares_of areas x y ≡ (holds rect x y && has_place new (place_of frame x y)))
-    → not (length areas == 0) ≡ forbids_in rect layout rule
-rule-found rule layout frame rect old new areas round none gains inside are =
+    → has_some rect (λ x y. has_place new (place_of frame x y)) ≡ forbids_in rect layout rule
+rule-found rule layout frame rect old new round none gains =
     let h = 1 + max rule.distance rule.corner_distance in
-    areas-any areas rect (λ x y. forbids rule layout (square x y)) inside
-    (λ x y. are x y ∙ and_in (holds rect x y) (has_place new (place_of frame x y)) (forbids rule layout (square x y))
-    (λ here. gains x y (deep-in-piece frame rect h h x y round (omega arith) here) ∙ ap (λ b. b || forbids rule layout (square x y)) (none (place_of frame x y))))
+    some-same rect (λ x y. has_place new (place_of frame x y)) (λ x y. forbids rule layout (square x y))
+    (λ x y here. gains x y (deep-in-piece frame rect h h x y round (omega arith) here) ∙ ap (λ b. b || forbids rule layout (square x y)) (none (place_of frame x y)))
 
 -- a frame round a piece is one with a narrower margin
 pub narrower : (frame : Frame) (piece : Rect) (margin less : ℕ) → IsRound frame piece margin → less ≤ margin → IsRound frame piece less

@@ -10,7 +10,7 @@ use Rattle.mls_geom.specs.declared.direction.Direction.{Direction}
 use Rattle.mls_geom.specs.declared.direction.Direction.TheVariants.{Right, Up, Left, Down}
 use Rattle.mls_kinds.specs.KindSets.{has_bit as has_type}
 use Rattle.mls_checker.specs.Forbids.{forbids}
-use Rattle.mls_checker.specs.Grids.{Band, has_column, marked_in}
+use Rattle.mls_checker.specs.Grids.{has_column}
 use Rattle.mls_checker.specs.Marking.{SquareSet}
 
 -- the words have the place
@@ -46,14 +46,12 @@ frame_area frame = record { left = frame.left; bottom = frame.bottom; right = fr
 abbrev pub place_of : Frame → ℕ → ℕ → ℕ
 place_of frame x y = (y - frame.bottom) * (64 * frame.words) + (x - frame.left)
 
--- squares that tiles cover, and few
+-- squares that tiles cover
 pub record IsFrame (frame : Frame) : Type 0 where
   pub left : 1 ≤ frame.left
   pub below : 1 ≤ frame.bottom
   pub right : frame.left + 64 * frame.words ≤ 16777216
   pub above : frame.bottom + frame.rows ≤ 16777216
-  pub narrow : frame.words ≤ 32
-  pub low : frame.rows ≤ 2048
 
 -- the frame has the piece, so many squares more on each side, and the piece begins with a word
 pub record IsRound (frame : Frame) (piece : Rect) (margin : ℕ) : Type 0 where
@@ -195,7 +193,7 @@ HasLow frame depth set map = (x y : ℕ) → IsDeep frame depth x y → has_plac
 abbrev pub forbidden_by_any : List EdgeRule → Layout → SquareSet
 forbidden_by_any rules layout x y = list_any (λ rule. forbids rule layout (square x y)) rules
 
--- ---- bands that are marked from a map
+-- ---- bands that are laid on a map
 -- the area lies in the frame, and begins with a word
 pub record FitsIn (frame : Frame) (e : Rect) : Type 0 where
   pub left : frame.left ≤ e.left
@@ -203,7 +201,3 @@ pub record FitsIn (frame : Frame) (e : Rect) : Type 0 where
   pub right : e.right ≤ frame.left + 64 * frame.words
   pub above : e.top ≤ frame.bottom + frame.rows
   pub even : (e.left - frame.left) % 64 ≡ 0
-
--- the marked squares of a band, and those of the map
-abbrev pub with_map : Frame → List ℕ → Band → SquareSet
-with_map frame map band x y = marked_in band x y || (holds band.area x y && has_place map (place_of frame x y))

@@ -57,6 +57,19 @@ impl Frame {
         })
     }
 
+    /// Returns a frame of a rectangle alone.
+    pub fn of(rect: Rect) -> Frame
+        ensures { IsRound result rect 0 }
+    {
+        let lines = rect.area();
+        Frame {
+            left: lines.left,
+            bottom: lines.bottom,
+            words: (lines.right - lines.left + COLUMNS - 1) / COLUMNS,
+            rows: lines.top - lines.bottom,
+        }
+    }
+
     /// Returns the squares.
     pub fn area(self) -> Area
         ensures value { result ≡ frame_area self }
@@ -89,7 +102,7 @@ impl Frame {
         ensures frame { IsFrame self }
         ensures on { result.is_on ≡ leads_on direction }
         ensures places { result.places ≡ places_of self direction }
-        ensures short { result.places ≤ 65536 }
+        ensures short { result.places ≤ 16777216 }
     {
         let row = (COLUMNS * self.words) as usize;
         match direction {

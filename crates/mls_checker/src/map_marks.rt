@@ -9,12 +9,11 @@ ghost use Rattle.mls_edgerule.specs.Halos.{halo_of};
 ghost use Rattle.mls_geom.specs.Rects.{holds};
 
 use crate::covering::is_needed;
-use crate::grid::Grid;
 use crate::idle::is_idle;
 use crate::map_frame::Frame;
 use crate::map_words::{add_but, empty};
+use crate::mark_map::{MarkMap, has_any};
 use crate::reach_maps::{ReachMaps, words_below};
-use crate::runs::areas_of;
 use crate::type_map::{Shown, TypeMaps, list_maps};
 use crate::{Marks, Snapshot};
 use mls_edgerule::{EdgeRule, RuleSet, Rules};
@@ -68,33 +67,27 @@ impl MapMarks {
     }
 
     /// Marks the squares that the rule forbids, and no others. Returns whether some of them lie in a rectangle.
-    fn find_any(
-        &mut self,
-        alloc: Global,
-        shown: &Shown<'_>,
-        rule: &EdgeRule,
-        rect: Rect,
-    ) -> Result<bool, AllocError>
+    fn find_any(&mut self, shown: &Shown<'_>, rule: &EdgeRule, rect: Rect) -> bool
         requires shown { shown.now.frame ≡ self.old.frame }
         requires kept { AreTypeMaps shown.now.frame (copied_layout shown.now.snapshot.now) shown.now.kept.now }
         requires round { IsRound self.old.frame rect (1 + max rule.now.distance rule.now.corner_distance) }
         ensures frame { self.new.frame ≡ self.old.frame }
-        ensures any { IfOk result (λ any. any ≡ forbids_in rect (copied_layout shown.now.snapshot.now) rule.now) }
+        ensures any { result ≡ forbids_in rect (copied_layout shown.now.snapshot.now) rule.now }
     {
         if is_idle(rule, shown.snapshot) {
-            return Ok(false);
+            return false;
         }
         empty(&mut self.marked);
         self.add(shown, rule);
-        let marks = marks_of(alloc, &self.marked, self.frame, rect)?;
-        Ok(!marks.areas.is_empty())
+        has_any(&self.marked, self.frame, rect)
     }
 
-    /// Returns the marked squares.
-    fn marked(&self) -> &[u64]
-        ensures { result.now ≡ self.now.marked.items }
+    /// Returns the marked squares of a piece.
+    fn into_map(self, piece: Rect) -> MarkMap
+        requires { IsRound self.frame piece 0 }
+        ensures { result ≡ record { rect = piece; frame = self.frame; words = self.marked.items } }
     {
-        &self.marked
+        MarkMap::new(piece, self.frame, self.marked)
     }
 }
 
@@ -128,20 +121,6 @@ fn find_forbidden(
     Ok(marks)
 }
 
-/// Returns the squares of a piece that a map has.
-fn marks_of(alloc: Global, map: &[u64], frame: Frame, piece: Rect) -> Result<Marks, AllocError>
-    requires size { length map.now ≡ frame.words * frame.rows }
-    requires round { IsRound frame piece 0 }
-    ensures rect { IfOk result (λ marked. marked.rect ≡ piece) }
-    ensures marks { IfOk result (λ marked. (x y : ℕ) → marks marked x y
-        ≡ (holds piece x y && has_place map.now (place_of frame x y))) }
-{
-    let mut grid = Grid::new(alloc, piece)?;
-    grid.mark(map, frame);
-    let areas = areas_of(alloc, &grid)?;
-    Ok(Marks { rect: piece, areas })
-}
-
 /// Finds the squares of a piece that the rules forbid, on maps of the piece with so many squares more on each side.
 pub(crate) fn mark_on_maps(
     alloc: Global,
@@ -156,7 +135,7 @@ pub(crate) fn mark_on_maps(
         ≡ (holds piece x y && forbidden_by_any rules.now (copied_layout snapshot.now) x y)) }
 {
     let found = find_forbidden(alloc, rules, snapshot, frame)?;
-    marks_of(alloc, found.marked(), frame, piece)
+    Marks::of(alloc, found.into_map(piece))
 }
 
 /// Finds the rules that forbid some square of a rectangle, on maps of it with so many squares more on each side.
@@ -179,7 +158,7 @@ pub(crate) fn violated_on_maps(
     };
     let mut violated = RuleSet::empty();
     for (index, rule) in rules.as_slice().iter().enumerate() {
-        if marks.find_any(alloc, &shown, rule, rect)? {
+        if marks.find_any(&shown, rule, rect) {
             violated.insert(index + 1);
         }
     }

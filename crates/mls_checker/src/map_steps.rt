@@ -14,8 +14,8 @@ pub(crate) struct Step {
 impl Step {
     /// Returns the place a step before a place.
     pub fn before(self, place: usize) -> usize
-        requires short { self.places ≤ 65536 }
-        requires low { place ≤ 16777216 }
+        requires short { self.places ≤ 16777216 }
+        requires low { place ≤ 8589934592 }
         ensures value { result ≡ place_before self.is_on self.places place }
         ensures near { result ≤ place + self.places }
     {
@@ -28,7 +28,7 @@ impl Step {
 
     /// Returns where so many steps begin: at home, or so that they end there, where they lead on.
     pub fn start(self, home: usize, count: usize) -> usize
-        requires short { self.places ≤ 65536 }
+        requires short { self.places ≤ 16777216 }
         requires few { count ≤ 256 }
         ensures value { result ≡ start_of self.is_on self.places count home }
         ensures near { result ≤ home }
@@ -44,7 +44,7 @@ impl Step {
 /// Makes each place of a map as many, each so many places before the last.
 pub(crate) fn widen(map: &mut [u64], moved: &mut [u64], places: usize, count: usize)
     requires length { length map.old ≡ length moved.old }
-    requires short { places ≤ 65536 }
+    requires short { places ≤ 16777216 }
     requires few { count ≤ 256 }
     ensures { (n : ℕ) → n + (count - 1) * places + 64 < 64 * length map.old → has_place map.new n
         ≡ has_ahead (has_place map.old) places count n }

@@ -9,7 +9,6 @@ ghost use Rattle.mls_geom.specs.Rects.{holds};
 
 use crate::grid::Grid;
 use crate::idle::is_allowed_by;
-use crate::runs::areas_of;
 use crate::tiles::Tile;
 use crate::violation_sink::ViolationSink;
 use crate::{Marks, Snapshot};
@@ -87,11 +86,8 @@ impl MarkSink {
             ≡ with_unsettled self.grid self.check_plane self.ok_types (copied_layout snapshot.now) x y) }
     {
         self.settle(snapshot);
-        let areas = areas_of(alloc, &self.grid)?;
-        Ok(Marks {
-            rect: self.grid.rect(),
-            areas,
-        })
+        let map = self.grid.to_map(alloc)?;
+        Marks::of(alloc, map)
     }
 }
 

@@ -1,10 +1,24 @@
 //! Runs of places on maps of one bit a place.
 ghost use Rattle.std.specs.Prelude.{◌≡◌, ◌*◌, ◌<◌, ◌≤◌, ℕ, true, false, not, length, IfNone, IfSome};
 ghost use Rattle.mls_checker.specs.MarkMaps.{IsPlaceRun};
+ghost use Rattle.mls_checker.specs.MarkRuns.{IsWanted};
 ghost use Rattle.mls_checker.specs.Maps.{has_place};
 
 /// How many places a word has.
 const PLACES: usize = 64;
+
+/// Returns the word of a place, or, where places are wanted that the map hasn't, its complement.
+fn word_at(map: &[u64], has: bool, place: usize) -> u64
+    requires { place < 64 * length map.now }
+    ensures { IsWanted has map.now place result }
+{
+    let word = map[place / PLACES];
+    if has {
+        word
+    } else {
+        !word
+    }
+}
 
 /// Returns the first place from one on, up to a limit, that the map has, or hasn't; the limit where there is none.
 pub(crate) fn first_place(map: &[u64], has: bool, from: usize, limit: usize) -> usize
@@ -17,16 +31,11 @@ pub(crate) fn first_place(map: &[u64], has: bool, from: usize, limit: usize) -> 
 {
     let mut place = from;
     'words: while place < limit {
-        let word = if has {
-            map[place / PLACES]
-        } else {
-            !map[place / PLACES]
-        };
-        let rest = word >> (place % PLACES) as u32;
+        let rest = word_at(map, has, place) >> (place % PLACES) as u32;
         if rest != 0 {
             return limit.min(place + rest.trailing_zeros() as usize);
         }
-        place = (place / PLACES + 1) * PLACES;
+        place = (place / PLACES * PLACES).saturating_add(PLACES);
     }
     limit
 }

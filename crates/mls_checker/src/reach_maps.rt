@@ -19,8 +19,8 @@ use std::alloc::{AllocError, Global};
 /// Adds the places where so many steps from an edge begin.
 fn add_row(map: &mut [u64], types: &TypeMaps, step: Step, home: usize, count: usize)
     requires size { length map.old ≡ types.now.frame.words * types.now.frame.rows }
-    requires short { step.places ≤ 65536 }
-    requires low { home ≤ 1048576 }
+    requires short { step.places ≤ 16777216 }
+    requires low { home ≤ 4294967296 }
     requires few { count ≤ 256 }
     ensures { (n : ℕ) → n + home + step.places + 64 < 64 * length map.old → has_place map.new n
         ≡ (has_place map.old n
@@ -41,9 +41,9 @@ fn add_row(map: &mut [u64], types: &TypeMaps, step: Step, home: usize, count: us
 /// Adds the places where so many steps from an edge that has a corner on a flank begin, with as many to the flank.
 fn add_corner(map: &mut [u64], types: &TypeMaps, step: Step, flank: Step, home: usize, count: usize)
     requires size { length map.old ≡ types.now.frame.words * types.now.frame.rows }
-    requires short { step.places ≤ 65536 }
-    requires across { flank.places ≤ 65536 }
-    requires low { home ≤ 1048576 }
+    requires short { step.places ≤ 16777216 }
+    requires across { flank.places ≤ 16777216 }
+    requires low { home ≤ 4294967296 }
     requires few { count ≤ 256 }
     ensures { (n : ℕ) → n + home + step.places + flank.places + 64 < 64 * length map.old → has_place map.new n
         ≡ (has_place map.old n || corner_at types.now.before types.now.behind types.now.beside
@@ -109,7 +109,7 @@ impl Edges<'_> {
     fn add_rows(&self, level: &mut [u64], upright: &mut [u64], count: usize, direction: Direction)
         requires level { length level.old ≡ self.now.types.now.frame.words * self.now.types.now.frame.rows }
         requires upright { length upright.old ≡ self.now.types.now.frame.words * self.now.types.now.frame.rows }
-        requires low { self.now.home ≤ 1048576 }
+        requires low { self.now.home ≤ 4294967296 }
         requires few { count ≤ 256 }
         ensures level { (n : ℕ) → Reads self.now.types.now.frame self.now.home level.old n → has_place level.new n
             ≡ (has_place level.old n || (is_level direction && row_begins self.now.types.now.before
@@ -134,7 +134,7 @@ impl Edges<'_> {
     /// types behind edges, and the flank comes first, these are blocks of the edges in its direction.
     fn add_flank(&self, blocks: &mut [u64], count: usize, direction: Direction, flank: Direction)
         requires size { length blocks.old ≡ self.now.types.now.frame.words * self.now.types.now.frame.rows }
-        requires low { self.now.home ≤ 1048576 }
+        requires low { self.now.home ≤ 4294967296 }
         requires few { count ≤ 256 }
         requires across { places_of self.now.types.now.frame direction + places_of self.now.types.now.frame flank
             ≡ 1 + 64 * self.now.types.now.frame.words }
@@ -161,7 +161,7 @@ impl Edges<'_> {
     /// Adds the places where corner blocks of the edges in a direction begin.
     fn add_corners(&self, blocks: &mut [u64], count: usize, direction: Direction)
         requires size { length blocks.old ≡ self.now.types.now.frame.words * self.now.types.now.frame.rows }
-        requires low { self.now.home ≤ 1048576 }
+        requires low { self.now.home ≤ 4294967296 }
         requires few { count ≤ 256 }
         ensures { (n : ℕ) → Reads self.now.types.now.frame self.now.home blocks.old n → 0 < count
             → has_place blocks.new n ≡ (has_place blocks.old n
@@ -187,7 +187,7 @@ impl Edges<'_> {
         requires level { length level.old ≡ self.now.types.now.frame.words * self.now.types.now.frame.rows }
         requires upright { length upright.old ≡ self.now.types.now.frame.words * self.now.types.now.frame.rows }
         requires blocks { length blocks.old ≡ self.now.types.now.frame.words * self.now.types.now.frame.rows }
-        requires low { self.now.home ≤ 1048576 }
+        requires low { self.now.home ≤ 4294967296 }
         ensures level { (n : ℕ) → Reads self.now.types.now.frame self.now.home level.old n → has_place level.new n
             ≡ list_any (λ direction. is_level direction
             && row_begins self.now.types.now.before self.now.types.now.behind self.now.types.now.frame
@@ -227,7 +227,7 @@ fn spread(
     requires upright { length upright.old ≡ length level.old }
     requires blocks { length blocks.old ≡ length level.old }
     requires moved { length moved.old ≡ length level.old }
-    requires short { row ≤ 65536 }
+    requires short { row ≤ 16777216 }
     ensures { (n : ℕ) → n + max rule.now.distance rule.now.corner_distance * (row + 1) + 64 < 64 * length level.old
         → has_place level.new n ≡ ((has_ahead (has_place level.old) 1 rule.now.distance n
         || has_ahead (has_ahead (has_place blocks.old) row rule.now.corner_distance) 1 rule.now.corner_distance n)
@@ -251,7 +251,7 @@ fn spread(
 /// Returns how many words before a square it is shown whether the edges of the rule reach it.
 pub(crate) fn words_below(frame: Frame, rule: &EdgeRule) -> usize
     ensures value { result ≡ (1 + max rule.now.distance rule.now.corner_distance) * frame.words }
-    ensures low { result ≤ 8192 }
+    ensures low { result ≤ 67108864 }
 {
     (1 + rule.distance.max(rule.corner_distance) as usize) * frame.words()
 }

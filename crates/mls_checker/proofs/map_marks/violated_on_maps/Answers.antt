@@ -9,7 +9,7 @@ use Rattle.mls_checker.proofs.MapMarks.{narrower}
 use Rattle.mls_checker.proofs.ReachLemmas.{halo-bounds}
 use Rattle.mls_checker.proofs.RuleBits.{violated_among, violated_among-all, with_violated, without_violated}
 use Rattle.mls_checker.proofs.map_marks.violated_on_maps.Goals as goal
-use Rattle.mls_checker.proofs.map_marks.violated_on_maps.Goals.{then-branch, else-branch}
+use Rattle.mls_checker.proofs.map_marks.violated_on_maps.Goals.{then-find_any, else-find_any}
 
 pub find_any-requires-clause-round : goal.find_any-requires-clause-round
 find_any-requires-clause-round c =
@@ -30,13 +30,13 @@ loop-index-preserved c =
     let same = ap length c.as_slice-rule-items.ensures.value in
     let few : index < 128 = omega (arith, same) in
     record {
-      frame = c.in_ok-find_any.ensures.frame ∙ c.loop-index.invariant.frame;
-      violated = elim c.if-branch.branch [
-        | then-branch w ↦
+      frame = c.find_any.ensures.frame ∙ c.loop-index.invariant.frame;
+      violated = elim c.if-find_any.branch [
+        | then-find_any w ↦
             w.violated-is ∙ w.insert.ensures ∙ ap (λ set. with_rule set (index + 1)) c.loop-index.invariant.violated
-            ∙ with_violated rules c.args.rect layout index rule below (sym c.rule-item.is) few (sym c.in_ok-find_any.ensures.any ∙ w.if-branch.true)
-        | else-branch w ↦
-            w.violated-is ∙ c.loop-index.invariant.violated ∙ without_violated rules c.args.rect layout index rule below (sym c.rule-item.is) (sym c.in_ok-find_any.ensures.any ∙ w.if-branch.false)
+            ∙ with_violated rules c.args.rect layout index rule below (sym c.rule-item.is) few (sym c.find_any.ensures.any ∙ w.if-find_any.true)
+        | else-find_any w ↦
+            w.violated-is ∙ c.loop-index.invariant.violated ∙ without_violated rules c.args.rect layout index rule below (sym c.rule-item.is) (sym c.find_any.ensures.any ∙ w.if-find_any.false)
       ];
     }
 
