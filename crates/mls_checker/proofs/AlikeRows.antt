@@ -1,12 +1,11 @@
 -- A row that is the same as the one below begins no area, and has as many squares.
-use Rattle.std.proofs.Common.{◌≡◌, ℕ, ◌+◌, ◌-◌, ◌*◌, ◌/◌, ◌%◌, ◌<◌, ◌≤◌, inl, inr, Bool, true, false, ◌&&◌, List, length, slice_index, refl, sym, ap, subst, ◌∙◌, arith}
+use Rattle.std.proofs.Common.{◌≡◌, ℕ, ◌+◌, ◌-◌, ◌*◌, ◌/◌, ◌%◌, ◌<◌, ◌≤◌, inl, inr, Bool, true, false, ◌&&◌, List, slice_index, refl, sym, ap, subst, ◌∙◌, arith}
 use Rattle.std.specs.List.{count_by}
 use Rattle.std.proofs.Math.Path.{fun_ext}
 use Rattle.std.proofs.lemmas.Bool.{cases_lt}
 use Rattle.std.proofs.lemmas.Bool.Decides.{nat_tests}
 use Rattle.std.proofs.lemmas.List.Elements.{All-contains}
 use Rattle.std.proofs.lemmas.List.Folds.{Any-from_list_any, list_any-from_Any}
-use Rattle.mls_geom.specs.Pictures.{columns}
 use Rattle.mls_geom.specs.Rects.{Rect, holds}
 use Rattle.mls_geom.proofs.Holds.{between_holds, holds_between}
 use Rattle.mls_kinds.specs.KindSets.{has_bit}
@@ -16,7 +15,8 @@ use Rattle.mls_checker.specs.Maps.{has_place, place_of}
 use Rattle.mls_checker.specs.Marking.{SquareSet, squares_of}
 use Rattle.mls_checker.proofs.RowRuns.{strip-goes-on}
 
-alike-run : (set : SquareSet) (low row left right : ℕ) → AreAlike set low row → IsRowRun set low left right → IsRowRun set row left right
+-- its runs are those of the one below
+pub alike-run : (set : SquareSet) (low row left right : ℕ) → AreAlike set low row → IsRowRun set low left right → IsRowRun set row left right
 alike-run set low row left right alike run = record {
   some = run.some;
   begins = λ x next. sym (alike x) ∙ run.begins x next;

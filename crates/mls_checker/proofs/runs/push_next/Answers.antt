@@ -1,4 +1,4 @@
-use Rattle.std.proofs.Common.{◌≡◌, ◌-◌, ◌∙◌, arith}
+use Rattle.std.proofs.Common.{◌-◌, ◌∙◌, arith}
 use Rattle.mls_geom.specs.Pictures.{columns}
 use Rattle.mls_checker.specs.MarkMaps.{mapped}
 use Rattle.mls_checker.proofs.AlikeRows.{alike-count, alike-done}
