@@ -45,7 +45,7 @@ rest-before has words place word zeros n wanted some is on before =
     let short = start-below word (place % 64) (place % 64 + zeros) wanted.fits some (ap (λ k. place % 64 + k) is) in
     let at : n % 64 - place % 64 < trailing_zeros w64 (word / 2 ^ (place % 64)) = omega (arith, is, short) in
     otherwise has (has_place words n) (place-bit has words place word n wanted (omega (arith, short)) ∙ unshifted word (place % 64) (n % 64) (omega (arith, short))
-        ∙ ap (λ b. b == 1) (lowest.2 (n % 64 - place % 64) at))
+    ∙ ap (λ b. b == 1) (lowest.2 (n % 64 - place % 64) at))
 
 pub rest-there : (has : Bool) (words : List ℕ) (place word zeros : ℕ) → IsWanted has words place word → 0 < word / 2 ^ (place % 64) → zeros ≡ trailing_zeros w64 (word / 2 ^ (place % 64))
     → has_place words (place + zeros) ≡ has

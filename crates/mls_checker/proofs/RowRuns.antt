@@ -82,7 +82,7 @@ strip-squares rect set area x y strip here =
     (strip.rises.rows y lines.2 lines.3).all x lines.0 lines.1
 
 -- where the row below has the run as well, the strip that has it there has it here
-strip-goes-on : (rect : Rect) (set : SquareSet) (area : Rect) (row left right x : ℕ) → IsStrip rect set area → holds area left row ≡ true
+pub strip-goes-on : (rect : Rect) (set : SquareSet) (area : Rect) (row left right x : ℕ) → IsStrip rect set area → holds area left row ≡ true
     → IsRowRun set row left right → IsRowRun set (row + 1) left right → left ≤ x → x < right → holds area x (row + 1) ≡ true
 strip-goes-on rect set area row left right x strip here below run on before =
     let lines = holds_between area left row here in

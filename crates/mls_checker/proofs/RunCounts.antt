@@ -126,6 +126,6 @@ pub no-squares-count : (set : SquareSet) (rect : Rect) → ((x y : ℕ) → set 
 unfolding square_count
 no-squares-count set rect none =
     let few = sum_by-le (λ y. count_by (λ x. set x y) (columns rect)) 0 (rows rect) (λ k d within.
-        let zero = row-count-none set rect (get_or (rows rect) k d) none in
-        omega (arith, zero)) in
+    let zero = row-count-none set rect (get_or (rows rect) k d) none in
+    omega (arith, zero)) in
     omega (arith, few)

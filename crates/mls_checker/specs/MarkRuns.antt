@@ -20,6 +20,10 @@ pub record IsNextRun (set : SquareSet) (y from left right : ℕ) : Type 0 where
   pub all : (x : ℕ) → left ≤ x → x < right → set x y ≡ true
   pub ends : set right y ≡ false
 
+-- two rows have the same columns
+abbrev pub AreAlike : SquareSet → ℕ → ℕ → Type 0
+AreAlike set low row = (x : ℕ) → set x low ≡ set x row
+
 -- the rows from one on, and before another, have just this run, and that other one hasn't
 pub record IsRise (set : SquareSet) (left right bottom top : ℕ) : Type 0 where
   pub tall : bottom < top

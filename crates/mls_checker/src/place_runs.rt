@@ -13,11 +13,7 @@ fn word_at(map: &[u64], has: bool, place: usize) -> u64
     ensures { IsWanted has map.now place result }
 {
     let word = map[place / PLACES];
-    if has {
-        word
-    } else {
-        !word
-    }
+    if has { word } else { !word }
 }
 
 /// Returns the first place from one on, up to a limit, that the map has, or hasn't; the limit where there is none.

@@ -1,17 +1,14 @@
-use Rattle.std.proofs.Common.{ap, ◌∙◌, arith}
+use Rattle.std.proofs.Common.{◌-◌, ap, ◌∙◌, arith}
 use Rattle.mls_geom.specs.Rects.{Rect}
 use Rattle.mls_checker.specs.MarkMaps.{mapped}
 use Rattle.mls_checker.proofs.RowRuns.{mapped-lines, rise-more}
 use Rattle.mls_checker.proofs.runs.end_of_rise.Goals as goal
 
-pub has_run-requires-clause-first : goal.has_run-requires-clause-first
-has_run-requires-clause-first c = (mapped-lines c.args.map.now c.args.left c.args.row (c.requires.run.all c.args.left (omega arith) c.requires.run.some)).0
-
-pub has_run-requires-clause-last : goal.has_run-requires-clause-last
-has_run-requires-clause-last c = (mapped-lines c.args.map.now c.args.left c.args.row (c.requires.run.all c.args.left (omega arith) c.requires.run.some)).1
+pub keeps_run-requires-clause-run : goal.keeps_run-requires-clause-run
+keeps_run-requires-clause-run c = c.loop-other.invariant (c.loop-other.other - 1) (omega (arith, c.loop-other.auto.other)) (omega (arith, c.loop-other.auto.other))
 
 pub loop-other-preserved : goal.loop-other-preserved
-loop-other-preserved c = rise-more (mapped c.args.map.now) c.args.left c.args.right c.args.row c.loop-other.other c.loop-other.invariant (c.has_run.ensures.has c.if-not-has_run.false)
+loop-other-preserved c = rise-more (mapped c.args.map.now) c.args.left c.args.right c.args.row c.loop-other.other c.loop-other.invariant (c.keeps_run.ensures.has c.if-not-keeps_run.false)
 
 pub returns-clause-rise : goal.returns-clause-rise
 returns-clause-rise c =

@@ -23,6 +23,6 @@ returns-clause-have c =
     let run = c.requires.run in
     let first = mapped-lines map c.args.left row (run.all c.args.left (omega arith) run.some) in
     let last = mapped-lines map (c.args.right - 1) row (run.all (c.args.right - 1) (omega (arith, run.some)) (omega (arith, run.some))) in
-    subst (λ (areas : List Rect). HaveBefore map.rect (mapped map) row c.args.right areas) (sym c.in_ok-push.ensures.items)
+    subst (λ (areas : List Rect). HaveBefore map.rect (mapped map) row c.args.right areas) (sym {A = List Rect} c.in_ok-push.ensures.items)
     (run-begins map.rect (mapped map) row c.end_of_rise.result c.args.left c.args.right c.args.areas.now.items first.0 (omega (arith, last.1)) c.requires.on c.end_of_rise.ensures.within run.some
     c.end_of_rise.ensures.rise c.requires.have)
