@@ -1,8 +1,6 @@
 -- The smallest area that has the squares of a set, line by line.
-use Rattle.std.proofs.Common.{◌≡◌, ℕ, ◌+◌, ◌-◌, ◌<◌, ◌≤◌, min, max, Bool, true, false, ◌||◌, ◌&&◌, inl, inr, true≢false, refl, sym, ap, ◌∙◌, arith}
-use Rattle.std.specs.Prelude.{nat_lt}
-use Rattle.std.proofs.lemmas.Bool.{and_from, and_parts, or_left, or_right, or_cases}
-use Rattle.std.proofs.lemmas.Bool.Decides.{nat_tests}
+use Rattle.std.proofs.Common.{◌≡◌, ℕ, ◌+◌, ◌-◌, ◌<◌, min, true, false, ◌||◌, inl, inr, true≢false, sym, ◌∙◌, arith}
+use Rattle.std.proofs.lemmas.Bool.{or_left, or_right, or_cases}
 use Rattle.mls_geom.specs.Rects.{Rect, holds, joined}
 use Rattle.mls_geom.proofs.Holds.{between_holds, holds_between}
 use Rattle.mls_geom.proofs.JoinedRects.{holds-joined_one, holds-joined_other}
@@ -23,9 +21,9 @@ tight-same set other e same is = record {
 pub tight-joined : (set other : SquareSet) (a b : Rect) → IsTightOf set a → IsTightOf other b → IsTightOf (λ x y. set x y || other x y) (joined a b)
 tight-joined set other a b is is' = record {
   all = λ x y here. elim (or_cases (set x y) (other x y) here) [
-      | inl one ↦ holds-joined_one a b x y (is.all x y one)
-      | inr two ↦ holds-joined_other a b x y (is'.all x y two)
-    ];
+    | inl one ↦ holds-joined_one a b x y (is.all x y one)
+    | inr two ↦ holds-joined_other a b x y (is'.all x y two)
+  ];
   left = λ l few each. omega (arith, is.left l few (λ x y here. each x y (or_left (set x y) (other x y) here)), is'.left l few (λ x y here. each x y (or_right (set x y) (other x y) here)));
   bottom = λ l few each. omega (arith, is.bottom l few (λ x y here. each x y (or_left (set x y) (other x y) here)), is'.bottom l few (λ x y here. each x y (or_right (set x y) (other x y) here)));
   right = λ r each. omega (arith, is.right r (λ x y here. each x y (or_left (set x y) (other x y) here)), is'.right r (λ x y here. each x y (or_right (set x y) (other x y) here)));

@@ -1,9 +1,9 @@
 -- Grids as maps.
-use Rattle.std.proofs.Common.{◌≡◌, ℕ, ◌+◌, ◌-◌, ◌%◌, ◌<◌, ◌≤◌, Bool, true, false, true≢false, ◌||◌, ◌&&◌, List, length, refl, sym, ap, subst, ◌∙◌, arith}
-use Rattle.std.specs.List.{All, list_any}
+use Rattle.std.proofs.Common.{◌≡◌, ℕ, ◌-◌, Bool, true, false, ◌||◌, ◌&&◌, List, refl, sym, ap, ◌∙◌, arith}
+use Rattle.std.specs.List.{All}
 use Rattle.std.proofs.lemmas.List.Folds.{Any-from_list_any, list_any-from_Any}
 use Rattle.std.proofs.lemmas.Bool.{and_parts}
-use Rattle.mls_geom.specs.Rects.{Rect, IsRectangleIn, holds}
+use Rattle.mls_geom.specs.Rects.{holds}
 use Rattle.mls_geom.proofs.Holds.{between_holds, holds_between}
 use Rattle.mls_checker.specs.Grids.{Band, Grid, IsGrid, band_squares, has_column, marked_in, marked_squares}
 use Rattle.mls_checker.specs.Maps.{FitsIn, Frame, IsRound, frame_area, has_place, place_of}

@@ -1,18 +1,17 @@
 -- Bands that are laid on a map.
-use Rattle.std.proofs.Common.{◌≡◌, ℕ, ◌+◌, ◌-◌, ◌*◌, ◌/◌, ◌%◌, ◌<◌, ◌≤◌, inl, inr, Bool, true, false, true≢false, ◌||◌, ◌&&◌, List, length, set, take, refl, sym, ap, subst, ◌∙◌, arith}
+use Rattle.std.proofs.Common.{◌≡◌, ℕ, ◌+◌, ◌-◌, ◌*◌, ◌/◌, ◌%◌, ◌<◌, ◌≤◌, inl, inr, Bool, true, false, ◌||◌, ◌&&◌, List, length, set, refl, sym, ap, ◌∙◌, arith}
 use Rattle.std.specs.Prelude.{bit_and, bit_or, nat_lt, slice_index}
-use Rattle.std.specs.List.{All}
-use Rattle.std.proofs.Math.Bool.{and-true, or-false}
-use Rattle.std.proofs.lemmas.Bool.{cases_eq, cases_lt, lt-ltb, and_parts}
+use Rattle.std.proofs.Math.Bool.{or-false}
+use Rattle.std.proofs.lemmas.Bool.{cases_eq, cases_lt}
 use Rattle.std.proofs.lemmas.Bool.Decides.{nat_tests}
 use Rattle.std.proofs.lemmas.Nat.{mul-le}
-use Rattle.mls_geom.specs.Rects.{Rect, IsRectangleIn, holds}
-use Rattle.mls_geom.proofs.Holds.{between_holds, holds_between}
+use Rattle.mls_geom.specs.Rects.{Rect, holds}
+use Rattle.mls_geom.proofs.Holds.{holds_between}
 use Rattle.mls_kinds.specs.KindSets.{has_bit}
-use Rattle.mls_kinds.proofs.BitLemmas.{has_bit-and, has_bit-or}
-use Rattle.mls_checker.specs.Grids.{Band, IsBand, IsGrid, has_column, is_between, marked_in}
-use Rattle.mls_checker.specs.Maps.{FitsIn, Frame, IsRound, frame_area, has_place, place_of}
-use Rattle.mls_checker.proofs.MapMarks.{band-place, band-word}
+use Rattle.mls_kinds.proofs.BitLemmas.{has_bit-and}
+use Rattle.mls_checker.specs.Grids.{Band, IsBand, has_column, is_between, marked_in}
+use Rattle.mls_checker.specs.Maps.{FitsIn, Frame, frame_area, has_place, place_of}
+use Rattle.mls_checker.proofs.MapMarks.{band-place}
 use Rattle.mls_checker.proofs.MapWords.{gained-row, place-at}
 use Rattle.mls_checker.proofs.WordRows.{below-here, below-there, gained, set-there}
 

@@ -1,9 +1,9 @@
 -- The last place of a word, and the outermost squares of a row of a map.
-use Rattle.std.proofs.Common.{◌≡◌, ℕ, suc, ◌+◌, ◌-◌, ◌*◌, ◌/◌, ◌%◌, ◌^◌, ◌<◌, ◌≤◌, inl, inr, ◌==◌, Bool, true, false, true≢false, not, ◌||◌, ◌&&◌, List, length, refl, sym, ap, subst, ◌∙◌, arith}
+use Rattle.std.proofs.Common.{◌≡◌, ℕ, suc, ◌+◌, ◌-◌, ◌*◌, ◌/◌, ◌%◌, ◌^◌, ◌<◌, ◌≤◌, inl, inr, Bool, true, false, true≢false, not, ◌||◌, ◌&&◌, List, refl, sym, ap, subst, ◌∙◌, arith}
 use Rattle.std.specs.Prelude.{bit_and, nat_lt}
 use Rattle.std.specs.Int.{leading_zeros, w64}
 use Rattle.std.proofs.Math.Bool.{and-true}
-use Rattle.std.proofs.lemmas.Bool.{and_from, and_parts, cases_eq, cases_lt}
+use Rattle.std.proofs.lemmas.Bool.{and_from, and_parts, cases_lt}
 use Rattle.std.proofs.lemmas.Bool.Decides.{nat_tests}
 use Rattle.std.proofs.lemmas.Nat.{div-mul-add, leading_top}
 use Rattle.mls_geom.specs.Rects.{Rect, IsRectangleIn, common, holds, joined}
@@ -15,7 +15,7 @@ use Rattle.mls_checker.specs.Maps.{Frame, IsRound, frame_area, has_place, place_
 use Rattle.mls_checker.specs.MarkMaps.{ArePlaceEnds, IsTightOf, MarkMap, mapped, row_squares}
 use Rattle.mls_checker.specs.Marking.{IsBoundsOf, differs, has_some}
 use Rattle.mls_checker.proofs.Bounds.{tight-bounds, tight-ends, tight-joined, tight-same}
-use Rattle.mls_checker.proofs.FoundInRect.{none_in_rect, rect_finds}
+use Rattle.mls_checker.proofs.FoundInRect.{rect_finds}
 use Rattle.mls_checker.proofs.MapWords.{place-at}
 use Rattle.mls_checker.proofs.WordBits.{shifted-bit}
 

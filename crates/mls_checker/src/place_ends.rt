@@ -47,7 +47,12 @@ fn last_place(map: &[u64], has: bool, from: usize, limit: usize) -> usize
 
 /// Returns the first one of the places from one on, up to a limit, that the map has, or hasn't, and the place after the
 /// last one.
-pub(crate) fn ends_between(map: &[u64], has: bool, from: usize, limit: usize) -> Option<(usize, usize)>
+pub(crate) fn ends_between(
+    map: &[u64],
+    has: bool,
+    from: usize,
+    limit: usize,
+) -> Option<(usize, usize)>
     requires ordered { from ≤ limit }
     requires within { limit ≤ 64 * length map.now }
     ensures none { IfNone result ((n : ℕ) → from ≤ n → n < limit → has_place map.now n ≡ not has) }

@@ -1,4 +1,4 @@
-use Rattle.std.proofs.Common.{◌≡◌, ℕ, ◌||◌, true, take, length}
+use Rattle.std.proofs.Common.{◌≡◌, ℕ, ◌||◌, true, take}
 use Rattle.mls_geom.specs.Rects.{holds}
 use Rattle.mls_checker.specs.Grids.{marked_squares}
 use Rattle.mls_checker.specs.Maps.{frame_area, has_place, place_of}

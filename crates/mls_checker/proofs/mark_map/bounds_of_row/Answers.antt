@@ -1,4 +1,4 @@
-use Rattle.std.proofs.Common.{◌≡◌, ◌+◌, ◌-◌, ◌*◌, ap, ◌∙◌, arith}
+use Rattle.std.proofs.Common.{◌+◌, ◌-◌, ◌*◌, ap, ◌∙◌}
 use Rattle.mls_geom.specs.Rects.{Rect}
 use Rattle.mls_checker.proofs.PlaceEnds.{row-ends-from}
 use Rattle.mls_checker.proofs.mark_map.bounds_of_row.Goals as goal

@@ -1,5 +1,4 @@
-use Rattle.std.proofs.Common.{◌≡◌, ◌+◌, ◌-◌, ◌*◌, ◌/◌, inl, inr, arith}
-use Rattle.std.specs.Int.{leading_zeros, w64}
+use Rattle.std.proofs.Common.{◌-◌, inl, inr, arith}
 use Rattle.std.proofs.lemmas.Bool.{cases_lt}
 use Rattle.mls_checker.proofs.PlaceEnds.{last-none, last-short, last-there, word-none}
 use Rattle.mls_checker.proofs.place_ends.last_place.Goals as goal

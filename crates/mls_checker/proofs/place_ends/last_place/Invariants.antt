@@ -1,4 +1,4 @@
-use Rattle.std.proofs.Common.{◌≡◌, ℕ, ◌-◌, ◌<◌, ◌≤◌, not}
+use Rattle.std.proofs.Common.{◌≡◌, ℕ, ◌<◌, ◌≤◌, not}
 use Rattle.mls_checker.specs.Maps.{has_place}
 use Rattle.mls_checker.proofs.place_ends.last_place.Given as goal
 

@@ -1,4 +1,4 @@
-use Rattle.std.proofs.Common.{◌≡◌, ◌/◌, ◌%◌, ◌||◌, ◌&&◌, List, ℕ, false, ap, sym, subst, ◌∙◌, rules}
+use Rattle.std.proofs.Common.{◌≡◌, ◌/◌, ◌%◌, ◌||◌, ◌&&◌, List, ℕ, false, ap, sym, subst, ◌∙◌}
 use Rattle.std.specs.List.{All}
 use Rattle.mls_geom.specs.Rects.{holds}
 use Rattle.mls_checker.specs.Grids.{Band, Grid, marked_squares}

@@ -1,5 +1,5 @@
-use Rattle.std.proofs.Common.{◌≡◌, ◌&&◌, List, ℕ, ap, sym, subst, ◌∙◌, arith}
-use Rattle.mls_geom.specs.Rects.{Rect, common, holds}
+use Rattle.std.proofs.Common.{◌&&◌, List, ℕ, ap, subst, ◌∙◌}
+use Rattle.mls_geom.specs.Rects.{common, holds}
 use Rattle.mls_checker.specs.Maps.{has_place, place_of}
 use Rattle.mls_checker.specs.MarkMaps.{MarkMap, mapped}
 use Rattle.mls_checker.specs.Marking.{IsBoundsOf, differs}
