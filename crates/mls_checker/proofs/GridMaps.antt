@@ -1,5 +1,5 @@
 -- Grids as maps.
-use Rattle.std.proofs.Common.{◌≡◌, ℕ, ◌-◌, Bool, true, false, ◌||◌, ◌&&◌, List, refl, sym, ap, ◌∙◌, arith}
+use Rattle.std.proofs.Common.{◌≡◌, ℕ, ◌-◌, ◌%◌, get_or, subst, Bool, true, false, ◌||◌, ◌&&◌, List, refl, sym, ap, ◌∙◌, arith}
 use Rattle.std.specs.List.{All}
 use Rattle.std.proofs.lemmas.List.Folds.{Any-from_list_any, list_any-from_Any}
 use Rattle.std.proofs.lemmas.Bool.{and_parts}
@@ -9,8 +9,8 @@ use Rattle.mls_checker.specs.Grids.{Band, Grid, IsGrid, band_squares, has_column
 use Rattle.mls_checker.specs.Maps.{FitsIn, Frame, IsRound, frame_area, has_place, place_of}
 
 -- the bands of a grid lie in a frame of its rectangle that begins with it
-pub bands-fit : (frame : Frame) (grid : Grid) → IsRound frame grid.rect 0 → IsGrid grid → All (λ band. FitsIn frame band.area) grid.bands
-bands-fit frame grid round is = λ k d below.
+pub bands-fit : (frame : Frame) (grid : Grid) → IsRound frame grid.rect 0 → frame.left ≡ grid.rect.left → IsGrid grid → All (λ band. FitsIn frame band.area) grid.bands
+bands-fit frame grid round begins is = λ k d below.
     let inside = is.inside k d below in
     let even = is.even k d below in
     record {
@@ -18,7 +18,7 @@ bands-fit frame grid round is = λ k d below.
       below = omega (arith, round.below, inside.bottom_in);
       right = omega (arith, round.right, inside.right_in);
       above = omega (arith, round.above, inside.top_in);
-      even = omega (arith, round.even, even, round.left, inside.left_in);
+      even = subst (λ n. ((get_or grid.bands k d).area.left - n) % 64 ≡ 0) (sym begins) even;
     }
 
 marked-bands : (bands : List Band) (x y : ℕ) → marked_squares bands x y ≡ true → band_squares bands x y ≡ true

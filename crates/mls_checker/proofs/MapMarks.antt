@@ -142,5 +142,4 @@ narrower frame piece margin less round few = record {
   below = omega (arith, round.below);
   right = omega (arith, round.right);
   above = omega (arith, round.above);
-  even = round.even;
 }

@@ -53,13 +53,12 @@ pub record IsFrame (frame : Frame) : Type 0 where
   pub right : frame.left + 64 * frame.words ≤ 16777216
   pub above : frame.bottom + frame.rows ≤ 16777216
 
--- the frame has the piece, so many squares more on each side, and the piece begins with a word
+-- the frame has the piece, and so many squares more on each side
 pub record IsRound (frame : Frame) (piece : Rect) (margin : ℕ) : Type 0 where
   pub left : frame.left + margin ≤ piece.left
   pub below : frame.bottom + margin ≤ piece.bottom
   pub right : piece.right + margin ≤ frame.left + 64 * frame.words
   pub above : piece.top + margin ≤ frame.bottom + frame.rows
-  pub even : (piece.left - frame.left) % 64 ≡ 0
 
 -- in the frame, the map has the squares of the set
 abbrev pub Shows : Frame → SquareSet → List ℕ → Type 0

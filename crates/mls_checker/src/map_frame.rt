@@ -35,8 +35,7 @@ impl Model for Frame {
 }
 
 impl Frame {
-    /// Returns a frame of the piece with so many squares more on each side, unless the piece is large. The piece begins
-    /// with a word.
+    /// Returns a frame of the piece with so many squares more on each side, unless the piece is large.
     pub fn around(piece: Rect, margin: u32) -> Option<Frame>
         requires { margin ≤ 256 }
         ensures { IfSome result (λ frame. IsRound frame piece margin) }
@@ -47,19 +46,18 @@ impl Frame {
         if width > GREATEST || height > GREATEST {
             return None;
         }
-        let beside = (margin + COLUMNS - 1) / COLUMNS;
-        let within = (width + COLUMNS - 1) / COLUMNS;
         Some(Frame {
-            left: lines.left - beside * COLUMNS,
+            left: lines.left - margin,
             bottom: lines.bottom - margin,
-            words: within + 2 * beside,
+            words: (width + 2 * margin + COLUMNS - 1) / COLUMNS,
             rows: height + 2 * margin,
         })
     }
 
     /// Returns a frame of a rectangle alone.
     pub fn of(rect: Rect) -> Frame
-        ensures { IsRound result rect 0 }
+        ensures round { IsRound result rect 0 }
+        ensures left { result.left ≡ rect.left }
     {
         let lines = rect.area();
         Frame {

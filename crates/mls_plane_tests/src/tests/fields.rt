@@ -17,11 +17,11 @@ pub type Types = [u8; 4];
 /// Returns how many words a map of a piece has: in each row those of the piece, and on each side those of the halo.
 pub fn words_of(piece: Rect, halo: u32) -> u64 {
     let lines = piece.area();
-    let beside = halo.div_ceil(64).saturating_mul(2);
+    let around = halo.saturating_mul(2);
     let width = lines.right.saturating_sub(lines.left);
     let height = lines.top.saturating_sub(lines.bottom);
-    let words = width.div_ceil(64).saturating_add(beside);
-    let rows = height.saturating_add(halo.saturating_mul(2));
+    let words = width.saturating_add(around).div_ceil(64);
+    let rows = height.saturating_add(around);
     u64::from(words).saturating_mul(u64::from(rows))
 }
 

@@ -11,7 +11,7 @@ use Rattle.mls_checker.proofs.grid.Grid.to_map.Goals as goal
 pub lay_bands-requires-clause-fits : goal.lay_bands-requires-clause-fits
 lay_bands-requires-clause-fits c =
     let grid : Grid = record { rect = c.self.inside.rect; bands = c.self.inside.bands.items } in
-    subst (λ (bands : List Band). All (λ band. FitsIn c.of-frame.result band.area) bands) (sym c.deref.ensures.value) (bands-fit c.of-frame.result grid c.of-frame.ensures c.self.invariant)
+    subst (λ (bands : List Band). All (λ band. FitsIn c.of-frame.result band.area) bands) (sym c.deref.ensures.value) (bands-fit c.of-frame.result grid c.of-frame.ensures.round c.of-frame.ensures.left c.self.invariant)
 
 pub returns-clause-squares : goal.returns-clause-squares
 returns-clause-squares c x y =
@@ -23,6 +23,6 @@ returns-clause-squares c x y =
     let back = given-back c.in_ok-words.words.items old c.lay_bands.new.map c.in_ok-words.words.len c.deref_mut.ensures.value c.lay_bands.auto.map c.deref_mut.ensures.len in
     ap (λ (m : MarkMap). mapped m x y) c.new.ensures
     ∙ ap (λ (words : List ℕ). holds grid.rect x y && has_place words (place_of frame x y)) back
-    ∙ grid-mapped frame grid old c.lay_bands.new.map x y c.of-frame.ensures c.self.invariant none
+    ∙ grid-mapped frame grid old c.lay_bands.new.map x y c.of-frame.ensures.round c.self.invariant none
     (λ here. c.lay_bands.ensures x y here ∙ ap (λ (bands : List Band). has_place old (place_of frame x y) || marked_squares bands x y) c.deref.ensures.value)
     ∙ ap (λ (g : Grid). marked_squares g.bands x y) c.self.view_is
