@@ -12,14 +12,14 @@ use Rattle.mls_seat_lines.specs.mls_wire.declared.line.Line.{Line}
 use Rattle.mls_seat_lines.specs.mls_wire.declared.line.LineFault.{LineFault}
 use Rattle.mls_seat_lines.specs.mls_wire.declared.serving.ServeFault.{ServeFault}
 use Rattle.mls_seat_lines.specs.mls_wire.declared.serving.ServeFault.TheVariants.{Read, Write, Memory}
-use Rattle.mls_seat_lines.specs.Glossaries.{book_in, glossary_of}
+use Rattle.mls_seat_lines.specs.SymbolTables.{book_in, symbols_of}
 use Rattle.mls_crew.specs.Scripts.{FailsBatch, GivesBatch, GivesScript, WritesBatch, WritesFront}
 
 module _ (on : World) (read : List (Result Line LineFault)) (audited : Bool) (out : List ℕ)
-    (gives : GivesBatch (terms_for on.setting) (book_in (glossary_of on.setting)) read audited out) where
+    (gives : GivesBatch (terms_for on.setting) (book_in (symbols_of on.setting)) read audited out) where
   -- it is what the script gives whose lines say this
   given : (script : List ℕ) → SaysScript (book_of on) (Some script) read → GivesScript on (script_of script) audited out
-  given script says = subst (λ (s : List (Result Line LineFault)). GivesBatch (terms_for on.setting) (book_in (glossary_of on.setting)) s audited out) says gives
+  given script says = subst (λ (s : List (Result Line LineFault)). GivesBatch (terms_for on.setting) (book_in (symbols_of on.setting)) s audited out) says gives
 
   pub batch_writes : (script written now : Option (List ℕ)) → SaysScript (book_of on) script read → Appends written now out → WritesBatch on script written now audited
   batch_writes None written now says gained = tt

@@ -13,7 +13,7 @@ use Rattle.mls_seat_lines.specs.mls_wire.declared.line.Line.{Line}
 use Rattle.mls_seat_lines.specs.mls_wire.declared.line.LineFault.{LineFault}
 use Rattle.mls_seat_lines.specs.mls_wire.declared.serving.ServeFault.{ServeFault}
 use Rattle.mls_seat_lines.specs.mls_wire.declared.serving.ServeFault.TheVariants.{Read, Write, Memory}
-use Rattle.mls_seat_lines.specs.Glossaries.{book_in, glossary_of}
+use Rattle.mls_seat_lines.specs.SymbolTables.{book_in, symbols_of}
 use Rattle.mls_crew.specs.Groups.{GivesGroup, GroupText, requests_handed}
 use Rattle.mls_crew.specs.Sorting.{Sorted, Sorts}
 
@@ -42,7 +42,7 @@ pub record GivesBatch (terms : Terms) (book : Names) (read : List (Result Line L
   pub all : audited ≡ list_all (λ group. group.audited) groups
 
 abbrev pub GivesScript : World → List (Option (List ℕ)) → Bool → List ℕ → Type 0
-GivesScript on lines audited out = GivesBatch (terms_for on.setting) (book_in (glossary_of on.setting)) (map (ahead_says (book_of on)) lines) audited out
+GivesScript on lines audited out = GivesBatch (terms_for on.setting) (book_in (symbols_of on.setting)) (map (ahead_says (book_of on)) lines) audited out
 
 -- the output gained what is written to the script
 abbrev pub WritesBatch : World → Option (List ℕ) → Option (List ℕ) → Option (List ℕ) → Bool → Type 0

@@ -3,7 +3,7 @@ ghost use Rattle.std.specs.Prelude.{◌≡◌, ◌++◌, [], false, IfOk, IfErr}
 ghost use Rattle.std.specs.List.{flat_map, list_all};
 ghost use Rattle.mls_seat_lines.specs.mls_server.Servers.{world_of};
 ghost use Rattle.mls_seat_lines.specs.mls_server.Settings.{terms_for};
-ghost use Rattle.mls_seat_lines.specs.Glossaries.{book_in, glossary_of};
+ghost use Rattle.mls_seat_lines.specs.SymbolTables.{book_in, symbols_of};
 ghost use Rattle.mls_crew.specs.Scripts.{FailsBatch, GivesBatch, WritesBatch};
 
 use crate::serving::{GroupText, Part};
@@ -11,7 +11,7 @@ use crate::sorting::{Opener, sort};
 use crate::threads::serve_sessions;
 use crossbeam_channel::{Receiver, unbounded};
 use mls_seat_lines::{
-    Glossary, Line, LineFault, Live, Naming, ServeFault, Served, Server, SessionId, Watched,
+    Line, LineFault, Live, Naming, ServeFault, Served, Server, SessionId, SymbolTable, Watched,
     read_script, send,
 };
 use mls_tech::Tech;
@@ -90,7 +90,7 @@ fn serve_as<N: Naming + Send + Sync, T: Threads + Wait + Sync>(
     requires tech { batch.tech ≡ (world_of batch.server).setting.tech }
     requires blank { (blank.name ≡ N.name) × (blank.parts ≡ N.parts) }
     requires parts { N.parts ≡ 65 }
-    ensures { IfOk result (λ output. GivesBatch N.terms (book_in (glossary_of (world_of batch.server).setting))
+    ensures { IfOk result (λ output. GivesBatch N.terms (book_in (symbols_of (world_of batch.server).setting))
         script.now output.audited output.text.items) }
 {
     let Batch {
@@ -99,9 +99,9 @@ fn serve_as<N: Naming + Send + Sync, T: Threads + Wait + Sync>(
         workers,
     } = batch;
     let limit = server.journal_limit();
-    let glossary = Glossary::new(alloc, &server, tech)?;
+    let symbols = SymbolTable::new(alloc, &server, tech)?;
     let live = Live::<N>::new(server, limit, blank);
-    serve_at(rt, alloc, &live, &glossary, workers, script)
+    serve_at(rt, alloc, &live, &symbols, workers, script)
 }
 
 /// Serves the lines of a script at a server in which no session is open, beside this many workers, and returns what is
@@ -110,12 +110,12 @@ fn serve_at<N: Naming + Send + Sync, T: Threads + Wait + Sync>(
     rt: &T,
     alloc: Global,
     live: &Live<N>,
-    glossary: &Glossary,
+    symbols: &SymbolTable,
     workers: usize,
     script: &[Result<Line, LineFault>],
 ) -> Result<Output, AllocError>
     requires parts { N.parts ≡ 65 }
-    ensures { IfOk result (λ output. GivesBatch N.terms (book_in glossary.now)
+    ensures { IfOk result (λ output. GivesBatch N.terms (book_in symbols.now)
         script.now output.audited output.text.items) }
 {
     let (notices, ids) = unbounded(alloc)?;
@@ -123,7 +123,7 @@ fn serve_at<N: Naming + Send + Sync, T: Threads + Wait + Sync>(
     let opener = Opener {
         alloc,
         live,
-        glossary,
+        symbols,
         notices,
     };
     let mut fresh = Vec::new(alloc);
@@ -132,7 +132,7 @@ fn serve_at<N: Naming + Send + Sync, T: Threads + Wait + Sync>(
     drop(opener);
     let part = Part {
         alloc,
-        glossary,
+        symbols,
         sorting: &sorting,
         session: 0,
     };

@@ -1,12 +1,12 @@
 //! Requests of a session of a script, at its seat.
 ghost use Rattle.std.specs.Prelude.{◌≡◌, ◌++◌, ℕ, List, [], IfOk, OnOk, length};
 ghost use Rattle.mls_seat_lines.specs.mls_live.Lists.{list_of};
-ghost use Rattle.mls_seat_lines.specs.Glossaries.{book_in};
+ghost use Rattle.mls_seat_lines.specs.SymbolTables.{book_in};
 ghost use Rattle.mls_crew.specs.Groups.{ServesRequests, GivesGroup, requests_handed};
 
 use crate::sorting::{Fresh, Sorting};
 use mls_seat_lines::{
-    Answer, Glossary, Name, Naming, Response, Seat, Wording, push_response, serve_request,
+    Answer, Name, Naming, Response, Seat, SymbolTable, Wording, push_response, serve_request,
 };
 use std::alloc::{AllocError, Global};
 use std::marker::Model;
@@ -54,7 +54,7 @@ pub struct ServedSeat<'l, N: Naming> {
 #[derive(Clone, Copy)]
 pub struct Part<'s> {
     pub alloc: Global,
-    pub glossary: &'s Glossary,
+    pub symbols: &'s SymbolTable,
     pub sorting: &'s Sorting,
     pub session: usize,
 }
@@ -75,7 +75,7 @@ pub fn serve_session<'l, N: Naming, R: Wait>(
     name: Name,
     fresh: Fresh<'l, N>,
 ) -> ServedSeat<'l, N>
-    ensures { IfOk result.group (GivesGroup N.terms (book_in part.entry.glossary.now) name
+    ensures { IfOk result.group (GivesGroup N.terms (book_in part.entry.symbols.now) name
         (requests_handed part.entry.session part.entry.sorting.now.handed)) }
 {
     let Fresh { mut seat } = fresh;
@@ -91,12 +91,12 @@ fn serve_group<N: Naming, R: Wait>(
     seat: &mut Seat<'_, N>,
 ) -> Result<GroupText, AllocError>
     requires { length (list_of seat.old) ≡ 0 }
-    ensures { IfOk result (GivesGroup N.terms (book_in part.now.glossary.now) name.now
+    ensures { IfOk result (GivesGroup N.terms (book_in part.now.symbols.now) name.now
         (requests_handed part.now.session part.now.sorting.now.handed)) }
 {
     let mut text = Vec::new(part.alloc);
     let opened = Response::Answered(*name, Answer::Opened(Ok(seat.id())));
-    push_response(part.glossary, 0, &opened, &mut text)?;
+    push_response(part.symbols, 0, &opened, &mut text)?;
     serve_requests(rt, part, name, seat, &mut text)?;
     let audited = seat.audit(rt).is_ok();
     Ok(GroupText { text, audited })
@@ -110,14 +110,14 @@ fn serve_requests<N: Naming, R: Wait>(
     seat: &mut Seat<'_, N>,
     out: &mut Vec<u8>,
 ) -> Result<(), AllocError>
-    ensures { OnOk result ((text : List ℕ) × ServesRequests N.terms (book_in part.now.glossary.now) name.now
+    ensures { OnOk result ((text : List ℕ) × ServesRequests N.terms (book_in part.now.symbols.now) name.now
         (list_of seat.old)
         (requests_handed part.now.session part.now.sorting.now.handed) text (list_of seat.new)
         × (out.new.items ≡ out.old.items ++ text)) }
 {
     let wording = Wording {
         alloc: part.alloc,
-        names: part.glossary,
+        names: part.symbols,
     };
     let lines = part.sorting.handed();
     for handed in lines {

@@ -1,15 +1,15 @@
 //! Which lines of a script have their replies at once, and which make a request that is handed to a session.
 ghost use Rattle.std.specs.Prelude.{◌≡◌, ◌+◌, ◌<◌, [], IfOk, Ok, OnOk, length, slice_index_or, vec_len};
 ghost use Rattle.mls_seat_lines.specs.mls_live.Lists.{list_of};
-ghost use Rattle.mls_seat_lines.specs.Glossaries.{book_in};
+ghost use Rattle.mls_seat_lines.specs.SymbolTables.{book_in};
 ghost use Rattle.mls_crew.specs.Sorting.{SortsOpening, Sorts, SortsLine, followed_by, at_once, faulty, handed_to, number_of_session};
 ghost use Rattle.mls_seat_lines.specs.mls_wire.Replies.{response_text};
 
 use crate::Handed;
 use crossbeam_channel::Sender;
 use mls_seat_lines::{
-    Answer, Glossary, Line, LineFault, Live, Name, Naming, OpenFault, Request, Response, Seat,
-    SessionId, push_response,
+    Answer, Line, LineFault, Live, Name, Naming, OpenFault, Request, Response, Seat, SessionId,
+    SymbolTable, push_response,
 };
 use std::alloc::{AllocError, Global};
 use std::marker::Model;
@@ -27,7 +27,7 @@ pub struct Fresh<'l, N: Naming> {
 pub struct Opener<'l, N: Naming> {
     pub alloc: Global,
     pub live: &'l Live<N>,
-    pub glossary: &'l Glossary,
+    pub symbols: &'l SymbolTable,
     pub notices: Sender<SessionId, Global>,
 }
 
@@ -100,7 +100,7 @@ impl Sorting {
     ) -> Result<(), AllocError>
         requires paired { length self.old.opened ≡ vec_len seats.old }
         ensures sorts { OnOk result ((sorted : _) × SortsLine
-            (book_in opener.now.glossary.now) n self.old.opened read.now sorted
+            (book_in opener.now.symbols.now) n self.old.opened read.now sorted
             × (self.new ≡ followed_by self.old sorted)) }
         ensures paired { OnOk result (length self.new.opened ≡ vec_len seats.new) }
     {
@@ -120,7 +120,7 @@ impl Sorting {
         seats: &mut Vec<Fresh<'l, N>>,
     ) -> Result<(), AllocError>
         requires paired { length self.old.opened ≡ vec_len seats.old }
-        ensures sorts { OnOk result ((sorted : _) × SortsLine (book_in opener.now.glossary.now) n self.old.opened
+        ensures sorts { OnOk result ((sorted : _) × SortsLine (book_in opener.now.symbols.now) n self.old.opened
             (Ok line.now) sorted × (self.new ≡ followed_by self.old sorted)) }
         ensures paired { OnOk result (length self.new.opened ≡ vec_len seats.new) }
     {
@@ -144,9 +144,9 @@ impl Sorting {
         response: &Response,
     ) -> Result<(), AllocError>
         ensures { OnOk result (self.new ≡ followed_by self.old
-            (at_once self.old.opened (response_text (book_in opener.now.glossary.now) n response.now))) }
+            (at_once self.old.opened (response_text (book_in opener.now.symbols.now) n response.now))) }
     {
-        push_response(opener.glossary, n, response, &mut self.head)
+        push_response(opener.symbols, n, response, &mut self.head)
     }
 
     /// Replies to line `n` with its fault.
@@ -157,7 +157,7 @@ impl Sorting {
         fault: LineFault,
     ) -> Result<(), AllocError>
         ensures { OnOk result (self.new ≡ followed_by self.old
-            (faulty (book_in opener.now.glossary.now) n fault self.old.opened)) }
+            (faulty (book_in opener.now.symbols.now) n fault self.old.opened)) }
     {
         self.answer(opener, n, &Response::Fault(fault))
     }
@@ -171,7 +171,7 @@ impl Sorting {
         request: Request,
     ) -> Result<(), AllocError>
         ensures { OnOk result (self.new ≡ followed_by self.old
-            (handed_to (book_in opener.now.glossary.now) n self.old.opened
+            (handed_to (book_in opener.now.symbols.now) n self.old.opened
             (number_of_session self.old.opened name.now) request)) }
     {
         let Some(session) = self.session(name) else {
@@ -192,7 +192,7 @@ impl Sorting {
     ) -> Result<(), AllocError>
         requires paired { length self.old.opened ≡ vec_len seats.old }
         ensures opens { OnOk result ((sorted : _) × SortsOpening
-            (book_in opener.now.glossary.now) n self.old.opened name.now sorted
+            (book_in opener.now.symbols.now) n self.old.opened name.now sorted
             × (self.new ≡ followed_by self.old sorted)) }
         ensures paired { OnOk result (length self.new.opened ≡ vec_len seats.new) }
     {
@@ -218,7 +218,7 @@ impl Sorting {
         fault: OpenFault,
     ) -> Result<(), AllocError>
         ensures { OnOk result (self.new ≡ followed_by self.old
-            (at_once self.old.opened (response_text (book_in opener.now.glossary.now) n
+            (at_once self.old.opened (response_text (book_in opener.now.symbols.now) n
             (Response.Answered name.now (Answer.Opened (Err fault)))))) }
     {
         self.answer(
@@ -247,7 +247,7 @@ pub fn sort<'l, N: Naming, R: Wait>(
     seats: &mut Vec<Fresh<'l, N>>,
 ) -> Result<Sorting, AllocError>
     requires { vec_len seats.old ≡ 0 }
-    ensures sorts { IfOk result (λ sorted. Sorts (book_in opener.now.glossary.now) 1 [] script.now sorted) }
+    ensures sorts { IfOk result (λ sorted. Sorts (book_in opener.now.symbols.now) 1 [] script.now sorted) }
     ensures paired { IfOk result (λ sorted. length sorted.opened ≡ vec_len seats.new) }
 {
     let mut sorting = Sorting::new(opener.alloc);

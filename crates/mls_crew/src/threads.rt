@@ -1,6 +1,6 @@
 //! The threads of a script: one for each session, and the workers beside them.
 ghost use Rattle.std.specs.Prelude.{◌≡◌, ◌≤◌, [], false, IfOk, OnOk, length, vec_len, vec_capacity};
-ghost use Rattle.mls_seat_lines.specs.Glossaries.{book_in};
+ghost use Rattle.mls_seat_lines.specs.SymbolTables.{book_in};
 ghost use Rattle.mls_crew.specs.Countdowns.{CountsDown};
 ghost use Rattle.mls_crew.specs.Scripts.{GivesGroups};
 
@@ -17,7 +17,7 @@ impl<'s, 'l, N: Naming> Promise<ServedSeat<'l, N>> for Part<'s> {
     ghost use Rattle.mls_crew.specs.Scripts.{GivesPart};
 
     ghost kept_by = { λ part served. IfOk served.group
-        (GivesPart N.terms (book_in part.glossary.now) part.sorting.now part.session) };
+        (GivesPart N.terms (book_in part.symbols.now) part.sorting.now part.session) };
 }
 
 /// Serves the requests of each session in a thread of its own while workers check, one for each receiver, closes the
@@ -32,7 +32,7 @@ pub fn serve_sessions<'l, N: Naming + Send + Sync, R: Threads + Wait + Sync>(
     requires parts { N.parts ≡ 65 }
     requires paired { vec_len fresh ≡ length part.sorting.now.opened }
     ensures { IfOk result (λ groups. GivesGroups N.terms
-        (book_in part.entry.glossary.now) part.entry.sorting.now groups.items) }
+        (book_in part.entry.symbols.now) part.entry.sorting.now groups.items) }
 {
     thread::scope(
         thread::scope_env(),
@@ -41,7 +41,7 @@ pub fn serve_sessions<'l, N: Naming + Send + Sync, R: Threads + Wait + Sync>(
             requires parts { N.parts ≡ 65 }
             requires paired { vec_len fresh ≡ length part.sorting.now.opened }
             ensures { IfOk result (λ groups. GivesGroups N.terms
-                (book_in part.entry.glossary.now) part.entry.sorting.now groups.items) }
+                (book_in part.entry.symbols.now) part.entry.sorting.now groups.items) }
         {
             start_workers(rt, scope, part.alloc, live, receivers)?;
             let served = serve_all(rt, scope, part, fresh)?;
@@ -126,7 +126,7 @@ fn serve_all<'s, 'l: 's, E, N: Naming + Send + Sync + 's, R: Threads + Wait + Sy
 ) -> Result<ServedSeats<'s, 'l, N>, AllocError>
     requires { vec_len fresh ≡ length part.sorting.now.opened }
     ensures { IfOk result (λ served. served.failed ≡ false
-        → GivesGroups N.terms (book_in part.entry.glossary.now) part.entry.sorting.now served.groups.items) }
+        → GivesGroups N.terms (book_in part.entry.symbols.now) part.entry.sorting.now served.groups.items) }
 {
     let served = ServedSeats::new(part, fresh.len())?;
     let mut handles = Vec::with_capacity(part.alloc, fresh.len())?;
@@ -177,7 +177,7 @@ fn joined<'s, 'l, N: Naming, R: Threads>(
     requires seats { (vec_len served.seats ≡ 0) × (vec_len handles ≤ vec_capacity served.seats) }
     requires groups { (vec_len served.groups ≡ 0) × (vec_len handles ≤ vec_capacity served.groups) }
     ensures { vec_len handles.entry ≡ length served.entry.part.sorting.now.opened → result.failed ≡ false
-        → GivesGroups N.terms (book_in served.entry.part.glossary.now) served.entry.part.sorting.now
+        → GivesGroups N.terms (book_in served.entry.part.symbols.now) served.entry.part.sorting.now
         result.groups.items }
 {
     while let Some(handle) = handles.pop() {

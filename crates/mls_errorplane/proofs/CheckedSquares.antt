@@ -12,7 +12,7 @@ use Rattle.mls_checker.specs.Forbids.{forbidden}
 use Rattle.mls_checker.specs.Marking.{SquareSet, squares_of}
 use Rattle.mls_checker.specs.ZoneLayouts.{AgreeOutside}
 use Rattle.mls_checker.proofs.Locality.{forbidden_same_outside}
-use Rattle.mls_errorplane.specs.Checkings.{Checking, IsChecked, check_step, checked_marks, soiled}
+use Rattle.mls_errorplane.specs.Checkings.{Checking, IsChecked, check_step, checked_marks, dirtied}
 use Rattle.mls_errorplane.specs.DirtyLists.{added, dropped, first_piece_of, squares_in, zone_round}
 use Rattle.mls_errorplane.proofs.DirtySquares.{squares_of-added}
 
@@ -42,7 +42,7 @@ step-IsChecked rules layout checking right x y here none =
 -- once an edit's rectangle was added, what was right outside the areas of one layout is right outside those of the edited one
 pub edit-IsChecked :
     (rules : List EdgeRule) (rect : Rect) (layout other : Layout) (checking : Checking) → AgreeOutside rect layout other → IsChecked rules layout checking
-    → IsChecked rules other (soiled rules rect checking)
+    → IsChecked rules other (dirtied rules rect checking)
 edit-IsChecked rules rect layout other checking agree right x y here none =
     let zone = zone_round (halo_of rules) rect in
     let dirty = squares_of checking.dirty x y in

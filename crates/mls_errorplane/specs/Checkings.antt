@@ -43,5 +43,5 @@ check_step rules layout checking = record {
 }
 
 -- the squares of the rectangle, and those that the rules can tell from them, await checking
-abbrev pub soiled : List EdgeRule → Rect → Checking → Checking
-soiled rules rect checking = record checking { dirty = added checking.dirty (zone_round (halo_of rules) rect) }
+abbrev pub dirtied : List EdgeRule → Rect → Checking → Checking
+dirtied rules rect checking = record checking { dirty = added checking.dirty (zone_round (halo_of rules) rect) }

@@ -6,7 +6,7 @@ ghost use Rattle.mls_errorplane.specs.CatchingUp.{HasCaughtUp};
 ghost use Rattle.mls_errorplane.specs.ErrorPlanes.{HasMarks, ShowsMarks, StandsApart, checking_of};
 
 use crate::checked::Checked;
-use crate::{Basis, ErrorPlane, Stepped};
+use crate::{CheckContext, ErrorPlane, Stepped};
 use mls_layout::Workspace;
 use mls_stitch::Plane;
 use std::alloc::Global;
@@ -36,15 +36,15 @@ impl ErrorPlane {
         &mut self,
         alloc: Global,
         planes: &mut [Plane],
-        basis: &Basis<'_>,
+        context: &CheckContext<'_>,
         limit: u32,
         workspace: &mut Workspace,
     ) -> CaughtUp
-        requires layout { HasLayout workspace.old.pool planes.old basis.now.uses.library.now }
-        requires apart { StandsApart self.old.owner planes.old basis.now.uses.library.now }
+        requires layout { HasLayout workspace.old.pool planes.old context.now.uses.library.now }
+        requires apart { StandsApart self.old.owner planes.old context.now.uses.library.now }
         requires marks { HasMarks workspace.old.pool limit self.old }
-        ensures caught_up { HasCaughtUp basis.now.rules.now
-            (flat_layout workspace.old.pool basis.now.uses planes.old) limit
+        ensures caught_up { HasCaughtUp context.now.rules.now
+            (flat_layout workspace.old.pool context.now.uses planes.old) limit
             (checking_of workspace.old.pool self.old) result (checking_of workspace.new.pool self.new) }
         ensures marks { ShowsMarks workspace.new.pool self.new }
         ensures only { ChangesOnly workspace.old.pool workspace.new.pool self.old.owner }
@@ -54,10 +54,10 @@ impl ErrorPlane {
         let mut done = 0;
         let mut checked: Option<Checked> = None;
         'steps: while let Some(piece) = self.dirty.first_piece() {
-            match self.step(alloc, planes, basis, limit, workspace) {
+            match self.step(alloc, planes, context, limit, workspace) {
                 Stepped::Done => {
                     let mut now = Checked::after(&checked, piece);
-                    let more = self.settle(planes, basis, &mut now, limit, workspace);
+                    let more = self.settle(planes, context, &mut now, limit, workspace);
                     checked = Some(now);
                     done += 1 + more;
                 }

@@ -15,11 +15,11 @@ ghost use Rattle.mls_paint.specs.Owners.{RemovesOwners};
 ghost use Rattle.mls_paint.specs.Planes.{AddsOwner};
 ghost use Rattle.mls_stitch.specs.Tilings.{ChangesOnly};
 ghost use Rattle.mls_tilepool.specs.Pools.{IsOwner, Pool, room_of, unreserved};
-ghost use Rattle.mls_errorplane.specs.Checkings.{soiled};
+ghost use Rattle.mls_errorplane.specs.Checkings.{dirtied};
 ghost use Rattle.mls_errorplane.specs.DirtyLists.{IsDirtyList, first_piece_of};
 ghost use Rattle.mls_errorplane.specs.MarkPlanes.{most_pieces};
 
-use crate::{Basis, Dirty, Recount, mark};
+use crate::{CheckContext, Dirty, Recount, mark};
 use mls_checker::{Finding, Snapshot, check_here};
 use mls_edgerule::Rules;
 use mls_geom::Rect;
@@ -100,7 +100,7 @@ impl ErrorPlane {
     /// await checking.
     pub fn add(&mut self, rules: &Rules, rect: Rect)
         ensures added { (pool : Pool) → checking_of pool self.new
-            ≡ soiled rules.now rect (checking_of pool self.old) }
+            ≡ dirtied rules.now rect (checking_of pool self.old) }
         ensures owner { self.new.owner ≡ self.old.owner }
         ensures marked { self.new.marked ≡ self.old.marked }
     {
@@ -114,14 +114,14 @@ impl ErrorPlane {
         &mut self,
         alloc: Global,
         planes: &mut [Plane],
-        basis: &Basis<'_>,
+        context: &CheckContext<'_>,
         limit: u32,
         workspace: &mut Workspace,
     ) -> Stepped
-        requires layout { HasLayout workspace.old.pool planes.old basis.now.uses.library.now }
+        requires layout { HasLayout workspace.old.pool planes.old context.now.uses.library.now }
         requires marks { HasMarks workspace.old.pool limit self.old }
-        ensures stepped { HasStepped basis.now.rules.now
-            (flat_layout workspace.old.pool basis.now.uses planes.old) limit
+        ensures stepped { HasStepped context.now.rules.now
+            (flat_layout workspace.old.pool context.now.uses planes.old) limit
             (checking_of workspace.old.pool self.old) result (checking_of workspace.new.pool self.new) }
         ensures marks { ShowsMarks workspace.new.pool self.new }
         ensures same { UnlessDone result ((self.new ≡ self.old) × (workspace.new.pool ≡ workspace.old.pool)) }
@@ -132,7 +132,7 @@ impl ErrorPlane {
         let Some(piece) = self.dirty.first_piece() else {
             return Stepped::Idle;
         };
-        let Ok(finding) = check_piece(alloc, planes, basis, piece, workspace) else {
+        let Ok(finding) = check_piece(alloc, planes, context, piece, workspace) else {
             return Stepped::Memory;
         };
         match self.mark_first(&finding, limit, workspace) {
@@ -151,15 +151,15 @@ impl ErrorPlane {
     pub fn finish(
         &mut self,
         planes: &mut [Plane],
-        basis: &Basis<'_>,
+        context: &CheckContext<'_>,
         finding: &Finding,
         limit: u32,
         workspace: &mut Workspace,
     ) -> Outcome
-        requires layout { HasLayout workspace.old.pool planes.old basis.now.uses.library.now }
+        requires layout { HasLayout workspace.old.pool planes.old context.now.uses.library.now }
         requires marks { HasMarks workspace.old.pool limit self.old }
-        ensures finished { HasFinished basis.now.rules.now (length planes.old)
-            (flat_layout workspace.old.pool basis.now.uses planes.old) limit
+        ensures finished { HasFinished context.now.rules.now (length planes.old)
+            (flat_layout workspace.old.pool context.now.uses planes.old) limit
             (checking_of workspace.old.pool self.old) finding.now result (checking_of workspace.new.pool self.new) }
         ensures marks { ShowsMarks workspace.new.pool self.new }
         ensures same { UnlessFinished result ((self.new ≡ self.old) × (workspace.new.pool ≡ workspace.old.pool)) }
@@ -167,7 +167,7 @@ impl ErrorPlane {
         ensures owner { self.new.owner ≡ self.old.owner }
         ensures owners { planes.new ≡ planes.old }
     {
-        if !self.is_fresh(planes, basis, finding, workspace) {
+        if !self.is_fresh(planes, context, finding, workspace) {
             return Outcome::Stale;
         }
         match self.mark_first(finding, limit, workspace) {
@@ -215,13 +215,13 @@ impl ErrorPlane {
     fn is_fresh(
         &self,
         planes: &mut [Plane],
-        basis: &Basis<'_>,
+        context: &CheckContext<'_>,
         finding: &Finding,
         workspace: &mut Workspace,
     ) -> bool
-        requires layout { HasLayout workspace.old.pool planes.old basis.now.uses.library.now }
-        ensures fresh { IsTrue result ↔ IsFresh basis.now.rules.now (length planes.old)
-            (flat_layout workspace.old.pool basis.now.uses planes.old)
+        requires layout { HasLayout workspace.old.pool planes.old context.now.uses.library.now }
+        ensures fresh { IsTrue result ↔ IsFresh context.now.rules.now (length planes.old)
+            (flat_layout workspace.old.pool context.now.uses planes.old)
             (checking_of workspace.old.pool self.now) finding.now }
         ensures few { IsTrue result → most_pieces finding.now.piece ≤ MARK_ROOM }
         ensures owners { planes.new ≡ planes.old }
@@ -230,10 +230,10 @@ impl ErrorPlane {
         let Some(piece) = self.dirty.first_piece() else {
             return false;
         };
-        if !is_of(finding, piece, basis.rules) {
+        if !is_of(finding, piece, context.rules) {
             return false;
         }
-        finding.snapshot().same(planes, &basis.uses, workspace)
+        finding.snapshot().same(planes, &context.uses, workspace)
     }
 
     /// Returns how many squares are marked.
@@ -301,20 +301,20 @@ pub(crate) fn recounted(marked: u64, recount: Recount) -> u64
 fn check_piece(
     alloc: Global,
     planes: &mut [Plane],
-    basis: &Basis<'_>,
+    context: &CheckContext<'_>,
     piece: Rect,
     workspace: &mut Workspace,
 ) -> Result<Finding, AllocError>
-    requires layout { HasLayout workspace.old.pool planes.old basis.now.uses.library.now }
+    requires layout { HasLayout workspace.old.pool planes.old context.now.uses.library.now }
     ensures piece { IfOk result (λ finding. finding.piece ≡ piece) }
     ensures marks { IfOk result (λ finding. (x y : ℕ) → holds piece x y ≡ true → marks finding.marks x y
-        ≡ forbidden basis.now.rules.now (flat_layout workspace.old.pool basis.now.uses planes.old) x y) }
+        ≡ forbidden context.now.rules.now (flat_layout workspace.old.pool context.now.uses planes.old) x y) }
     ensures owners { planes.new ≡ planes.old }
     ensures pool { workspace.new.pool ≡ workspace.old.pool }
 {
-    let zone = piece.grow(basis.rules.halo());
-    let snapshot = Snapshot::read(alloc, planes, &basis.uses, zone, workspace)?;
-    check_here(alloc, basis.rules, snapshot, piece)
+    let zone = piece.grow(context.rules.halo());
+    let snapshot = Snapshot::read(alloc, planes, &context.uses, zone, workspace)?;
+    check_here(alloc, context.rules, snapshot, piece)
 }
 
 /// Returns whether the finding is of this piece and by these rules.

@@ -7,7 +7,7 @@ ghost use Rattle.mls_layout.specs.Uses.{HasLayout, flat_layout};
 ghost use Rattle.mls_errorplane.specs.Halves.{AreHalves};
 ghost use Rattle.mls_errorplane.specs.Violations.{listed_violation, strip_count, violations_in};
 
-use crate::Basis;
+use crate::CheckContext;
 use crate::halving::{halves, longer_halves};
 use crate::set_strips::find_strips;
 use crate::violated::why;
@@ -27,27 +27,29 @@ use std::alloc::{AllocError, Global};
 pub fn violations(
     alloc: Global,
     planes: &mut [Plane],
-    basis: &Basis<'_>,
+    context: &CheckContext<'_>,
     rect: Rect,
     limit: usize,
     workspace: &mut Workspace,
 ) -> Result<Vec<Violation>, Unlisted>
-    requires layout { HasLayout workspace.old.pool planes.old basis.now.uses.library.now }
-    ensures value { IfOk result (λ list. list.items ≡ violations_in basis.now.rules.now rect
-        (flat_layout workspace.old.pool basis.now.uses planes.old)) }
-    ensures within { OnOk result (strip_count (violations_in basis.now.rules.now rect
-        (flat_layout workspace.old.pool basis.now.uses planes.old)) ≤ limit) }
-    ensures too_many { IfErr result (λ fault. IfTooMany fault (limit < strip_count (violations_in basis.now.rules.now
-        rect (flat_layout workspace.old.pool basis.now.uses planes.old)))) }
+    requires layout { HasLayout workspace.old.pool planes.old context.now.uses.library.now }
+    ensures value { IfOk result (λ list. list.items ≡ violations_in context.now.rules.now rect
+        (flat_layout workspace.old.pool context.now.uses planes.old)) }
+    ensures within { OnOk result (strip_count (violations_in context.now.rules.now rect
+        (flat_layout workspace.old.pool context.now.uses planes.old)) ≤ limit) }
+    ensures too_many { IfErr result (λ fault. IfTooMany fault (limit < strip_count (violations_in context.now.rules.now
+        rect (flat_layout workspace.old.pool context.now.uses planes.old)))) }
     ensures owners { planes.new ≡ planes.old }
     ensures pool { workspace.new.pool ≡ workspace.old.pool }
 {
-    let violated = why(alloc, planes, basis, rect, workspace)?;
+    let violated = why(alloc, planes, context, rect, workspace)?;
     if violated.is_empty() {
         return Ok(Vec::new(alloc));
     }
-    let mut found = Violations::new(alloc, basis.rules)?;
-    gather(alloc, planes, basis, violated, rect, &mut found, workspace)?;
+    let mut found = Violations::new(alloc, context.rules)?;
+    gather(
+        alloc, planes, context, violated, rect, &mut found, workspace,
+    )?;
     list_violations(alloc, violated, &found, rect, limit)
 }
 
@@ -55,25 +57,25 @@ pub fn violations(
 fn gather(
     alloc: Global,
     planes: &mut [Plane],
-    basis: &Basis<'_>,
+    context: &CheckContext<'_>,
     of: RuleSet,
     rect: Rect,
     found: &mut Violations,
     workspace: &mut Workspace,
 ) -> Result<(), AllocError>
-    requires layout { HasLayout workspace.old.pool planes.old basis.now.uses.library.now }
-    requires as_many { length found.old ≡ length basis.now.rules.now }
-    ensures gathered { OnOk result (GainViolations basis.now.rules.now of rect
-        (flat_layout workspace.old.pool basis.now.uses planes.old) found.old found.new) }
+    requires layout { HasLayout workspace.old.pool planes.old context.now.uses.library.now }
+    requires as_many { length found.old ≡ length context.now.rules.now }
+    ensures gathered { OnOk result (GainViolations context.now.rules.now of rect
+        (flat_layout workspace.old.pool context.now.uses planes.old) found.old found.new) }
     ensures owners { planes.new ≡ planes.old }
     ensures pool { workspace.new.pool ≡ workspace.old.pool }
 {
-    let cut = gather_or_cut(alloc, planes, basis, of, rect, found, workspace)?;
+    let cut = gather_or_cut(alloc, planes, context, of, rect, found, workspace)?;
     let Some(parts) = cut else {
         return Ok(());
     };
-    gather(alloc, planes, basis, of, parts.0, found, workspace)?;
-    gather(alloc, planes, basis, of, parts.1, found, workspace)
+    gather(alloc, planes, context, of, parts.0, found, workspace)?;
+    gather(alloc, planes, context, of, parts.1, found, workspace)
 }
 
 /// Gathers areas of the squares of the rectangle that the rules of the set forbid, or returns its halves, where many
@@ -81,28 +83,28 @@ fn gather(
 fn gather_or_cut(
     alloc: Global,
     planes: &mut [Plane],
-    basis: &Basis<'_>,
+    context: &CheckContext<'_>,
     of: RuleSet,
     rect: Rect,
     found: &mut Violations,
     workspace: &mut Workspace,
 ) -> Result<Option<(Rect, Rect)>, AllocError>
-    requires layout { HasLayout workspace.old.pool planes.old basis.now.uses.library.now }
-    requires as_many { length found.old ≡ length basis.now.rules.now }
-    ensures gathered { IfOk result (λ parts. parts ≡ None → GainViolations basis.now.rules.now of rect
-        (flat_layout workspace.old.pool basis.now.uses planes.old) found.old found.new) }
-    ensures some { IfOk result (λ parts. IfSome parts (λ halves. GainSomeViolations basis.now.rules.now of rect
-        (flat_layout workspace.old.pool basis.now.uses planes.old) found.old found.new)) }
+    requires layout { HasLayout workspace.old.pool planes.old context.now.uses.library.now }
+    requires as_many { length found.old ≡ length context.now.rules.now }
+    ensures gathered { IfOk result (λ parts. parts ≡ None → GainViolations context.now.rules.now of rect
+        (flat_layout workspace.old.pool context.now.uses planes.old) found.old found.new) }
+    ensures some { IfOk result (λ parts. IfSome parts (λ halves. GainSomeViolations context.now.rules.now of rect
+        (flat_layout workspace.old.pool context.now.uses planes.old) found.old found.new)) }
     ensures halves { IfOk result (λ parts. IfSome parts (λ halves. AreHalves rect halves.0 halves.1)) }
     ensures owners { planes.new ≡ planes.old }
     ensures pool { workspace.new.pool ≡ workspace.old.pool }
 {
-    if let Some(parts) = halves(planes, &basis.uses, rect, workspace) {
+    if let Some(parts) = halves(planes, &context.uses, rect, workspace) {
         return Ok(Some(parts));
     }
     let is_gathered = {
-        let snapshot = basis.copy_round(alloc, planes, rect, workspace)?;
-        found.find(alloc, basis.rules, of, &snapshot, rect)?
+        let snapshot = context.copy_round(alloc, planes, rect, workspace)?;
+        found.find(alloc, context.rules, of, &snapshot, rect)?
     };
     if is_gathered {
         return Ok(None);

@@ -4,7 +4,7 @@ ghost use Rattle.mls_layout.specs.Uses.{HasLayout, flat_layout};
 ghost use Rattle.mls_errorplane.specs.ErrorPlanes.{checking_of};
 ghost use Rattle.mls_errorplane.specs.Jobs.{HasGrabbed};
 
-use crate::{Basis, ErrorPlane};
+use crate::{CheckContext, ErrorPlane};
 use mls_checker::Snapshot;
 use mls_edgerule::BoxedRules;
 use mls_geom::Rect;
@@ -32,12 +32,12 @@ impl ErrorPlane {
         &self,
         alloc: Global,
         planes: &mut [Plane],
-        basis: &Basis<'_>,
+        context: &CheckContext<'_>,
         workspace: &mut Workspace,
     ) -> Result<Option<Job>, AllocError>
-        requires layout { HasLayout workspace.old.pool planes.old basis.now.uses.library.now }
-        ensures grabbed { HasGrabbed basis.now.rules.now (length planes.old)
-            (flat_layout workspace.old.pool basis.now.uses planes.old)
+        requires layout { HasLayout workspace.old.pool planes.old context.now.uses.library.now }
+        ensures grabbed { HasGrabbed context.now.rules.now (length planes.old)
+            (flat_layout workspace.old.pool context.now.uses planes.old)
             (checking_of workspace.old.pool self.now) result }
         ensures owners { planes.new ≡ planes.old }
         ensures pool { workspace.new.pool ≡ workspace.old.pool }
@@ -45,12 +45,12 @@ impl ErrorPlane {
         let Some(piece) = self.dirty.first_piece() else {
             return Ok(None);
         };
-        let zone = piece.grow(basis.rules.halo());
-        let snapshot = Snapshot::read(alloc, planes, &basis.uses, zone, workspace)?;
+        let zone = piece.grow(context.rules.halo());
+        let snapshot = Snapshot::read(alloc, planes, &context.uses, zone, workspace)?;
         Ok(Some(Job {
             piece,
             snapshot,
-            rules: BoxedRules::copy_of(alloc, basis.rules)?,
+            rules: BoxedRules::copy_of(alloc, context.rules)?,
         }))
     }
 }

@@ -8,7 +8,7 @@ ghost use Rattle.mls_edgerule.specs.RuleLists.{rule_limit};
 ghost use Rattle.mls_edgerule.specs.declared.edge_rule.EdgeRule.{EdgeRule};
 ghost use Rattle.mls_errorplane.specs.Carrying.{AreFew};
 ghost use Rattle.mls_errorplane.specs.CatchingUp.{AfterSteps, Steps};
-ghost use Rattle.mls_errorplane.specs.Checkings.{Checking, IsChecked, check_step, opening_checking, soiled};
+ghost use Rattle.mls_errorplane.specs.Checkings.{Checking, IsChecked, check_step, opening_checking, dirtied};
 ghost use Rattle.mls_errorplane.specs.DirtyLists.{IsDirtyList, added, area_of, dropped, first_piece_of, piece_of, round_all, squares_in};
 ghost use Rattle.mls_errorplane.specs.MarkPlanes.{is_marked, remarked};
 ghost use Rattle.mls_errorplane.specs.Stretches.{AreRight, DropsAll};
@@ -102,7 +102,7 @@ pub fn carrying_is_steps()
 pub fn edits_keep_marks_right()
     ensures { (rules : List EdgeRule) (rect : Rect) (layout other : Layout) (checking : Checking)
         → AgreeOutside rect layout other
-        → IsChecked rules layout checking → IsChecked rules other (soiled rules rect checking) }
+        → IsChecked rules layout checking → IsChecked rules other (dirtied rules rect checking) }
 {}
 
 /// Where no area awaits checking, the marks are exactly the squares that the rules forbid.

@@ -1,9 +1,9 @@
 //! Areas of a layout that await checking, and the marks that checks leave (Taylor and Ousterhout 1984).
 #![tactic(auto)]
 
-mod basis;
 mod carrying;
 mod catching_up;
+mod check_context;
 mod checked;
 mod differing;
 mod dirty;
@@ -23,8 +23,8 @@ mod stretches;
 mod violated;
 mod violation;
 
-pub use basis::Basis;
 pub use catching_up::CaughtUp;
+pub use check_context::CheckContext;
 pub use checked::Checked;
 pub use dirty::Dirty;
 pub use error_plane::{ErrorPlane, Outcome, Stepped};

@@ -13,7 +13,7 @@ ghost use Rattle.mls_errorplane.specs.Stretches.{AreRight, AreRightIn, AreSound,
 use crate::checked::{Checked, Source};
 use crate::dirty::lies_in_world;
 use crate::stretch::Stretch;
-use crate::{Basis, ErrorPlane};
+use crate::{CheckContext, ErrorPlane};
 use mls_geom::Rect;
 use mls_layout::{Likeness, Workspace, shows_alike};
 use mls_stitch::Plane;
@@ -46,18 +46,18 @@ fn next_most(stretch: &Stretch, most: u32) -> u32
 /// row, if the rectangle goes on with these and it shows bars.
 fn alike_source(
     planes: &mut [Plane],
-    basis: &Basis<'_>,
+    context: &CheckContext<'_>,
     checked: &Checked,
     rect: Rect,
     workspace: &mut Workspace,
 ) -> Option<Source>
-    requires layout { HasLayout workspace.old.pool planes.old basis.now.uses.library.now }
+    requires layout { HasLayout workspace.old.pool planes.old context.now.uses.library.now }
     ensures tells { IfSome result (λ source. Tells source.likeness source.rect rect) }
-    ensures alike { IfSome result (λ source. IsAlike source.likeness basis.now.rules.now
-        (flat_layout workspace.old.pool basis.now.uses planes.old) (joined source.rect rect)) }
+    ensures alike { IfSome result (λ source. IsAlike source.likeness context.now.rules.now
+        (flat_layout workspace.old.pool context.now.uses planes.old) (joined source.rect rect)) }
     ensures right { (layout : Layout) (marks : SquareSet)
-        → AreRightIn basis.now.rules.now layout marks checked.now
-        → IfSome result (λ source. AreRight basis.now.rules.now layout marks source.rect) }
+        → AreRightIn context.now.rules.now layout marks checked.now
+        → IfSome result (λ source. AreRight context.now.rules.now layout marks source.rect) }
     ensures owners { planes.new ≡ planes.old }
     ensures pool { workspace.new.pool ≡ workspace.old.pool }
 {
@@ -68,7 +68,7 @@ fn alike_source(
     lies_in_world(last.rect);
     if is_alike(
         planes,
-        basis,
+        context,
         last.likeness,
         last.rect.joined(rect),
         workspace,
@@ -77,7 +77,7 @@ fn alike_source(
     }
     let source = checked.source_of(rect)?;
     let both = source.rect.joined(rect);
-    if !is_alike(planes, basis, source.likeness, both, workspace) {
+    if !is_alike(planes, context, source.likeness, both, workspace) {
         return None;
     }
     Some(source)
@@ -87,19 +87,19 @@ fn alike_source(
 /// the rules reach, so that each plane of the layout with the uses has it there.
 fn is_alike(
     planes: &mut [Plane],
-    basis: &Basis<'_>,
+    context: &CheckContext<'_>,
     likeness: Likeness,
     rect: Rect,
     workspace: &mut Workspace,
 ) -> bool
-    requires layout { HasLayout workspace.old.pool planes.old basis.now.uses.library.now }
-    ensures alike { IsTrue result → IsAlike likeness basis.now.rules.now
-        (flat_layout workspace.old.pool basis.now.uses planes.old) rect }
+    requires layout { HasLayout workspace.old.pool planes.old context.now.uses.library.now }
+    ensures alike { IsTrue result → IsAlike likeness context.now.rules.now
+        (flat_layout workspace.old.pool context.now.uses planes.old) rect }
     ensures owners { planes.new ≡ planes.old }
     ensures pool { workspace.new.pool ≡ workspace.old.pool }
 {
-    let halo = basis.rules.halo();
-    mls_layout::is_alike(planes, &basis.uses, likeness, rect, halo, workspace)
+    let halo = context.rules.halo();
+    mls_layout::is_alike(planes, &context.uses, likeness, rect, halo, workspace)
 }
 
 impl ErrorPlane {
@@ -119,21 +119,21 @@ impl ErrorPlane {
     pub fn settle(
         &mut self,
         planes: &mut [Plane],
-        basis: &Basis<'_>,
+        context: &CheckContext<'_>,
         checked: &mut Checked,
         limit: u32,
         workspace: &mut Workspace,
     ) -> u64
-        requires layout { HasLayout workspace.old.pool planes.old basis.now.uses.library.now }
-        requires apart { StandsApart self.old.owner planes.old basis.now.uses.library.now }
+        requires layout { HasLayout workspace.old.pool planes.old context.now.uses.library.now }
+        requires apart { StandsApart self.old.owner planes.old context.now.uses.library.now }
         requires marks { HasMarks workspace.old.pool limit self.old }
-        requires right { AreRightIn basis.now.rules.now
-            (flat_layout workspace.old.pool basis.now.uses planes.old)
+        requires right { AreRightIn context.now.rules.now
+            (flat_layout workspace.old.pool context.now.uses planes.old)
             (checking_of workspace.old.pool self.old).marks checked.old }
-        ensures steps { Steps basis.now.rules.now (flat_layout workspace.old.pool basis.now.uses planes.old) limit
+        ensures steps { Steps context.now.rules.now (flat_layout workspace.old.pool context.now.uses planes.old) limit
             result (checking_of workspace.old.pool self.old) (checking_of workspace.new.pool self.new) }
-        ensures right { AreRightIn basis.now.rules.now
-            (flat_layout workspace.old.pool basis.now.uses planes.old)
+        ensures right { AreRightIn context.now.rules.now
+            (flat_layout workspace.old.pool context.now.uses planes.old)
             (checking_of workspace.new.pool self.new).marks checked.new }
         ensures fewer { result + area_of self.new.dirty ≤ area_of self.old.dirty }
         ensures marks { ShowsMarks workspace.new.pool self.new }
@@ -155,7 +155,7 @@ impl ErrorPlane {
                 most,
                 limit,
             };
-            let Some(stretch) = self.drop_one_stretch(planes, basis, &trial, workspace) else {
+            let Some(stretch) = self.drop_one_stretch(planes, context, &trial, workspace) else {
                 most /= 2;
                 continue;
             };
@@ -171,26 +171,26 @@ impl ErrorPlane {
     fn drop_one_stretch(
         &mut self,
         planes: &mut [Plane],
-        basis: &Basis<'_>,
+        context: &CheckContext<'_>,
         trial: &Trial,
         workspace: &mut Workspace,
     ) -> Option<Stretch>
         requires some { 1 ≤ trial.now.most }
-        requires layout { HasLayout workspace.old.pool planes.old basis.now.uses.library.now }
+        requires layout { HasLayout workspace.old.pool planes.old context.now.uses.library.now }
         requires marks { HasMarks workspace.old.pool trial.now.limit self.old }
-        requires sound { AreSound basis.now.rules.now
-            (flat_layout workspace.old.pool basis.now.uses planes.old)
+        requires sound { AreSound context.now.rules.now
+            (flat_layout workspace.old.pool context.now.uses planes.old)
             trial.now (checking_of workspace.old.pool self.old).marks }
-        ensures steps { IfSome result (λ stretch. Steps basis.now.rules.now
-            (flat_layout workspace.old.pool basis.now.uses planes.old) trial.now.limit stretch.pieces
+        ensures steps { IfSome result (λ stretch. Steps context.now.rules.now
+            (flat_layout workspace.old.pool context.now.uses planes.old) trial.now.limit stretch.pieces
             (checking_of workspace.old.pool self.old) (checking_of workspace.new.pool self.new)) }
         ensures fewer { IfSome result (λ stretch. (0 < stretch.pieces)
             × (stretch.pieces + area_of self.new.dirty ≤ area_of self.old.dirty)) }
-        ensures right { IfSome result (λ stretch. AreRight basis.now.rules.now
-            (flat_layout workspace.old.pool basis.now.uses planes.old)
+        ensures right { IfSome result (λ stretch. AreRight context.now.rules.now
+            (flat_layout workspace.old.pool context.now.uses planes.old)
             (checking_of workspace.new.pool self.new).marks stretch.rect) }
-        ensures sound { AreSound basis.now.rules.now
-            (flat_layout workspace.old.pool basis.now.uses planes.old)
+        ensures sound { AreSound context.now.rules.now
+            (flat_layout workspace.old.pool context.now.uses planes.old)
             trial.now (checking_of workspace.new.pool self.new).marks }
         ensures none { IfNone result ((self.new ≡ self.old) × (workspace.new.pool ≡ workspace.old.pool)) }
         ensures marks { ShowsMarks workspace.new.pool self.new }
@@ -199,7 +199,7 @@ impl ErrorPlane {
         ensures owners { planes.new ≡ planes.old }
     {
         let stretch = self.dirty.next_stretch(trial.most)?;
-        if !self.make_right(planes, basis, trial, stretch.rect, workspace) {
+        if !self.make_right(planes, context, trial, stretch.rect, workspace) {
             return None;
         }
         self.dirty.drop_stretch(&stretch);
@@ -212,25 +212,25 @@ impl ErrorPlane {
     fn make_right(
         &mut self,
         planes: &mut [Plane],
-        basis: &Basis<'_>,
+        context: &CheckContext<'_>,
         trial: &Trial,
         rect: Rect,
         workspace: &mut Workspace,
     ) -> bool
-        requires layout { HasLayout workspace.old.pool planes.old basis.now.uses.library.now }
+        requires layout { HasLayout workspace.old.pool planes.old context.now.uses.library.now }
         requires marks { HasMarks workspace.old.pool trial.now.limit self.old }
-        requires sound { AreSound basis.now.rules.now
-            (flat_layout workspace.old.pool basis.now.uses planes.old)
+        requires sound { AreSound context.now.rules.now
+            (flat_layout workspace.old.pool context.now.uses planes.old)
             trial.now (checking_of workspace.old.pool self.old).marks }
         ensures steps { IsTrue result → (count : ℕ) (old new : List Rect) → DropsAll rect count old new
-            → Steps basis.now.rules.now (flat_layout workspace.old.pool basis.now.uses planes.old) trial.now.limit count
+            → Steps context.now.rules.now (flat_layout workspace.old.pool context.now.uses planes.old) trial.now.limit count
             (record { marks = (checking_of workspace.old.pool self.old).marks; dirty = old })
             (record { marks = (checking_of workspace.new.pool self.new).marks; dirty = new }) }
-        ensures right { IsTrue result → AreRight basis.now.rules.now
-            (flat_layout workspace.old.pool basis.now.uses planes.old)
+        ensures right { IsTrue result → AreRight context.now.rules.now
+            (flat_layout workspace.old.pool context.now.uses planes.old)
             (checking_of workspace.new.pool self.new).marks rect }
-        ensures sound { AreSound basis.now.rules.now
-            (flat_layout workspace.old.pool basis.now.uses planes.old)
+        ensures sound { AreSound context.now.rules.now
+            (flat_layout workspace.old.pool context.now.uses planes.old)
             trial.now (checking_of workspace.new.pool self.new).marks }
         ensures refused { result ≡ false → (self.new ≡ self.old) × (workspace.new.pool ≡ workspace.old.pool) }
         ensures marks { ShowsMarks workspace.new.pool self.new }
@@ -243,7 +243,7 @@ impl ErrorPlane {
         if checked.block.encloses(rect) {
             return true;
         }
-        let Some(source) = alike_source(planes, basis, checked, rect, workspace) else {
+        let Some(source) = alike_source(planes, context, checked, rect, workspace) else {
             return false;
         };
         lies_in_world(rect);

@@ -3,7 +3,7 @@ ghost use Rattle.std.specs.Prelude.{◌≡◌, IfOk};
 ghost use Rattle.mls_checker.specs.Findings.{violated_rules};
 ghost use Rattle.mls_layout.specs.Uses.{HasLayout, flat_layout};
 
-use crate::Basis;
+use crate::CheckContext;
 use crate::halving::halves;
 use mls_edgerule::RuleSet;
 use mls_geom::Rect;
@@ -19,21 +19,21 @@ use std::alloc::{AllocError, Global};
 pub fn why(
     alloc: Global,
     planes: &mut [Plane],
-    basis: &Basis<'_>,
+    context: &CheckContext<'_>,
     rect: Rect,
     workspace: &mut Workspace,
 ) -> Result<RuleSet, AllocError>
-    requires layout { HasLayout workspace.old.pool planes.old basis.now.uses.library.now }
-    ensures value { IfOk result (λ violated. violated ≡ violated_rules basis.now.rules.now rect
-        (flat_layout workspace.old.pool basis.now.uses planes.old)) }
+    requires layout { HasLayout workspace.old.pool planes.old context.now.uses.library.now }
+    ensures value { IfOk result (λ violated. violated ≡ violated_rules context.now.rules.now rect
+        (flat_layout workspace.old.pool context.now.uses planes.old)) }
     ensures owners { planes.new ≡ planes.old }
     ensures pool { workspace.new.pool ≡ workspace.old.pool }
 {
-    if let Some(parts) = halves(planes, &basis.uses, rect, workspace) {
-        let violated = why(alloc, planes, basis, parts.0, workspace)?;
-        let more = why(alloc, planes, basis, parts.1, workspace)?;
+    if let Some(parts) = halves(planes, &context.uses, rect, workspace) {
+        let violated = why(alloc, planes, context, parts.0, workspace)?;
+        let more = why(alloc, planes, context, parts.1, workspace)?;
         return Ok(violated.union(more));
     }
-    let snapshot = basis.copy_round(alloc, planes, rect, workspace)?;
-    Ok(mls_checker::why(basis.rules, &snapshot, rect))
+    let snapshot = context.copy_round(alloc, planes, rect, workspace)?;
+    Ok(mls_checker::why(context.rules, &snapshot, rect))
 }

@@ -2,7 +2,7 @@ pub mod Answers
 pub mod Beside
 pub mod DispatchTables
 pub mod Scripts
-pub use Rattle.mls_seat_lines.specs.Glossaries
+pub use Rattle.mls_seat_lines.specs.SymbolTables
 pub use Rattle.mls_seat_lines.specs.mls_library
 pub use Rattle.mls_seat_lines.specs.mls_server
 pub use Rattle.mls_seat_lines.specs.mls_session

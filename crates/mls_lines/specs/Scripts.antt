@@ -12,7 +12,7 @@ use Rattle.mls_seat_lines.specs.mls_wire.Watches.{HasCause, Watched}
 use Rattle.mls_seat_lines.specs.mls_wire.declared.serving.ServeFault.{ServeFault}
 use Rattle.mls_seat_lines.specs.mls_wire.declared.serving.ServeFault.TheVariants.{Read, Write, Memory}
 use Rattle.mls_lines.specs.Answers.{AnswersLine, OpenSeat, name_held}
-use Rattle.mls_seat_lines.specs.Glossaries.{book_in, glossary_of}
+use Rattle.mls_seat_lines.specs.SymbolTables.{book_in, symbols_of}
 use Rattle.mls_lines.specs.Beside.{says_beside}
 
 -- where the script's bytes are known, its n-th line, from 1, is this one
@@ -88,7 +88,7 @@ EndsStream terms book script Write input contents old new =
 
 -- ---- over a server in which no session is open
 abbrev pub book_on : World → Names
-book_on on = book_in (glossary_of on.setting)
+book_on on = book_in (symbols_of on.setting)
 
 -- the output gained replies to lines of the script, and all lists of sessions that were closed were audited, or not all
 abbrev pub WritesStream : World → Option (List ℕ) → Option (List ℕ) → Option (List ℕ) → Bool → Type 0

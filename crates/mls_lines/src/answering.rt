@@ -6,7 +6,7 @@ ghost use Rattle.mls_seat_lines.specs.mls_wire.Pushes.{Appends};
 ghost use Rattle.mls_seat_lines.specs.mls_wire.Replies.{answer_text, response_text};
 ghost use Rattle.mls_seat_lines.specs.mls_wire.ScriptLines.{bytes_of_line};
 ghost use Rattle.mls_lines.specs.Answers.{AnswersLine, ClosesAt, OpensAt, ServesAt, fault_alone, held_by, name_held};
-ghost use Rattle.mls_seat_lines.specs.Glossaries.{book_in};
+ghost use Rattle.mls_seat_lines.specs.SymbolTables.{book_in};
 ghost use Rattle.mls_lines.specs.Beside.{says_beside};
 
 use crate::hall::{Hall, Scripted};
@@ -29,7 +29,7 @@ pub struct Clerk<'l, N: Scripted> {
     pub live: &'l Live<N>,
     /// Where notices for the workers go, if there are any.
     pub notices: Option<Sender<SessionId, Global>>,
-    pub ghost called: { hall.now.glossary ≡ N.glossary },
+    pub ghost called: { hall.now.symbols ≡ N.symbols },
 }
 
 /// A line, and its number in the script.
@@ -63,8 +63,8 @@ impl<'l, N: Scripted> Clerk<'l, N> {
         out: &mut Vec<u8>,
     ) -> Result<bool, AllocError>
         requires parts { N.parts ≡ 65 }
-        ensures { (text : List ℕ) × (audited : Bool) × AnswersLine N.terms (book_in N.glossary) line.now.n
-            (says_beside (book_in N.glossary) (name_held (held_by sitting.old)) (bytes_of_line line.now.line))
+        ensures { (text : List ℕ) × (audited : Bool) × AnswersLine N.terms (book_in N.symbols) line.now.n
+            (says_beside (book_in N.symbols) (name_held (held_by sitting.old)) (bytes_of_line line.now.line))
             (held_by sitting.old) text audited (held_by sitting.new)
             × IfOk result (λ known. known ≡ audited) × Appends result out.old out.new text }
     {
@@ -84,7 +84,7 @@ impl<'l, N: Scripted> Clerk<'l, N> {
         out: &mut Vec<u8>,
     ) -> Result<bool, AllocError>
         requires parts { N.parts ≡ 65 }
-        ensures { (text : List ℕ) × (audited : Bool) × AnswersLine N.terms (book_in N.glossary) n (Ok asked)
+        ensures { (text : List ℕ) × (audited : Bool) × AnswersLine N.terms (book_in N.symbols) n (Ok asked)
             (held_by sitting.old) text audited (held_by sitting.new)
             × IfOk result (λ known. known ≡ audited) × Appends result out.old out.new text }
     {
@@ -113,7 +113,7 @@ impl<'l, N: Scripted> Clerk<'l, N> {
         request: Request,
         out: &mut Vec<u8>,
     ) -> Result<(), AllocError>
-        ensures { (text : List ℕ) × ServesAt N.terms (book_in N.glossary) n request
+        ensures { (text : List ℕ) × ServesAt N.terms (book_in N.symbols) n request
             (held_by sitting.old) text (held_by sitting.new)
             × Appends result out.old out.new text }
     {
@@ -126,7 +126,7 @@ impl<'l, N: Scripted> Clerk<'l, N> {
         let name = sitting.name;
         let wording = Wording {
             alloc: self.hall.alloc,
-            names: &self.hall.glossary,
+            names: &self.hall.symbols,
         };
         serve_request(rt, &wording, &name, &mut sitting.seat, &request, out)
     }
@@ -139,7 +139,7 @@ impl<'l, N: Scripted> Clerk<'l, N> {
         name: Name,
         out: &mut Vec<u8>,
     ) -> Result<(), AllocError>
-        ensures { (text : List ℕ) × OpensAt (book_in N.glossary) name
+        ensures { (text : List ℕ) × OpensAt (book_in N.symbols) name
             (held_by sitting.old) text (held_by sitting.new)
             × Appends result out.old out.new text }
     {
@@ -184,7 +184,7 @@ impl<'l, N: Scripted> Clerk<'l, N> {
         out: &mut Vec<u8>,
     ) -> Result<bool, AllocError>
         requires parts { N.parts ≡ 65 }
-        ensures { (text : List ℕ) × (audited : Bool) × ClosesAt N.terms (book_in N.glossary) n name
+        ensures { (text : List ℕ) × (audited : Bool) × ClosesAt N.terms (book_in N.symbols) n name
             (held_by sitting.old) text audited (held_by sitting.new)
             × IfOk result (λ known. known ≡ audited) × Appends result out.old out.new text }
     {
@@ -205,7 +205,7 @@ impl<'l, N: Scripted> Clerk<'l, N> {
         requires parts { N.parts ≡ 65 }
         ensures { (audited : Bool) × (audited ≡ true → IsLegalList N.terms (list_of sitting.entry.seat))
             × IfOk result (λ known. known ≡ audited)
-            × Appends result out.old out.new (answer_text (book_in N.glossary) name (Answer.Closed (Ok tt))) }
+            × Appends result out.old out.new (answer_text (book_in N.symbols) name (Answer.Closed (Ok tt))) }
     {
         let Sitting { seat, .. } = sitting;
         let audited = seat.audit(rt).is_ok();
@@ -219,7 +219,7 @@ impl<'l, N: Scripted> Clerk<'l, N> {
     /// Appends that line `n` is no command, since the workers take check steps.
     fn refuse_steps(&self, n: u128, out: &mut Vec<u8>) -> Result<(), AllocError>
         ensures { Appends result out.old out.new
-            (response_text (book_in N.glossary) n (Response.Fault LineFault.UnknownCommand)) }
+            (response_text (book_in N.symbols) n (Response.Fault LineFault.UnknownCommand)) }
     {
         push_fault::<N>(self.hall, n, LineFault::UnknownCommand, out)
     }
@@ -245,10 +245,10 @@ fn parsed<N: Scripted>(
     held: Option<Name>,
     line: &Numbered<'_>,
 ) -> Result<Line, LineFault>
-    requires { hall.now.glossary ≡ N.glossary }
-    ensures { result ≡ says_beside (book_in N.glossary) held (bytes_of_line line.now.line) }
+    requires { hall.now.symbols ≡ N.symbols }
+    ensures { result ≡ says_beside (book_in N.symbols) held (bytes_of_line line.now.line) }
 {
-    parse(&hall.glossary, held, line.line)
+    parse(&hall.symbols, held, line.line)
 }
 
 /// Returns the name of the session that is open.
@@ -271,9 +271,9 @@ pub fn push_alone<N: Scripted>(
     line: &Numbered<'_>,
     out: &mut Vec<u8>,
 ) -> Result<(), AllocError>
-    requires { hall.now.glossary ≡ N.glossary }
-    ensures { (text : List ℕ) × AnswersLine N.terms (book_in N.glossary) line.now.n
-        (says_beside (book_in N.glossary) None (bytes_of_line line.now.line)) None text true None
+    requires { hall.now.symbols ≡ N.symbols }
+    ensures { (text : List ℕ) × AnswersLine N.terms (book_in N.symbols) line.now.n
+        (says_beside (book_in N.symbols) None (bytes_of_line line.now.line)) None text true None
         × Appends result out.old out.new text }
 {
     match parsed::<N>(hall, None, line) {
@@ -289,8 +289,8 @@ fn push_asked_alone<N: Scripted>(
     asked: &Line,
     out: &mut Vec<u8>,
 ) -> Result<(), AllocError>
-    requires { hall.now.glossary ≡ N.glossary }
-    ensures { (text : List ℕ) × AnswersLine N.terms (book_in N.glossary) n (Ok asked.now) None text true None
+    requires { hall.now.symbols ≡ N.symbols }
+    ensures { (text : List ℕ) × AnswersLine N.terms (book_in N.symbols) n (Ok asked.now) None text true None
         × Appends result out.old out.new text }
 {
     match asked {
@@ -327,10 +327,10 @@ fn push_answer<N: Scripted>(
     answer: Answer,
     out: &mut Vec<u8>,
 ) -> Result<(), AllocError>
-    requires { hall.now.glossary ≡ N.glossary }
-    ensures { Appends result out.old out.new (answer_text (book_in N.glossary) name answer) }
+    requires { hall.now.symbols ≡ N.symbols }
+    ensures { Appends result out.old out.new (answer_text (book_in N.symbols) name answer) }
 {
-    push_response(&hall.glossary, 0, &Response::Answered(name, answer), out)
+    push_response(&hall.symbols, 0, &Response::Answered(name, answer), out)
 }
 
 /// Appends that line `n` has this fault.
@@ -340,8 +340,8 @@ fn push_fault<N: Scripted>(
     fault: LineFault,
     out: &mut Vec<u8>,
 ) -> Result<(), AllocError>
-    requires { hall.now.glossary ≡ N.glossary }
-    ensures { Appends result out.old out.new (response_text (book_in N.glossary) n (Response.Fault fault)) }
+    requires { hall.now.symbols ≡ N.symbols }
+    ensures { Appends result out.old out.new (response_text (book_in N.symbols) n (Response.Fault fault)) }
 {
-    push_response(&hall.glossary, n, &Response::Fault(fault), out)
+    push_response(&hall.symbols, n, &Response::Fault(fault), out)
 }

@@ -1,9 +1,9 @@
 //! What all threads share.
 ghost use Rattle.std.specs.Prelude.{◌≡◌, ℕ, List, Option, Some};
-ghost use Rattle.mls_seat_lines.specs.Glossaries.{Glossary, book_in};
+ghost use Rattle.mls_seat_lines.specs.SymbolTables.{SymbolTable, book_in};
 ghost use Rattle.mls_lines.specs.Scripts.{IsScriptLine, IsReply};
 
-use crate::Glossary;
+use crate::SymbolTable;
 use crate::dispatch_table::DispatchTable;
 use mls_seat_lines::Naming;
 use std::alloc::Global;
@@ -13,7 +13,7 @@ use std::sync::atomic::{AtomicBool, Ordering};
 
 /// The name of a script over a server under a lock: what names mean there, and its bytes, where they are known.
 pub trait Scripted: Naming {
-    ghost glossary: { Glossary };
+    ghost symbols: { SymbolTable };
 
     ghost script: { Option (List ℕ) };
 }
@@ -22,7 +22,7 @@ impl Scripted for Brand {
     ghost use Rattle.std.specs.Prelude.{[], None};
     ghost use Rattle.mls_tech.specs.Readings.{nothing_read};
 
-    ghost glossary = { record { tech = nothing_read; cells = [] } };
+    ghost symbols = { record { tech = nothing_read; cells = [] } };
 
     ghost script = { None };
 }
@@ -31,7 +31,7 @@ impl Scripted for Brand {
 #[derive(Drop)]
 pub struct Hall {
     pub alloc: Global,
-    pub glossary: Glossary,
+    pub symbols: SymbolTable,
     pub table: Mutex<DispatchTable>,
     /// Whether the output failed.
     pub unwritten: AtomicBool,
@@ -76,13 +76,13 @@ pub struct Reply<N: Scripted> {
     /// Whether the list of the session that was closed, if any, is that of its journal.
     pub audited: bool,
     of: PhantomData<N>,
-    pub ghost is_reply: { IsReply N.terms (book_in N.glossary) N.script (record { text = text.items; audited = audited }) },
+    pub ghost is_reply: { IsReply N.terms (book_in N.symbols) N.script (record { text = text.items; audited = audited }) },
 }
 
 impl<N: Scripted> Reply<N> {
     /// Returns a reply of this text.
     pub fn new(text: Vec<u8>, audited: bool) -> Self
-        requires { IsReply N.terms (book_in N.glossary) N.script (record { text = text.items; audited = audited }) }
+        requires { IsReply N.terms (book_in N.symbols) N.script (record { text = text.items; audited = audited }) }
     {
         Reply {
             text,

@@ -13,7 +13,7 @@ mod threads;
 mod writing;
 
 pub use mls_seat_lines::{
-    Capacity, CellFault, CellTiles, Glossary, JournalLimit, Limits, Quota, ServeFault, Served,
-    Server, Watched, WriteFault, serve,
+    Capacity, CellFault, CellTiles, JournalLimit, Limits, Quota, ServeFault, Served, Server,
+    SymbolTable, Watched, WriteFault, serve,
 };
 pub use stream::Stream;

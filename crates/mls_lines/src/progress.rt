@@ -1,7 +1,7 @@
 //! How far the lines of a name's thread have come.
 ghost use Rattle.std.specs.Prelude.{◌≡◌};
 ghost use Rattle.mls_lines.specs.Answers.{held_by};
-ghost use Rattle.mls_seat_lines.specs.Glossaries.{book_in};
+ghost use Rattle.mls_seat_lines.specs.SymbolTables.{book_in};
 ghost use Rattle.mls_lines.specs.Scripts.{HasAnswered};
 
 use crate::answering::{Clerk, Numbered};
@@ -16,7 +16,7 @@ pub struct Progress<'l, N: Scripted> {
     clerk: Clerk<'l, N>,
     sitting: Option<Sitting<'l, N>>,
     last: u128,
-    ghost answered: { ∥ HasAnswered N.terms (book_in N.glossary) N.script last (held_by sitting) ∥₁ },
+    ghost answered: { ∥ HasAnswered N.terms (book_in N.symbols) N.script last (held_by sitting) ∥₁ },
 }
 
 impl<'l, N: Scripted> Progress<'l, N> {

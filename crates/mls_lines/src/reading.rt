@@ -32,7 +32,7 @@ pub fn read_lines<N: Scripted, I: Read, R: Wait>(
     ends: ReaderEnds<N>,
     input: &mut Watched<I>,
 ) -> Result<(), ServeFault>
-    requires called { hall.now.glossary ≡ N.glossary }
+    requires called { hall.now.symbols ≡ N.symbols }
     requires script { I.remaining input.old.device ≡ N.script }
     ensures cause { IfErr result (λ fault. fault ≡ ReadFailed → HasCause input.new) }
     ensures kind { IfErr result (λ fault. fault ≢ WriteFailed) }
@@ -62,7 +62,7 @@ fn hand<N: Scripted, R: Wait>(
     ends: &ReaderEnds<N>,
     line: Numbered<'_>,
 ) -> Result<(), AllocError>
-    requires called { hall.now.glossary ≡ N.glossary }
+    requires called { hall.now.symbols ≡ N.symbols }
     requires numbered { 0 < line.n }
     requires line { IsScriptLine N.script line.n (bytes_of_line line.line) }
 {
@@ -139,7 +139,7 @@ fn reply<N: Scripted, R: Wait>(
     ends: &ReaderEnds<N>,
     line: &Numbered<'_>,
 ) -> Result<(), AllocError>
-    requires called { hall.now.glossary ≡ N.glossary }
+    requires called { hall.now.symbols ≡ N.symbols }
     requires numbered { 0 < line.now.n }
     requires line { IsScriptLine N.script line.now.n (bytes_of_line line.now.line) }
 {

@@ -1,10 +1,10 @@
 //! The session of a name's thread.
 ghost use Rattle.std.specs.Prelude.{◌≡◌, Some};
-ghost use Rattle.mls_seat_lines.specs.Glossaries.{book_in};
+ghost use Rattle.mls_seat_lines.specs.SymbolTables.{book_in};
 ghost use Rattle.mls_lines.specs.Beside.{is_check_line, says_beside};
 ghost use Rattle.mls_seat_lines.specs.mls_wire.ScriptLines.{bytes_of_line};
 
-use crate::Glossary;
+use crate::SymbolTable;
 use mls_seat_lines::{
     Line, LineFault, Name, Naming, ScriptLine, Seat, SessionId, Sessions, parse_line,
 };
@@ -40,27 +40,27 @@ impl Sessions for Beside {
 /// commands.
 #[tactic(auto, unfolding(crate::specs::Beside::says_beside))]
 pub fn parse(
-    glossary: &Glossary,
+    symbols: &SymbolTable,
     held: Option<Name>,
     line: ScriptLine<'_>,
 ) -> Result<Line, LineFault>
-    ensures { result ≡ says_beside (book_in glossary.now) held (bytes_of_line line.entry) }
+    ensures { result ≡ says_beside (book_in symbols.now) held (bytes_of_line line.entry) }
 {
     match line {
         ScriptLine::TooLong => Err(LineFault::UnknownCommand),
-        ScriptLine::Text(bytes) => parse_text(glossary, held, bytes),
+        ScriptLine::Text(bytes) => parse_text(symbols, held, bytes),
     }
 }
 
 /// Returns what the bytes of a line say.
 #[tactic(auto, unfolding(crate::specs::Beside::says_beside))]
-fn parse_text(glossary: &Glossary, held: Option<Name>, bytes: &[u8]) -> Result<Line, LineFault>
-    ensures { result ≡ says_beside (book_in glossary.now) held (Some bytes.now) }
+fn parse_text(symbols: &SymbolTable, held: Option<Name>, bytes: &[u8]) -> Result<Line, LineFault>
+    ensures { result ≡ says_beside (book_in symbols.now) held (Some bytes.now) }
 {
     if begins_stepwise(Words::new(bytes)) {
         return Err(LineFault::UnknownCommand);
     }
-    parse_line(glossary, &Beside { held }, ScriptLine::Text(bytes))
+    parse_line(symbols, &Beside { held }, ScriptLine::Text(bytes))
 }
 
 /// Returns whether the first word is `%step` or `%steps`.

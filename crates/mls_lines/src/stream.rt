@@ -2,11 +2,11 @@
 ghost use Rattle.std.specs.Prelude.{◌≡◌, [], IfOk, IfErr};
 ghost use Rattle.mls_seat_lines.specs.mls_server.Servers.{world_of};
 ghost use Rattle.mls_seat_lines.specs.mls_server.Settings.{terms_for};
-ghost use Rattle.mls_seat_lines.specs.Glossaries.{book_in, glossary_of};
+ghost use Rattle.mls_seat_lines.specs.SymbolTables.{book_in, symbols_of};
 ghost use Rattle.mls_lines.specs.Scripts.{AreReplies, EndsStream, EndsReading, EndsWriting, FailsStream, WritesStream};
 ghost use Rattle.mls_seat_lines.specs.mls_wire.Serving.{Gains};
 
-use crate::Glossary;
+use crate::SymbolTable;
 use crate::dispatch_table::{DispatchTable, NAME_THREADS};
 use crate::hall::{Hall, Queued, Reply, Scripted};
 use crate::reading::{ReaderEnds, read_lines};
@@ -29,7 +29,7 @@ pub struct Stream {
     /// The server.
     pub server: Server,
     /// What names mean there.
-    pub glossary: Glossary,
+    pub symbols: SymbolTable,
     /// How many workers there are.
     pub workers: usize,
 }
@@ -69,7 +69,7 @@ impl Stream {
         output: &mut Watched<W>,
     ) -> Result<Served, ServeFault>
         requires idle { (world_of self.server).seats ≡ [] }
-        requires glossary { self.glossary ≡ glossary_of (world_of self.server).setting }
+        requires symbols { self.symbols ≡ symbols_of (world_of self.server).setting }
         ensures served { IfOk result (λ served. WritesStream (world_of self.server) (I.remaining input.old.device)
             (W.contents output.old.device) (W.contents output.new.device) served.audited) }
         ensures failed { IfErr result (λ fault. FailsStream (world_of self.server) fault
@@ -92,17 +92,17 @@ fn serve_as<N: Scripted + Send + Sync, I: Read, W: Write + Send, T: Threads + Wa
     requires idle { (world_of stream.server).seats ≡ [] }
     requires blank { (made.1.name ≡ N.name) × (made.1.parts ≡ N.parts) }
     requires parts { N.parts ≡ 65 }
-    requires glossary { stream.glossary ≡ N.glossary }
+    requires symbols { stream.symbols ≡ N.symbols }
     requires script { I.remaining input.old.device ≡ N.script }
     ensures served { IfOk result (λ served. Gains (W.contents output.old.device) (W.contents output.new.device)
-        (AreReplies N.terms (book_in N.glossary) N.script served.audited)) }
-    ensures failed { IfErr result (λ fault. EndsStream N.terms (book_in N.glossary) N.script fault input.new
+        (AreReplies N.terms (book_in N.symbols) N.script served.audited)) }
+    ensures failed { IfErr result (λ fault. EndsStream N.terms (book_in N.symbols) N.script fault input.new
         W.contents output.old output.new) }
 {
     let (alloc, blank) = made;
     let Stream {
         server,
-        glossary,
+        symbols,
         workers,
     } = stream;
     let limit = server.journal_limit();
@@ -110,7 +110,7 @@ fn serve_as<N: Scripted + Send + Sync, I: Read, W: Write + Send, T: Threads + Wa
     let ends = Ends::new(alloc, workers)?;
     let hall = Hall {
         alloc,
-        glossary,
+        symbols,
         table: Mutex::new(DispatchTable::new()),
         unwritten: AtomicBool::new(false),
         refused: AtomicBool::new(false),
@@ -138,10 +138,10 @@ fn run<N: Scripted + Send + Sync, I: Read, W: Write + Send, T: Threads + Wait + 
     output: &mut Watched<W>,
 ) -> Ended
     requires parts { N.parts ≡ 65 }
-    requires called { shared.0.now.glossary ≡ N.glossary }
+    requires called { shared.0.now.symbols ≡ N.symbols }
     requires script { I.remaining input.old.device ≡ N.script }
     ensures read { EndsReading result.read input.new }
-    ensures written { EndsWriting N.terms (book_in N.glossary) N.script W.contents result.written output.old output.new }
+    ensures written { EndsWriting N.terms (book_in N.symbols) N.script W.contents result.written output.old output.new }
 {
     let (hall, live) = shared;
     let Ends {
@@ -156,18 +156,18 @@ fn run<N: Scripted + Send + Sync, I: Read, W: Write + Send, T: Threads + Wait + 
     let ((written, answered), read) = join_mut(
         rt,
         &mut || -> (Result<bool, WriteFault>, Result<(), AllocError>)
-            requires { (N.parts ≡ 65) × (hall.now.glossary ≡ N.glossary) }
-            ensures { EndsWriting N.terms (book_in N.glossary) N.script W.contents result.0
+            requires { (N.parts ≡ 65) × (hall.now.symbols ≡ N.symbols) }
+            ensures { EndsWriting N.terms (book_in N.symbols) N.script W.contents result.0
                 output.entry.now output.exit.now }
         {
             join_mut(
                 rt,
                 &mut || -> Result<bool, WriteFault>
-                    ensures { EndsWriting N.terms (book_in N.glossary) N.script W.contents result
+                    ensures { EndsWriting N.terms (book_in N.symbols) N.script W.contents result
                         output.entry.now output.exit.now }
                 { write_replies(rt, hall, &replies, output) },
                 &mut || -> Result<(), AllocError>
-                    requires { (N.parts ≡ 65) × (hall.now.glossary ≡ N.glossary) }
+                    requires { (N.parts ≡ 65) × (hall.now.symbols ≡ N.symbols) }
                 {
                     match threads.take() {
                         Some((name_threads, workers)) => answer_all(
@@ -183,7 +183,7 @@ fn run<N: Scripted + Send + Sync, I: Read, W: Write + Send, T: Threads + Wait + 
             )
         },
         &mut || -> Result<(), ServeFault>
-            requires { (I.remaining input.now.device ≡ N.script) × (hall.now.glossary ≡ N.glossary) }
+            requires { (I.remaining input.now.device ≡ N.script) × (hall.now.symbols ≡ N.symbols) }
             ensures { EndsReading result input.exit.now }
         {
             match reader.take() {

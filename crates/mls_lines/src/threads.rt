@@ -30,13 +30,13 @@ pub fn answer_all<N: Scripted + Send + Sync, R: Threads + Wait + Sync>(
     workers: Vec<Receiver<SessionId, Global>>,
 ) -> Result<(), AllocError>
     requires parts { N.parts ≡ 65 }
-    requires called { hall.now.glossary ≡ N.glossary }
+    requires called { hall.now.symbols ≡ N.symbols }
 {
     let answered = thread::scope(
         thread::scope_env(),
         rt,
         move |scope| -> Result<(), AllocError>
-            requires { (N.parts ≡ 65) × (hall.now.glossary ≡ N.glossary) }
+            requires { (N.parts ≡ 65) × (hall.now.symbols ≡ N.symbols) }
         { start(rt, scope, (hall, live), name_threads, workers) },
     );
     if answered.is_err() {
@@ -54,7 +54,7 @@ fn start<'s, E, N: Scripted + Send + Sync + 's, R: Threads + Wait + Sync>(
     workers: Vec<Receiver<SessionId, Global>>,
 ) -> Result<(), AllocError>
     requires parts { N.parts ≡ 65 }
-    requires called { shared.0.now.glossary ≡ N.glossary }
+    requires called { shared.0.now.symbols ≡ N.symbols }
 {
     let (hall, live) = shared;
     let mut handles = Vec::with_capacity(hall.alloc, name_threads.len())?;
@@ -93,7 +93,7 @@ fn answer_lines<'l, N: Scripted, R: Wait>(
     name_thread: NameThread<N>,
 )
     requires parts { N.parts ≡ 65 }
-    requires called { hall.now.glossary ≡ N.glossary }
+    requires called { hall.now.symbols ≡ N.symbols }
 {
     let NameThread {
         number,

@@ -1,7 +1,7 @@
 //! The writer of replies.
 ghost use Rattle.std.specs.Prelude.{◌≡◌, ℕ, List, IfOk, OnOk, OnErr};
 ghost use Rattle.std.specs.Io.KnownBytes.{Appends};
-ghost use Rattle.mls_seat_lines.specs.Glossaries.{book_in};
+ghost use Rattle.mls_seat_lines.specs.SymbolTables.{book_in};
 ghost use Rattle.mls_lines.specs.Scripts.{AreReplies, AreSomeReplies};
 ghost use Rattle.mls_seat_lines.specs.mls_wire.Serving.{AppendsFront, Gains};
 ghost use Rattle.mls_seat_lines.specs.mls_wire.Watches.{HasCause};
@@ -23,8 +23,8 @@ pub fn write_replies<N: Scripted, W: Write, R: Wait>(
     output: &mut Watched<W>,
 ) -> Result<bool, WriteFault>
     ensures ok { IfOk result (λ audited. Gains (W.contents output.old.device) (W.contents output.new.device)
-        (AreReplies N.terms (book_in N.glossary) N.script audited)) }
-    ensures err { OnErr result ((out : List ℕ) × AreSomeReplies N.terms (book_in N.glossary) N.script out
+        (AreReplies N.terms (book_in N.symbols) N.script audited)) }
+    ensures err { OnErr result ((out : List ℕ) × AreSomeReplies N.terms (book_in N.symbols) N.script out
         × AppendsFront (W.contents output.old.device) (W.contents output.new.device) out) }
     ensures cause { OnErr result (HasCause output.new) }
 {

@@ -10,7 +10,7 @@ ghost use Rattle.mls_magicd.specs.CommandLines.{AskForNoLive, AskForLive, Parses
 ghost use Rattle.mls_magicd.specs.Messages.{Reports, ReportsAll, fault_message};
 ghost use Rattle.mls_magicd.specs.Programs as spec;
 ghost use Rattle.mls_magicd.specs.Technologies.{text_in};
-ghost use Rattle.mls_lines.specs.Glossaries.{glossary_of};
+ghost use Rattle.mls_lines.specs.SymbolTables.{symbols_of};
 
 use crate::cells::load_cells;
 use crate::messages::{report_fault, report_skipped};
@@ -19,7 +19,7 @@ use crate::technology::TechnologyText;
 use crate::{Devices, Fault, Files};
 use mls_crew::Batch;
 use mls_edgerule::{Rules, compile};
-use mls_lines::{Glossary, Limits, Server, Stream, Watched, serve};
+use mls_lines::{Limits, Server, Stream, SymbolTable, Watched, serve};
 use mls_tech::Tech;
 use std::alloc::{AllocError, Global};
 use std::convert::AsStr;
@@ -321,7 +321,7 @@ fn start_stream<'a, F: Files, E: Write>(
         → spec.IsConfiguredBy (F.reads_as files.now) words (world_of stream.server)
         × ReportsAll E.contents faults.old faults.new (spec.skipped_lines (world_of stream.server).setting.tech)) }
     ensures idle { IfOk result (λ stream. (world_of stream.server).seats ≡ []) }
-    ensures glossary { IfOk result (λ stream. stream.glossary ≡ glossary_of (world_of stream.server).setting) }
+    ensures symbols { IfOk result (λ stream. stream.symbols ≡ symbols_of (world_of stream.server).setting) }
     ensures err { IfErr result (λ fault. (words : List (List ℕ)) → ParsesAs words options.now
         → spec.FailsAtStart (F.reads_as files.now)
         (F.may_fail files.now) words E.contents faults.old faults.new fault) }
@@ -332,12 +332,12 @@ fn start_stream<'a, F: Files, E: Write>(
         tech,
         workers,
     } = start_batch(alloc, files, options, faults)?;
-    let Ok(glossary) = Glossary::new(alloc, &server, tech) else {
+    let Ok(symbols) = SymbolTable::new(alloc, &server, tech) else {
         return Err(Fault::Memory);
     };
     Ok(Stream {
         server,
-        glossary,
+        symbols,
         workers,
     })
 }

@@ -1,4 +1,4 @@
 pub mod Commands
-pub mod GlossaryLemmas
+pub mod SymbolTableLemmas
 pub mod Results
 pub use Rattle.mls_wire.proofs as mls_wire

@@ -1,4 +1,4 @@
-pub mod Glossaries
+pub mod SymbolTables
 pub mod Requests
 pub use Rattle.mls_wire.specs.mls_library
 pub use Rattle.mls_live.specs as mls_live

@@ -1,12 +1,11 @@
 //! Requests of one session: served at its seat, with their replies appended to a text, and what names mean there.
 #![tactic(auto)]
 
-mod glossary;
 mod request;
 mod served;
 mod serving;
+mod symbol_table;
 
-pub use glossary::Glossary;
 pub use mls_live::{Live, Naming, Plain, Seat, work};
 pub use mls_wire::{
     Answer, Capacity, CellFault, CellTiles, Command, JournalLimit, Limits, Line, LineFault,
@@ -16,3 +15,4 @@ pub use mls_wire::{
 pub use request::Request;
 pub use served::Served;
 pub use serving::{Wording, serve_request};
+pub use symbol_table::SymbolTable;

@@ -12,7 +12,7 @@ use Rattle.mls_session.specs.Bounds.{dumped_rect}
 use Rattle.mls_session.specs.Changes.{layout_leaves_world}
 use Rattle.mls_session.specs.Designs.{CanDump, Design, designed_of}
 use Rattle.mls_session.specs.Inner.{placed_bounds}
-use Rattle.mls_session.specs.Own.{Designed, cell_at, change_step, dump_step, dumped_in, dumped_layout, edit_step, get_step, soiled_after}
+use Rattle.mls_session.specs.Own.{Designed, cell_at, change_step, dump_step, dumped_in, dumped_layout, edit_step, get_step, dirty_after}
 use Rattle.mls_session.specs.OwnSteps.{design_step}
 use Rattle.mls_session.specs.Setups.{config_of}
 use Rattle.mls_session.specs.declared.command.Command.TheVariants.{Dump, GetCell}
@@ -102,8 +102,8 @@ module _ (setup : Setup) (pool : Pool) (owners : List ℕ) (can : CanDump setup 
     pub get-Done :
         (design after : Design) (rect : Option Rect) → Ok rect ≡ placed_bounds bounds dx dy → length design.uses < most_uses → after.box ≡ design.box
         → after.planes ≡ design.planes → after.uses ≡ design.uses ++ record { cell = id; dx = dx; dy = dy } ∷ []
-        → checking_of pool after.errors ≡ soiled_after setup.rules rect Done (checking_of pool design.errors)
+        → checking_of pool after.errors ≡ dirty_after setup.rules rect Done (checking_of pool design.errors)
         → design_step (config_of setup pool) (designed_of pool design) (GetCell (Some id) dx dy) ≡ (designed_of pool after, Done)
-    get-Done design after rect placed few box same uses soiled =
+    get-Done design after rect placed few box same uses dirtied =
         get-placed (designed_of pool design) rect placed
-        ∙ place-Done (config_of setup pool) pool design after rect id (layout_in pool planes) dx dy (length planes) layout-there as_many (stays rect placed) few box same uses soiled
+        ∙ place-Done (config_of setup pool) pool design after rect id (layout_in pool planes) dx dy (length planes) layout-there as_many (stays rect placed) few box same uses dirtied

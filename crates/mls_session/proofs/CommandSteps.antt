@@ -10,7 +10,7 @@ use Rattle.mls_errorplane.specs.DirtyLists.{IsDirtyList}
 use Rattle.mls_errorplane.specs.ErrorPlanes.{checking_of}
 use Rattle.mls_errorplane.specs.declared.catching_up.CaughtUp.{CaughtUp}
 use Rattle.mls_session.specs.Inner.{Counts, caught_up_reply, steps_of}
-use Rattle.mls_session.specs.Own.{Config, Designed, Drawn, check_in, edit_step, layout_of, soiled_after}
+use Rattle.mls_session.specs.Own.{Config, Designed, Drawn, check_in, edit_step, layout_of, dirty_after}
 use Rattle.mls_session.specs.OwnSteps.{DesignSteps}
 use Rattle.mls_session.specs.Designs.{Design, IsHome, designed_of, drawn_of}
 use Rattle.mls_session.specs.declared.command.Command.TheVariants.{CatchUp}
@@ -23,22 +23,22 @@ use Rattle.mls_session.proofs.ErrorPlanes.{drawn-errors}
 
 -- ---- edits
 -- where an edit is refused, nothing awaits checking that didn't
-soiled_after-Refused : (rules : List EdgeRule) (rect : Option Rect) (refusal : Refusal) (checking : Checking) → soiled_after rules rect (Refused refusal) checking ≡ checking
-soiled_after-Refused rules None refusal checking = refl
-soiled_after-Refused rules (Some rect) refusal checking = refl
+dirty_after-Refused : (rules : List EdgeRule) (rect : Option Rect) (refusal : Refusal) (checking : Checking) → dirty_after rules rect (Refused refusal) checking ≡ checking
+dirty_after-Refused rules None refusal checking = refl
+dirty_after-Refused rules (Some rect) refusal checking = refl
 
 pub edit_step-Refused :
     (config : Config) (own : Designed) (rect : Option Rect) (step : Drawn × Reply) (refusal : Refusal) → step ≡ (own.drawn, Refused refusal)
     → edit_step config own rect step ≡ (own, Refused refusal)
 edit_step-Refused config own rect step refusal is =
     ap (edit_step config own rect) is
-    ∙ ap (λ (known : Checking). (record own { checking = known }, Refused refusal)) (soiled_after-Refused config.rules rect refusal own.checking)
+    ∙ ap (λ (known : Checking). (record own { checking = known }, Refused refusal)) (dirty_after-Refused config.rules rect refusal own.checking)
 
 pub edit_step-Done :
     (config : Config) (own new : Designed) (rect : Option Rect) (step : Drawn × Reply) → step ≡ (new.drawn, Done)
-    → new.checking ≡ soiled_after config.rules rect Done own.checking → edit_step config own rect step ≡ (new, Done)
-edit_step-Done config own new rect step is soiled =
-    ap (edit_step config own rect) is ∙ ap (λ (known : Checking). (record new { checking = known }, Done)) (sym soiled)
+    → new.checking ≡ dirty_after config.rules rect Done own.checking → edit_step config own rect step ≡ (new, Done)
+edit_step-Done config own new rect step is dirtied =
+    ap (edit_step config own rect) is ∙ ap (λ (known : Checking). (record new { checking = known }, Done)) (sym dirtied)
 
 -- the box is added to the areas that await checking
 pub check_in-Some : (drawn : Drawn) (box : Option Rect) (rect : Rect) → box ≡ Some rect → check_in drawn box ≡ (drawn, Done)

@@ -13,7 +13,7 @@ use Rattle.mls_paint.specs.Planes.{layout_in, picture_in}
 use Rattle.mls_paint.proofs.OwnerFrames.{ChangesAmong-ChangesOnly}
 use Rattle.mls_errorplane.specs.ErrorPlanes.{checking_of}
 use Rattle.mls_layout.specs.declared.uses.CellUse.{CellUse}
-use Rattle.mls_session.specs.Own.{Config, change_step, edit_step, exceeds_quota, paint_step, soiled_after}
+use Rattle.mls_session.specs.Own.{Config, change_step, edit_step, exceeds_quota, paint_step, dirty_after}
 use Rattle.mls_session.specs.Designs.{Design, IsHome, designed_of, drawn_of}
 use Rattle.mls_session.specs.declared.reply.Reply.TheVariants.{Done}
 use Rattle.mls_session.proofs.ChangedQuotas.{change_step-Done}
@@ -22,9 +22,9 @@ use Rattle.mls_session.proofs.ErrorPlanes.{checking_of-kept}
 use Rattle.mls_session.proofs.Painting.{IsPainting, paint_step-Done}
 
 -- the areas that await checking are those that did, and what the edit changed
-module _ (config : Config) (old new : Pool) (before after : Design) (rect : Option Rect) (home : IsHome old before) (only : ChangesAmong old new before.planes) (soiled : checking_of new after.errors ≡ soiled_after config.rules rect Done (checking_of new before.errors)) where
-  checking : checking_of new after.errors ≡ soiled_after config.rules rect Done (checking_of old before.errors)
-  checking = soiled ∙ ap (soiled_after config.rules rect Done) (checking_of-kept old new before home.errors only)
+module _ (config : Config) (old new : Pool) (before after : Design) (rect : Option Rect) (home : IsHome old before) (only : ChangesAmong old new before.planes) (dirtied : checking_of new after.errors ≡ dirty_after config.rules rect Done (checking_of new before.errors)) where
+  checking : checking_of new after.errors ≡ dirty_after config.rules rect Done (checking_of old before.errors)
+  checking = dirtied ∙ ap (dirty_after config.rules rect Done) (checking_of-kept old new before home.errors only)
 
   -- all planes are changed
   pub change-Done :
@@ -45,11 +45,11 @@ pub paint-Done :
     (config : Config) (old new : Pool) (before after : Design) (named : Option ℕ) (e : Rect) (kind plane owner : ℕ) (pieces : List Piece)
     → IsPainting config before named e kind plane owner pieces → IsHome old before → ChangesOnly old new owner → picture_in new owner ≡ overlaid (picture_in old owner) pieces
     → ¬ (before.quota < tile_count world (overlaid (picture_in old owner) pieces)) → after.box ≡ before.box → after.planes ≡ before.planes
-    → after.uses ≡ before.uses → checking_of new after.errors ≡ soiled_after config.rules (Some e) Done (checking_of new before.errors)
+    → after.uses ≡ before.uses → checking_of new after.errors ≡ dirty_after config.rules (Some e) Done (checking_of new before.errors)
     → edit_step config (designed_of old before) before.box (paint_step config (drawn_of old before) before.box named) ≡ (designed_of new after, Done)
-paint-Done config old new before after named e kind plane owner pieces painting home changed shows few box planes uses soiled =
+paint-Done config old new before after named e kind plane owner pieces painting home changed shows few box planes uses dirtied =
     let only = ChangesAmong-ChangesOnly old new before.planes owner (plane, painting.within, sym painting.is) changed in
     edit_step-Done config (designed_of old before) (designed_of new after) before.box (paint_step config (drawn_of old before) before.box named)
     (paint_step-Done config old before named e kind plane owner pieces painting new after home.layout box planes uses changed shows few)
-    (soiled ∙ ap (soiled_after config.rules (Some e) Done) (checking_of-kept old new before home.errors only)
-    ∙ ap (λ (rect : Option Rect). soiled_after config.rules rect Done (checking_of old before.errors)) (sym painting.is_set))
+    (dirtied ∙ ap (dirty_after config.rules (Some e) Done) (checking_of-kept old new before home.errors only)
+    ∙ ap (λ (rect : Option Rect). dirty_after config.rules rect Done (checking_of old before.errors)) (sym painting.is_set))

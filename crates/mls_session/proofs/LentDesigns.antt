@@ -10,7 +10,7 @@ use Rattle.mls_layout.specs.Uses.{HasLayout, flat_layout}
 use Rattle.mls_library.specs.Libraries.{Library}
 use Rattle.mls_errorplane.specs.Checkings.{Checking}
 use Rattle.mls_errorplane.specs.ErrorPlanes.{ErrorPlane, ShowsMarks, StandsApart, checking_of}
-use Rattle.mls_errorplane.specs.declared.basis.Basis.{Basis}
+use Rattle.mls_errorplane.specs.declared.check_context.CheckContext.{CheckContext}
 use Rattle.mls_session.specs.Designs.{CanDump, Design, IsHome, IsMadeFor, drawn_of, owners_of}
 use Rattle.mls_session.specs.Inner.{KeepsDrawn}
 use Rattle.mls_session.specs.Own.{layout_of}
@@ -35,11 +35,11 @@ seen inside = record {
 abbrev pub returned : Inside → List ℕ → ErrorPlane → Design
 returned inside owners errors = record (seen inside) { planes = (with_items inside.planes owners).items; errors = errors }
 
--- these planes, this basis and this limit are what is lent
-pub record IsLent (setup : Setup) (inside : Inside) (basis : Basis) (owners : List ℕ) (most : ℕ) : Type 0 where
-  pub rules : basis.rules.now ≡ setup.rules
-  pub library : basis.uses.library.now ≡ setup.library
-  pub list : basis.uses.list.now ≡ inside.uses.items
+-- these planes, this context and this limit are what is lent
+pub record IsLent (setup : Setup) (inside : Inside) (context : CheckContext) (owners : List ℕ) (most : ℕ) : Type 0 where
+  pub rules : context.rules.now ≡ setup.rules
+  pub library : context.uses.library.now ≡ setup.library
+  pub list : context.uses.list.now ≡ inside.uses.items
   pub planes : owners ≡ inside.planes.items
   pub limit : most ≡ inside.quota
 
@@ -65,17 +65,17 @@ module _ (setup : Setup) (pool : Pool) (inside : Inside) (design : Design) (view
 -- what is said of the rules, the layout, the planes, the limit and the error plane that are lent is said of the design's own
 pub said_of-lent :
     (Says : List EdgeRule → Layout → List ℕ → ℕ → Checking → Type 0) (setup : Setup) (pool : Pool) (inside : Inside) (design : Design) → seen inside ≡ design
-    → (basis : Basis) (owners : List ℕ) (limit : ℕ) → IsLent setup inside basis owners limit
-    → Says basis.rules.now (flat_layout pool basis.uses owners) owners limit (checking_of pool inside.errors)
+    → (context : CheckContext) (owners : List ℕ) (limit : ℕ) → IsLent setup inside context owners limit
+    → Says context.rules.now (flat_layout pool context.uses owners) owners limit (checking_of pool inside.errors)
     → Says setup.rules (layout_of (config_of setup pool) (drawn_of pool design)) design.planes design.quota (checking_of pool design.errors)
-said_of-lent Says setup pool inside design view basis owners limit lent said =
+said_of-lent Says setup pool inside design view context owners limit lent said =
     let own : Design = seen inside in
-    let shown = flat_layout-design setup pool own basis.uses lent.library lent.list owners lent.planes in
+    let shown = flat_layout-design setup pool own context.uses lent.library lent.list owners lent.planes in
     subst (λ (d : Design). Says setup.rules (layout_of (config_of setup pool) (drawn_of pool d)) d.planes d.quota (checking_of pool d.errors)) view
     (subst (λ (q : ℕ). Says setup.rules (layout_of (config_of setup pool) (drawn_of pool own)) own.planes q (checking_of pool own.errors)) lent.limit
     (subst (λ (planes : List ℕ). Says setup.rules (layout_of (config_of setup pool) (drawn_of pool own)) planes limit (checking_of pool own.errors)) lent.planes
     (subst (λ (layout : Layout). Says setup.rules layout owners limit (checking_of pool own.errors)) shown
-    (subst (λ (rules : List EdgeRule). Says rules (flat_layout pool basis.uses owners) owners limit (checking_of pool own.errors)) lent.rules said))))
+    (subst (λ (rules : List EdgeRule). Says rules (flat_layout pool context.uses owners) owners limit (checking_of pool own.errors)) lent.rules said))))
 
 -- ---- what comes back
 module _ (old new : Pool) (inside : Inside) (design : Design) (view : seen inside ≡ design) (owners : List ℕ) (errors : ErrorPlane) (same : owners ≡ inside.planes.items) where

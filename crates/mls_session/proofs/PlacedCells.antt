@@ -9,7 +9,7 @@ use Rattle.mls_layout.specs.Uses.{most_uses}
 use Rattle.mls_layout.specs.declared.uses.CellUse.{CellUse}
 use Rattle.mls_errorplane.specs.ErrorPlanes.{checking_of}
 use Rattle.mls_session.specs.Changes.{layout_leaves_world}
-use Rattle.mls_session.specs.Own.{Config, Drawn, cell_at, edit_step, get_step, soiled_after}
+use Rattle.mls_session.specs.Own.{Config, Drawn, cell_at, edit_step, get_step, dirty_after}
 use Rattle.mls_session.specs.Designs.{Design, designed_of, drawn_of}
 use Rattle.mls_session.specs.declared.refusal.Refusal.TheVariants.{CellOutside, TooManyUses}
 use Rattle.mls_session.specs.declared.reply.Reply.TheVariants.{Done, Refused}
@@ -40,12 +40,12 @@ pub place-Done :
     → cell_at config (Some id) ≡ Some layout → config.tech.plane_count ≡ planes → layout_leaves_world planes layout dx dy ≡ false
     → length before.uses < most_uses → after.box ≡ before.box → after.planes ≡ before.planes
     → after.uses ≡ before.uses ++ record { cell = id; dx = dx; dy = dy } ∷ []
-    → checking_of pool after.errors ≡ soiled_after config.rules rect Done (checking_of pool before.errors)
+    → checking_of pool after.errors ≡ dirty_after config.rules rect Done (checking_of pool before.errors)
     → edit_step config (designed_of pool before) rect (get_step config (drawn_of pool before) (Some id) dx dy) ≡ (designed_of pool after, Done)
-place-Done config pool before after rect id layout dx dy planes found count stays few box same uses soiled =
+place-Done config pool before after rect id layout dx dy planes found count stays few box same uses dirtied =
     let drawn : drawn_of pool after ≡ record { box = before.box; paint = layout_in pool before.planes; uses = before.uses ++ record { cell = id; dx = dx; dy = dy } ∷ [] } =
     ap (λ (b : Option Rect). record { box = b; paint = layout_in pool after.planes; uses = after.uses }) box
     ∙ ap (λ (owners : List ℕ). record { box = before.box; paint = layout_in pool owners; uses = after.uses }) same
     ∙ ap (λ (placed : List CellUse). record { box = before.box; paint = layout_in pool before.planes; uses = placed }) uses in
     edit_step-Done config (designed_of pool before) (designed_of pool after) rect (get_step config (drawn_of pool before) (Some id) dx dy)
-    (get_step-Done config (drawn_of pool before) id layout dx dy planes found count stays few ∙ ap (λ (own : Drawn). (own, Done)) (sym drawn)) soiled
+    (get_step-Done config (drawn_of pool before) id layout dx dy planes found count stays few ∙ ap (λ (own : Drawn). (own, Done)) (sym drawn)) dirtied

@@ -33,7 +33,7 @@ use Rattle.mls_layout.specs.declared.uses.CellUse.{CellUse}
 use Rattle.mls_layout.proofs.PlacedUses.{flattened-agrees, flattened-placed, use_layout-moved}
 use Rattle.mls_session.specs.Bounds.{dumped_rect}
 use Rattle.mls_session.specs.Changes.{layout_leaves_world}
-use Rattle.mls_session.specs.Own.{Config, Drawn, Designed, are_types, box_step, cell_at, change_step, check_in, count_step, dump_step, dumped_in, dumped_layout, edit_step, erase_step, erased_layout, exceeds_quota, get_in, get_step, layout_of, paint_on, paint_step, save_step, soiled_after, what_step, why_step, with_plane}
+use Rattle.mls_session.specs.Own.{Config, Drawn, Designed, are_types, box_step, cell_at, change_step, check_in, count_step, dump_step, dumped_in, dumped_layout, edit_step, erase_step, erased_layout, exceeds_quota, get_in, get_step, layout_of, paint_on, paint_step, save_step, dirty_after, what_step, why_step, with_plane}
 use Rattle.mls_session.specs.OwnSteps.{DesignRunsOut, DesignSteps, catch_up_step, caught_up, checked, checked_times, design_step, ending}
 use Rattle.mls_session.specs.Designs.{HasRightMarks}
 use Rattle.mls_session.specs.declared.command.Command.{Command}
@@ -53,7 +53,7 @@ IsEdit config drawn rect step =
     ⊎ ((e : Rect) × (rect ≡ Some e) × (step.1 ≡ Done) × AgreeOutside e (layout_of config drawn) (layout_of config step.0))
 
 kept : (rules : List EdgeRule) (layout : Layout) (checking : Checking) (rect : Option Rect) (reply : Reply) → IsChecked rules layout checking
-    → IsChecked rules layout (soiled_after rules rect reply checking)
+    → IsChecked rules layout (dirty_after rules rect reply checking)
 kept rules layout checking None reply right = right
 kept rules layout checking (Some e) Done right = edit-IsChecked rules e layout layout checking (λ plane x y out. refl) right
 kept rules layout checking (Some e) (Kinds kinds) right = right
@@ -64,17 +64,17 @@ kept rules layout checking (Some e) (Refused refusal) right = right
 kept rules layout checking (Some e) (Stopped refusal pending) right = right
 
 edited : (rules : List EdgeRule) (old new : Layout) (checking : Checking) (rect : Option Rect) (reply : Reply) (e : Rect) → rect ≡ Some e → reply ≡ Done
-    → AgreeOutside e old new → IsChecked rules old checking → IsChecked rules new (soiled_after rules rect reply checking)
+    → AgreeOutside e old new → IsChecked rules old checking → IsChecked rules new (dirty_after rules rect reply checking)
 edited rules old new checking rect reply e is done agree right =
-    subst (λ (r : Option Rect). IsChecked rules new (soiled_after rules r reply checking)) (sym is)
-    (subst (λ (r : Reply). IsChecked rules new (soiled_after rules (Some e) r checking)) (sym done) (edit-IsChecked rules e old new checking agree right))
+    subst (λ (r : Option Rect). IsChecked rules new (dirty_after rules r reply checking)) (sym is)
+    (subst (λ (r : Reply). IsChecked rules new (dirty_after rules (Some e) r checking)) (sym done) (edit-IsChecked rules e old new checking agree right))
 
 after_edit :
     (config : Config) (old new : Designed) (rect : Option Rect) (step : Drawn × Reply) (reply : Reply) → IsEdit config old.drawn rect step
     → edit_step config old rect step ≡ (new, reply) → HasRightMarks config old → HasRightMarks config new
 after_edit config old new rect step reply (inl same) is right =
     subst (HasRightMarks config) (ap (λ (r : Designed × Reply). r.0) is)
-    (subst (λ (layout : Layout). IsChecked config.rules layout (soiled_after config.rules rect step.1 old.checking)) (sym same)
+    (subst (λ (layout : Layout). IsChecked config.rules layout (dirty_after config.rules rect step.1 old.checking)) (sym same)
     (kept config.rules (layout_of config old.drawn) old.checking rect step.1 right))
 after_edit config old new rect step reply (inr (e, at, done, agree)) is right =
     subst (HasRightMarks config) (ap (λ (r : Designed × Reply). r.0) is)

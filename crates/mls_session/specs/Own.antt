@@ -5,7 +5,7 @@ use Rattle.std.specs.Option.{option_and_then}
 use Rattle.mls_edgerule.specs.declared.edge_rule.EdgeRule.{EdgeRule}
 use Rattle.mls_checker.specs.Findings.{violated_rules}
 use Rattle.mls_checker.specs.Marking.{SquareSet}
-use Rattle.mls_errorplane.specs.Checkings.{Checking, opening_checking, soiled}
+use Rattle.mls_errorplane.specs.Checkings.{Checking, opening_checking, dirtied}
 use Rattle.mls_geom.specs.Rects.{Rect}
 use Rattle.mls_geom.specs.Layouts.{Layout}
 use Rattle.mls_geom.specs.Pictures.{Picture, columns, empty_picture, painted, rows, shows}
@@ -165,12 +165,12 @@ cell_at config cell = option_and_then (slice_get config.cells) cell
 
 -- ---- areas that await checking
 -- where an edit is accepted, the rectangle that it changed, if it changed one, awaits checking
-abbrev pub soiled_after : List EdgeRule → Option Rect → Reply → Checking → Checking
-soiled_after rules (Some rect) Done checking = soiled rules rect checking
-soiled_after rules _ _ checking = checking
+abbrev pub dirty_after : List EdgeRule → Option Rect → Reply → Checking → Checking
+dirty_after rules (Some rect) Done checking = dirtied rules rect checking
+dirty_after rules _ _ checking = checking
 
 abbrev pub edit_step : Config → Designed → Option Rect → Drawn × Reply → Designed × Reply
-edit_step config own rect step = (record { drawn = step.0; checking = soiled_after config.rules rect step.1 own.checking }, step.1)
+edit_step config own rect step = (record { drawn = step.0; checking = dirty_after config.rules rect step.1 own.checking }, step.1)
 
 -- the smallest rectangle round the squares other than space of the cell, moved
 abbrev pub dumped_in : Config → Option Layout → ℤ → ℤ → Option Rect

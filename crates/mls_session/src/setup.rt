@@ -4,7 +4,7 @@ ghost use Rattle.mls_session.specs.Quotas.{IsQuota, plane_reserve};
 
 use crate::{JournalLimit, Quota};
 use mls_edgerule::Rules;
-use mls_errorplane::Basis;
+use mls_errorplane::CheckContext;
 use mls_layout::{CellUse, Uses};
 use mls_library::{CellTiles, Library};
 use mls_tech::Tech;
@@ -59,7 +59,7 @@ impl Setup {
     }
 
     /// Returns what a layout with these uses is checked by.
-    pub(crate) fn basis<'a>(&'a self, uses: &'a [CellUse]) -> Basis<'a>
+    pub(crate) fn context<'a>(&'a self, uses: &'a [CellUse]) -> CheckContext<'a>
         ensures rules { result.rules.now ≡ self.now.rules }
         ensures library { result.uses.library.now ≡ self.now.library }
         ensures list { result.uses.list.now ≡ uses.now }
@@ -68,7 +68,7 @@ impl Setup {
             library: &self.library,
             list: uses,
         };
-        Basis {
+        CheckContext {
             rules: &self.rules,
             uses,
         }

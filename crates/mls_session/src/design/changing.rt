@@ -116,7 +116,7 @@ impl Design {
             return Reply::Refused(Refusal::TooManyUses);
         }
         self.uses.push_reserved(CellUse { cell: id, dx, dy });
-        self.soil(&setup.rules, rect);
+        self.mark_dirty(&setup.rules, rect);
         Reply::Done
     }
 
@@ -146,7 +146,7 @@ impl Design {
             return Reply::Refused(Refusal::Quota);
         }
         self.paint_listed(workspace);
-        self.soil(&setup.rules, rect);
+        self.mark_dirty(&setup.rules, rect);
         Reply::Done
     }
 

@@ -10,7 +10,7 @@ ghost use Rattle.mls_errorplane.specs.Stretches.{AreRightIn};
 ghost use Rattle.mls_errorplane.specs.Violations.{strip_count, violations_in};
 ghost use Rattle.mls_layout.specs.Strips.{IfTooMany};
 ghost use Rattle.mls_session.specs.Inner.{Counts, KeepsDrawn, caught_up_reply, steps_of};
-ghost use Rattle.mls_session.specs.Own.{count_step, layout_of, soiled_after};
+ghost use Rattle.mls_session.specs.Own.{count_step, layout_of, dirty_after};
 ghost use Rattle.mls_session.specs.OwnSteps.{DesignSteps, design_step};
 ghost use Rattle.mls_session.specs.Setups.{config_of};
 ghost use Rattle.mls_tilepool.specs.Pools.{Pool};
@@ -49,14 +49,14 @@ impl Design {
         let Some(rect) = self.box_rect else {
             return Reply::Refused(Refusal::NoBox);
         };
-        self.soil(&setup.rules, Some(rect));
+        self.mark_dirty(&setup.rules, Some(rect));
         Reply::Done
     }
 
     /// Adds the rectangle that an edit changed, if it changed one, to the areas that await checking.
-    pub(super) fn soil(&mut self, rules: &Rules, rect: Option<Rect>)
+    pub(super) fn mark_dirty(&mut self, rules: &Rules, rect: Option<Rect>)
         ensures checking { (pool : Pool) → checking_of pool self.new.errors
-            ≡ soiled_after rules.now rect Reply.Done (checking_of pool self.old.errors) }
+            ≡ dirty_after rules.now rect Reply.Done (checking_of pool self.old.errors) }
         ensures same { self.new ≡ record self.old { errors = self.new.errors } }
         ensures owner { self.new.errors.owner ≡ self.old.errors.owner }
         ensures marked { self.new.errors.marked ≡ self.old.errors.marked }
@@ -82,9 +82,9 @@ impl Design {
         ensures same { self.new ≡ self.old }
         ensures pool { workspace.new.pool ≡ workspace.old.pool }
     {
-        let basis = setup.basis(&self.uses);
+        let context = setup.context(&self.uses);
         let planes = &mut self.planes;
-        self.errors.grab(alloc, planes, &basis, workspace)
+        self.errors.grab(alloc, planes, &context, workspace)
     }
 
     /// Checks the first piece of the areas that await checking, and takes it out of them.
@@ -102,9 +102,9 @@ impl Design {
         ensures keeps { KeepsDrawn workspace.old.pool workspace.new.pool self.old self.new }
     {
         let limit = self.quota.get();
-        let basis = setup.basis(&self.uses);
+        let context = setup.context(&self.uses);
         let planes = &mut self.planes;
-        self.errors.step(alloc, planes, &basis, limit, workspace)
+        self.errors.step(alloc, planes, &context, limit, workspace)
     }
 
     /// Marks what a finding says of its piece, unless it is stale, and takes the piece out of the areas.
@@ -122,10 +122,10 @@ impl Design {
         ensures keeps { KeepsDrawn workspace.old.pool workspace.new.pool self.old self.new }
     {
         let limit = self.quota.get();
-        let basis = setup.basis(&self.uses);
+        let context = setup.context(&self.uses);
         let planes = &mut self.planes;
         self.errors
-            .finish(planes, &basis, finding, limit, workspace)
+            .finish(planes, &context, finding, limit, workspace)
     }
 
     /// Takes the next pieces whose marks are known to be right out of the areas that await checking, and returns how
@@ -150,10 +150,10 @@ impl Design {
         ensures keeps { KeepsDrawn workspace.old.pool workspace.new.pool self.old self.new }
     {
         let limit = self.quota.get();
-        let basis = setup.basis(&self.uses);
+        let context = setup.context(&self.uses);
         let planes = &mut self.planes;
         self.errors
-            .settle(planes, &basis, checked, limit, workspace)
+            .settle(planes, &context, checked, limit, workspace)
     }
 
     /// Checks all areas that await checking, piece by piece.
@@ -173,11 +173,11 @@ impl Design {
             × (workspace.new.pool ≡ workspace.old.pool)) }
     {
         let limit = self.quota.get();
-        let basis = setup.basis(&self.uses);
+        let context = setup.context(&self.uses);
         let planes = &mut self.planes;
         let ended = self
             .errors
-            .catch_up(alloc, planes, &basis, limit, workspace);
+            .catch_up(alloc, planes, &context, limit, workspace);
         let pending = self.errors.areas();
         Executed {
             reply: caught_up_reply(ended, pending),
@@ -222,8 +222,8 @@ impl Design {
         ensures same { self.new ≡ self.old }
         ensures pool { workspace.new.pool ≡ workspace.old.pool }
     {
-        let basis = setup.basis(&self.uses);
-        why(alloc, &mut self.planes, &basis, rect, workspace)
+        let context = setup.context(&self.uses);
+        why(alloc, &mut self.planes, &context, rect, workspace)
     }
 
     /// Returns what each rule forbids in a rectangle, by rising number.
@@ -251,9 +251,9 @@ impl Design {
         ensures same { self.new ≡ self.old }
         ensures pool { workspace.new.pool ≡ workspace.old.pool }
     {
-        let basis = setup.basis(&self.uses);
+        let context = setup.context(&self.uses);
         let most = setup.quota.get() as usize;
-        violations(alloc, &mut self.planes, &basis, rect, most, workspace)
+        violations(alloc, &mut self.planes, &context, rect, most, workspace)
     }
 
     /// Returns how many squares are marked, and how many areas await checking.

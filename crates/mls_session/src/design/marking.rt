@@ -55,8 +55,8 @@ impl Design {
         // For its contract alone: the areas are few.
         self.has_legal_areas();
         let most = most_flat_tiles(self.quota.get(), setup.cell_tiles);
-        let basis = setup.basis(&self.uses);
-        let layers = list_layers(alloc, &mut self.planes, &basis.uses, most, workspace)?;
+        let context = setup.context(&self.uses);
+        let layers = list_layers(alloc, &mut self.planes, &context.uses, most, workspace)?;
         let areas = self.errors.copy_areas(alloc)?;
         self.errors.list_marks(workspace);
         let lines = add_marked(&setup.tech, &layers, &areas, &workspace.pieces, out)?;

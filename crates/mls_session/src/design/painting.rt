@@ -96,8 +96,8 @@ impl Design {
         let Some(rect) = self.box_rect else {
             return Reply::Refused(Refusal::NoBox);
         };
-        let basis = setup.basis(&self.uses);
-        match types_in(alloc, &mut self.planes, &basis.uses, rect, workspace) {
+        let context = setup.context(&self.uses);
+        match types_in(alloc, &mut self.planes, &context.uses, rect, workspace) {
             Ok(found) => Reply::Kinds(found),
             Err(_) => Reply::Refused(Refusal::Memory),
         }

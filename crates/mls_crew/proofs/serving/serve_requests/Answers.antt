@@ -1,6 +1,6 @@
 use Rattle.std.proofs.Common.{◌++◌, ℕ, List, [], append_assoc, append-nil, refl, sym, ap, ◌∙◌}
 use Rattle.mls_seat_lines.specs.mls_live.Lists.{list_of}
-use Rattle.mls_seat_lines.specs.Glossaries.{book_in}
+use Rattle.mls_seat_lines.specs.SymbolTables.{book_in}
 use Rattle.mls_crew.proofs.RequestLists.{serves_mine, serves_other}
 use Rattle.mls_crew.proofs.serving.serve_requests.Goals.{then-handed-part+in_ok-serve_request, else-handed-part}
 use Rattle.mls_crew.proofs.serving.serve_requests.Goals as goal
@@ -12,7 +12,7 @@ pub loop-handed-preserved : goal.loop-handed-preserved
 loop-handed-preserved g c =
     let (out, ran, is) = c.loop-handed.invariant in
     let terms = g.N.Naming.terms in
-    let book = book_in c.args.part.now.glossary.now in
+    let book = book_in c.args.part.now.symbols.now in
     let name = c.args.name.now in
     let session = c.args.part.now.session in
     let lines = c.handed-lines.result.now in

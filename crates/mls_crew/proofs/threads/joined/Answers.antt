@@ -1,6 +1,6 @@
 use Rattle.std.proofs.Common.{rules, ◌≡◌, ◌+◌, ℕ, length, vec_len, refl, sym, subst, ◌∙◌, arith}
 use Rattle.std.specs.Result.{IfOk}
-use Rattle.mls_seat_lines.specs.Glossaries.{book_in}
+use Rattle.mls_seat_lines.specs.SymbolTables.{book_in}
 use Rattle.mls_crew.specs.Groups.{GroupText}
 use Rattle.mls_crew.specs.Scripts.{GivesPart, no_text}
 use Rattle.mls_crew.specs.declared.serving.Part.{Part}
@@ -24,7 +24,7 @@ loop-handle-preserved-in-Ok g c =
     let part = c.args.served.part in
     let done = vec_len c.loop-handle.served.seats in
     let one : vec_len c.push_reserved.new.self ≡ done + 1 = c.push_reserved.ensures.len in
-    let gives = λ (session : ℕ) (group : GroupText). GivesPart g.N.Naming.terms (book_in part.glossary.now) part.sorting.now session group in
+    let gives = λ (session : ℕ) (group : GroupText). GivesPart g.N.Naming.terms (book_in part.symbols.now) part.sorting.now session group in
     record {
       part = was.part;
       count = search rules;
@@ -36,7 +36,7 @@ loop-handle-preserved-in-Ok g c =
           let mine : c.in-Some.handle.promise ≡ record part { session = done } =
           counts_last c.pop.new.self.items c.in-Some.handle c.in-Some.ensures.items (was.wanted all) in
           let kept : IfOk c.join-seat.result.group (gives done) =
-          subst (λ (p : Part). IfOk c.join-seat.result.group (GivesPart g.N.Naming.terms (book_in p.glossary.now) p.sorting.now p.session)) mine c.join-seat.ensures in
+          subst (λ (p : Part). IfOk c.join-seat.result.group (GivesPart g.N.Naming.terms (book_in p.symbols.now) p.sorting.now p.session)) mine c.join-seat.ensures in
           let here : gives done c.in-Ok.group = rw c.in-Ok.is at kept in
           let before = was.groups all ok in
           let same : length c.loop-handle.served.groups.items ≡ done = sym c.loop-handle.served.groups.ok.0 ∙ before.0 in

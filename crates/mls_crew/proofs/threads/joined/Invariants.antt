@@ -1,5 +1,5 @@
 use Rattle.std.proofs.Common.{◌≡◌, ◌+◌, ◌≤◌, ◌<◌, ℕ, false, get_or, length, vec_len, vec_capacity}
-use Rattle.mls_seat_lines.specs.Glossaries.{book_in}
+use Rattle.mls_seat_lines.specs.SymbolTables.{book_in}
 use Rattle.mls_crew.specs.Countdowns.{CountsDown}
 use Rattle.mls_crew.specs.Scripts.{GivesPart, no_text}
 use Rattle.mls_crew.proofs.threads.joined.Given as goal
@@ -15,7 +15,7 @@ invariant-loop-handle g l = record {
       → CountsDown (λ session handle. handle.promise ≡ record l.fn.served.part { session = session }) (vec_len l.served.seats) l.handles.items;
   groups : vec_len l.fn.handles ≡ length l.fn.served.part.sorting.now.opened → l.served.failed ≡ false → (vec_len l.served.groups ≡ vec_len l.served.seats)
       × ((session : ℕ) → session < vec_len l.served.groups
-      → GivesPart g.N.Naming.terms (book_in l.fn.served.part.glossary.now) l.fn.served.part.sorting.now session (get_or l.served.groups.items session no_text));
+      → GivesPart g.N.Naming.terms (book_in l.fn.served.part.symbols.now) l.fn.served.part.sorting.now session (get_or l.served.groups.items session no_text));
 }
 
 abbrev pub decreases-loop-handle : goal.decreases-loop-handle

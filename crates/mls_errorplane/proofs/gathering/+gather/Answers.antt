@@ -13,8 +13,8 @@ returns-in_default-clause-gathered t c = c.in_ok-cut.ensures.gathered c.in_defau
 
 pub returns-clause-gathered : goal.returns-clause-gathered
 returns-clause-gathered t c =
-    let rules = c.args.basis.now.rules.now in
-    let shown = λ (pool : Pool) (planes : List ℕ). flat_layout pool c.args.basis.now.uses planes in
+    let rules = c.args.context.now.rules.now in
+    let shown = λ (pool : Pool) (planes : List ℕ). flat_layout pool c.args.context.now.uses planes in
     let pool = c.args.workspace.now.pool in
     let planes = c.args.planes.now in
     let layout = shown pool planes in

@@ -16,24 +16,24 @@ returns-in-Some-clause-some c = GainSomeViolations-none _ _ _ _ _
 
 pub returns-then-is_gathered-clause-gathered : goal.returns-then-is_gathered-clause-gathered
 returns-then-is_gathered-clause-gathered c none =
-    let rules = c.args.basis.now.rules.now in
+    let rules = c.args.context.now.rules.now in
     let rect = c.args.rect in
     let pool = c.args.workspace.now.pool in
-    let layout = flat_layout pool c.args.basis.now.uses c.args.planes.now in
-    let same = lent-same (λ (p : Pool) (owners : List ℕ). flat_layout p c.args.basis.now.uses owners) pool c.halves.new.workspace.pool c.args.planes.now c.halves.new.planes
+    let layout = flat_layout pool c.args.context.now.uses c.args.planes.now in
+    let same = lent-same (λ (p : Pool) (owners : List ℕ). flat_layout p c.args.context.now.uses owners) pool c.halves.new.workspace.pool c.args.planes.now c.halves.new.planes
     c.halves.ensures.pool c.halves.ensures.owners in
     let copied : copied_layout c.in_ok-snapshot.snapshot ≡ within (zone_of rules rect) layout = c.in_ok-snapshot.ensures.copied ∙ ap (within (zone_of rules rect)) same in
-    GainViolations-zone rules c.args.of rect layout c.args.found.now c.find.new.self c.in_ok-snapshot.ensures.legal (flat-AgreeOutside pool c.args.basis.now.uses c.args.planes.now c.requires.layout.planes.each)
+    GainViolations-zone rules c.args.of rect layout c.args.found.now c.find.new.self c.in_ok-snapshot.ensures.legal (flat-AgreeOutside pool c.args.context.now.uses c.args.planes.now c.requires.layout.planes.each)
     (subst (λ (l : Layout). GainViolations rules c.args.of rect l c.args.found.now c.find.new.self) copied (c.in_ok-is_gathered.ensures.found c.if-is_gathered.true))
 
 pub returns-clause-some : goal.returns-clause-some
 returns-clause-some c =
-    let rules = c.args.basis.now.rules.now in
+    let rules = c.args.context.now.rules.now in
     let rect = c.args.rect in
     let pool = c.args.workspace.now.pool in
-    let layout = flat_layout pool c.args.basis.now.uses c.args.planes.now in
-    let same = lent-same (λ (p : Pool) (owners : List ℕ). flat_layout p c.args.basis.now.uses owners) pool c.halves.new.workspace.pool c.args.planes.now c.halves.new.planes
+    let layout = flat_layout pool c.args.context.now.uses c.args.planes.now in
+    let same = lent-same (λ (p : Pool) (owners : List ℕ). flat_layout p c.args.context.now.uses owners) pool c.halves.new.workspace.pool c.args.planes.now c.halves.new.planes
     c.halves.ensures.pool c.halves.ensures.owners in
     let copied : copied_layout c.in_ok-snapshot.snapshot ≡ within (zone_of rules rect) layout = c.in_ok-snapshot.ensures.copied ∙ ap (within (zone_of rules rect)) same in
-    GainSomeViolations-zone rules c.args.of rect layout c.args.found.now c.find.new.self c.in_ok-snapshot.ensures.legal (flat-AgreeOutside pool c.args.basis.now.uses c.args.planes.now c.requires.layout.planes.each)
+    GainSomeViolations-zone rules c.args.of rect layout c.args.found.now c.find.new.self c.in_ok-snapshot.ensures.legal (flat-AgreeOutside pool c.args.context.now.uses c.args.planes.now c.requires.layout.planes.each)
     (subst (λ (l : Layout). GainSomeViolations rules c.args.of rect l c.args.found.now c.find.new.self) copied (c.in_ok-is_gathered.ensures.some c.if-is_gathered.false))

@@ -11,20 +11,20 @@ use Rattle.mls_errorplane.proofs.gathering.violations.Goals as goal
 -- nothing is forbidden in the rectangle
 pub returns-then-is_empty-clause-value : goal.returns-then-is_empty-clause-value
 returns-then-is_empty-clause-value c =
-    let layout = flat_layout c.args.workspace.now.pool c.args.basis.now.uses c.args.planes.now in
-    c.new.ensures.items ∙ sym (violations-none c.args.basis.now.rules.now c.args.rect layout c.in_ok-violated.violated c.in_ok-violated.ensures.value (c.is_empty.ensures.rules.0 c.if-is_empty.true))
+    let layout = flat_layout c.args.workspace.now.pool c.args.context.now.uses c.args.planes.now in
+    c.new.ensures.items ∙ sym (violations-none c.args.context.now.rules.now c.args.rect layout c.in_ok-violated.violated c.in_ok-violated.ensures.value (c.is_empty.ensures.rules.0 c.if-is_empty.true))
 
 pub returns-then-is_empty-clause-within : goal.returns-then-is_empty-clause-within
 returns-then-is_empty-clause-within c =
-    let layout = flat_layout c.args.workspace.now.pool c.args.basis.now.uses c.args.planes.now in
-    let none = violations-none c.args.basis.now.rules.now c.args.rect layout c.in_ok-violated.violated c.in_ok-violated.ensures.value (c.is_empty.ensures.rules.0 c.if-is_empty.true) in
+    let layout = flat_layout c.args.workspace.now.pool c.args.context.now.uses c.args.planes.now in
+    let none = violations-none c.args.context.now.rules.now c.args.rect layout c.in_ok-violated.violated c.in_ok-violated.ensures.value (c.is_empty.ensures.rules.0 c.if-is_empty.true) in
     omega (arith, ap strip_count none)
 
 pub returns-clause-value : goal.returns-clause-value
 returns-clause-value c =
-    let rules = c.args.basis.now.rules.now in
+    let rules = c.args.context.now.rules.now in
     let pool = c.args.workspace.now.pool in
-    let shown = λ (p : Pool) (planes : List ℕ). flat_layout p c.args.basis.now.uses planes in
+    let shown = λ (p : Pool) (planes : List ℕ). flat_layout p c.args.context.now.uses planes in
     let layout = shown pool c.args.planes.now in
     let violated = c.in_ok-violated.violated in
     let lent = lent-same shown pool c.why.new.workspace.pool c.args.planes.now c.why.new.planes c.in_ok-violated.ensures.pool c.in_ok-violated.ensures.owners in
@@ -34,9 +34,9 @@ returns-clause-value c =
 
 pub returns-clause-within : goal.returns-clause-within
 returns-clause-within c =
-    let rules = c.args.basis.now.rules.now in
+    let rules = c.args.context.now.rules.now in
     let pool = c.args.workspace.now.pool in
-    let shown = λ (p : Pool) (planes : List ℕ). flat_layout p c.args.basis.now.uses planes in
+    let shown = λ (p : Pool) (planes : List ℕ). flat_layout p c.args.context.now.uses planes in
     let layout = shown pool c.args.planes.now in
     let violated = c.in_ok-violated.violated in
     let lent = lent-same shown pool c.why.new.workspace.pool c.args.planes.now c.why.new.planes c.in_ok-violated.ensures.pool c.in_ok-violated.ensures.owners in
@@ -46,9 +46,9 @@ returns-clause-within c =
 
 pub returns-clause-too_many : goal.returns-clause-too_many
 returns-clause-too_many c =
-    let rules = c.args.basis.now.rules.now in
+    let rules = c.args.context.now.rules.now in
     let pool = c.args.workspace.now.pool in
-    let shown = λ (p : Pool) (planes : List ℕ). flat_layout p c.args.basis.now.uses planes in
+    let shown = λ (p : Pool) (planes : List ℕ). flat_layout p c.args.context.now.uses planes in
     let layout = shown pool c.args.planes.now in
     let violated = c.in_ok-violated.violated in
     let lent = lent-same shown pool c.why.new.workspace.pool c.args.planes.now c.why.new.planes c.in_ok-violated.ensures.pool c.in_ok-violated.ensures.owners in

@@ -13,8 +13,8 @@ use Rattle.mls_errorplane.proofs.violated.+why.Goals as goal
 
 pub returns-in-Some-clause-value : goal.returns-in-Some-clause-value
 returns-in-Some-clause-value t c =
-    let rules = c.args.basis.now.rules.now in
-    let shown = λ (pool : Pool) (planes : List ℕ). flat_layout pool c.args.basis.now.uses planes in
+    let rules = c.args.context.now.rules.now in
+    let shown = λ (pool : Pool) (planes : List ℕ). flat_layout pool c.args.context.now.uses planes in
     let pool = c.args.workspace.now.pool in
     let planes = c.args.planes.now in
     let one = c.in-Some.parts.0 in
@@ -29,11 +29,11 @@ returns-in-Some-clause-value t c =
 
 pub returns-clause-value : goal.returns-clause-value
 returns-clause-value t c =
-    let rules = c.args.basis.now.rules.now in
+    let rules = c.args.context.now.rules.now in
     let rect = c.args.rect in
     let pool = c.args.workspace.now.pool in
-    let layout = flat_layout pool c.args.basis.now.uses c.args.planes.now in
-    let same = lent-same (λ (p : Pool) (owners : List ℕ). flat_layout p c.args.basis.now.uses owners) pool c.halves.new.workspace.pool c.args.planes.now c.halves.new.planes
+    let layout = flat_layout pool c.args.context.now.uses c.args.planes.now in
+    let same = lent-same (λ (p : Pool) (owners : List ℕ). flat_layout p c.args.context.now.uses owners) pool c.halves.new.workspace.pool c.args.planes.now c.halves.new.planes
     c.halves.ensures.pool c.halves.ensures.owners in
     c.why-2.ensures ∙ ap (violated_rules rules rect) (c.in_ok-snapshot.ensures.copied ∙ ap (within (zone_of rules rect)) same)
-    ∙ violated_rules-zone rules rect layout c.in_ok-snapshot.ensures.legal (flat-AgreeOutside pool c.args.basis.now.uses c.args.planes.now c.requires.layout.planes.each)
+    ∙ violated_rules-zone rules rect layout c.in_ok-snapshot.ensures.legal (flat-AgreeOutside pool c.args.context.now.uses c.args.planes.now c.requires.layout.planes.each)

@@ -18,7 +18,7 @@ use Rattle.mls_errorplane.proofs.error_plane.ErrorPlane.catch_up.Goals.{After-st
 pub step-requires-clause-layout : goal.step-requires-clause-layout
 step-requires-clause-layout c =
     HasLayout-apart c.args.workspace.now.pool c.steps.workspace.pool c.args.self.now.owner c.steps.invariant.only c.args.planes.now c.steps.planes
-    c.args.basis.now.uses.library.now c.requires.apart c.steps.invariant.owners c.requires.layout
+    c.args.context.now.uses.library.now c.requires.apart c.steps.invariant.owners c.requires.layout
 
 -- ---- after a step
 module _ (c : After-step) where
@@ -27,22 +27,22 @@ module _ (c : After-step) where
   only = ChangesOnly-trans c.steps.invariant.only (subst (ChangesOnly c.steps.workspace.pool c.step.new.workspace.pool) c.steps.invariant.owner c.step.ensures.only)
 
   abbrev layout : Layout
-  layout = flat_layout c.args.workspace.now.pool c.args.basis.now.uses c.args.planes.now
+  layout = flat_layout c.args.workspace.now.pool c.args.context.now.uses c.args.planes.now
 
   -- so the layout shows what it did
-  there : flat_layout c.step.new.workspace.pool c.args.basis.now.uses c.step.new.planes ≡ layout
+  there : flat_layout c.step.new.workspace.pool c.args.context.now.uses c.step.new.planes ≡ layout
   there =
-      flat_layout-apart c.args.workspace.now.pool c.step.new.workspace.pool c.args.self.now.owner only c.args.basis.now.uses c.args.planes.now c.step.new.planes
+      flat_layout-apart c.args.workspace.now.pool c.step.new.workspace.pool c.args.self.now.owner only c.args.context.now.uses c.args.planes.now c.step.new.planes
       c.requires.apart (c.step.ensures.owners ∙ c.steps.invariant.owners)
 
   -- and the step ended so in the layout as it was
   as_was :
       (how : Stepped)
-      → HasStepped c.args.basis.now.rules.now (flat_layout c.steps.workspace.pool c.args.basis.now.uses c.steps.planes) c.args.limit (checking_of c.steps.workspace.pool c.steps.self) how (checking_of c.step.new.workspace.pool c.step.new.self)
-      → HasStepped c.args.basis.now.rules.now layout c.args.limit (checking_of c.steps.workspace.pool c.steps.self) how (checking_of c.step.new.workspace.pool c.step.new.self)
+      → HasStepped c.args.context.now.rules.now (flat_layout c.steps.workspace.pool c.args.context.now.uses c.steps.planes) c.args.limit (checking_of c.steps.workspace.pool c.steps.self) how (checking_of c.step.new.workspace.pool c.step.new.self)
+      → HasStepped c.args.context.now.rules.now layout c.args.limit (checking_of c.steps.workspace.pool c.steps.self) how (checking_of c.step.new.workspace.pool c.step.new.self)
   as_was how =
-      subst (λ (l : Layout). HasStepped c.args.basis.now.rules.now l c.args.limit (checking_of c.steps.workspace.pool c.steps.self) how (checking_of c.step.new.workspace.pool c.step.new.self))
-      (flat_layout-apart c.args.workspace.now.pool c.steps.workspace.pool c.args.self.now.owner c.steps.invariant.only c.args.basis.now.uses c.args.planes.now c.steps.planes
+      subst (λ (l : Layout). HasStepped c.args.context.now.rules.now l c.args.limit (checking_of c.steps.workspace.pool c.steps.self) how (checking_of c.step.new.workspace.pool c.step.new.self))
+      (flat_layout-apart c.args.workspace.now.pool c.steps.workspace.pool c.args.self.now.owner c.steps.invariant.only c.args.context.now.uses c.args.planes.now c.steps.planes
       c.requires.apart c.steps.invariant.owners)
 
   kept : IsDirtyList c.steps.self.dirty
@@ -50,37 +50,37 @@ module _ (c : After-step) where
 
   -- a step that was done leaves fewer squares
   few :
-      HasStepped c.args.basis.now.rules.now layout c.args.limit (checking_of c.steps.workspace.pool c.steps.self) Done (checking_of c.step.new.workspace.pool c.step.new.self)
+      HasStepped c.args.context.now.rules.now layout c.args.limit (checking_of c.steps.workspace.pool c.steps.self) Done (checking_of c.step.new.workspace.pool c.step.new.self)
       → c.steps.done + 1 + area_of c.step.new.self.dirty ≤ 65 * 2 ^ 42
   few =
-      few-Done c.args.basis.now.rules.now layout c.args.limit c.steps.done (checking_of c.steps.workspace.pool c.steps.self) (checking_of c.step.new.workspace.pool c.step.new.self)
+      few-Done c.args.context.now.rules.now layout c.args.limit c.steps.done (checking_of c.steps.workspace.pool c.steps.self) (checking_of c.step.new.workspace.pool c.step.new.self)
       kept c.steps.invariant.few
 
   -- where it wasn't, catching up ends
   caught :
       (how : Stepped)
-      → HasStepped c.args.basis.now.rules.now (flat_layout c.steps.workspace.pool c.args.basis.now.uses c.steps.planes) c.args.limit (checking_of c.steps.workspace.pool c.steps.self) how (checking_of c.step.new.workspace.pool c.step.new.self)
-      → UnlessDone how (HasCaughtUp c.args.basis.now.rules.now layout c.args.limit (checking_of c.args.workspace.now.pool c.args.self.now) (ended c.steps.done how) (checking_of c.step.new.workspace.pool c.step.new.self))
+      → HasStepped c.args.context.now.rules.now (flat_layout c.steps.workspace.pool c.args.context.now.uses c.steps.planes) c.args.limit (checking_of c.steps.workspace.pool c.steps.self) how (checking_of c.step.new.workspace.pool c.step.new.self)
+      → UnlessDone how (HasCaughtUp c.args.context.now.rules.now layout c.args.limit (checking_of c.args.workspace.now.pool c.args.self.now) (ended c.steps.done how) (checking_of c.step.new.workspace.pool c.step.new.self))
   caught how step =
-      HasCaughtUp-ended c.args.basis.now.rules.now layout c.args.limit c.steps.done (checking_of c.args.workspace.now.pool c.args.self.now) (checking_of c.steps.workspace.pool c.steps.self)
+      HasCaughtUp-ended c.args.context.now.rules.now layout c.args.limit c.steps.done (checking_of c.args.workspace.now.pool c.args.self.now) (checking_of c.steps.workspace.pool c.steps.self)
       (checking_of c.step.new.workspace.pool c.step.new.self) c.steps.invariant.after how (as_was how step)
 
 -- ---- and after the pieces that are settled then
 pub settle-more-requires-clause-layout : goal.settle-more-requires-clause-layout
 settle-more-requires-clause-layout c =
     HasLayout-apart c.args.workspace.now.pool c.step.new.workspace.pool c.args.self.now.owner (only (goal.at.settle-more-requires-clause-layout c).After-step)
-    c.args.planes.now c.step.new.planes c.args.basis.now.uses.library.now c.requires.apart (c.step.ensures.owners ∙ c.steps.invariant.owners) c.requires.layout
+    c.args.planes.now c.step.new.planes c.args.context.now.uses.library.now c.requires.apart (c.step.ensures.owners ∙ c.steps.invariant.owners) c.requires.layout
 
 pub settle-more-requires-clause-apart : goal.settle-more-requires-clause-apart
 settle-more-requires-clause-apart c =
-    let cells = c.args.basis.now.uses.library.now in
+    let cells = c.args.context.now.uses.library.now in
     subst (λ (owner : ℕ). StandsApart owner c.step.new.planes cells) (sym (c.step.ensures.owner ∙ c.steps.invariant.owner))
     (subst (λ (planes : List ℕ). StandsApart c.args.self.now.owner planes cells) (sym (c.step.ensures.owners ∙ c.steps.invariant.owners)) c.requires.apart)
 
 pub settle-more-requires-clause-right : goal.settle-more-requires-clause-right
 settle-more-requires-clause-right c =
     let at = (goal.at.settle-more-requires-clause-right c).After-step in
-    let rules = c.args.basis.now.rules.now in
+    let rules = c.args.context.now.rules.now in
     let mid = checking_of c.steps.workspace.pool c.steps.self in
     let new = checking_of c.step.new.workspace.pool c.step.new.self in
     let step = as_was at Done c.in-Done.ensures.stepped in
@@ -102,7 +102,7 @@ overflow_add-done-in-Done c =
 pub steps-smaller : goal.steps-smaller
 steps-smaller c =
     let at = (goal.at.steps-smaller c).After-step in
-    let smaller = area_of-Done c.args.basis.now.rules.now (layout at) c.args.limit (checking_of c.steps.workspace.pool c.steps.self) (checking_of c.step.new.workspace.pool c.step.new.self)
+    let smaller = area_of-Done c.args.context.now.rules.now (layout at) c.args.limit (checking_of c.steps.workspace.pool c.steps.self) (checking_of c.step.new.workspace.pool c.step.new.self)
     (kept at) (as_was at Done c.in-Done.ensures.stepped) in
     omega (arith, smaller, c.settle-more.ensures.fewer)
 
@@ -110,7 +110,7 @@ pub steps-preserved : goal.steps-preserved
 steps-preserved c =
     let at = (goal.at.steps-preserved c).After-step in
     let so_far = c.steps.invariant in
-    let rules = c.args.basis.now.rules.now in
+    let rules = c.args.context.now.rules.now in
     let mid = checking_of c.steps.workspace.pool c.steps.self in
     let new = checking_of c.step.new.workspace.pool c.step.new.self in
     let last = checking_of c.settle-more.new.workspace.pool c.settle-more.new.self in

@@ -31,21 +31,21 @@ returns-clause-steps c =
     let old = c.args.self.now.dirty in
     let after : c.self-2.inside.dirty ≡ old = cc (ap (λ (e : ErrorPlane). e.dirty) c.self-2.view_is, c.make_right.ensures.dirty) in
     let drops = subst (λ (list : List Rect). DropsAll stretch.rect stretch.pieces list c.drop_stretch.new.self) after c.drop_stretch.ensures in
-    subst (λ (owner : ℕ). Steps c.args.basis.now.rules.now (flat_layout pool c.args.basis.now.uses c.args.planes.now) c.args.trial.now.limit stretch.pieces
+    subst (λ (owner : ℕ). Steps c.args.context.now.rules.now (flat_layout pool c.args.context.now.uses c.args.planes.now) c.args.trial.now.limit stretch.pieces
     (checking_with (is_marked (picture_in pool c.args.self.now.owner)) old) (checking_with (is_marked (picture_in new owner)) c.drop_stretch.new.self))
     (sym (ap (λ (e : ErrorPlane). e.owner) c.self-2.view_is))
     (c.if-not-make_right.ensures.steps refl stretch.pieces old c.drop_stretch.new.self drops)
 
 pub returns-clause-right : goal.returns-clause-right
 returns-clause-right c =
-    let layout = flat_layout c.args.workspace.now.pool c.args.basis.now.uses c.args.planes.now in
-    subst (λ (owner : ℕ). AreRight c.args.basis.now.rules.now layout (is_marked (picture_in c.make_right.new.workspace.pool owner)) c.in_ok-stretch.stretch.rect)
+    let layout = flat_layout c.args.workspace.now.pool c.args.context.now.uses c.args.planes.now in
+    subst (λ (owner : ℕ). AreRight c.args.context.now.rules.now layout (is_marked (picture_in c.make_right.new.workspace.pool owner)) c.in_ok-stretch.stretch.rect)
     (sym (ap (λ (e : ErrorPlane). e.owner) c.self-2.view_is)) (c.if-not-make_right.ensures.right refl)
 
 pub returns-clause-sound : goal.returns-clause-sound
 returns-clause-sound c =
-    let layout = flat_layout c.args.workspace.now.pool c.args.basis.now.uses c.args.planes.now in
-    subst (λ (owner : ℕ). AreSound c.args.basis.now.rules.now layout c.args.trial.now (is_marked (picture_in c.make_right.new.workspace.pool owner)))
+    let layout = flat_layout c.args.workspace.now.pool c.args.context.now.uses c.args.planes.now in
+    subst (λ (owner : ℕ). AreSound c.args.context.now.rules.now layout c.args.trial.now (is_marked (picture_in c.make_right.new.workspace.pool owner)))
     (sym (ap (λ (e : ErrorPlane). e.owner) c.self-2.view_is)) c.make_right.ensures.sound
 
 pub returns-clause-marks : goal.returns-clause-marks

@@ -24,22 +24,22 @@ use Rattle.mls_errorplane.proofs.error_plane.ErrorPlane.make_right.Goals.{After-
 
 pub returns-then-encloses-clause-steps : goal.returns-then-encloses-clause-steps
 returns-then-encloses-clause-steps c = λ _ count old new drops.
-    let rules = c.args.basis.now.rules.now in
-    let layout = flat_layout c.args.workspace.now.pool c.args.basis.now.uses c.args.planes.now in
+    let rules = c.args.context.now.rules.now in
+    let layout = flat_layout c.args.workspace.now.pool c.args.context.now.uses c.args.planes.now in
     let marks = is_marked (picture_in c.args.workspace.now.pool c.args.self.now.owner) in
     DropsIn-Steps rules layout c.args.trial.now.limit count c.args.rect marks old new (DropsAll-DropsIn c.args.rect count old new drops)
     (AreRight-within rules layout marks c.args.trial.now.checked.block c.args.rect (c.if-encloses.ensures.0 refl) c.requires.sound.right.2) c.requires.sound.fits
 
 pub returns-in_default-clause-sound : goal.returns-in_default-clause-sound
 returns-in_default-clause-sound c =
-    let rules = c.args.basis.now.rules.now in
-    let layout = flat_layout c.args.workspace.now.pool c.args.basis.now.uses c.args.planes.now in
+    let rules = c.args.context.now.rules.now in
+    let layout = flat_layout c.args.workspace.now.pool c.args.context.now.uses c.args.planes.now in
     subst (λ (p : Pool). AreSound rules layout c.args.trial.now (is_marked (picture_in p c.args.self.now.owner))) (sym c.alike_source.ensures.pool) c.requires.sound
 
 -- ---- where pieces that were checked tell the marks
 module _ (c : After-shows_alike) where
   abbrev layout : Layout
-  layout = flat_layout c.args.workspace.now.pool c.args.basis.now.uses c.args.planes.now
+  layout = flat_layout c.args.workspace.now.pool c.args.context.now.uses c.args.planes.now
 
   abbrev old : SquareSet
   old = is_marked (picture_in c.args.workspace.now.pool c.args.self.now.owner)
@@ -54,11 +54,11 @@ module _ (c : After-shows_alike) where
       c.alike_source.ensures.pool (c.shows_alike.ensures.owner ∙ inside)
 
   -- those of the source are right
-  right_there : AreRight c.args.basis.now.rules.now layout old c.in-Some.source.rect
+  right_there : AreRight c.args.context.now.rules.now layout old c.in-Some.source.rect
   right_there = c.in-Some.ensures.right layout old c.requires.sound.right
 
   -- and so are those of the rectangle, where the error plane shows the same in both
-  right_here : c.shows_alike.result ≡ true → AreRight c.args.basis.now.rules.now layout old c.args.rect
+  right_here : c.shows_alike.result ≡ true → AreRight c.args.context.now.rules.now layout old c.args.rect
   right_here shown =
       let source = c.in-Some.source in
       let picture = picture_in c.args.workspace.now.pool c.args.self.now.owner in
@@ -66,7 +66,7 @@ module _ (c : After-shows_alike) where
       (subst (λ (p : Picture). ShowsAlike source.likeness 0 c.joined-both.result p)
       (lent-same picture_in c.args.workspace.now.pool c.alike_source.new.workspace.pool c.args.self.now.owner c.self.inside.plane c.alike_source.ensures.pool inside)
       (c.shows_alike.ensures.alike shown)) in
-      AreRight-alike c.args.basis.now.rules.now layout picture source.likeness source.rect c.args.rect c.lies_in_world-2.ensures c.lies_in_world.ensures c.in-Some.ensures.tells
+      AreRight-alike c.args.context.now.rules.now layout picture source.likeness source.rect c.args.rect c.lies_in_world-2.ensures c.lies_in_world.ensures c.in-Some.ensures.tells
       c.in-Some.ensures.alike shows right_there
 
   -- or where they are carried
@@ -75,20 +75,20 @@ module _ (c : After-shows_alike) where
       → AreCarried c.in-Some.source.likeness c.in-Some.source.rect c.args.rect old new
   as_carried new = subst (λ (m : SquareSet). AreCarried c.in-Some.source.likeness c.in-Some.source.rect c.args.rect m new) same
 
-  right_carried : (new : SquareSet) → AreCarried c.in-Some.source.likeness c.in-Some.source.rect c.args.rect old new → AreRight c.args.basis.now.rules.now layout new c.args.rect
+  right_carried : (new : SquareSet) → AreCarried c.in-Some.source.likeness c.in-Some.source.rect c.args.rect old new → AreRight c.args.context.now.rules.now layout new c.args.rect
   right_carried new are =
-      AreRight-carried c.args.basis.now.rules.now layout c.in-Some.source.likeness c.in-Some.source.rect c.args.rect old new c.lies_in_world-2.ensures c.lies_in_world.ensures
+      AreRight-carried c.args.context.now.rules.now layout c.in-Some.source.likeness c.in-Some.source.rect c.args.rect old new c.lies_in_world-2.ensures c.lies_in_world.ensures
       c.in-Some.ensures.tells c.in-Some.ensures.alike are right_there
 
 pub returns-then-shows_alike-clause-right : goal.returns-then-shows_alike-clause-right
 returns-then-shows_alike-clause-right c = λ _.
     let at = (goal.at.returns-then-shows_alike-clause-right c).After-shows_alike in
-    subst (λ (m : SquareSet). AreRight c.args.basis.now.rules.now (layout at) m c.args.rect) (sym (same at)) (right_here at c.if-shows_alike.true)
+    subst (λ (m : SquareSet). AreRight c.args.context.now.rules.now (layout at) m c.args.rect) (sym (same at)) (right_here at c.if-shows_alike.true)
 
 pub returns-then-shows_alike-clause-steps : goal.returns-then-shows_alike-clause-steps
 returns-then-shows_alike-clause-steps c = λ _ count before after drops.
     let at = (goal.at.returns-then-shows_alike-clause-steps c).After-shows_alike in
-    let rules = c.args.basis.now.rules.now in
+    let rules = c.args.context.now.rules.now in
     subst (λ (m : SquareSet). Steps rules (layout at) c.args.trial.now.limit count (checking_with (old at) before) (checking_with m after)) (sym (same at))
     (DropsIn-Steps rules (layout at) c.args.trial.now.limit count c.args.rect (old at) before after (DropsAll-DropsIn c.args.rect count before after drops)
     (right_here at c.if-shows_alike.true) c.requires.sound.fits)
@@ -96,7 +96,7 @@ returns-then-shows_alike-clause-steps c = λ _ count before after drops.
 pub returns-then-shows_alike-clause-sound : goal.returns-then-shows_alike-clause-sound
 returns-then-shows_alike-clause-sound c =
     let at = (goal.at.returns-then-shows_alike-clause-sound c).After-shows_alike in
-    subst (AreSound c.args.basis.now.rules.now (layout at) c.args.trial.now) (sym (same at)) c.requires.sound
+    subst (AreSound c.args.context.now.rules.now (layout at) c.args.trial.now) (sym (same at)) c.requires.sound
 
 pub returns-clause-right : goal.returns-clause-right
 returns-clause-right c = λ yes.
@@ -110,12 +110,12 @@ returns-clause-steps c = λ yes count before after drops.
     let new = is_marked (picture_in c.carry.new.workspace.pool c.carry.new.self.owner) in
     let are = as_carried at new (c.carry.ensures.carried yes) in
     let few = subst (λ (m : SquareSet). AreFew c.args.trial.now.limit c.args.rect m new) (same at) (c.carry.ensures.few yes) in
-    carried c.args.basis.now.rules.now (layout at) c.args.trial.now.limit count c.args.rect (old at) new before after drops c.lies_in_world.ensures (right_carried at new are) are.elsewhere few
+    carried c.args.context.now.rules.now (layout at) c.args.trial.now.limit count c.args.rect (old at) new before after drops c.lies_in_world.ensures (right_carried at new are) are.elsewhere few
 
 pub returns-clause-sound : goal.returns-clause-sound
 returns-clause-sound c =
     let at = (goal.at.returns-clause-sound c).After-shows_alike in
-    let rules = c.args.basis.now.rules.now in
+    let rules = c.args.context.now.rules.now in
     let new = is_marked (picture_in c.carry.new.workspace.pool c.carry.new.self.owner) in
     elim (cases_Bool c.carry.result) [
       | inl is_carried ↦ (let are = as_carried at new (c.carry.ensures.carried is_carried) in record {

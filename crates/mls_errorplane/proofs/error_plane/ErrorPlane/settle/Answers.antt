@@ -16,15 +16,15 @@ use Rattle.mls_errorplane.proofs.error_plane.ErrorPlane.settle.Goals as goal
 pub drop_one_stretch-requires-clause-layout : goal.drop_one_stretch-requires-clause-layout
 drop_one_stretch-requires-clause-layout c =
     HasLayout-apart c.args.workspace.now.pool c.stretches.workspace.pool c.args.self.now.owner c.stretches.invariant.only c.args.planes.now c.stretches.planes
-    c.args.basis.now.uses.library.now c.requires.apart c.stretches.invariant.owners c.requires.layout
+    c.args.context.now.uses.library.now c.requires.apart c.stretches.invariant.owners c.requires.layout
 
 pub drop_one_stretch-requires-clause-sound : goal.drop_one_stretch-requires-clause-sound
 drop_one_stretch-requires-clause-sound c =
     let so_far = c.stretches.invariant in
-    let uses = c.args.basis.now.uses in
+    let uses = c.args.context.now.uses in
     let trial : Trial = record { checked = c.stretches.checked; most = c.stretches.most; limit = c.args.limit } in
     let here = flat_layout-apart c.args.workspace.now.pool c.stretches.workspace.pool c.args.self.now.owner so_far.only uses c.args.planes.now c.stretches.planes c.requires.apart so_far.owners in
-    subst (λ (l : Layout). AreSound c.args.basis.now.rules.now l trial (checking_of c.stretches.workspace.pool c.stretches.self).marks) (sym here)
+    subst (λ (l : Layout). AreSound c.args.context.now.rules.now l trial (checking_of c.stretches.workspace.pool c.stretches.self).marks) (sym here)
     (record { fits = so_far.fits; right = so_far.right })
 
 pub stretches-init : goal.stretches-init
@@ -45,8 +45,8 @@ overflow_add-steps c = omega (arith, area_of-le c.args.self.now.dirty c.areas.en
 pub stretches-preserved : goal.stretches-preserved
 stretches-preserved c =
     let so_far = c.stretches.invariant in
-    let rules = c.args.basis.now.rules.now in
-    let uses = c.args.basis.now.uses in
+    let rules = c.args.context.now.rules.now in
+    let uses = c.args.context.now.uses in
     let layout = flat_layout c.args.workspace.now.pool uses c.args.planes.now in
     let old = checking_of c.args.workspace.now.pool c.args.self.now in
     let mid = checking_of c.stretches.workspace.pool c.stretches.self in

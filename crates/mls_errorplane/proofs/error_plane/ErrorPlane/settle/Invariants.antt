@@ -10,8 +10,8 @@ use Rattle.mls_errorplane.proofs.error_plane.ErrorPlane.settle.Given as goal
 -- the pieces so far are as many check steps, in the layout as it was, and the marks are right in the last of them
 abbrev pub invariant-stretches : goal.invariant-stretches
 invariant-stretches l = record {
-  steps : Steps l.fn.basis.rules.now (flat_layout l.fn.workspace.pool l.fn.basis.uses l.fn.planes) l.limit l.steps (checking_of l.fn.workspace.pool l.fn.self) (checking_of l.workspace.pool l.self);
-  right : AreRightIn l.fn.basis.rules.now (flat_layout l.fn.workspace.pool l.fn.basis.uses l.fn.planes) (checking_of l.workspace.pool l.self).marks l.checked;
+  steps : Steps l.fn.context.rules.now (flat_layout l.fn.workspace.pool l.fn.context.uses l.fn.planes) l.limit l.steps (checking_of l.fn.workspace.pool l.fn.self) (checking_of l.workspace.pool l.self);
+  right : AreRightIn l.fn.context.rules.now (flat_layout l.fn.workspace.pool l.fn.context.uses l.fn.planes) (checking_of l.workspace.pool l.self).marks l.checked;
   fewer : l.steps + area_of l.self.dirty ≤ area_of l.fn.self.dirty;
   fits : exceeds l.limit (checking_of l.workspace.pool l.self).marks ≡ false;
   marks : ShowsMarks l.workspace.pool l.self;

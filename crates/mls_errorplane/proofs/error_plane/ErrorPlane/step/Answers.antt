@@ -14,11 +14,11 @@ use Rattle.mls_errorplane.proofs.error_plane.ErrorPlane.step.Goals.{After-mark_f
 -- what was found is marked as a step marks it, and so it ends
 marked :
     (c : After-mark_first) (how : Stepped) → stepped_of c.mark_first.result ≡ how
-    → HasStepped c.args.basis.now.rules.now (flat_layout c.args.workspace.now.pool c.args.basis.now.uses c.args.planes.now) c.args.limit (checking_of c.args.workspace.now.pool c.args.self.now) how
+    → HasStepped c.args.context.now.rules.now (flat_layout c.args.workspace.now.pool c.args.context.now.uses c.args.planes.now) c.args.limit (checking_of c.args.workspace.now.pool c.args.self.now) how
     (checking_of c.mark_first.new.workspace.pool c.mark_first.new.self)
 marked c how ends =
-    let rules = c.args.basis.now.rules.now in
-    let layout = flat_layout c.args.workspace.now.pool c.args.basis.now.uses c.args.planes.now in
+    let rules = c.args.context.now.rules.now in
+    let layout = flat_layout c.args.workspace.now.pool c.args.context.now.uses c.args.planes.now in
     let new = checking_of c.mark_first.new.workspace.pool c.mark_first.new.self in
     let finding = c.in-Ok.finding in
     let found = subst (λ (e : Rect). AreRight rules layout (marks finding.marks) e) (sym c.in-Ok.ensures.piece) c.in-Ok.ensures.marks in

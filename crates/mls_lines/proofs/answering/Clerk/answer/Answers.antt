@@ -6,7 +6,7 @@ use Rattle.mls_seat_lines.specs.mls_wire.declared.line.Line.{Line}
 use Rattle.mls_seat_lines.specs.mls_wire.declared.line.LineFault.{LineFault}
 use Rattle.mls_seat_lines.specs.mls_wire.declared.response.Response.TheVariants.{Fault}
 use Rattle.mls_lines.specs.Answers.{held_by, name_held}
-use Rattle.mls_seat_lines.specs.Glossaries.{book_in}
+use Rattle.mls_seat_lines.specs.SymbolTables.{book_in}
 use Rattle.mls_lines.specs.Beside.{says_beside}
 use Rattle.mls_lines.proofs.AnswerLemmas.{appends_as}
 use Rattle.mls_lines.proofs.answering.Clerk.answer.Goals as goal
@@ -18,12 +18,12 @@ says_held book held name line result said same says is = ap (λ (n : Option (Lis
 
 pub returns-in-Err : goal.returns-in-Err
 returns-in-Err g c =
-    let book = book_in g.N.Scripted.glossary in
+    let book = book_in g.N.Scripted.symbols in
     let says = says_held book (name_held (held_by c.args.sitting.now)) c.name_of.result (bytes_of_line c.args.line.now.line) c.parsed.result (Err c.in-Err.fault) c.name_of.ensures c.parsed.ensures c.in-Err.is in
     let text = response_text book c.args.line.now.n (Fault c.in-Err.fault) in
     rw says (text, true, (refl, refl), c.done.ensures.known, appends_as c.push_fault.result c.done.result _ _ _ c.done.ensures.same c.push_fault.ensures)
 
 pub returns-in-Ok : goal.returns-in-Ok
 returns-in-Ok g c =
-    let says = says_held (book_in g.N.Scripted.glossary) (name_held (held_by c.args.sitting.now)) c.name_of.result (bytes_of_line c.args.line.now.line) c.parsed.result (Ok c.in-Ok.asked) c.name_of.ensures c.parsed.ensures c.in-Ok.is in
+    let says = says_held (book_in g.N.Scripted.symbols) (name_held (held_by c.args.sitting.now)) c.name_of.result (bytes_of_line c.args.line.now.line) c.parsed.result (Ok c.in-Ok.asked) c.name_of.ensures c.parsed.ensures c.in-Ok.is in
     rw says c.carry_out.ensures

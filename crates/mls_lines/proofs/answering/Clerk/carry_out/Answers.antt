@@ -2,7 +2,7 @@ use Rattle.std.proofs.Common.{true, [], refl}
 use Rattle.mls_seat_lines.specs.mls_wire.Replies.{response_text}
 use Rattle.mls_seat_lines.specs.mls_wire.declared.line.LineFault.TheVariants.{UnknownCommand}
 use Rattle.mls_seat_lines.specs.mls_wire.declared.response.Response.TheVariants.{Fault}
-use Rattle.mls_seat_lines.specs.Glossaries.{book_in}
+use Rattle.mls_seat_lines.specs.SymbolTables.{book_in}
 use Rattle.mls_lines.proofs.AnswerLemmas.{appends_as, appends_none}
 use Rattle.mls_lines.proofs.answering.Clerk.carry_out.Goals as goal
 
@@ -34,10 +34,10 @@ returns-in-Run g c =
 
 pub returns-in-Step : goal.returns-in-Step
 returns-in-Step g c =
-    let text = response_text (book_in g.N.Scripted.glossary) c.args.n (Fault UnknownCommand) in
+    let text = response_text (book_in g.N.Scripted.symbols) c.args.n (Fault UnknownCommand) in
     rw c.in-Step.is (text, true, (refl, refl), c.done-in-Step.ensures.known, appends_as c.refuse_steps.result c.done-in-Step.result _ _ _ c.done-in-Step.ensures.same c.refuse_steps.ensures)
 
 pub returns-in-Steps : goal.returns-in-Steps
 returns-in-Steps g c =
-    let text = response_text (book_in g.N.Scripted.glossary) c.args.n (Fault UnknownCommand) in
+    let text = response_text (book_in g.N.Scripted.symbols) c.args.n (Fault UnknownCommand) in
     rw c.in-Steps.is (text, true, (refl, refl), c.done-in-Steps.ensures.known, appends_as c.refuse_steps-in-Steps.result c.done-in-Steps.result _ _ _ c.done-in-Steps.ensures.same c.refuse_steps-in-Steps.ensures)

@@ -9,4 +9,4 @@ abbrev pub ghosts-serve_as-N-Naming : goal.ghosts-serve_as-N-Naming
 ghosts-serve_as-N-Naming g a = record { terms = terms_for (world_of a.stream.server).setting }
 
 abbrev pub ghosts-serve_as-N-Scripted : goal.ghosts-serve_as-N-Scripted
-ghosts-serve_as-N-Scripted g a = record { glossary = a.stream.glossary; script = g.I.Read.remaining a.input.now.device }
+ghosts-serve_as-N-Scripted g a = record { symbols = a.stream.symbols; script = g.I.Read.remaining a.input.now.device }

@@ -19,11 +19,11 @@ use Rattle.mls_session.proofs.design.Design.catch_up.Goals as goal
 
 pub catch_up-ended-requires-clause-layout : goal.catch_up-ended-requires-clause-layout
 catch_up-ended-requires-clause-layout c =
-    HasLayout-lent c.args.setup.now c.args.workspace.now.pool c.self.inside c.args.self.now c.self.view_is c.requires.home c.self.invariant.0 c.basis-basis.result.uses.library.now c.basis-basis.ensures.library c.deref_mut.result.now c.deref_mut.ensures.value c.requires.can_dump c.requires.made_for
+    HasLayout-lent c.args.setup.now c.args.workspace.now.pool c.self.inside c.args.self.now c.self.view_is c.requires.home c.self.invariant.0 c.context-context.result.uses.library.now c.context-context.ensures.library c.deref_mut.result.now c.deref_mut.ensures.value c.requires.can_dump c.requires.made_for
 
 pub catch_up-ended-requires-clause-apart : goal.catch_up-ended-requires-clause-apart
 catch_up-ended-requires-clause-apart c =
-    StandsApart-lent c.args.setup.now c.args.workspace.now.pool c.self.inside c.args.self.now c.self.view_is c.requires.home c.self.invariant.0 c.basis-basis.result.uses.library.now c.basis-basis.ensures.library c.deref_mut.result.now c.deref_mut.ensures.value c.requires.can_dump
+    StandsApart-lent c.args.setup.now c.args.workspace.now.pool c.self.inside c.args.self.now c.self.view_is c.requires.home c.self.invariant.0 c.context-context.result.uses.library.now c.context-context.ensures.library c.deref_mut.result.now c.deref_mut.ensures.value c.requires.can_dump
 
 abbrev after : goal.After-steps_of → Design
 after c = record {
@@ -61,9 +61,9 @@ caught c =
     let limit = c.get-limit.result in
     let now = checking_of new c.catch_up-ended.new.self in
     let lent = c.deref_mut.ensures.value ∙ ap (λ (d : Design). d.planes) c.self.view_is in
-    let list = c.basis-basis.ensures.list ∙ c.deref.ensures.value ∙ ap (λ (d : Design). d.uses) c.self.view_is in
-    let shown = flat_layout-design c.args.setup.now pool design c.basis-basis.result.uses c.basis-basis.ensures.library list c.deref_mut.result.now lent in
-    let all = rw (c.basis-basis.ensures.rules, shown) at c.catch_up-ended.ensures.caught_up in
+    let list = c.context-context.ensures.list ∙ c.deref.ensures.value ∙ ap (λ (d : Design). d.uses) c.self.view_is in
+    let shown = flat_layout-design c.args.setup.now pool design c.context-context.result.uses c.context-context.ensures.library list c.deref_mut.result.now lent in
+    let all = rw (c.context-context.ensures.rules, shown) at c.catch_up-ended.ensures.caught_up in
     let steps : HasCaughtUp config.rules (layout_of config (drawn_of pool design)) limit (checking_of pool design.errors) ended now =
     subst (λ (e : ErrorPlane). HasCaughtUp config.rules (layout_of config (drawn_of pool design)) limit (checking_of pool e) ended now) (ap (λ (d : Design). d.errors) c.self.view_is) all in
     caught_up-errors config pool new design (after c) limit ended c.areas-pending.result (executed c) (sym c.requires.made_for.quota)

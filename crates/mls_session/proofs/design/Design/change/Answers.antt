@@ -4,7 +4,7 @@ use Rattle.mls_tilepool.specs.Pools.{Pool}
 use Rattle.mls_paint.specs.Planes.{layout_in}
 use Rattle.mls_errorplane.specs.ErrorPlanes.{checking_of}
 use Rattle.mls_session.specs.Inner.{FitsQuota, changed_layout}
-use Rattle.mls_session.specs.Own.{change_step, soiled_after}
+use Rattle.mls_session.specs.Own.{change_step, dirty_after}
 use Rattle.mls_session.specs.Designs.{Design, designed_of, drawn_of}
 use Rattle.mls_session.specs.Setups.{config_of}
 use Rattle.mls_session.proofs.ChangedPlanes.{layout_in-changed}
@@ -61,10 +61,10 @@ returns-clause-step c =
     let new = c.paint_listed.new.workspace.pool in
     let pieces = map (λ list. list.items) c.change_fits.new.workspace.plane_pieces.items in
     let painted = layout_in-changed pool new design c.args.change.now pieces c.requires.planes (tested.lists c.if-not-change_fits.false) made.layout in
-    let same = c.soil.ensures.same in
+    let same = c.mark_dirty.ensures.same in
     let mid : c.paint_listed.new.self.errors ≡ design.errors = ap (λ (d : Design). d.errors) made.same in
-    change-Done config pool new design c.soil.new.self c.args.rect c.requires.home made.only
-    (c.soil.ensures.checking new ∙ ap (λ (d : Design). soiled_after config.rules c.args.rect Done (checking_of new d.errors)) made.same) layout c.change_fits.result
+    change-Done config pool new design c.mark_dirty.new.self c.args.rect c.requires.home made.only
+    (c.mark_dirty.ensures.checking new ∙ ap (λ (d : Design). dirty_after config.rules c.args.rect Done (checking_of new d.errors)) made.same) layout c.change_fits.result
     (tested.fits config (sym c.requires.made_for.planes) (sym c.requires.made_for.quota)) c.if-not-change_fits.false painted
     (ap (λ (d : Design). d.box) same ∙ ap (λ (d : Design). d.box) made.same) (ap (λ (d : Design). d.planes) same ∙ ap (λ (d : Design). d.planes) made.same)
     (ap (λ (d : Design). d.uses) same ∙ ap (λ (d : Design). d.uses) made.same)
@@ -75,7 +75,7 @@ returns-clause-keeps c =
     let design = c.args.self.now in
     let tested = c.change_fits.ensures in
     let made = rw (tested.same, tested.pool) at c.paint_listed.ensures in
-    let same = c.soil.ensures.same in
-    KeepsPlanes-layout pool c.paint_listed.new.workspace.pool design c.soil.new.self c.requires.home made.home made.only
+    let same = c.mark_dirty.ensures.same in
+    KeepsPlanes-layout pool c.paint_listed.new.workspace.pool design c.mark_dirty.new.self c.requires.home made.home made.only
     (ap (λ (d : Design). d.planes) same ∙ ap (λ (d : Design). d.planes) made.same) (ap (λ (d : Design). d.quota) same ∙ ap (λ (d : Design). d.quota) made.same)
-    (c.soil.ensures.owner ∙ ap (λ (d : Design). d.errors.owner) made.same) (c.soil.ensures.marked ∙ ap (λ (d : Design). d.errors.marked) made.same)
+    (c.mark_dirty.ensures.owner ∙ ap (λ (d : Design). d.errors.owner) made.same) (c.mark_dirty.ensures.marked ∙ ap (λ (d : Design). d.errors.marked) made.same)

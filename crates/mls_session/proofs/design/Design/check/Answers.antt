@@ -1,6 +1,6 @@
 use Rattle.std.proofs.Common.{◌≡◌, Some, sym, ap, ◌∙◌}
 use Rattle.mls_errorplane.specs.ErrorPlanes.{checking_of}
-use Rattle.mls_session.specs.Own.{check_in, soiled_after}
+use Rattle.mls_session.specs.Own.{check_in, dirty_after}
 use Rattle.mls_session.specs.OwnSteps.{design_step}
 use Rattle.mls_session.specs.Designs.{Design, designed_of, drawn_of}
 use Rattle.mls_session.specs.Setups.{config_of}
@@ -14,7 +14,7 @@ returns-clause-step c = λ pool.
     let design = c.args.self.now in
     let config = config_of c.args.setup.now pool in
     let is_set : design.box ≡ Some c.in-Some.rect = sym (ap (λ (d : Design). d.box) c.self.view_is) ∙ c.in-Some.is in
-    let drawn = ap (λ (d : Design). drawn_of pool d) (sym c.soil.ensures.same) in
-    edit_step-Done config (designed_of pool design) (designed_of pool c.soil.new.self) design.box (check_in (drawn_of pool design) design.box)
+    let drawn = ap (λ (d : Design). drawn_of pool d) (sym c.mark_dirty.ensures.same) in
+    edit_step-Done config (designed_of pool design) (designed_of pool c.mark_dirty.new.self) design.box (check_in (drawn_of pool design) design.box)
     (check_in-Some (drawn_of pool design) design.box c.in-Some.rect is_set ∙ ap (λ d. (d, Done)) drawn)
-    (c.soil.ensures.checking pool ∙ ap (λ rect. soiled_after config.rules rect Done (checking_of pool design.errors)) (sym is_set))
+    (c.mark_dirty.ensures.checking pool ∙ ap (λ rect. dirty_after config.rules rect Done (checking_of pool design.errors)) (sym is_set))

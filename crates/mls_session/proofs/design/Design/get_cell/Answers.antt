@@ -4,7 +4,7 @@ use Rattle.std.proofs.lemmas.Int.{to_z-of_z}
 use Rattle.mls_layout.specs.Uses.{most_uses}
 use Rattle.mls_layout.specs.declared.uses.CellUse.{CellUse}
 use Rattle.mls_errorplane.specs.ErrorPlanes.{checking_of}
-use Rattle.mls_session.specs.Own.{soiled_after}
+use Rattle.mls_session.specs.Own.{dirty_after}
 use Rattle.mls_session.specs.Designs.{Design, designed_of, owners_of}
 use Rattle.mls_session.specs.declared.reply.Reply.TheVariants.{Done}
 use Rattle.mls_session.proofs.CellPlaces.{get-Done, get-TooManyUses, get-refused}
@@ -29,22 +29,22 @@ pub returns-clause-step : goal.returns-clause-step
 returns-clause-step c =
     let pool = c.args.workspace.now.pool in
     let view = c.self.view_is in
-    let kept = c.soil.ensures.same in
+    let kept = c.mark_dirty.ensures.same in
     let along = c.ranges.dx in
     let up = c.ranges.dy in
     let pushed = simp to_z-of_z at c.push_reserved.ensures.items in
     let placed : CellUse = record { cell = c.in-Some.id; dx = c.args.dx; dy = c.args.dy } in
     let few : length c.args.self.now.uses < most_uses = omega (arith, ap (λ (d : Design). length d.uses) view) in
     let uses = ap (λ (d : Design). d.uses) kept ∙ pushed ∙ ap (λ (d : Design). d.uses ++ placed ∷ []) view in
-    let soiled = c.soil.ensures.checking pool ∙ ap (λ (d : Design). soiled_after c.args.setup.now.rules c.in-Ok.rect Done (checking_of pool d.errors)) view in
+    let dirtied = c.mark_dirty.ensures.checking pool ∙ ap (λ (d : Design). dirty_after c.args.setup.now.rules c.in-Ok.rect Done (checking_of pool d.errors)) view in
     rw c.in-Some.is
-    (get-Done c.args.setup.now c.args.workspace.now.pool (owners_of c.args.self.now) c.requires.can_dump c.in-Some.id c.in-Some-get.cell.now.planes c.in-Some-get.ensures.planes c.bounds.result (ap (λ bounds. Some bounds) c.bounds.ensures ∙ c.in-Some-get.ensures.bounds) c.args.dx c.args.dy c.args.self.now c.soil.new.self
+    (get-Done c.args.setup.now c.args.workspace.now.pool (owners_of c.args.self.now) c.requires.can_dump c.in-Some.id c.in-Some-get.cell.now.planes c.in-Some-get.ensures.planes c.bounds.result (ap (λ bounds. Some bounds) c.bounds.ensures ∙ c.in-Some-get.ensures.bounds) c.args.dx c.args.dy c.args.self.now c.mark_dirty.new.self
     c.in-Ok.rect (c.in-Ok.ensures ∙ placed_bounds-fits c.bounds.result c.args.dx c.args.dy c.ranges.dx c.ranges.dy) few
-    (ap (λ (d : Design). d.box) kept ∙ ap (λ (d : Design). d.box) view) (ap (λ (d : Design). d.planes) kept ∙ ap (λ (d : Design). d.planes) view) uses soiled)
+    (ap (λ (d : Design). d.box) kept ∙ ap (λ (d : Design). d.box) view) (ap (λ (d : Design). d.planes) kept ∙ ap (λ (d : Design). d.planes) view) uses dirtied)
 
 pub returns-clause-keeps : goal.returns-clause-keeps
 returns-clause-keeps c =
     let view = c.self.view_is in
-    let kept = c.soil.ensures.same in
-    KeepsPlanes-same c.args.workspace.now.pool c.args.self.now c.soil.new.self c.requires.home (ap (λ (d : Design). d.planes) kept ∙ ap (λ (d : Design). d.planes) view)
-    (ap (λ (d : Design). d.quota) kept ∙ ap (λ (d : Design). d.quota) view) (c.soil.ensures.owner ∙ ap (λ (d : Design). d.errors.owner) view) (c.soil.ensures.marked ∙ ap (λ (d : Design). d.errors.marked) view)
+    let kept = c.mark_dirty.ensures.same in
+    KeepsPlanes-same c.args.workspace.now.pool c.args.self.now c.mark_dirty.new.self c.requires.home (ap (λ (d : Design). d.planes) kept ∙ ap (λ (d : Design). d.planes) view)
+    (ap (λ (d : Design). d.quota) kept ∙ ap (λ (d : Design). d.quota) view) (c.mark_dirty.ensures.owner ∙ ap (λ (d : Design). d.errors.owner) view) (c.mark_dirty.ensures.marked ∙ ap (λ (d : Design). d.errors.marked) view)

@@ -10,7 +10,7 @@ use Rattle.mls_paint.specs.Planes.{picture_in}
 use Rattle.mls_paint.proofs.OwnerFrames.{ChangesAmong-ChangesOnly}
 use Rattle.mls_errorplane.specs.ErrorPlanes.{checking_of}
 use Rattle.mls_session.specs.Designs.{Design, designed_of, drawn_of}
-use Rattle.mls_session.specs.Own.{paint_step, soiled_after}
+use Rattle.mls_session.specs.Own.{paint_step, dirty_after}
 use Rattle.mls_session.specs.OwnSteps.{design_step}
 use Rattle.mls_session.specs.Setups.{config_of}
 use Rattle.mls_session.specs.declared.refusal.Refusal.TheVariants.{Quota}
@@ -78,10 +78,10 @@ returns-clause-step c =
     let planes = planes_kept c.self.inside.planes.items plane owner c.overlay.new.plane c.index_mut-plane.ensures.value done.plane ∙ ap (λ (d : Design). d.planes) view in
     let quota = ap (λ (d : Design). d.quota) view in
     let few = λ (over : design.quota < _). absurd (false≢true (done.too_many.1 (omega (arith, over, quota, c.get-limit.ensures.value)))) in
-    let soiled = c.add.ensures.added new ∙ ap (λ (d : Design). soiled_after config.rules (Some rect) Done (checking_of new d.errors)) view in
+    let dirtied = c.add.ensures.added new ∙ ap (λ (d : Design). dirty_after config.rules (Some rect) Done (checking_of new d.errors)) view in
     let after : Design =
     record { box = c.self.inside.box_rect; planes = set c.self.inside.planes.items plane c.overlay.new.plane; uses = c.self.inside.uses.items; quota = c.self.inside.quota; errors = c.add.new.self } in
-    paint-Done config pool new design after c.args.kind rect c.in-Some-kind.kind plane owner c.deref.result.now (painting (goal.at.returns-clause-step c).After-deref) c.requires.home done.only done.picture few (ap (λ (d : Design). d.box) view) planes (ap (λ (d : Design). d.uses) view) soiled
+    paint-Done config pool new design after c.args.kind rect c.in-Some-kind.kind plane owner c.deref.result.now (painting (goal.at.returns-clause-step c).After-deref) c.requires.home done.only done.picture few (ap (λ (d : Design). d.box) view) planes (ap (λ (d : Design). d.uses) view) dirtied
 
 pub returns-clause-keeps : goal.returns-clause-keeps
 returns-clause-keeps c =

@@ -3,15 +3,15 @@ use Rattle.std.specs.List.{position}
 use Rattle.std.proofs.lemmas.Bool.Decides.{Decides-ltb}
 use Rattle.std.proofs.lemmas.Option.{get_or_from_slice_get, slice_get_within}
 use Rattle.mls_text.specs.Words.{same_word}
-use Rattle.mls_seat_lines.specs.Glossaries.{Glossary, cell_named}
-use Rattle.mls_seat_lines.proofs.GlossaryLemmas.{cell_at, position-map}
-use Rattle.mls_seat_lines.proofs.glossary.Glossary.cell_named.Goals as goal
+use Rattle.mls_seat_lines.specs.SymbolTables.{SymbolTable, cell_named}
+use Rattle.mls_seat_lines.proofs.SymbolTableLemmas.{cell_at, position-map}
+use Rattle.mls_seat_lines.proofs.symbol_table.SymbolTable.cell_named.Goals as goal
 
 pub returns-in_err-place : goal.returns-in_err-place
 returns-in_err-place c =
     let names = c.self.inside.names.items in
     let word = c.args.name.now in
-    let viewed = ap (λ (g : Glossary). cell_named g.cells word) c.self.view_is in
+    let viewed = ap (λ (g : SymbolTable). cell_named g.cells word) c.self.view_is in
     let none : cell_named (map (λ name. name.items) names) word ≡ None =
     position-map (same_word word) (λ name. name.items) names ∙ sym (c.in_err-place.ensures ∙ ap (position (λ name. same_word word name.items)) c.deref.ensures.value) in
     c.from_residual.ensures ∙ sym none ∙ viewed
@@ -38,7 +38,7 @@ returns c =
     let place = c.in_ok-place.place in
     let cells = c.self.inside.cells.items in
     let cell = c.in_ok-get.field-0.now in
-    let viewed = ap (λ (g : Glossary). cell_named g.cells word) c.self.view_is in
+    let viewed = ap (λ (g : SymbolTable). cell_named g.cells word) c.self.view_is in
     let here : cell_named (map (λ name. name.items) names) word ≡ Some place =
     position-map (same_word word) (λ name. name.items) names ∙ sym (c.in_ok-place.ensures ∙ ap (position (λ name. same_word word name.items)) c.deref.ensures.value) in
     let at = cell_at (λ name. name.items) names cells word place c.self.invariant here in

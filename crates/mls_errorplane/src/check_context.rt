@@ -17,12 +17,12 @@ use std::alloc::{AllocError, Global};
 
 /// What a layout is checked by: the rules, and the uses that it shows beside its planes.
 #[derive(Clone, Copy)]
-pub struct Basis<'a> {
+pub struct CheckContext<'a> {
     pub rules: &'a Rules,
     pub uses: Uses<'a>,
 }
 
-impl<'a> Basis<'a> {
+impl<'a> CheckContext<'a> {
     /// Copies the squares of a layout on these planes in the rectangle and round it within the rules' halo, with
     /// stitches.
     pub(crate) fn copy_round(

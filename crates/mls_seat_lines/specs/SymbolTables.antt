@@ -6,12 +6,12 @@ use Rattle.mls_text.specs.Words.{same_word}
 use Rattle.mls_wire.specs.NameBooks.{Names, no_name}
 
 -- a technology, and the names of the cells in the order in which they were loaded
-pub record Glossary : Type 0 where
+pub record SymbolTable : Type 0 where
   pub tech : Tech
   pub cells : List (List ℕ)
 
-abbrev pub glossary_of : Setting → Glossary
-glossary_of setting = record { tech = setting.tech; cells = cell_names setting }
+abbrev pub symbols_of : Setting → SymbolTable
+symbols_of setting = record { tech = setting.tech; cells = cell_names setting }
 
 -- the number of the cell of a name
 abbrev pub cell_named : List (List ℕ) → List ℕ → Option ℕ
@@ -22,12 +22,12 @@ abbrev pub cell_called : List (List ℕ) → List ℕ → Option ℕ
 cell_called cells word = if same_word word no_name then None else cell_named cells word
 
 -- what names mean, and what types, rules and cells are called
-abbrev pub book_in : Glossary → Names
-book_in glossary = record {
-  type_of = number_named glossary.tech.types;
-  cell_of = cell_called glossary.cells;
-  cell_name = slice_get glossary.cells;
-  type_name = name_of glossary.tech.types;
-  short_type_name = short_name_of glossary.tech.types;
-  why_text = why_of glossary.tech.rules;
+abbrev pub book_in : SymbolTable → Names
+book_in symbols = record {
+  type_of = number_named symbols.tech.types;
+  cell_of = cell_called symbols.cells;
+  cell_name = slice_get symbols.cells;
+  type_name = name_of symbols.tech.types;
+  short_type_name = short_name_of symbols.tech.types;
+  why_text = why_of symbols.tech.rules;
 }

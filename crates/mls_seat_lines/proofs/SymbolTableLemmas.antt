@@ -7,7 +7,7 @@ use Rattle.std.proofs.lemmas.List.Quantifiers.{position-Some}
 use Rattle.std.proofs.lemmas.Option.{slice_get-get_or, slice_get-map}
 use Rattle.std.proofs.lemmas.Slice.Eq.{bytes_eq-Decides}
 use Rattle.mls_text.specs.Words.{same_word}
-use Rattle.mls_seat_lines.specs.Glossaries.{cell_named}
+use Rattle.mls_seat_lines.specs.SymbolTables.{cell_named}
 
 prefix_len-map : {X Y : Type 0} (q : Y → Bool) (f : X → Y) (xs : List X) → prefix_len q (map f xs) ≡ prefix_len (λ x. q (f x)) xs
 prefix_len-map q f [] = refl

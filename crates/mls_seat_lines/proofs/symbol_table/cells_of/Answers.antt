@@ -3,9 +3,9 @@ use Rattle.std.specs.List.{position}
 use Rattle.mls_wire.specs.mls_server.Servers.{world_of}
 use Rattle.mls_wire.specs.mls_server.Settings.{NamedLayout, cell_names}
 use Rattle.mls_text.specs.Words.{same_word}
-use Rattle.mls_seat_lines.specs.Glossaries.{cell_named}
-use Rattle.mls_seat_lines.proofs.GlossaryLemmas.{map_next, position-map}
-use Rattle.mls_seat_lines.proofs.glossary.cells_of.Goals as goal
+use Rattle.mls_seat_lines.specs.SymbolTables.{cell_named}
+use Rattle.mls_seat_lines.proofs.SymbolTableLemmas.{map_next, position-map}
+use Rattle.mls_seat_lines.proofs.symbol_table.cells_of.Goals as goal
 
 pub loop-name-preserved : goal.loop-name-preserved
 loop-name-preserved c =

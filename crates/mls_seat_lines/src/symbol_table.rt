@@ -3,7 +3,7 @@ ghost use Rattle.std.specs.Prelude.{◌≡◌, IfOk, map, position};
 ghost use Rattle.mls_wire.specs.mls_server.Servers.{world_of};
 ghost use Rattle.mls_wire.specs.mls_server.Settings.{cell_names};
 ghost use Rattle.mls_text.specs.Words.{same_word};
-ghost use Rattle.mls_seat_lines.specs.Glossaries.{cell_named, glossary_of};
+ghost use Rattle.mls_seat_lines.specs.SymbolTables.{cell_named, symbols_of};
 
 use mls_kinds::Kind;
 use mls_tech::Tech;
@@ -13,7 +13,7 @@ use std::marker::Model;
 
 /// What the names of types and cells mean, and what types, rules and cells are called in replies.
 #[derive(Drop)]
-pub struct Glossary {
+pub struct SymbolTable {
     tech: Tech,
     /// The names of the cells, by their numbers.
     names: Vec<Vec<u8>>,
@@ -21,11 +21,11 @@ pub struct Glossary {
     cells: Vec<Option<CellId>>,
 }
 
-impl Model for Glossary {
+impl Model for SymbolTable {
     ghost use Rattle.std.specs.Prelude.{◌≡◌, map};
-    ghost use Rattle.mls_seat_lines.specs.Glossaries.{Glossary, cell_named};
+    ghost use Rattle.mls_seat_lines.specs.SymbolTables.{SymbolTable, cell_named};
 
-    ghost Value = { Glossary };
+    ghost Value = { SymbolTable };
 
     ghost view = { λ g. record { tech = g.tech; cells = map (λ name. name.items) g.names.items } };
 
@@ -33,15 +33,15 @@ impl Model for Glossary {
         ≡ g.cells.items };
 }
 
-impl Glossary {
-    /// Returns the glossary of a server's technology and of its cells.
-    pub fn new(alloc: Global, server: &Server, tech: Tech) -> Result<Glossary, AllocError>
+impl SymbolTable {
+    /// Returns the symbols of a server's technology and of its cells.
+    pub fn new(alloc: Global, server: &Server, tech: Tech) -> Result<SymbolTable, AllocError>
         requires { tech ≡ (world_of server.now).setting.tech }
-        ensures { IfOk result (λ glossary. glossary ≡ glossary_of (world_of server.now).setting) }
+        ensures { IfOk result (λ symbols. symbols ≡ symbols_of (world_of server.now).setting) }
     {
         let names = server.cell_names(alloc)?;
         let cells = cells_of(alloc, server, &names)?;
-        Ok(Glossary { tech, names, cells })
+        Ok(SymbolTable { tech, names, cells })
     }
 
     /// Returns the first cell of this name.
@@ -76,10 +76,10 @@ fn cells_of(
     Ok(cells)
 }
 
-impl Names for Glossary {
-    ghost use Rattle.mls_seat_lines.specs.Glossaries.{book_in};
+impl Names for SymbolTable {
+    ghost use Rattle.mls_seat_lines.specs.SymbolTables.{book_in};
 
-    ghost book = { λ glossary. book_in glossary };
+    ghost book = { λ symbols. book_in symbols };
 
     fn type_of(&self, word: &[u8]) -> Option<Kind> {
         self.tech.type_of(word)

@@ -1,10 +1,10 @@
 use Rattle.std.proofs.Common.{ap, ◌∙◌}
-use Rattle.mls_errorplane.specs.Checkings.{soiled}
+use Rattle.mls_errorplane.specs.Checkings.{dirtied}
 use Rattle.mls_errorplane.specs.ErrorPlanes.{checking_of}
 use Rattle.mls_session.specs.Designs.{Design}
-use Rattle.mls_session.proofs.design.Design.soil.Goals as goal
+use Rattle.mls_session.proofs.design.Design.mark_dirty.Goals as goal
 
 pub returns-in-Some-clause-checking : goal.returns-in-Some-clause-checking
 returns-in-Some-clause-checking c = λ pool.
     rw c.in-Some.is
-    (c.add.ensures.added pool ∙ ap (λ (s : Design). soiled c.args.rules.now c.in-Some.rect (checking_of pool s.errors)) c.self.view_is)
+    (c.add.ensures.added pool ∙ ap (λ (s : Design). dirtied c.args.rules.now c.in-Some.rect (checking_of pool s.errors)) c.self.view_is)

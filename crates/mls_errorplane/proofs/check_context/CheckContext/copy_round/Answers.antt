@@ -4,7 +4,7 @@ use Rattle.mls_geom.specs.Rects.{Rect, common, grown}
 use Rattle.mls_geom.specs.World.{world}
 use Rattle.mls_checker.specs.Copies.{copied_layout}
 use Rattle.mls_checker.specs.ZoneLayouts.{within}
-use Rattle.mls_errorplane.proofs.basis.Basis.copy_round.Goals as goal
+use Rattle.mls_errorplane.proofs.check_context.CheckContext.copy_round.Goals as goal
 
 pub returns-clause-copied : goal.returns-clause-copied
 returns-clause-copied c =
