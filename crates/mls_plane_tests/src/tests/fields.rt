@@ -78,7 +78,7 @@ impl Field {
 
     /// The rectangle of all blocks and of the squares around them: so many that a layout of few tiles goes by sides.
     pub fn whole(self) -> Result<Rect, RectFault> {
-        let around = if self.scale == WIDE { 4 } else { 12 };
+        let around = if self.scale == WIDE { 4 } else { 24 };
         Ok(self.rect((0, 0, 16, 16))?.grow(around))
     }
 

@@ -345,14 +345,14 @@ fn expect_same_in_row(rt: &impl Abort, alloc: Global, rules: &Rules, row: Row) -
     let mut layout = row.layout(alloc, &mut squares)?;
     let forbidden = find(alloc, rules, &squares, looked)?;
     let looked_at = expect_same(rt, alloc, rules, &mut layout, &forbidden, looked)?;
-    // 12 rows of 4 words.
-    let by_maps = is_dense(row.tiles(), 48, row.rules());
-    expect_way(rt, looked_at, 48, by_maps);
+    // 12 rows of 2 words.
+    let by_maps = is_dense(row.tiles(), 24, row.rules());
+    expect_way(rt, looked_at, 24, by_maps);
     Ok(())
 }
 
-/// Numbers of squares round those from which rows are dense: with two rules that aren't idle from 27 tiles on, and with
-/// three from 23 on.
+/// Numbers of squares round those from which rows are dense: with two rules that aren't idle from 18 tiles on, and with
+/// three from 16 on.
 const SQUARES: [u8; 9] = [0, 1, 2, 3, 4, 5, 6, 7, 8];
 
 /// Asserts the same of rows of such numbers of squares with these bars.
