@@ -25,11 +25,11 @@ each-HasFlatPlane pool library owners has k d within = record { plane = has.plan
 
 -- what the layout has on a plane in the zone, where neither the pool nor the owners have changed
 pub flat-at :
-    (pool now : Pool) (uses : Uses) (owners given : List ℕ) (zone : Rect) (plane owner : ℕ) → now ≡ pool → given ≡ owners → plane < length owners
-    → owner ≡ get_or given plane owner → cut (flat_plane now uses plane owner) zone ≡ within zone (flat_layout pool uses owners) plane
-flat-at pool now uses owners given zone plane owner same_pool same below is =
+    (pool now : Pool) (uses : Uses) (owners : List ℕ) (zone : Rect) (plane owner : ℕ) → now ≡ pool → plane < length owners
+    → owner ≡ get_or owners plane owner → cut (flat_plane now uses plane owner) zone ≡ within zone (flat_layout pool uses owners) plane
+flat-at pool now uses owners zone plane owner same_pool below is =
     let is_owner : slice_get owners plane ≡ Some owner =
-    slice_get_read owners (length owners) plane owner refl below (is ∙ ap (λ (list : List ℕ). get_or list plane owner) same) in
+    slice_get_read owners (length owners) plane owner refl below is in
     ap (λ (p : Pool). cut (flat_plane p uses plane owner) zone) same_pool ∙ ap (λ (p : Picture). cut p zone) (sym (flat_layout-plane pool uses owners plane owner is_owner))
 
 -- copies of all planes show what the layout has in the zone, where no cell has more planes
@@ -53,12 +53,12 @@ planes_layout-at copies plane copied is = ap (λ slot. plane_picture (unwrap_or 
 
 -- so a copy shows what its plane has exactly if the copies show there what the layout has
 pub copy-at :
-    (pool now : Pool) (uses : Uses) (owners given : List ℕ) (zone : Rect) (copies : List PlaneTiles) (plane : ℕ) (copied : PlaneTiles) (owner : ℕ) → now ≡ pool
-    → given ≡ owners → length copies ≡ length owners → plane < length copies → copied ≡ get_or copies plane copied → owner ≡ get_or given plane owner
+    (pool now : Pool) (uses : Uses) (owners : List ℕ) (zone : Rect) (copies : List PlaneTiles) (plane : ℕ) (copied : PlaneTiles) (owner : ℕ) → now ≡ pool
+    → length copies ≡ length owners → plane < length copies → copied ≡ get_or copies plane copied → owner ≡ get_or owners plane owner
     → (plane_picture copied ≡ cut (flat_plane now uses plane owner) zone) ↔ (planes_layout copies plane ≡ within zone (flat_layout pool uses owners) plane)
-copy-at pool now uses owners given zone copies plane copied owner same_pool same as_many below is_copied is_owner =
+copy-at pool now uses owners zone copies plane copied owner same_pool as_many below is_copied is_owner =
     let copy = planes_layout-at copies plane copied (slice_get_read copies (length copies) plane copied refl below is_copied) in
-    let flat = flat-at pool now uses owners given zone plane owner same_pool same (omega (arith, below, as_many)) is_owner in
+    let flat = flat-at pool now uses owners zone plane owner same_pool (omega (arith, below, as_many)) is_owner in
     (λ shown. copy ∙ shown ∙ flat, λ shown. sym copy ∙ shown ∙ sym flat)
 
 -- a copy of what a picture has in the zone shows space outside it

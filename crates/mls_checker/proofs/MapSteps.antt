@@ -44,6 +44,16 @@ wider f new cur p a k total some few before gained n can =
     ∙ ap (λ b. has_ahead f p a n || b) (before (n + p * k) (omega (arith, all, can)) ∙ ahead-more f p k a n)
     ∙ doubled (λ i. f (n + i * p)) a k few
 
+-- a map gains another one that is a steps wide, and that k steps ahead
+pub widened-into : (old new f cur : ℕ → Bool) (p a k total : ℕ) → 1 ≤ a → k ≤ a
+    → ((n : ℕ) → n + (a - 1) * p + 64 < total → cur n ≡ has_ahead f p a n)
+    → ((n : ℕ) → n + p * k + 64 < total → new n ≡ (old n || (cur n || cur (n + p * k))))
+    → (n : ℕ) → n + (a + k - 1) * p + 64 < total → new n ≡ (old n || has_ahead f p (a + k) n)
+widened-into old new f cur p a k total some few wide gained n can =
+    let all : (a + k - 1) * p ≡ (a - 1) * p + p * k = (let split : a + k - 1 ≡ (a - 1) + k = omega arith in ap (λ m. m * p) split ∙ omega arith) in
+    gained n (omega (arith, all, can))
+    ∙ ap (λ b. old n || b) (wider f (λ m. cur m || cur (m + p * k)) cur p a k total some few wide (λ m within. refl) n can)
+
 -- one place ahead is the place itself
 pub one-wide : (f : ℕ → Bool) (p n : ℕ) → f n ≡ has_ahead f p 1 n
 one-wide f p n = let same : n ≡ n + 0 * p = omega arith in ap f same ∙ sym (or-false (f (n + 0 * p)))
@@ -63,26 +73,27 @@ gained-copy map copy new p total total' same size gained n can =
 pub upright-within : (row d m n total : ℕ) → d ≤ m → n + m * (row + 1) + 64 < total → n + (d - 1) * row + 64 < total
 upright-within row d m n total few within = omega (arith, within, mul-le (d - 1) row m row (omega arith) (omega arith))
 
--- blocks that are wide upward, and rows, widened at once
-pub spread-joined : (level0 level1 level2 blocks0 blocks1 : ℕ → Bool) (row d c m total n : ℕ) → d ≤ m → c ≤ m → d ≡ c
-    → ((k : ℕ) → k + (c - 1) * row + 64 < total → blocks1 k ≡ has_ahead blocks0 row c k) → ((k : ℕ) → level1 k ≡ (level0 k || blocks1 k))
+-- blocks that are wide upward are added to rows, which are widened then
+pub spread-joined : (level0 level1 level2 blocks0 : ℕ → Bool) (row d c m total n : ℕ) → d ≤ m → c ≤ m → d ≡ c
+    → ((k : ℕ) → k + (c - 1) * row + 64 < total → level1 k ≡ (level0 k || has_ahead blocks0 row c k))
     → ((k : ℕ) → k + (d - 1) * 1 + 64 < total → level2 k ≡ has_ahead level1 1 d k) → n + m * (row + 1) + 64 < total
     → level2 n ≡ (has_ahead level0 1 d n || has_ahead (has_ahead blocks0 row c) 1 c n)
-spread-joined level0 level1 level2 blocks0 blocks1 row d c m total n few few' same wide joined wide' within =
+spread-joined level0 level1 level2 blocks0 row d c m total n few few' same joined wide within =
     let high = mul-le (c - 1) row m row (omega arith) (omega arith) in
-    wide' n (omega (arith, within))
+    wide n (omega (arith, within))
     ∙ list_any_same_in_range (λ i. level1 (n + i * 1)) (λ i. level0 (n + i * 1) || has_ahead blocks0 row c (n + i * 1)) 0 d
-    (λ i above below. joined (n + i * 1) ∙ ap (λ b. level0 (n + i * 1) || b) (wide (n + i * 1) (omega (arith, within, high))))
+    (λ i above below. joined (n + i * 1) (omega (arith, within, high)))
     ∙ any-or (λ i. level0 (n + i * 1)) (λ i. has_ahead blocks0 row c (n + i * 1)) (range_with_len 0 d)
     ∙ ap (λ k. has_ahead level0 1 d n || has_ahead (has_ahead blocks0 row c) 1 k n) same
 
 -- and each widened by itself
-pub spread-apart : (level0 level1 level2 blocks0 blocks1 blocks2 : ℕ → Bool) (row d c m total n : ℕ) → d ≤ m → c ≤ m
-    → ((k : ℕ) → k + (c - 1) * row + 64 < total → blocks1 k ≡ has_ahead blocks0 row c k) → ((k : ℕ) → k + (c - 1) * 1 + 64 < total → blocks2 k ≡ has_ahead blocks1 1 c k)
-    → ((k : ℕ) → k + (d - 1) * 1 + 64 < total → level1 k ≡ has_ahead level0 1 d k) → ((k : ℕ) → level2 k ≡ (level1 k || blocks2 k)) → n + m * (row + 1) + 64 < total
+pub spread-apart : (level0 level1 level2 blocks0 blocks1 : ℕ → Bool) (row d c m total n : ℕ) → d ≤ m → c ≤ m
+    → ((k : ℕ) → k + (c - 1) * row + 64 < total → blocks1 k ≡ has_ahead blocks0 row c k)
+    → ((k : ℕ) → k + (d - 1) * 1 + 64 < total → level1 k ≡ has_ahead level0 1 d k)
+    → ((k : ℕ) → k + (c - 1) * 1 + 64 < total → level2 k ≡ (level1 k || has_ahead blocks1 1 c k)) → n + m * (row + 1) + 64 < total
     → level2 n ≡ (has_ahead level0 1 d n || has_ahead (has_ahead blocks0 row c) 1 c n)
-spread-apart level0 level1 level2 blocks0 blocks1 blocks2 row d c m total n few few' wide wide2 wide' joined within =
+spread-apart level0 level1 level2 blocks0 blocks1 row d c m total n few few' wide wide' joined within =
     let high = mul-le (c - 1) row m row (omega arith) (omega arith) in
-    joined n ∙ ap (λ b. b || blocks2 n) (wide' n (omega (arith, within)))
-    ∙ ap (λ b. has_ahead level0 1 d n || b) (wide2 n (omega (arith, within))
-    ∙ list_any_same_in_range (λ i. blocks1 (n + i * 1)) (λ i. has_ahead blocks0 row c (n + i * 1)) 0 c (λ i above below. wide (n + i * 1) (omega (arith, within, high))))
+    joined n (omega (arith, within)) ∙ ap (λ b. b || has_ahead blocks1 1 c n) (wide' n (omega (arith, within)))
+    ∙ ap (λ b. has_ahead level0 1 d n || b)
+    (list_any_same_in_range (λ i. blocks1 (n + i * 1)) (λ i. has_ahead blocks0 row c (n + i * 1)) 0 c (λ i above below. wide (n + i * 1) (omega (arith, within, high))))

@@ -49,26 +49,70 @@ raised-twice word s k few below = elim (cases_lt k (64 - 1 - s)) [
 ]
 
 -- the bits of a word from s on, and then those of the next one
-pub joined-word : (map : List ℕ) (row s k : ℕ) → s < 64 → k < 64 → slice_index map row < 2 ^ 64
-    → has_bit (bit_or (slice_index map row / 2 ^ s) (slice_index map (row + 1) * 2 ^ 1 % 2 ^ 64 * 2 ^ (64 - 1 - s) % 2 ^ 64)) k ≡ has_place map (64 * row + s + k)
-joined-word map row s k few below fits =
-    has_bit-or (slice_index map row / 2 ^ s) (slice_index map (row + 1) * 2 ^ 1 % 2 ^ 64 * 2 ^ (64 - 1 - s) % 2 ^ 64) k
-    ∙ ap (λ b. has_bit (slice_index map row / 2 ^ s) k || b) (raised-twice (slice_index map (row + 1)) s k few below)
-    ∙ ap (λ b. b || (nat_le (64 - s) k && has_column map (row + 1) (k - (64 - s)))) (shifted-bit (slice_index map row) s k)
-    ∙ elim (cases_lt k (64 - s)) [
-      | inl low ↦ ap (λ b. has_column map row (s + k) || (b && has_column map (row + 1) (k - (64 - s)))) (lt-leb (64 - s) k low) ∙ or-false (has_column map row (s + k))
-          ∙ sym (place-at map (64 * row + s + k) row (s + k) (omega arith) (omega arith))
-      | inr high ↦ ap (λ b. b || (nat_le (64 - s) k && has_column map (row + 1) (k - (64 - s)))) (has_bit_above 64 (slice_index map row) (s + k) fits (omega arith))
-          ∙ ap (λ b. b && has_column map (row + 1) (k - (64 - s))) (le-leb (64 - s) k high)
-          ∙ sym (place-at map (64 * row + s + k) (row + 1) (k - (64 - s)) (omega arith) (omega arith))
-    ]
+pub joined-low : (word next s k : ℕ) → s < 64 → s + k < 64
+    → has_bit (bit_or (word / 2 ^ s) (next * 2 ^ 1 % 2 ^ 64 * 2 ^ (64 - 1 - s) % 2 ^ 64)) k ≡ has_bit word (s + k)
+joined-low word next s k few low =
+    has_bit-or (word / 2 ^ s) (next * 2 ^ 1 % 2 ^ 64 * 2 ^ (64 - 1 - s) % 2 ^ 64) k
+    ∙ ap (λ b. has_bit (word / 2 ^ s) k || b) (raised-twice next s k few (omega arith) ∙ ap (λ b. b && has_bit next (k - (64 - s))) (lt-leb (64 - s) k (omega arith)))
+    ∙ or-false (has_bit (word / 2 ^ s) k) ∙ shifted-bit word s k
+
+pub joined-high : (word next s k : ℕ) → s < 64 → k < 64 → 64 ≤ s + k → word < 2 ^ 64
+    → has_bit (bit_or (word / 2 ^ s) (next * 2 ^ 1 % 2 ^ 64 * 2 ^ (64 - 1 - s) % 2 ^ 64)) k ≡ has_bit next (s + k - 64)
+joined-high word next s k few below high fits =
+    let there : k - (64 - s) ≡ s + k - 64 = omega arith in
+    has_bit-or (word / 2 ^ s) (next * 2 ^ 1 % 2 ^ 64 * 2 ^ (64 - 1 - s) % 2 ^ 64) k
+    ∙ ap (λ b. b || has_bit (next * 2 ^ 1 % 2 ^ 64 * 2 ^ (64 - 1 - s) % 2 ^ 64) k) (shifted-bit word s k ∙ has_bit_above 64 word (s + k) fits high)
+    ∙ raised-twice next s k few below ∙ ap (λ b. b && has_bit next (k - (64 - s))) (le-leb (64 - s) k (omega arith)) ∙ ap (has_bit next) there
+
+-- a word that begins so many bits after a word, before the next one
+read-on : (held : ℕ → Bool) (word first next s k : ℕ) → ((j : ℕ) → s + j < 64 → has_bit word j ≡ has_bit first (s + j))
+    → ((j : ℕ) → j < 64 → 64 ≤ s + j → has_bit word j ≡ has_bit next (s + j - 64))
+    → ((j : ℕ) → j < 64 → has_bit first j ≡ held j) → ((j : ℕ) → j < 64 → has_bit next j ≡ held (64 + j)) → s < 64 → k < 64 → has_bit word k ≡ held (s + k)
+read-on held word first next s k low high here there few below = elim (cases_lt (s + k) 64) [
+  | inl before ↦ low k before ∙ here (s + k) before
+  | inr after ↦
+      let same : 64 + (s + k - 64) ≡ s + k = omega arith in
+      high k below after ∙ there (s + k - 64) (omega arith) ∙ ap held same
+]
+
+-- the bits of a word and the next one are the places from those of the word on
+pub here-at : (map : List ℕ) (row j : ℕ) → j < 64 → has_column map row j ≡ has_place map (64 * row + j)
+here-at map row j below = sym (place-at map (64 * row + j) row j refl below)
+
+next-at : (map : List ℕ) (row j : ℕ) → j < 64 → has_column map (row + 1) j ≡ has_place map (64 * row + (64 + j))
+next-at map row j below = sym (place-at map (64 * row + (64 + j)) (row + 1) j (omega arith) below)
 
 -- a word that begins so many places ahead of those of a row
-pub read-ahead : (map : List ℕ) (word places row r k : ℕ) → ((j : ℕ) → j < 64 → has_bit word j ≡ has_place map (64 * (row + places / 64) + places % 64 + j)) → k < 64 → r ≡ row
-    → has_bit word k ≡ has_place map (64 * r + k + places)
-read-ahead map word places row r k is below same =
-    let there : 64 * (row + places / 64) + places % 64 + k ≡ 64 * r + k + places = omega arith in
-    is k below ∙ ap (has_place map) there
+pub read-ahead : (map : List ℕ) (word places row k : ℕ)
+    → ((j : ℕ) → places % 64 + j < 64 → has_bit word j ≡ has_column map (row + places / 64) (places % 64 + j))
+    → ((j : ℕ) → j < 64 → 64 ≤ places % 64 + j → has_bit word j ≡ has_column map (row + places / 64 + 1) (places % 64 + j - 64))
+    → k < 64 → has_bit word k ≡ has_place map (64 * row + k + places)
+read-ahead map word places row k low high below =
+    let first = row + places / 64 in
+    let there : 64 * first + (places % 64 + k) ≡ 64 * row + k + places = omega arith in
+    read-on (λ j. has_place map (64 * first + j)) word (slice_index map first) (slice_index map (first + 1)) (places % 64) k low high (here-at map first) (next-at map first) (omega arith) below
+    ∙ ap (has_place map) there
+
+-- a word of the places ahead that two maps have, where both begin at the same bit
+pub read-both-ahead : (one other : List ℕ) (word first next p q row k : ℕ) → p % 64 ≡ q % 64
+    → ((j : ℕ) → has_bit first j ≡ (has_column one (row + p / 64) j && has_column other (row + q / 64) j))
+    → ((j : ℕ) → has_bit next j ≡ (has_column one (row + p / 64 + 1) j && has_column other (row + q / 64 + 1) j))
+    → ((j : ℕ) → p % 64 + j < 64 → has_bit word j ≡ has_bit first (p % 64 + j)) → ((j : ℕ) → j < 64 → 64 ≤ p % 64 + j → has_bit word j ≡ has_bit next (p % 64 + j - 64))
+    → k < 64 → has_bit word k ≡ (has_place one (64 * row + k + p) && has_place other (64 * row + k + q))
+read-both-ahead one other word first next p q row k same is is' low high below =
+    let a = row + p / 64 in
+    let b = row + q / 64 in
+    let there : 64 * a + (p % 64 + k) ≡ 64 * row + k + p = omega arith in
+    let there' : 64 * b + (p % 64 + k) ≡ 64 * row + k + q = omega (arith, same) in
+    read-on (λ j. has_place one (64 * a + j) && has_place other (64 * b + j)) word first next (p % 64) k low high
+    (λ j few. is j ∙ ap (λ t. t && has_column other b j) (here-at one a j few) ∙ ap (λ t. has_place one (64 * a + j) && t) (here-at other b j few))
+    (λ j few. is' j ∙ ap (λ t. t && has_column other (b + 1) j) (next-at one a j few) ∙ ap (λ t. has_place one (64 * a + (64 + j)) && t) (next-at other b j few))
+    (omega arith) below
+    ∙ ap (λ n. has_place one n && has_place other (64 * b + (p % 64 + k))) there ∙ ap (λ n. has_place one (64 * row + k + p) && has_place other n) there'
+
+-- a word whole words ahead of those of a row
+pub read-aligned : (map : List ℕ) (places row k : ℕ) → places % 64 ≡ 0 → k < 64 → has_column map (row + places / 64) k ≡ has_place map (64 * row + k + places)
+read-aligned map places row k aligned below = sym (place-at map (64 * row + k + places) (row + places / 64) k (omega (arith, aligned)) below)
 
 -- what was gained row by row, at a place of one of the rows
 pub all-gained : (old new more : ℕ → Bool) (rows n : ℕ) → new n ≡ (old n || (nat_lt (n / 64) rows && more (64 * (n / 64) + n % 64))) → n / 64 < rows → new n ≡ (old n || more n)

@@ -210,23 +210,38 @@ part-squares map area part wanted x y is =
     ∙ both-in (holds map.rect x y) (holds area x y) (has_place map.words (place_of map.frame x y)) wanted
 
 -- ---- whether a row has a square
+-- the places of a row of a rectangle: those of the row in the frame begin at a place, and its own lie between two
+pub record IsRowOf (frame : Frame) (rect : Rect) (row start from to : ℕ) : Type 0 where
+  pub begins : start ≡ (row - frame.bottom) * (64 * frame.words)
+  pub first : from ≡ start + (rect.left - frame.left)
+  pub end : to ≡ start + (rect.right - frame.left)
+
+pub row-of : (frame : Frame) (rect whole part : Rect) (words row : ℕ) → whole ≡ frame_area frame → part ≡ rect → words ≡ frame.words
+    → IsRowOf frame rect row ((row - whole.bottom) * (64 * words)) ((row - whole.bottom) * (64 * words) + (part.left - whole.left)) ((row - whole.bottom) * (64 * words) + (part.right - whole.left))
+row-of frame rect whole part words row is_whole is_part is_words =
+    let begin = (row - whole.bottom) * (64 * words) in
+    let left = ap (λ (e : Rect). e.left) is_whole in
+    record {
+      begins = ap (λ (e : Rect). (row - e.bottom) * (64 * words)) is_whole ∙ ap (λ w. (row - frame.bottom) * (64 * w)) is_words;
+      first = ap (λ (e : Rect). begin + (e.left - whole.left)) is_part ∙ ap (λ l. begin + (rect.left - l)) left;
+      end = ap (λ (e : Rect). begin + (e.right - whole.left)) is_part ∙ ap (λ l. begin + (rect.right - l)) left;
+    }
+
 pub any-there : (frame : Frame) (rect : Rect) (words : List ℕ) (row start from to n : ℕ) → IsRound frame rect 0 → rect.bottom ≤ row → row < rect.top
-    → start ≡ (row - frame.bottom) * (64 * frame.words) → from ≡ start + (rect.left - frame.left) → to ≡ start + (rect.right - frame.left)
-    → from ≤ n → n < to → has_place words n ≡ true → has_some rect (λ x y. has_place words (place_of frame x y)) ≡ true
-any-there frame rect words row start from to n round low high is_start is_from is_to on before has =
+    → IsRowOf frame rect row start from to → from ≤ n → n < to → has_place words n ≡ true → has_some rect (λ x y. has_place words (place_of frame x y)) ≡ true
+any-there frame rect words row start from to n round low high is on before has =
     let x = frame.left + (n - start) in
     let left = round.left in
-    let at : place_of frame x row ≡ n = ap (λ s. s + (x - frame.left)) (sym is_start) ∙ omega (arith, is_from, on) in
+    let at : place_of frame x row ≡ n = ap (λ s. s + (x - frame.left)) (sym is.begins) ∙ omega (arith, is.first, on) in
     rect_finds rect (λ x y. has_place words (place_of frame x y))
-    (x, row, between_holds rect x row (omega (arith, is_from, on, left)) (omega (arith, is_to, is_from, on, before, left)) low high, ap (has_place words) at ∙ has)
+    (x, row, between_holds rect x row (omega (arith, is.first, on, left)) (omega (arith, is.end, is.first, on, before, left)) low high, ap (has_place words) at ∙ has)
 
-pub none-there : (frame : Frame) (rect : Rect) (words : List ℕ) (row start from to r : ℕ) → IsRound frame rect 0
-    → start ≡ (row - frame.bottom) * (64 * frame.words) → from ≡ start + (rect.left - frame.left) → to ≡ start + (rect.right - frame.left)
+pub none-there : (frame : Frame) (rect : Rect) (words : List ℕ) (row start from to r : ℕ) → IsRound frame rect 0 → IsRowOf frame rect row start from to
     → to ≤ r → ((n : ℕ) → from ≤ n → n < r → has_place words n ≡ false)
     → (x y : ℕ) → holds rect x y ≡ true → y ≡ row → has_place words (place_of frame x y) ≡ false
-none-there frame rect words row start from to r round is_start is_from is_to all none x y here same =
+none-there frame rect words row start from to r round is all none x y here same =
     let lines = holds_between rect x y here in
     let left = round.left in
     let n = start + (x - frame.left) in
-    let at : place_of frame x y ≡ n = ap (λ w. place_of frame x w) same ∙ ap (λ s. s + (x - frame.left)) (sym is_start) in
-    ap (has_place words) at ∙ none n (omega (arith, is_from, lines.0, left)) (omega (arith, is_to, all, lines.1, lines.0, left))
+    let at : place_of frame x y ≡ n = ap (λ w. place_of frame x w) same ∙ ap (λ s. s + (x - frame.left)) (sym is.begins) in
+    ap (has_place words) at ∙ none n (omega (arith, is.first, lines.0, left)) (omega (arith, is.end, all, lines.1, lines.0, left))

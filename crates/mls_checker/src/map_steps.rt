@@ -1,8 +1,8 @@
 //! Steps from place to place of a map, and maps that are widened.
-ghost use Rattle.std.specs.Prelude.{◌≡◌, ◌+◌, ◌-◌, ◌*◌, ◌<◌, ◌≤◌, ℕ, length};
+ghost use Rattle.std.specs.Prelude.{◌≡◌, ◌+◌, ◌-◌, ◌*◌, ◌<◌, ◌≤◌, ◌||◌, ℕ, length};
 ghost use Rattle.mls_checker.specs.Maps.{has_ahead, has_place, place_before, start_of};
 
-use crate::map_words::{Ahead, add_ahead, empty, is_empty};
+use crate::map_words::{Ahead, add_ahead, add_both, empty, is_empty};
 
 /// A step from each place of a map to another: so many places on, or back.
 #[derive(Clone, Copy)]
@@ -64,7 +64,37 @@ pub(crate) fn widen(map: &mut [u64], moved: &mut [u64], places: usize, count: us
             map: moved,
             places: places * more,
         };
-        add_ahead(map, &ahead);
+        add_ahead(map, ahead);
         wide += more;
     }
+}
+
+/// Adds the places of a narrow map, and makes each as many, each so many places before the last.
+pub(crate) fn add_wide(
+    map: &mut [u64],
+    narrow: &mut [u64],
+    moved: &mut [u64],
+    places: usize,
+    count: usize,
+)
+    requires narrow { length narrow.old ≡ length map.old }
+    requires moved { length moved.old ≡ length map.old }
+    requires short { places ≤ 16777216 }
+    requires few { count ≤ 256 }
+    ensures { (n : ℕ) → n + (count - 1) * places + 64 < 64 * length map.old → has_place map.new n
+        ≡ (has_place map.old n || has_ahead (has_place narrow.old) places count n) }
+{
+    if count == 0 {
+        return;
+    }
+    if is_empty(narrow) {
+        return;
+    }
+    let half = (count + 1) / 2;
+    widen(narrow, moved, places, half);
+    let both = Ahead {
+        map: narrow,
+        places: places * (count - half),
+    };
+    add_both(map, both);
 }

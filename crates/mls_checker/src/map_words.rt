@@ -1,13 +1,10 @@
 //! Maps of one bit a place as lists of words, 64 places to a word.
-ghost use Rattle.std.specs.Prelude.{◌≡◌, ◌+◌, ◌-◌, ◌*◌, ◌/◌, ◌<◌, ◌≤◌, ◌||◌, ◌&&◌, ℕ, false, not, length, IsTrue};
+ghost use Rattle.std.specs.Prelude.{◌≡◌, ◌+◌, ◌-◌, ◌*◌, ◌/◌, ◌%◌, ◌<◌, ◌≤◌, ◌||◌, ◌&&◌, ℕ, true, false, not, length, IsTrue};
 ghost use Rattle.mls_checker.specs.Grids.{has_column};
 ghost use Rattle.mls_checker.specs.Maps.{has_place};
 ghost use Rattle.mls_kinds.specs.KindSets.{has_bit};
 
-use crate::words::COLUMNS;
-
-/// How many places a word has.
-const PLACES: usize = 64;
+use crate::words::{COLUMNS, PLACES};
 
 /// Takes all places from a map.
 pub(crate) fn empty(map: &mut [u64])
@@ -37,14 +34,14 @@ pub(crate) fn invert(map: &mut [u64])
     }
 }
 
-/// Returns the 64 places of a map that begin so many bits after the first one of a word.
-fn word_at(map: &[u64], word: usize, bits: u32) -> u64
-    requires within { word + 1 < length map.now }
-    requires few { bits < 64 }
-    ensures { (k : ℕ) → k < 64 → has_bit result k ≡ has_place map.now (64 * word + bits + k) }
+/// Returns the 64 bits of a word and the next one that begin so many bits after the first one.
+fn word_from(word: u64, next: u64, bits: u32) -> u64
+    requires { bits < 64 }
+    ensures low { (k : ℕ) → bits + k < 64 → has_bit result k ≡ has_bit word (bits + k) }
+    ensures high { (k : ℕ) → k < 64 → 64 ≤ bits + k → has_bit result k ≡ has_bit next (bits + k - 64) }
 {
-    let low = map[word] >> bits;
-    let high = map[word + 1] << 1;
+    let low = word >> bits;
+    let high = next << 1;
     low | (high << (COLUMNS - 1 - bits))
 }
 
@@ -57,61 +54,227 @@ pub(crate) struct Ahead<'a> {
 
 impl Ahead<'_> {
     /// Returns how many words the map has that can be read, all but its last ones.
-    fn len(&self) -> usize
-        ensures { result ≡ length self.now.map.now - (self.now.places / 64 + 1) }
+    fn len(self) -> usize
+        ensures { result ≡ length self.entry.map.now - (self.entry.places / 64 + 1) }
     {
         self.map.len().saturating_sub(self.places / PLACES + 1)
     }
 
-    /// Returns the places that are read for those of a word.
-    fn word(&self, row: usize) -> u64
-        requires { row + self.now.places / 64 + 1 < length self.now.map.now }
-        ensures { (k : ℕ) → k < 64 → has_bit result k ≡ has_place self.now.map.now (64 * row + k + self.now.places) }
+    /// Whether places are read whole words ahead.
+    fn is_aligned(self) -> bool
+        ensures { result ≡ true → self.entry.places % 64 ≡ 0 }
     {
+        self.places % PLACES == 0
+    }
+
+    /// Whether the places of a word are read from the same bit on as those of another map.
+    fn is_aligned_with(self, other: Ahead<'_>) -> bool
+        ensures { result ≡ true → self.entry.places % 64 ≡ other.entry.places % 64 }
+    {
+        self.places % PLACES == other.places % PLACES
+    }
+
+    /// Returns the places that are read for those of a word.
+    fn word(self, row: usize) -> u64
+        requires { row + self.places / 64 + 1 < length self.map.now }
+        ensures { (k : ℕ) → k < 64 → has_bit result k ≡ has_place self.entry.map.now (64 * row + k + self.entry.places) }
+    {
+        let first = row + self.places / PLACES;
         let bits = (self.places % PLACES) as u32;
-        word_at(self.map, row + self.places / PLACES, bits)
+        word_from(self.map[first], self.map[first + 1], bits)
+    }
+
+    /// Returns the places that are read for those of a word, where they are those of a word.
+    fn aligned_word(self, row: usize) -> u64
+        requires aligned { self.places % 64 ≡ 0 }
+        requires within { row + self.places / 64 < length self.map.now }
+        ensures { (k : ℕ) → k < 64 → has_bit result k ≡ has_place self.entry.map.now (64 * row + k + self.entry.places) }
+    {
+        self.map[row + self.places / PLACES]
+    }
+
+    /// Returns the places that are read for those of a word both here and of another map, from the same bit on.
+    fn common_word(self, other: Ahead<'_>, row: usize) -> u64
+        requires aligned { self.places % 64 ≡ other.places % 64 }
+        requires one { row + self.places / 64 + 1 < length self.map.now }
+        requires other { row + other.places / 64 + 1 < length other.map.now }
+        ensures { (k : ℕ) → k < 64 → has_bit result k ≡ (has_place self.entry.map.now (64 * row + k + self.entry.places)
+            && has_place other.entry.map.now (64 * row + k + other.entry.places)) }
+    {
+        let first = row + self.places / PLACES;
+        let second = row + other.places / PLACES;
+        let word = self.map[first] & other.map[second];
+        let next = self.map[first + 1] & other.map[second + 1];
+        let bits = (self.places % PLACES) as u32;
+        word_from(word, next, bits)
+    }
+}
+
+/// Adds the places of another map, which are read whole words ahead.
+fn add_aligned(map: &mut [u64], other: Ahead<'_>)
+    requires size { length map.old ≡ length other.map.now }
+    requires aligned { other.places % 64 ≡ 0 }
+    ensures { (n : ℕ) → n + other.entry.places + 64 < 64 * length map.old → has_place map.new n
+        ≡ (has_place map.old n || has_place other.entry.map.now (n + other.entry.places)) }
+{
+    for row in 0..other.len() {
+        map[row] |= other.aligned_word(row);
     }
 }
 
 /// Adds the places of another map.
-pub(crate) fn add_ahead(map: &mut [u64], other: &Ahead<'_>)
-    requires { length map.old ≡ length other.now.map.now }
-    ensures { (n : ℕ) → n + other.now.places + 64 < 64 * length map.old → has_place map.new n
-        ≡ (has_place map.old n || has_place other.now.map.now (n + other.now.places)) }
+pub(crate) fn add_ahead(map: &mut [u64], other: Ahead<'_>)
+    requires { length map.old ≡ length other.map.now }
+    ensures { (n : ℕ) → n + other.entry.places + 64 < 64 * length map.old → has_place map.new n
+        ≡ (has_place map.old n || has_place other.entry.map.now (n + other.entry.places)) }
 {
+    if other.is_aligned() {
+        add_aligned(map, other);
+        return;
+    }
     for row in 0..other.len() {
         map[row] |= other.word(row);
     }
 }
 
-/// Adds the places that two other maps have.
-pub(crate) fn add_common(map: &mut [u64], one: &Ahead<'_>, other: &Ahead<'_>)
-    requires one { length map.old ≡ length one.now.map.now }
-    requires other { length map.old ≡ length other.now.map.now }
-    ensures { (n : ℕ) → n + one.now.places + 64 < 64 * length map.old → n + other.now.places + 64 < 64 * length map.old
+/// Adds the places of another map both there and ahead, which are read whole words ahead.
+fn add_both_aligned(map: &mut [u64], other: Ahead<'_>)
+    requires size { length map.old ≡ length other.map.now }
+    requires aligned { other.places % 64 ≡ 0 }
+    ensures { (n : ℕ) → n + other.entry.places + 64 < 64 * length map.old → has_place map.new n ≡ (has_place map.old n
+        || (has_place other.entry.map.now n || has_place other.entry.map.now (n + other.entry.places))) }
+{
+    for row in 0..other.len() {
+        map[row] |= other.map[row] | other.aligned_word(row);
+    }
+}
+
+/// Adds the places of another map both there and ahead.
+pub(crate) fn add_both(map: &mut [u64], other: Ahead<'_>)
+    requires { length map.old ≡ length other.map.now }
+    ensures { (n : ℕ) → n + other.entry.places + 64 < 64 * length map.old → has_place map.new n ≡ (has_place map.old n
+        || (has_place other.entry.map.now n || has_place other.entry.map.now (n + other.entry.places))) }
+{
+    if other.is_aligned() {
+        add_both_aligned(map, other);
+        return;
+    }
+    for row in 0..other.len() {
+        map[row] |= other.map[row] | other.word(row);
+    }
+}
+
+/// Adds the places that two other maps have, both of which are read whole words ahead.
+fn add_common_aligned(map: &mut [u64], one: Ahead<'_>, other: Ahead<'_>)
+    requires one { length map.old ≡ length one.map.now }
+    requires other { length map.old ≡ length other.map.now }
+    requires aligned { one.places % 64 ≡ 0 }
+    requires both { other.places % 64 ≡ 0 }
+    ensures { (n : ℕ) → n + one.entry.places + 64 < 64 * length map.old → n + other.entry.places + 64 < 64 * length map.old
         → has_place map.new n ≡ (has_place map.old n
-        || (has_place one.now.map.now (n + one.now.places) && has_place other.now.map.now (n + other.now.places))) }
+        || (has_place one.entry.map.now (n + one.entry.places) && has_place other.entry.map.now (n + other.entry.places))) }
 {
     for row in 0..one.len().min(other.len()) {
+        map[row] |= one.aligned_word(row) & other.aligned_word(row);
+    }
+}
+
+/// Adds the places that two other maps have, the first of which is read whole words ahead.
+fn add_common_half_aligned(map: &mut [u64], one: Ahead<'_>, other: Ahead<'_>)
+    requires one { length map.old ≡ length one.map.now }
+    requires other { length map.old ≡ length other.map.now }
+    requires aligned { one.places % 64 ≡ 0 }
+    ensures { (n : ℕ) → n + one.entry.places + 64 < 64 * length map.old → n + other.entry.places + 64 < 64 * length map.old
+        → has_place map.new n ≡ (has_place map.old n
+        || (has_place one.entry.map.now (n + one.entry.places) && has_place other.entry.map.now (n + other.entry.places))) }
+{
+    for row in 0..one.len().min(other.len()) {
+        map[row] |= one.aligned_word(row) & other.word(row);
+    }
+}
+
+/// Adds the places that two other maps have.
+pub(crate) fn add_common(map: &mut [u64], one: Ahead<'_>, other: Ahead<'_>)
+    requires one { length map.old ≡ length one.map.now }
+    requires other { length map.old ≡ length other.map.now }
+    ensures { (n : ℕ) → n + one.entry.places + 64 < 64 * length map.old → n + other.entry.places + 64 < 64 * length map.old
+        → has_place map.new n ≡ (has_place map.old n
+        || (has_place one.entry.map.now (n + one.entry.places) && has_place other.entry.map.now (n + other.entry.places))) }
+{
+    if one.is_aligned() {
+        if other.is_aligned() {
+            add_common_aligned(map, one, other);
+            return;
+        }
+        add_common_half_aligned(map, one, other);
+        return;
+    }
+    for row in 0..one.len().min(other.len()) {
         map[row] |= one.word(row) & other.word(row);
+    }
+}
+
+/// Adds the places that three other maps have, the last of which is read whole words ahead, and the others from the same
+/// bit on.
+fn add_common_to_aligned(map: &mut [u64], one: Ahead<'_>, other: Ahead<'_>, last: Ahead<'_>)
+    requires one { length map.old ≡ length one.map.now }
+    requires other { length map.old ≡ length other.map.now }
+    requires last { length map.old ≡ length last.map.now }
+    requires aligned { last.places % 64 ≡ 0 }
+    requires both { one.places % 64 ≡ other.places % 64 }
+    ensures { (n : ℕ) → n + one.entry.places + 64 < 64 * length map.old → n + other.entry.places + 64 < 64 * length map.old
+        → n + last.entry.places + 64 < 64 * length map.old → has_place map.new n ≡ (has_place map.old n
+        || ((has_place one.entry.map.now (n + one.entry.places) && has_place other.entry.map.now (n + other.entry.places))
+        && has_place last.entry.map.now (n + last.entry.places))) }
+{
+    for row in 0..one.len().min(other.len()).min(last.len()) {
+        map[row] |= one.common_word(other, row) & last.aligned_word(row);
+    }
+}
+
+/// Adds the places that three other maps have, the first two of which are read from the same bit on.
+fn add_common_of_pair(map: &mut [u64], one: Ahead<'_>, other: Ahead<'_>, last: Ahead<'_>)
+    requires one { length map.old ≡ length one.map.now }
+    requires other { length map.old ≡ length other.map.now }
+    requires last { length map.old ≡ length last.map.now }
+    requires both { one.places % 64 ≡ other.places % 64 }
+    ensures { (n : ℕ) → n + one.entry.places + 64 < 64 * length map.old → n + other.entry.places + 64 < 64 * length map.old
+        → n + last.entry.places + 64 < 64 * length map.old → has_place map.new n ≡ (has_place map.old n
+        || ((has_place one.entry.map.now (n + one.entry.places) && has_place other.entry.map.now (n + other.entry.places))
+        && has_place last.entry.map.now (n + last.entry.places))) }
+{
+    if last.is_aligned() {
+        add_common_to_aligned(map, one, other, last);
+        return;
+    }
+    for row in 0..one.len().min(other.len()).min(last.len()) {
+        map[row] |= one.common_word(other, row) & last.word(row);
     }
 }
 
 /// Adds the places that three other maps have.
 pub(crate) fn add_common_of_three(
     map: &mut [u64],
-    one: &Ahead<'_>,
-    other: &Ahead<'_>,
-    last: &Ahead<'_>,
+    one: Ahead<'_>,
+    other: Ahead<'_>,
+    last: Ahead<'_>,
 )
-    requires one { length map.old ≡ length one.now.map.now }
-    requires other { length map.old ≡ length other.now.map.now }
-    requires last { length map.old ≡ length last.now.map.now }
-    ensures { (n : ℕ) → n + one.now.places + 64 < 64 * length map.old → n + other.now.places + 64 < 64 * length map.old
-        → n + last.now.places + 64 < 64 * length map.old → has_place map.new n ≡ (has_place map.old n
-        || ((has_place one.now.map.now (n + one.now.places) && has_place other.now.map.now (n + other.now.places))
-        && has_place last.now.map.now (n + last.now.places))) }
+    requires one { length map.old ≡ length one.map.now }
+    requires other { length map.old ≡ length other.map.now }
+    requires last { length map.old ≡ length last.map.now }
+    ensures { (n : ℕ) → n + one.entry.places + 64 < 64 * length map.old → n + other.entry.places + 64 < 64 * length map.old
+        → n + last.entry.places + 64 < 64 * length map.old → has_place map.new n ≡ (has_place map.old n
+        || ((has_place one.entry.map.now (n + one.entry.places) && has_place other.entry.map.now (n + other.entry.places))
+        && has_place last.entry.map.now (n + last.entry.places))) }
 {
+    if one.is_aligned_with(other) {
+        add_common_of_pair(map, one, other, last);
+        return;
+    }
+    if other.is_aligned_with(last) {
+        add_common_of_pair(map, other, last, one);
+        return;
+    }
     for row in 0..one.len().min(other.len()).min(last.len()) {
         map[row] |= one.word(row) & other.word(row) & last.word(row);
     }

@@ -6,8 +6,7 @@ ghost use Rattle.mls_checker.specs.Marking.{IsBoundsOf, differs, has_some};
 ghost use Rattle.mls_geom.specs.Rects.{IsRectangleIn, holds};
 
 use crate::map_frame::Frame;
-use crate::place_ends::ends_between;
-use crate::place_runs::first_place;
+use crate::places::{ends_between, first_place};
 use crate::words::COLUMNS;
 use mls_geom::{Area, Rect};
 use std::marker::Model;

@@ -8,10 +8,9 @@ ghost use Rattle.mls_geom.specs.Directions.{across};
 ghost use Rattle.mls_geom.specs.Layouts.{Layout};
 
 use crate::map_frame::Frame;
-use crate::map_steps::{Step, widen};
+use crate::map_steps::{Step, add_wide, widen};
 use crate::map_words::{Ahead, add_common, add_common_of_three, empty};
 use crate::type_map::TypeMaps;
-use crate::words::join;
 use mls_edgerule::EdgeRule;
 use mls_geom::Direction;
 use std::alloc::{AllocError, Global};
@@ -35,7 +34,7 @@ fn add_row(map: &mut [u64], types: &TypeMaps, step: Step, home: usize, count: us
         map: types.before(),
         places: step.before(start),
     };
-    add_common(map, &behind, &before);
+    add_common(map, behind, before);
 }
 
 /// Adds the places where so many steps from an edge that has a corner on a flank begin, with as many to the flank.
@@ -63,7 +62,7 @@ fn add_corner(map: &mut [u64], types: &TypeMaps, step: Step, flank: Step, home: 
         map: types.beside(),
         places: step.before(start),
     };
-    add_common_of_three(map, &behind, &before, &beside);
+    add_common_of_three(map, behind, before, beside);
 }
 
 /// Returns the two directions across a direction.
@@ -235,17 +234,15 @@ fn spread(
 {
     let distance = rule.distance as usize;
     let corner_distance = rule.corner_distance as usize;
-    widen(blocks, moved, row, corner_distance);
     if distance == corner_distance {
-        join(level, blocks);
+        add_wide(level, blocks, moved, row, corner_distance);
         widen(level, moved, 1, distance);
     } else {
-        widen(blocks, moved, 1, corner_distance);
+        widen(blocks, moved, row, corner_distance);
         widen(level, moved, 1, distance);
-        join(level, blocks);
+        add_wide(level, blocks, moved, 1, corner_distance);
     }
-    widen(upright, moved, row, distance);
-    join(level, upright);
+    add_wide(level, upright, moved, row, distance);
 }
 
 /// Returns how many words before a square it is shown whether the edges of the rule reach it.

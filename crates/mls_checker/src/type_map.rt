@@ -1,5 +1,5 @@
 //! Maps of the squares that have a type of some set.
-ghost use Rattle.std.specs.Prelude.{◌≡◌, ◌*◌, ◌<◌, ◌==◌, ◌||◌, ℕ, true, not, length, IfOk, IfSome};
+ghost use Rattle.std.specs.Prelude.{◌≡◌, ◌*◌, ◌<◌, ◌==◌, ◌||◌, ℕ, true, false, not, length, IfOk, IfSome};
 ghost use Rattle.mls_checker.specs.Copies.{copied_layout};
 ghost use Rattle.mls_checker.specs.Maps.{AreTypeMaps, Frame as SpecFrame, IsTypeMap, ShowTypes, Shows, frame_area, has_place, of_types, place_of};
 ghost use Rattle.mls_geom.specs.Layouts.{Layout};
@@ -137,13 +137,13 @@ impl Shown<'_> {
         }
     }
 
-    /// Makes a map of the squares whose type on a plane is in the set.
+    /// Makes of a map without places one of the squares whose type on a plane is in the set.
     fn show(&self, map: &mut [u64], plane: PlaneNumber, types: KindSet)
         requires size { length map.old ≡ self.now.frame.words * self.now.frame.rows }
+        requires empty { (n : ℕ) → has_place map.old n ≡ false }
         requires kept { AreTypeMaps self.now.frame (copied_layout self.now.snapshot.now) self.now.kept.now }
         ensures { Shows self.now.frame (of_types types (copied_layout self.now.snapshot.now plane)) map.new }
     {
-        empty(map);
         match others_of(self.snapshot, plane, types) {
             Some(others) => {
                 self.add_types(map, plane, others);
@@ -162,7 +162,10 @@ impl Shown<'_> {
         let shown = shown_of(self.snapshot, plane, types);
         match find_map(self.kept, plane, shown) {
             Some(known) => map.copy_from_slice(known),
-            None => self.show(map, plane, shown),
+            None => {
+                empty(map);
+                self.show(map, plane, shown);
+            }
         }
     }
 }

@@ -16,15 +16,14 @@ use mls_stitch::Plane;
 pub(crate) fn show_flat(
     tiles: &[Tile],
     at: PlaneZone,
-    plane: &mut Plane,
+    plane: &Plane,
     uses: &Uses<'_>,
     workspace: &mut Workspace,
 ) -> bool
     requires tiles { AreTiles outer (tiles_picture tiles.now) tiles.now }
-    requires flat { HasFlatPlane workspace.old.pool plane.old uses.now.library.now }
+    requires flat { HasFlatPlane workspace.old.pool plane.now uses.now.library.now }
     ensures same { IsTrue result ↔ SameIn at.zone (tiles_picture tiles.now)
-        (flat_plane workspace.old.pool uses.now at.number plane.old) }
-    ensures owner { plane.new ≡ plane.old }
+        (flat_plane workspace.old.pool uses.now at.number plane.now) }
     ensures pool { workspace.new.pool ≡ workspace.old.pool }
 {
     let lines = at.zone.area();

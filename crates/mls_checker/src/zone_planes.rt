@@ -14,15 +14,14 @@ use std::alloc::{AllocError, Global};
 /// Copies the squares of the zone on each plane, of its own paint and of the uses.
 pub(crate) fn read_planes(
     alloc: Global,
-    planes: &mut [Plane],
+    planes: &[Plane],
     uses: &Uses<'_>,
     zone: Rect,
     workspace: &mut Workspace,
 ) -> Result<Vec<PlaneTiles>, AllocError>
-    requires { HasLayout workspace.old.pool planes.old uses.now.library.now }
-    ensures copies { IfOk result (λ copies. AreCopies zone (length planes.old)
-        (within zone (flat_layout workspace.old.pool uses.now planes.old)) copies.items) }
-    ensures owners { planes.new ≡ planes.old }
+    requires { HasLayout workspace.old.pool planes.now uses.now.library.now }
+    ensures copies { IfOk result (λ copies. AreCopies zone (length planes.now)
+        (within zone (flat_layout workspace.old.pool uses.now planes.now)) copies.items) }
     ensures pool { workspace.new.pool ≡ workspace.old.pool }
 {
     let mut copies = Vec::with_capacity(alloc, planes.len())?;
@@ -31,7 +30,7 @@ pub(crate) fn read_planes(
             number: index,
             zone,
         };
-        copies.push(PlaneTiles::read(alloc, at, &mut planes[index], uses, workspace)?)?;
+        copies.push(PlaneTiles::read(alloc, at, &planes[index], uses, workspace)?)?;
     }
     Ok(copies)
 }
@@ -39,17 +38,16 @@ pub(crate) fn read_planes(
 /// Whether the planes show in the zone, with the uses, what was copied of as many planes. No memory is taken.
 pub(crate) fn show_planes(
     copies: &[PlaneTiles],
-    planes: &mut [Plane],
+    planes: &[Plane],
     uses: &Uses<'_>,
     zone: Rect,
     workspace: &mut Workspace,
 ) -> bool
     requires zone { AreOfZone zone copies.now }
-    requires count { length copies.now ≡ length planes.old }
-    requires layout { HasLayout workspace.old.pool planes.old uses.now.library.now }
+    requires count { length copies.now ≡ length planes.now }
+    requires layout { HasLayout workspace.old.pool planes.now uses.now.library.now }
     ensures same { IsTrue result ↔ (planes_layout copies.now
-        ≡ within zone (flat_layout workspace.old.pool uses.now planes.old)) }
-    ensures owners { planes.new ≡ planes.old }
+        ≡ within zone (flat_layout workspace.old.pool uses.now planes.now)) }
     ensures pool { workspace.new.pool ≡ workspace.old.pool }
 {
     for (index, copied) in copies.iter().enumerate() {
@@ -57,7 +55,7 @@ pub(crate) fn show_planes(
             number: index,
             zone,
         };
-        if !copied.is_shown(at, &mut planes[index], uses, workspace) {
+        if !copied.is_shown(at, &planes[index], uses, workspace) {
             return false;
         }
     }

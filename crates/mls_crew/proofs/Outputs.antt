@@ -1,5 +1,5 @@
 -- What is written to a script, by cases on whether its bytes are known.
-use Rattle.std.proofs.Common.{◌≡◌, ℕ, Bool, Option, Some, None, Result, List, refl, subst}
+use Rattle.std.proofs.Common.{ℕ, Bool, Option, Some, None, Result, List, refl, subst}
 use Rattle.std.specs.Io.KnownBytes.{Appends}
 use Rattle.mls_seat_lines.specs.mls_server.Settings.{terms_for}
 use Rattle.mls_seat_lines.specs.mls_server.Worlds.{World}

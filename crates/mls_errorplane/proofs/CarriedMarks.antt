@@ -34,7 +34,7 @@ use Rattle.mls_layout.specs.declared.likeness.Likeness.TheVariants.{OneKind, Col
 use Rattle.mls_errorplane.proofs.AlikeLayouts.{forbidden-alike}
 use Rattle.mls_errorplane.proofs.CheckedMarks.{marked_either, marks_picture-alone}
 use Rattle.mls_layout.proofs.LikeSquares.{like_column-again, like_row-again}
-use Rattle.mls_errorplane.proofs.PaintedPieces.{holds_inside, overlaid-part}
+use Rattle.mls_errorplane.proofs.PaintedPieces.{holds_inside}
 use Rattle.mls_errorplane.proofs.RectCounts.{marked_count-part, marked_count-remarked}
 
 -- ---- the squares that tell
@@ -199,14 +199,6 @@ module _
             (All-map (λ (p : Piece). holds p.rect x y ≡ false) (piece_like likeness rect) found (λ k d within. part-outside k d x y within outside))
             ∙ sym (cond-false (holds rect x y) kind (below x y) outside)
       ]
-
--- under another name of the plane too
-pub painted-as :
-    (pool new : Pool) (plane owner : ℕ) (pieces over : List Piece) (rect : Rect) (marked : SquareSet) → plane ≡ owner
-    → picture_in new plane ≡ overlaid (picture_in pool plane) over → Paints pieces rect marked → over ≡ pieces
-    → picture_in new owner ≡ remarked (picture_in pool owner) rect marked
-painted-as pool new plane owner pieces over rect marked same painted paints listed =
-    subst (λ (o : ℕ). picture_in new o ≡ overlaid (picture_in pool o) over) same painted ∙ overlaid-part pieces over rect marked (picture_in pool owner) paints listed
 
 -- ---- the plane afterwards
 -- it shows marks and nothing else

@@ -1,5 +1,5 @@
 -- Check steps one after another: what they keep, and that they come to an end.
-use Rattle.std.proofs.Common.{◌≡◌, ◌≢◌, ℕ, zero, suc, ◌+◌, ◌*◌, ◌^◌, ◌<◌, ◌≤◌, List, [], ◌∷◌, length, get_or, Option, None, IfSome, refl, sym, ap, subst, ◌∙◌, arith}
+use Rattle.std.proofs.Common.{◌≡◌, ◌≢◌, ℕ, zero, suc, ◌+◌, ◌*◌, ◌^◌, ◌<◌, ◌≤◌, List, [], ◌∷◌, length, get_or, Option, None, IfSome, refl, sym, ap, subst, arith}
 use Rattle.mls_edgerule.specs.declared.edge_rule.EdgeRule.{EdgeRule}
 use Rattle.mls_geom.specs.Layouts.{Layout}
 use Rattle.mls_geom.specs.Rects.{Rect}
@@ -70,23 +70,20 @@ module _ (old new : Pool) (owner : ℕ) (changed : ChangesOnly old new owner) wh
   fits-kept : (other : ℕ) → FitsWorkspace old other → FitsWorkspace new other
   fits-kept other = subst (λ (room : Option ℕ). IfSome room (λ r. r ≤ tile_room)) (sym (room_of-ChangesOnly other changed))
 
-  -- a layout of others is lent on as it was
-  pub HasLayout-apart :
-      (planes back : List ℕ) (cells : Library) → StandsApart owner planes cells → back ≡ planes → HasLayout old planes cells → HasLayout new back cells
-  HasLayout-apart planes back cells apart same has = subst (λ (owners : List ℕ). HasLayout new owners cells) (sym same) (record {
+  -- a layout of others is there as it was
+  pub HasLayout-apart : (planes : List ℕ) (cells : Library) → StandsApart owner planes cells → HasLayout old planes cells → HasLayout new planes cells
+  HasLayout-apart planes cells apart has = record {
     planes = record {
       each = λ k d within. HasPlane-ChangesOnly old new owner (get_or planes k d) changed (apart.planes k d within) (has.planes.each k d within);
       fit = λ k d within. fits-kept (get_or planes k d) (has.planes.fit k d within);
     };
     cells = HasCells-ChangesAmong old new (owner ∷ []) among (length planes) cells apart.cells has.cells;
-  })
+  }
 
   -- and shows what it showed
-  pub flat_layout-apart :
-      (uses : Uses) (planes back : List ℕ) → StandsApart owner planes uses.library.now → back ≡ planes → flat_layout new uses back ≡ flat_layout old uses planes
-  flat_layout-apart uses planes back apart same =
-      ap (flat_layout new uses) same
-      ∙ flat_layout-ChangesAmong old new (owner ∷ []) among uses planes apart.cells
+  pub flat_layout-apart : (uses : Uses) (planes : List ℕ) → StandsApart owner planes uses.library.now → flat_layout new uses planes ≡ flat_layout old uses planes
+  flat_layout-apart uses planes apart =
+      flat_layout-ChangesAmong old new (owner ∷ []) among uses planes apart.cells
       (layout_in-kept old new planes (λ k d within. ap shown (changed.others (get_or planes k d) (apart.planes k d within))))
 
 -- ---- how catching up ends

@@ -23,7 +23,7 @@ use crate::marks::marked_in;
 use crate::{ErrorPlane, Recount};
 use mls_geom::{Area, Piece, Rect};
 use mls_layout::{Likeness, Workspace};
-use mls_paint::{Scratch, TooManyTiles, find_area, find_meeting_in, overlay, tile_count};
+use mls_paint::{Scratch, TooManyTiles, find_area, find_meeting, overlay, tile_count};
 use mls_stitch::{LaidTile, Plane};
 use mls_tilepool::Pool;
 
@@ -63,7 +63,7 @@ impl ErrorPlane {
         let Some(most) = most_after(pool, &self.plane, source.likeness, rect, limit, scratch) else {
             return false;
         };
-        list_carried(pool, &mut self.plane, source, rect, pieces, scratch);
+        list_carried(pool, &self.plane, source, rect, pieces, scratch);
         let Ok(recount) = repaint(pool, &mut self.plane, rect, pieces, most, scratch) else {
             return false;
         };
@@ -99,7 +99,7 @@ fn most_after(
     if is_hopeless(all, limit, rect) {
         return None;
     }
-    find_meeting_in(pool, plane, rows_from(rect), scratch);
+    find_meeting(pool, plane, rows_from(rect), scratch);
     let tiles = scratch.tiles();
     most_beside(limit, tiles.len(), uneven_rows(tiles, likeness, rect))
 }
@@ -177,21 +177,20 @@ fn runs_through(bar: Area, rows: Area) -> bool
 /// same.
 fn list_carried(
     pool: &Pool,
-    plane: &mut Plane,
+    plane: &Plane,
     source: Source,
     rect: Rect,
     pieces: &mut Vec<Piece>,
     scratch: &mut Scratch,
 )
-    requires plane { HasPlane pool.now plane.old }
-    requires room { HasRoomFor pool.now plane.old scratch.old }
-    requires list_fits { IfSome (room_of pool.now plane.old) (λ room. room ≤ vec_capacity pieces.old) }
-    requires kinds { picture_in pool.now plane.old ≡ marks_picture (is_marked (picture_in pool.now plane.old)) }
+    requires plane { HasPlane pool.now plane.now }
+    requires room { HasRoomFor pool.now plane.now scratch.old }
+    requires list_fits { IfSome (room_of pool.now plane.now) (λ room. room ≤ vec_capacity pieces.old) }
+    requires kinds { picture_in pool.now plane.now ≡ marks_picture (is_marked (picture_in pool.now plane.now)) }
     ensures painted { Paints pieces.new.items rect
-        (likened source.likeness source.rect (is_marked (picture_in pool.now plane.old))) }
-    ensures few { IfSome (room_of pool.now plane.old) (λ room. length pieces.new.items ≤ room) }
+        (likened source.likeness source.rect (is_marked (picture_in pool.now plane.now))) }
+    ensures few { IfSome (room_of pool.now plane.now) (λ room. length pieces.new.items ≤ room) }
     ensures room { vec_capacity pieces.new ≡ vec_capacity pieces.old }
-    ensures plane { plane.new ≡ plane.old }
     ensures rooms { KeepsRoom scratch.old scratch.new }
 {
     pool.count(plane.owner());

@@ -35,21 +35,20 @@ impl ErrorPlane {
     pub fn catch_up(
         &mut self,
         alloc: Global,
-        planes: &mut [Plane],
+        planes: &[Plane],
         context: &CheckContext<'_>,
         limit: u32,
         workspace: &mut Workspace,
     ) -> CaughtUp
-        requires layout { HasLayout workspace.old.pool planes.old context.now.uses.library.now }
-        requires apart { StandsApart self.old.owner planes.old context.now.uses.library.now }
+        requires layout { HasLayout workspace.old.pool planes.now context.now.uses.library.now }
+        requires apart { StandsApart self.old.owner planes.now context.now.uses.library.now }
         requires marks { HasMarks workspace.old.pool limit self.old }
         ensures caught_up { HasCaughtUp context.now.rules.now
-            (flat_layout workspace.old.pool context.now.uses planes.old) limit
+            (flat_layout workspace.old.pool context.now.uses planes.now) limit
             (checking_of workspace.old.pool self.old) result (checking_of workspace.new.pool self.new) }
         ensures marks { ShowsMarks workspace.new.pool self.new }
         ensures only { ChangesOnly workspace.old.pool workspace.new.pool self.old.owner }
         ensures owner { self.new.owner ≡ self.old.owner }
-        ensures owners { planes.new ≡ planes.old }
     {
         let mut done = 0;
         let mut checked: Option<Checked> = None;

@@ -28,16 +28,15 @@ impl<'a> CheckContext<'a> {
     pub(crate) fn copy_round(
         &self,
         alloc: Global,
-        planes: &mut [Plane],
+        planes: &[Plane],
         rect: Rect,
         workspace: &mut Workspace,
     ) -> Result<Snapshot, AllocError>
-        requires layout { HasLayout workspace.old.pool planes.old self.now.uses.library.now }
+        requires layout { HasLayout workspace.old.pool planes.now self.now.uses.library.now }
         ensures legal { IsRectangleIn world rect }
         ensures zone { IfOk result (λ snapshot. snapshot.zone ≡ zone_of self.now.rules.now rect) }
         ensures copied { IfOk result (λ snapshot. copied_layout snapshot ≡ within (zone_of self.now.rules.now rect)
-            (flat_layout workspace.old.pool self.now.uses planes.old)) }
-        ensures owners { planes.new ≡ planes.old }
+            (flat_layout workspace.old.pool self.now.uses planes.now)) }
         ensures pool { workspace.new.pool ≡ workspace.old.pool }
     {
         lies_in_world(rect);

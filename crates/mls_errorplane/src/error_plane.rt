@@ -113,21 +113,20 @@ impl ErrorPlane {
     pub fn step(
         &mut self,
         alloc: Global,
-        planes: &mut [Plane],
+        planes: &[Plane],
         context: &CheckContext<'_>,
         limit: u32,
         workspace: &mut Workspace,
     ) -> Stepped
-        requires layout { HasLayout workspace.old.pool planes.old context.now.uses.library.now }
+        requires layout { HasLayout workspace.old.pool planes.now context.now.uses.library.now }
         requires marks { HasMarks workspace.old.pool limit self.old }
         ensures stepped { HasStepped context.now.rules.now
-            (flat_layout workspace.old.pool context.now.uses planes.old) limit
+            (flat_layout workspace.old.pool context.now.uses planes.now) limit
             (checking_of workspace.old.pool self.old) result (checking_of workspace.new.pool self.new) }
         ensures marks { ShowsMarks workspace.new.pool self.new }
         ensures same { UnlessDone result ((self.new ≡ self.old) × (workspace.new.pool ≡ workspace.old.pool)) }
         ensures only { ChangesOnly workspace.old.pool workspace.new.pool self.old.owner }
         ensures owner { self.new.owner ≡ self.old.owner }
-        ensures owners { planes.new ≡ planes.old }
     {
         let Some(piece) = self.dirty.first_piece() else {
             return Stepped::Idle;
@@ -150,22 +149,21 @@ impl ErrorPlane {
     /// No memory is taken.
     pub fn finish(
         &mut self,
-        planes: &mut [Plane],
+        planes: &[Plane],
         context: &CheckContext<'_>,
         finding: &Finding,
         limit: u32,
         workspace: &mut Workspace,
     ) -> Outcome
-        requires layout { HasLayout workspace.old.pool planes.old context.now.uses.library.now }
+        requires layout { HasLayout workspace.old.pool planes.now context.now.uses.library.now }
         requires marks { HasMarks workspace.old.pool limit self.old }
-        ensures finished { HasFinished context.now.rules.now (length planes.old)
-            (flat_layout workspace.old.pool context.now.uses planes.old) limit
+        ensures finished { HasFinished context.now.rules.now (length planes.now)
+            (flat_layout workspace.old.pool context.now.uses planes.now) limit
             (checking_of workspace.old.pool self.old) finding.now result (checking_of workspace.new.pool self.new) }
         ensures marks { ShowsMarks workspace.new.pool self.new }
         ensures same { UnlessFinished result ((self.new ≡ self.old) × (workspace.new.pool ≡ workspace.old.pool)) }
         ensures only { ChangesOnly workspace.old.pool workspace.new.pool self.old.owner }
         ensures owner { self.new.owner ≡ self.old.owner }
-        ensures owners { planes.new ≡ planes.old }
     {
         if !self.is_fresh(planes, context, finding, workspace) {
             return Outcome::Stale;
@@ -214,17 +212,16 @@ impl ErrorPlane {
     /// uses as it is now in the finding's zone.
     fn is_fresh(
         &self,
-        planes: &mut [Plane],
+        planes: &[Plane],
         context: &CheckContext<'_>,
         finding: &Finding,
         workspace: &mut Workspace,
     ) -> bool
-        requires layout { HasLayout workspace.old.pool planes.old context.now.uses.library.now }
-        ensures fresh { IsTrue result ↔ IsFresh context.now.rules.now (length planes.old)
-            (flat_layout workspace.old.pool context.now.uses planes.old)
+        requires layout { HasLayout workspace.old.pool planes.now context.now.uses.library.now }
+        ensures fresh { IsTrue result ↔ IsFresh context.now.rules.now (length planes.now)
+            (flat_layout workspace.old.pool context.now.uses planes.now)
             (checking_of workspace.old.pool self.now) finding.now }
         ensures few { IsTrue result → most_pieces finding.now.piece ≤ MARK_ROOM }
-        ensures owners { planes.new ≡ planes.old }
         ensures pool { workspace.new.pool ≡ workspace.old.pool }
     {
         let Some(piece) = self.dirty.first_piece() else {
@@ -300,16 +297,15 @@ pub(crate) fn recounted(marked: u64, recount: Recount) -> u64
 /// Finds the squares of a piece that the rules forbid in the layout on these planes with the uses.
 fn check_piece(
     alloc: Global,
-    planes: &mut [Plane],
+    planes: &[Plane],
     context: &CheckContext<'_>,
     piece: Rect,
     workspace: &mut Workspace,
 ) -> Result<Finding, AllocError>
-    requires layout { HasLayout workspace.old.pool planes.old context.now.uses.library.now }
+    requires layout { HasLayout workspace.old.pool planes.now context.now.uses.library.now }
     ensures piece { IfOk result (λ finding. finding.piece ≡ piece) }
     ensures marks { IfOk result (λ finding. (x y : ℕ) → holds piece x y ≡ true → marks finding.marks x y
-        ≡ forbidden context.now.rules.now (flat_layout workspace.old.pool context.now.uses planes.old) x y) }
-    ensures owners { planes.new ≡ planes.old }
+        ≡ forbidden context.now.rules.now (flat_layout workspace.old.pool context.now.uses planes.now) x y) }
     ensures pool { workspace.new.pool ≡ workspace.old.pool }
 {
     let zone = piece.grow(context.rules.halo());

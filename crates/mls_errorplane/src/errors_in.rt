@@ -32,16 +32,15 @@ impl ErrorPlane {
     /// Only the plane's tiles in the rectangle are looked at. Fails if memory runs out, or where there were more strips
     /// than a workspace has room for.
     pub fn marks_in(
-        &mut self,
+        &self,
         alloc: Global,
         rect: Rect,
         workspace: &mut Workspace,
     ) -> Result<Vec<Piece>, AllocError>
-        requires marks { ShowsMarks workspace.old.pool self.old }
-        requires marks_fit { FitsWorkspace workspace.old.pool self.old.owner }
+        requires marks { ShowsMarks workspace.old.pool self.now }
+        requires marks_fit { FitsWorkspace workspace.old.pool self.now.owner }
         ensures strips { IfOk result (λ strips. strips.items ≡ strips_of world
-            (marks_picture (squares_in rect (checking_of workspace.old.pool self.old).marks))) }
-        ensures same { self.new ≡ self.old }
+            (marks_picture (squares_in rect (checking_of workspace.old.pool self.now).marks))) }
         ensures pool { workspace.new.pool ≡ workspace.old.pool }
     {
         let Workspace {
@@ -50,7 +49,7 @@ impl ErrorPlane {
             pieces,
             ..
         } = workspace;
-        list_marks(pool, &mut self.plane, rect, pieces, scratch);
+        list_marks(pool, &self.plane, rect, pieces, scratch);
         let mut strips = Vec::new(alloc);
         if !push_covered(pieces, scratch, &mut strips)? {
             return Err(AllocError);
@@ -78,20 +77,19 @@ impl ErrorPlane {
 /// plane: their strips are those of what it covers.
 fn list_marks(
     pool: &Pool,
-    plane: &mut Plane,
+    plane: &Plane,
     rect: Rect,
     pieces: &mut Vec<Piece>,
     scratch: &mut Scratch,
 )
-    requires plane { HasPlane pool.now plane.old }
-    requires room { HasRoomFor pool.now plane.old scratch.old }
-    requires list_fits { IfSome (room_of pool.now plane.old) (λ room. room < vec_capacity pieces.old) }
-    requires sweep_fits { IfSome (room_of pool.now plane.old) (λ room. room < scratch.old.pieces) }
+    requires plane { HasPlane pool.now plane.now }
+    requires room { HasRoomFor pool.now plane.now scratch.old }
+    requires list_fits { IfSome (room_of pool.now plane.now) (λ room. room < vec_capacity pieces.old) }
+    requires sweep_fits { IfSome (room_of pool.now plane.now) (λ room. room < scratch.old.pieces) }
     ensures marks { (strips : List Piece) → AreCoveredStrips world (laid pieces.new.items) strips → strips
-        ≡ strips_of world (marks_picture (squares_in rect (is_marked (picture_in pool.now plane.old)))) }
+        ≡ strips_of world (marks_picture (squares_in rect (is_marked (picture_in pool.now plane.now)))) }
     ensures few { length pieces.new.items ≤ scratch.new.pieces }
     ensures list_room { vec_capacity pieces.new ≡ vec_capacity pieces.old }
-    ensures plane { plane.new ≡ plane.old }
     ensures rooms { KeepsRoom scratch.old scratch.new }
 {
     // For its contract alone: no more tiles are found than the plane has.

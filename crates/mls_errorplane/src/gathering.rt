@@ -26,20 +26,19 @@ use std::alloc::{AllocError, Global};
 /// than `limit` strips together, or memory runs out.
 pub fn violations(
     alloc: Global,
-    planes: &mut [Plane],
+    planes: &[Plane],
     context: &CheckContext<'_>,
     rect: Rect,
     limit: usize,
     workspace: &mut Workspace,
 ) -> Result<Vec<Violation>, Unlisted>
-    requires layout { HasLayout workspace.old.pool planes.old context.now.uses.library.now }
+    requires layout { HasLayout workspace.old.pool planes.now context.now.uses.library.now }
     ensures value { IfOk result (λ list. list.items ≡ violations_in context.now.rules.now rect
-        (flat_layout workspace.old.pool context.now.uses planes.old)) }
+        (flat_layout workspace.old.pool context.now.uses planes.now)) }
     ensures within { OnOk result (strip_count (violations_in context.now.rules.now rect
-        (flat_layout workspace.old.pool context.now.uses planes.old)) ≤ limit) }
+        (flat_layout workspace.old.pool context.now.uses planes.now)) ≤ limit) }
     ensures too_many { IfErr result (λ fault. IfTooMany fault (limit < strip_count (violations_in context.now.rules.now
-        rect (flat_layout workspace.old.pool context.now.uses planes.old)))) }
-    ensures owners { planes.new ≡ planes.old }
+        rect (flat_layout workspace.old.pool context.now.uses planes.now)))) }
     ensures pool { workspace.new.pool ≡ workspace.old.pool }
 {
     let violated = why(alloc, planes, context, rect, workspace)?;
@@ -56,18 +55,17 @@ pub fn violations(
 /// Gathers areas of the squares of the rectangle that the rules of the set forbid.
 fn gather(
     alloc: Global,
-    planes: &mut [Plane],
+    planes: &[Plane],
     context: &CheckContext<'_>,
     of: RuleSet,
     rect: Rect,
     found: &mut Violations,
     workspace: &mut Workspace,
 ) -> Result<(), AllocError>
-    requires layout { HasLayout workspace.old.pool planes.old context.now.uses.library.now }
+    requires layout { HasLayout workspace.old.pool planes.now context.now.uses.library.now }
     requires as_many { length found.old ≡ length context.now.rules.now }
     ensures gathered { OnOk result (GainViolations context.now.rules.now of rect
-        (flat_layout workspace.old.pool context.now.uses planes.old) found.old found.new) }
-    ensures owners { planes.new ≡ planes.old }
+        (flat_layout workspace.old.pool context.now.uses planes.now) found.old found.new) }
     ensures pool { workspace.new.pool ≡ workspace.old.pool }
 {
     let cut = gather_or_cut(alloc, planes, context, of, rect, found, workspace)?;
@@ -82,21 +80,20 @@ fn gather(
 /// tiles or many areas lie in a large rectangle. Some areas may have been added then.
 fn gather_or_cut(
     alloc: Global,
-    planes: &mut [Plane],
+    planes: &[Plane],
     context: &CheckContext<'_>,
     of: RuleSet,
     rect: Rect,
     found: &mut Violations,
     workspace: &mut Workspace,
 ) -> Result<Option<(Rect, Rect)>, AllocError>
-    requires layout { HasLayout workspace.old.pool planes.old context.now.uses.library.now }
+    requires layout { HasLayout workspace.old.pool planes.now context.now.uses.library.now }
     requires as_many { length found.old ≡ length context.now.rules.now }
     ensures gathered { IfOk result (λ parts. parts ≡ None → GainViolations context.now.rules.now of rect
-        (flat_layout workspace.old.pool context.now.uses planes.old) found.old found.new) }
+        (flat_layout workspace.old.pool context.now.uses planes.now) found.old found.new) }
     ensures some { IfOk result (λ parts. IfSome parts (λ halves. GainSomeViolations context.now.rules.now of rect
-        (flat_layout workspace.old.pool context.now.uses planes.old) found.old found.new)) }
+        (flat_layout workspace.old.pool context.now.uses planes.now) found.old found.new)) }
     ensures halves { IfOk result (λ parts. IfSome parts (λ halves. AreHalves rect halves.0 halves.1)) }
-    ensures owners { planes.new ≡ planes.old }
     ensures pool { workspace.new.pool ≡ workspace.old.pool }
 {
     if let Some(parts) = halves(planes, &context.uses, rect, workspace) {

@@ -55,14 +55,13 @@ impl Crossing {
 /// Returns the halves of a rectangle in which many tiles lie or uses may show something, unless it is small. No memory
 /// is taken.
 pub(crate) fn halves(
-    planes: &mut [Plane],
+    planes: &[Plane],
     uses: &Uses<'_>,
     rect: Rect,
     workspace: &mut Workspace,
 ) -> Option<(Rect, Rect)>
-    requires planes { HasPlanes workspace.old.pool planes.old }
+    requires planes { HasPlanes workspace.old.pool planes.now }
     ensures halves { IfSome result (λ halves. AreHalves rect halves.0 halves.1) }
-    ensures owners { planes.new ≡ planes.old }
     ensures pool { workspace.new.pool ≡ workspace.old.pool }
 {
     let lines = rect.area();
@@ -109,9 +108,8 @@ pub(crate) fn longer_halves(rect: Rect) -> (Rect, Rect)
 }
 
 /// Returns how many tiles of the planes lie in the rectangle, and how many across its middle.
-fn crossing_in(planes: &mut [Plane], rect: Rect, workspace: &mut Workspace) -> Crossing
-    requires planes { HasPlanes workspace.old.pool planes.old }
-    ensures owners { planes.new ≡ planes.old }
+fn crossing_in(planes: &[Plane], rect: Rect, workspace: &mut Workspace) -> Crossing
+    requires planes { HasPlanes workspace.old.pool planes.now }
     ensures pool { workspace.new.pool ≡ workspace.old.pool }
 {
     let lines = rect.area();
@@ -122,7 +120,7 @@ fn crossing_in(planes: &mut [Plane], rect: Rect, workspace: &mut Workspace) -> C
     };
     for index in 0..planes.len() {
         let Workspace { pool, scratch, .. } = workspace;
-        find_meeting(pool, &mut planes[index], rect, scratch);
+        find_meeting(pool, &planes[index], rect, scratch);
         crossing.count(scratch.tiles(), lines);
     }
     crossing

@@ -31,15 +31,14 @@ impl ErrorPlane {
     pub fn grab(
         &self,
         alloc: Global,
-        planes: &mut [Plane],
+        planes: &[Plane],
         context: &CheckContext<'_>,
         workspace: &mut Workspace,
     ) -> Result<Option<Job>, AllocError>
-        requires layout { HasLayout workspace.old.pool planes.old context.now.uses.library.now }
-        ensures grabbed { HasGrabbed context.now.rules.now (length planes.old)
-            (flat_layout workspace.old.pool context.now.uses planes.old)
+        requires layout { HasLayout workspace.old.pool planes.now context.now.uses.library.now }
+        ensures grabbed { HasGrabbed context.now.rules.now (length planes.now)
+            (flat_layout workspace.old.pool context.now.uses planes.now)
             (checking_of workspace.old.pool self.now) result }
-        ensures owners { planes.new ≡ planes.old }
         ensures pool { workspace.new.pool ≡ workspace.old.pool }
     {
         let Some(piece) = self.dirty.first_piece() else {

@@ -9,6 +9,7 @@ mod differing;
 mod dirty;
 mod error_plane;
 mod errors_in;
+mod expecting;
 mod gathering;
 mod halving;
 mod job;

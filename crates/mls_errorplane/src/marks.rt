@@ -100,13 +100,12 @@ fn keep(pool: &Pool, plane: &Plane, limit: u32) -> Result<Recount, TooManyTiles>
 
 /// Returns how many squares are marked in a rectangle in which tiles were found. Searches again only where some of
 /// these share a square.
-fn count_shown(pool: &Pool, plane: &mut Plane, rect: Rect, scratch: &mut Scratch) -> u64
-    requires plane { HasPlane pool.now plane.old }
-    requires room { HasRoomFor pool.now plane.old scratch.old }
-    requires found { MeetArea (block_at (tiles_of pool.now plane.old)) rect scratch.old.tiles }
-    ensures value { result ≡ marked_count rect (picture_in pool.now plane.old) }
+fn count_shown(pool: &Pool, plane: &Plane, rect: Rect, scratch: &mut Scratch) -> u64
+    requires plane { HasPlane pool.now plane.now }
+    requires room { HasRoomFor pool.now plane.now scratch.old }
+    requires found { MeetArea (block_at (tiles_of pool.now plane.now)) rect scratch.old.tiles }
+    ensures value { result ≡ marked_count rect (picture_in pool.now plane.now) }
     ensures legal { IsRectangleIn world rect }
-    ensures plane { plane.new ≡ plane.old }
     ensures rooms { KeepsRoom scratch.old scratch.new }
 {
     lies_in_world(rect);
@@ -117,11 +116,10 @@ fn count_shown(pool: &Pool, plane: &mut Plane, rect: Rect, scratch: &mut Scratch
 }
 
 /// Returns how many squares of a rectangle are marked, by a search.
-pub(crate) fn marked_in(pool: &Pool, plane: &mut Plane, rect: Rect, scratch: &mut Scratch) -> u64
-    requires plane { HasPlane pool.now plane.old }
-    requires room { HasRoomFor pool.now plane.old scratch.old }
-    ensures value { result ≡ marked_count rect (picture_in pool.now plane.old) }
-    ensures plane { plane.new ≡ plane.old }
+pub(crate) fn marked_in(pool: &Pool, plane: &Plane, rect: Rect, scratch: &mut Scratch) -> u64
+    requires plane { HasPlane pool.now plane.now }
+    requires room { HasRoomFor pool.now plane.now scratch.old }
+    ensures value { result ≡ marked_count rect (picture_in pool.now plane.now) }
     ensures rooms { KeepsRoom scratch.old scratch.new }
 {
     lies_in_world(rect);

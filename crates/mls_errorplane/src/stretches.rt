@@ -12,6 +12,7 @@ ghost use Rattle.mls_errorplane.specs.Stretches.{AreRight, AreRightIn, AreSound,
 
 use crate::checked::{Checked, Source};
 use crate::dirty::lies_in_world;
+use crate::expecting::expected_alike;
 use crate::stretch::Stretch;
 use crate::{CheckContext, ErrorPlane};
 use mls_geom::Rect;
@@ -29,15 +30,32 @@ struct Trial {
     limit: u32,
 }
 
-/// Returns how many pieces or rows to try after this stretch, which had at most `most`: twice as many, and one where it
-/// was the rest of its area.
-fn next_most(stretch: &Stretch, most: u32) -> u32
+/// Returns how many pieces or rows to try after a stretch that had at most `most`: as many as are expected to be alike,
+/// and else twice as many; but only one where as many were expected before, or it was the rest of its area.
+fn next_most(stretch: &Stretch, most: u32, before: u32, expected: u32) -> u32
     requires { 1 ≤ most }
     ensures { 1 ≤ result }
 {
-    match stretch.rest {
-        Some(_) => most.saturating_mul(2),
-        None => 1,
+    let others = match stretch.rest {
+        Some(_) if most != before => most.saturating_mul(2),
+        _ => 1,
+    };
+    expected.max(others)
+}
+
+/// Returns how many pieces or rows of the rest of an area are expected to be alike, if there is a rest.
+fn expected_of(
+    planes: &[Plane],
+    context: &CheckContext<'_>,
+    rest: Option<Rect>,
+    workspace: &mut Workspace,
+) -> u32
+    requires { HasLayout workspace.old.pool planes.now context.now.uses.library.now }
+    ensures { workspace.new.pool ≡ workspace.old.pool }
+{
+    match rest {
+        Some(area) => expected_alike(planes, context, area, workspace),
+        None => 0,
     }
 }
 
@@ -45,20 +63,19 @@ fn next_most(stretch: &Stretch, most: u32) -> u32
 /// the likeness for that round both together: the last pieces, if it shows one kind; and else the last pieces or their
 /// row, if the rectangle goes on with these and it shows bars.
 fn alike_source(
-    planes: &mut [Plane],
+    planes: &[Plane],
     context: &CheckContext<'_>,
     checked: &Checked,
     rect: Rect,
     workspace: &mut Workspace,
 ) -> Option<Source>
-    requires layout { HasLayout workspace.old.pool planes.old context.now.uses.library.now }
+    requires layout { HasLayout workspace.old.pool planes.now context.now.uses.library.now }
     ensures tells { IfSome result (λ source. Tells source.likeness source.rect rect) }
     ensures alike { IfSome result (λ source. IsAlike source.likeness context.now.rules.now
-        (flat_layout workspace.old.pool context.now.uses planes.old) (joined source.rect rect)) }
+        (flat_layout workspace.old.pool context.now.uses planes.now) (joined source.rect rect)) }
     ensures right { (layout : Layout) (marks : SquareSet)
         → AreRightIn context.now.rules.now layout marks checked.now
         → IfSome result (λ source. AreRight context.now.rules.now layout marks source.rect) }
-    ensures owners { planes.new ≡ planes.old }
     ensures pool { workspace.new.pool ≡ workspace.old.pool }
 {
     let last = Source {
@@ -86,16 +103,15 @@ fn alike_source(
 /// Returns whether the tiles of each plane and of each use show the likeness in the rectangle and as far round it as
 /// the rules reach, so that each plane of the layout with the uses has it there.
 fn is_alike(
-    planes: &mut [Plane],
+    planes: &[Plane],
     context: &CheckContext<'_>,
     likeness: Likeness,
     rect: Rect,
     workspace: &mut Workspace,
 ) -> bool
-    requires layout { HasLayout workspace.old.pool planes.old context.now.uses.library.now }
+    requires layout { HasLayout workspace.old.pool planes.now context.now.uses.library.now }
     ensures alike { IsTrue result → IsAlike likeness context.now.rules.now
-        (flat_layout workspace.old.pool context.now.uses planes.old) rect }
-    ensures owners { planes.new ≡ planes.old }
+        (flat_layout workspace.old.pool context.now.uses planes.now) rect }
     ensures pool { workspace.new.pool ≡ workspace.old.pool }
 {
     let halo = context.rules.halo();
@@ -109,37 +125,36 @@ impl ErrorPlane {
     /// together well within the limit. Where the error plane has more than `limit` tiles, takes none.
     ///
     /// Goes on from rectangle to rectangle, where round both together each plane of the layout shows one kind; to the
-    /// right, where they show rows; and from row to row, where they show columns. A rectangle is twice as large as the
-    /// one before, or, where that is too much, half as large, and the first of an area is one piece or one row: so each
-    /// search is small beside what it is about to save.
+    /// right, where they show rows; and from row to row, where they show columns. A rectangle is as large as tiles are
+    /// expected to go on alike, or twice as large as the one before, or, where that is too much, half as large, and the
+    /// first of an area is one piece or one row: so each search is small beside what it is about to save.
     ///
     /// The marks must be right in the rectangles of `checked`, and are so in those that it has afterwards: the last
     /// pieces that were taken. The planes and the cells must be of other owners than the error plane. No memory is
     /// taken.
     pub fn settle(
         &mut self,
-        planes: &mut [Plane],
+        planes: &[Plane],
         context: &CheckContext<'_>,
         checked: &mut Checked,
         limit: u32,
         workspace: &mut Workspace,
     ) -> u64
-        requires layout { HasLayout workspace.old.pool planes.old context.now.uses.library.now }
-        requires apart { StandsApart self.old.owner planes.old context.now.uses.library.now }
+        requires layout { HasLayout workspace.old.pool planes.now context.now.uses.library.now }
+        requires apart { StandsApart self.old.owner planes.now context.now.uses.library.now }
         requires marks { HasMarks workspace.old.pool limit self.old }
         requires right { AreRightIn context.now.rules.now
-            (flat_layout workspace.old.pool context.now.uses planes.old)
+            (flat_layout workspace.old.pool context.now.uses planes.now)
             (checking_of workspace.old.pool self.old).marks checked.old }
-        ensures steps { Steps context.now.rules.now (flat_layout workspace.old.pool context.now.uses planes.old) limit
+        ensures steps { Steps context.now.rules.now (flat_layout workspace.old.pool context.now.uses planes.now) limit
             result (checking_of workspace.old.pool self.old) (checking_of workspace.new.pool self.new) }
         ensures right { AreRightIn context.now.rules.now
-            (flat_layout workspace.old.pool context.now.uses planes.old)
+            (flat_layout workspace.old.pool context.now.uses planes.now)
             (checking_of workspace.new.pool self.new).marks checked.new }
         ensures fewer { result + area_of self.new.dirty ≤ area_of self.old.dirty }
         ensures marks { ShowsMarks workspace.new.pool self.new }
         ensures only { ChangesOnly workspace.old.pool workspace.new.pool self.old.owner }
         ensures owner { self.new.owner ≡ self.old.owner }
-        ensures owners { planes.new ≡ planes.old }
     {
         if self.tiles(&workspace.pool) > limit {
             return 0;
@@ -148,6 +163,7 @@ impl ErrorPlane {
             return 0;
         }
         let mut most: u32 = 1;
+        let mut expected = 0;
         let mut steps = 0;
         'stretches: while most > 0 {
             let trial = Trial {
@@ -161,7 +177,9 @@ impl ErrorPlane {
             };
             steps += stretch.pieces;
             *checked = checked.then(stretch.rect);
-            most = next_most(&stretch, most);
+            let before = expected;
+            expected = expected_of(planes, context, stretch.rest, workspace);
+            most = next_most(&stretch, most, before, expected);
         }
         steps
     }
@@ -170,33 +188,32 @@ impl ErrorPlane {
     /// made so at once. Otherwise changes nothing.
     fn drop_one_stretch(
         &mut self,
-        planes: &mut [Plane],
+        planes: &[Plane],
         context: &CheckContext<'_>,
         trial: &Trial,
         workspace: &mut Workspace,
     ) -> Option<Stretch>
         requires some { 1 ≤ trial.now.most }
-        requires layout { HasLayout workspace.old.pool planes.old context.now.uses.library.now }
+        requires layout { HasLayout workspace.old.pool planes.now context.now.uses.library.now }
         requires marks { HasMarks workspace.old.pool trial.now.limit self.old }
         requires sound { AreSound context.now.rules.now
-            (flat_layout workspace.old.pool context.now.uses planes.old)
+            (flat_layout workspace.old.pool context.now.uses planes.now)
             trial.now (checking_of workspace.old.pool self.old).marks }
         ensures steps { IfSome result (λ stretch. Steps context.now.rules.now
-            (flat_layout workspace.old.pool context.now.uses planes.old) trial.now.limit stretch.pieces
+            (flat_layout workspace.old.pool context.now.uses planes.now) trial.now.limit stretch.pieces
             (checking_of workspace.old.pool self.old) (checking_of workspace.new.pool self.new)) }
         ensures fewer { IfSome result (λ stretch. (0 < stretch.pieces)
             × (stretch.pieces + area_of self.new.dirty ≤ area_of self.old.dirty)) }
         ensures right { IfSome result (λ stretch. AreRight context.now.rules.now
-            (flat_layout workspace.old.pool context.now.uses planes.old)
+            (flat_layout workspace.old.pool context.now.uses planes.now)
             (checking_of workspace.new.pool self.new).marks stretch.rect) }
         ensures sound { AreSound context.now.rules.now
-            (flat_layout workspace.old.pool context.now.uses planes.old)
+            (flat_layout workspace.old.pool context.now.uses planes.now)
             trial.now (checking_of workspace.new.pool self.new).marks }
         ensures none { IfNone result ((self.new ≡ self.old) × (workspace.new.pool ≡ workspace.old.pool)) }
         ensures marks { ShowsMarks workspace.new.pool self.new }
         ensures only { ChangesOnly workspace.old.pool workspace.new.pool self.old.owner }
         ensures owner { self.new.owner ≡ self.old.owner }
-        ensures owners { planes.new ≡ planes.old }
     {
         let stretch = self.dirty.next_stretch(trial.most)?;
         if !self.make_right(planes, context, trial, stretch.rect, workspace) {
@@ -211,33 +228,32 @@ impl ErrorPlane {
     /// them. Otherwise changes nothing.
     fn make_right(
         &mut self,
-        planes: &mut [Plane],
+        planes: &[Plane],
         context: &CheckContext<'_>,
         trial: &Trial,
         rect: Rect,
         workspace: &mut Workspace,
     ) -> bool
-        requires layout { HasLayout workspace.old.pool planes.old context.now.uses.library.now }
+        requires layout { HasLayout workspace.old.pool planes.now context.now.uses.library.now }
         requires marks { HasMarks workspace.old.pool trial.now.limit self.old }
         requires sound { AreSound context.now.rules.now
-            (flat_layout workspace.old.pool context.now.uses planes.old)
+            (flat_layout workspace.old.pool context.now.uses planes.now)
             trial.now (checking_of workspace.old.pool self.old).marks }
         ensures steps { IsTrue result → (count : ℕ) (old new : List Rect) → DropsAll rect count old new
-            → Steps context.now.rules.now (flat_layout workspace.old.pool context.now.uses planes.old) trial.now.limit count
+            → Steps context.now.rules.now (flat_layout workspace.old.pool context.now.uses planes.now) trial.now.limit count
             (record { marks = (checking_of workspace.old.pool self.old).marks; dirty = old })
             (record { marks = (checking_of workspace.new.pool self.new).marks; dirty = new }) }
         ensures right { IsTrue result → AreRight context.now.rules.now
-            (flat_layout workspace.old.pool context.now.uses planes.old)
+            (flat_layout workspace.old.pool context.now.uses planes.now)
             (checking_of workspace.new.pool self.new).marks rect }
         ensures sound { AreSound context.now.rules.now
-            (flat_layout workspace.old.pool context.now.uses planes.old)
+            (flat_layout workspace.old.pool context.now.uses planes.now)
             trial.now (checking_of workspace.new.pool self.new).marks }
         ensures refused { result ≡ false → (self.new ≡ self.old) × (workspace.new.pool ≡ workspace.old.pool) }
         ensures marks { ShowsMarks workspace.new.pool self.new }
         ensures only { ChangesOnly workspace.old.pool workspace.new.pool self.old.owner }
         ensures owner { self.new.owner ≡ self.old.owner }
         ensures dirty { self.new.dirty ≡ self.old.dirty }
-        ensures owners { planes.new ≡ planes.old }
     {
         let checked = &trial.checked;
         if checked.block.encloses(rect) {
@@ -250,7 +266,7 @@ impl ErrorPlane {
         lies_in_world(source.rect);
         let both = source.rect.joined(rect);
         let Workspace { pool, scratch, .. } = workspace;
-        if shows_alike(pool, &mut self.plane, source.likeness, both, 0, scratch) {
+        if shows_alike(pool, &self.plane, source.likeness, both, 0, scratch) {
             return true;
         }
         self.carry(source, rect, trial.limit, workspace)

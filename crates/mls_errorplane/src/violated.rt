@@ -18,15 +18,14 @@ use std::alloc::{AllocError, Global};
 /// search along a tile passes few others. Fails only if memory runs out.
 pub fn why(
     alloc: Global,
-    planes: &mut [Plane],
+    planes: &[Plane],
     context: &CheckContext<'_>,
     rect: Rect,
     workspace: &mut Workspace,
 ) -> Result<RuleSet, AllocError>
-    requires layout { HasLayout workspace.old.pool planes.old context.now.uses.library.now }
+    requires layout { HasLayout workspace.old.pool planes.now context.now.uses.library.now }
     ensures value { IfOk result (λ violated. violated ≡ violated_rules context.now.rules.now rect
-        (flat_layout workspace.old.pool context.now.uses planes.old)) }
-    ensures owners { planes.new ≡ planes.old }
+        (flat_layout workspace.old.pool context.now.uses planes.now)) }
     ensures pool { workspace.new.pool ≡ workspace.old.pool }
 {
     if let Some(parts) = halves(planes, &context.uses, rect, workspace) {

@@ -52,18 +52,17 @@ impl AlikeZone {
 /// Returns whether the tiles of each plane and of each use show the likeness in the rectangle and at most `halo`
 /// squares away from it, so that each plane of the layout with the uses has it there. No memory is taken.
 pub fn is_alike(
-    planes: &mut [Plane],
+    planes: &[Plane],
     uses: &Uses<'_>,
     likeness: Likeness,
     rect: Rect,
     halo: u32,
     workspace: &mut Workspace,
 ) -> bool
-    requires layout { HasLayout workspace.old.pool planes.old uses.now.library.now }
+    requires layout { HasLayout workspace.old.pool planes.now uses.now.library.now }
     requires near { halo ≤ 256 }
     ensures alike { IsTrue result → (plane : ℕ) → ShowsAlike likeness halo rect
-        (flat_layout workspace.old.pool uses.now planes.old plane) }
-    ensures owners { planes.new ≡ planes.old }
+        (flat_layout workspace.old.pool uses.now planes.now plane) }
     ensures pool { workspace.new.pool ≡ workspace.old.pool }
 {
     let zone = AlikeZone {
@@ -82,12 +81,11 @@ pub(crate) fn lies_in_world(rect: Rect)
 }
 
 /// Returns whether each plane has the zone's likeness.
-fn planes_are_alike(planes: &mut [Plane], zone: &AlikeZone, workspace: &mut Workspace) -> bool
-    requires planes { HasPlanes workspace.old.pool planes.old }
+fn planes_are_alike(planes: &[Plane], zone: &AlikeZone, workspace: &mut Workspace) -> bool
+    requires planes { HasPlanes workspace.old.pool planes.now }
     requires near { zone.now.halo ≤ 256 }
     ensures each { IsTrue result → All (λ owner. ShowsAlike zone.now.likeness zone.now.halo zone.now.rect
-        (picture_in workspace.old.pool owner)) planes.old }
-    ensures owners { planes.new ≡ planes.old }
+        (picture_in workspace.old.pool owner)) planes.now }
     ensures pool { workspace.new.pool ≡ workspace.old.pool }
 {
     let Workspace { pool, scratch, .. } = workspace;
@@ -97,22 +95,21 @@ fn planes_are_alike(planes: &mut [Plane], zone: &AlikeZone, workspace: &mut Work
 /// Returns whether each plane has the zone's likeness. The searches leave in the scratch what they find.
 fn each_shows_alike(
     pool: &Pool,
-    planes: &mut [Plane],
+    planes: &[Plane],
     zone: &AlikeZone,
     scratch: &mut Scratch,
 ) -> bool
-    requires planes { All (λ owner. HasPlane pool.now owner) planes.old }
-    requires room { All (λ owner. HasRoomFor pool.now owner scratch.old) planes.old }
+    requires planes { All (λ owner. HasPlane pool.now owner) planes.now }
+    requires room { All (λ owner. HasRoomFor pool.now owner scratch.old) planes.now }
     requires near { zone.now.halo ≤ 256 }
     ensures each { IsTrue result → All (λ owner. ShowsAlike zone.now.likeness zone.now.halo zone.now.rect
-        (picture_in pool.now owner)) planes.old }
-    ensures owners { planes.new ≡ planes.old }
+        (picture_in pool.now owner)) planes.now }
     ensures rooms { KeepsRoom scratch.old scratch.new }
 {
-    for index in 0..planes.len() {
+    for plane in planes {
         if !shows_alike(
             pool,
-            &mut planes[index],
+            plane,
             zone.likeness,
             zone.rect,
             zone.halo,
@@ -129,17 +126,16 @@ fn each_shows_alike(
 /// search leaves in the scratch what it finds.
 pub fn shows_alike(
     pool: &Pool,
-    plane: &mut Plane,
+    plane: &Plane,
     likeness: Likeness,
     rect: Rect,
     halo: u32,
     scratch: &mut Scratch,
 ) -> bool
-    requires plane { HasPlane pool.now plane.old }
-    requires room { HasRoomFor pool.now plane.old scratch.old }
+    requires plane { HasPlane pool.now plane.now }
+    requires room { HasRoomFor pool.now plane.now scratch.old }
     requires near { halo ≤ 256 }
-    ensures alike { IsTrue result → ShowsAlike likeness halo rect (picture_in pool.now plane.old) }
-    ensures owner { plane.new ≡ plane.old }
+    ensures alike { IsTrue result → ShowsAlike likeness halo rect (picture_in pool.now plane.now) }
     ensures rooms { KeepsRoom scratch.old scratch.new }
 {
     let zone = AlikeZone {

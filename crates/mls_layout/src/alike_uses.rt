@@ -21,7 +21,7 @@ use crate::{CellUse, Likeness, Uses, Workspace};
 use mls_geom::Rect;
 use mls_kinds::Kind;
 use mls_library::Cell;
-use mls_paint::find_meeting_in;
+use mls_paint::find_meeting;
 use mls_stitch::{LaidTile, Plane};
 
 /// Returns whether what the uses show has the zone's likeness on each plane.
@@ -122,11 +122,11 @@ fn find_tiles(plane: &Plane, likeness: Likeness, area: Rect, workspace: &mut Wor
     ensures pool { workspace.new.pool ≡ workspace.old.pool }
 {
     let Workspace { pool, scratch, .. } = workspace;
-    find_meeting_in(pool, plane, first_square(area), scratch);
+    find_meeting(pool, plane, first_square(area), scratch);
     if !may_be_alike(scratch.tiles(), likeness, area) {
         return false;
     }
-    find_meeting_in(pool, plane, area, scratch);
+    find_meeting(pool, plane, area, scratch);
     true
 }
 

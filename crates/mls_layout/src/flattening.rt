@@ -19,16 +19,15 @@ use mls_stitch::Plane;
 /// of its layout, and its own paint lies over the uses.
 pub fn flatten(
     number: usize,
-    plane: &mut Plane,
+    plane: &Plane,
     uses: &Uses<'_>,
     block: Rect,
     workspace: &mut Workspace,
 )
     requires block { IsBlock block }
-    requires flat { HasFlatPlane workspace.old.pool plane.old uses.now.library.now }
+    requires flat { HasFlatPlane workspace.old.pool plane.now uses.now.library.now }
     ensures shown { grid_picture workspace.new.grid block
-        ≡ (λ x y. if holds block x y then flat_plane workspace.old.pool uses.now number plane.old x y else 0) }
-    ensures owner { plane.new ≡ plane.old }
+        ≡ (λ x y. if holds block x y then flat_plane workspace.old.pool uses.now number plane.now x y else 0) }
     ensures pool { workspace.new.pool ≡ workspace.old.pool }
 {
     let shown = PlaneUses {

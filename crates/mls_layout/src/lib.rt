@@ -6,6 +6,7 @@ mod alike_uses;
 mod cut;
 mod flattening;
 mod front;
+mod going_on;
 mod grid_pieces;
 mod kind_grid;
 mod likeness;
@@ -23,6 +24,7 @@ mod workspace;
 
 pub use alike::{is_alike, shows_alike};
 pub use flattening::flatten;
+pub use going_on::{Onward, goes_on_to};
 pub use kind_grid::{BLOCK_SIDE, KindGrid};
 pub use likeness::Likeness;
 pub use pieces::push_flat;

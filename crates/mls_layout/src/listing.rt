@@ -26,21 +26,20 @@ use mls_stitch::{LaidTile, Plane};
 /// tile.
 pub(crate) fn list_pieces(
     shown: &PlaneUses<'_>,
-    plane: &mut Plane,
+    plane: &Plane,
     rect: Rect,
     most: usize,
     workspace: &mut Workspace,
 ) -> bool
     requires legal { IsRectangleIn world rect }
     requires most { most ≤ 32769 }
-    requires flat { HasFlatPlane workspace.old.pool plane.old shown.now.uses.library.now }
+    requires flat { HasFlatPlane workspace.old.pool plane.now shown.now.uses.library.now }
     ensures laid { result ≡ true → (x y : ℕ) → holds rect x y ≡ true → laid workspace.new.pieces.items x y
-        ≡ flat_plane workspace.old.pool shown.now.uses shown.now.number plane.old x y }
+        ≡ flat_plane workspace.old.pool shown.now.uses shown.now.number plane.now x y }
     ensures inside { result ≡ true → All (λ piece. IsRectangleIn rect piece.rect) workspace.new.pieces.items }
     ensures covered { result ≡ true → (x y : ℕ) → holds rect x y ≡ true
         → laid workspace.new.pieces.items x y ≢ uncovered }
     ensures few { result ≡ true → length workspace.new.pieces.items ≤ most }
-    ensures owner { plane.new ≡ plane.old }
     ensures pool { workspace.new.pool ≡ workspace.old.pool }
 {
     if !begin(rect, most, &mut workspace.pieces) {

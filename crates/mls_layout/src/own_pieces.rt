@@ -14,15 +14,14 @@ use std::alloc::AllocError;
 /// Appends pieces of a plane's own paint in a rectangle: the parts of the plane's tiles that lie in it.
 pub(crate) fn push_own(
     pool: &Pool,
-    plane: &mut Plane,
+    plane: &Plane,
     rect: Rect,
     scratch: &mut Scratch,
     out: &mut Vec<Piece>,
 ) -> Result<(), AllocError>
-    requires plane { HasPlane pool.now plane.old }
-    requires room { HasRoomFor pool.now plane.old scratch.old }
-    ensures appended { OnOk result (AppendsCover rect (picture_in pool.now plane.old) out.old.items out.new.items) }
-    ensures owner { plane.new ≡ plane.old }
+    requires plane { HasPlane pool.now plane.now }
+    requires room { HasRoomFor pool.now plane.now scratch.old }
+    ensures appended { OnOk result (AppendsCover rect (picture_in pool.now plane.now) out.old.items out.new.items) }
     ensures rooms { KeepsRoom scratch.old scratch.new }
 {
     find_meeting(pool, plane, rect, scratch);

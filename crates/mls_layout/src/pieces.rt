@@ -29,18 +29,17 @@ const SQUARES_FOR_A_PIECE: u64 = 512;
 /// pieces may have been appended.
 pub fn push_flat(
     number: usize,
-    plane: &mut Plane,
+    plane: &Plane,
     uses: &Uses<'_>,
     zone: Rect,
     workspace: &mut Workspace,
     out: &mut Vec<Piece>,
 ) -> Result<(), AllocError>
-    requires plane { HasPlane workspace.old.pool plane.old }
-    requires plane_fits { FitsWorkspace workspace.old.pool plane.old }
+    requires plane { HasPlane workspace.old.pool plane.now }
+    requires plane_fits { FitsWorkspace workspace.old.pool plane.now }
     requires cells { IsHome workspace.old.pool uses.now.library.now }
-    ensures appended { OnOk result (AppendsCover zone (flat_plane workspace.old.pool uses.now number plane.old)
+    ensures appended { OnOk result (AppendsCover zone (flat_plane workspace.old.pool uses.now number plane.now)
         out.old.items out.new.items) }
-    ensures owner { plane.new ≡ plane.old }
     ensures pool { workspace.new.pool ≡ workspace.old.pool }
 {
     if !uses.meet(zone) {
@@ -63,19 +62,18 @@ pub fn push_flat(
 /// Appends such pieces of a block.
 fn push_block(
     number: usize,
-    plane: &mut Plane,
+    plane: &Plane,
     uses: &Uses<'_>,
     block: Rect,
     workspace: &mut Workspace,
     out: &mut Vec<Piece>,
 ) -> Result<(), AllocError>
     requires block { IsBlock block }
-    requires plane { HasPlane workspace.old.pool plane.old }
-    requires plane_fits { FitsWorkspace workspace.old.pool plane.old }
+    requires plane { HasPlane workspace.old.pool plane.now }
+    requires plane_fits { FitsWorkspace workspace.old.pool plane.now }
     requires cells { IsHome workspace.old.pool uses.now.library.now }
-    ensures appended { OnOk result (AppendsCover block (flat_plane workspace.old.pool uses.now number plane.old)
+    ensures appended { OnOk result (AppendsCover block (flat_plane workspace.old.pool uses.now number plane.now)
         out.old.items out.new.items) }
-    ensures owner { plane.new ≡ plane.old }
     ensures pool { workspace.new.pool ≡ workspace.old.pool }
 {
     if push_swept(number, plane, uses, block, workspace, out)? {
@@ -89,19 +87,18 @@ fn push_block(
 /// whether it did, and appends none where it didn't.
 fn push_swept(
     number: usize,
-    plane: &mut Plane,
+    plane: &Plane,
     uses: &Uses<'_>,
     rect: Rect,
     workspace: &mut Workspace,
     out: &mut Vec<Piece>,
 ) -> Result<bool, AllocError>
-    requires plane { HasPlane workspace.old.pool plane.old }
-    requires plane_fits { FitsWorkspace workspace.old.pool plane.old }
+    requires plane { HasPlane workspace.old.pool plane.now }
+    requires plane_fits { FitsWorkspace workspace.old.pool plane.now }
     requires cells { IsHome workspace.old.pool uses.now.library.now }
     ensures appended { IfOk result (λ done. done ≡ true
-        → AppendsCover rect (flat_plane workspace.old.pool uses.now number plane.old) out.old.items out.new.items) }
+        → AppendsCover rect (flat_plane workspace.old.pool uses.now number plane.now) out.old.items out.new.items) }
     ensures none { IfOk result (λ done. done ≡ false → out.new.items ≡ out.old.items) }
-    ensures owner { plane.new ≡ plane.old }
     ensures pool { workspace.new.pool ≡ workspace.old.pool }
 {
     let most = MOST_SWEPT.min((rect.area().size() / SQUARES_FOR_A_PIECE) as usize);

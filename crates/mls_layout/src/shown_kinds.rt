@@ -18,16 +18,15 @@ use std::alloc::{AllocError, Global};
 pub fn kinds(
     alloc: Global,
     number: usize,
-    plane: &mut Plane,
+    plane: &Plane,
     uses: &Uses<'_>,
     rect: Rect,
     workspace: &mut Workspace,
 ) -> Result<KindSet, AllocError>
-    requires flat { HasFlatPlane workspace.old.pool plane.old uses.now.library.now }
+    requires flat { HasFlatPlane workspace.old.pool plane.now uses.now.library.now }
     ensures kinds { IfOk result (λ found. found
-        ≡ kinds_in (flat_plane workspace.old.pool uses.now number plane.old) rect) }
+        ≡ kinds_in (flat_plane workspace.old.pool uses.now number plane.now) rect) }
     ensures without_uses { uses.now.list.now ≡ [] → IsOk result }
-    ensures owner { plane.new ≡ plane.old }
     ensures pool { workspace.new.pool ≡ workspace.old.pool }
 {
     if !uses.meet(rect) {

@@ -73,18 +73,17 @@ impl FlatStrips {
 pub fn flat_strips(
     alloc: Global,
     number: usize,
-    plane: &mut Plane,
+    plane: &Plane,
     uses: &Uses<'_>,
     limit: usize,
     workspace: &mut Workspace,
 ) -> Result<FlatStrips, Unlisted>
-    requires flat { HasFlatPlane workspace.old.pool plane.old uses.now.library.now }
+    requires flat { HasFlatPlane workspace.old.pool plane.now uses.now.library.now }
     ensures strips { IfOk result (λ flat. flat
-        ≡ strips_of world (flat_plane workspace.old.pool uses.now number plane.old)) }
-    ensures within { OnOk result (tile_count world (flat_plane workspace.old.pool uses.now number plane.old) ≤ limit) }
+        ≡ strips_of world (flat_plane workspace.old.pool uses.now number plane.now)) }
+    ensures within { OnOk result (tile_count world (flat_plane workspace.old.pool uses.now number plane.now) ≤ limit) }
     ensures too_many { IfErr result (λ fault. IfTooMany fault
-        (limit < tile_count world (flat_plane workspace.old.pool uses.now number plane.old))) }
-    ensures owner { plane.new ≡ plane.old }
+        (limit < tile_count world (flat_plane workspace.old.pool uses.now number plane.now))) }
     ensures pool { workspace.new.pool ≡ workspace.old.pool }
 {
     let mut pieces = Vec::new(alloc);

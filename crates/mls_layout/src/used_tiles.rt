@@ -14,7 +14,7 @@ use crate::moves::part_moved_into;
 use crate::uses::{PlaneUses, reaches};
 use crate::{CellUse, Workspace};
 use mls_geom::Rect;
-use mls_paint::find_meeting_in;
+use mls_paint::find_meeting;
 use mls_stitch::Plane;
 
 /// Finds the tiles that the use of this index shows in a rectangle on its plane, and leaves them in the scratch, where
@@ -74,7 +74,7 @@ fn find_moved(plane: &Plane, cell_use: &CellUse, rect: Rect, workspace: &mut Wor
         return false;
     };
     let Workspace { pool, scratch, .. } = workspace;
-    find_meeting_in(pool, plane, area, scratch);
+    find_meeting(pool, plane, area, scratch);
     true
 }
 

@@ -115,17 +115,16 @@ pub fn overlay_within(
 /// Returns whether [`overlay`] would succeed.
 pub fn fits(
     pool: &Pool,
-    plane: &mut Plane,
+    plane: &Plane,
     over: &[Piece],
     limit: u32,
     scratch: &mut Scratch,
 ) -> bool
-    requires strips { HasStrips pool.now plane.old }
-    requires limit { IfSome (room_of pool.now plane.old) (λ room. limit ≤ room) }
-    requires room { HasRoomFor pool.now plane.old scratch.old }
+    requires strips { HasStrips pool.now plane.now }
+    requires limit { IfSome (room_of pool.now plane.now) (λ room. limit ≤ room) }
+    requires room { HasRoomFor pool.now plane.now scratch.old }
     requires pieces_fit { length over.now ≤ scratch.old.pieces }
-    ensures fits { IsTrue result ↔ (tile_count world (overlaid (picture_in pool.now plane.old) over.now) ≤ limit) }
-    ensures plane { plane.new ≡ plane.old }
+    ensures fits { IsTrue result ↔ (tile_count world (overlaid (picture_in pool.now plane.now) over.now) ≤ limit) }
     ensures rooms { KeepsRoom scratch.old scratch.new }
 {
     let count = read_count(pool, plane, scratch);

@@ -60,11 +60,10 @@ pub(crate) fn read_count(pool: &Pool, plane: &Plane, scratch: &Scratch) -> usize
 
 /// Finds the tiles that have a square of the area, by their bottom, clipped to the area, and then their left, and
 /// leaves them in the scratch.
-pub fn find_area(pool: &Pool, plane: &mut Plane, area: Rect, scratch: &mut Scratch)
-    requires plane { HasPlane pool.now plane.old }
-    requires room { HasRoomFor pool.now plane.old scratch.old }
-    ensures found { AreInArea (block_at (tiles_of pool.now plane.old)) area scratch.new.tiles }
-    ensures plane { plane.new ≡ plane.old }
+pub fn find_area(pool: &Pool, plane: &Plane, area: Rect, scratch: &mut Scratch)
+    requires plane { HasPlane pool.now plane.now }
+    requires room { HasRoomFor pool.now plane.now scratch.old }
+    ensures found { AreInArea (block_at (tiles_of pool.now plane.now)) area scratch.new.tiles }
     ensures rooms { KeepsRoom scratch.old scratch.new }
 {
     // So there is room for what is found.
@@ -73,20 +72,7 @@ pub fn find_area(pool: &Pool, plane: &mut Plane, area: Rect, scratch: &mut Scrat
 }
 
 /// Finds the tiles that have a square of the area, in any order, and leaves them in the scratch.
-pub fn find_meeting(pool: &Pool, plane: &mut Plane, area: Rect, scratch: &mut Scratch)
-    requires plane { HasPlane pool.now plane.old }
-    requires room { HasRoomFor pool.now plane.old scratch.old }
-    ensures found { MeetArea (block_at (tiles_of pool.now plane.old)) area scratch.new.tiles }
-    ensures plane { plane.new ≡ plane.old }
-    ensures rooms { KeepsRoom scratch.old scratch.new }
-{
-    find_meeting_in(pool, plane, area, scratch);
-    plane.keep_found(area, &scratch.search);
-}
-
-/// Finds the tiles that have a square of the area, in any order, and leaves them in the scratch, as [`find_meeting`]
-/// does, of a plane that may only be read.
-pub fn find_meeting_in(pool: &Pool, plane: &Plane, area: Rect, scratch: &mut Scratch)
+pub fn find_meeting(pool: &Pool, plane: &Plane, area: Rect, scratch: &mut Scratch)
     requires plane { HasPlane pool.now plane.now }
     requires room { HasRoomFor pool.now plane.now scratch.old }
     ensures found { MeetArea (block_at (tiles_of pool.now plane.now)) area scratch.new.tiles }
@@ -112,11 +98,10 @@ pub fn strips_of(pool: &Pool, plane: &Plane, scratch: &mut Scratch)
 }
 
 /// Returns the kinds below 64 that the squares of the rectangle have.
-pub fn kinds(pool: &Pool, plane: &mut Plane, rect: Rect, scratch: &mut Scratch) -> KindSet
-    requires plane { HasPlane pool.now plane.old }
-    requires room { HasRoomFor pool.now plane.old scratch.old }
-    ensures kinds { result ≡ kinds_in (picture_in pool.now plane.old) rect }
-    ensures plane { plane.new ≡ plane.old }
+pub fn kinds(pool: &Pool, plane: &Plane, rect: Rect, scratch: &mut Scratch) -> KindSet
+    requires plane { HasPlane pool.now plane.now }
+    requires room { HasRoomFor pool.now plane.now scratch.old }
+    ensures kinds { result ≡ kinds_in (picture_in pool.now plane.now) rect }
     ensures rooms { KeepsRoom scratch.old scratch.new }
 {
     find_area(pool, plane, rect, scratch);

@@ -131,22 +131,21 @@ module _ {now server : Server} {id place : ℕ} {before : OpenSession} (asked : 
   abbrev pub with_asked : Pool → Session → Server
   with_asked new after = record server { pool = new; sessions = set_value_at server.sessions place (record before { session = after }) }
 
-  -- ---- it stays, and the pool
-  module _ {new : Pool} {after : Session} (pool : new ≡ server.pool) where
-    shows-same : after ≡ before.session → with_asked new after ≡ server
-    shows-same stays =
-        ap (λ (at : Pool). with_asked at after) pool
-        ∙ ap (λ (sessions : List Entry). record server { sessions = sessions })
-        (same-replaced server.sessions place before (record before { session = after }) asked.found (ap (λ (session : Session). record before { session = session }) stays))
+  -- ---- it is read alone, and the pool stays
+  module _ {new : Pool} (pool : new ≡ server.pool) where
+    shows-same : with_asked new before.session ≡ server
+    shows-same =
+        ap (λ (at : Pool). with_asked at before.session) pool
+        ∙ ap (λ (sessions : List Entry). record server { sessions = sessions }) (same-replaced server.sessions place before before asked.found refl)
 
-    pub AreOpen-same : after ≡ before.session → AreOpenIn (with_asked new after)
-    AreOpen-same stays = subst AreOpenIn (sym (shows-same stays)) asked.are
+    pub AreOpen-same : AreOpenIn (with_asked new before.session)
+    AreOpen-same = subst AreOpenIn (sym shows-same) asked.are
 
-    pub world_of-same : after ≡ before.session → world_of (with_asked new after) ≡ world_of now
-    world_of-same stays = ap world_of (shows-same stays ∙ asked.shows)
+    pub world_of-same : world_of (with_asked new before.session) ≡ world_of now
+    world_of-same = ap world_of (shows-same ∙ asked.shows)
 
-    pub keeps-same : after.design ≡ before.session.design → after.limit ≡ before.session.limit → KeepsPlanes server.pool new before.session after
-    keeps-same design limit =
+    pub keeps-same : {after : Session} → after.design ≡ before.session.design → after.limit ≡ before.session.limit → KeepsPlanes server.pool new before.session after
+    keeps-same {after} design limit =
         subst (λ (at : Pool). KeepsPlanes server.pool at before.session after) (sym pool) (KeepsPlanes-same server.pool before.session after asked.made.ready.home design limit)
 
   -- ---- it changes tiles of its own owners alone

@@ -1,6 +1,5 @@
 -- A design's layout is what its planes show with the uses of its cells, and these lie in the pool beside them.
 use Rattle.std.proofs.Common.{◌≡◌, ◌≢◌, ℕ, ◌<◌, ◌≤◌, List, [], ◌∷◌, length, get_or, All, Contains, sym, ap, ◌∙◌, subst, arith}
-use Rattle.std.proofs.lemmas.List.{get_or_default}
 use Rattle.std.proofs.lemmas.List.Elements.{Contains-append_right}
 use Rattle.mls_geom.specs.Pictures.{Picture}
 use Rattle.mls_layout.specs.Uses.{HasFlatPlane, HasLayout, HasPlanes, cell_layouts, flat_layout, flat_plane, flattened, over, uses_layout}
@@ -37,23 +36,19 @@ unfolding flattened
 flat_plane-at pool uses planes plane owner within is =
     ap (λ (own : Picture). over own (uses_layout (cell_layouts pool uses.library.now) uses.list.now plane)) (sym (layout_in-at pool planes plane owner within is))
 
--- ---- the plane under an index, as a turn of a loop over the planes lends it
-module _ (pool mid : Pool) (uses : Uses) (owners lent : List ℕ) (i owner : ℕ) (same : mid ≡ pool) (back : lent ≡ owners) (within : i < length owners) where
+-- ---- the plane under an index, as a turn of a loop over the planes reads it
+module _ (pool mid : Pool) (uses : Uses) (owners : List ℕ) (i owner : ℕ) (same : mid ≡ pool) (within : i < length owners) (is : owner ≡ get_or owners i owner) where
   -- it has what each of them has
-  lent_has : (Has : Pool → ℕ → Type 0) → All (Has pool) owners → Has mid (get_or lent i owner)
-  lent_has Has all =
-      subst (λ (now : Pool). Has now (get_or lent i owner)) (sym same) (subst (λ (list : List ℕ). Has pool (get_or list i owner)) (sym back) (all i owner within))
+  lent_has : (Has : Pool → ℕ → Type 0) → All (Has pool) owners → Has mid owner
+  lent_has Has all = subst (λ (now : Pool). Has now owner) (sym same) (subst (Has pool) (sym is) (all i owner within))
 
-  pub HasFlatPlane-lent : All (HasPlane pool) owners → All (FitsWorkspace pool) owners → AreCellsHome pool uses.library.now → HasFlatPlane mid (get_or lent i owner) uses.library.now
+  pub HasFlatPlane-lent : All (HasPlane pool) owners → All (FitsWorkspace pool) owners → AreCellsHome pool uses.library.now → HasFlatPlane mid owner uses.library.now
   HasFlatPlane-lent planes fit cells =
       record { plane = lent_has HasPlane planes; fits = lent_has FitsWorkspace fit; cells = subst (λ (now : Pool). AreCellsHome now uses.library.now) (sym same) cells }
 
   -- and shows with the uses what the layout does
-  pub flat_plane-lent : flat_plane mid uses i (get_or lent i owner) ≡ flat_layout pool uses owners i
-  flat_plane-lent =
-      ap (λ (now : Pool). flat_plane now uses i (get_or lent i owner)) same
-      ∙ ap (λ (list : List ℕ). flat_plane pool uses i (get_or list i owner)) back
-      ∙ flat_plane-at pool uses owners i (get_or owners i owner) within (get_or_default owners i owner (get_or owners i owner) within)
+  pub flat_plane-lent : flat_plane mid uses i owner ≡ flat_layout pool uses owners i
+  flat_plane-lent = ap (λ (now : Pool). flat_plane now uses i owner) same ∙ flat_plane-at pool uses owners i owner within is
 
 -- ---- what calls of its error plane ask for
 module _ (setup : Setup) (pool : Pool) (design : Design) (can : CanDump setup pool (owners_of design)) (library : Library) (same : library ≡ setup.library) where

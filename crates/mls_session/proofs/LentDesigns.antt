@@ -1,7 +1,5 @@
 -- What a design lends to a call of its error plane, its planes and what its layout is checked by, and the design that comes back.
-use Rattle.std.proofs.Common.{◌≡◌, ℕ, ◌≤◌, List, length, sym, ap, ◌∙◌, subst, arith}
-use Rattle.std.specs.Vec.{with_items}
-use Rattle.std.proofs.lemmas.List.{with_items_is}
+use Rattle.std.proofs.Common.{◌≡◌, ℕ, ◌≤◌, List, ap, ◌∙◌, subst, arith}
 use Rattle.mls_edgerule.specs.declared.edge_rule.EdgeRule.{EdgeRule}
 use Rattle.mls_geom.specs.Layouts.{Layout}
 use Rattle.mls_tilepool.specs.Pools.{Pool}
@@ -31,9 +29,9 @@ seen inside = record {
   errors = inside.errors;
 }
 
--- with the planes and the error plane that come back
-abbrev pub returned : Inside → List ℕ → ErrorPlane → Design
-returned inside owners errors = record (seen inside) { planes = (with_items inside.planes owners).items; errors = errors }
+-- with the error plane that comes back
+abbrev pub returned : Inside → ErrorPlane → Design
+returned inside errors = record (seen inside) { errors = errors }
 
 -- these planes, this context and this limit are what is lent
 pub record IsLent (setup : Setup) (inside : Inside) (context : CheckContext) (owners : List ℕ) (most : ℕ) : Type 0 where
@@ -78,23 +76,19 @@ said_of-lent Says setup pool inside design view context owners limit lent said =
     (subst (λ (rules : List EdgeRule). Says rules (flat_layout pool context.uses owners) owners limit (checking_of pool own.errors)) lent.rules said))))
 
 -- ---- what comes back
-module _ (old new : Pool) (inside : Inside) (design : Design) (view : seen inside ≡ design) (owners : List ℕ) (errors : ErrorPlane) (same : owners ≡ inside.planes.items) where
-  -- the planes
-  pub planes-returned : (returned inside owners errors).planes ≡ design.planes
-  planes-returned =
-      with_items_is inside.planes owners (ap length same ∙ sym inside.planes.ok.0) ∙ same ∙ ap (λ (d : Design). d.planes) view
-
+module _ (old new : Pool) (inside : Inside) (design : Design) (view : seen inside ≡ design) (errors : ErrorPlane) where
   -- where only tiles of the error plane have changed
-  pub only-returned : ChangesOnly old new inside.errors.owner → ChangesOnly old new design.errors.owner
+  only-returned : ChangesOnly old new inside.errors.owner → ChangesOnly old new design.errors.owner
   only-returned only = subst (λ (e : ErrorPlane). ChangesOnly old new e.owner) (ap (λ (d : Design). d.errors) view) only
 
   pub KeepsDrawn-returned :
       IsHome old design → ChangesOnly old new inside.errors.owner → ShowsMarks new errors → errors.owner ≡ inside.errors.owner
-      → KeepsDrawn old new design (returned inside owners errors)
+      → KeepsDrawn old new design (returned inside errors)
   KeepsDrawn-returned home only shows owner =
-      let after : Design = returned inside owners errors in
+      let after : Design = returned inside errors in
+      let planes = ap (λ (d : Design). d.planes) view in
       let changed = only-returned only in
       record {
-        drawn = drawn-errors old new design after home changed (ap (λ (d : Design). d.box) view) planes-returned (ap (λ (d : Design). d.uses) view);
-        planes = KeepsPlanes-errors old new design after home changed shows planes-returned (ap (λ (d : Design). d.quota) view) (owner ∙ ap (λ (d : Design). d.errors.owner) view);
+        drawn = drawn-errors old new design after home changed (ap (λ (d : Design). d.box) view) planes (ap (λ (d : Design). d.uses) view);
+        planes = KeepsPlanes-errors old new design after home changed shows planes (ap (λ (d : Design). d.quota) view) (owner ∙ ap (λ (d : Design). d.errors.owner) view);
       }

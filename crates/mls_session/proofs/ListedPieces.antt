@@ -57,10 +57,8 @@ module _ (pool mid : Pool) (design : Design) (change : Change) (i owner : ℕ) (
   listed-changed =
       listed (layout_in pool design.planes i) shown ∙ ap (λ (now : Pool). changed now change i (layout_in pool design.planes i)) same
 
-  pub lent-changed : (plane : ℕ) (over : List Piece) → plane ≡ owner → over ≡ pieces → overlaid (picture_in mid plane) over ≡ changed_layout pool change (layout_in pool design.planes) i
-  lent-changed plane over lent is_list =
-      ap (overlaid (picture_in mid plane)) is_list
-      ∙ ap (λ (below : Picture). overlaid below pieces) (ap (picture_in mid) lent ∙ sym shown) ∙ listed-changed
+  pub lent-changed : (over : List Piece) → over ≡ pieces → overlaid (picture_in mid owner) over ≡ changed_layout pool change (layout_in pool design.planes) i
+  lent-changed over is_list = ap (overlaid (picture_in mid owner)) is_list ∙ ap (λ (below : Picture). overlaid below pieces) (sym shown) ∙ listed-changed
 
 -- ---- all planes
 -- where the change fits, so does what is listed for it

@@ -1,14 +1,10 @@
 -- What looks at a session return.
-use Rattle.std.proofs.Common.{◌≡◌, ◌<◌, ◌≤◌, ◌⊎◌, inl, inr, ◌++◌, [], ℕ, ℤ, true, false, List, Result, Ok, refl, sym, ap, ◌∙◌, arith}
-use Rattle.std.specs.Prelude.{nat_lt}
-use Rattle.std.proofs.lemmas.Bool.Decides.{nat_tests}
+use Rattle.std.proofs.Common.{◌≡◌, ◌⊎◌, inl, inr, ◌++◌, [], ℕ, ℤ, true, false, List, Result, Ok, refl, sym, ap, ◌∙◌}
 use Rattle.std.proofs.lemmas.Bool.{cond-false, cond-true}
 use Rattle.std.proofs.lemmas.List.{append-nil}
-use Rattle.mls_edgerule.specs.declared.edge_rule.EdgeRule.{EdgeRule}
 use Rattle.mls_errorplane.specs.Checkings.{Checking}
 use Rattle.mls_errorplane.specs.ErrorPlanes.{marks_picture}
 use Rattle.mls_errorplane.specs.ErrorsIn.{areas_in, squares_in}
-use Rattle.mls_errorplane.specs.Violations.{Violation, strip_count, violations_in}
 use Rattle.mls_geom.specs.Layouts.{Layout}
 use Rattle.mls_geom.specs.Pictures.{Picture}
 use Rattle.mls_geom.specs.Rects.{Rect}
@@ -25,7 +21,7 @@ use Rattle.mls_session.specs.OwnSteps.{Terms}
 use Rattle.mls_session.specs.declared.look.Look.{Look}
 use Rattle.mls_session.specs.declared.look.Look.TheVariants.{Save, Why, Status as AskStatus, Uses as AskUses, Marks, Errors as AskErrors, Violations as AskViolations, Journal as AskJournal}
 use Rattle.mls_session.specs.declared.look.Looked.{Looked}
-use Rattle.mls_session.specs.declared.look.Looked.TheVariants.{Saved, Status as HasStatus, Uses as HasUses, Marked, Errors as HasErrors, Violations as HasViolations, Journal as HasJournal, Refused}
+use Rattle.mls_session.specs.declared.look.Looked.TheVariants.{Saved, Status as HasStatus, Uses as HasUses, Marked, Errors as HasErrors, Journal as HasJournal, Refused}
 use Rattle.mls_session.specs.declared.look.Status.{Status}
 use Rattle.mls_session.specs.declared.refusal.Refusal.TheVariants.{Memory, Quota}
 use Rattle.mls_tech.specs.Readings.{Tech}
@@ -64,21 +60,6 @@ pub Looks-violations :
 unfolding look_of
 Looks-violations terms kept left bottom right top looked (inl is) = inl (ap without_text (sym is))
 Looks-violations terms kept left bottom right top looked (inr (made, memory)) = inr (made, memory, refl)
-
--- which are listed where there are few enough, and else refused
-pub violations-listed :
-    (most : ℕ) (rules : List EdgeRule) (layout : Layout) (rect : Rect) (found : List Violation) → found ≡ violations_in rules rect layout
-    → strip_count (violations_in rules rect layout) ≤ most → HasViolations found ≡ violations_of most rules layout (Ok rect)
-violations-listed most rules layout rect found is few =
-    let all = violations_in rules rect layout in
-    ap (λ (list : List Violation). HasViolations list) is ∙ sym (cond-false (nat_lt most (strip_count all)) (Refused Quota) (HasViolations all) (grind (arith, nat_tests, few)))
-
-pub violations-Quota :
-    (most : ℕ) (rules : List EdgeRule) (layout : Layout) (rect : Rect) → most < strip_count (violations_in rules rect layout)
-    → Refused Quota ≡ violations_of most rules layout (Ok rect)
-violations-Quota most rules layout rect many =
-    let all = violations_in rules rect layout in
-    sym (cond-true (nat_lt most (strip_count all)) (Refused Quota) (HasViolations all) (grind (arith, nat_tests, many)))
 
 -- at how far it has come
 pub Looks-status : (terms : Terms) (kept : Kept) (status : Status) → status ≡ status_of terms kept → Looks terms kept AskStatus (HasStatus status) []
@@ -127,9 +108,6 @@ module _ (terms : Terms) (kept : Kept) where
       let number = marked_line_count terms.config.tech shown kept.own.design.checking.dirty marked_shown in
       ([], inl (cond-true (exceeds_listed terms.config shown) (without_text (Refused Quota)) (with_marks number text) many), same ∙ sym (append-nil out))
 
-  pub Looks-marks-Memory : (out longer : List ℕ) → longer ≡ out → LooksMore terms kept Marks (Refused Memory) out longer
-  Looks-marks-Memory out longer same = ([], inr (tt, refl, refl), same ∙ sym (append-nil out))
-
 -- ---- at the marks and the areas that await checking in a rectangle, as text
 -- with the text that was appended
 abbrev pub ErrorsMore : Tech → Checking → Result Rect RectFault → Looked → List ℕ → List ℕ → Type 0
@@ -150,9 +128,6 @@ module _ (tech : Tech) (checking : Checking) (rect : Rect) where
       let text = marked_text tech empty_layout areas_here marks_here in
       let with_text : ℕ → Looked × List ℕ = λ n. (HasErrors n, text) in
       (text, inl (ap with_text (sym count)), appended)
-
-  pub ErrorsMore-Memory : (out longer : List ℕ) → longer ≡ out → ErrorsMore tech checking (Ok rect) (Refused Memory) out longer
-  ErrorsMore-Memory out longer same = ([], inr (tt, refl, refl), same ∙ sym (append-nil out))
 
 -- so it is what the look between the lines returns
 pub Looks-errors :

@@ -38,21 +38,20 @@ impl Change<'_> {
         &self,
         pool: &Pool,
         number: usize,
-        plane: &mut Plane,
+        plane: &Plane,
         pieces: &mut Vec<Piece>,
         scratch: &mut Scratch,
     )
-        requires strips { HasStrips pool.now plane.old }
-        requires room { HasRoomFor pool.now plane.old scratch.old }
+        requires strips { HasStrips pool.now plane.now }
+        requires room { HasRoomFor pool.now plane.now scratch.old }
         requires can_change { CanChange pool.now self.now }
         requires cell_room { most_tiles ≤ scratch.old.room }
-        requires pieces_fit { HasCapacityFor pool.now plane.old (vec_capacity pieces.old) }
+        requires pieces_fit { HasCapacityFor pool.now plane.now (vec_capacity pieces.old) }
         requires cell_pieces_fit { most_tiles ≤ vec_capacity pieces.old }
-        ensures picture { (below : Picture) → below ≡ picture_in pool.now plane.old
+        ensures picture { (below : Picture) → below ≡ picture_in pool.now plane.now
             → overlaid below pieces.new.items ≡ changed pool.now self.now number below }
-        ensures few { IfSome (room_of pool.now plane.old) (λ room. length pieces.new.items ≤ max room most_tiles) }
+        ensures few { IfSome (room_of pool.now plane.now) (λ room. length pieces.new.items ≤ max room most_tiles) }
         ensures pieces_room { vec_capacity pieces.new ≡ vec_capacity pieces.old }
-        ensures plane { plane.new ≡ plane.old }
         ensures rooms { KeepsRoom scratch.old scratch.new }
     {
         match *self {
@@ -68,20 +67,19 @@ impl Change<'_> {
 /// Fills `pieces` with pieces of space in the squares of a rectangle of a plane that have one of these types.
 fn list_erased(
     pool: &Pool,
-    plane: &mut Plane,
+    plane: &Plane,
     rect: Rect,
     kinds: KindSet,
     pieces: &mut Vec<Piece>,
     scratch: &mut Scratch,
 )
-    requires strips { HasStrips pool.now plane.old }
-    requires room { HasRoomFor pool.now plane.old scratch.old }
-    requires pieces_fit { HasCapacityFor pool.now plane.old (vec_capacity pieces.old) }
-    ensures picture { overlaid (picture_in pool.now plane.old) pieces.new.items
-        ≡ erased (picture_in pool.now plane.old) rect kinds }
-    ensures few { IfSome (room_of pool.now plane.old) (λ room. length pieces.new.items ≤ room) }
+    requires strips { HasStrips pool.now plane.now }
+    requires room { HasRoomFor pool.now plane.now scratch.old }
+    requires pieces_fit { HasCapacityFor pool.now plane.now (vec_capacity pieces.old) }
+    ensures picture { overlaid (picture_in pool.now plane.now) pieces.new.items
+        ≡ erased (picture_in pool.now plane.now) rect kinds }
+    ensures few { IfSome (room_of pool.now plane.now) (λ room. length pieces.new.items ≤ room) }
     ensures pieces_room { vec_capacity pieces.new ≡ vec_capacity pieces.old }
-    ensures plane { plane.new ≡ plane.old }
     ensures rooms { KeepsRoom scratch.old scratch.new }
 {
     let count = pool.count(plane.owner()) as usize;

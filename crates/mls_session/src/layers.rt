@@ -36,27 +36,26 @@ const OTHER_LINES: usize = 3;
 /// Fails where a plane has more than `limit` strips, or memory runs out.
 pub(crate) fn list_layers(
     alloc: Global,
-    planes: &mut [Plane],
+    planes: &[Plane],
     uses: &Uses<'_>,
     limit: usize,
     workspace: &mut Workspace,
 ) -> Result<Vec<FlatStrips>, Unlisted>
-    requires planes { All (HasPlane workspace.old.pool) planes.old }
-    requires planes_fit { All (FitsWorkspace workspace.old.pool) planes.old }
+    requires planes { All (HasPlane workspace.old.pool) planes.now }
+    requires planes_fit { All (FitsWorkspace workspace.old.pool) planes.now }
     requires cells { IsHome workspace.old.pool uses.now.library.now }
     ensures listed { IfOk result (λ layers.
-        ListsPlanes (flat_layout workspace.old.pool uses.now planes.old) layers.items) }
-    ensures count { IfOk result (λ layers. length layers.items ≡ length planes.old) }
-    ensures few { OnOk result (exceeds_tiles limit (length planes.old)
-        (flat_layout workspace.old.pool uses.now planes.old) ≡ false) }
-    ensures too_many { IfErr result (λ fault. IfTooMany fault (exceeds_tiles limit (length planes.old)
-        (flat_layout workspace.old.pool uses.now planes.old) ≡ true)) }
-    ensures owners { planes.new ≡ planes.old }
+        ListsPlanes (flat_layout workspace.old.pool uses.now planes.now) layers.items) }
+    ensures count { IfOk result (λ layers. length layers.items ≡ length planes.now) }
+    ensures few { OnOk result (exceeds_tiles limit (length planes.now)
+        (flat_layout workspace.old.pool uses.now planes.now) ≡ false) }
+    ensures too_many { IfErr result (λ fault. IfTooMany fault (exceeds_tiles limit (length planes.now)
+        (flat_layout workspace.old.pool uses.now planes.now) ≡ true)) }
     ensures pool { workspace.new.pool ≡ workspace.old.pool }
 {
     let mut layers = Vec::with_capacity(alloc, planes.len())?;
     for number in 0..planes.len() {
-        let strips = flat_strips(alloc, number, &mut planes[number], uses, limit, workspace)?;
+        let strips = flat_strips(alloc, number, &planes[number], uses, limit, workspace)?;
         layers.push_reserved(strips);
     }
     Ok(layers)

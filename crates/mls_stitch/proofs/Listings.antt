@@ -1,5 +1,5 @@
 -- What area search has listed so far, from step to step.
-use Rattle.std.proofs.Common.{◌≡◌, ◌≢◌, ◌⊎◌, ℕ, zero, suc, ◌+◌, ◌-◌, ◌<◌, ◌≤◌, Bool, true, false, ◌&&◌, List, [], ◌∷◌, ◌++◌, length, get_or, Option, All, Any, Contains, inl, inr, refl, sym, ap, ◌∙◌, subst, arith}
+use Rattle.std.proofs.Common.{◌≡◌, ◌≢◌, ◌⊎◌, ℕ, zero, suc, ◌+◌, ◌-◌, ◌<◌, ◌≤◌, max, nat_le, nat_lt, Bool, true, false, ◌&&◌, List, [], ◌∷◌, ◌++◌, length, get_or, Option, All, Any, Contains, inl, inr, refl, sym, ap, ◌∙◌, subst, arith}
 use Rattle.std.proofs.lemmas.Bool.{both_ways, cases_lt}
 use Rattle.std.proofs.lemmas.Bool.Decides.{nat_tests}
 use Rattle.std.proofs.lemmas.List.{get_or_append_left, get_or_read, length_push}
@@ -164,6 +164,14 @@ pub found_here :
     → ((d : LaidTile) → get_or list index d ≡ parent) → IsFound blocks area parent
 found_here blocks area list index parent each within here = subst (IsFound blocks area) (here parent) (each index parent within)
 
+-- a right neighbour begins where the parent ends
+begins_beside :
+    (blocks : ℕ → Option Piece) (area : Rect) (list : List LaidTile) (index : ℕ) (parent tile : LaidTile) → AreBlocks blocks → IsBeside blocks area list index parent tile
+    → tile.piece.rect.left ≡ parent.piece.rect.right
+begins_beside blocks area list index parent tile tiling beside =
+    let laid = found_here blocks area list index parent beside.listed.each beside.within beside.here in
+    right_neighbour blocks parent.id tile.id parent.piece tile.piece (beside.line - 1) tiling laid.laid beside.beside.laid (omega (arith, beside.not_last)) (omega (arith, beside.not_last, beside.up_to)) beside.beside.held
+
 -- a right neighbour that is reached now was not listed before
 not_listed :
     (blocks : ℕ → Option Piece) (area : Rect) (list : List LaidTile) (index : ℕ) (parent tile : LaidTile) → AreBlocks blocks → IsRectangleIn world area
@@ -303,12 +311,8 @@ pub beside_next :
     → index < length list → ((d : LaidTile) → get_or list index d ≡ parent) → IsListedTo blocks area list index tile.piece.rect.bottom → first_row area parent < tile.piece.rect.bottom
     → IsLaidAt blocks (beyond Lb tile.piece.rect) next → IsBeside blocks area list index parent next
 beside_next blocks area list index parent tile next tiling inside old was within here listed not_last below =
-    let laid = found_here blocks area list index parent listed.each within here in
     let lines = holds_between tile.piece.rect parent.piece.rect.right (was.line - 1) was.beside.held in
-    let up_to = was.up_to in
-    let not_last' = was.not_last in
-    let at_right : tile.piece.rect.left ≡ parent.piece.rect.right =
-    right_neighbour blocks parent.id tile.id parent.piece tile.piece (was.line - 1) tiling laid.laid was.beside.laid (omega (arith, was.not_last)) (omega (arith, was.not_last, was.up_to)) was.beside.held in
+    let at_right = begins_beside blocks area old index parent tile tiling was in
     record {
       line = tile.piece.rect.bottom;
       listed = listed;
@@ -440,21 +444,44 @@ pub listed_whole :
     → (x y : ℕ) → holds area x y ≡ true → Any (λ tile. holds tile.piece.rect x y ≡ true) list
 listed_whole blocks area list tiling inside listed x y = whole_below blocks area list tiling inside listed (suc x) x y (omega arith)
 
-both_true : (s t : Bool) → (s && t) ≡ true → (s ≡ true) × (t ≡ true)
-both_true true true both = (refl, refl)
-both_true true false both = absurd (cc)
-both_true false t both = absurd (cc)
+in_rows : (bottom top first low : ℕ) → (nat_lt bottom top && nat_le first (max bottom low)) ≡ true → (bottom < top) × (first ≤ max bottom low)
+in_rows bottom top first low passes = (grind (arith, nat_tests), grind (arith, nat_tests))
 
--- the test for a child
+rows_in : (bottom top first low : ℕ) → bottom < top → first ≤ max bottom low → (nat_lt bottom top && nat_le first (max bottom low)) ≡ true
+rows_in bottom top first low below above = grind (arith, nat_tests)
+
+-- the test for a child: a right neighbour that begins in rows of the area and of the parent
 pub child_true :
-    (area : Rect) (parent tile : LaidTile) (test : Bool) → test ≡ (holds parent.piece.rect (tile.piece.rect.left - 1) (first_row area tile) && meets tile.piece.rect area) → test ≡ true
-    → IsParent area parent tile × (meets tile.piece.rect area ≡ true)
-child_true area parent tile test is passes = both_true (holds parent.piece.rect (tile.piece.rect.left - 1) (first_row area tile)) (meets tile.piece.rect area) (sym is ∙ passes)
+    (blocks : ℕ → Option Piece) (area : Rect) (list : List LaidTile) (index : ℕ) (parent tile : LaidTile) (test : Bool) → AreBlocks blocks → IsRectangleIn world area
+    → IsBeside blocks area list index parent tile
+    → test ≡ (nat_lt tile.piece.rect.bottom area.top && nat_le parent.piece.rect.bottom (max tile.piece.rect.bottom area.bottom)) → test ≡ true
+    → IsFound blocks area tile × IsParent area parent tile
+child_true blocks area list index parent tile test tiling inside beside is passes =
+    let (low, above) = in_rows tile.piece.rect.bottom area.top parent.piece.rect.bottom area.bottom (sym is ∙ passes) in
+    let found = found_here blocks area list index parent beside.listed.each beside.within beside.here in
+    let wide = (legal-AreBlocks blocks parent.id parent.piece tiling found.laid).wide in
+    let legal = legal-AreBlocks blocks tile.id tile.piece tiling beside.beside.laid in
+    let left = begins_beside blocks area list index parent tile tiling beside in
+    let lines = holds_between tile.piece.rect parent.piece.rect.right (beside.line - 1) beside.beside.held in
+    let met = meets_lines parent.piece.rect area found.met in (
+      record {
+        laid = beside.beside.laid;
+        met =
+            lines_meet tile.piece.rect area legal.wide inside.wide legal.tall inside.tall (omega (arith, left, beside.before_end)) (omega (arith, left, legal.wide, met.1)) low
+            (omega (arith, beside.not_last, lines.3));
+      },
+      between_holds parent.piece.rect (tile.piece.rect.left - 1) (first_row area tile) (omega (arith, left, wide)) (omega (arith, left, wide)) above
+          (omega (arith, lines.2, beside.not_last, beside.up_to)),
+    )
 
 pub child_false :
-    (area : Rect) (parent tile : LaidTile) (test : Bool) → test ≡ (holds parent.piece.rect (tile.piece.rect.left - 1) (first_row area tile) && meets tile.piece.rect area) → test ≡ false
+    (area : Rect) (parent tile : LaidTile) (test : Bool)
+    → test ≡ (nat_lt tile.piece.rect.bottom area.top && nat_le parent.piece.rect.bottom (max tile.piece.rect.bottom area.bottom)) → test ≡ false
     → IsParent area parent tile → meets tile.piece.rect area ≡ true → ⊥
-child_false area parent tile test is fails is_parent met = both_ways test fails (is ∙ rw (is_parent, met) refl)
+child_false area parent tile test is fails is_parent met =
+    let lines = meets_lines tile.piece.rect area met in
+    let rows = holds_between parent.piece.rect (tile.piece.rect.left - 1) (first_row area tile) is_parent in
+    both_ways test fails (is ∙ rows_in tile.piece.rect.bottom area.top parent.piece.rect.bottom area.bottom lines.2 rows.2)
 
 -- there is room for the next child
 pub child_fits :

@@ -10,6 +10,7 @@ ghost use Rattle.mls_stitch.specs.Areas.{AreInArea, MeetArea};
 ghost use Rattle.mls_stitch.specs.Enumerations.{IsListedTo};
 
 use crate::enumeration::{list_tiles, sort_rows};
+use crate::hints::Hints;
 use crate::steps::Steps;
 use crate::{LaidTile, Plane, Scratch};
 use mls_geom::{Point, Rect};
@@ -18,7 +19,14 @@ use mls_tilepool::Pool;
 impl Plane {
     /// Fills `list` with the tiles that have a square of the area, each once, in any order. The search starts at the
     /// tile in hand that was found closest to the square `near`.
-    pub(crate) fn search(&self, pool: &Pool, near: Point, area: Rect, list: &mut Vec<LaidTile>)
+    pub(crate) fn search(
+        &self,
+        pool: &Pool,
+        near: Point,
+        area: Rect,
+        hints: &Hints,
+        list: &mut Vec<LaidTile>,
+    )
         requires plane { HasPlane pool.now self.now }
         requires room { count_of pool.now self.now ≤ vec_capacity list.old }
         ensures legal { IsRectangleIn world area }
@@ -26,23 +34,23 @@ impl Plane {
             (vec_len list.new) world.top }
         ensures room { vec_capacity list.new ≡ vec_capacity list.old }
     {
-        let from = self.hints.start(pool, &self.owner, near);
+        let from = hints.start(pool, &self.owner, near);
         let mut steps = Steps::up_to(usize::MAX);
         list_tiles(pool, &self.owner, from, area, list, &mut steps);
     }
 
     /// Finds the tiles that have a square of the area, by their bottom, clipped to the area, and then their left, and
     /// leaves them in the scratch (Ousterhout 1984, area enumeration).
-    pub fn area(&mut self, pool: &Pool, area: Rect, scratch: &mut Scratch)
-        requires plane { HasPlane pool.now self.old }
-        requires room { count_of pool.now self.old ≤ scratch.old.room }
-        ensures found { AreInArea (block_at (tiles_of pool.now self.old)) area scratch.new.tiles }
-        ensures plane { self.new ≡ self.old }
+    pub fn area(&self, pool: &Pool, area: Rect, scratch: &mut Scratch)
+        requires plane { HasPlane pool.now self.now }
+        requires room { count_of pool.now self.now ≤ scratch.old.room }
+        ensures found { AreInArea (block_at (tiles_of pool.now self.now)) area scratch.new.tiles }
         ensures scratch_room { scratch.new.room ≡ scratch.old.room }
     {
-        self.search(pool, area.corner(), area, &mut scratch.tiles);
-        sort_rows(area, &mut scratch.tiles);
-        self.keep_found(area, scratch);
+        let Scratch { hints, tiles, .. } = scratch;
+        self.search(pool, area.corner(), area, hints, tiles);
+        sort_rows(area, tiles);
+        hints.keep_first(&self.owner, area.corner(), tiles);
     }
 
     /// Finds the tiles that have a square of the area, in any order, and leaves them in the scratch.
@@ -52,16 +60,9 @@ impl Plane {
         ensures found { MeetArea (block_at (tiles_of pool.now self.now)) area scratch.new.tiles }
         ensures scratch_room { scratch.new.room ≡ scratch.old.room }
     {
-        self.search(pool, area.corner(), area, &mut scratch.tiles);
-    }
-
-    /// Keeps the first of the tiles in hand that were found last, which have a square of the area.
-    pub fn keep_found(&mut self, area: Rect, scratch: &Scratch)
-        ensures { self.new ≡ self.old }
-    {
-        if let Some(tile) = scratch.tiles.first() {
-            self.hints.keep(area.corner(), tile.id);
-        }
+        let Scratch { hints, tiles, .. } = scratch;
+        self.search(pool, area.corner(), area, hints, tiles);
+        hints.keep_first(&self.owner, area.corner(), tiles);
     }
 
     /// Finds all tiles of the plane, by bottom and then left, and leaves them in the scratch.
@@ -76,7 +77,8 @@ impl Plane {
         ensures scratch_room { scratch.new.room ≡ scratch.old.room }
     {
         let world = Rect::world();
-        self.search(pool, world.corner(), world, &mut scratch.tiles);
-        sort_rows(world, &mut scratch.tiles);
+        let Scratch { hints, tiles, .. } = scratch;
+        self.search(pool, world.corner(), world, hints, tiles);
+        sort_rows(world, tiles);
     }
 }

@@ -6,7 +6,6 @@ ghost use Rattle.mls_geom.specs.Locality.{AreUnorderedStrips};
 ghost use Rattle.mls_geom.specs.Pictures.{picture_of};
 ghost use Rattle.mls_geom.specs.World.{world};
 
-use crate::hints::Hints;
 use crate::place::place_all;
 use crate::stitching::stitch_listed;
 use crate::{Plane, Scratch};
@@ -33,8 +32,7 @@ impl Plane {
     {
         scratch.entries.clear();
         place_all(pool, &owner, pieces, &mut scratch.entries);
-        let hints = Hints::new(&scratch.entries[0]);
         stitch_listed(pool, &owner, &[], &mut scratch.entries, &mut scratch.found);
-        Plane { owner, hints }
+        Plane { owner }
     }
 }

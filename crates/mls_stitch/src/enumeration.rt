@@ -1,18 +1,20 @@
 //! The enumeration of an area's tiles (Ousterhout 1984), each of which has one parent.
-ghost use Rattle.std.specs.Prelude.{ℕ, ◌≡◌, ◌+◌, ◌-◌, ◌<◌, ◌≤◌, ◌&&◌, if◌then◌else◌, nat_le, false, slice_index_or, vec_len, vec_capacity};
-ghost use Rattle.mls_geom.specs.Rects.{IsRectangleIn, holds, meets};
+ghost use Rattle.std.specs.Prelude.{ℕ, ◌≡◌, ◌+◌, ◌-◌, ◌<◌, ◌≤◌, ◌&&◌, if◌then◌else◌, nat_le, nat_lt, max, false, slice_index_or, vec_len, vec_capacity};
+ghost use Rattle.mls_geom.specs.Rects.{IsRectangleIn};
 ghost use Rattle.mls_geom.specs.World.{world};
 ghost use Rattle.mls_tilepool.specs.Pools.{count_of, tiles_of};
 ghost use Rattle.std.specs.List.{AllPairs};
 ghost use Rattle.std.specs.List.Sorted.{IsPermutation};
 ghost use Rattle.mls_stitch.specs.Areas.{comes_first};
 ghost use Rattle.mls_stitch.specs.Enumerations.{IsBeside, IsListedTo, first_row};
+ghost use Rattle.mls_stitch.specs.Neighbours.{IsHeld, laid_of};
 ghost use Rattle.mls_stitch.specs.Tilings.{HasPlane, block_at};
 ghost use Rattle.mls_stitch.specs.declared.laid_tile.LaidTile.{LaidTile};
 
+use crate::LaidTile;
+use crate::neighbour::Neighbour;
 use crate::steps::Steps;
-use crate::walk::{find_near, neighbour};
-use crate::{LaidTile, Stitch};
+use crate::walk::find_near;
 use mls_geom::{Point, Rect};
 use mls_tilepool::{Owner, Pool, TileId};
 
@@ -23,19 +25,13 @@ fn first_row(area: Rect, tile: &LaidTile) -> u32
     tile.sides().bottom.max(area.area().bottom)
 }
 
-/// Returns whether the tile has a square of the area, and the parent the square to the left of it in its first row.
-fn is_child(area: Rect, parent: &LaidTile, tile: &LaidTile) -> bool
-    ensures { result ≡ (holds parent.now.piece.rect (tile.now.piece.rect.left - 1) (first_row area tile.now)
-        && meets tile.now.piece.rect area) }
+/// Returns whether a right neighbour of the parent with this bottom is its child in the area: whether it lies in rows of
+/// the area, and its first row there is one of the parent's.
+fn is_child(area: Rect, parent: &LaidTile, bottom: u32) -> bool
+    ensures { result ≡ (nat_lt bottom area.top && nat_le parent.now.piece.rect.bottom (max bottom area.bottom)) }
 {
-    let row = first_row(area, tile);
-    let sides = parent.sides();
-    let left = tile.sides().left - 1;
-    sides.left <= left
-        && left < sides.right
-        && sides.bottom <= row
-        && row < sides.top
-        && tile.meets(area)
+    let bounds = area.area();
+    bottom < bounds.top && parent.sides().bottom <= bottom.max(bounds.bottom)
 }
 
 /// Lists the right neighbour of a listed tile, where it is the tile's child.
@@ -44,25 +40,30 @@ fn push_child(
     owner: &Owner,
     area: Rect,
     parent: &LaidTile,
-    tile: &LaidTile,
+    neighbour: &Neighbour,
     list: &mut Vec<LaidTile>,
 )
     requires plane { HasPlane pool.now owner.now }
     requires legal { IsRectangleIn world area }
     requires room { count_of pool.now owner.now ≤ vec_capacity list.old }
+    requires held { IsHeld (tiles_of pool.now owner.now) neighbour.now }
     requires beside { (index : ℕ)
-        × IsBeside (block_at (tiles_of pool.now owner.now)) area list.old.items index parent.now tile.now }
+        × IsBeside (block_at (tiles_of pool.now owner.now)) area list.old.items index parent.now
+        (laid_of (tiles_of pool.now owner.now) neighbour.now) }
     ensures listed { (index : ℕ)
-        → IsBeside (block_at (tiles_of pool.now owner.now)) area list.old.items index parent.now tile.now
-        → IsListedTo (block_at (tiles_of pool.now owner.now)) area list.new.items index tile.now.piece.rect.bottom }
+        → IsBeside (block_at (tiles_of pool.now owner.now)) area list.old.items index parent.now
+        (laid_of (tiles_of pool.now owner.now) neighbour.now)
+        → IsListedTo (block_at (tiles_of pool.now owner.now)) area list.new.items index
+        neighbour.now.tile.corner.y }
     ensures kept { (index : ℕ) (d : LaidTile)
-        → IsBeside (block_at (tiles_of pool.now owner.now)) area list.old.items index parent.now tile.now
+        → IsBeside (block_at (tiles_of pool.now owner.now)) area list.old.items index parent.now
+        (laid_of (tiles_of pool.now owner.now) neighbour.now)
         → slice_index_or list.new.items index d ≡ parent.now }
     ensures longer { vec_len list.old ≤ vec_len list.new }
     ensures room { vec_capacity list.new ≡ vec_capacity list.old }
 {
-    if is_child(area, parent, tile) {
-        list.push_reserved(*tile);
+    if is_child(area, parent, neighbour.bottom()) {
+        list.push_reserved(neighbour.laid(pool, owner));
     }
 }
 
@@ -89,24 +90,33 @@ fn push_children(
         return;
     }
     let last_row = first_row(area, &parent);
-    let mut tile = neighbour(pool, owner, &parent, Stitch::Tr);
+    let mut neighbour = Neighbour::first(pool, owner, &parent);
     'neighbours: loop {
         steps.take();
-        push_child(pool, owner, area, &parent, &tile, list);
-        if tile.sides().bottom <= last_row {
+        push_child(pool, owner, area, &parent, &neighbour, list);
+        if neighbour.bottom() <= last_row {
             return;
         }
-        tile = neighbour(pool, owner, &tile, Stitch::Lb);
+        neighbour = neighbour.below(pool, owner);
     }
 }
 
-/// Returns the tile from which to go on up the area's left side: the one found last, or the one before where that
-/// reaches beyond the area and may have many more neighbours there.
-fn next_start(area: Rect, from: TileId, tile: &LaidTile) -> TileId
-    ensures { result ≡ (if nat_le tile.now.piece.rect.right area.right then tile.now.id else from) }
+/// Returns the name of the tile above the upper-right corner of the one under the name, and that name where there is
+/// none.
+fn above(pool: &Pool, owner: &Owner, id: TileId) -> TileId {
+    match pool.get(owner, id) {
+        Some(tile) => tile.rt.unwrap_or(id),
+        None => id,
+    }
+}
+
+/// Returns the tile from which to go on up the area's left side: the one above the tile found last, or the one before
+/// where the tile reaches beyond the area and may have many more neighbours there.
+fn next_start(area: Rect, from: TileId, above: TileId, tile: &LaidTile) -> TileId
+    ensures { result ≡ (if nat_le tile.now.piece.rect.right area.right then above else from) }
 {
     if tile.sides().right <= area.area().right {
-        tile.id
+        above
     } else {
         from
     }
@@ -136,8 +146,8 @@ fn list_left_side(
         let tile = find_near(pool, owner, near, from, Point::at(bounds.left, line), steps);
         list.push_reserved(tile);
         line = tile.sides().top;
-        near = tile.id;
-        from = next_start(area, from, &tile);
+        near = above(pool, owner, tile.id);
+        from = next_start(area, from, near, &tile);
     }
 }
 

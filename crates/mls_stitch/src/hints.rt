@@ -1,15 +1,62 @@
 //! Tiles from which searches start.
-ghost use Rattle.std.specs.Prelude.{◌<◌};
+ghost use Rattle.std.specs.Prelude.{◌<◌, ◌≤◌};
+ghost use Rattle.mls_stitch.specs.Tilings.{HasPlane};
 
 use crate::LaidTile;
 use mls_geom::Point;
 use mls_tilepool::{Owner, Pool, TileId};
+use std::alloc::{AllocError, Global};
 
-/// How many parts a side of the table has.
+/// How many tiles are kept.
+const SLOTS: usize = 16_384;
+
+/// How many parts a side of a table has, after which they repeat themselves.
 const SIDE: u32 = 16;
 
-/// How many squares wide and high a part is.
-const PART: u32 = 64;
+/// How large the parts of a plane are, of each of which the tile is kept that was found last.
+#[derive(Clone, Copy)]
+enum Parts {
+    /// Squares of 64 by 64.
+    Small,
+    /// Squares of 131,072 by 131,072, a sixteenth of the world's side.
+    Large,
+    /// All of the world.
+    Whole,
+}
+
+impl Parts {
+    /// Returns how many squares wide and high a part is.
+    fn side(self) -> u32
+        ensures { 0 < result }
+    {
+        match self {
+            Parts::Small => 64,
+            Parts::Large => 131_072,
+            Parts::Whole => 1 << 23,
+        }
+    }
+
+    /// Returns where the table of an owner's parts begins, counted from the first of its tables.
+    fn table(self) -> usize
+        ensures { result ≤ 257 }
+    {
+        match self {
+            Parts::Whole => 0,
+            Parts::Large => 1,
+            Parts::Small => 257,
+        }
+    }
+
+    /// Returns which slot has what is kept of the owner's part that has the square.
+    fn slot(self, owner: &Owner, at: Point) -> usize
+        ensures { result < 16384 }
+    {
+        let column = at.column() / self.side() % SIDE;
+        let row = at.row() / self.side() % SIDE;
+        let first = (owner.number() as usize).wrapping_mul(513);
+        first.wrapping_add(self.table() + (row * SIDE + column) as usize) % SLOTS
+    }
+}
 
 /// A tile, and a square where it was found.
 #[derive(Clone, Copy)]
@@ -27,60 +74,69 @@ impl Hint {
     }
 }
 
-/// The tile that was found last, and for each part of a small table the one that was found last there.
+/// For each owner the tiles that were found last, in small parts of its plane, in large ones and in all of it.
 ///
-/// The parts are squares of 64 by 64, and repeat themselves after 16 of them. A tile may have been removed since.
+/// Slots are shared by parts and by owners, and tiles may have been removed since: what is kept is looked up before use.
 #[derive(Drop)]
 pub(crate) struct Hints {
-    last: Hint,
-    parts: [Hint; 256],
-}
-
-/// Returns which part of the table a square lies in.
-fn part(at: Point) -> usize
-    ensures { result < 256 }
-{
-    let column = at.column() / PART % SIDE;
-    let row = at.row() / PART % SIDE;
-    (row * SIDE + column) as usize
+    slots: Vec<Option<Hint>>,
 }
 
 impl Hints {
-    /// Creates hints of one tile.
-    pub(crate) fn new(tile: &LaidTile) -> Hints {
-        let hint = Hint {
-            at: tile.piece.rect.corner(),
-            tile: tile.id,
-        };
-        Hints {
-            last: hint,
-            parts: [hint; 256],
+    /// Creates hints of no tiles.
+    pub(crate) fn new(alloc: Global) -> Result<Hints, AllocError> {
+        Ok(Hints {
+            slots: vec![in alloc; None; SLOTS]?,
+        })
+    }
+
+    /// Keeps a tile of the owner's that was found at a square.
+    pub(crate) fn keep(&mut self, owner: &Owner, at: Point, tile: TileId) {
+        for parts in [Parts::Small, Parts::Large, Parts::Whole] {
+            if let Some(slot) = self.slots.get_mut(parts.slot(owner, at)) {
+                *slot = Some(Hint { at, tile });
+            }
         }
     }
 
-    /// Keeps a tile that was found at a square.
-    pub(crate) fn keep(&mut self, at: Point, tile: TileId) {
-        self.last = Hint { at, tile };
-        let part = part(at);
-        self.parts[part] = Hint { at, tile };
-    }
-
-    /// Keeps the last of these tiles, if there is one.
-    pub(crate) fn keep_last(&mut self, tiles: &[LaidTile]) {
+    /// Keeps the last of these tiles of the owner's, if there is one.
+    pub(crate) fn keep_last(&mut self, owner: &Owner, tiles: &[LaidTile]) {
         if let Some(tile) = tiles.last() {
-            self.keep(tile.piece.rect.corner(), tile.id);
+            self.keep(owner, tile.piece.rect.corner(), tile.id);
         }
     }
 
-    /// Returns the tile from which to search for a square: of the one that was found last and the one that was found
-    /// last in the square's part the one that was found closer to it, if the owner still has it.
-    pub(crate) fn start(&self, pool: &Pool, owner: &Owner, at: Point) -> TileId {
-        let kept = self.parts[part(at)];
-        let tile = kept.tile;
-        if kept.distance(at) < self.last.distance(at) && pool.get(owner, tile).is_some() {
-            tile
-        } else {
-            self.last.tile
+    /// Keeps the first of these tiles of the owner's, which was found at the square, if there is one.
+    pub(crate) fn keep_first(&mut self, owner: &Owner, at: Point, tiles: &[LaidTile]) {
+        if let Some(tile) = tiles.first() {
+            self.keep(owner, at, tile.id);
+        }
+    }
+
+    /// Returns the tile that was found closest to a square, of those that were found last in the parts that have it
+    /// and that the owner still has.
+    fn closest(&self, pool: &Pool, owner: &Owner, at: Point) -> Option<TileId> {
+        let mut closest = None;
+        let mut distance = u32::MAX;
+        for parts in [Parts::Whole, Parts::Large, Parts::Small] {
+            if let Some(Some(hint)) = self.slots.get(parts.slot(owner, at)) {
+                let away = hint.distance(at);
+                if away < distance && pool.get(owner, hint.tile).is_some() {
+                    closest = Some(hint.tile);
+                    distance = away;
+                }
+            }
+        }
+        closest
+    }
+
+    /// Returns the tile from which to search for a square: the closest one that is kept, or any one of the owner's.
+    pub(crate) fn start(&self, pool: &Pool, owner: &Owner, at: Point) -> TileId
+        requires { HasPlane pool.now owner.now }
+    {
+        match self.closest(pool, owner, at) {
+            Some(tile) => tile,
+            None => pool.first(owner).unwrap(),
         }
     }
 }

@@ -1,11 +1,13 @@
 //! Tiles with their rectangles.
 ghost use Rattle.std.specs.Prelude.{◌≡◌};
+ghost use Rattle.mls_geom.specs.Rects.{IsRectangleIn};
+ghost use Rattle.mls_geom.specs.World.{world};
 ghost use Rattle.mls_tilepool.specs.Pools.{tiles_of};
 ghost use Rattle.mls_stitch.specs.Tilings.{HasPlane, bottom_beyond, left_beyond};
 ghost use Rattle.mls_stitch.specs.Walks.{laid_at};
 
 use mls_geom::{Area, Piece, Point, Rect};
-use mls_tilepool::{Owner, Pool, TileId};
+use mls_tilepool::{Owner, Pool, Tile, TileId};
 
 /// The name of a tile, with its rectangle and its kind.
 #[derive(Clone, Copy, Debug, PartialEq, Eq)]
@@ -61,6 +63,28 @@ pub(crate) fn bottom_beyond(pool: &Pool, owner: &Owner, stitch: Option<TileId>) 
     }
 }
 
+/// Returns the tile with the rectangle between its corner and this right side and top.
+pub(crate) fn laid_to(id: TileId, tile: &Tile, right: u32, top: u32) -> LaidTile
+    requires { IsRectangleIn world (record
+        { left = tile.now.corner.x; bottom = tile.now.corner.y; right = right; top = top }) }
+    ensures { result ≡ record {
+      id = id;
+      piece = record {
+        rect = record { left = tile.now.corner.x; bottom = tile.now.corner.y; right = right; top = top };
+        kind = tile.now.kind;
+      };
+    } }
+{
+    let rect = Rect::between(tile.corner.column(), tile.corner.row(), right, top);
+    LaidTile {
+        id,
+        piece: Piece {
+            rect,
+            kind: tile.kind,
+        },
+    }
+}
+
 /// Returns the tile under the name with its rectangle, whose right side and top its stitches lead to, if the owner
 /// has it.
 pub(crate) fn laid(pool: &Pool, owner: &Owner, id: TileId) -> Option<LaidTile>
@@ -70,12 +94,5 @@ pub(crate) fn laid(pool: &Pool, owner: &Owner, id: TileId) -> Option<LaidTile>
     let tile = pool.get(owner, id)?;
     let right = left_beyond(pool, owner, tile.tr);
     let top = bottom_beyond(pool, owner, tile.rt);
-    let rect = Rect::between(tile.corner.column(), tile.corner.row(), right, top);
-    Some(LaidTile {
-        id,
-        piece: Piece {
-            rect,
-            kind: tile.kind,
-        },
-    })
+    Some(laid_to(id, &tile, right, top))
 }

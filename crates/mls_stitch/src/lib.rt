@@ -10,6 +10,7 @@ mod find;
 mod hints;
 mod laid_tile;
 mod lookup;
+mod neighbour;
 mod parts;
 mod place;
 mod plane;

@@ -1,7 +1,6 @@
 //! Planes of stitched tiles.
 ghost use Rattle.std.specs.Prelude.{◌≡◌};
 
-use crate::hints::Hints;
 use mls_tilepool::Owner;
 use std::marker::Model;
 
@@ -9,8 +8,6 @@ use std::marker::Model;
 #[derive(Drop)]
 pub struct Plane {
     pub(crate) owner: Owner,
-    // Tiles from which searches start.
-    pub(crate) hints: Hints,
 }
 
 impl Model for Plane {

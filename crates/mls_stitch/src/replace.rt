@@ -75,7 +75,7 @@ impl Plane {
         );
         let kept = scratch.entries.len();
         place_instead(pool, &self.owner, touched, fresh, &mut scratch.entries);
-        self.hints.keep_last(&scratch.entries);
+        scratch.hints.keep_last(&self.owner, &scratch.entries);
         stitch_from(
             pool,
             &self.owner,

@@ -2,13 +2,13 @@
 ghost use Rattle.std.specs.Prelude.{◌≡◌, [], IfOk};
 
 use crate::LaidTile;
+use crate::hints::Hints;
 use std::alloc::{AllocError, Global};
 use std::marker::Model;
 
 /// Lists in which the calls of [`Plane`](crate::Plane) work. Area search leaves there what it finds.
 ///
 /// All memory is reserved when the scratch is made.
-#[derive(Drop)]
 pub struct Scratch {
     room: usize,
     // Twice as many: a tile may be found more than once.
@@ -19,6 +19,8 @@ pub struct Scratch {
     pub(crate) entries: Vec<LaidTile>,
     // The keys of tiles that are to give way, in ascending order.
     pub(crate) touched: Vec<usize>,
+    // Tiles from which searches start.
+    pub(crate) hints: Hints,
 }
 
 impl Model for Scratch {
@@ -34,6 +36,20 @@ impl Model for Scratch {
         × (s.room ≤ vec_capacity s.touched) };
 }
 
+// Written out, so that what a scratch's end drops is proved here, and not in each crate that lets one go.
+impl Drop for Scratch {
+    fn drop(self) {
+        let Scratch {
+            room: _,
+            tiles: _tiles,
+            found: _found,
+            entries: _entries,
+            touched: _touched,
+            hints: _hints,
+        } = self;
+    }
+}
+
 impl Scratch {
     /// Creates a scratch with room for `room` tiles.
     pub fn new(alloc: Global, room: u32) -> Result<Scratch, AllocError>
@@ -46,6 +62,7 @@ impl Scratch {
             found: Vec::with_capacity(alloc, room)?,
             entries: Vec::with_capacity(alloc, 2 * room)?,
             touched: Vec::with_capacity(alloc, room)?,
+            hints: Hints::new(alloc)?,
         })
     }
 

@@ -85,7 +85,7 @@ impl Plane {
         let (first, second) = parts(whole, axis, at);
         let corner = second.rect.corner();
         self.replace(pool, &[tile], &[first, second], None, scratch)?;
-        Ok(self.find(pool, corner))
+        Ok(self.find(pool, corner, scratch))
     }
 
     /// Joins a tile and the one behind it.

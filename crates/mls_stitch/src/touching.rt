@@ -9,6 +9,7 @@ ghost use Rattle.mls_stitch.specs.Tilings.{HasPlane, block_at};
 use crate::around::{free_room, sort_dedup};
 use crate::bounds::bounds_of_pieces;
 use crate::enumeration::list_tiles;
+use crate::hints::Hints;
 use crate::scan::scan_area;
 use crate::steps::{Steps, are_many};
 use crate::{LaidTile, Plane, Scratch};
@@ -39,11 +40,12 @@ fn enclosing(over: &[Piece]) -> Option<Rect>
 }
 
 /// Lists the tiles round the first piece, each once, if it has all others within it, and returns the area that was
-/// searched. The search starts at the plane's tile in hand.
+/// searched. The search starts at a tile in hand.
 fn list_round_first(
     pool: &Pool,
     plane: &Plane,
     over: &[Piece],
+    hints: &Hints,
     list: &mut Vec<LaidTile>,
 ) -> Option<Rect>
     requires plane { HasPlane pool.now plane.now }
@@ -55,7 +57,7 @@ fn list_round_first(
 {
     let bounds = enclosing(over)?;
     let area = bounds.grow(1);
-    plane.search(pool, bounds.corner(), area, list);
+    plane.search(pool, bounds.corner(), area, hints, list);
     Some(area)
 }
 
@@ -70,30 +72,32 @@ fn is_searched(last: &Option<Rect>, rect: Rect) -> bool
 }
 
 /// Lists the tiles round each piece in turn, except those inside the one that was searched round last. A tile may
-/// be listed more than once. The search starts at the plane's tile in hand.
+/// be listed more than once. The search starts at a tile in hand.
 ///
 /// Returns `false` if that takes more than the `turns`, or there are many pieces beside the plane's tiles.
 fn list_round_each(
     pool: &Pool,
-    plane: &Plane,
+    owner: &Owner,
     over: &[Piece],
     turns: usize,
-    found: &mut Vec<LaidTile>,
-    entries: &mut Vec<LaidTile>,
+    scratch: &mut Scratch,
 ) -> bool
-    requires plane { HasPlane pool.now plane.now }
-    requires found_fit { count_of pool.now plane.now ≤ vec_capacity found.old }
-    requires entries_fit { count_of pool.now plane.now + count_of pool.now plane.now
-        ≤ vec_capacity entries.old }
-    ensures touched { IsTrue result → HasTouched (block_at (tiles_of pool.now plane.now)) over.now entries.new.items }
-    ensures found_room { vec_capacity found.new ≡ vec_capacity found.old }
-    ensures entries_room { vec_capacity entries.new ≡ vec_capacity entries.old }
+    requires plane { HasPlane pool.now owner.now }
+    requires room { count_of pool.now owner.now ≤ scratch.old.room }
+    ensures touched { IsTrue result → HasTouched (block_at (tiles_of pool.now owner.now)) over.now scratch.new.tiles }
+    ensures scratch_room { scratch.new.room ≡ scratch.old.room }
 {
-    if are_many(over.len(), pool.count(&plane.owner) as usize) {
+    if are_many(over.len(), pool.count(owner) as usize) {
         return false;
     }
+    let Scratch {
+        tiles: entries,
+        entries: found,
+        hints,
+        ..
+    } = scratch;
     let first = over.first().map_or(Rect::world(), |piece| piece.rect);
-    let mut from = plane.hints.start(pool, &plane.owner, first.corner());
+    let mut from = hints.start(pool, owner, first.corner());
     let mut steps = Steps::up_to(turns);
     entries.clear();
     let mut last = None;
@@ -101,7 +105,7 @@ fn list_round_each(
         let rect = piece.rect;
         if !is_searched(&last, rect) {
             last = Some(rect);
-            list_tiles(pool, &plane.owner, from, rect.grow(1), found, &mut steps);
+            list_tiles(pool, owner, from, rect.grow(1), found, &mut steps);
             if steps.are_spent() {
                 return false;
             }
@@ -136,11 +140,10 @@ impl Plane {
         ensures few { length scratch.new.tiles ≤ count_of pool.now self.now }
         ensures scratch_room { scratch.new.room ≡ scratch.old.room }
     {
-        let Scratch { tiles, entries, .. } = scratch;
-        if !list_round_each(pool, self, over, turns, entries, tiles) {
-            list_round_all(pool, &self.owner, over, tiles);
+        if !list_round_each(pool, &self.owner, over, turns, scratch) {
+            list_round_all(pool, &self.owner, over, &mut scratch.tiles);
         }
-        sort_dedup(tiles);
+        sort_dedup(&mut scratch.tiles);
     }
 
     /// Finds tiles of the plane, each once, and among them all that one of the pieces touches, by a square, a side or a
@@ -152,32 +155,30 @@ impl Plane {
     /// and next to them. A search takes a turn for each tile that it goes through or looks at. With no turns, finds all
     /// tiles of the plane.
     pub fn touching(
-        &mut self,
+        &self,
         pool: &Pool,
         over: &[Piece],
         turns: usize,
         scratch: &mut Scratch,
     ) -> Option<Rect>
-        requires plane { HasPlane pool.now self.old }
-        requires room { count_of pool.now self.old ≤ scratch.old.room }
-        ensures touched { ListTouched (block_at (tiles_of pool.now self.old)) over.now scratch.new.tiles }
-        ensures searched { AreSearched (block_at (tiles_of pool.now self.old)) result scratch.new.tiles }
-        ensures few { length scratch.new.tiles ≤ count_of pool.now self.old }
-        ensures plane { self.new ≡ self.old }
+        requires plane { HasPlane pool.now self.now }
+        requires room { count_of pool.now self.now ≤ scratch.old.room }
+        ensures touched { ListTouched (block_at (tiles_of pool.now self.now)) over.now scratch.new.tiles }
+        ensures searched { AreSearched (block_at (tiles_of pool.now self.now)) result scratch.new.tiles }
+        ensures few { length scratch.new.tiles ≤ count_of pool.now self.now }
         ensures scratch_room { scratch.new.room ≡ scratch.old.room }
     {
         if turns == 0 {
             self.strips_of(pool, scratch);
             return None;
         }
-        let searched = list_round_first(pool, self, over, &mut scratch.tiles);
+        let Scratch { hints, tiles, .. } = scratch;
+        let searched = list_round_first(pool, self, over, hints, tiles);
         if searched.is_none() {
             self.list_touched(pool, over, turns, scratch);
         }
-        if let Some(tile) = scratch.tiles.first() {
-            let first = over.first().map_or(tile.piece.rect, |piece| piece.rect);
-            self.hints.keep(first.corner(), tile.id);
-        }
+        let first = over.first().map_or(Rect::world(), |piece| piece.rect);
+        scratch.hints.keep_first(&self.owner, first.corner(), &scratch.tiles);
         searched
     }
 }

@@ -1,45 +1,49 @@
 //! Walks from tile to tile along stitches.
-ghost use Rattle.std.specs.Prelude.{IfSome, MatchOption};
-ghost use Rattle.mls_tilepool.specs.Pools.{tiles_of};
-ghost use Rattle.mls_stitch.specs.Stitches.{HoldsAt, LeadsInside, beyond};
+ghost use Rattle.std.specs.Prelude.{◌≡◌, IfSome, MatchOption, Some};
+ghost use Rattle.mls_tilepool.specs.Pools.{tile_at, tiles_of};
+ghost use Rattle.mls_stitch.specs.Stitches.{HoldsAt};
 ghost use Rattle.mls_stitch.specs.Tilings.{HasPlane, block_at};
-ghost use Rattle.mls_stitch.specs.Walks.{IsLaid, IsLaidAt};
+ghost use Rattle.mls_stitch.specs.Walks.{EndsAt, IsLaidAt};
 
-use crate::laid_tile::{bottom_beyond, laid, left_beyond};
+use crate::LaidTile;
+use crate::laid_tile::{bottom_beyond, laid, laid_to, left_beyond};
 use crate::steps::Steps;
-use crate::{LaidTile, Stitch};
 use mls_geom::Point;
 use mls_tilepool::{Owner, Pool, Tile, TileId};
 
 /// The greatest number of tiles that a walk goes through.
 const MOST_STEPS: u32 = 4096;
 
-/// Returns the tile to which a stitch of the tile leads, where that is a tile of the world.
-pub(crate) fn neighbour(pool: &Pool, owner: &Owner, tile: &LaidTile, stitch: Stitch) -> LaidTile
-    requires plane { HasPlane pool.now owner.now }
-    requires laid { IsLaid (block_at (tiles_of pool.now owner.now)) tile.now }
-    requires inside { LeadsInside stitch tile.now.piece.rect }
-    ensures { IsLaidAt (block_at (tiles_of pool.now owner.now)) (beyond stitch tile.now.piece.rect) result }
-{
-    let found = pool.get(owner, tile.id).unwrap();
-    let next = stitch.of(&found).unwrap();
-    laid(pool, owner, next).unwrap()
+/// A step of a walk to a square.
+enum Step {
+    /// Along a stitch, if it names a tile.
+    To(Option<TileId>),
+    /// The last one, at the tile that holds the square.
+    End(LaidTile),
 }
 
-/// Returns the stitch of the tile that leads on the way to the square, or `None` where there is none, as in the tile
-/// that holds the square. Looks up the tile above it and the one on its right only where these tell.
-fn next_towards(pool: &Pool, owner: &Owner, tile: &Tile, at: Point) -> Option<TileId> {
+/// Returns the next step of a walk from the tile to the square. Looks up the tile above and the one on the right only
+/// where these tell.
+fn step_towards(pool: &Pool, owner: &Owner, id: TileId, tile: &Tile, at: Point) -> Step
+    requires plane { HasPlane pool.now owner.now }
+    requires there { tile_at pool.now owner.now id ≡ Some tile.now }
+    ensures { EndsAt (block_at (tiles_of pool.now owner.now)) at result }
+{
     if at.row() < tile.corner.row() {
-        tile.lb
-    } else if bottom_beyond(pool, owner, tile.rt) <= at.row() {
-        tile.rt
-    } else if at.column() < tile.corner.column() {
-        tile.bl
-    } else if left_beyond(pool, owner, tile.tr) <= at.column() {
-        tile.tr
-    } else {
-        None
+        return Step::To(tile.lb);
     }
+    let top = bottom_beyond(pool, owner, tile.rt);
+    if top <= at.row() {
+        return Step::To(tile.rt);
+    }
+    if at.column() < tile.corner.column() {
+        return Step::To(tile.bl);
+    }
+    let right = left_beyond(pool, owner, tile.tr);
+    if right <= at.column() {
+        return Step::To(tile.tr);
+    }
+    Step::End(laid_to(id, tile, right, top))
 }
 
 /// Returns the tile under the name, if it holds the square.
@@ -62,9 +66,9 @@ fn walk(pool: &Pool, owner: &Owner, from: TileId, at: Point, steps: &mut Steps) 
     for _ in 0..MOST_STEPS {
         steps.take();
         let tile = pool.get(owner, id)?;
-        match next_towards(pool, owner, &tile, at) {
-            Some(next) => id = next,
-            None => return laid_with(pool, owner, id, at),
+        match step_towards(pool, owner, id, &tile, at) {
+            Step::To(next) => id = next?,
+            Step::End(found) => return Some(found),
         }
     }
     None
@@ -93,12 +97,12 @@ fn walk_by_turns(
         let Some(tile) = pool.get(owner, id) else {
             return walk(pool, owner, other, at, steps);
         };
-        match next_towards(pool, owner, &tile, at) {
-            Some(next) => {
+        match step_towards(pool, owner, id, &tile, at) {
+            Step::To(next) => {
                 id = other;
-                other = next;
+                other = next?;
             }
-            None => return laid_with(pool, owner, id, at),
+            Step::End(found) => return Some(found),
         }
     }
     None

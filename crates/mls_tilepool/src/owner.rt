@@ -13,3 +13,14 @@ impl Model for Owner {
 
     ghost view = { λ o. o.0 };
 }
+
+impl Owner {
+    ghost use Rattle.std.specs.Prelude.{◌≡◌};
+
+    /// Returns the number of the owner in its pool, which no other one has at the same time.
+    pub fn number(&self) -> u32
+        ensures { result ≡ self.now }
+    {
+        self.0
+    }
+}

@@ -119,7 +119,7 @@ impl Pool {
     }
 
     /// Returns the name of one of the owner's tiles, if it has any.
-    fn first(&self, owner: &Owner) -> Option<TileId>
+    pub fn first(&self, owner: &Owner) -> Option<TileId>
         requires { IsOwner self.now owner.now }
         ensures some { IfSome result (λ id. IsSome (tile_at self.now owner.now id)) }
         ensures none { IfNone result (tiles_of self.now owner.now ≡ []) }

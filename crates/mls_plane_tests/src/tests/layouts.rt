@@ -93,7 +93,7 @@ impl Layout {
             library: &self.library,
             list: &[],
         };
-        Snapshot::read(alloc, &mut self.planes, &uses, zone, &mut self.workspace)
+        Snapshot::read(alloc, &self.planes, &uses, zone, &mut self.workspace)
     }
 
     /// Whether the layout still shows what was copied.
@@ -102,6 +102,6 @@ impl Layout {
             library: &self.library,
             list: &[],
         };
-        snapshot.same(&mut self.planes, &uses, &mut self.workspace)
+        snapshot.same(&self.planes, &uses, &mut self.workspace)
     }
 }

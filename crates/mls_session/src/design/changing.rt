@@ -152,17 +152,16 @@ impl Design {
 
     /// Lists the pieces that a change paints on each plane, and returns whether no plane would have more tiles than
     /// the quota then.
-    fn change_fits(&mut self, change: &Change<'_>, workspace: &mut Workspace) -> bool
-        requires home { IsHome workspace.old.pool self.old }
-        requires few_planes { length self.old.planes ≤ most_planes }
+    fn change_fits(&self, change: &Change<'_>, workspace: &mut Workspace) -> bool
+        requires home { IsHome workspace.old.pool self.now }
+        requires few_planes { length self.now.planes ≤ most_planes }
         requires can_change { CanChange workspace.old.pool change.now }
-        ensures fits { (config : Config) → config.tech.plane_count ≡ length self.old.planes
-            → config.quota ≡ self.old.quota
+        ensures fits { (config : Config) → config.tech.plane_count ≡ length self.now.planes
+            → config.quota ≡ self.now.quota
             → result ≡ not (exceeds_quota config
-            (changed_layout workspace.old.pool change.now (drawn_of workspace.old.pool self.old).paint)) }
-        ensures lists { IsTrue result → ListsChange workspace.old.pool change.now (length self.old.planes)
-            (drawn_of workspace.old.pool self.old).paint (map (λ list. list.items) workspace.new.plane_pieces.items) }
-        ensures same { self.new ≡ self.old }
+            (changed_layout workspace.old.pool change.now (drawn_of workspace.old.pool self.now).paint)) }
+        ensures lists { IsTrue result → ListsChange workspace.old.pool change.now (length self.now.planes)
+            (drawn_of workspace.old.pool self.now).paint (map (λ list. list.items) workspace.new.plane_pieces.items) }
         ensures pool { workspace.new.pool ≡ workspace.old.pool }
     {
         let limit = self.quota.get();
@@ -173,7 +172,7 @@ impl Design {
                 plane_pieces,
                 ..
             } = workspace;
-            let plane = &mut self.planes[i];
+            let plane = &self.planes[i];
             let pieces = &mut plane_pieces[i];
             change.list_pieces(pool, i, plane, pieces, scratch);
             if !fits(pool, plane, pieces, limit, scratch) {

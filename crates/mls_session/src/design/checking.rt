@@ -68,22 +68,21 @@ impl Design {
 
     /// Returns what a check of the first piece of the areas that await checking needs, if there is an area.
     pub fn grab(
-        &mut self,
+        &self,
         alloc: Global,
         setup: &Setup,
         workspace: &mut Workspace,
     ) -> Result<Option<Job>, AllocError>
-        requires home { IsHome workspace.old.pool self.old }
-        requires made_for { IsMadeFor setup.now self.old }
-        requires can_dump { CanDump setup.now workspace.old.pool (owners_of self.old) }
-        ensures grabbed { HasGrabbed setup.now.rules (length self.old.planes)
-            (layout_of (config_of setup.now workspace.old.pool) (drawn_of workspace.old.pool self.old))
-            (checking_of workspace.old.pool self.old.errors) result }
-        ensures same { self.new ≡ self.old }
+        requires home { IsHome workspace.old.pool self.now }
+        requires made_for { IsMadeFor setup.now self.now }
+        requires can_dump { CanDump setup.now workspace.old.pool (owners_of self.now) }
+        ensures grabbed { HasGrabbed setup.now.rules (length self.now.planes)
+            (layout_of (config_of setup.now workspace.old.pool) (drawn_of workspace.old.pool self.now))
+            (checking_of workspace.old.pool self.now.errors) result }
         ensures pool { workspace.new.pool ≡ workspace.old.pool }
     {
         let context = setup.context(&self.uses);
-        let planes = &mut self.planes;
+        let planes = &self.planes;
         self.errors.grab(alloc, planes, &context, workspace)
     }
 
@@ -103,7 +102,7 @@ impl Design {
     {
         let limit = self.quota.get();
         let context = setup.context(&self.uses);
-        let planes = &mut self.planes;
+        let planes = &self.planes;
         self.errors.step(alloc, planes, &context, limit, workspace)
     }
 
@@ -123,7 +122,7 @@ impl Design {
     {
         let limit = self.quota.get();
         let context = setup.context(&self.uses);
-        let planes = &mut self.planes;
+        let planes = &self.planes;
         self.errors
             .finish(planes, &context, finding, limit, workspace)
     }
@@ -151,7 +150,7 @@ impl Design {
     {
         let limit = self.quota.get();
         let context = setup.context(&self.uses);
-        let planes = &mut self.planes;
+        let planes = &self.planes;
         self.errors
             .settle(planes, &context, checked, limit, workspace)
     }
@@ -174,7 +173,7 @@ impl Design {
     {
         let limit = self.quota.get();
         let context = setup.context(&self.uses);
-        let planes = &mut self.planes;
+        let planes = &self.planes;
         let ended = self
             .errors
             .catch_up(alloc, planes, &context, limit, workspace);
@@ -187,13 +186,12 @@ impl Design {
 
     /// Returns the rules that forbid some square of the box.
     #[tactic(auto, unfolding(crate::specs::OwnSteps::design_step))]
-    pub fn why(&mut self, alloc: Global, setup: &Setup, workspace: &mut Workspace) -> Reply
-        requires home { IsHome workspace.old.pool self.old }
-        requires made_for { IsMadeFor setup.now self.old }
-        requires can_dump { CanDump setup.now workspace.old.pool (owners_of self.old) }
+    pub fn why(&self, alloc: Global, setup: &Setup, workspace: &mut Workspace) -> Reply
+        requires home { IsHome workspace.old.pool self.now }
+        requires made_for { IsMadeFor setup.now self.now }
+        requires can_dump { CanDump setup.now workspace.old.pool (owners_of self.now) }
         ensures why { DesignSteps (config_of setup.now workspace.old.pool)
-            (designed_of workspace.old.pool self.old) Command.Why result (designed_of workspace.old.pool self.new) }
-        ensures same { self.new ≡ self.old }
+            (designed_of workspace.old.pool self.now) Command.Why result (designed_of workspace.old.pool self.now) }
         ensures pool { workspace.new.pool ≡ workspace.old.pool }
     {
         let Some(rect) = self.box_rect else {
@@ -207,53 +205,51 @@ impl Design {
 
     /// Returns the rules that forbid some square of a rectangle.
     pub fn why_in(
-        &mut self,
+        &self,
         alloc: Global,
         setup: &Setup,
         rect: Rect,
         workspace: &mut Workspace,
     ) -> Result<RuleSet, AllocError>
-        requires home { IsHome workspace.old.pool self.old }
-        requires made_for { IsMadeFor setup.now self.old }
-        requires can_dump { CanDump setup.now workspace.old.pool (owners_of self.old) }
+        requires home { IsHome workspace.old.pool self.now }
+        requires made_for { IsMadeFor setup.now self.now }
+        requires can_dump { CanDump setup.now workspace.old.pool (owners_of self.now) }
         ensures value { IfOk result (λ violated. violated
             ≡ violated_rules setup.now.rules rect (layout_of (config_of setup.now workspace.old.pool)
-            (drawn_of workspace.old.pool self.old))) }
-        ensures same { self.new ≡ self.old }
+            (drawn_of workspace.old.pool self.now))) }
         ensures pool { workspace.new.pool ≡ workspace.old.pool }
     {
         let context = setup.context(&self.uses);
-        why(alloc, &mut self.planes, &context, rect, workspace)
+        why(alloc, &self.planes, &context, rect, workspace)
     }
 
     /// Returns what each rule forbids in a rectangle, by rising number.
     ///
     /// Fails where the rules forbid squares in more strips than a plane may have tiles, or memory runs out.
     pub fn violations_in(
-        &mut self,
+        &self,
         alloc: Global,
         setup: &Setup,
         rect: Rect,
         workspace: &mut Workspace,
     ) -> Result<Vec<Violation>, Unlisted>
-        requires home { IsHome workspace.old.pool self.old }
-        requires made_for { IsMadeFor setup.now self.old }
-        requires can_dump { CanDump setup.now workspace.old.pool (owners_of self.old) }
+        requires home { IsHome workspace.old.pool self.now }
+        requires made_for { IsMadeFor setup.now self.now }
+        requires can_dump { CanDump setup.now workspace.old.pool (owners_of self.now) }
         ensures value { IfOk result (λ found. found.items
             ≡ violations_in setup.now.rules rect (layout_of (config_of setup.now workspace.old.pool)
-            (drawn_of workspace.old.pool self.old))) }
+            (drawn_of workspace.old.pool self.now))) }
         ensures few { OnOk result (strip_count (violations_in setup.now.rules rect
-            (layout_of (config_of setup.now workspace.old.pool) (drawn_of workspace.old.pool self.old)))
+            (layout_of (config_of setup.now workspace.old.pool) (drawn_of workspace.old.pool self.now)))
             ≤ setup.now.quota) }
         ensures too_many { IfErr result (λ fault. IfTooMany fault (setup.now.quota
             < strip_count (violations_in setup.now.rules rect (layout_of (config_of setup.now workspace.old.pool)
-            (drawn_of workspace.old.pool self.old))))) }
-        ensures same { self.new ≡ self.old }
+            (drawn_of workspace.old.pool self.now))))) }
         ensures pool { workspace.new.pool ≡ workspace.old.pool }
     {
         let context = setup.context(&self.uses);
         let most = setup.quota.get() as usize;
-        violations(alloc, &mut self.planes, &context, rect, most, workspace)
+        violations(alloc, &self.planes, &context, rect, most, workspace)
     }
 
     /// Returns how many squares are marked, and how many areas await checking.

@@ -28,35 +28,34 @@ impl Design {
     /// Fails where a plane of the layout has more tiles than are listed of one, or memory runs out, and then appends
     /// nothing.
     pub fn mark_text(
-        &mut self,
+        &self,
         alloc: Global,
         setup: &Setup,
         out: &mut Vec<u8>,
         workspace: &mut Workspace,
     ) -> Result<usize, Unlisted>
-        requires home { IsHome workspace.old.pool self.old }
-        requires made_for { IsMadeFor setup.now self.old }
-        requires can_dump { CanDump setup.now workspace.old.pool (owners_of self.old) }
+        requires home { IsHome workspace.old.pool self.now }
+        requires made_for { IsMadeFor setup.now self.now }
+        requires can_dump { CanDump setup.now workspace.old.pool (owners_of self.now) }
         ensures count { IfOk result (λ lines. lines ≡ marked_line_count setup.now.tech
-            (layout_of (config_of setup.now workspace.old.pool) (drawn_of workspace.old.pool self.old))
-            self.old.errors.dirty (marks_picture (checking_of workspace.old.pool self.old.errors).marks)) }
+            (layout_of (config_of setup.now workspace.old.pool) (drawn_of workspace.old.pool self.now))
+            self.now.errors.dirty (marks_picture (checking_of workspace.old.pool self.now.errors).marks)) }
         ensures text { OnOk result (out.new.items ≡ out.old.items ++ marked_text setup.now.tech
-            (layout_of (config_of setup.now workspace.old.pool) (drawn_of workspace.old.pool self.old))
-            self.old.errors.dirty (marks_picture (checking_of workspace.old.pool self.old.errors).marks)) }
+            (layout_of (config_of setup.now workspace.old.pool) (drawn_of workspace.old.pool self.now))
+            self.now.errors.dirty (marks_picture (checking_of workspace.old.pool self.now.errors).marks)) }
         ensures few { OnOk result (exceeds_listed (config_of setup.now workspace.old.pool)
-            (layout_of (config_of setup.now workspace.old.pool) (drawn_of workspace.old.pool self.old)) ≡ false) }
+            (layout_of (config_of setup.now workspace.old.pool) (drawn_of workspace.old.pool self.now)) ≡ false) }
         ensures too_many { IfErr result (λ fault. IfTooMany fault
             (exceeds_listed (config_of setup.now workspace.old.pool)
-            (layout_of (config_of setup.now workspace.old.pool) (drawn_of workspace.old.pool self.old)) ≡ true)) }
+            (layout_of (config_of setup.now workspace.old.pool) (drawn_of workspace.old.pool self.now)) ≡ true)) }
         ensures refused { OnErr result (out.new.items ≡ out.old.items) }
-        ensures same { self.new ≡ self.old }
         ensures pool { workspace.new.pool ≡ workspace.old.pool }
     {
         // For its contract alone: the areas are few.
         self.has_legal_areas();
         let most = most_flat_tiles(self.quota.get(), setup.cell_tiles);
         let context = setup.context(&self.uses);
-        let layers = list_layers(alloc, &mut self.planes, &context.uses, most, workspace)?;
+        let layers = list_layers(alloc, &self.planes, &context.uses, most, workspace)?;
         let areas = self.errors.copy_areas(alloc)?;
         self.errors.list_marks(workspace);
         let lines = add_marked(&setup.tech, &layers, &areas, &workspace.pieces, out)?;
@@ -68,22 +67,21 @@ impl Design {
     ///
     /// Fails if memory runs out, and then appends nothing.
     pub fn error_text(
-        &mut self,
+        &self,
         alloc: Global,
         tech: &Tech,
         rect: Rect,
         out: &mut Vec<u8>,
         workspace: &mut Workspace,
     ) -> Result<usize, AllocError>
-        requires home { IsHome workspace.old.pool self.old }
+        requires home { IsHome workspace.old.pool self.now }
         ensures count { IfOk result (λ lines. lines ≡ marked_line_count tech.now empty_layout
-            (areas_in rect self.old.errors.dirty)
-            (marks_picture (squares_in rect (checking_of workspace.old.pool self.old.errors).marks))) }
+            (areas_in rect self.now.errors.dirty)
+            (marks_picture (squares_in rect (checking_of workspace.old.pool self.now.errors).marks))) }
         ensures text { OnOk result (out.new.items ≡ out.old.items ++ marked_text tech.now empty_layout
-            (areas_in rect self.old.errors.dirty)
-            (marks_picture (squares_in rect (checking_of workspace.old.pool self.old.errors).marks))) }
+            (areas_in rect self.now.errors.dirty)
+            (marks_picture (squares_in rect (checking_of workspace.old.pool self.now.errors).marks))) }
         ensures refused { OnErr result (out.new.items ≡ out.old.items) }
-        ensures same { self.new ≡ self.old }
         ensures pool { workspace.new.pool ≡ workspace.old.pool }
     {
         // For its contract alone: the areas are few.

@@ -84,20 +84,19 @@ impl Design {
     ///
     /// Runs out of memory only where cells are placed.
     #[tactic(auto, unfolding(crate::specs::OwnSteps::design_step))]
-    pub fn what(&mut self, alloc: Global, setup: &Setup, workspace: &mut Workspace) -> Reply
-        requires home { IsHome workspace.old.pool self.old }
-        requires made_for { IsMadeFor setup.now self.old }
-        requires can_dump { CanDump setup.now workspace.old.pool (owners_of self.old) }
+    pub fn what(&self, alloc: Global, setup: &Setup, workspace: &mut Workspace) -> Reply
+        requires home { IsHome workspace.old.pool self.now }
+        requires made_for { IsMadeFor setup.now self.now }
+        requires can_dump { CanDump setup.now workspace.old.pool (owners_of self.now) }
         ensures step { DesignSteps (config_of setup.now workspace.old.pool)
-            (designed_of workspace.old.pool self.old) Command.What result (designed_of workspace.old.pool self.new) }
-        ensures same { self.new ≡ self.old }
+            (designed_of workspace.old.pool self.now) Command.What result (designed_of workspace.old.pool self.now) }
         ensures pool { workspace.new.pool ≡ workspace.old.pool }
     {
         let Some(rect) = self.box_rect else {
             return Reply::Refused(Refusal::NoBox);
         };
         let context = setup.context(&self.uses);
-        match types_in(alloc, &mut self.planes, &context.uses, rect, workspace) {
+        match types_in(alloc, &self.planes, &context.uses, rect, workspace) {
             Ok(found) => Reply::Kinds(found),
             Err(_) => Reply::Refused(Refusal::Memory),
         }
@@ -109,23 +108,22 @@ impl Design {
 /// Runs out of memory only where there are uses.
 fn types_in(
     alloc: Global,
-    planes: &mut [Plane],
+    planes: &[Plane],
     uses: &Uses<'_>,
     rect: Rect,
     workspace: &mut Workspace,
 ) -> Result<KindSet, AllocError>
-    requires planes { All (HasPlane workspace.old.pool) planes.old }
-    requires planes_fit { All (FitsWorkspace workspace.old.pool) planes.old }
+    requires planes { All (HasPlane workspace.old.pool) planes.now }
+    requires planes_fit { All (FitsWorkspace workspace.old.pool) planes.now }
     requires cells { AreCellsHome workspace.old.pool uses.now.library.now }
     ensures value { IfOk result (λ found. found
-        ≡ types_in (length planes.old) (flat_layout workspace.old.pool uses.now planes.old) rect) }
+        ≡ types_in (length planes.now) (flat_layout workspace.old.pool uses.now planes.now) rect) }
     ensures without_uses { uses.now.list.now ≡ [] → IsOk result }
-    ensures owners { planes.new ≡ planes.old }
     ensures pool { workspace.new.pool ≡ workspace.old.pool }
 {
     let mut found = KindSet::empty();
     for number in 0..planes.len() {
-        let more = kinds(alloc, number, &mut planes[number], uses, rect, workspace)?;
+        let more = kinds(alloc, number, &planes[number], uses, rect, workspace)?;
         found = found.union(more);
     }
     Ok(found)

@@ -22,17 +22,16 @@ impl Session {
     /// Returns what a check of the first piece of the areas that await checking needs, if there is an area. Nothing
     /// changes.
     pub fn grab(
-        &mut self,
+        &self,
         alloc: Global,
         setup: &Setup,
         workspace: &mut Workspace,
     ) -> Result<Option<Job>, AllocError>
-        requires ready { IsReady setup.now workspace.old.pool self.old }
-        ensures grabbed { HasGrabbed setup.now.rules (length self.old.design.planes)
+        requires ready { IsReady setup.now workspace.old.pool self.now }
+        ensures grabbed { HasGrabbed setup.now.rules (length self.now.design.planes)
             (layout_of (config_of setup.now workspace.old.pool)
-            (state_of workspace.old.pool self.old).design.drawn)
-            (state_of workspace.old.pool self.old).design.checking result }
-        ensures same { self.new ≡ self.old }
+            (state_of workspace.old.pool self.now).design.drawn)
+            (state_of workspace.old.pool self.now).design.checking result }
         ensures pool { workspace.new.pool ≡ workspace.old.pool }
     {
         self.design.grab(alloc, setup, workspace)

@@ -27,27 +27,26 @@ impl Session {
     /// as an empty one. Where nothing in a rectangle awaits checking, what [`Look::Violations`] returns has the marked
     /// squares.
     pub fn look(
-        &mut self,
+        &self,
         alloc: Global,
         setup: &Setup,
         look: Look,
         out: &mut Vec<u8>,
         workspace: &mut Workspace,
     ) -> Looked
-        requires ready { IsReady setup.now workspace.old.pool self.old }
+        requires ready { IsReady setup.now workspace.old.pool self.now }
         ensures looks { (text : List ℕ) × Looks (terms_of setup.now workspace.old.pool)
-            (kept_of workspace.old.pool self.old) look result text × (out.new.items ≡ out.old.items ++ text) }
+            (kept_of workspace.old.pool self.now) look result text × (out.new.items ≡ out.old.items ++ text) }
         ensures reads_back { OnMarks look (IsLegal (terms_of setup.now workspace.old.pool)
-            (kept_of workspace.old.pool self.old)
-            → MarksReadBack (terms_of setup.now workspace.old.pool) (kept_of workspace.old.pool self.old)) }
+            (kept_of workspace.old.pool self.now)
+            → MarksReadBack (terms_of setup.now workspace.old.pool) (kept_of workspace.old.pool self.now)) }
         ensures errors_read_back { ErrorsReadBack (terms_of setup.now workspace.old.pool)
-            (kept_of workspace.old.pool self.old) }
+            (kept_of workspace.old.pool self.now) }
         ensures violations_are_marks { ViolationsAreMarks (terms_of setup.now workspace.old.pool)
-            (kept_of workspace.old.pool self.old) }
+            (kept_of workspace.old.pool self.now) }
         ensures room { look ≡ Look.Save → result ≡ Looked.Refused Refusal.Memory → vec_capacity out.old
             < vec_len out.old + length (saved_text setup.now.tech
-            (state_of workspace.old.pool self.old).design.drawn.paint) }
-        ensures same { self.new ≡ self.old }
+            (state_of workspace.old.pool self.now).design.drawn.paint) }
         ensures pool { workspace.new.pool ≡ workspace.old.pool }
     {
         // For its contract alone: what holds at each rectangle.
@@ -122,18 +121,17 @@ impl Session {
 
     /// Returns the rules that forbid some square of a rectangle, or why there is no such rectangle.
     fn look_at_rules(
-        &mut self,
+        &self,
         alloc: Global,
         setup: &Setup,
         made: Result<Rect, RectFault>,
         workspace: &mut Workspace,
     ) -> Looked
-        requires ready { IsReady setup.now workspace.old.pool self.old }
+        requires ready { IsReady setup.now workspace.old.pool self.now }
         ensures looks { (result ≡ why_in setup.now.rules
             (layout_of (config_of setup.now workspace.old.pool)
-            (state_of workspace.old.pool self.old).design.drawn) made)
+            (state_of workspace.old.pool self.now).design.drawn) made)
             ⊎ (IsRect made × (result ≡ Looked.Refused Refusal.Memory)) }
-        ensures same { self.new ≡ self.old }
         ensures pool { workspace.new.pool ≡ workspace.old.pool }
     {
         match made {
@@ -200,18 +198,17 @@ impl Session {
     /// Appends the text of the layout with the areas that await checking and the marks, and returns the number of its
     /// lines.
     fn look_at_marks(
-        &mut self,
+        &self,
         alloc: Global,
         setup: &Setup,
         out: &mut Vec<u8>,
         workspace: &mut Workspace,
     ) -> Looked
-        requires ready { IsReady setup.now workspace.old.pool self.old }
+        requires ready { IsReady setup.now workspace.old.pool self.now }
         ensures looks { (text : List ℕ) × Looks (terms_of setup.now workspace.old.pool)
-            (kept_of workspace.old.pool self.old) Look.Marks result text × (out.new.items ≡ out.old.items ++ text) }
-        ensures reads_back { IsLegal (terms_of setup.now workspace.old.pool) (kept_of workspace.old.pool self.old)
-            → MarksReadBack (terms_of setup.now workspace.old.pool) (kept_of workspace.old.pool self.old) }
-        ensures same { self.new ≡ self.old }
+            (kept_of workspace.old.pool self.now) Look.Marks result text × (out.new.items ≡ out.old.items ++ text) }
+        ensures reads_back { IsLegal (terms_of setup.now workspace.old.pool) (kept_of workspace.old.pool self.now)
+            → MarksReadBack (terms_of setup.now workspace.old.pool) (kept_of workspace.old.pool self.now) }
         ensures pool { workspace.new.pool ≡ workspace.old.pool }
     {
         // For its contract alone: the text reads as the layout.
@@ -226,19 +223,18 @@ impl Session {
     /// Appends the text of the marks and of the areas that await checking in a rectangle, and returns the number of its
     /// lines, or why there is no such rectangle.
     fn look_at_errors(
-        &mut self,
+        &self,
         alloc: Global,
         setup: &Setup,
         made: Result<Rect, RectFault>,
         out: &mut Vec<u8>,
         workspace: &mut Workspace,
     ) -> Looked
-        requires ready { IsReady setup.now workspace.old.pool self.old }
+        requires ready { IsReady setup.now workspace.old.pool self.now }
         ensures looks { (text : List ℕ) × ((errors_of setup.now.tech
-            (state_of workspace.old.pool self.old).design.checking made ≡ (result, text))
+            (state_of workspace.old.pool self.now).design.checking made ≡ (result, text))
             ⊎ (IsRect made × (result ≡ Looked.Refused Refusal.Memory) × (text ≡ [])))
             × (out.new.items ≡ out.old.items ++ text) }
-        ensures same { self.new ≡ self.old }
         ensures pool { workspace.new.pool ≡ workspace.old.pool }
     {
         match made {
@@ -255,18 +251,17 @@ impl Session {
 
     /// Returns what each rule forbids in a rectangle, or why it isn't listed.
     fn look_at_violations(
-        &mut self,
+        &self,
         alloc: Global,
         setup: &Setup,
         made: Result<Rect, RectFault>,
         workspace: &mut Workspace,
     ) -> Looked
-        requires ready { IsReady setup.now workspace.old.pool self.old }
+        requires ready { IsReady setup.now workspace.old.pool self.now }
         ensures looks { (result ≡ violations_of setup.now.quota setup.now.rules
             (layout_of (config_of setup.now workspace.old.pool)
-            (state_of workspace.old.pool self.old).design.drawn) made)
+            (state_of workspace.old.pool self.now).design.drawn) made)
             ⊎ (IsRect made × (result ≡ Looked.Refused Refusal.Memory)) }
-        ensures same { self.new ≡ self.old }
         ensures pool { workspace.new.pool ≡ workspace.old.pool }
     {
         match made {

@@ -86,7 +86,7 @@ impl Canvas {
         requires pieces { length over.now ≤ 4000 }
         requires limit { limit ≤ 16448 }
     {
-        fits(&self.pool, &mut self.plane, over, limit, &mut self.scratch)
+        fits(&self.pool, &self.plane, over, limit, &mut self.scratch)
     }
 
     /// Returns the number of tiles.

@@ -7,10 +7,10 @@ use Rattle.mls_checker.proofs.map_words.add_common.Goals as goal
 
 pub loop-row-preserved : goal.loop-row-preserved
 loop-row-preserved c r k below =
-    let one = c.args.one.now.map.now in
-    let other = c.args.other.now.map.now in
-    let first = c.args.one.now.places in
-    let second = c.args.other.now.places in
+    let one = c.args.one.map.now in
+    let other = c.args.other.map.now in
+    let first = c.args.one.places in
+    let second = c.args.other.places in
     one-more-on c.args.map.now c.loop-row.map c.loop-row.row _ _ r k (has_place one (64 * r + k + first) && has_place other (64 * r + k + second)) (omega arith) refl
     (λ same. has_bit-and c.word.result c.word-in-loop-row.result k
     ∙ ap (λ b. b && has_bit c.word-in-loop-row.result k) (c.word.ensures k below)
@@ -21,5 +21,5 @@ loop-row-preserved c r k below =
 pub returns : goal.returns
 returns c n within within' =
     all-gained (has_place c.args.map.now) (has_place c.loop-row.map)
-    (λ m. has_place c.args.one.now.map.now (m + c.args.one.now.places) && has_place c.args.other.now.map.now (m + c.args.other.now.places)) c.loop-row.row n
+    (λ m. has_place c.args.one.map.now (m + c.args.one.places) && has_place c.args.other.map.now (m + c.args.other.places)) c.loop-row.row n
     (c.loop-row.invariant (n / 64) (n % 64) (omega arith)) (omega arith)

@@ -7,12 +7,12 @@ use Rattle.mls_checker.proofs.map_words.add_common_of_three.Goals as goal
 
 pub loop-row-preserved : goal.loop-row-preserved
 loop-row-preserved c r k below =
-    let one = c.args.one.now.map.now in
-    let other = c.args.other.now.map.now in
-    let last = c.args.last.now.map.now in
-    let first = c.args.one.now.places in
-    let second = c.args.other.now.places in
-    let third = c.args.last.now.places in
+    let one = c.args.one.map.now in
+    let other = c.args.other.map.now in
+    let last = c.args.last.map.now in
+    let first = c.args.one.places in
+    let second = c.args.other.places in
+    let third = c.args.last.places in
     one-more-on c.args.map.now c.loop-row.map c.loop-row.row _ _ r k
     ((has_place one (64 * r + k + first) && has_place other (64 * r + k + second)) && has_place last (64 * r + k + third)) (omega arith) refl
     (λ same. has_bit-and _ c.word-in-loop-row-2.result k
@@ -26,5 +26,5 @@ loop-row-preserved c r k below =
 pub returns : goal.returns
 returns c n within within' within'' =
     all-gained (has_place c.args.map.now) (has_place c.loop-row.map)
-    (λ m. (has_place c.args.one.now.map.now (m + c.args.one.now.places) && has_place c.args.other.now.map.now (m + c.args.other.now.places)) && has_place c.args.last.now.map.now (m + c.args.last.now.places)) c.loop-row.row n
+    (λ m. (has_place c.args.one.map.now (m + c.args.one.places) && has_place c.args.other.map.now (m + c.args.other.places)) && has_place c.args.last.map.now (m + c.args.last.places)) c.loop-row.row n
     (c.loop-row.invariant (n / 64) (n % 64) (omega arith)) (omega arith)

@@ -7,7 +7,6 @@ use Rattle.mls_tilepool.specs.Pools.{Pool}
 use Rattle.mls_checker.specs.FlatZones.{lines_after}
 use Rattle.mls_checker.specs.Tiles.{tiles_picture}
 use Rattle.mls_checker.proofs.FlatBlocks.{BlocksSame, BlocksSame-all, BlocksSame-first, BlocksSame-next, SameIn-block, block_from-IsBlock, lines_left, lines_left-fewer, tiles-in_block}
-use Rattle.mls_layout.proofs.LentPlanes.{lent, lent-same}
 use Rattle.mls_checker.proofs.zone_blocks.show_flat.Goals as goal
 
 pub rows-init : goal.rows-init
@@ -17,7 +16,6 @@ rows-init c =
       same = BlocksSame-first c.args.at.zone (tiles_picture c.args.tiles.now) (flat_plane c.args.workspace.now.pool c.args.uses.now c.args.at.number c.args.plane.now)
           c.lines.inside.left c.lines.inside.bottom (ap (λ (e : Rect). e.left) same) (ap (λ (e : Rect). e.bottom) same) c.area-lines.ensures.legal;
       flat = c.requires.flat;
-      owner = refl;
       pool = refl;
     }
 
@@ -39,8 +37,7 @@ has_tiles-requires c =
 pub returns-then-not-has_tiles-clause-same : goal.returns-then-not-has_tiles-clause-same
 returns-then-not-has_tiles-clause-same c =
     let has = tiles-in_block c.args.at.zone c.block_from-block.result c.rows.left c.rows.bottom _ _ _ _ c.args.tiles.now c.requires.tiles c.area-lines.ensures.legal c.rows.invariant.same
-    (omega (arith, c.rows-test.true, ap (λ (e : Rect). e.top) (c.lines.view_is ∙ c.area-lines.ensures.value))) c.block_from-block.ensures (lent-same (λ (p : Pool). flat_plane p c.args.uses.now c.args.at.number)
-    c.args.workspace.now.pool c.rows.workspace.pool c.args.plane.now c.rows.plane c.rows.invariant.pool c.rows.invariant.owner) c.flatten.ensures.shown in
+    (omega (arith, c.rows-test.true, ap (λ (e : Rect). e.top) (c.lines.view_is ∙ c.area-lines.ensures.value))) c.block_from-block.ensures (ap (λ (p : Pool). flat_plane p c.args.uses.now c.args.at.number c.args.plane.now) c.rows.invariant.pool) c.flatten.ensures.shown in
     let so_far = c.rows.invariant.same in (
       λ h. absurd (false≢true h),
       λ same. c.if-not-has_tiles.ensures.1 (has.1 (SameIn-block c.args.at.zone (tiles_picture c.args.tiles.now)
@@ -50,8 +47,7 @@ returns-then-not-has_tiles-clause-same c =
 pub rows-preserved : goal.rows-preserved
 rows-preserved c =
     let has = tiles-in_block c.args.at.zone c.block_from-block.result c.rows.left c.rows.bottom _ _ _ _ c.args.tiles.now c.requires.tiles c.area-lines.ensures.legal c.rows.invariant.same
-    (omega (arith, c.rows-test.true, ap (λ (e : Rect). e.top) (c.lines.view_is ∙ c.area-lines.ensures.value))) c.block_from-block.ensures (lent-same (λ (p : Pool). flat_plane p c.args.uses.now c.args.at.number)
-    c.args.workspace.now.pool c.rows.workspace.pool c.args.plane.now c.rows.plane c.rows.invariant.pool c.rows.invariant.owner) c.flatten.ensures.shown in
+    (omega (arith, c.rows-test.true, ap (λ (e : Rect). e.top) (c.lines.view_is ∙ c.area-lines.ensures.value))) c.block_from-block.ensures (ap (λ (p : Pool). flat_plane p c.args.uses.now c.args.at.number c.args.plane.now) c.rows.invariant.pool) c.flatten.ensures.shown in
     let zone = c.args.at.zone in
     let mine = tiles_picture c.args.tiles.now in
     let flat = flat_plane c.args.workspace.now.pool c.args.uses.now c.args.at.number c.args.plane.now in
@@ -60,9 +56,7 @@ rows-preserved c =
     record {
       same = subst (λ (lines : ℕ × ℕ). BlocksSame zone mine flat lines.0 lines.1) (sym (c.lines_after-next.ensures ∙ ap (lines_after zone) c.block_from-block.ensures))
           (BlocksSame-next zone mine flat c.rows.left c.rows.bottom so_far.same high (has.0 (c.if-not-has_tiles.ensures.0 refl)));
-      flat = lent (λ (p : Pool) (owner : ℕ). HasFlatPlane p owner c.args.uses.now.library.now) c.rows.workspace.pool c.flatten.new.workspace.pool c.rows.plane c.flatten.new.plane
-          c.flatten.ensures.pool c.flatten.ensures.owner so_far.flat;
-      owner = c.flatten.ensures.owner ∙ so_far.owner;
+      flat = subst (λ (p : Pool). HasFlatPlane p c.args.plane.now c.args.uses.now.library.now) (sym c.flatten.ensures.pool) so_far.flat;
       pool = c.flatten.ensures.pool ∙ so_far.pool;
     }
 

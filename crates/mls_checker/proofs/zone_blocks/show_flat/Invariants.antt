@@ -8,8 +8,7 @@ use Rattle.mls_checker.proofs.zone_blocks.show_flat.Given as goal
 abbrev pub invariant-rows : goal.invariant-rows
 invariant-rows l = record {
   same : BlocksSame l.fn.at.zone (tiles_picture l.fn.tiles) (flat_plane l.fn.workspace.pool l.fn.uses l.fn.at.number l.fn.plane) l.left l.bottom;
-  flat : HasFlatPlane l.workspace.pool l.plane l.fn.uses.library.now;
-  owner : l.plane ≡ l.fn.plane;
+  flat : HasFlatPlane l.workspace.pool l.fn.plane l.fn.uses.library.now;
   pool : l.workspace.pool ≡ l.fn.workspace.pool;
 }
 

@@ -1,11 +1,10 @@
-use Rattle.std.proofs.Common.{◌≡◌, ◌<◌, [], ◌∷◌, length, length-append, ap, ◌∙◌, arith}
+use Rattle.std.proofs.Common.{◌≡◌, ◌<◌, [], ◌∷◌, length, length-append, ◌∙◌, arith}
 use Rattle.std.proofs.lemmas.List.Elements.{All-push}
 use Rattle.mls_layout.specs.Uses.{flat_layout, flat_plane}
 use Rattle.mls_checker.specs.Copies.{IsOfZone, plane_picture}
 use Rattle.mls_checker.specs.ZoneLayouts.{within}
 use Rattle.mls_checker.proofs.Copying.{cut}
 use Rattle.mls_checker.proofs.FlatPlanes.{cut-IsOfZone, flat-at, flat-by_copies, planes_layout-push}
-use Rattle.mls_layout.proofs.LentPlanes.{given_back}
 use Rattle.mls_checker.proofs.zone_planes.read_planes.Goals as goal
 
 pub loop-index-preserved : goal.loop-index-preserved
@@ -19,15 +18,14 @@ loop-index-preserved c =
     let owner = c.index-planes-index.result in
     let index = c.loop-index.index in
     let now = c.loop-index.workspace.pool in
-    let below : index < length owners = omega (arith, ap length so_far.owners) in
-    let here : plane_picture copy ≡ cut (flat_plane now uses index owner) zone = rw (← c.index-planes-index.is) at c.in_ok-read.ensures.picture in
-    let flat = flat-at c.args.workspace.now.pool now uses owners c.loop-index.planes zone index owner so_far.pool so_far.owners below c.index-planes-index.is in
+    let below : index < length owners = omega (arith, c.loop-index-test.true) in
+    let here : plane_picture copy ≡ cut (flat_plane now uses index owner) zone = c.in_ok-read.ensures.picture in
+    let flat = flat-at c.args.workspace.now.pool now uses owners zone index owner so_far.pool below c.index-planes-index.is in
     rw c.in_ok-push.ensures.items
     (record {
       zone = All-push (IsOfZone zone) copies copy so_far.zone (cut-IsOfZone zone copy (flat_plane now uses index owner) here);
       count = omega (arith, length-append copies (copy ∷ []), so_far.count);
       copies = planes_layout-push copies copy (within zone (flat_layout c.args.workspace.now.pool uses owners)) index so_far.count so_far.copies (here ∙ flat);
-      owners = given_back c.loop-index.planes index owner c.read.new.plane c.read.ensures.owner ∙ so_far.owners;
       pool = c.read.ensures.pool ∙ so_far.pool;
     })
 
@@ -36,7 +34,7 @@ returns-clause-copies c =
     let owners = c.args.planes.now in
     let so_far = c.loop-index.invariant in
     let copies = c.loop-index.copies.items in
-    let as_many : length copies ≡ length owners = omega (arith, so_far.count, ap length so_far.owners) in
+    let as_many : length copies ≡ length owners = omega (arith, so_far.count, c.loop-index-test.false) in
     record {
       of_zone = so_far.zone;
       as_many = as_many;

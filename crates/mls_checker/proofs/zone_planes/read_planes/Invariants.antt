@@ -1,4 +1,4 @@
--- The copies so far show what the layout has in the zone with the uses, and no owner has changed.
+-- The copies so far show what the layout has in the zone with the uses.
 use Rattle.std.proofs.Common.{◌≡◌, ℕ, ◌<◌, length}
 use Rattle.mls_layout.specs.Uses.{flat_layout}
 use Rattle.mls_checker.specs.Copies.{AreOfZone}
@@ -11,6 +11,5 @@ invariant-loop-index l = record {
   zone : AreOfZone l.fn.zone l.copies.items;
   count : length l.copies.items ≡ l.index;
   copies : (plane : ℕ) → plane < l.index → planes_layout l.copies.items plane ≡ within l.fn.zone (flat_layout l.fn.workspace.pool l.fn.uses l.fn.planes) plane;
-  owners : l.planes ≡ l.fn.planes;
   pool : l.workspace.pool ≡ l.fn.workspace.pool;
 }

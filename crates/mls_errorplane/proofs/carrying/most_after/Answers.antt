@@ -20,8 +20,8 @@ returns-clause-room c =
     let pool = c.args.pool.now in
     let owner = c.args.plane.now in
     let rect = c.args.rect in
-    let found = c.find_meeting_in.new.scratch.tiles in
-    let are = subst (λ (e : Rect). MeetArea (block_at (tiles_of pool owner)) e found) c.rows_from.ensures c.find_meeting_in.ensures.found in
+    let found = c.find_meeting.new.scratch.tiles in
+    let are = subst (λ (e : Rect). MeetArea (block_at (tiles_of pool owner)) e found) c.rows_from.ensures c.find_meeting.ensures.found in
     let counted = ap length c.tiles-tiles.ensures in
     IfSome-leads c.most_beside.result
     (λ most is.

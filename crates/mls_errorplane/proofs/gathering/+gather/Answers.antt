@@ -1,8 +1,7 @@
-use Rattle.std.proofs.Common.{ℕ, List, subst, ◌∙◌}
+use Rattle.std.proofs.Common.{ap, subst, ◌∙◌}
 use Rattle.std.proofs.lemmas.Result.{on_ok_weaker}
 use Rattle.mls_tilepool.specs.Pools.{Pool}
 use Rattle.mls_layout.specs.Uses.{flat_layout}
-use Rattle.mls_layout.proofs.LentPlanes.{lent-same}
 use Rattle.mls_geom.specs.Layouts.{Layout}
 use Rattle.mls_checker.specs.Violations.{GainViolations}
 use Rattle.mls_errorplane.proofs.GatheredViolations.{GainViolations-halves}
@@ -14,15 +13,12 @@ returns-in_default-clause-gathered t c = c.in_ok-cut.ensures.gathered c.in_defau
 pub returns-clause-gathered : goal.returns-clause-gathered
 returns-clause-gathered t c =
     let rules = c.args.context.now.rules.now in
-    let shown = λ (pool : Pool) (planes : List ℕ). flat_layout pool c.args.context.now.uses planes in
-    let pool = c.args.workspace.now.pool in
-    let planes = c.args.planes.now in
-    let layout = shown pool planes in
+    let shown = λ (pool : Pool). flat_layout pool c.args.context.now.uses c.args.planes.now in
+    let layout = shown c.args.workspace.now.pool in
     let halves = rw c.in-Some.is at c.in_ok-cut.ensures.halves in
     let some = rw c.in-Some.is at c.in_ok-cut.ensures.some in
-    let first = lent-same shown pool c.gather_or_cut.new.workspace.pool planes c.gather_or_cut.new.planes c.in_ok-cut.ensures.pool c.in_ok-cut.ensures.owners in
-    let second = lent-same shown pool c.gather.new.workspace.pool planes c.gather.new.planes
-    (c.in_ok-gather.ensures.pool ∙ c.in_ok-cut.ensures.pool) (c.in_ok-gather.ensures.owners ∙ c.in_ok-cut.ensures.owners) in
+    let first = ap shown c.in_ok-cut.ensures.pool in
+    let second = ap shown (c.in_ok-gather.ensures.pool ∙ c.in_ok-cut.ensures.pool) in
     on_ok_weaker c.gather-2.result
     (λ gains.
     GainViolations-halves rules c.args.of c.args.rect c.in-Some.parts.0 c.in-Some.parts.1 layout c.args.found.now c.gather_or_cut.new.found c.gather.new.found c.gather-2.new.found

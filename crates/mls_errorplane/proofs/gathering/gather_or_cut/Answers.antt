@@ -1,7 +1,6 @@
-use Rattle.std.proofs.Common.{◌≡◌, ℕ, List, ap, subst, ◌∙◌}
+use Rattle.std.proofs.Common.{◌≡◌, ap, subst, ◌∙◌}
 use Rattle.mls_tilepool.specs.Pools.{Pool}
 use Rattle.mls_layout.specs.Uses.{flat_layout}
-use Rattle.mls_layout.proofs.LentPlanes.{lent-same}
 use Rattle.mls_geom.specs.Layouts.{Layout}
 use Rattle.mls_checker.specs.Copies.{copied_layout}
 use Rattle.mls_checker.specs.Halos.{zone_of}
@@ -20,8 +19,7 @@ returns-then-is_gathered-clause-gathered c none =
     let rect = c.args.rect in
     let pool = c.args.workspace.now.pool in
     let layout = flat_layout pool c.args.context.now.uses c.args.planes.now in
-    let same = lent-same (λ (p : Pool) (owners : List ℕ). flat_layout p c.args.context.now.uses owners) pool c.halves.new.workspace.pool c.args.planes.now c.halves.new.planes
-    c.halves.ensures.pool c.halves.ensures.owners in
+    let same = ap (λ (p : Pool). flat_layout p c.args.context.now.uses c.args.planes.now) c.halves.ensures.pool in
     let copied : copied_layout c.in_ok-snapshot.snapshot ≡ within (zone_of rules rect) layout = c.in_ok-snapshot.ensures.copied ∙ ap (within (zone_of rules rect)) same in
     GainViolations-zone rules c.args.of rect layout c.args.found.now c.find.new.self c.in_ok-snapshot.ensures.legal (flat-AgreeOutside pool c.args.context.now.uses c.args.planes.now c.requires.layout.planes.each)
     (subst (λ (l : Layout). GainViolations rules c.args.of rect l c.args.found.now c.find.new.self) copied (c.in_ok-is_gathered.ensures.found c.if-is_gathered.true))
@@ -32,8 +30,7 @@ returns-clause-some c =
     let rect = c.args.rect in
     let pool = c.args.workspace.now.pool in
     let layout = flat_layout pool c.args.context.now.uses c.args.planes.now in
-    let same = lent-same (λ (p : Pool) (owners : List ℕ). flat_layout p c.args.context.now.uses owners) pool c.halves.new.workspace.pool c.args.planes.now c.halves.new.planes
-    c.halves.ensures.pool c.halves.ensures.owners in
+    let same = ap (λ (p : Pool). flat_layout p c.args.context.now.uses c.args.planes.now) c.halves.ensures.pool in
     let copied : copied_layout c.in_ok-snapshot.snapshot ≡ within (zone_of rules rect) layout = c.in_ok-snapshot.ensures.copied ∙ ap (within (zone_of rules rect)) same in
     GainSomeViolations-zone rules c.args.of rect layout c.args.found.now c.find.new.self c.in_ok-snapshot.ensures.legal (flat-AgreeOutside pool c.args.context.now.uses c.args.planes.now c.requires.layout.planes.each)
     (subst (λ (l : Layout). GainSomeViolations rules c.args.of rect l c.args.found.now c.find.new.self) copied (c.in_ok-is_gathered.ensures.some c.if-is_gathered.false))

@@ -1,7 +1,6 @@
-use Rattle.std.proofs.Common.{ℕ, List, ap, subst, sym, ◌∙◌, arith}
+use Rattle.std.proofs.Common.{ap, subst, sym, ◌∙◌, arith}
 use Rattle.mls_tilepool.specs.Pools.{Pool}
 use Rattle.mls_layout.specs.Uses.{flat_layout}
-use Rattle.mls_layout.proofs.LentPlanes.{lent-same}
 use Rattle.mls_geom.specs.Layouts.{Layout}
 use Rattle.mls_checker.specs.Violations.{GainViolations}
 use Rattle.mls_errorplane.specs.Violations.{strip_count}
@@ -23,11 +22,10 @@ returns-then-is_empty-clause-within c =
 pub returns-clause-value : goal.returns-clause-value
 returns-clause-value c =
     let rules = c.args.context.now.rules.now in
-    let pool = c.args.workspace.now.pool in
-    let shown = λ (p : Pool) (planes : List ℕ). flat_layout p c.args.context.now.uses planes in
-    let layout = shown pool c.args.planes.now in
+    let shown = λ (pool : Pool). flat_layout pool c.args.context.now.uses c.args.planes.now in
+    let layout = shown c.args.workspace.now.pool in
     let violated = c.in_ok-violated.violated in
-    let lent = lent-same shown pool c.why.new.workspace.pool c.args.planes.now c.why.new.planes c.in_ok-violated.ensures.pool c.in_ok-violated.ensures.owners in
+    let lent = ap shown c.in_ok-violated.ensures.pool in
     let gained = subst (λ (l : Layout). GainViolations rules violated c.args.rect l c.in_ok-found.found c.gather.new.found) lent c.in_ok-gather.ensures.gathered in
     let same = listed-violations rules violated c.args.rect layout c.in_ok-found.found c.gather.new.found c.in_ok-violated.ensures.value c.in_ok-found.ensures.none gained in
     rw same at c.list_violations.ensures.value
@@ -35,11 +33,10 @@ returns-clause-value c =
 pub returns-clause-within : goal.returns-clause-within
 returns-clause-within c =
     let rules = c.args.context.now.rules.now in
-    let pool = c.args.workspace.now.pool in
-    let shown = λ (p : Pool) (planes : List ℕ). flat_layout p c.args.context.now.uses planes in
-    let layout = shown pool c.args.planes.now in
+    let shown = λ (pool : Pool). flat_layout pool c.args.context.now.uses c.args.planes.now in
+    let layout = shown c.args.workspace.now.pool in
     let violated = c.in_ok-violated.violated in
-    let lent = lent-same shown pool c.why.new.workspace.pool c.args.planes.now c.why.new.planes c.in_ok-violated.ensures.pool c.in_ok-violated.ensures.owners in
+    let lent = ap shown c.in_ok-violated.ensures.pool in
     let gained = subst (λ (l : Layout). GainViolations rules violated c.args.rect l c.in_ok-found.found c.gather.new.found) lent c.in_ok-gather.ensures.gathered in
     let same = listed-violations rules violated c.args.rect layout c.in_ok-found.found c.gather.new.found c.in_ok-violated.ensures.value c.in_ok-found.ensures.none gained in
     rw same at c.list_violations.ensures.within
@@ -47,11 +44,10 @@ returns-clause-within c =
 pub returns-clause-too_many : goal.returns-clause-too_many
 returns-clause-too_many c =
     let rules = c.args.context.now.rules.now in
-    let pool = c.args.workspace.now.pool in
-    let shown = λ (p : Pool) (planes : List ℕ). flat_layout p c.args.context.now.uses planes in
-    let layout = shown pool c.args.planes.now in
+    let shown = λ (pool : Pool). flat_layout pool c.args.context.now.uses c.args.planes.now in
+    let layout = shown c.args.workspace.now.pool in
     let violated = c.in_ok-violated.violated in
-    let lent = lent-same shown pool c.why.new.workspace.pool c.args.planes.now c.why.new.planes c.in_ok-violated.ensures.pool c.in_ok-violated.ensures.owners in
+    let lent = ap shown c.in_ok-violated.ensures.pool in
     let gained = subst (λ (l : Layout). GainViolations rules violated c.args.rect l c.in_ok-found.found c.gather.new.found) lent c.in_ok-gather.ensures.gathered in
     let same = listed-violations rules violated c.args.rect layout c.in_ok-found.found c.gather.new.found c.in_ok-violated.ensures.value c.in_ok-found.ensures.none gained in
     rw same at c.list_violations.ensures.too_many

@@ -25,19 +25,13 @@ returns-in_default-clause-marks c = on_ok c.keep.result (sym (shown_already (goa
 
 pub returns-in_default-clause-too_many : goal.returns-in_default-clause-too_many
 returns-in_default-clause-too_many c =
-    let full =
-    subst (λ (owner : ℕ). IsErr c.keep.result ↔ (c.args.limit < tile_count world (picture_in c.args.pool.now owner))) c.find_meeting.ensures.plane c.keep.ensures.too_many in
     subst (λ (picture : Picture). IsErr c.keep.result ↔ (c.args.limit < tile_count world picture))
-    (sym (shown_already (goal.at.returns-in_default-clause-too_many c).In_default)) full
+    (sym (shown_already (goal.at.returns-in_default-clause-too_many c).In_default)) c.keep.ensures.too_many
 
 -- ---- where pieces are painted
 module _ (c : After-overlay) where
   abbrev below : Picture
   below = picture_in c.args.pool.now c.args.plane.now
-
-  -- under the owner that the plane came with
-  plane : c.count_shown-before.new.plane ≡ c.args.plane.now
-  plane = c.count_shown-before.ensures.plane ∙ c.find_meeting.ensures.plane
 
   -- over the plane they mark the finding's piece
   whole : overlaid below c.deref.result.now ≡ remarked below c.args.finding.now.piece (marks c.args.finding.now.marks)
@@ -50,32 +44,20 @@ module _ (c : After-overlay) where
   piece : c.rect-rect.result ≡ c.args.finding.now.piece
   piece = c.rect-rect.ensures ∙ ap (λ (m : Marks). m.rect) c.marks-found.ensures.value ∙ c.marks-found.ensures.exact.rect
 
-  -- where as many squares were marked as were counted
-  before : c.count_shown-before.result ≡ marked_count c.rect-rect.result below
-  before =
-      subst (λ (owner : ℕ). c.count_shown-before.result ≡ marked_count c.rect-rect.result (picture_in c.args.pool.now owner)) c.find_meeting.ensures.plane
-      c.count_shown-before.ensures.value
-
 pub returns-clause-marks : goal.returns-clause-marks
 returns-clause-marks c =
     let at = (goal.at.returns-clause-marks c).After-overlay in
-    subst (λ (owner : ℕ). picture_in c.overlay.new.pool owner ≡ overlaid (picture_in c.args.pool.now owner) c.deref.result.now) (plane at) c.in_ok-overlay.ensures.picture ∙ whole at
+    c.in_ok-overlay.ensures.picture ∙ whole at
 
 pub returns-clause-too_many : goal.returns-clause-too_many
 returns-clause-too_many c =
     let at = (goal.at.returns-clause-too_many c).After-overlay in
-    let full =
-    subst (λ (owner : ℕ).
-    (false ≡ true → c.args.limit < tile_count world (overlaid (picture_in c.args.pool.now owner) c.deref.result.now))
-    × (c.args.limit < tile_count world (overlaid (picture_in c.args.pool.now owner) c.deref.result.now) → false ≡ true)) (plane at) c.in_ok-overlay.ensures.too_many in
-    subst (λ (count : ℕ). (false ≡ true → c.args.limit < count) × (c.args.limit < count → false ≡ true)) (ap (tile_count world) (whole at)) full
+    subst (λ (count : ℕ). (false ≡ true → c.args.limit < count) × (c.args.limit < count → false ≡ true)) (ap (tile_count world) (whole at)) c.in_ok-overlay.ensures.too_many
 
 pub returns-in_err-overlay-clause-too_many : goal.returns-in_err-overlay-clause-too_many
 returns-in_err-overlay-clause-too_many c =
     let at = (goal.at.returns-in_err-overlay-clause-too_many c).After-overlay in
-    let full =
-    subst (λ (owner : ℕ). c.args.limit < tile_count world (overlaid (picture_in c.args.pool.now owner) c.deref.result.now)) (plane at) (c.in_err-overlay.ensures.too_many.0 refl) in
-    let more = subst (λ (count : ℕ). c.args.limit < count) (ap (tile_count world) (whole at)) full in
+    let more = subst (λ (count : ℕ). c.args.limit < count) (ap (tile_count world) (whole at)) (c.in_err-overlay.ensures.too_many.0 refl) in
     ((λ _. more), (λ _. c.from_residual.ensures.0))
 
 pub returns-clause-recount : goal.returns-clause-recount
@@ -84,16 +66,15 @@ returns-clause-recount c =
     let above = picture_in c.overlay.new.pool c.args.plane.now in
     let rect = c.rect-rect.result in
     let finding = c.args.finding.now in
-    let marked =
-    subst (λ (owner : ℕ). picture_in c.overlay.new.pool owner ≡ overlaid (picture_in c.args.pool.now owner) c.deref.result.now) (plane at) c.in_ok-overlay.ensures.picture ∙ whole at in
+    let marked = c.in_ok-overlay.ensures.picture ∙ whole at in
     let after : c.count-after.result ≡ marked_count rect above =
     c.count-after.ensures ∙ ap (λ (e : Rect). square_count e (marks c.marks-found.result.now)) (sym c.rect-rect.ensures)
     ∙ ap (λ (m : Marks). square_count rect (marks m)) c.marks-found.ensures.value
     ∙ sym (marked_count-anew rect finding.piece (marks finding.marks) (below at) above (piece at) marked) in
     let both = marked_count-remarked rect finding.piece (marks finding.marks) (below at) above c.count_shown-before.ensures.legal (piece at) marked in
-    omega (arith, before at, after, both)
+    omega (arith, c.count_shown-before.ensures.value, after, both)
 
 pub returns-clause-few : goal.returns-clause-few
 returns-clause-few c =
     let at = (goal.at.returns-clause-few c).After-overlay in
-    omega (arith, before at, marked_count-part world c.rect-rect.result (below at) c.count_shown-before.ensures.legal)
+    omega (arith, c.count_shown-before.ensures.value, marked_count-part world c.rect-rect.result (below at) c.count_shown-before.ensures.legal)

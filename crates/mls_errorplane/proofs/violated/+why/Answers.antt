@@ -1,9 +1,8 @@
-use Rattle.std.proofs.Common.{ℕ, List, ap, sym, ◌∙◌}
+use Rattle.std.proofs.Common.{ap, sym, ◌∙◌}
 use Rattle.mls_edgerule.specs.RuleSets.{union}
 use Rattle.mls_tilepool.specs.Pools.{Pool}
 use Rattle.mls_layout.specs.Uses.{flat_layout}
 use Rattle.mls_checker.specs.Findings.{violated_rules}
-use Rattle.mls_layout.proofs.LentPlanes.{lent-same}
 use Rattle.mls_errorplane.proofs.ViolatedParts.{violated_rules-parts}
 use Rattle.mls_checker.specs.Halos.{zone_of}
 use Rattle.mls_checker.specs.ZoneLayouts.{within}
@@ -14,18 +13,16 @@ use Rattle.mls_errorplane.proofs.violated.+why.Goals as goal
 pub returns-in-Some-clause-value : goal.returns-in-Some-clause-value
 returns-in-Some-clause-value t c =
     let rules = c.args.context.now.rules.now in
-    let shown = λ (pool : Pool) (planes : List ℕ). flat_layout pool c.args.context.now.uses planes in
-    let pool = c.args.workspace.now.pool in
-    let planes = c.args.planes.now in
+    let shown = λ (pool : Pool). flat_layout pool c.args.context.now.uses c.args.planes.now in
+    let layout = shown c.args.workspace.now.pool in
     let one = c.in-Some.parts.0 in
     let other = c.in-Some.parts.1 in
-    let first = lent-same shown pool c.halves.new.workspace.pool planes c.halves.new.planes c.halves.ensures.pool c.halves.ensures.owners in
-    let second = lent-same shown pool c.why.new.workspace.pool planes c.why.new.planes
-    (c.in_ok-violated.ensures.pool ∙ c.halves.ensures.pool) (c.in_ok-violated.ensures.owners ∙ c.halves.ensures.owners) in
+    let first = ap shown c.halves.ensures.pool in
+    let second = ap shown (c.in_ok-violated.ensures.pool ∙ c.halves.ensures.pool) in
     c.union.ensures
     ∙ ap (λ set. union set c.in_ok-more.more) (c.in_ok-violated.ensures.value ∙ ap (violated_rules rules one) first)
-    ∙ ap (union (violated_rules rules one (shown pool planes))) (c.in_ok-more.ensures.value ∙ ap (violated_rules rules other) second)
-    ∙ sym (violated_rules-parts rules c.args.rect one other (shown pool planes) c.in-Some.ensures.halves.squares)
+    ∙ ap (union (violated_rules rules one layout)) (c.in_ok-more.ensures.value ∙ ap (violated_rules rules other) second)
+    ∙ sym (violated_rules-parts rules c.args.rect one other layout c.in-Some.ensures.halves.squares)
 
 pub returns-clause-value : goal.returns-clause-value
 returns-clause-value t c =
@@ -33,7 +30,6 @@ returns-clause-value t c =
     let rect = c.args.rect in
     let pool = c.args.workspace.now.pool in
     let layout = flat_layout pool c.args.context.now.uses c.args.planes.now in
-    let same = lent-same (λ (p : Pool) (owners : List ℕ). flat_layout p c.args.context.now.uses owners) pool c.halves.new.workspace.pool c.args.planes.now c.halves.new.planes
-    c.halves.ensures.pool c.halves.ensures.owners in
+    let same = ap (λ (p : Pool). flat_layout p c.args.context.now.uses c.args.planes.now) c.halves.ensures.pool in
     c.why-2.ensures ∙ ap (violated_rules rules rect) (c.in_ok-snapshot.ensures.copied ∙ ap (within (zone_of rules rect)) same)
     ∙ violated_rules-zone rules rect layout c.in_ok-snapshot.ensures.legal (flat-AgreeOutside pool c.args.context.now.uses c.args.planes.now c.requires.layout.planes.each)

@@ -1,4 +1,4 @@
-use Rattle.std.proofs.Common.{◌≡◌, ℕ, List, ap, subst, sym, ◌∙◌}
+use Rattle.std.proofs.Common.{◌≡◌, List, ap, subst, sym, ◌∙◌}
 use Rattle.std.proofs.lemmas.Result.{on_ok_weaker}
 use Rattle.mls_geom.specs.Rects.{IsRectangleIn, IsWithin, Rect}
 use Rattle.mls_geom.specs.declared.piece.Piece.{Piece}
@@ -39,10 +39,6 @@ returns-clause-appended t c =
     let new = c.push_flat-2.new.out.items in
     let picture = flat_plane pool uses number owner in
     let parts = c.cut-one.ensures in
-    let same_owner : c.else-eq.plane ≡ owner = elim c.else-eq.branch [
-      | else-eq-via-then-eq+in_ok-push_swept+else-branch w ↦ w.plane-is ∙ w.in_ok-push_swept.ensures.owner
-      | else-eq-via-else-eq w ↦ w.plane-is
-    ] in
     let same_pool : c.else-eq.workspace.pool ≡ pool = elim c.else-eq.branch [
       | else-eq-via-then-eq+in_ok-push_swept+else-branch w ↦ ap (λ workspace. workspace.pool) w.workspace-is ∙ w.in_ok-push_swept.ensures.pool
       | else-eq-via-else-eq w ↦ ap (λ workspace. workspace.pool) w.workspace-is
@@ -52,11 +48,9 @@ returns-clause-appended t c =
       | else-eq-via-else-eq w ↦ ap (λ out. out.items) w.out-is
     ] in
     let first = subst (λ (list : List Piece). AppendsCover one picture list mid) same_out
-    (subst (λ (p : Pool). AppendsCover one (flat_plane p uses number owner) c.else-eq.out.items mid) same_pool
-    (subst (λ (o : ℕ). AppendsCover one (flat_plane c.else-eq.workspace.pool uses number o) c.else-eq.out.items mid) same_owner c.in_ok-push_flat.ensures.appended)) in
+    (subst (λ (p : Pool). AppendsCover one (flat_plane p uses number owner) c.else-eq.out.items mid) same_pool c.in_ok-push_flat.ensures.appended) in
     on_ok_weaker c.push_flat-2.result
     (λ appended.
     AppendsCover-joined zone one other picture old mid new (within zone one parts.one_in) (within zone other parts.other_in) parts.whole first
-    (subst (λ (p : Pool). AppendsCover other (flat_plane p uses number owner) mid new) (c.in_ok-push_flat.ensures.pool ∙ same_pool)
-    (subst (λ (o : ℕ). AppendsCover other (flat_plane c.push_flat.new.workspace.pool uses number o) mid new) (c.in_ok-push_flat.ensures.owner ∙ same_owner) appended)))
+    (subst (λ (p : Pool). AppendsCover other (flat_plane p uses number owner) mid new) (c.in_ok-push_flat.ensures.pool ∙ same_pool) appended))
     c.push_flat-2.ensures.appended

@@ -17,9 +17,8 @@ returns-clause-appended c =
     let grid = grid_picture c.flatten.new.workspace.grid block in
     let shown : (x y : ℕ) → holds block x y ≡ true → grid x y ≡ picture x y = λ x y inside.
     ap (λ (p : Picture). p x y) c.flatten.ensures.shown
-    ∙ cond-true (holds block x y) (flat_plane c.push_swept.new.workspace.pool c.args.uses.now c.args.number c.push_swept.new.plane x y) 0 inside
-    ∙ ap (λ (pool : Pool). flat_plane pool c.args.uses.now c.args.number c.push_swept.new.plane x y) swept.pool
-    ∙ ap (λ (owner : ℕ). flat_plane c.args.workspace.now.pool c.args.uses.now c.args.number owner x y) swept.owner in
+    ∙ cond-true (holds block x y) (flat_plane c.push_swept.new.workspace.pool c.args.uses.now c.args.number c.args.plane.now x y) 0 inside
+    ∙ ap (λ (pool : Pool). flat_plane pool c.args.uses.now c.args.number c.args.plane.now x y) swept.pool in
     on_ok_weaker c.push_pieces.result
     (λ appended.
     subst (λ old. AppendsCover block picture old c.push_pieces.new.out.items) (swept.none c.if-branch.false)

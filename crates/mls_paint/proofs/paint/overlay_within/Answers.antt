@@ -31,8 +31,7 @@ replace-requires-clause-pieces c =
     let changes =
     AreChanges-read list c.tiles-2.result.now c.find_fresh.new.sweep.strips c.strips.result.now _ c.deref.result.now _ c.deref-2.result.now c.tiles-2.ensures
     c.strips.ensures c.deref.ensures.value c.deref-2.ensures.value c.list_changes.ensures.names c.list_changes.ensures.fresh in
-    rw c.touching-searched.ensures.plane
-    (TakePlace-GivesWay c.args.pool.now c.args.plane.now c.args.over.now list c.find_fresh.new.sweep.strips c.deref.result.now c.deref-2.result.now gives covered changes)
+    TakePlace-GivesWay c.args.pool.now c.args.plane.now c.args.over.now list c.find_fresh.new.sweep.strips c.deref.result.now c.deref-2.result.now gives covered changes
 
 pub returns : goal.returns
 returns c =
@@ -51,16 +50,16 @@ returns c =
       put = c.deref-2.result.now;
       changes = AreChanges-read list c.tiles-2.result.now fresh c.strips.result.now _ c.deref.result.now _ c.deref-2.result.now c.tiles-2.ensures
           c.strips.ensures c.deref.ensures.value c.deref-2.ensures.value c.list_changes.ensures.names c.list_changes.ensures.fresh;
-      replaced = rw (c.unwrap.ensures, found.plane) at c.replace.ensures.replaced;
+      replaced = rw c.unwrap.ensures at c.replace.ensures.replaced;
     } in
     record {
       picture = picture-painted old new owner over list fresh gives covered changed;
-      strips = HasStrips-painted old new owner over list fresh gives covered changed (rw found.plane at c.replace.ensures.home);
+      strips = HasStrips-painted old new owner over list fresh gives covered changed c.replace.ensures.home;
       too_many = too_many-swept old owner over list _ c.args.limit _ gives tiles c.read_count-count.ensures.count c.in_ok-find_fresh.ensures.too_many;
       refused = search rules;
       kept = λ _. KeepsUntouched-IsChanged old (tiles_of new owner) owner over list fresh gives covered changed;
       rebuilt = search rules;
-      only = rw found.plane at c.replace.ensures.only;
+      only = c.replace.ensures.only;
       plane = search rules;
       rooms = search rules;
     }

@@ -1,7 +1,7 @@
 use Rattle.std.proofs.Common.{◌≡◌, ◌∙◌, ℕ, List, ap, sym}
 use Rattle.std.specs.List.{position}
 use Rattle.mls_wire.specs.mls_server.Servers.{world_of}
-use Rattle.mls_wire.specs.mls_server.Settings.{NamedLayout, cell_names}
+use Rattle.mls_wire.specs.mls_server.Settings.{cell_names}
 use Rattle.mls_text.specs.Words.{same_word}
 use Rattle.mls_seat_lines.specs.SymbolTables.{cell_named}
 use Rattle.mls_seat_lines.proofs.SymbolTableLemmas.{map_next, position-map}

@@ -9,7 +9,6 @@ use Rattle.mls_session.proofs.layers.list_layers.Given as goal
 abbrev pub invariant-loop-number : goal.invariant-loop-number
 invariant-loop-number l = record {
   pool : l.workspace.pool ≡ l.fn.workspace.pool;
-  owners : l.planes ≡ l.fn.planes;
   listed : l.layers.items ≡ map (strips_on (flat_layout l.fn.workspace.pool l.uses l.fn.planes)) (range_with_len 0 l.number);
   count : length l.layers.items ≡ l.number;
   few : exceeds_tiles l.limit l.number (flat_layout l.fn.workspace.pool l.uses l.fn.planes) ≡ false;

@@ -16,9 +16,9 @@ use Rattle.mls_stitch.proofs.touching.list_round_each.Goals.{then-not-is_searche
 
 pub list_all-requires : goal.list_all-requires
 list_all-requires c =
-    let tiles = tiles_of c.args.pool.now c.args.plane.now in
+    let tiles = tiles_of c.args.pool.now c.args.owner.now in
     let passed = take c.loop-piece.piece-index c.args.over.now in
-    let listed = rw c.plane.view_is at c.list_tiles.ensures.listed in
+    let listed = c.list_tiles.ensures.listed in
     let found = length-le-AreLaid tiles c.list_tiles.new.list.items (λ k d within. (listed.each k d within).laid) listed.once in
     let kept = touched_keeps (block_at tiles) passed c.loop-piece.entries.items c.free_room.new.entries.items c.loop-piece.invariant.touched c.free_room.ensures.keeps in
     record {
@@ -26,13 +26,13 @@ list_all-requires c =
         | inl free ↦ omega (arith, free, c.len.ensures, ap length c.deref-then-not-is_searched.ensures.value, c.list_tiles.new.list.ok.0)
         | inr once ↦
             let few = length-le-AreLaid tiles c.free_room.new.entries.items kept.each once in
-            omega (arith, few, found, ap length c.deref-then-not-is_searched.ensures.value, c.free_room.new.entries.ok.0, c.free_room.ensures.room, c.loop-piece.invariant.entries_room, c.requires.entries_fit, c.clear.ensures.capacity)
+            omega (arith, few, found, ap length c.deref-then-not-is_searched.ensures.value, c.free_room.new.entries.ok.0, c.free_room.ensures.room, c.loop-piece.invariant.entries_room, c.requires.room, c.scratch.invariant.0, ap (λ s. s.room) c.scratch.view_is, c.clear.ensures.capacity)
       ];
     }
 
 pub loop-piece-preserved : goal.loop-piece-preserved
 loop-piece-preserved c =
-    let tiles = tiles_of c.args.pool.now c.args.plane.now in
+    let tiles = tiles_of c.args.pool.now c.args.owner.now in
     let over = c.args.over.now in
     let i = c.loop-piece.piece-index in
     let piece = c.piece-item.result in
@@ -44,7 +44,7 @@ loop-piece-preserved c =
           let kept = touched_keeps (block_at tiles) (take i over) c.loop-piece.entries.items w.free_room.new.entries.items so_far.touched w.free_room.ensures.keeps in
           let met =
           AreMet-listed (block_at tiles) w.grow.result list.items c.requires.plane.plane.tiling w.list_tiles.ensures.legal
-          (subst (λ n. IsListedTo (block_at tiles) w.grow.result list.items n world.top) list.ok.0 (rw c.plane.view_is at w.list_tiles.ensures.listed)) in
+          (subst (λ n. IsListedTo (block_at tiles) w.grow.result list.items n world.top) list.ok.0 w.list_tiles.ensures.listed) in
           let listed = rw w.deref-then-not-is_searched.ensures.value at w.list_all.ensures.listed in
           record {
             touched = rw (more, w.entries-is, listed) (touched_more tiles (take i over) piece w.grow.result list.items w.free_room.new.entries.items c.requires.plane.plane w.grow.ensures.squares met kept);

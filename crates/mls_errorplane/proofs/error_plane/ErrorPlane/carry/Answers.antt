@@ -8,7 +8,8 @@ use Rattle.mls_errorplane.specs.Carrying.{AreFew, likened}
 use Rattle.mls_errorplane.specs.ErrorPlanes.{ErrorPlane, marks_picture}
 use Rattle.mls_errorplane.specs.MarkPlanes.{is_marked, marked_count, remarked}
 use Rattle.mls_errorplane.proofs.CarriedCounts.{AreCarried-remarked, AreFew-carried}
-use Rattle.mls_errorplane.proofs.CarriedMarks.{carried-few, carried-recount, painted-as, remarked-shows}
+use Rattle.mls_errorplane.proofs.CarriedMarks.{carried-few, carried-recount, remarked-shows}
+use Rattle.mls_errorplane.proofs.PaintedPieces.{overlaid-part}
 use Rattle.mls_errorplane.proofs.Recounts.{counted-as, recount-before, recount-few, recount-is}
 use Rattle.mls_errorplane.proofs.error_plane.ErrorPlane.carry.Goals as goal
 use Rattle.mls_errorplane.proofs.error_plane.ErrorPlane.carry.Goals.{In-Ok}
@@ -27,9 +28,7 @@ module _ (c : In-Ok) where
 
   -- the rectangle is marked as it tells
   is : new ≡ remarked old c.args.rect set
-  is =
-      painted-as c.args.workspace.now.pool c.repaint.new.pool c.list_carried.new.plane c.self.inside.plane c.list_carried.new.pieces.items c.deref.result.now c.args.rect set
-      c.list_carried.ensures.plane c.in-Ok.ensures.picture c.list_carried.ensures.painted c.deref.ensures.value
+  is = c.in-Ok.ensures.picture ∙ overlaid-part c.list_carried.new.pieces.items c.deref.result.now c.args.rect set old c.list_carried.ensures.painted c.deref.ensures.value
 
   -- over marks and nothing else
   shows : old ≡ marks_picture (is_marked old)
@@ -43,21 +42,14 @@ module _ (c : In-Ok) where
       counted-as c.args.workspace.now.pool c.args.workspace.now.pool c.args.self.now (record { owner = c.self.inside.plane; marked = c.self.inside.marked; dirty = c.self.inside.dirty })
       c.requires.marks.marks c.self.view_is refl
 
-  before : c.in-Ok.recount.before ≡ marked_count c.args.rect old
-  before = subst (λ (o : ℕ). c.in-Ok.recount.before ≡ marked_count c.args.rect (picture_in c.args.workspace.now.pool o)) c.list_carried.ensures.plane c.in-Ok.ensures.before
-
   few : c.in-Ok.recount.before ≤ marked_count world old
-  few = carried-few old new c.args.rect set c.in-Ok.recount.before c.in-Ok.recount.after c.repaint.ensures.legal is before
+  few = carried-few old new c.args.rect set c.in-Ok.recount.before c.in-Ok.recount.after c.repaint.ensures.legal is c.in-Ok.ensures.before
 
   -- and as many are now as are said to be
   recounted : marked_count world new + c.in-Ok.recount.before ≡ marked_count world old + c.in-Ok.recount.after
   recounted =
-      carried-recount old new c.args.rect set c.in-Ok.recount.before c.in-Ok.recount.after c.repaint.ensures.legal is before
-      (subst (λ (o : ℕ). c.in-Ok.recount.after ≡ marked_count c.args.rect (picture_in c.repaint.new.pool o)) c.list_carried.ensures.plane c.in-Ok.ensures.after)
-
-  -- the plane comes back under its owner
-  back : c.repaint.new.plane ≡ c.self.inside.plane
-  back = c.repaint.ensures.plane ∙ c.list_carried.ensures.plane
+      carried-recount old new c.args.rect set c.in-Ok.recount.before c.in-Ok.recount.after c.repaint.ensures.legal is c.in-Ok.ensures.before
+      c.in-Ok.ensures.after
 
 pub recounted-self-inside-requires-clause-before : goal.recounted-self-inside-requires-clause-before
 recounted-self-inside-requires-clause-before c =
@@ -75,11 +67,10 @@ returns-clause-few c = λ _.
     let likeness = c.args.source.likeness in
     let from = c.args.source.rect in
     let tiles = ap (λ (p : Picture). tile_count world p) (remarked-shows (old at) (new at) c.args.rect (set at) (shows at) (is at)) in
-    let most = subst (λ (o : ℕ). tile_count world (picture_in c.repaint.new.pool o) ≤ c.in-Some.most) c.list_carried.ensures.plane c.in-Ok.ensures.few in
     let both = AreFew-carried c.args.limit likeness from c.args.rect (old at) (is_marked (new at)) c.in-Some.most c.repaint.ensures.legal (shows at) c.in-Some.ensures.room
-    (AreCarried-remarked likeness from c.args.rect (old at) (new at) (is at)) (omega (arith, tiles, most)) in
+    (AreCarried-remarked likeness from c.args.rect (old at) (new at) (is at)) (omega (arith, tiles, c.in-Ok.ensures.few)) in
     subst (λ (e : ErrorPlane). AreFew c.args.limit c.args.rect (is_marked (picture_in c.args.workspace.now.pool e.owner)) (is_marked (picture_in c.repaint.new.pool c.repaint.new.plane))) c.self.view_is
-    (subst (λ (o : ℕ). AreFew c.args.limit c.args.rect (is_marked (old at)) (is_marked (picture_in c.repaint.new.pool o))) (sym (back at)) both)
+    (subst (λ (o : ℕ). AreFew c.args.limit c.args.rect (is_marked (old at)) (is_marked (picture_in c.repaint.new.pool o))) (sym c.repaint.ensures.plane) both)
 
 pub returns-clause-marks : goal.returns-clause-marks
 returns-clause-marks c =
@@ -88,6 +79,6 @@ returns-clause-marks c =
     let marked = recount-is (old at) (new at) c.self.inside.marked c.in-Ok.recount.before c.in-Ok.recount.after c.recounted-self-inside.result (counted at) (recounted at) c.recounted-self-inside.ensures in
     record {
       strips = subst (λ (o : ℕ). HasStrips pool o) (sym c.repaint.ensures.plane) c.repaint.ensures.strips;
-      marks = subst (λ (o : ℕ). picture_in pool o ≡ marks_picture (is_marked (picture_in pool o))) (sym (back at)) (remarked-shows (old at) (new at) c.args.rect (set at) (shows at) (is at));
-      counted = subst (λ (o : ℕ). c.recounted-self-inside.result ≡ marked_count world (picture_in pool o)) (sym (back at)) marked;
+      marks = subst (λ (o : ℕ). picture_in pool o ≡ marks_picture (is_marked (picture_in pool o))) (sym c.repaint.ensures.plane) (remarked-shows (old at) (new at) c.args.rect (set at) (shows at) (is at));
+      counted = subst (λ (o : ℕ). c.recounted-self-inside.result ≡ marked_count world (picture_in pool o)) (sym c.repaint.ensures.plane) marked;
     }

@@ -1,4 +1,4 @@
-use Rattle.std.proofs.Common.{◌≡◌, ℕ, ◌+◌, ◌*◌, ◌^◌, ◌≤◌, List, refl, sym, ap, subst, ◌∙◌, arith}
+use Rattle.std.proofs.Common.{◌≡◌, ℕ, ◌+◌, ◌*◌, ◌^◌, ◌≤◌, refl, sym, ap, subst, ◌∙◌, arith}
 use Rattle.mls_geom.specs.Layouts.{Layout}
 use Rattle.mls_stitch.specs.Tilings.{ChangesOnly}
 use Rattle.mls_stitch.proofs.PoolChanges.{ChangesOnly-refl, ChangesOnly-trans}
@@ -17,8 +17,8 @@ use Rattle.mls_errorplane.proofs.error_plane.ErrorPlane.catch_up.Goals.{After-st
 
 pub step-requires-clause-layout : goal.step-requires-clause-layout
 step-requires-clause-layout c =
-    HasLayout-apart c.args.workspace.now.pool c.steps.workspace.pool c.args.self.now.owner c.steps.invariant.only c.args.planes.now c.steps.planes
-    c.args.context.now.uses.library.now c.requires.apart c.steps.invariant.owners c.requires.layout
+    HasLayout-apart c.args.workspace.now.pool c.steps.workspace.pool c.args.self.now.owner c.steps.invariant.only c.args.planes.now
+    c.args.context.now.uses.library.now c.requires.apart c.requires.layout
 
 -- ---- after a step
 module _ (c : After-step) where
@@ -30,20 +30,18 @@ module _ (c : After-step) where
   layout = flat_layout c.args.workspace.now.pool c.args.context.now.uses c.args.planes.now
 
   -- so the layout shows what it did
-  there : flat_layout c.step.new.workspace.pool c.args.context.now.uses c.step.new.planes ≡ layout
-  there =
-      flat_layout-apart c.args.workspace.now.pool c.step.new.workspace.pool c.args.self.now.owner only c.args.context.now.uses c.args.planes.now c.step.new.planes
-      c.requires.apart (c.step.ensures.owners ∙ c.steps.invariant.owners)
+  there : flat_layout c.step.new.workspace.pool c.args.context.now.uses c.args.planes.now ≡ layout
+  there = flat_layout-apart c.args.workspace.now.pool c.step.new.workspace.pool c.args.self.now.owner only c.args.context.now.uses c.args.planes.now c.requires.apart
 
   -- and the step ended so in the layout as it was
   as_was :
       (how : Stepped)
-      → HasStepped c.args.context.now.rules.now (flat_layout c.steps.workspace.pool c.args.context.now.uses c.steps.planes) c.args.limit (checking_of c.steps.workspace.pool c.steps.self) how (checking_of c.step.new.workspace.pool c.step.new.self)
+      → HasStepped c.args.context.now.rules.now (flat_layout c.steps.workspace.pool c.args.context.now.uses c.args.planes.now) c.args.limit (checking_of c.steps.workspace.pool c.steps.self) how (checking_of c.step.new.workspace.pool c.step.new.self)
       → HasStepped c.args.context.now.rules.now layout c.args.limit (checking_of c.steps.workspace.pool c.steps.self) how (checking_of c.step.new.workspace.pool c.step.new.self)
   as_was how =
       subst (λ (l : Layout). HasStepped c.args.context.now.rules.now l c.args.limit (checking_of c.steps.workspace.pool c.steps.self) how (checking_of c.step.new.workspace.pool c.step.new.self))
-      (flat_layout-apart c.args.workspace.now.pool c.steps.workspace.pool c.args.self.now.owner c.steps.invariant.only c.args.context.now.uses c.args.planes.now c.steps.planes
-      c.requires.apart c.steps.invariant.owners)
+      (flat_layout-apart c.args.workspace.now.pool c.steps.workspace.pool c.args.self.now.owner c.steps.invariant.only c.args.context.now.uses c.args.planes.now
+      c.requires.apart)
 
   kept : IsDirtyList c.steps.self.dirty
   kept = subst (λ (e : ErrorPlane). IsDirtyList e.dirty) c.self.view_is c.in-Some.ensures.kept
@@ -59,7 +57,7 @@ module _ (c : After-step) where
   -- where it wasn't, catching up ends
   caught :
       (how : Stepped)
-      → HasStepped c.args.context.now.rules.now (flat_layout c.steps.workspace.pool c.args.context.now.uses c.steps.planes) c.args.limit (checking_of c.steps.workspace.pool c.steps.self) how (checking_of c.step.new.workspace.pool c.step.new.self)
+      → HasStepped c.args.context.now.rules.now (flat_layout c.steps.workspace.pool c.args.context.now.uses c.args.planes.now) c.args.limit (checking_of c.steps.workspace.pool c.steps.self) how (checking_of c.step.new.workspace.pool c.step.new.self)
       → UnlessDone how (HasCaughtUp c.args.context.now.rules.now layout c.args.limit (checking_of c.args.workspace.now.pool c.args.self.now) (ended c.steps.done how) (checking_of c.step.new.workspace.pool c.step.new.self))
   caught how step =
       HasCaughtUp-ended c.args.context.now.rules.now layout c.args.limit c.steps.done (checking_of c.args.workspace.now.pool c.args.self.now) (checking_of c.steps.workspace.pool c.steps.self)
@@ -69,13 +67,11 @@ module _ (c : After-step) where
 pub settle-more-requires-clause-layout : goal.settle-more-requires-clause-layout
 settle-more-requires-clause-layout c =
     HasLayout-apart c.args.workspace.now.pool c.step.new.workspace.pool c.args.self.now.owner (only (goal.at.settle-more-requires-clause-layout c).After-step)
-    c.args.planes.now c.step.new.planes c.args.context.now.uses.library.now c.requires.apart (c.step.ensures.owners ∙ c.steps.invariant.owners) c.requires.layout
+    c.args.planes.now c.args.context.now.uses.library.now c.requires.apart c.requires.layout
 
 pub settle-more-requires-clause-apart : goal.settle-more-requires-clause-apart
 settle-more-requires-clause-apart c =
-    let cells = c.args.context.now.uses.library.now in
-    subst (λ (owner : ℕ). StandsApart owner c.step.new.planes cells) (sym (c.step.ensures.owner ∙ c.steps.invariant.owner))
-    (subst (λ (planes : List ℕ). StandsApart c.args.self.now.owner planes cells) (sym (c.step.ensures.owners ∙ c.steps.invariant.owners)) c.requires.apart)
+    subst (λ (owner : ℕ). StandsApart owner c.args.planes.now c.args.context.now.uses.library.now) (sym (c.step.ensures.owner ∙ c.steps.invariant.owner)) c.requires.apart
 
 pub settle-more-requires-clause-right : goal.settle-more-requires-clause-right
 settle-more-requires-clause-right c =
@@ -125,7 +121,6 @@ steps-preserved c =
       marks = c.settle-more.ensures.marks;
       only = ChangesOnly-trans (only at) (subst (ChangesOnly c.step.new.workspace.pool c.settle-more.new.workspace.pool) owner c.settle-more.ensures.only);
       owner = c.settle-more.ensures.owner ∙ owner;
-      owners = c.settle-more.ensures.owners ∙ c.step.ensures.owners ∙ so_far.owners;
     }
 
 -- ---- how it ends
@@ -146,7 +141,6 @@ steps-init c = record {
   marks = c.requires.marks.marks;
   only = ChangesOnly-refl c.args.workspace.now.pool c.args.self.now.owner;
   owner = refl;
-  owners = refl;
 }
 
 pub returns-clause-caught_up : goal.returns-clause-caught_up

@@ -17,7 +17,6 @@ invariant-steps l = record {
   marks : ShowsMarks l.workspace.pool l.self;
   only : ChangesOnly l.fn.workspace.pool l.workspace.pool l.fn.self.owner;
   owner : l.self.owner ≡ l.fn.self.owner;
-  owners : l.planes ≡ l.fn.planes;
 }
 
 -- how many squares the areas have

@@ -48,10 +48,8 @@ module _ (c : After-shows_alike) where
   inside = ap (λ (e : ErrorPlane). e.owner) c.self.view_is
 
   -- the marks are as they were while they are searched
-  same : is_marked (picture_in c.alike_source.new.workspace.pool c.shows_alike.new.plane) ≡ old
-  same =
-      lent-same (λ (p : Pool) (o : ℕ). is_marked (picture_in p o)) c.args.workspace.now.pool c.alike_source.new.workspace.pool c.args.self.now.owner c.shows_alike.new.plane
-      c.alike_source.ensures.pool (c.shows_alike.ensures.owner ∙ inside)
+  same : is_marked (picture_in c.alike_source.new.workspace.pool c.args.self.now.owner) ≡ old
+  same = ap (λ (p : Pool). is_marked (picture_in p c.args.self.now.owner)) c.alike_source.ensures.pool
 
   -- those of the source are right
   right_there : AreRight c.args.context.now.rules.now layout old c.in-Some.source.rect
@@ -71,7 +69,7 @@ module _ (c : After-shows_alike) where
 
   -- or where they are carried
   as_carried :
-      (new : SquareSet) → AreCarried c.in-Some.source.likeness c.in-Some.source.rect c.args.rect (is_marked (picture_in c.alike_source.new.workspace.pool c.shows_alike.new.plane)) new
+      (new : SquareSet) → AreCarried c.in-Some.source.likeness c.in-Some.source.rect c.args.rect (is_marked (picture_in c.alike_source.new.workspace.pool c.args.self.now.owner)) new
       → AreCarried c.in-Some.source.likeness c.in-Some.source.rect c.args.rect old new
   as_carried new = subst (λ (m : SquareSet). AreCarried c.in-Some.source.likeness c.in-Some.source.rect c.args.rect m new) same
 
@@ -124,6 +122,6 @@ returns-clause-sound c =
       })
       | inr stays ↦ (let kept = c.carry.ensures.refused stays in
           subst (AreSound rules (layout at) c.args.trial.now)
-          (sym (same at) ∙ sym (lent-same (λ (p : Pool) (o : ℕ). is_marked (picture_in p o)) c.alike_source.new.workspace.pool c.carry.new.workspace.pool c.shows_alike.new.plane c.carry.new.self.owner kept.1 c.carry.ensures.owner))
+          (sym (same at) ∙ sym (lent-same (λ (p : Pool) (o : ℕ). is_marked (picture_in p o)) c.alike_source.new.workspace.pool c.carry.new.workspace.pool c.args.self.now.owner c.carry.new.self.owner kept.1 c.carry.ensures.owner))
           c.requires.sound)
     ]

@@ -15,15 +15,15 @@ use Rattle.mls_errorplane.proofs.error_plane.ErrorPlane.settle.Goals as goal
 
 pub drop_one_stretch-requires-clause-layout : goal.drop_one_stretch-requires-clause-layout
 drop_one_stretch-requires-clause-layout c =
-    HasLayout-apart c.args.workspace.now.pool c.stretches.workspace.pool c.args.self.now.owner c.stretches.invariant.only c.args.planes.now c.stretches.planes
-    c.args.context.now.uses.library.now c.requires.apart c.stretches.invariant.owners c.requires.layout
+    HasLayout-apart c.args.workspace.now.pool c.stretches.workspace.pool c.args.self.now.owner c.stretches.invariant.only c.args.planes.now
+    c.args.context.now.uses.library.now c.requires.apart c.requires.layout
 
 pub drop_one_stretch-requires-clause-sound : goal.drop_one_stretch-requires-clause-sound
 drop_one_stretch-requires-clause-sound c =
     let so_far = c.stretches.invariant in
     let uses = c.args.context.now.uses in
     let trial : Trial = record { checked = c.stretches.checked; most = c.stretches.most; limit = c.args.limit } in
-    let here = flat_layout-apart c.args.workspace.now.pool c.stretches.workspace.pool c.args.self.now.owner so_far.only uses c.args.planes.now c.stretches.planes c.requires.apart so_far.owners in
+    let here = flat_layout-apart c.args.workspace.now.pool c.stretches.workspace.pool c.args.self.now.owner so_far.only uses c.args.planes.now c.requires.apart in
     subst (λ (l : Layout). AreSound c.args.context.now.rules.now l trial (checking_of c.stretches.workspace.pool c.stretches.self).marks) (sym here)
     (record { fits = so_far.fits; right = so_far.right })
 
@@ -36,8 +36,14 @@ stretches-init c = record {
   marks = c.requires.marks.marks;
   only = ChangesOnly-refl c.args.workspace.now.pool c.args.self.now.owner;
   owner = refl;
-  owners = refl;
 }
+
+pub expected_of-expected-requires : goal.expected_of-expected-requires
+expected_of-expected-requires c =
+    let so_far = c.stretches.invariant in
+    let only = ChangesOnly-trans so_far.only (subst (ChangesOnly c.stretches.workspace.pool c.drop_one_stretch.new.workspace.pool) so_far.owner c.drop_one_stretch.ensures.only) in
+    HasLayout-apart c.args.workspace.now.pool c.drop_one_stretch.new.workspace.pool c.args.self.now.owner only c.args.planes.now
+    c.args.context.now.uses.library.now c.requires.apart c.requires.layout
 
 pub overflow_add-steps : goal.overflow_add-steps
 overflow_add-steps c = omega (arith, area_of-le c.args.self.now.dirty c.areas.ensures.kept, c.stretches.invariant.fewer, c.in-Some.ensures.fewer.1)
@@ -53,8 +59,9 @@ stretches-preserved c =
     let new = checking_of c.drop_one_stretch.new.workspace.pool c.drop_one_stretch.new.self in
     let found = c.in-Some.ensures in
     let stretch = c.in-Some.stretch in
-    let here = flat_layout-apart c.args.workspace.now.pool c.stretches.workspace.pool c.args.self.now.owner so_far.only uses c.args.planes.now c.stretches.planes c.requires.apart so_far.owners in
-    record {
+    let here = flat_layout-apart c.args.workspace.now.pool c.stretches.workspace.pool c.args.self.now.owner so_far.only uses c.args.planes.now c.requires.apart in
+    rw c.expected_of-expected.ensures
+    (record {
       steps = Steps-then rules layout c.args.limit c.stretches.steps stretch.pieces old mid new so_far.steps
           (subst (λ (l : Layout). Steps rules l c.args.limit stretch.pieces mid new) here found.steps);
       right = c.then.ensures rules layout new.marks
@@ -65,5 +72,4 @@ stretches-preserved c =
       marks = found.marks;
       only = ChangesOnly-trans so_far.only (subst (ChangesOnly c.stretches.workspace.pool c.drop_one_stretch.new.workspace.pool) so_far.owner c.drop_one_stretch.ensures.only);
       owner = c.drop_one_stretch.ensures.owner ∙ so_far.owner;
-      owners = c.drop_one_stretch.ensures.owners ∙ so_far.owners;
-    }
+    })

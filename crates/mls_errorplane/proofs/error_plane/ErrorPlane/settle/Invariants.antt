@@ -17,7 +17,6 @@ invariant-stretches l = record {
   marks : ShowsMarks l.workspace.pool l.self;
   only : ChangesOnly l.fn.workspace.pool l.workspace.pool l.fn.self.owner;
   owner : l.self.owner ≡ l.fn.self.owner;
-  owners : l.planes ≡ l.fn.planes;
 }
 
 -- how many squares await checking, and then how many pieces are tried

@@ -13,7 +13,7 @@ pub look-requires : goal.look-requires
 look-requires c = callable (is_asked c.self.view_is c.self.invariant c.in_ok-place.ensures.place c.index_mut-asked.ensures.value)
 
 pub invariant_of-self : goal.invariant_of-self
-invariant_of-self c = AreOpen-same (is_asked c.self.view_is c.self.invariant c.in_ok-place.ensures.place c.index_mut-asked.ensures.value) c.look.ensures.pool c.look.ensures.same
+invariant_of-self c = AreOpen-same (is_asked c.self.view_is c.self.invariant c.in_ok-place.ensures.place c.index_mut-asked.ensures.value) c.look.ensures.pool
 
 pub returns-clause-looks : goal.returns-clause-looks
 returns-clause-looks c =
@@ -23,7 +23,7 @@ returns-clause-looks c =
     (said.0, (kept, is.kept, subst (λ (terms : Terms). Looks terms kept c.args.look c.look.result said.0) is.terms said.1), said.2)
 
 pub returns-clause-same : goal.returns-clause-same
-returns-clause-same c = world_of-same (is_asked c.self.view_is c.self.invariant c.in_ok-place.ensures.place c.index_mut-asked.ensures.value) c.look.ensures.pool c.look.ensures.same
+returns-clause-same c = world_of-same (is_asked c.self.view_is c.self.invariant c.in_ok-place.ensures.place c.index_mut-asked.ensures.value) c.look.ensures.pool
 
 pub returns-clause-room : goal.returns-clause-room
 returns-clause-room c = λ asked_text memory. omega (arith, c.look.ensures.room asked_text memory, ap length (own_text-asked (is_asked c.self.view_is c.self.invariant c.in_ok-place.ensures.place c.index_mut-asked.ensures.value)))

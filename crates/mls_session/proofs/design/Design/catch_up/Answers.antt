@@ -1,6 +1,4 @@
-use Rattle.std.proofs.Common.{◌≡◌, length, sym, ap, subst, ◌∙◌}
-use Rattle.std.specs.Vec.{with_items}
-use Rattle.std.proofs.lemmas.List.{with_items_is}
+use Rattle.std.proofs.Common.{sym, ap, subst, ◌∙◌}
 use Rattle.mls_errorplane.specs.CatchingUp.{HasCaughtUp}
 use Rattle.mls_errorplane.specs.ErrorPlanes.{ErrorPlane, checking_of}
 use Rattle.mls_session.specs.Inner.{Counts}
@@ -19,16 +17,16 @@ use Rattle.mls_session.proofs.design.Design.catch_up.Goals as goal
 
 pub catch_up-ended-requires-clause-layout : goal.catch_up-ended-requires-clause-layout
 catch_up-ended-requires-clause-layout c =
-    HasLayout-lent c.args.setup.now c.args.workspace.now.pool c.self.inside c.args.self.now c.self.view_is c.requires.home c.self.invariant.0 c.context-context.result.uses.library.now c.context-context.ensures.library c.deref_mut.result.now c.deref_mut.ensures.value c.requires.can_dump c.requires.made_for
+    HasLayout-lent c.args.setup.now c.args.workspace.now.pool c.self.inside c.args.self.now c.self.view_is c.requires.home c.self.invariant.0 c.context-context.result.uses.library.now c.context-context.ensures.library c.deref-2.result.now c.deref-2.ensures.value c.requires.can_dump c.requires.made_for
 
 pub catch_up-ended-requires-clause-apart : goal.catch_up-ended-requires-clause-apart
 catch_up-ended-requires-clause-apart c =
-    StandsApart-lent c.args.setup.now c.args.workspace.now.pool c.self.inside c.args.self.now c.self.view_is c.requires.home c.self.invariant.0 c.context-context.result.uses.library.now c.context-context.ensures.library c.deref_mut.result.now c.deref_mut.ensures.value c.requires.can_dump
+    StandsApart-lent c.args.setup.now c.args.workspace.now.pool c.self.inside c.args.self.now c.self.view_is c.requires.home c.self.invariant.0 c.context-context.result.uses.library.now c.context-context.ensures.library c.deref-2.result.now c.deref-2.ensures.value c.requires.can_dump
 
 abbrev after : goal.After-steps_of → Design
 after c = record {
   box = c.self.inside.box_rect;
-  planes = (with_items c.self.inside.planes c.catch_up-ended.new.planes).items;
+  planes = c.self.inside.planes.items;
   uses = c.self.inside.uses.items;
   quota = c.self.inside.quota;
   errors = c.catch_up-ended.new.self;
@@ -36,12 +34,6 @@ after c = record {
 
 abbrev executed : goal.After-steps_of → Executed
 executed c = record { reply = c.caught_up_reply.result; steps = c.steps_of.result }
-
--- the planes that were lent come back
-planes : (c : goal.After-steps_of) → (after c).planes ≡ c.args.self.now.planes
-planes c =
-    let same = c.catch_up-ended.ensures.owners ∙ c.deref_mut.ensures.value in
-    with_items_is c.self.inside.planes c.catch_up-ended.new.planes (ap length same ∙ sym c.self.inside.planes.ok.0) ∙ same ∙ ap (λ (d : Design). d.planes) c.self.view_is
 
 -- only tiles of the error plane have changed
 only : (c : goal.After-steps_of) → ChangesOnly c.args.workspace.now.pool c.catch_up-ended.new.workspace.pool c.args.self.now.errors.owner
@@ -60,14 +52,14 @@ caught c =
     let ended = c.catch_up-ended.result in
     let limit = c.get-limit.result in
     let now = checking_of new c.catch_up-ended.new.self in
-    let lent = c.deref_mut.ensures.value ∙ ap (λ (d : Design). d.planes) c.self.view_is in
+    let lent = c.deref-2.ensures.value ∙ ap (λ (d : Design). d.planes) c.self.view_is in
     let list = c.context-context.ensures.list ∙ c.deref.ensures.value ∙ ap (λ (d : Design). d.uses) c.self.view_is in
-    let shown = flat_layout-design c.args.setup.now pool design c.context-context.result.uses c.context-context.ensures.library list c.deref_mut.result.now lent in
+    let shown = flat_layout-design c.args.setup.now pool design c.context-context.result.uses c.context-context.ensures.library list c.deref-2.result.now lent in
     let all = rw (c.context-context.ensures.rules, shown) at c.catch_up-ended.ensures.caught_up in
     let steps : HasCaughtUp config.rules (layout_of config (drawn_of pool design)) limit (checking_of pool design.errors) ended now =
     subst (λ (e : ErrorPlane). HasCaughtUp config.rules (layout_of config (drawn_of pool design)) limit (checking_of pool e) ended now) (ap (λ (d : Design). d.errors) c.self.view_is) all in
     caught_up-errors config pool new design (after c) limit ended c.areas-pending.result (executed c) (sym c.requires.made_for.quota)
-    (c.get-limit.ensures.value ∙ ap (λ (d : Design). d.quota) c.self.view_is) c.requires.home c.requires.areas (only c) (ap (λ (d : Design). d.box) c.self.view_is) (planes c) (ap (λ (d : Design). d.uses) c.self.view_is) steps
+    (c.get-limit.ensures.value ∙ ap (λ (d : Design). d.quota) c.self.view_is) c.requires.home c.requires.areas (only c) (ap (λ (d : Design). d.box) c.self.view_is) (ap (λ (d : Design). d.planes) c.self.view_is) (ap (λ (d : Design). d.uses) c.self.view_is) steps
     c.areas-pending.ensures.value c.caught_up_reply.ensures c.steps_of.ensures
 
 pub returns-clause-caught : goal.returns-clause-caught
@@ -83,4 +75,4 @@ returns-clause-keeps c =
     let done = c.catch_up-ended.ensures in
     let errors = ap (λ (d : Design). d.errors.owner) c.self.view_is in
     let owner = done.owner ∙ errors in
-    KeepsPlanes-errors pool new c.args.self.now (after c) c.requires.home (only c) done.marks (planes c) (ap (λ (d : Design). d.quota) c.self.view_is) owner
+    KeepsPlanes-errors pool new c.args.self.now (after c) c.requires.home (only c) done.marks (ap (λ (d : Design). d.planes) c.self.view_is) (ap (λ (d : Design). d.quota) c.self.view_is) owner

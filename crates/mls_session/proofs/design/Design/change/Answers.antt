@@ -27,13 +27,12 @@ returns-then-not-change_fits-clause-step c =
     edit_step-Refused config (designed_of pool design) c.args.rect (change_step config (drawn_of pool design) layout) Quota
     (change_step-Refused config (drawn_of pool design) layout c.change_fits.result (tested.fits config (sym c.requires.made_for.planes) (sym c.requires.made_for.quota))
     c.if-not-change_fits.true)
-    ∙ ap (λ (kept : Design). (designed_of pool kept, Refused Quota)) (sym tested.same)
-    ∙ ap (λ (now : Pool). (designed_of now c.change_fits.new.self, Refused Quota)) (sym tested.pool)
+    ∙ ap (λ (now : Pool). (designed_of now design, Refused Quota)) (sym tested.pool)
 
 pub returns-then-not-change_fits-clause-keeps : goal.returns-then-not-change_fits-clause-keeps
 returns-then-not-change_fits-clause-keeps c =
     let design = c.args.self.now in
-    rw (c.change_fits.ensures.same, c.change_fits.ensures.pool) (KeepsPlanes-same c.args.workspace.now.pool design design c.requires.home refl refl refl refl)
+    rw c.change_fits.ensures.pool (KeepsPlanes-same c.args.workspace.now.pool design design c.requires.home refl refl refl refl)
 
 pub paint_listed-requires : goal.paint_listed-requires
 paint_listed-requires c =
@@ -44,7 +43,7 @@ paint_listed-requires c =
     let pieces = map (λ list. list.items) c.change_fits.new.workspace.plane_pieces.items in
     let fits : FitsQuota (length design.planes) design.quota (changed_layout pool c.args.change.now layout) =
     FitsQuota-tested c.change_fits.result (changed_layout pool c.args.change.now layout) (length design.planes) design.quota tested.fits c.if-not-change_fits.false in
-    rw (tested.same, tested.pool) (record {
+    rw tested.pool (record {
       home = c.requires.home;
       few_planes = omega (arith, c.planes.ensures.value, c.planes.ensures.limit, c.requires.made_for.planes);
       fits = FitsQuota-listed pool c.args.change.now (length design.planes) design.quota layout pieces (tested.lists c.if-not-change_fits.false) fits;
@@ -57,7 +56,7 @@ returns-clause-step c =
     let config = config_of c.args.setup.now pool in
     let layout = changed_layout pool c.args.change.now (layout_in pool design.planes) in
     let tested = c.change_fits.ensures in
-    let made = rw (tested.same, tested.pool) at c.paint_listed.ensures in
+    let made = rw tested.pool at c.paint_listed.ensures in
     let new = c.paint_listed.new.workspace.pool in
     let pieces = map (λ list. list.items) c.change_fits.new.workspace.plane_pieces.items in
     let painted = layout_in-changed pool new design c.args.change.now pieces c.requires.planes (tested.lists c.if-not-change_fits.false) made.layout in
@@ -74,7 +73,7 @@ returns-clause-keeps c =
     let pool = c.args.workspace.now.pool in
     let design = c.args.self.now in
     let tested = c.change_fits.ensures in
-    let made = rw (tested.same, tested.pool) at c.paint_listed.ensures in
+    let made = rw tested.pool at c.paint_listed.ensures in
     let same = c.mark_dirty.ensures.same in
     KeepsPlanes-layout pool c.paint_listed.new.workspace.pool design c.mark_dirty.new.self c.requires.home made.home made.only
     (ap (λ (d : Design). d.planes) same ∙ ap (λ (d : Design). d.planes) made.same) (ap (λ (d : Design). d.quota) same ∙ ap (λ (d : Design). d.quota) made.same)

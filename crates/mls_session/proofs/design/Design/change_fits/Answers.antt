@@ -1,5 +1,5 @@
 -- Each turn lists the pieces of one plane more, and asks whether it would fit.
-use Rattle.std.proofs.Common.{◌≡◌, ◌||◌, ℕ, ◌<◌, List, get_or, length, map, sym, ap, subst, ◌∙◌, arith}
+use Rattle.std.proofs.Common.{◌≡◌, ◌||◌, ◌<◌, get_or, length, map, sym, ap, subst, ◌∙◌, arith}
 use Rattle.mls_geom.specs.Pictures.{overlaid}
 use Rattle.mls_tilepool.specs.Pools.{Pool}
 use Rattle.mls_paint.specs.Planes.{layout_in, picture_in}
@@ -7,25 +7,24 @@ use Rattle.mls_session.specs.Inner.{CanChange, ListsChange, changed_layout}
 use Rattle.mls_session.specs.Designs.{Design}
 use Rattle.mls_session.proofs.ChangedQuotas.{exceeds, exceeds-fits, exceeds-more, exceeds_quota-more, exceeds_quota-none}
 use Rattle.mls_library.proofs.FirstPlanes.{any_more}
-use Rattle.mls_session.proofs.HomePlanes.{HasStrips-lent, planes_kept}
+use Rattle.mls_session.proofs.HomePlanes.{HasStrips-lent}
 use Rattle.mls_session.proofs.ListedPieces.{ListsChange-more, lent-changed, listed-changed}
 use Rattle.mls_session.proofs.design.Design.change_fits.Goals as goal
 
 pub list_pieces-requires-clause-strips : goal.list_pieces-requires-clause-strips
 list_pieces-requires-clause-strips c =
-    let owner = c.index_mut-plane.result.now in
+    let owner = c.index-plane.result.now in
     HasStrips-lent c.args.workspace.now.pool c.loop-i.workspace.pool c.args.self.now c.loop-i.i owner c.loop-i.invariant.pool c.requires.home.layout (omega (arith, ap (λ (kept : Design). length kept.planes) c.self.view_is))
-    (c.index_mut-plane.ensures.value ∙ ap (λ (kept : Design). get_or kept.planes c.loop-i.i owner) c.loop-i.invariant.same)
+    (c.index-plane.ensures ∙ ap (λ (kept : Design). get_or kept.planes c.loop-i.i owner) c.self.view_is)
 
 pub list_pieces-requires-clause-can_change : goal.list_pieces-requires-clause-can_change
 list_pieces-requires-clause-can_change c = subst (λ (pool : Pool). CanChange pool c.args.change.now) (sym c.loop-i.invariant.pool) c.requires.can_change
 
 pub fits-requires-clause-strips : goal.fits-requires-clause-strips
 fits-requires-clause-strips c =
-    let owner = c.index_mut-plane.result.now in
-    rw c.list_pieces.ensures.plane
-    (HasStrips-lent c.args.workspace.now.pool c.loop-i.workspace.pool c.args.self.now c.loop-i.i owner c.loop-i.invariant.pool c.requires.home.layout (omega (arith, ap (λ (kept : Design). length kept.planes) c.self.view_is))
-    (c.index_mut-plane.ensures.value ∙ ap (λ (kept : Design). get_or kept.planes c.loop-i.i owner) c.loop-i.invariant.same))
+    let owner = c.index-plane.result.now in
+    HasStrips-lent c.args.workspace.now.pool c.loop-i.workspace.pool c.args.self.now c.loop-i.i owner c.loop-i.invariant.pool c.requires.home.layout (omega (arith, ap (λ (kept : Design). length kept.planes) c.self.view_is))
+    (c.index-plane.ensures ∙ ap (λ (kept : Design). get_or kept.planes c.loop-i.i owner) c.self.view_is)
 
 pub returns-then-not-fits-clause-fits : goal.returns-then-not-fits-clause-fits
 returns-then-not-fits-clause-fits c = λ config count same.
@@ -33,20 +32,19 @@ returns-then-not-fits-clause-fits c = λ config count same.
     let design = c.args.self.now in
     let change = c.args.change.now in
     let i = c.loop-i.i in
-    let owner = c.index_mut-plane.result.now in
-    let is : owner ≡ get_or design.planes i owner = c.index_mut-plane.ensures.value ∙ ap (λ (kept : Design). get_or kept.planes i owner) c.loop-i.invariant.same in
+    let owner = c.index-plane.result.now in
+    let is : owner ≡ get_or design.planes i owner = c.index-plane.ensures ∙ ap (λ (kept : Design). get_or kept.planes i owner) c.self.view_is in
     let whole = ap (λ (kept : Design). length kept.planes) c.self.view_is in
     let within : i < length design.planes = omega (arith, whole) in
     let limit = c.get-limit.ensures.value ∙ ap (λ (kept : Design). kept.quota) c.self.view_is in
     let mid = c.loop-i.workspace.pool in
-    let plane = c.list_pieces.new.plane in
     let over = c.deref.result.now in
     let layout = changed_layout pool change (layout_in pool design.planes) in
-    let made : overlaid (picture_in mid plane) over ≡ layout i =
-    lent-changed pool mid design change i owner c.list_pieces.new.pieces.items within is c.loop-i.invariant.pool c.list_pieces.ensures.picture plane over
-    c.list_pieces.ensures.plane c.deref.ensures.value in
+    let made : overlaid (picture_in mid owner) over ≡ layout i =
+    lent-changed pool mid design change i owner c.list_pieces.new.pieces.items within is c.loop-i.invariant.pool c.list_pieces.ensures.picture over
+    c.deref.ensures.value in
     exceeds_quota-more config layout (length design.planes) design.quota i count same within
-    (exceeds-more layout design.quota i c.get-limit.result (overlaid (picture_in mid plane) over) limit made
+    (exceeds-more layout design.quota i c.get-limit.result (overlaid (picture_in mid owner) over) limit made
     (λ few. absurd (cc (sym c.if-not-fits.true ∙ c.fits.ensures.fits.1 few))))
 
 pub loop-i-preserved : goal.loop-i-preserved
@@ -56,27 +54,23 @@ loop-i-preserved c =
     let change = c.args.change.now in
     let turn = c.loop-i in
     let i = turn.i in
-    let owner = c.index_mut-plane.result.now in
-    let is : owner ≡ get_or design.planes i owner = c.index_mut-plane.ensures.value ∙ ap (λ (kept : Design). get_or kept.planes i owner) turn.invariant.same in
+    let owner = c.index-plane.result.now in
+    let is : owner ≡ get_or design.planes i owner = c.index-plane.ensures ∙ ap (λ (kept : Design). get_or kept.planes i owner) c.self.view_is in
     let whole = ap (λ (kept : Design). length kept.planes) c.self.view_is in
     let within : i < length design.planes = omega (arith, whole) in
     let limit = c.get-limit.ensures.value ∙ ap (λ (kept : Design). kept.quota) c.self.view_is in
     let mid = turn.workspace.pool in
-    let plane = c.list_pieces.new.plane in
     let over = c.deref.result.now in
     let list = c.list_pieces.new.pieces in
     let layout = changed_layout pool change (layout_in pool design.planes) in
-    let made : overlaid (picture_in mid plane) over ≡ layout i =
-    lent-changed pool mid design change i owner list.items within is turn.invariant.pool c.list_pieces.ensures.picture plane over
-    c.list_pieces.ensures.plane c.deref.ensures.value in
-    let kept = planes_kept turn.self-inside.planes.items i owner c.fits.new.plane c.index_mut-plane.ensures.value (c.fits.ensures.plane ∙ c.list_pieces.ensures.plane) in
+    let made : overlaid (picture_in mid owner) over ≡ layout i =
+    lent-changed pool mid design change i owner list.items within is turn.invariant.pool c.list_pieces.ensures.picture over
+    c.deref.ensures.value in
     record {
       pool = turn.invariant.pool;
-      same = ap (λ (planes : List ℕ). record { box = turn.self-inside.box_rect; planes = planes; uses = turn.self-inside.uses.items; quota = turn.self-inside.quota; errors = turn.self-inside.errors }) kept ∙ turn.invariant.same;
-      room = turn.invariant.room;
       few =
           any_more (exceeds design.quota layout) i ∙ ap (λ before. before || exceeds design.quota layout i) turn.invariant.few
-          ∙ exceeds-fits layout design.quota i c.get-limit.result (overlaid (picture_in mid plane) over) limit made (c.fits.ensures.fits.0 c.if-not-fits.false);
+          ∙ exceeds-fits layout design.quota i c.get-limit.result (overlaid (picture_in mid owner) over) limit made (c.fits.ensures.fits.0 c.if-not-fits.false);
       lists =
           ListsChange-more (λ list. list.items) turn.workspace.plane_pieces.items i pool change (layout_in pool design.planes) list (omega (arith, whole))
           (listed-changed pool mid design change i owner list.items within is turn.invariant.pool c.list_pieces.ensures.picture) turn.invariant.lists;

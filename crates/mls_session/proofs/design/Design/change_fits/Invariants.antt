@@ -1,17 +1,14 @@
-use Rattle.std.proofs.Common.{◌≡◌, ◌≤◌, false, map, vec_capacity}
+use Rattle.std.proofs.Common.{◌≡◌, false, map}
 use Rattle.std.specs.List.{list_any, range_with_len}
 use Rattle.mls_paint.specs.Planes.{layout_in}
-use Rattle.mls_layout.specs.Uses.{most_uses}
 use Rattle.mls_session.specs.Inner.{ListsChange, changed_layout}
 use Rattle.mls_session.proofs.ChangedQuotas.{exceeds}
 use Rattle.mls_session.proofs.design.Design.change_fits.Given as goal
 
--- the change is listed for the first planes, none of which would have more tiles, and there is room for uses
+-- the change is listed for the first planes, none of which would have more tiles
 abbrev pub invariant-loop-i : goal.invariant-loop-i
 invariant-loop-i l = record {
   pool : l.workspace.pool ≡ l.fn.workspace.pool;
-  same : record { box = l.self-inside.box_rect; planes = l.self-inside.planes.items; uses = l.self-inside.uses.items; quota = l.self-inside.quota; errors = l.self-inside.errors } ≡ l.fn.self;
-  room : most_uses ≤ vec_capacity l.self-inside.uses;
   few : list_any (exceeds l.fn.self.quota (changed_layout l.fn.workspace.pool l.change (layout_in l.fn.workspace.pool l.fn.self.planes))) (range_with_len 0 l.i) ≡ false;
   lists : ListsChange l.fn.workspace.pool l.change l.i (layout_in l.fn.workspace.pool l.fn.self.planes) (map (λ list. list.items) l.workspace.plane_pieces.items);
 }

@@ -5,14 +5,14 @@ use Rattle.mls_session.proofs.design.Design.step.Goals as goal
 
 pub step-requires-clause-layout : goal.step-requires-clause-layout
 step-requires-clause-layout c =
-    HasLayout-lent c.args.setup.now c.args.workspace.now.pool c.self.inside c.args.self.now c.self.view_is c.requires.home c.self.invariant.0 c.context-context.result.uses.library.now c.context-context.ensures.library c.deref_mut.result.now c.deref_mut.ensures.value c.requires.can_dump c.requires.made_for
+    HasLayout-lent c.args.setup.now c.args.workspace.now.pool c.self.inside c.args.self.now c.self.view_is c.requires.home c.self.invariant.0 c.context-context.result.uses.library.now c.context-context.ensures.library c.deref-2.result.now c.deref-2.ensures.value c.requires.can_dump c.requires.made_for
 
 pub returns-clause-stepped : goal.returns-clause-stepped
 returns-clause-stepped c =
     said_of-lent (λ rules layout planes limit before. HasStepped rules layout limit before c.step.result (checking_of c.step.new.workspace.pool c.step.new.self))
-    c.args.setup.now c.args.workspace.now.pool c.self.inside c.args.self.now c.self.view_is c.context-context.result c.deref_mut.result.now c.get-limit.result
-    (record { rules = c.context-context.ensures.rules; library = c.context-context.ensures.library; list = c.context-context.ensures.list ∙ c.deref.ensures.value; planes = c.deref_mut.ensures.value; limit = c.get-limit.ensures.value }) c.step.ensures.stepped
+    c.args.setup.now c.args.workspace.now.pool c.self.inside c.args.self.now c.self.view_is c.context-context.result c.deref-2.result.now c.get-limit.result
+    (record { rules = c.context-context.ensures.rules; library = c.context-context.ensures.library; list = c.context-context.ensures.list ∙ c.deref.ensures.value; planes = c.deref-2.ensures.value; limit = c.get-limit.ensures.value }) c.step.ensures.stepped
 
 pub returns-clause-keeps : goal.returns-clause-keeps
 returns-clause-keeps c =
-    KeepsDrawn-returned c.args.workspace.now.pool c.step.new.workspace.pool c.self.inside c.args.self.now c.self.view_is c.step.new.planes c.step.new.self (c.step.ensures.owners ∙ c.deref_mut.ensures.value) c.requires.home c.step.ensures.only c.step.ensures.marks c.step.ensures.owner
+    KeepsDrawn-returned c.args.workspace.now.pool c.step.new.workspace.pool c.self.inside c.args.self.now c.self.view_is c.step.new.self c.requires.home c.step.ensures.only c.step.ensures.marks c.step.ensures.owner

@@ -6,29 +6,24 @@ use Rattle.mls_layout.specs.Uses.{flat_layout}
 use Rattle.mls_session.specs.Own.{types_in}
 use Rattle.mls_session.proofs.BoxTypes.{types_none, types_more}
 use Rattle.mls_session.proofs.FlatDesigns.{HasFlatPlane-lent, flat_plane-lent}
-use Rattle.mls_session.proofs.HomePlanes.{planes_kept}
 use Rattle.mls_session.proofs.design.painting.types_in.Goals as goal
 
 pub loop-number-init : goal.loop-number-init
 loop-number-init c = record {
   pool = refl;
-  owners = refl;
   found = c.empty-found.ensures ∙ sym (types_none (flat_layout c.args.workspace.now.pool c.args.uses.now c.args.planes.now) c.args.rect);
 }
 
 pub kinds-requires : goal.kinds-requires
 kinds-requires c =
-    record { flat = HasFlatPlane-lent c.args.workspace.now.pool c.loop-number.workspace.pool c.args.uses.now c.args.planes.now c.loop-number.planes c.loop-number.number c.index-planes-number.result c.loop-number.invariant.pool c.loop-number.invariant.owners (omega (arith, ap length c.loop-number.invariant.owners)) c.requires.planes c.requires.planes_fit c.requires.cells }
+    record { flat = HasFlatPlane-lent c.args.workspace.now.pool c.loop-number.workspace.pool c.args.uses.now c.args.planes.now c.loop-number.number c.index-planes-number.result c.loop-number.invariant.pool (omega arith) c.index-planes-number.is c.requires.planes c.requires.planes_fit c.requires.cells }
 
 pub loop-number-preserved : goal.loop-number-preserved
 loop-number-preserved c =
     let layout = flat_layout c.args.workspace.now.pool c.args.uses.now c.args.planes.now in
-    let shown = flat_plane-lent c.args.workspace.now.pool c.loop-number.workspace.pool c.args.uses.now c.args.planes.now c.loop-number.planes c.loop-number.number c.index-planes-number.result c.loop-number.invariant.pool c.loop-number.invariant.owners (omega (arith, ap length c.loop-number.invariant.owners)) in
+    let shown = flat_plane-lent c.args.workspace.now.pool c.loop-number.workspace.pool c.args.uses.now c.args.planes.now c.loop-number.number c.index-planes-number.result c.loop-number.invariant.pool (omega arith) c.index-planes-number.is in
     record {
       pool = c.kinds.ensures.pool ∙ c.loop-number.invariant.pool;
-      owners =
-          planes_kept c.loop-number.planes c.loop-number.number c.index-planes-number.result c.kinds.new.plane c.index-planes-number.is (c.kinds.ensures.owner ∙ sym c.index-planes-number.is)
-          ∙ c.loop-number.invariant.owners;
       found =
           c.union-found.ensures
           ∙ ap (λ more. union c.loop-number.found more) (c.in_ok-more.ensures.kinds ∙ ap (λ (p : Picture). kinds_in p c.args.rect) shown)
@@ -39,5 +34,5 @@ loop-number-preserved c =
 pub returns-clause-value : goal.returns-clause-value
 returns-clause-value c =
     let owners = c.args.planes.now in
-    let all : c.loop-number.number ≡ length owners = omega (arith, ap length c.loop-number.invariant.owners) in
+    let all : c.loop-number.number ≡ length owners = omega arith in
     c.loop-number.invariant.found ∙ ap (λ n. types_in n (flat_layout c.args.workspace.now.pool c.args.uses.now owners) c.args.rect) all

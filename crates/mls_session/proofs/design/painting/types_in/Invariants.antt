@@ -7,6 +7,5 @@ use Rattle.mls_session.proofs.design.painting.types_in.Given as goal
 abbrev pub invariant-loop-number : goal.invariant-loop-number
 invariant-loop-number l = record {
   pool : l.workspace.pool ≡ l.fn.workspace.pool;
-  owners : l.planes ≡ l.fn.planes;
   found : l.found ≡ types_in l.number (flat_layout l.fn.workspace.pool l.uses l.fn.planes) l.rect;
 }

@@ -1,17 +1,11 @@
 -- The tiles are laid with no stitch and then stitched as the strips' blocks.
 use Rattle.std.proofs.Common.{length, ap, arith}
 use Rattle.mls_stitch.specs.Fresh.{fresh_at}
-use Rattle.mls_stitch.proofs.BuiltPlanes.{AwaitStitches-built, IsBuilt-stitched, some_strip}
+use Rattle.mls_stitch.proofs.BuiltPlanes.{AwaitStitches-built, IsBuilt-stitched}
 use Rattle.mls_stitch.proofs.Laying.{IsOwner-ChangesOnly, Lays-long}
 use Rattle.mls_stitch.proofs.PoolChanges.{ChangesOnly-trans}
 use Rattle.mls_stitch.proofs.ShownTiles.{KeysDiffer-tiles_of}
 use Rattle.mls_stitch.proofs.plane.Plane.build.Goals as goal
-
-pub index-requires : goal.index-requires
-index-requires c =
-    let some = some_strip c.args.pieces.now c.requires.strips in
-    let long = Lays-long c.place_all.ensures.laid in
-    omega (arith, some, long, ap length c.clear.ensures.items, c.place_all.new.entries.ok.0)
 
 pub stitch_listed-requires-clause-waits : goal.stitch_listed-requires-clause-waits
 stitch_listed-requires-clause-waits c =

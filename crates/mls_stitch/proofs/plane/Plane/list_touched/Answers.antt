@@ -1,5 +1,5 @@
 -- Round each piece, or round all.
-use Rattle.std.proofs.Common.{arith}
+use Rattle.std.proofs.Common.{ap, arith}
 use Rattle.mls_tilepool.specs.Pools.{tiles_of}
 use Rattle.mls_stitch.specs.Gathering.{HasTouched}
 use Rattle.mls_stitch.specs.Tilings.{block_at}
@@ -13,11 +13,11 @@ gathered : (c : goal.After-sort_dedup) → HasTouched (block_at (tiles_of c.args
 gathered c =
     let blocks = block_at (tiles_of c.args.pool.now c.args.self.now) in
     let over = c.args.over.now in
-    let before : HasTouched blocks over c.if-not-list_round_each.tiles.items = elim c.if-not-list_round_each.branch [
-      | then-not-list_round_each w ↦ rw w.tiles-is (rw c.self.view_is at w.list_round_all.ensures.touched)
-      | else-not-list_round_each w ↦ rw w.tiles-is (c.list_round_each.ensures.touched w.if-not-list_round_each.false)
+    let before : HasTouched blocks over c.if-not-list_round_each.scratch-inside.tiles.items = elim c.if-not-list_round_each.branch [
+      | then-not-list_round_each w ↦ rw w.scratch-inside-is (rw c.self.view_is at w.list_round_all.ensures.touched)
+      | else-not-list_round_each w ↦ rw (w.scratch-inside-is, ap (λ s. s.tiles) c.scratch.view_is) (rw c.self.view_is at c.list_round_each.ensures.touched w.if-not-list_round_each.false)
     ] in
-    touched_keeps blocks over c.if-not-list_round_each.tiles.items c.sort_dedup.new.entries.items before c.sort_dedup.ensures.keeps
+    touched_keeps blocks over c.if-not-list_round_each.scratch-inside.tiles.items c.sort_dedup.new.entries.items before c.sort_dedup.ensures.keeps
 
 pub returns-clause-touched : goal.returns-clause-touched
 returns-clause-touched c =

@@ -1,0 +1,6 @@
+-- the pool is as it was
+use Rattle.std.proofs.Common.{◌≡◌}
+use Rattle.mls_layout.proofs.going_on.planes_go_on_to.Given as goal
+
+abbrev pub invariant-loop-plane : goal.invariant-loop-plane
+invariant-loop-plane l = l.workspace.pool ≡ l.fn.workspace.pool
