@@ -93,12 +93,7 @@ fn planes_are_alike(planes: &[Plane], zone: &AlikeZone, workspace: &mut Workspac
 }
 
 /// Returns whether each plane has the zone's likeness. The searches leave in the scratch what they find.
-fn each_shows_alike(
-    pool: &Pool,
-    planes: &[Plane],
-    zone: &AlikeZone,
-    scratch: &mut Scratch,
-) -> bool
+fn each_shows_alike(pool: &Pool, planes: &[Plane], zone: &AlikeZone, scratch: &mut Scratch) -> bool
     requires planes { All (λ owner. HasPlane pool.now owner) planes.now }
     requires room { All (λ owner. HasRoomFor pool.now owner scratch.old) planes.now }
     requires near { zone.now.halo ≤ 256 }
@@ -107,14 +102,7 @@ fn each_shows_alike(
     ensures rooms { KeepsRoom scratch.old scratch.new }
 {
     for plane in planes {
-        if !shows_alike(
-            pool,
-            plane,
-            zone.likeness,
-            zone.rect,
-            zone.halo,
-            scratch,
-        ) {
+        if !shows_alike(pool, plane, zone.likeness, zone.rect, zone.halo, scratch) {
             return false;
         }
     }

@@ -56,12 +56,7 @@ pub fn goes_on_to(
 }
 
 /// Returns the line up to which the tiles of planes go on.
-fn planes_go_on_to(
-    planes: &[Plane],
-    begin: Rect,
-    onward: Onward,
-    workspace: &mut Workspace,
-) -> u32
+fn planes_go_on_to(planes: &[Plane], begin: Rect, onward: Onward, workspace: &mut Workspace) -> u32
     requires { HasPlanes workspace.old.pool planes.now }
     ensures { workspace.new.pool ≡ workspace.old.pool }
 {

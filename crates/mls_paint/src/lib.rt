@@ -14,7 +14,6 @@ mod swept;
 pub use covered::push_covered;
 pub use paint::{Painted, TooManyTiles, fits, overlay, overlay_within};
 pub use planes::{
-    find_area, find_meeting, kinds, release_plane, space_plane, strips_of,
-    tile_count,
+    find_area, find_meeting, kinds, release_plane, space_plane, strips_of, tile_count,
 };
 pub use scratch::Scratch;

@@ -113,13 +113,7 @@ pub fn overlay_within(
 }
 
 /// Returns whether [`overlay`] would succeed.
-pub fn fits(
-    pool: &Pool,
-    plane: &Plane,
-    over: &[Piece],
-    limit: u32,
-    scratch: &mut Scratch,
-) -> bool
+pub fn fits(pool: &Pool, plane: &Plane, over: &[Piece], limit: u32, scratch: &mut Scratch) -> bool
     requires strips { HasStrips pool.now plane.now }
     requires limit { IfSome (room_of pool.now plane.now) (λ room. limit ≤ room) }
     requires room { HasRoomFor pool.now plane.now scratch.old }

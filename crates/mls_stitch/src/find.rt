@@ -4,9 +4,9 @@ ghost use Rattle.mls_tilepool.specs.Pools.{tiles_of};
 ghost use Rattle.mls_stitch.specs.Tilings.{HasPlane, block_at};
 ghost use Rattle.mls_stitch.specs.Stitches.{HoldsAt};
 
-use crate::{Plane, Scratch};
 use crate::steps::Steps;
 use crate::walk::find_near;
+use crate::{Plane, Scratch};
 use mls_geom::Point;
 use mls_tilepool::{Pool, TileId};
 

@@ -178,7 +178,9 @@ impl Plane {
             self.list_touched(pool, over, turns, scratch);
         }
         let first = over.first().map_or(Rect::world(), |piece| piece.rect);
-        scratch.hints.keep_first(&self.owner, first.corner(), &scratch.tiles);
+        scratch
+            .hints
+            .keep_first(&self.owner, first.corner(), &scratch.tiles);
         searched
     }
 }
