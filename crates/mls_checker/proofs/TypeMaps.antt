@@ -13,7 +13,7 @@ use Rattle.mls_kinds.proofs.KindSetLemmas.{has_bit-set_of, has_bit_from_64, set_
 use Rattle.mls_checker.specs.Grids.{in_kinds}
 use Rattle.mls_checker.specs.Maps.{Frame, IsFrame, frame_area}
 use Rattle.mls_checker.specs.Tiles.{AreTiles, Tile, outer}
-use Rattle.mls_checker.proofs.Settling.{in-tile, of-kinds}
+use Rattle.mls_checker.proofs.MarkedSquares.{in-tile, of-kinds}
 
 -- a square of the frame has such a type exactly where a tile of such a kind has it
 pub shown-types : (frame : Frame) (picture : Picture) (tiles : List Tile) (types x y : ℕ) → IsFrame frame → AreTiles outer picture tiles → holds (frame_area frame) x y ≡ true

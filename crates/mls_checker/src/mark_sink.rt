@@ -2,7 +2,7 @@
 ghost use Rattle.std.specs.Prelude.{◌≡◌, ◌&&◌, ℕ, true, false, not, IfOk};
 ghost use Rattle.mls_checker.specs.Copies.{copied_layout};
 ghost use Rattle.mls_checker.specs.Forbids.{is_disallowed};
-ghost use Rattle.mls_checker.specs.Grids.{in_kinds, marked_squares, reached_squares, with_unsettled};
+ghost use Rattle.mls_checker.specs.Grids.{in_kinds, marked_squares, reached_squares, with_unmarked};
 ghost use Rattle.mls_checker.specs.Marking.{marks};
 ghost use Rattle.mls_geom.specs.Layouts.{Layout};
 ghost use Rattle.mls_geom.specs.Rects.{holds};
@@ -25,9 +25,9 @@ pub(crate) struct MarkSink {
     /// The check plane and the allowed types of the rules by which squares were reached.
     check_plane: PlaneNumber,
     ok_types: KindSet,
-    /// No square was reached since the marks were settled.
-    is_settled: bool,
-    ghost settled: { is_settled ≡ true → (x y : ℕ) → reached_squares grid.bands x y ≡ false },
+    /// No square was reached since those that were reached were marked.
+    is_marked: bool,
+    ghost none_reached: { is_marked ≡ true → (x y : ℕ) → reached_squares grid.bands x y ≡ false },
 }
 
 impl MarkSink {
@@ -35,46 +35,46 @@ impl MarkSink {
     pub fn new(alloc: Global, rect: Rect) -> Result<MarkSink, AllocError>
         ensures rect { IfOk result (λ sink. sink.grid.rect ≡ rect) }
         ensures none { IfOk result (λ sink. (layout : Layout) (x y : ℕ)
-            → with_unsettled sink.grid sink.check_plane sink.ok_types layout x y ≡ false) }
+            → with_unmarked sink.grid sink.check_plane sink.ok_types layout x y ≡ false) }
     {
         let grid = Grid::new(alloc, rect)?;
         Ok(MarkSink {
             grid,
             check_plane: PlaneNumber::new(0),
             ok_types: KindSet::empty(),
-            is_settled: true,
+            is_marked: true,
         })
     }
 
     /// Marks the squares that were reached and whose types aren't allowed, and begins anew with none.
-    fn settle(&mut self, snapshot: &Snapshot)
+    fn mark_reached(&mut self, snapshot: &Snapshot)
         ensures rect { self.new.grid.rect ≡ self.old.grid.rect }
         ensures marked { (x y : ℕ) → marked_squares self.new.grid.bands x y
-            ≡ with_unsettled self.old.grid self.old.check_plane self.old.ok_types (copied_layout snapshot.now) x y }
+            ≡ with_unmarked self.old.grid self.old.check_plane self.old.ok_types (copied_layout snapshot.now) x y }
         ensures reached { (x y : ℕ) → reached_squares self.new.grid.bands x y ≡ false }
     {
-        if self.is_settled {
+        if self.is_marked {
             return;
         }
         let tiles = snapshot.tiles(self.check_plane);
         clear_kinds(&mut self.grid, tiles.as_slice(), self.ok_types);
-        self.grid.settle();
-        self.is_settled = true;
+        self.grid.mark_reached();
+        self.is_marked = true;
     }
 
-    /// Settles what was reached by rules of another check plane or other allowed types than a rule's.
+    /// Marks what was reached by rules of another check plane or other allowed types than a rule's.
     fn turn_to(&mut self, rule: &EdgeRule, snapshot: &Snapshot)
         ensures rect { self.new.grid.rect ≡ self.old.grid.rect }
         ensures plane { self.new.check_plane ≡ rule.now.check_plane }
         ensures types { self.new.ok_types ≡ rule.now.ok_types }
-        ensures squares { (x y : ℕ) → with_unsettled self.new.grid self.new.check_plane self.new.ok_types
+        ensures squares { (x y : ℕ) → with_unmarked self.new.grid self.new.check_plane self.new.ok_types
             (copied_layout snapshot.now) x y
-            ≡ with_unsettled self.old.grid self.old.check_plane self.old.ok_types (copied_layout snapshot.now) x y }
+            ≡ with_unmarked self.old.grid self.old.check_plane self.old.ok_types (copied_layout snapshot.now) x y }
     {
         if rule.check_plane == self.check_plane && rule.ok_types == self.ok_types {
             return;
         }
-        self.settle(snapshot);
+        self.mark_reached(snapshot);
         self.check_plane = rule.check_plane;
         self.ok_types = rule.ok_types;
     }
@@ -83,9 +83,9 @@ impl MarkSink {
     pub fn into_marks(mut self, alloc: Global, snapshot: &Snapshot) -> Result<Marks, AllocError>
         ensures rect { IfOk result (λ m. m.rect ≡ self.grid.rect) }
         ensures squares { IfOk result (λ m. (x y : ℕ) → marks m x y
-            ≡ with_unsettled self.grid self.check_plane self.ok_types (copied_layout snapshot.now) x y) }
+            ≡ with_unmarked self.grid self.check_plane self.ok_types (copied_layout snapshot.now) x y) }
     {
-        self.settle(snapshot);
+        self.mark_reached(snapshot);
         let map = self.grid.to_map(alloc)?;
         Marks::of(alloc, map)
     }
@@ -107,11 +107,11 @@ fn clear_kinds(grid: &mut Grid, tiles: &[Tile], kinds: KindSet)
 
 impl ViolationSink for MarkSink {
     ghost use Rattle.std.specs.Prelude.{◌≡◌, ◌&&◌, ℕ};
-    ghost use Rattle.mls_checker.specs.Grids.{with_unsettled};
+    ghost use Rattle.mls_checker.specs.Grids.{with_unmarked};
     ghost use Rattle.mls_geom.specs.Rects.{holds};
 
     ghost represents = { λ sink layout rect set. (sink.grid.rect ≡ rect)
-        × ((x y : ℕ) → with_unsettled sink.grid sink.check_plane sink.ok_types layout x y
+        × ((x y : ℕ) → with_unmarked sink.grid sink.check_plane sink.ok_types layout x y
         ≡ (holds rect x y && set x y)) };
 
     fn add(&mut self, rule: &EdgeRule, snapshot: &Snapshot, area: Area, near: usize) {
@@ -123,7 +123,7 @@ impl ViolationSink for MarkSink {
             return;
         }
         self.turn_to(rule, snapshot);
-        self.is_settled = false;
+        self.is_marked = false;
         self.grid.reach(&area);
     }
 }

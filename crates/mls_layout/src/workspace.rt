@@ -1,9 +1,8 @@
 //! What calls borrow to work in.
 ghost use Rattle.std.specs.Prelude.{◌≡◌, ◌≤◌, [], IfOk, IfSome, length, map, vec_capacity};
-ghost use Rattle.std.specs.List.{All};
 ghost use Rattle.mls_geom.specs.StripLists.{strips_of};
 ghost use Rattle.mls_geom.specs.World.{world};
-ghost use Rattle.mls_layout.specs.Workspaces.{FitsWorkspace, HasRooms, most_planes, tile_room};
+ghost use Rattle.mls_layout.specs.Workspaces.{FitsWorkspace, HasRooms};
 ghost use Rattle.mls_paint.specs.Planes.{HasStrips, picture_in};
 ghost use Rattle.mls_tilepool.specs.Pools.{IsOwner, count_of, room_of};
 
@@ -29,7 +28,7 @@ pub const MARK_ROOM: usize = 32_769;
 /// What a call borrows: the pool of all tiles, and the lists in which it searches and paints.
 ///
 /// All memory is reserved when the workspace is made, so that planes of [`TILE_ROOM`] tiles can be searched,
-/// [`PIECE_ROOM`] pieces painted, [`MARK_ROOM`] listed, and [`TILE_ROOM`] for each of [`MOST_PLANES`] planes.
+/// [`PIECE_ROOM`] pieces painted, and [`MARK_ROOM`] listed.
 pub struct Workspace {
     /// The tiles of all planes.
     pub pool: Pool,
@@ -37,13 +36,9 @@ pub struct Workspace {
     pub scratch: Scratch,
     /// The list in which a call makes the pieces that it paints.
     pub pieces: Vec<Piece>,
-    /// The lists in which a change of several planes makes the pieces of each, one for each plane.
-    pub plane_pieces: Vec<Vec<Piece>>,
     /// The squares of a part of a layout, where cells are placed in it.
     pub grid: KindGrid,
     ghost rooms: { HasRooms scratch (vec_capacity pieces) },
-    ghost planes: { length plane_pieces.items ≡ most_planes },
-    ghost plane_rooms: { All (λ list. vec_capacity list ≡ tile_room) plane_pieces.items },
 }
 
 // Written out, so that what a workspace's end drops is proved here, and not in each crate that lets one go.
@@ -53,7 +48,6 @@ impl Drop for Workspace {
             pool: _pool,
             scratch: _scratch,
             pieces: _pieces,
-            plane_pieces: _plane_pieces,
             grid: _grid,
         } = self;
     }
@@ -70,12 +64,12 @@ impl Workspace {
     {
         Ok(Workspace {
             pieces: Vec::with_capacity(alloc, MARK_ROOM)?,
-            plane_pieces: plane_lists(alloc)?,
             grid: KindGrid::new(alloc)?,
             pool: Pool::new(alloc, capacity)?,
             scratch: Scratch::new(alloc, TILE_ROOM, PIECE_ROOM)?,
         })
     }
+
     /// Lists the maximal strips of a plane in the list of pieces, by bottom and then left. No memory is taken.
     pub fn list_strips(&mut self, plane: &Plane)
         requires strips { HasStrips self.old.pool plane.now }
@@ -93,18 +87,6 @@ impl Workspace {
         strips_of(pool, plane, scratch);
         list_pieces_of(scratch.tiles(), pieces);
     }
-}
-
-/// Creates the lists in which a change of several planes makes the pieces of each.
-fn plane_lists(alloc: Global) -> Result<Vec<Vec<Piece>>, AllocError>
-    ensures planes { IfOk result (λ lists. length lists.items ≡ most_planes) }
-    ensures rooms { IfOk result (λ lists. All (λ list. vec_capacity list ≡ tile_room) lists.items) }
-{
-    let mut lists = Vec::with_capacity(alloc, MOST_PLANES)?;
-    for _ in 0..MOST_PLANES {
-        lists.push_reserved(Vec::with_capacity(alloc, TILE_ROOM as usize)?);
-    }
-    Ok(lists)
 }
 
 /// A plane has no more tiles than it reserves. Does nothing: the contract is the law.

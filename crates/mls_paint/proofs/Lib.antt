@@ -1,6 +1,6 @@
 pub mod AreaKinds
 pub mod ChangedTiles
-pub mod KeptSweeps
+pub mod KeptPlans
 pub mod ListedTouched
 pub mod MovedLists
 pub mod OwnerFrames

@@ -1,6 +1,6 @@
 -- What a plane is once the strips of what the listed tiles and the pieces cover have taken the place of those tiles, where tiles that are such strips
 -- stay.
-use Rattle.std.proofs.Common.{◌≡◌, ℕ, ◌+◌, ◌<◌, ◌≤◌, ◌↔◌, Bool, true, false, not, IsTrue, inl, inr, refl, List, ◌++◌, length, Contains, IsPermutation, Some, sym, ap, ◌∙◌, subst, subst₂, arith}
+use Rattle.std.proofs.Common.{◌≡◌, ℕ, ◌+◌, ◌<◌, ◌≤◌, ◌↔◌, Bool, true, false, not, IsTrue, inl, inr, refl, List, ◌++◌, length, Contains, IfSome, IsSomeAnd, IsErr, IsOk, Ok, Err, Option, None, Some, Result, sym, ap, ◌∙◌, subst, arith}
 use Rattle.std.specs.Option.{option_map}
 use Rattle.std.proofs.lemmas.Bool.{both_ways, cases_lt}
 use Rattle.std.proofs.lemmas.List.Elements.{All-contains}
@@ -11,6 +11,7 @@ use Rattle.mls_geom.specs.Pictures.{overlaid}
 use Rattle.mls_geom.specs.TileCounts.{tile_count}
 use Rattle.mls_geom.specs.World.{AreLegal, world}
 use Rattle.mls_geom.specs.declared.piece.Piece.{Piece}
+use Rattle.mls_geom.proofs.CoveredCounts.{covered_strips_number}
 use Rattle.mls_tilepool.specs.Pools.{Pool, count_of, tiles_of}
 use Rattle.mls_tilepool.specs.declared.tile.Tile.{Tile}
 use Rattle.mls_stitch.specs.Areas.{ListTouched}
@@ -23,7 +24,7 @@ use Rattle.mls_stitch.proofs.FreshTiles.{entry-keys_of}
 use Rattle.mls_stitch.proofs.ListedTiles.{length-le-AreLaid}
 use Rattle.mls_stitch.proofs.PaintedTiles.{IsMaximal-painted, IsPainted, fresh-untouched, shown-painted, tile_count-painted}
 use Rattle.mls_stitch.proofs.ShownTiles.{KeysDiffer-tiles_of}
-use Rattle.mls_paint.specs.Changes.{CornersDiffer, gone_of, put_of}
+use Rattle.mls_paint.specs.Changes.{AreChanges, CornersDiffer, IsWorkedOut, gone_of, put_of}
 use Rattle.mls_paint.specs.Painting.{KeepsUntouched}
 use Rattle.mls_paint.specs.Planes.{HasStrips, picture_in}
 use Rattle.mls_paint.proofs.ChangedTiles.{Contains-gone_of, Contains-put_of, CornersDiffer-touched, TakePlace-changes, stays_among}
@@ -92,20 +93,6 @@ fits_unless true refused tiles limit is only = (
 )
 fits_unless false refused tiles limit is only = (λ never. absurd (both_ways false refl never), λ few. absurd (omega (arith, few, only.0 is)))
 
--- the names of the tiles that go and the strips that come, in any order
-pub record AreChanges (list : List LaidTile) (fresh : List Piece) (names : List ℕ) (put : List Piece) : Type 0 where
-  pub named : IsPermutation (keys_of (gone_of list fresh)) names
-  pub moved : IsPermutation (put_of fresh (pieces_of list)) put
-
--- where the lists are read elsewhere
-pub AreChanges-read :
-    (list tiles : List LaidTile) (fresh strips : List Piece) (names names_read : List ℕ) (put put_read : List Piece) → tiles ≡ list → strips ≡ fresh → names_read ≡ names → put_read ≡ put
-    → IsPermutation (keys_of (gone_of tiles strips)) names → IsPermutation (put_of strips (pieces_of tiles)) put → AreChanges list fresh names_read put_read
-AreChanges-read list tiles fresh strips names names_read put put_read same_tiles same_strips same_names same_put named moved = record {
-  named = subst₂ IsPermutation (ap (λ l. keys_of (gone_of l strips)) same_tiles ∙ ap (λ f. keys_of (gone_of list f)) same_strips) (sym same_names) named;
-  moved = subst₂ IsPermutation (ap (λ l. put_of strips (pieces_of l)) same_tiles ∙ ap (λ f. put_of f (pieces_of list)) same_strips) (sym same_put) moved;
-}
-
 -- the strips of what the tiles and the pieces cover take their place, other than those that are tiles already, in any order
 pub TakePlace-GivesWay :
     (pool : Pool) (owner : ℕ) (over : List Piece) (list : List LaidTile) (fresh : List Piece) (names : List ℕ) (put : List Piece) → GivesWay pool owner over list
@@ -115,6 +102,26 @@ TakePlace-GivesWay pool owner over list fresh names put gives covered changes =
     let under = AreTouched-GivesWay pool owner over list gives in
     TakePlace-moved blocks (keys_of (gone_of list fresh)) names (put_of fresh (pieces_of list)) put changes.named changes.moved
     (TakePlace-changes blocks list over fresh gives.strips.plane.plane.tiling under (TakePlace-strips blocks list over fresh under covered))
+
+-- a replacement that is refused only where there is no room for it succeeds where the painted plane has no more tiles than that
+pub ok_where_room :
+    {T E : Type 0} (done : Result T E) (room : Option ℕ) (tiles names count put : ℕ) → IfSome room (λ r. tiles ≤ r) → count + put ≡ tiles + names
+    → (IsErr done → IsSomeAnd room (λ r. r + names < count + put)) → IsOk done
+ok_where_room (Ok done) room tiles names count put fits same refused = refl
+ok_where_room (Err fault) None tiles names count put fits same refused = absurd (refused refl)
+ok_where_room (Err fault) (Some r) tiles names count put fits same refused = absurd (omega (arith, fits, same, refused refl))
+
+-- the painted plane has as many tiles as come and stay
+pub number-GivesWay :
+    (pool : Pool) (owner : ℕ) (over : List Piece) (list : List LaidTile) (names : List ℕ) (put : List Piece) → GivesWay pool owner over list
+    → (worked : IsWorkedOut list over names put) → count_of pool owner + length put ≡ tile_count world (overlaid (picture_in pool owner) over) + length names
+number-GivesWay pool owner over list names put gives worked =
+    omega (
+      arith,
+      tile_count-GivesWay pool owner over list gives,
+      covered_strips_number world (laid (pieces_of list ++ over)) worked.strips worked.covered,
+      worked.number,
+    )
 
 -- no two of the tiles have one lower-left corner
 pub CornersDiffer-GivesWay : (pool : Pool) (owner : ℕ) (over : List Piece) (list : List LaidTile) → GivesWay pool owner over list → CornersDiffer (pieces_of list)

@@ -1,7 +1,10 @@
 -- What changes where strips take the place of tiles: a tile that is itself one of the strips stays. No public contract names these.
-use Rattle.std.specs.Prelude.{◌≡◌, ◌≢◌, Bool, ◌&&◌, not, ◌==◌, false, List, filter}
+use Rattle.std.specs.Prelude.{◌≡◌, ◌≢◌, ℕ, ◌+◌, Bool, ◌&&◌, not, ◌==◌, false, List, ◌++◌, filter, length, map}
 use Rattle.std.specs.List.{AllPairs, Contains, list_any}
+use Rattle.std.specs.List.Sorted.{IsPermutation}
+use Rattle.mls_geom.specs.Locality.{AreCoveredStrips, HaveKinds, laid}
 use Rattle.mls_geom.specs.Strips.{comes_before}
+use Rattle.mls_geom.specs.World.{AreLegal, world}
 use Rattle.mls_geom.specs.declared.piece.Piece.{Piece}
 use Rattle.mls_stitch.specs.declared.laid_tile.LaidTile.{LaidTile}
 use Rattle.mls_paint.specs.declared.changes.Corner.{Corner}
@@ -35,3 +38,17 @@ gone_of tiles strips = filter (λ tile. not (is_among strips tile.piece)) tiles
 -- the strips that are none of the pieces
 abbrev pub put_of : List Piece → List Piece → List Piece
 put_of strips pieces = filter (λ strip. not (is_among pieces strip)) strips
+
+-- these are the names of the tiles that give way, and the strips that are put, in any order
+pub record AreChanges (tiles : List LaidTile) (strips : List Piece) (names : List ℕ) (put : List Piece) : Type 0 where
+  pub named : IsPermutation (map (λ tile. tile.id) (gone_of tiles strips)) names
+  pub moved : IsPermutation (put_of strips (map (λ tile. tile.piece) tiles)) put
+
+-- tiles of these names give way to the strips that are put where pieces are painted over the tiles
+pub record IsWorkedOut (tiles : List LaidTile) (over : List Piece) (names : List ℕ) (put : List Piece) : Type 0 where
+  pub kinds : HaveKinds (map (λ tile. tile.piece) tiles ++ over)
+  pub legal : AreLegal over
+  pub strips : List Piece
+  pub covered : AreCoveredStrips world (laid (map (λ tile. tile.piece) tiles ++ over)) strips
+  pub changes : AreChanges tiles strips names put
+  pub number : length put + length tiles ≡ length strips + length names

@@ -3,5 +3,5 @@ pub mod Owners
 pub mod Painting
 pub mod Pairs
 pub mod Planes
+pub mod Plans
 pub mod Scratches
-pub mod Sweeps

@@ -1,13 +1,19 @@
 -- What a caller sees of a scratch.
-use Rattle.std.specs.Prelude.{◌≡◌, ℕ, ◌≤◌, List, IfSome}
+use Rattle.std.specs.Prelude.{◌≡◌, ℕ, ◌≤◌, List, IfSome, get_or}
 use Rattle.mls_stitch.specs.declared.laid_tile.LaidTile.{LaidTile}
+use Rattle.mls_paint.specs.Plans.{Plan, no_plan}
 use Rattle.mls_tilepool.specs.Pools.{Pool, room_of}
 
--- the tiles that the last search found, how many tiles a plane may have, and how many pieces may be painted at once
+-- the tiles that the last search found, how many tiles a plane may have, how many pieces may be painted at once, and the plans that are kept
 pub record Scratch : Type 0 where
   pub tiles : List LaidTile
   pub room : ℕ
   pub pieces : ℕ
+  pub plans : List Plan
+
+-- the plan that is kept at a place
+abbrev pub plan_of : Scratch → ℕ → Plan
+plan_of scratch place = get_or scratch.plans place no_plan
 
 -- it still has the same room
 pub record KeepsRoom (old new : Scratch) : Type 0 where

@@ -6,7 +6,7 @@ ghost use Rattle.mls_geom.specs.declared.piece.Piece.{Piece};
 ghost use Rattle.mls_paint.specs.Scratches.{KeepsRoom};
 
 use crate::Scratch;
-use mls_geom::Piece;
+use mls_geom::{Piece, fresh_strips};
 use std::alloc::AllocError;
 
 /// Appends the maximal strips of what pieces show that are laid in turn on nothing, by bottom and then left, and
@@ -23,10 +23,11 @@ pub fn push_covered(
         × (out.new.items ≡ out.old.items ++ strips) × AreCoveredStrips world (laid pieces.now) strips) }
     ensures none { IfOk result (λ done. done ≡ false → out.new.items ≡ out.old.items) }
     ensures tiles { scratch.new.tiles ≡ scratch.old.tiles }
+    ensures plans { scratch.new.plans ≡ scratch.old.plans }
     ensures rooms { KeepsRoom scratch.old scratch.new }
 {
     let limit = scratch.room.saturating_add(scratch.pieces);
-    if scratch.sweep.find(pieces, limit).is_err() {
+    if fresh_strips(pieces, limit, &mut scratch.sweep).is_err() {
         return Ok(false);
     }
     out.extend_from_slice(scratch.sweep.strips())?;

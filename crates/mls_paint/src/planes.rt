@@ -30,6 +30,7 @@ pub fn space_plane(pool: &mut Pool, tiles: u32, scratch: &mut Scratch) -> Result
     ensures added { IfOk result (λ plane. AddsOwner pool.old pool.new plane tiles) }
     ensures taken { OnOk result (unreserved pool.new + tiles ≡ unreserved pool.old) }
     ensures refused { OnErr result (pool.new ≡ pool.old) }
+    ensures plans { scratch.new.plans ≡ scratch.old.plans }
     ensures rooms { KeepsRoom scratch.old scratch.new }
 {
     let owner = pool.reserve(tiles)?;
@@ -64,6 +65,7 @@ pub fn find_area(pool: &Pool, plane: &Plane, area: Rect, scratch: &mut Scratch)
     requires plane { HasPlane pool.now plane.now }
     requires room { HasRoomFor pool.now plane.now scratch.old }
     ensures found { AreInArea (block_at (tiles_of pool.now plane.now)) area scratch.new.tiles }
+    ensures plans { scratch.new.plans ≡ scratch.old.plans }
     ensures rooms { KeepsRoom scratch.old scratch.new }
 {
     // So there is room for what is found.
@@ -76,6 +78,7 @@ pub fn find_meeting(pool: &Pool, plane: &Plane, area: Rect, scratch: &mut Scratc
     requires plane { HasPlane pool.now plane.now }
     requires room { HasRoomFor pool.now plane.now scratch.old }
     ensures found { MeetArea (block_at (tiles_of pool.now plane.now)) area scratch.new.tiles }
+    ensures plans { scratch.new.plans ≡ scratch.old.plans }
     ensures rooms { KeepsRoom scratch.old scratch.new }
 {
     // So there is room for what is found.
@@ -90,6 +93,7 @@ pub fn strips_of(pool: &Pool, plane: &Plane, scratch: &mut Scratch)
     ensures found { AreInArea (block_at (tiles_of pool.now plane.now)) world scratch.new.tiles }
     ensures strips { AreStrips world (picture_in pool.now plane.now) (map (λ tile. tile.piece) scratch.new.tiles) }
     ensures listed { map (λ tile. tile.piece) scratch.new.tiles ≡ strips_of world (picture_in pool.now plane.now) }
+    ensures plans { scratch.new.plans ≡ scratch.old.plans }
     ensures rooms { KeepsRoom scratch.old scratch.new }
 {
     // So there is room for what is found.
@@ -102,6 +106,7 @@ pub fn kinds(pool: &Pool, plane: &Plane, rect: Rect, scratch: &mut Scratch) -> K
     requires plane { HasPlane pool.now plane.now }
     requires room { HasRoomFor pool.now plane.now scratch.old }
     ensures kinds { result ≡ kinds_in (picture_in pool.now plane.now) rect }
+    ensures plans { scratch.new.plans ≡ scratch.old.plans }
     ensures rooms { KeepsRoom scratch.old scratch.new }
 {
     find_area(pool, plane, rect, scratch);

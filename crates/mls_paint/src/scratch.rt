@@ -1,40 +1,38 @@
 //! Lists in which planes are painted and searched.
-ghost use Rattle.std.specs.Prelude.{◌≡◌, ◌+◌, ◌≤◌, [], IfOk, OnOk, vec_capacity};
+ghost use Rattle.std.specs.Prelude.{◌≡◌, [], IfOk};
 
-use crate::sweeps::Sweeps;
-use mls_geom::Piece;
+use crate::plans::{Plan, new_plans};
+use mls_geom::{Piece, Scratch as Sweep};
 use mls_stitch::{LaidTile, Scratch as Search};
-use mls_tilepool::TileId;
 use std::alloc::{AllocError, Global};
 use std::marker::Model;
 
-/// Lists in which the calls of this crate work. Searches leave there what they find.
+/// Lists in which the calls of this crate work. Searches leave there what they find, and plans are kept there.
 ///
 /// All memory is reserved when the scratch is made.
 pub struct Scratch {
     pub(crate) room: usize,
     pub(crate) pieces: usize,
     pub(crate) search: Search,
-    pub(crate) sweep: Sweeps,
+    pub(crate) sweep: Sweep,
     // The pieces of touched tiles, and those that are painted over them.
     pub(crate) touched: Vec<Piece>,
-    // The tiles that are to give way, and the strips that are to take their place.
-    pub(crate) gone: Vec<LaidTile>,
-    pub(crate) names: Vec<TileId>,
-    pub(crate) fresh: Vec<Piece>,
+    pub(crate) plans: Vec<Plan>,
 }
 
 impl Model for Scratch {
-    ghost use Rattle.std.specs.Prelude.{◌≡◌, ◌+◌, ◌≤◌, vec_capacity};
+    ghost use Rattle.std.specs.Prelude.{◌≡◌, ◌+◌, ◌≤◌, length, vec_capacity};
+    ghost use Rattle.std.specs.List.{All};
+    ghost use Rattle.mls_paint.specs.Plans.{most_plans};
     ghost use Rattle.mls_paint.specs.Scratches.{Scratch};
 
     ghost Value = { Scratch };
 
-    ghost view = { λ s. record { tiles = s.search.tiles; room = s.room; pieces = s.pieces } };
+    ghost view = { λ s. record { tiles = s.search.tiles; room = s.room; pieces = s.pieces; plans = s.plans.items } };
 
     ghost invariant = { λ s. (s.search.room ≡ s.room) × (s.sweep.room ≡ s.room + s.pieces)
-        × (s.room + s.pieces ≤ vec_capacity s.touched) × (s.room ≤ vec_capacity s.gone)
-        × (s.room ≤ vec_capacity s.names) × (s.room ≤ vec_capacity s.fresh) };
+        × (s.room + s.pieces ≤ vec_capacity s.touched) × (length s.plans.items ≡ most_plans)
+        × All (λ plan. plan.room ≡ s.room) s.plans.items × All (λ plan. plan.pieces ≡ s.pieces) s.plans.items };
 }
 
 // Written out, so that what a scratch's end drops is proved here, and not in each crate that lets one go.
@@ -46,9 +44,7 @@ impl Drop for Scratch {
             search: _search,
             sweep: _sweep,
             touched: _touched,
-            gone: _gone,
-            names: _names,
-            fresh: _fresh,
+            plans: _plans,
         } = self;
     }
 }
@@ -62,22 +58,13 @@ impl Scratch {
     {
         let tiles = room as usize;
         let pieces = pieces as usize;
-        let touched = Vec::with_capacity(alloc, tiles + pieces)?;
-        let mut gone = Vec::new(alloc);
-        let mut names = Vec::new(alloc);
-        let mut fresh = Vec::new(alloc);
-        reserve(tiles, &mut gone, &mut names, &mut fresh)?;
-        let search = Search::new(alloc, room)?;
-        let sweep = Sweeps::new(alloc, tiles + pieces)?;
         Ok(Scratch {
             room: tiles,
             pieces,
-            search,
-            sweep,
-            touched,
-            gone,
-            names,
-            fresh,
+            search: Search::new(alloc, room)?,
+            sweep: Sweep::new(alloc, tiles + pieces)?,
+            touched: Vec::with_capacity(alloc, tiles + pieces)?,
+            plans: new_plans(alloc, tiles, pieces)?,
         })
     }
 
@@ -101,20 +88,4 @@ impl Scratch {
     {
         self.search.tiles()
     }
-}
-
-/// Reserves room for so many tiles, names and strips.
-fn reserve(
-    room: usize,
-    gone: &mut Vec<LaidTile>,
-    names: &mut Vec<TileId>,
-    fresh: &mut Vec<Piece>,
-) -> Result<(), AllocError>
-    ensures gone { OnOk result (room ≤ vec_capacity gone.new) }
-    ensures names { OnOk result (room ≤ vec_capacity names.new) }
-    ensures fresh { OnOk result (room ≤ vec_capacity fresh.new) }
-{
-    gone.reserve_exact(room)?;
-    names.reserve_exact(room)?;
-    fresh.reserve_exact(room)
 }

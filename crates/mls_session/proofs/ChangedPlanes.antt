@@ -9,10 +9,12 @@ use Rattle.mls_geom.specs.Layouts.{Layout}
 use Rattle.mls_geom.specs.Pictures.{Picture, empty_picture}
 use Rattle.mls_geom.specs.Rects.{holds}
 use Rattle.mls_geom.specs.declared.piece.Piece.{Piece}
-use Rattle.mls_tilepool.specs.Pools.{Pool}
-use Rattle.mls_stitch.specs.Tilings.{ChangesOnly, shown}
+use Rattle.mls_tilepool.specs.Pools.{Pool, tiles_of}
+use Rattle.mls_stitch.specs.Areas.{AreSearched, ListTouched}
+use Rattle.mls_stitch.specs.Tilings.{ChangesOnly, block_at, shown}
 use Rattle.mls_paint.specs.Owners.{ChangesAmong}
 use Rattle.mls_paint.specs.Planes.{HasStrips, layout_in, picture_at, picture_in}
+use Rattle.mls_paint.specs.Plans.{IsPlanFor, Plan}
 use Rattle.mls_paint.proofs.OwnerFrames.{ChangesAmong-ChangesOnly, ChangesAmong-refl, ChangesAmong-trans, layout_in-at}
 use Rattle.mls_layout.specs.Moves.{kind_or_space, moved_picture}
 use Rattle.mls_session.specs.Changes.{dumped}
@@ -23,10 +25,17 @@ use Rattle.mls_session.specs.declared.change.Change.TheVariants.{Erase, Dump}
 use Rattle.mls_session.proofs.HomePlanes.{AreAtHome-ChangesOnly, owners_differ}
 
 -- ---- plane by plane
--- the first planes show what is wanted and the others what they showed, only they have changed, and all are at home
+-- a plan is one for a plane that has the same tiles
+pub IsPlanFor-tiles : (old new : Pool) (owner : ℕ) (plan : Plan) → tiles_of new owner ≡ tiles_of old owner → IsPlanFor old owner plan → IsPlanFor new owner plan
+IsPlanFor-tiles old new owner plan same made = record {
+  touched = subst (λ tiles. ListTouched (block_at tiles) plan.over plan.tiles) (sym same) made.touched;
+  searched = subst (λ tiles. AreSearched (block_at tiles) plan.searched plan.tiles) (sym same) made.searched;
+}
+
+-- the first planes show what is wanted and the others have the tiles that they had, only they have changed, and all are at home
 pub record IsMade (old new : Pool) (design : Design) (wanted : Layout) (count : ℕ) : Type 0 where
   pub done : (k d : ℕ) → k < count → k < length design.planes → picture_in new (get_or design.planes k d) ≡ wanted k
-  pub rest : (k d : ℕ) → count ≤ k → k < length design.planes → picture_in new (get_or design.planes k d) ≡ picture_in old (get_or design.planes k d)
+  pub rest : (k d : ℕ) → count ≤ k → k < length design.planes → tiles_of new (get_or design.planes k d) ≡ tiles_of old (get_or design.planes k d)
   pub only : ChangesAmong old new design.planes
   pub home : AreAtHome new design.quota design.planes
 
@@ -42,24 +51,28 @@ module _ (old mid : Pool) (design : Design) (wanted : Layout) (i owner : ℕ) (m
   at : (d : ℕ) → get_or design.planes i d ≡ owner
   at d = get_or_default design.planes i d owner within ∙ sym is
 
-  -- the next plane shows what it did at first
+  -- the next plane has the tiles that it had
+  pub tiles_of-IsMade : tiles_of mid owner ≡ tiles_of old owner
+  tiles_of-IsMade = ap (tiles_of mid) (sym (at 0)) ∙ made.rest i 0 (omega arith) within ∙ ap (tiles_of old) (at 0)
+
+  -- so it shows what it did at first
   pub picture_in-IsMade : picture_in mid owner ≡ layout_in old design.planes i
   picture_in-IsMade =
-      ap (picture_in mid) (sym (at 0)) ∙ made.rest i 0 (omega arith) within ∙ ap (picture_in old) (at 0) ∙ sym (layout_in-at old design.planes i owner within is)
+      ap shown tiles_of-IsMade ∙ sym (layout_in-at old design.planes i owner within is)
 
   module _ (new : Pool) (changes : ChangesOnly mid new owner) (strips : HasStrips new owner) (shows : picture_in new owner ≡ wanted i) where
     differs : (k d : ℕ) → k ≢ i → k < length design.planes → get_or design.planes k d ≢ owner
     differs k d other below same = owners_differ design.planes k i d made.home.apart below within other (same ∙ sym (at d))
 
-    kept : (k d : ℕ) → k ≢ i → k < length design.planes → picture_in new (get_or design.planes k d) ≡ picture_in mid (get_or design.planes k d)
-    kept k d other below = ap shown (changes.others (get_or design.planes k d) (differs k d other below))
+    kept : (k d : ℕ) → k ≢ i → k < length design.planes → tiles_of new (get_or design.planes k d) ≡ tiles_of mid (get_or design.planes k d)
+    kept k d other below = changes.others (get_or design.planes k d) (differs k d other below)
 
     next_done : (k d : ℕ) → k < i + 1 → k < length design.planes → picture_in new (get_or design.planes k d) ≡ wanted k
     next_done k d before below = elim (cases_eq k i) [
       | inl same ↦
           let P : ℕ → Type 0 = λ j. picture_in new (get_or design.planes j d) ≡ wanted j in
           subst P (sym same) (ap (picture_in new) (at d) ∙ shows)
-      | inr other ↦ kept k d other below ∙ made.done k d (omega (arith, before, other)) below
+      | inr other ↦ ap shown (kept k d other below) ∙ made.done k d (omega (arith, before, other)) below
     ]
 
     pub IsMade-more : IsMade old new design wanted (i + 1)
@@ -112,7 +125,7 @@ changed-past pool (Dump planes dx dy) count plane few past =
 
 -- the layout is changed once all planes show what the change lists for them
 pub layout_in-changed :
-    (old new : Pool) (design : Design) (change : Change) (pieces : List (List Piece)) → ReadsAtMost (length design.planes) change
+    (old new : Pool) (design : Design) (change : Change) (pieces : ℕ → List Piece) → ReadsAtMost (length design.planes) change
     → ListsChange old change (length design.planes) (layout_in old design.planes) pieces
     → ((plane : ℕ) → plane < length design.planes → layout_in new design.planes plane ≡ painted_over pieces (layout_in old design.planes) plane)
     → layout_in new design.planes ≡ changed_layout old change (layout_in old design.planes)

@@ -1,7 +1,7 @@
 -- Whether a plane would have more tiles than the quota, on one plane and on all.
-use Rattle.std.proofs.Common.{◌≡◌, Bool, true, false, not, ℕ, ◌<◌, ◌≤◌, nat_lt, if◌then◌else◌, Result, Ok, Err, IsErr, IsOk, [], inl, inr, refl, sym, ap, ◌∙◌, subst, arith}
+use Rattle.std.proofs.Common.{◌≡◌, Bool, true, false, not, ℕ, ◌<◌, ◌≤◌, nat_lt, if◌then◌else◌, [], inl, inr, refl, sym, ap, ◌∙◌, subst, arith}
 use Rattle.std.specs.List.{list_any, range_with_len}
-use Rattle.std.proofs.lemmas.Bool.{cases_lt}
+use Rattle.std.proofs.lemmas.Bool.{cases_lt, false_from_ne_true}
 use Rattle.std.proofs.lemmas.Bool.Decides.{nat_tests}
 use Rattle.mls_geom.specs.Layouts.{Layout}
 use Rattle.mls_geom.specs.Pictures.{Picture}
@@ -27,27 +27,15 @@ exceeds_quota-is config layout planes quota count same = rw (count, same) refl
 
 -- ---- on one plane
 module _ (layout : Layout) (quota i limit : ℕ) (over : Picture) (same : limit ≡ quota) (made : over ≡ layout i) where
-  pub exceeds-fits : tile_count world over ≤ limit → exceeds quota layout i ≡ false
+  pub exceeds-fits : (limit < tile_count world over → ⊥) → exceeds quota layout i ≡ false
   exceeds-fits few =
-      let test : nat_lt quota (tile_count world over) ≡ false = grind (arith, nat_tests, few, same) in
+      let test : nat_lt quota (tile_count world over) ≡ false = false_from_ne_true _ (λ more. few (grind (arith, nat_tests, more, same))) in
       ap (λ picture. nat_lt quota (tile_count world picture)) (sym made) ∙ test
 
-  pub exceeds-more : (tile_count world over ≤ limit → ⊥) → exceeds quota layout i ≡ true
-  exceeds-more many =
-      let more : limit < tile_count world over = elim (cases_lt limit (tile_count world over)) [
-        | inl above ↦ above
-        | inr few ↦ absurd (many few)
-      ] in
+  pub exceeds-more : limit < tile_count world over → exceeds quota layout i ≡ true
+  exceeds-more more =
       let test : nat_lt quota (tile_count world over) ≡ true = grind (arith, nat_tests, more, same) in
       ap (λ picture. nat_lt quota (tile_count world picture)) (sym made) ∙ test
-
-  -- a plane that fits the quota is painted
-  pub ok_where_fits :
-      {T E : Type 0} (painted : Result T E) (planes : ℕ) → i < planes → FitsQuota planes quota layout → (IsErr painted → limit < tile_count world over) → IsOk painted
-  ok_where_fits (Ok done) planes within fits refused = refl
-  ok_where_fits (Err fault) planes within fits refused =
-      let few = subst (λ picture. tile_count world picture ≤ quota) (sym made) (fits i within) in
-      absurd (omega (arith, few, same, refused refl))
 
 -- ---- on all planes
 -- one plane that has more is enough

@@ -37,7 +37,7 @@ pub HasStrips-lent :
     → HasStrips mid owner
 HasStrips-lent pool mid design i owner same home within is = subst (λ (now : Pool). HasStrips now owner) (sym same) (HasStrips-at pool design i owner home within is)
 
--- its reserve fits where reserves of this quota do, and the quota fits the reserve
+-- its reserve fits where reserves of this quota do, and what fits the quota fits the reserve
 pub room-at :
     (pool : Pool) (design : Design) (i owner capacity : ℕ) → AreAtHome pool design.quota design.planes → i < length design.planes → owner ≡ get_or design.planes i owner
     → plane_reserve design.quota ≤ capacity → IfSome (room_of pool owner) (λ room. room ≤ capacity)
@@ -45,13 +45,18 @@ room-at pool design i owner capacity home within is fits =
     let room : room_of pool owner ≡ Some (plane_reserve design.quota) = ap (room_of pool) is ∙ home.reserves i owner within in
     rw room fits
 
+pub count-at :
+    (pool : Pool) (design : Design) (i owner count : ℕ) → AreAtHome pool design.quota design.planes → i < length design.planes → owner ≡ get_or design.planes i owner
+    → count ≤ design.quota → IfSome (room_of pool owner) (λ room. count ≤ room)
+count-at pool design i owner count home within is few =
+    let room : room_of pool owner ≡ Some (plane_reserve design.quota) = ap (room_of pool) is ∙ home.reserves i owner within in
+    let fits : count ≤ plane_reserve design.quota = omega (arith, few) in
+    rw room fits
+
 pub limit-at :
     (pool : Pool) (design : Design) (i owner limit : ℕ) → AreAtHome pool design.quota design.planes → i < length design.planes → owner ≡ get_or design.planes i owner
     → limit ≡ design.quota → IfSome (room_of pool owner) (λ room. limit ≤ room)
-limit-at pool design i owner limit home within is same =
-    let room : room_of pool owner ≡ Some (plane_reserve design.quota) = ap (room_of pool) is ∙ home.reserves i owner within in
-    let fits : limit ≤ plane_reserve design.quota = omega (arith, same) in
-    rw room fits
+limit-at pool design i owner limit home within is same = count-at pool design i owner limit home within is (omega (arith, same))
 
 -- so do as many pieces as it has tiles, or as a cell's plane may have
 pub pieces-at :

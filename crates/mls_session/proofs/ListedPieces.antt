@@ -1,7 +1,6 @@
 -- The pieces that a change paints, listed plane by plane.
-use Rattle.std.proofs.Common.{◌≡◌, ◌≢◌, ℕ, ◌+◌, ◌<◌, ◌≤◌, List, [], length, map, get_or, set, inl, inr, sym, ap, subst, ◌∙◌, arith}
+use Rattle.std.proofs.Common.{◌≡◌, ◌≢◌, ℕ, ◌+◌, ◌<◌, ◌≤◌, List, length, get_or, inl, inr, sym, ap, subst, ◌∙◌, arith}
 use Rattle.std.proofs.lemmas.Bool.{cases_eq}
-use Rattle.std.proofs.lemmas.List.{get_or-map, get_or-set_other, get_or-set_same, length-map, map-set}
 use Rattle.mls_geom.specs.Layouts.{Layout}
 use Rattle.mls_geom.specs.Pictures.{Picture, overlaid}
 use Rattle.mls_geom.specs.TileCounts.{tile_count}
@@ -9,43 +8,35 @@ use Rattle.mls_geom.specs.World.{world}
 use Rattle.mls_geom.specs.declared.piece.Piece.{Piece}
 use Rattle.mls_tilepool.specs.Pools.{Pool}
 use Rattle.mls_paint.specs.Planes.{layout_in, picture_in}
+use Rattle.mls_paint.specs.Plans.{IsPlanFor}
+use Rattle.mls_paint.specs.Scratches.{Scratch, plan_of}
 use Rattle.mls_paint.proofs.OwnerFrames.{layout_in-at}
-use Rattle.mls_session.specs.Inner.{FitsQuota, ListsChange, changed, changed_layout, painted_over}
+use Rattle.mls_session.specs.Inner.{ArePlanned, FitsQuota, ListsChange, changed, changed_layout, painted_over}
 use Rattle.mls_session.specs.Designs.{Design}
 use Rattle.mls_session.specs.declared.change.Change.{Change}
 
--- ---- lists of pieces, one for each plane
-module _ {X : Type 0} (pieces_of : X → List Piece) (lists : List X) (i : ℕ) where
-  -- the list of one plane is painted on it
-  pub painted-listed :
-      (now : List X) (list : X) (layout : Layout) (below : Picture) (over : List Piece) → i < length lists → now ≡ lists → list ≡ get_or now i list → over ≡ pieces_of list
-      → below ≡ layout i → overlaid below over ≡ painted_over (map pieces_of lists) layout i
-  painted-listed now list layout below over within same is is_list shown =
-      let read : get_or (map pieces_of lists) i [] ≡ pieces_of list =
-      get_or-map pieces_of lists i list [] within ∙ ap pieces_of (ap (λ (all : List X). get_or all i list) (sym same) ∙ sym is) in
-      ap (λ (picture : Picture). overlaid picture over) shown ∙ ap (overlaid (layout i)) (is_list ∙ sym read)
+-- ---- pieces of each plane
+-- the change is listed for one plane more
+pub ListsChange-more :
+    (pool : Pool) (change : Change) (layout : Layout) (i : ℕ) (old new : ℕ → List Piece) → overlaid (layout i) (new i) ≡ changed_layout pool change layout i
+    → ((plane : ℕ) → plane ≢ i → new plane ≡ old plane) → ListsChange pool change i layout old → ListsChange pool change (i + 1) layout new
+ListsChange-more pool change layout i old new made others so_far plane below = elim (cases_eq plane i) [
+  | inl same ↦
+      let P : ℕ → Type 0 = λ j. painted_over new layout j ≡ changed_layout pool change layout j in
+      subst P (sym same) made
+  | inr other ↦ ap (overlaid (layout plane)) (others plane other) ∙ so_far plane (omega (arith, below, other))
+]
 
-  -- another list for it
-  listed-set : (list : X) → i < length lists → get_or (map pieces_of (set lists i list)) i [] ≡ pieces_of list
-  listed-set list within =
-      ap (λ (all : List (List Piece)). get_or all i []) (map-set pieces_of lists i list)
-      ∙ get_or-set_same (map pieces_of lists) i (pieces_of list) [] (omega (arith, within, length-map lists pieces_of))
-
-  listed-kept : (list : X) (plane : ℕ) → plane ≢ i → get_or (map pieces_of (set lists i list)) plane [] ≡ get_or (map pieces_of lists) plane []
-  listed-kept list plane other =
-      ap (λ (all : List (List Piece)). get_or all plane []) (map-set pieces_of lists i list)
-      ∙ get_or-set_other (map pieces_of lists) i plane (pieces_of list) [] other
-
-  -- the change is listed for one plane more
-  pub ListsChange-more :
-      (pool : Pool) (change : Change) (layout : Layout) (list : X) → i < length lists → overlaid (layout i) (pieces_of list) ≡ changed_layout pool change layout i
-      → ListsChange pool change i layout (map pieces_of lists) → ListsChange pool change (i + 1) layout (map pieces_of (set lists i list))
-  ListsChange-more pool change layout list within made so_far plane below = elim (cases_eq plane i) [
-    | inl same ↦
-        let P : ℕ → Type 0 = λ j. painted_over (map pieces_of (set lists i list)) layout j ≡ changed_layout pool change layout j in
-        subst P (sym same) (ap (overlaid (layout i)) (listed-set list within) ∙ made)
-    | inr other ↦ ap (overlaid (layout plane)) (listed-kept list plane other) ∙ so_far plane (omega (arith, below, other))
-  ]
+-- and a plan is kept for one plane more
+pub ArePlanned-more :
+    (pool : Pool) (owners : List ℕ) (i : ℕ) (old new : Scratch) → IsPlanFor pool (get_or owners i 0) (plan_of new i)
+    → ((plane : ℕ) → plane ≢ i → plan_of new plane ≡ plan_of old plane) → ArePlanned pool owners i old → ArePlanned pool owners (i + 1) new
+ArePlanned-more pool owners i old new made others so_far plane below = elim (cases_eq plane i) [
+  | inl same ↦
+      let P : ℕ → Type 0 = λ j. IsPlanFor pool (get_or owners j 0) (plan_of new j) in
+      subst P (sym same) made
+  | inr other ↦ subst (IsPlanFor pool (get_or owners plane 0)) (sym (others plane other)) (so_far plane (omega (arith, below, other)))
+]
 
 -- ---- one plane
 -- what is listed for a plane makes the change on it
@@ -63,7 +54,7 @@ module _ (pool mid : Pool) (design : Design) (change : Change) (i owner : ℕ) (
 -- ---- all planes
 -- where the change fits, so does what is listed for it
 pub FitsQuota-listed :
-    (pool : Pool) (change : Change) (planes quota : ℕ) (layout : Layout) (pieces : List (List Piece)) → ListsChange pool change planes layout pieces
+    (pool : Pool) (change : Change) (planes quota : ℕ) (layout : Layout) (pieces : ℕ → List Piece) → ListsChange pool change planes layout pieces
     → FitsQuota planes quota (changed_layout pool change layout) → FitsQuota planes quota (painted_over pieces layout)
 FitsQuota-listed pool change planes quota layout pieces listed fits plane within =
     subst (λ picture. tile_count world picture ≤ quota) (sym (listed plane within)) (fits plane within)

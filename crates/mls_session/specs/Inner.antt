@@ -10,6 +10,8 @@ use Rattle.mls_geom.specs.declared.piece.Piece.{Piece}
 use Rattle.mls_library.specs.Libraries.{IsFrozen}
 use Rattle.mls_library.specs.SavedCells.{layer_lines, strips_on}
 use Rattle.mls_paint.specs.Planes.{layout_in, picture_in}
+use Rattle.mls_paint.specs.Plans.{IsPlanFor}
+use Rattle.mls_paint.specs.Scratches.{Scratch, plan_of}
 use Rattle.mls_tech.specs.Readings.{Tech, plane_of_type}
 use Rattle.mls_tilepool.specs.Pools.{Pool, room_of}
 use Rattle.mls_session.specs.Bounds.{moved_rect}
@@ -56,12 +58,20 @@ abbrev pub changed_layout : Pool → Change → Layout → Layout
 changed_layout pool change layout plane = changed pool change plane (layout plane)
 
 -- what a layout shows once the pieces of each plane are painted over it
-abbrev pub painted_over : List (List Piece) → Layout → Layout
-painted_over pieces layout plane = overlaid (layout plane) (get_or pieces plane [])
+abbrev pub painted_over : (ℕ → List Piece) → Layout → Layout
+painted_over pieces layout plane = overlaid (layout plane) (pieces plane)
 
 -- painted over the layout's first planes, these pieces make the change
-abbrev pub ListsChange : Pool → Change → ℕ → Layout → List (List Piece) → Type 0
+abbrev pub ListsChange : Pool → Change → ℕ → Layout → (ℕ → List Piece) → Type 0
 ListsChange pool change planes layout pieces = (plane : ℕ) → plane < planes → painted_over pieces layout plane ≡ changed_layout pool change layout plane
+
+-- the pieces of the plan that is kept for each plane
+abbrev pub planned_pieces : Scratch → ℕ → List Piece
+planned_pieces scratch plane = (plan_of scratch plane).over
+
+-- a plan is kept for each of the first planes, of these owners
+abbrev pub ArePlanned : Pool → List ℕ → ℕ → Scratch → Type 0
+ArePlanned pool owners count scratch = (plane : ℕ) → plane < count → IsPlanFor pool (get_or owners plane 0) (plan_of scratch plane)
 
 -- a list of this capacity has room for as many pieces as the owner has reserved tiles
 abbrev pub HasCapacityFor : Pool → ℕ → ℕ → Type 0

@@ -52,6 +52,7 @@ impl Change<'_> {
             → overlaid below pieces.new.items ≡ changed pool.now self.now number below }
         ensures few { IfSome (room_of pool.now plane.now) (λ room. length pieces.new.items ≤ max room most_tiles) }
         ensures pieces_room { vec_capacity pieces.new ≡ vec_capacity pieces.old }
+        ensures plans { scratch.new.plans ≡ scratch.old.plans }
         ensures rooms { KeepsRoom scratch.old scratch.new }
     {
         match *self {
@@ -80,6 +81,7 @@ fn list_erased(
         ≡ erased (picture_in pool.now plane.now) rect kinds }
     ensures few { IfSome (room_of pool.now plane.now) (λ room. length pieces.new.items ≤ room) }
     ensures pieces_room { vec_capacity pieces.new ≡ vec_capacity pieces.old }
+    ensures plans { scratch.new.plans ≡ scratch.old.plans }
     ensures rooms { KeepsRoom scratch.old scratch.new }
 {
     let count = pool.count(plane.owner()) as usize;
@@ -114,6 +116,7 @@ fn list_dumped(
         ≡ dumped below (picture_in pool.now cell.now) dx dy }
     ensures few { length pieces.new.items ≤ most_tiles }
     ensures pieces_room { vec_capacity pieces.new ≡ vec_capacity pieces.old }
+    ensures plans { scratch.new.plans ≡ scratch.old.plans }
     ensures rooms { KeepsRoom scratch.old scratch.new }
 {
     strips_of(pool, cell, scratch);

@@ -9,14 +9,13 @@ ghost use Rattle.mls_stitch.specs.Placing.{IsLost, KeepsKeys, Surround, unlisted
 ghost use Rattle.mls_stitch.specs.Replacements.{IsHeld};
 ghost use Rattle.mls_stitch.specs.Tilings.{HasPlane, block_at};
 
-use crate::LaidTile;
 use crate::bounds::bounds_of_tiles;
 use crate::enumeration::list_tiles;
 use crate::laid_tile::laid;
 use crate::parts::parts_lost;
-use crate::replacement::Replacement;
 use crate::scan::scan_area;
 use crate::steps::{Steps, are_many};
+use crate::{LaidTile, Replacement};
 use mls_geom::Rect;
 use mls_tilepool::{Owner, Pool, TileId};
 

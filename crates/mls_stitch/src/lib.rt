@@ -27,5 +27,6 @@ mod walk;
 
 pub use laid_tile::LaidTile;
 pub use plane::Plane;
+pub use replacement::Replacement;
 pub use scratch::Scratch;
 pub use stitch::Stitch;

@@ -7,11 +7,9 @@ ghost use Rattle.mls_stitch.specs.Replacements.{Replaces, TakePlace};
 
 use crate::around::list_around;
 use crate::place::place_instead;
-use crate::replacement::Replacement;
 use crate::stitching::stitch_from;
-use crate::{Plane, Scratch};
-use mls_geom::{Piece, Rect};
-use mls_tilepool::{NoRoom, Owner, Pool, TileId};
+use crate::{Plane, Replacement, Scratch};
+use mls_tilepool::{NoRoom, Owner, Pool};
 
 /// Returns whether the owner's room is enough once as many tiles as are touched have given way to the fresh ones.
 fn has_room(pool: &Pool, owner: &Owner, touched: usize, fresh: usize) -> bool
@@ -29,46 +27,42 @@ impl Plane {
     /// Replaces the touched tiles by pieces over exactly their squares.
     ///
     /// All other tiles keep their names, rectangles and kinds, and each stitch that did not lead to a touched tile.
-    /// The names of touched tiles serve again as far as they go. Where the scratch has all tiles of an area,
-    /// `searched`, none is searched there again. Fails if the owner has no room for more tiles, and then leaves all as
-    /// it was.
+    /// The names of touched tiles serve again as far as they go. Fails if the owner has no room for more tiles, and
+    /// then leaves all as it was.
     pub fn replace(
         &mut self,
         pool: &mut Pool,
-        touched: &[TileId],
-        fresh: &[Piece],
-        searched: Option<Rect>,
+        replacement: &Replacement<'_>,
         scratch: &mut Scratch,
     ) -> Result<(), NoRoom>
         requires plane { HasPlane pool.old self.old }
-        requires pieces { TakePlace (block_at (tiles_of pool.old self.old)) touched.now fresh.now }
-        requires searched { AreSearched (block_at (tiles_of pool.old self.old)) searched scratch.old.tiles }
+        requires pieces { TakePlace (block_at (tiles_of pool.old self.old)) replacement.now.touched.now
+            replacement.now.fresh.now }
+        requires searched { AreSearched (block_at (tiles_of pool.old self.old)) replacement.now.searched
+            replacement.now.around.now }
         requires tiles_fit { count_of pool.old self.old ≤ scratch.old.room }
-        requires pieces_fit { length fresh.now ≤ scratch.old.room }
+        requires pieces_fit { length replacement.now.fresh.now ≤ scratch.old.room }
         ensures no_room { IsErr result ↔ IsSomeAnd (room_of pool.old self.old)
-            (λ room. room + length touched.now < count_of pool.old self.old + length fresh.now) }
+            (λ room. room + length replacement.now.touched.now
+            < count_of pool.old self.old + length replacement.now.fresh.now) }
         ensures within { IfSome (room_of pool.old self.old) (λ room. count_of pool.old self.old ≤ room) }
         ensures replaced { OnOk result (Replaces (tiles_of pool.old self.old)
-            (tiles_of pool.new self.old) touched.now fresh.now) }
+            (tiles_of pool.new self.old) replacement.now.touched.now replacement.now.fresh.now) }
         ensures refused { OnErr result (pool.new ≡ pool.old) }
         ensures plane { self.new ≡ self.old }
         ensures home { HasPlane pool.new self.old }
         ensures only { ChangesOnly pool.old pool.new self.old }
         ensures scratch_room { scratch.new.room ≡ scratch.old.room }
     {
+        let touched = replacement.touched;
+        let fresh = replacement.fresh;
         if !has_room(pool, &self.owner, touched.len(), fresh.len()) {
             return Err(NoRoom);
         }
-        let replacement = Replacement {
-            touched,
-            fresh,
-            searched,
-            around: &scratch.tiles,
-        };
         list_around(
             pool,
             &self.owner,
-            &replacement,
+            replacement,
             &mut scratch.touched,
             &mut scratch.found,
             &mut scratch.entries,

@@ -1,5 +1,5 @@
 //! What is to be replaced by what.
-ghost use Rattle.std.specs.Prelude.{◌≡◌, IsSomeAnd, IsTrue, slice_get};
+ghost use Rattle.std.specs.Prelude.{◌≡◌, IsSomeAnd, IsTrue, None, slice_get};
 ghost use Rattle.std.specs.Option.{option_map};
 ghost use Rattle.mls_geom.specs.Rects.{IsWithin};
 
@@ -13,14 +13,32 @@ const FEW: usize = 32;
 /// The names of tiles, and the pieces that are to take their place. A name goes to the piece at the same index. And the
 /// area that was searched, if there is one, with the tiles that were found around.
 #[derive(Drop)]
-pub(crate) struct Replacement<'a> {
-    pub(crate) touched: &'a [TileId],
-    pub(crate) fresh: &'a [Piece],
-    pub(crate) searched: Option<Rect>,
-    pub(crate) around: &'a [LaidTile],
+pub struct Replacement<'a> {
+    /// The names of the tiles that are to give way.
+    pub touched: &'a [TileId],
+    /// The pieces over exactly their squares.
+    pub fresh: &'a [Piece],
+    /// An area of which all tiles are `around`, so that none is searched there again.
+    pub searched: Option<Rect>,
+    /// Tiles that were found before.
+    pub around: &'a [LaidTile],
 }
 
-impl Replacement<'_> {
+impl<'a> Replacement<'a> {
+    /// Creates the replacement of these tiles by pieces, where no area was searched.
+    pub(crate) fn of(touched: &'a [TileId], fresh: &'a [Piece]) -> Replacement<'a>
+        ensures touched { result.touched.now ≡ touched.now }
+        ensures fresh { result.fresh.now ≡ fresh.now }
+        ensures searched { result.searched ≡ None }
+    {
+        Replacement {
+            touched,
+            fresh,
+            searched: None,
+            around: &[],
+        }
+    }
+
     /// Returns the rectangle that the tile under the name at the index is to have, or `None` if it is to give way.
     pub(crate) fn rect_at(&self, index: usize) -> Option<Rect>
         ensures { result ≡ option_map (λ piece. piece.rect) (slice_get self.now.fresh.now index) }

@@ -5,7 +5,7 @@ ghost use Rattle.mls_stitch.specs.Splits.{IsCutAt, JoinAlong, JoinInX, JoinInY, 
 ghost use Rattle.mls_stitch.specs.Tilings.{ChangesOnly, HasPlane, block_at};
 
 use crate::laid_tile::laid;
-use crate::{Plane, Scratch};
+use crate::{Plane, Replacement, Scratch};
 use mls_geom::{Piece, Rect};
 use mls_tilepool::{NoRoom, Pool, TileId};
 
@@ -84,7 +84,7 @@ impl Plane {
         let whole = laid(pool, &self.owner, tile).unwrap().piece;
         let (first, second) = parts(whole, axis, at);
         let corner = second.rect.corner();
-        self.replace(pool, &[tile], &[first, second], None, scratch)?;
+        self.replace(pool, &Replacement::of(&[tile], &[first, second]), scratch)?;
         Ok(self.find(pool, corner, scratch))
     }
 
@@ -114,7 +114,7 @@ impl Plane {
         let before = laid(pool, &self.owner, first).unwrap().piece;
         let behind = laid(pool, &self.owner, second).unwrap().piece;
         let whole = joined(before, behind, axis);
-        self.replace(pool, &[first, second], &[whole], None, scratch)
+        self.replace(pool, &Replacement::of(&[first, second], &[whole]), scratch)
             .unwrap();
     }
 

@@ -1,9 +1,9 @@
 //! Commands that change several planes: all of them, or none.
-ghost use Rattle.std.specs.Prelude.{◌≡◌, ◌<◌, ◌≤◌, IsTrue, not, length, map, ℕ};
+ghost use Rattle.std.specs.Prelude.{◌≡◌, ◌<◌, ◌≤◌, IsTrue, not, length, ℕ};
 ghost use Rattle.mls_layout.specs.Workspaces.{most_planes};
 ghost use Rattle.mls_paint.specs.Owners.{ChangesAmong};
 ghost use Rattle.mls_paint.specs.Planes.{layout_in};
-ghost use Rattle.mls_session.specs.Inner.{CanChange, FitsQuota, ListsChange, ReadsAtMost, changed_layout, painted_over};
+ghost use Rattle.mls_session.specs.Inner.{ArePlanned, CanChange, FitsQuota, ListsChange, ReadsAtMost, changed_layout, painted_over, planned_pieces};
 ghost use Rattle.mls_session.specs.Own.{Config, are_types, change_step, edit_step, exceeds_quota};
 ghost use Rattle.mls_session.specs.OwnSteps.{design_step};
 ghost use Rattle.mls_session.specs.Setups.{config_of};
@@ -16,7 +16,7 @@ use mls_geom::Rect;
 use mls_kinds::KindSet;
 use mls_layout::{CellUse, MOST_PLANES, MOST_USES, Workspace};
 use mls_library::CellId;
-use mls_paint::{fits, overlay};
+use mls_paint::{commit, plan};
 use mls_tech::Tech;
 
 impl Design {
@@ -142,17 +142,16 @@ impl Design {
         ensures refused { OnRefused result ((self.new ≡ self.old) × (workspace.new.pool ≡ workspace.old.pool)) }
     {
         prove!(setup.tech.planes() <= MOST_PLANES);
-        if !self.change_fits(change, workspace) {
+        if !self.plan_change(change, workspace) {
             return Reply::Refused(Refusal::Quota);
         }
-        self.paint_listed(workspace);
+        self.commit_change(workspace);
         self.mark_dirty(&setup.rules, rect);
         Reply::Done
     }
 
-    /// Lists the pieces that a change paints on each plane, and returns whether no plane would have more tiles than
-    /// the quota then.
-    fn change_fits(&self, change: &Change<'_>, workspace: &mut Workspace) -> bool
+    /// Plans what a change paints on each plane, and returns whether no plane would have more tiles than the quota then.
+    fn plan_change(&self, change: &Change<'_>, workspace: &mut Workspace) -> bool
         requires home { IsHome workspace.old.pool self.now }
         requires few_planes { length self.now.planes ≤ most_planes }
         requires can_change { CanChange workspace.old.pool change.now }
@@ -161,7 +160,9 @@ impl Design {
             → result ≡ not (exceeds_quota config
             (changed_layout workspace.old.pool change.now (drawn_of workspace.old.pool self.now).paint)) }
         ensures lists { IsTrue result → ListsChange workspace.old.pool change.now (length self.now.planes)
-            (drawn_of workspace.old.pool self.now).paint (map (λ list. list.items) workspace.new.plane_pieces.items) }
+            (drawn_of workspace.old.pool self.now).paint (planned_pieces workspace.new.scratch) }
+        ensures planned { IsTrue result → ArePlanned workspace.old.pool self.now.planes (length self.now.planes)
+            workspace.new.scratch }
         ensures pool { workspace.new.pool ≡ workspace.old.pool }
     {
         let limit = self.quota.get();
@@ -169,45 +170,37 @@ impl Design {
             let Workspace {
                 pool,
                 scratch,
-                plane_pieces,
+                pieces,
                 ..
             } = workspace;
             let plane = &self.planes[i];
-            let pieces = &mut plane_pieces[i];
             change.list_pieces(pool, i, plane, pieces, scratch);
-            if !fits(pool, plane, pieces, limit, scratch) {
+            let Ok(()) = plan(pool, plane, pieces, limit, i, scratch) else {
                 return false;
-            }
+            };
         }
         true
     }
 
-    /// Paints the pieces that are listed for each plane on it. No plane has more tiles than the quota then.
-    fn paint_listed(&mut self, workspace: &mut Workspace)
+    /// Paints each plane by its plan. No plane has more tiles than the quota then.
+    fn commit_change(&mut self, workspace: &mut Workspace)
         requires home { IsHome workspace.old.pool self.old }
         requires few_planes { length self.old.planes ≤ most_planes }
+        requires planned { ArePlanned workspace.old.pool self.old.planes (length self.old.planes)
+            workspace.old.scratch }
         requires fits { FitsQuota (length self.old.planes) self.old.quota
-            (painted_over (map (λ list. list.items) workspace.old.plane_pieces.items)
-            (drawn_of workspace.old.pool self.old).paint) }
+            (painted_over (planned_pieces workspace.old.scratch) (drawn_of workspace.old.pool self.old).paint) }
         ensures layout { (plane : ℕ) → plane < length self.old.planes
             → layout_in workspace.new.pool self.old.planes plane
-            ≡ painted_over (map (λ list. list.items) workspace.old.plane_pieces.items)
-            (drawn_of workspace.old.pool self.old).paint plane }
+            ≡ painted_over (planned_pieces workspace.old.scratch) (drawn_of workspace.old.pool self.old).paint plane }
         ensures home { AreAtHome workspace.new.pool self.old.quota self.old.planes }
         ensures only { ChangesAmong workspace.old.pool workspace.new.pool self.old.planes }
         ensures same { self.new ≡ self.old }
     {
-        let limit = self.quota.get();
         for i in 0..self.planes.len() {
-            let Workspace {
-                pool,
-                scratch,
-                plane_pieces,
-                ..
-            } = workspace;
+            let Workspace { pool, scratch, .. } = workspace;
             let plane = &mut self.planes[i];
-            let pieces = &plane_pieces[i];
-            overlay(pool, plane, pieces, limit, scratch).unwrap();
+            commit(pool, plane, i, scratch);
         }
     }
 }

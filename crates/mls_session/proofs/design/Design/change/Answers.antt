@@ -1,9 +1,9 @@
 -- No plane is changed unless each would fit.
-use Rattle.std.proofs.Common.{◌≡◌, length, map, refl, sym, ap, ◌∙◌, arith}
+use Rattle.std.proofs.Common.{◌≡◌, length, refl, sym, ap, ◌∙◌, arith}
 use Rattle.mls_tilepool.specs.Pools.{Pool}
 use Rattle.mls_paint.specs.Planes.{layout_in}
 use Rattle.mls_errorplane.specs.ErrorPlanes.{checking_of}
-use Rattle.mls_session.specs.Inner.{FitsQuota, changed_layout}
+use Rattle.mls_session.specs.Inner.{FitsQuota, changed_layout, planned_pieces}
 use Rattle.mls_session.specs.Own.{change_step, dirty_after}
 use Rattle.mls_session.specs.Designs.{Design, designed_of, drawn_of}
 use Rattle.mls_session.specs.Setups.{config_of}
@@ -17,36 +17,37 @@ use Rattle.mls_session.specs.declared.reply.Reply.TheVariants.{Done, Refused}
 use Rattle.mls_session.specs.declared.refusal.Refusal.TheVariants.{Quota}
 use Rattle.mls_session.proofs.design.Design.change.Goals as goal
 
-pub returns-then-not-change_fits-clause-step : goal.returns-then-not-change_fits-clause-step
-returns-then-not-change_fits-clause-step c =
+pub returns-then-not-plan_change-clause-step : goal.returns-then-not-plan_change-clause-step
+returns-then-not-plan_change-clause-step c =
     let pool = c.args.workspace.now.pool in
     let design = c.args.self.now in
     let config = config_of c.args.setup.now pool in
     let layout = changed_layout pool c.args.change.now (layout_in pool design.planes) in
-    let tested = c.change_fits.ensures in
+    let tested = c.plan_change.ensures in
     edit_step-Refused config (designed_of pool design) c.args.rect (change_step config (drawn_of pool design) layout) Quota
-    (change_step-Refused config (drawn_of pool design) layout c.change_fits.result (tested.fits config (sym c.requires.made_for.planes) (sym c.requires.made_for.quota))
-    c.if-not-change_fits.true)
+    (change_step-Refused config (drawn_of pool design) layout c.plan_change.result (tested.fits config (sym c.requires.made_for.planes) (sym c.requires.made_for.quota))
+    c.if-not-plan_change.true)
     ∙ ap (λ (now : Pool). (designed_of now design, Refused Quota)) (sym tested.pool)
 
-pub returns-then-not-change_fits-clause-keeps : goal.returns-then-not-change_fits-clause-keeps
-returns-then-not-change_fits-clause-keeps c =
+pub returns-then-not-plan_change-clause-keeps : goal.returns-then-not-plan_change-clause-keeps
+returns-then-not-plan_change-clause-keeps c =
     let design = c.args.self.now in
-    rw c.change_fits.ensures.pool (KeepsPlanes-same c.args.workspace.now.pool design design c.requires.home refl refl refl refl)
+    rw c.plan_change.ensures.pool (KeepsPlanes-same c.args.workspace.now.pool design design c.requires.home refl refl refl refl)
 
-pub paint_listed-requires : goal.paint_listed-requires
-paint_listed-requires c =
+pub commit_change-requires : goal.commit_change-requires
+commit_change-requires c =
     let pool = c.args.workspace.now.pool in
     let design = c.args.self.now in
     let layout = layout_in pool design.planes in
-    let tested = c.change_fits.ensures in
-    let pieces = map (λ list. list.items) c.change_fits.new.workspace.plane_pieces.items in
+    let tested = c.plan_change.ensures in
+    let pieces = planned_pieces c.plan_change.new.workspace.scratch in
     let fits : FitsQuota (length design.planes) design.quota (changed_layout pool c.args.change.now layout) =
-    FitsQuota-tested c.change_fits.result (changed_layout pool c.args.change.now layout) (length design.planes) design.quota tested.fits c.if-not-change_fits.false in
+    FitsQuota-tested c.plan_change.result (changed_layout pool c.args.change.now layout) (length design.planes) design.quota tested.fits c.if-not-plan_change.false in
     rw tested.pool (record {
       home = c.requires.home;
+      planned = tested.planned c.if-not-plan_change.false;
       few_planes = omega (arith, c.planes.ensures.value, c.planes.ensures.limit, c.requires.made_for.planes);
-      fits = FitsQuota-listed pool c.args.change.now (length design.planes) design.quota layout pieces (tested.lists c.if-not-change_fits.false) fits;
+      fits = FitsQuota-listed pool c.args.change.now (length design.planes) design.quota layout pieces (tested.lists c.if-not-plan_change.false) fits;
     })
 
 pub returns-clause-step : goal.returns-clause-step
@@ -55,16 +56,16 @@ returns-clause-step c =
     let design = c.args.self.now in
     let config = config_of c.args.setup.now pool in
     let layout = changed_layout pool c.args.change.now (layout_in pool design.planes) in
-    let tested = c.change_fits.ensures in
-    let made = rw tested.pool at c.paint_listed.ensures in
-    let new = c.paint_listed.new.workspace.pool in
-    let pieces = map (λ list. list.items) c.change_fits.new.workspace.plane_pieces.items in
-    let painted = layout_in-changed pool new design c.args.change.now pieces c.requires.planes (tested.lists c.if-not-change_fits.false) made.layout in
+    let tested = c.plan_change.ensures in
+    let made = rw tested.pool at c.commit_change.ensures in
+    let new = c.commit_change.new.workspace.pool in
+    let pieces = planned_pieces c.plan_change.new.workspace.scratch in
+    let painted = layout_in-changed pool new design c.args.change.now pieces c.requires.planes (tested.lists c.if-not-plan_change.false) made.layout in
     let same = c.mark_dirty.ensures.same in
-    let mid : c.paint_listed.new.self.errors ≡ design.errors = ap (λ (d : Design). d.errors) made.same in
+    let mid : c.commit_change.new.self.errors ≡ design.errors = ap (λ (d : Design). d.errors) made.same in
     change-Done config pool new design c.mark_dirty.new.self c.args.rect c.requires.home made.only
-    (c.mark_dirty.ensures.checking new ∙ ap (λ (d : Design). dirty_after config.rules c.args.rect Done (checking_of new d.errors)) made.same) layout c.change_fits.result
-    (tested.fits config (sym c.requires.made_for.planes) (sym c.requires.made_for.quota)) c.if-not-change_fits.false painted
+    (c.mark_dirty.ensures.checking new ∙ ap (λ (d : Design). dirty_after config.rules c.args.rect Done (checking_of new d.errors)) made.same) layout c.plan_change.result
+    (tested.fits config (sym c.requires.made_for.planes) (sym c.requires.made_for.quota)) c.if-not-plan_change.false painted
     (ap (λ (d : Design). d.box) same ∙ ap (λ (d : Design). d.box) made.same) (ap (λ (d : Design). d.planes) same ∙ ap (λ (d : Design). d.planes) made.same)
     (ap (λ (d : Design). d.uses) same ∙ ap (λ (d : Design). d.uses) made.same)
 
@@ -72,9 +73,9 @@ pub returns-clause-keeps : goal.returns-clause-keeps
 returns-clause-keeps c =
     let pool = c.args.workspace.now.pool in
     let design = c.args.self.now in
-    let tested = c.change_fits.ensures in
-    let made = rw tested.pool at c.paint_listed.ensures in
+    let tested = c.plan_change.ensures in
+    let made = rw tested.pool at c.commit_change.ensures in
     let same = c.mark_dirty.ensures.same in
-    KeepsPlanes-layout pool c.paint_listed.new.workspace.pool design c.mark_dirty.new.self c.requires.home made.home made.only
+    KeepsPlanes-layout pool c.commit_change.new.workspace.pool design c.mark_dirty.new.self c.requires.home made.home made.only
     (ap (λ (d : Design). d.planes) same ∙ ap (λ (d : Design). d.planes) made.same) (ap (λ (d : Design). d.quota) same ∙ ap (λ (d : Design). d.quota) made.same)
     (c.mark_dirty.ensures.owner ∙ ap (λ (d : Design). d.errors.owner) made.same) (c.mark_dirty.ensures.marked ∙ ap (λ (d : Design). d.errors.marked) made.same)

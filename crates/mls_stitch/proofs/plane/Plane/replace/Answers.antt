@@ -13,35 +13,35 @@ use Rattle.mls_stitch.proofs.Sides.{IsPlane-AreTiledAs}
 use Rattle.mls_stitch.proofs.plane.Plane.replace.Goals as goal
 
 pub has_room-requires-clause-there : goal.has_room-requires-clause-there
-has_room-requires-clause-there c = rw c.self.view_is (touched_few (tiles_of c.args.pool.now c.args.self.now) c.args.touched.now c.requires.pieces.there c.requires.pieces.once)
+has_room-requires-clause-there c = rw c.self.view_is (touched_few (tiles_of c.args.pool.now c.args.self.now) c.args.replacement.now.touched.now c.requires.pieces.there c.requires.pieces.once)
 
 pub returns-then-not-has_room-clause-no_room : goal.returns-then-not-has_room-clause-no_room
 returns-then-not-has_room-clause-no_room c =
     let owner = c.args.self.now in
     let pool = c.args.pool.now in
     let ensures' = rw c.self.view_is at c.has_room.ensures.room in (
-      λ _. has_no_room (room_of pool owner) (count_of pool owner + length c.args.fresh.now) (length c.args.touched.now) c.requires.plane.live (λ fits. both_ways c.has_room.result c.if-not-has_room.true (ensures'.1 fits)),
+      λ _. has_no_room (room_of pool owner) (count_of pool owner + length c.args.replacement.now.fresh.now) (length c.args.replacement.now.touched.now) c.requires.plane.live (λ fits. both_ways c.has_room.result c.if-not-has_room.true (ensures'.1 fits)),
       λ _. refl,
     )
 
 pub list_around-requires-clause-there : goal.list_around-requires-clause-there
 list_around-requires-clause-there c =
-    rw c.self.view_is (tiles_there (tiles_of c.args.pool.now c.args.self.now) c.args.touched.now c.requires.pieces.there)
+    rw c.self.view_is (tiles_there (tiles_of c.args.pool.now c.args.self.now) c.args.replacement.now.touched.now c.requires.pieces.there)
 
 pub list_around-requires-clause-keys_fit : goal.list_around-requires-clause-keys_fit
 list_around-requires-clause-keys_fit c =
-    (omega (arith, touched_few (tiles_of c.args.pool.now c.args.self.now) c.args.touched.now c.requires.pieces.there c.requires.pieces.once, c.requires.tiles_fit, ap (λ s. s.room) c.scratch.view_is, c.scratch.invariant.2))
+    (omega (arith, touched_few (tiles_of c.args.pool.now c.args.self.now) c.args.replacement.now.touched.now c.requires.pieces.there c.requires.pieces.once, c.requires.tiles_fit, ap (λ s. s.room) c.scratch.view_is, c.scratch.invariant.2))
 
 pub place_instead-requires-clause-there : goal.place_instead-requires-clause-there
 place_instead-requires-clause-there c =
-    rw c.self.view_is (tiles_there (tiles_of c.args.pool.now c.args.self.now) c.args.touched.now c.requires.pieces.there)
+    rw c.self.view_is (tiles_there (tiles_of c.args.pool.now c.args.self.now) c.args.replacement.now.touched.now c.requires.pieces.there)
 
 pub stitch_from-requires-clause-waits : goal.stitch_from-requires-clause-waits
 stitch_from-requires-clause-waits c =
     let owner = c.self.inside.owner in
     let tiles = tiles_of c.args.pool.now owner in
-    let touched = c.args.touched.now in
-    let fresh = c.args.fresh.now in
+    let touched = c.args.replacement.now.touched.now in
+    let fresh = c.args.replacement.now.fresh.now in
     let home : HasPlane c.args.pool.now owner = rw c.self.view_is c.requires.plane in
     let takes : TakePlace (block_at tiles) touched fresh = rw c.self.view_is c.requires.pieces in
     let lays = c.place_instead.ensures.laid in
@@ -70,7 +70,7 @@ returns-clause-no_room c =
     let pool = c.args.pool.now in
     let ensures' = rw c.self.view_is at c.has_room.ensures.room in (
       λ e. absurd (both_ways _ refl e),
-      λ less. absurd (has_enough (room_of pool owner) (count_of pool owner + length c.args.fresh.now) (length c.args.touched.now) (ensures'.0 c.if-not-has_room.false) less),
+      λ less. absurd (has_enough (room_of pool owner) (count_of pool owner + length c.args.replacement.now.fresh.now) (length c.args.replacement.now.touched.now) (ensures'.0 c.if-not-has_room.false) less),
     )
 
 pub returns-clause-replaced : goal.returns-clause-replaced
@@ -79,8 +79,8 @@ returns-clause-replaced c =
     let old = c.args.pool.now in
     let new = c.stitch_from.new.pool in
     let tiles = tiles_of old owner in
-    let touched = c.args.touched.now in
-    let fresh = c.args.fresh.now in
+    let touched = c.args.replacement.now.touched.now in
+    let fresh = c.args.replacement.now.fresh.now in
     let home : HasPlane old owner = rw c.self.view_is c.requires.plane in
     let takes : TakePlace (block_at tiles) touched fresh = rw c.self.view_is c.requires.pieces in
     let lays = c.place_instead.ensures.laid in
@@ -98,8 +98,8 @@ returns-clause-home c =
     let owner = c.self.inside.owner in
     let new = c.stitch_from.new.pool in
     let tiles = tiles_of c.args.pool.now owner in
-    let touched = c.args.touched.now in
-    let fresh = c.args.fresh.now in
+    let touched = c.args.replacement.now.touched.now in
+    let fresh = c.args.replacement.now.fresh.now in
     let lays = c.place_instead.ensures.laid in
     let home : HasPlane c.args.pool.now owner = rw c.self.view_is c.requires.plane in
     let takes : TakePlace (block_at tiles) touched fresh = rw c.self.view_is c.requires.pieces in

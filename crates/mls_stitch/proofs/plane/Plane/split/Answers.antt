@@ -15,7 +15,7 @@ replace-requires-clause-pieces c =
     let tiles = tiles_of c.args.pool.now c.args.self.now in
     let (here, inside) =
     read-block _ tiles c.args.tile c.laid.result c.unwrap.result (rw c.self.view_is at c.laid.ensures) c.unwrap.ensures c.requires.inside in
-    rw c.parts.ensures (TakePlace-cut (block_at tiles) c.args.tile c.unwrap.result.piece c.args.axis c.args.at c.requires.plane.plane.tiling here inside)
+    rw (c.of.ensures.touched, c.of.ensures.fresh, c.parts.ensures) (TakePlace-cut (block_at tiles) c.args.tile c.unwrap.result.piece c.args.axis c.args.at c.requires.plane.plane.tiling here inside)
 
 pub returns-clause-split : goal.returns-clause-split
 returns-clause-split c =
@@ -23,5 +23,5 @@ returns-clause-split c =
     let (here, inside) =
     read-block _ tiles c.args.tile c.laid.result c.unwrap.result (rw c.self.view_is at c.laid.ensures) c.unwrap.ensures c.requires.inside in
     Splits-call tiles (tiles_of c.replace.new.pool c.args.self.now) c.args.tile c.find.result c.unwrap.result.piece c.parts.result c.args.axis c.args.at c.parts.ensures
-    c.requires.plane.plane (KeysDiffer-tiles_of c.args.pool.now c.args.self.now) here inside c.in_ok-replace.ensures.replaced
+    c.requires.plane.plane (KeysDiffer-tiles_of c.args.pool.now c.args.self.now) here inside (rw (c.of.ensures.touched, c.of.ensures.fresh) at c.in_ok-replace.ensures.replaced)
     (rw (c.corner-corner.ensures, c.replace.ensures.plane) at c.find.ensures.holds)
