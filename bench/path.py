@@ -69,15 +69,17 @@ def clean(text):
 class File:
     def __init__(self, crate, path, tree):
         text = path.read_text()
-        self.crate, self.tree, self.tokens, self.uses = crate, tree, clean(text), {}
+        self.crate, self.tree, self.tokens, self.uses, self.renamed = crate, tree, clean(text), {}, {}
         self.path = str(path.relative_to(TOP))
         for m in re.finditer(r'^\s*(?:pub )?use (\w+)(?:::\w+)*?::(?:(\w+)|\{([^}]*)\});', text, re.M):
-            for name in re.findall(r'\w+', m[2] or m[3]):
-                self.uses[name] = crate if m[1] in ('crate', 'super') else m[1]
+            for words in (re.findall(r'\w+', part) for part in (m[2] or m[3]).split(',')):
+                if words:
+                    self.uses[words[-1]] = crate if m[1] in ('crate', 'super') else m[1]
+                    self.renamed[words[-1]] = words[0]
 
     def name(self, word):
         """A type's name, with its crate if it is the product's."""
-        whole = self.uses.get(word, self.crate), word
+        whole = self.uses.get(word, self.crate), self.renamed.get(word, word)
         return whole if whole in self.tree.types else word
 
     def read(self):
