@@ -1,13 +1,13 @@
 -- Lists of words that gain the shifted words of another list.
 use Rattle.std.proofs.Common.{◌≡◌, ℕ, ◌+◌, ◌-◌, ◌*◌, ◌/◌, ◌%◌, ◌<◌, ◌≤◌, ◌^◌, inl, inr, ◌==◌, Bool, false, not, ◌||◌, ◌&&◌, List, length, set, refl, sym, ap, ◌∙◌, arith}
-use Rattle.std.specs.Prelude.{bit_or, nat_lt, nat_le, slice_index}
+use Rattle.std.specs.Prelude.{bit_and, bit_or, nat_lt, nat_le, slice_index}
 use Rattle.std.specs.Int.{bit_at, bit_not, w64}
 use Rattle.std.proofs.Math.Bool.{or-false}
 use Rattle.std.proofs.lemmas.Bool.{cases_eq, cases_lt, lt-ltb, le-leb, lt-leb}
 use Rattle.std.proofs.lemmas.Nat.{pow_pos, shr_split}
 use Rattle.std.proofs.lemmas.Nat.Bits.{bit_at_cat_low, bit_at_cat_high, bit_at-zero}
 use Rattle.mls_kinds.specs.KindSets.{has_bit}
-use Rattle.mls_kinds.proofs.BitLemmas.{has_bit-not, has_bit-or, has_bit_above}
+use Rattle.mls_kinds.proofs.BitLemmas.{has_bit-and, has_bit-not, has_bit-or, has_bit_above}
 use Rattle.mls_checker.specs.Grids.{has_column}
 use Rattle.mls_checker.specs.Maps.{has_place}
 use Rattle.mls_checker.proofs.WordBits.{shifted-bit}
@@ -113,6 +113,13 @@ read-both-ahead one other word first next p q row k same is is' low high below =
 -- a word whole words ahead of those of a row
 pub read-aligned : (map : List ℕ) (places row k : ℕ) → places % 64 ≡ 0 → k < 64 → has_column map (row + places / 64) k ≡ has_place map (64 * row + k + places)
 read-aligned map places row k aligned below = sym (place-at map (64 * row + k + places) (row + places / 64) k (omega (arith, aligned)) below)
+
+-- the bits of words that are joined, and those that two words have
+pub bits-of-either : (one other k : ℕ) (here here' : Bool) → has_bit one k ≡ here → has_bit other k ≡ here' → has_bit (bit_or one other) k ≡ (here || here')
+bits-of-either one other k here here' is is' = has_bit-or one other k ∙ ap (λ b. b || has_bit other k) is ∙ ap (λ b. here || b) is'
+
+pub bits-of-both : (one other k : ℕ) (here here' : Bool) → has_bit one k ≡ here → has_bit other k ≡ here' → has_bit (bit_and one other) k ≡ (here && here')
+bits-of-both one other k here here' is is' = has_bit-and one other k ∙ ap (λ b. b && has_bit other k) is ∙ ap (λ b. here && b) is'
 
 -- what was gained row by row, at a place of one of the rows
 pub all-gained : (old new more : ℕ → Bool) (rows n : ℕ) → new n ≡ (old n || (nat_lt (n / 64) rows && more (64 * (n / 64) + n % 64))) → n / 64 < rows → new n ≡ (old n || more n)

@@ -1,5 +1,5 @@
 //! Maps of one bit a place as lists of words, 64 places to a word.
-ghost use Rattle.std.specs.Prelude.{◌≡◌, ◌+◌, ◌-◌, ◌*◌, ◌/◌, ◌%◌, ◌<◌, ◌≤◌, ◌||◌, ◌&&◌, ℕ, true, false, not, length, IsTrue};
+ghost use Rattle.std.specs.Prelude.{◌≡◌, ◌+◌, ◌-◌, ◌*◌, ◌/◌, ◌%◌, ◌<◌, ◌≤◌, ◌||◌, ◌&&◌, ℕ, Bool, true, false, not, length, IsTrue};
 ghost use Rattle.mls_checker.specs.Grids.{has_column};
 ghost use Rattle.mls_checker.specs.Maps.{has_place};
 ghost use Rattle.mls_kinds.specs.KindSets.{has_bit};
@@ -110,15 +110,16 @@ impl Ahead<'_> {
     }
 }
 
-/// Adds the places of another map, which are read whole words ahead.
-fn add_aligned(map: &mut [u64], other: Ahead<'_>)
-    requires size { length map.old ≡ length other.map.now }
-    requires aligned { other.places % 64 ≡ 0 }
-    ensures { (n : ℕ) → n + other.entry.places + 64 < 64 * length map.old → has_place map.new n
-        ≡ (has_place map.old n || has_place other.entry.map.now (n + other.entry.places)) }
+/// Adds to each of a map's first words one that is made for it.
+fn add_words<F: Fn(usize) -> u64>(map: &mut [u64], count: usize, made: F)
+    requires within { count ≤ length map.old }
+    requires made { (row : ℕ) → row < count → F.pre made row }
+    ensures { (more : ℕ → Bool)
+        → ((row word column : ℕ) → row < count → F.post made row word → column < 64 → has_bit word column ≡ more (64 * row + column))
+        → (n : ℕ) → n < 64 * count → has_place map.new n ≡ (has_place map.old n || more n) }
 {
-    for row in 0..other.len() {
-        map[row] |= other.aligned_word(row);
+    for row in 0..count {
+        map[row] |= made(row);
     }
 }
 
@@ -128,24 +129,11 @@ pub(crate) fn add_ahead(map: &mut [u64], other: Ahead<'_>)
     ensures { (n : ℕ) → n + other.entry.places + 64 < 64 * length map.old → has_place map.new n
         ≡ (has_place map.old n || has_place other.entry.map.now (n + other.entry.places)) }
 {
+    let count = other.len();
     if other.is_aligned() {
-        add_aligned(map, other);
-        return;
-    }
-    for row in 0..other.len() {
-        map[row] |= other.word(row);
-    }
-}
-
-/// Adds the places of another map both there and ahead, which are read whole words ahead.
-fn add_both_aligned(map: &mut [u64], other: Ahead<'_>)
-    requires size { length map.old ≡ length other.map.now }
-    requires aligned { other.places % 64 ≡ 0 }
-    ensures { (n : ℕ) → n + other.entry.places + 64 < 64 * length map.old → has_place map.new n ≡ (has_place map.old n
-        || (has_place other.entry.map.now n || has_place other.entry.map.now (n + other.entry.places))) }
-{
-    for row in 0..other.len() {
-        map[row] |= other.map[row] | other.aligned_word(row);
+        add_words(map, count, |row| other.aligned_word(row));
+    } else {
+        add_words(map, count, |row| other.word(row));
     }
 }
 
@@ -155,41 +143,11 @@ pub(crate) fn add_both(map: &mut [u64], other: Ahead<'_>)
     ensures { (n : ℕ) → n + other.entry.places + 64 < 64 * length map.old → has_place map.new n ≡ (has_place map.old n
         || (has_place other.entry.map.now n || has_place other.entry.map.now (n + other.entry.places))) }
 {
+    let count = other.len();
     if other.is_aligned() {
-        add_both_aligned(map, other);
-        return;
-    }
-    for row in 0..other.len() {
-        map[row] |= other.map[row] | other.word(row);
-    }
-}
-
-/// Adds the places that two other maps have, both of which are read whole words ahead.
-fn add_common_aligned(map: &mut [u64], one: Ahead<'_>, other: Ahead<'_>)
-    requires one { length map.old ≡ length one.map.now }
-    requires other { length map.old ≡ length other.map.now }
-    requires aligned { one.places % 64 ≡ 0 }
-    requires both { other.places % 64 ≡ 0 }
-    ensures { (n : ℕ) → n + one.entry.places + 64 < 64 * length map.old → n + other.entry.places + 64 < 64 * length map.old
-        → has_place map.new n ≡ (has_place map.old n
-        || (has_place one.entry.map.now (n + one.entry.places) && has_place other.entry.map.now (n + other.entry.places))) }
-{
-    for row in 0..one.len().min(other.len()) {
-        map[row] |= one.aligned_word(row) & other.aligned_word(row);
-    }
-}
-
-/// Adds the places that two other maps have, the first of which is read whole words ahead.
-fn add_common_half_aligned(map: &mut [u64], one: Ahead<'_>, other: Ahead<'_>)
-    requires one { length map.old ≡ length one.map.now }
-    requires other { length map.old ≡ length other.map.now }
-    requires aligned { one.places % 64 ≡ 0 }
-    ensures { (n : ℕ) → n + one.entry.places + 64 < 64 * length map.old → n + other.entry.places + 64 < 64 * length map.old
-        → has_place map.new n ≡ (has_place map.old n
-        || (has_place one.entry.map.now (n + one.entry.places) && has_place other.entry.map.now (n + other.entry.places))) }
-{
-    for row in 0..one.len().min(other.len()) {
-        map[row] |= one.aligned_word(row) & other.word(row);
+        add_words(map, count, |row| other.map[row] | other.aligned_word(row));
+    } else {
+        add_words(map, count, |row| other.map[row] | other.word(row));
     }
 }
 
@@ -201,34 +159,17 @@ pub(crate) fn add_common(map: &mut [u64], one: Ahead<'_>, other: Ahead<'_>)
         → has_place map.new n ≡ (has_place map.old n
         || (has_place one.entry.map.now (n + one.entry.places) && has_place other.entry.map.now (n + other.entry.places))) }
 {
-    if one.is_aligned() {
-        if other.is_aligned() {
-            add_common_aligned(map, one, other);
-            return;
-        }
-        add_common_half_aligned(map, one, other);
-        return;
-    }
-    for row in 0..one.len().min(other.len()) {
-        map[row] |= one.word(row) & other.word(row);
-    }
-}
-
-/// Adds the places that three other maps have, the last of which is read whole words ahead, and the others from the same
-/// bit on.
-fn add_common_to_aligned(map: &mut [u64], one: Ahead<'_>, other: Ahead<'_>, last: Ahead<'_>)
-    requires one { length map.old ≡ length one.map.now }
-    requires other { length map.old ≡ length other.map.now }
-    requires last { length map.old ≡ length last.map.now }
-    requires aligned { last.places % 64 ≡ 0 }
-    requires both { one.places % 64 ≡ other.places % 64 }
-    ensures { (n : ℕ) → n + one.entry.places + 64 < 64 * length map.old → n + other.entry.places + 64 < 64 * length map.old
-        → n + last.entry.places + 64 < 64 * length map.old → has_place map.new n ≡ (has_place map.old n
-        || ((has_place one.entry.map.now (n + one.entry.places) && has_place other.entry.map.now (n + other.entry.places))
-        && has_place last.entry.map.now (n + last.entry.places))) }
-{
-    for row in 0..one.len().min(other.len()).min(last.len()) {
-        map[row] |= one.common_word(other, row) & last.aligned_word(row);
+    let count = one.len().min(other.len());
+    if !one.is_aligned() {
+        add_words(map, count, |row| one.word(row) & other.word(row));
+    } else if other.is_aligned() {
+        add_words(
+            map,
+            count,
+            |row| one.aligned_word(row) & other.aligned_word(row),
+        );
+    } else {
+        add_words(map, count, |row| one.aligned_word(row) & other.word(row));
     }
 }
 
@@ -243,12 +184,19 @@ fn add_common_of_pair(map: &mut [u64], one: Ahead<'_>, other: Ahead<'_>, last: A
         || ((has_place one.entry.map.now (n + one.entry.places) && has_place other.entry.map.now (n + other.entry.places))
         && has_place last.entry.map.now (n + last.entry.places))) }
 {
+    let count = one.len().min(other.len()).min(last.len());
     if last.is_aligned() {
-        add_common_to_aligned(map, one, other, last);
-        return;
-    }
-    for row in 0..one.len().min(other.len()).min(last.len()) {
-        map[row] |= one.common_word(other, row) & last.word(row);
+        add_words(
+            map,
+            count,
+            |row| one.common_word(other, row) & last.aligned_word(row),
+        );
+    } else {
+        add_words(
+            map,
+            count,
+            |row| one.common_word(other, row) & last.word(row),
+        );
     }
 }
 
@@ -269,14 +217,15 @@ pub(crate) fn add_common_of_three(
 {
     if one.is_aligned_with(other) {
         add_common_of_pair(map, one, other, last);
-        return;
-    }
-    if other.is_aligned_with(last) {
+    } else if other.is_aligned_with(last) {
         add_common_of_pair(map, other, last, one);
-        return;
-    }
-    for row in 0..one.len().min(other.len()).min(last.len()) {
-        map[row] |= one.word(row) & other.word(row) & last.word(row);
+    } else {
+        let count = one.len().min(other.len()).min(last.len());
+        add_words(
+            map,
+            count,
+            |row| one.word(row) & other.word(row) & last.word(row),
+        );
     }
 }
 

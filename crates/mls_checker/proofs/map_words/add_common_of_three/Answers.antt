@@ -1,30 +1,9 @@
-use Rattle.std.proofs.Common.{◌+◌, ◌*◌, ◌/◌, ◌%◌, ◌∙◌, ◌&&◌, ap, refl, sym, arith}
-use Rattle.mls_kinds.proofs.BitLemmas.{has_bit-and}
-use Rattle.mls_kinds.specs.KindSets.{has_bit}
+use Rattle.std.proofs.Common.{rules, ◌+◌, ◌&&◌, arith}
 use Rattle.mls_checker.specs.Maps.{has_place}
-use Rattle.mls_checker.proofs.MapWords.{all-gained, one-more-on}
+use Rattle.mls_checker.proofs.MapWords.{bits-of-both}
 use Rattle.mls_checker.proofs.map_words.add_common_of_three.Goals as goal
 
-pub loop-row-preserved : goal.loop-row-preserved
-loop-row-preserved c r k below =
-    let one = c.args.one.map.now in
-    let other = c.args.other.map.now in
-    let last = c.args.last.map.now in
-    let first = c.args.one.places in
-    let second = c.args.other.places in
-    let third = c.args.last.places in
-    one-more-on c.args.map.now c.loop-row.map c.loop-row.row _ _ r k
-    ((has_place one (64 * r + k + first) && has_place other (64 * r + k + second)) && has_place last (64 * r + k + third)) (omega arith) refl
-    (λ same. has_bit-and _ c.word-in-loop-row-2.result k
-    ∙ ap (λ b. b && has_bit c.word-in-loop-row-2.result k) (has_bit-and c.word.result c.word-in-loop-row.result k
-    ∙ ap (λ b. b && has_bit c.word-in-loop-row.result k) (c.word.ensures k below)
-    ∙ ap (λ b. has_place one (64 * c.loop-row.row + k + first) && b) (c.word-in-loop-row.ensures k below))
-    ∙ ap (λ b. (has_place one (64 * c.loop-row.row + k + first) && has_place other (64 * c.loop-row.row + k + second)) && b) (c.word-in-loop-row-2.ensures k below)
-    ∙ ap (λ i. (has_place one (64 * i + k + first) && has_place other (64 * i + k + second)) && has_place last (64 * i + k + third)) (sym same))
-    (c.loop-row.invariant r k below)
-
-pub returns : goal.returns
-returns c n within within' within'' =
-    all-gained (has_place c.args.map.now) (has_place c.loop-row.map)
-    (λ m. (has_place c.args.one.map.now (m + c.args.one.places) && has_place c.args.other.map.now (m + c.args.other.places)) && has_place c.args.last.map.now (m + c.args.last.places)) c.loop-row.row n
-    (c.loop-row.invariant (n / 64) (n % 64) (omega arith)) (omega arith)
+pub returns-else-is_aligned_with-2 : goal.returns-else-is_aligned_with-2
+returns-else-is_aligned_with-2 c n within within' within'' =
+    c.add_words.ensures (λ m. (has_place c.args.one.map.now (m + c.args.one.places) && has_place c.args.other.map.now (m + c.args.other.places)) && has_place c.args.last.map.now (m + c.args.last.places))
+    (λ row word k few made below. search (rules, bits-of-both) fits 8000) n (omega arith)
