@@ -303,10 +303,17 @@ upright_at maps frame count home n direction = not (is_level direction) && row_b
 abbrev is_kept : Bool → Direction → Direction → Bool
 is_kept same direction flank = not (same && comes_first flank direction)
 
+abbrev block_at : TypeMaps → Frame → ℕ → ℕ → ℕ → Direction → Direction → Bool
+block_at maps frame count home n direction flank =
+    list_any (λ a. list_any (λ b. corner_begins maps.before maps.behind maps.beside frame count home (n + a * 1 + b * (64 * frame.words)) direction flank) (range_with_len 0 count)) (range_with_len 0 count)
+
+abbrev kept_at : TypeMaps → Frame → Bool → ℕ → ℕ → ℕ → Direction → Direction → Bool
+kept_at maps frame same count home n direction flank =
+    list_any (λ a. list_any (λ b. is_kept same direction flank && corner_begins maps.before maps.behind maps.beside frame count home (n + a * 1 + b * (64 * frame.words)) direction flank)
+    (range_with_len 0 count)) (range_with_len 0 count)
+
 abbrev blocks_at : TypeMaps → Frame → Bool → ℕ → ℕ → ℕ → Direction → Bool
-blocks_at maps frame same count home n direction =
-    list_any (λ flank. list_any (λ a. list_any (λ b. is_kept same direction flank && corner_begins maps.before maps.behind maps.beside frame count home (n + a * 1 + b * (64 * frame.words)) direction flank)
-    (range_with_len 0 count)) (range_with_len 0 count)) (across direction)
+blocks_at maps frame same count home n direction = list_any (kept_at maps frame same count home n direction) (across direction)
 
 when-block : (t : Bool) (f : ℕ → ℕ → Bool) (count : ℕ) (b : Bool) → list_any (λ i. list_any (λ j. f i j) (range_with_len 0 count)) (range_with_len 0 count) ≡ b
     → list_any (λ i. list_any (λ j. t && f i j) (range_with_len 0 count)) (range_with_len 0 count) ≡ (t && b)
@@ -315,7 +322,7 @@ when-block false f count b is = list_any_same (λ i. list_any (λ j. false) (ran
 
 -- the blocks of an upright direction, whose steps and flanks change places
 crossed : (maps : TypeMaps) (frame : Frame) (count home n : ℕ) (direction flank : Direction)
-    → list_any (λ a. list_any (λ b. corner_begins maps.before maps.behind maps.beside frame count home (n + a * 1 + b * (64 * frame.words)) direction flank) (range_with_len 0 count)) (range_with_len 0 count)
+    → block_at maps frame count home n direction flank
     ≡ list_any (λ b. list_any (λ a. corner_begins maps.before maps.behind maps.beside frame count home (n + b * (64 * frame.words) + a * 1) direction flank) (range_with_len 0 count)) (range_with_len 0 count)
 crossed maps frame count home n direction flank =
     any-swap (λ a b. corner_begins maps.before maps.behind maps.beside frame count home (n + a * 1 + b * (64 * frame.words)) direction flank) (range_with_len 0 count) (range_with_len 0 count)
@@ -326,6 +333,16 @@ crossed maps frame count home n direction flank =
     (λ a. let turn : n + a * 1 + b * (64 * frame.words) ≡ n + b * (64 * frame.words) + a * 1 = omega arith in
     ap (λ m. corner_begins maps.before maps.behind maps.beside frame count home m direction flank) turn))
 
+-- the blocks of a direction, to its two flanks
+kept-pair : (rule : EdgeRule) (layout : Layout) (maps : TypeMaps) (frame : Frame) (same : Bool) (home n x y : ℕ) (direction flank flank' : Direction)
+    → block_at maps frame rule.corner_distance home n direction flank ≡ in_block rule layout direction (square x y) flank
+    → block_at maps frame rule.corner_distance home n direction flank' ≡ in_block rule layout direction (square x y) flank'
+    → list_any (kept_at maps frame same rule.corner_distance home n direction) (flank ∷ flank' ∷ [])
+    ≡ list_any (λ side. is_kept same direction side && in_block rule layout direction (square x y) side) (flank ∷ flank' ∷ [])
+kept-pair rule layout maps frame same home n x y direction flank flank' one other =
+    let begins = λ (side : Direction) (a b : ℕ). corner_begins maps.before maps.behind maps.beside frame rule.corner_distance home (n + a * 1 + b * (64 * frame.words)) direction side in
+    rw (when-block (is_kept same direction flank) (begins flank) _ _ one, when-block (is_kept same direction flank') (begins flank') _ _ other) refl
+
 direction-found : (rule : EdgeRule) (layout : Layout) (maps : TypeMaps) (frame : Frame) (same : Bool) (h n x y : ℕ) (direction : Direction)
     → IsFrame frame → maps.frame ≡ frame → ShowTypes rule layout maps → rule.distance < h → rule.corner_distance < h → IsDeep frame h x y → n + h * (64 * frame.words) ≡ place_of frame x y
     → ((list_any (λ i. level_at maps frame rule.distance (h * (64 * frame.words)) (n + i * 1) direction) (range_with_len 0 rule.distance)
@@ -334,38 +351,24 @@ direction-found : (rule : EdgeRule) (layout : Layout) (maps : TypeMaps) (frame :
     ≡ (in_row rule layout direction (square x y) || list_any (λ flank. is_kept same direction flank && in_block rule layout direction (square x y) flank) (across direction))
 direction-found rule layout maps frame same h n x y Right is same_frame types far far' deep ends =
     level-case _ _ _ _ _ (never rule.distance) (rows-found rule layout maps frame Right h n x y is same_frame types far deep ends)
-    (rw (
-      when-block (is_kept same Right Up) (λ a b. corner_begins maps.before maps.behind maps.beside frame rule.corner_distance (h * (64 * frame.words)) (n + a * 1 + b * (64 * frame.words)) Right Up)
-          rule.corner_distance (in_block rule layout Right (square x y) Up) (blocks-found rule layout maps frame Right Up h n x y is same_frame refl types far' deep ends refl),
-      when-block (is_kept same Right Down) (λ a b. corner_begins maps.before maps.behind maps.beside frame rule.corner_distance (h * (64 * frame.words)) (n + a * 1 + b * (64 * frame.words)) Right Down)
-          rule.corner_distance (in_block rule layout Right (square x y) Down) (blocks-found rule layout maps frame Right Down h n x y is same_frame refl types far' deep ends refl),
-    ) refl)
+    (kept-pair rule layout maps frame same (h * (64 * frame.words)) n x y Right Up Down
+    (blocks-found rule layout maps frame Right Up h n x y is same_frame refl types far' deep ends refl)
+    (blocks-found rule layout maps frame Right Down h n x y is same_frame refl types far' deep ends refl))
 direction-found rule layout maps frame same h n x y Left is same_frame types far far' deep ends =
     level-case _ _ _ _ _ (never rule.distance) (rows-found rule layout maps frame Left h n x y is same_frame types far deep ends)
-    (rw (
-      when-block (is_kept same Left Up) (λ a b. corner_begins maps.before maps.behind maps.beside frame rule.corner_distance (h * (64 * frame.words)) (n + a * 1 + b * (64 * frame.words)) Left Up)
-          rule.corner_distance (in_block rule layout Left (square x y) Up) (blocks-found rule layout maps frame Left Up h n x y is same_frame refl types far' deep ends refl),
-      when-block (is_kept same Left Down) (λ a b. corner_begins maps.before maps.behind maps.beside frame rule.corner_distance (h * (64 * frame.words)) (n + a * 1 + b * (64 * frame.words)) Left Down)
-          rule.corner_distance (in_block rule layout Left (square x y) Down) (blocks-found rule layout maps frame Left Down h n x y is same_frame refl types far' deep ends refl),
-    ) refl)
+    (kept-pair rule layout maps frame same (h * (64 * frame.words)) n x y Left Up Down
+    (blocks-found rule layout maps frame Left Up h n x y is same_frame refl types far' deep ends refl)
+    (blocks-found rule layout maps frame Left Down h n x y is same_frame refl types far' deep ends refl))
 direction-found rule layout maps frame same h n x y Up is same_frame types far far' deep ends =
-    let turn : 64 * frame.words + 1 ≡ 1 + 64 * frame.words = omega arith in
     upright-case _ _ _ _ _ (never rule.distance) (rows-found rule layout maps frame Up h n x y is same_frame types far deep ends)
-    (rw (
-      when-block (is_kept same Up Right) (λ a b. corner_begins maps.before maps.behind maps.beside frame rule.corner_distance (h * (64 * frame.words)) (n + a * 1 + b * (64 * frame.words)) Up Right)
-          rule.corner_distance (in_block rule layout Up (square x y) Right) (crossed maps frame rule.corner_distance (h * (64 * frame.words)) n Up Right ∙ blocks-found rule layout maps frame Up Right h n x y is same_frame refl types far' deep ends turn),
-      when-block (is_kept same Up Left) (λ a b. corner_begins maps.before maps.behind maps.beside frame rule.corner_distance (h * (64 * frame.words)) (n + a * 1 + b * (64 * frame.words)) Up Left)
-          rule.corner_distance (in_block rule layout Up (square x y) Left) (crossed maps frame rule.corner_distance (h * (64 * frame.words)) n Up Left ∙ blocks-found rule layout maps frame Up Left h n x y is same_frame refl types far' deep ends turn),
-    ) refl)
+    (kept-pair rule layout maps frame same (h * (64 * frame.words)) n x y Up Right Left
+    (crossed maps frame rule.corner_distance (h * (64 * frame.words)) n Up Right ∙ blocks-found rule layout maps frame Up Right h n x y is same_frame refl types far' deep ends (omega arith))
+    (crossed maps frame rule.corner_distance (h * (64 * frame.words)) n Up Left ∙ blocks-found rule layout maps frame Up Left h n x y is same_frame refl types far' deep ends (omega arith)))
 direction-found rule layout maps frame same h n x y Down is same_frame types far far' deep ends =
-    let turn : 64 * frame.words + 1 ≡ 1 + 64 * frame.words = omega arith in
     upright-case _ _ _ _ _ (never rule.distance) (rows-found rule layout maps frame Down h n x y is same_frame types far deep ends)
-    (rw (
-      when-block (is_kept same Down Right) (λ a b. corner_begins maps.before maps.behind maps.beside frame rule.corner_distance (h * (64 * frame.words)) (n + a * 1 + b * (64 * frame.words)) Down Right)
-          rule.corner_distance (in_block rule layout Down (square x y) Right) (crossed maps frame rule.corner_distance (h * (64 * frame.words)) n Down Right ∙ blocks-found rule layout maps frame Down Right h n x y is same_frame refl types far' deep ends turn),
-      when-block (is_kept same Down Left) (λ a b. corner_begins maps.before maps.behind maps.beside frame rule.corner_distance (h * (64 * frame.words)) (n + a * 1 + b * (64 * frame.words)) Down Left)
-          rule.corner_distance (in_block rule layout Down (square x y) Left) (crossed maps frame rule.corner_distance (h * (64 * frame.words)) n Down Left ∙ blocks-found rule layout maps frame Down Left h n x y is same_frame refl types far' deep ends turn),
-    ) refl)
+    (kept-pair rule layout maps frame same (h * (64 * frame.words)) n x y Down Right Left
+    (crossed maps frame rule.corner_distance (h * (64 * frame.words)) n Down Right ∙ blocks-found rule layout maps frame Down Right h n x y is same_frame refl types far' deep ends (omega arith))
+    (crossed maps frame rule.corner_distance (h * (64 * frame.words)) n Down Left ∙ blocks-found rule layout maps frame Down Left h n x y is same_frame refl types far' deep ends (omega arith)))
 
 -- ---- blocks that two directions have
 -- the squares of a corner, seen from the direction and from its flank
