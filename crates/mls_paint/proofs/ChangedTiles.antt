@@ -25,7 +25,7 @@ use Rattle.mls_stitch.proofs.FreshStrips.{AreTouched, pieces_of}
 use Rattle.mls_stitch.proofs.FreshTiles.{AllPairs-either, Contains-from_map, entry-keys_of, keys_of-listed}
 use Rattle.mls_stitch.proofs.PaintedTiles.{same_corner}
 use Rattle.mls_stitch.proofs.Sides.{HoldsAt-block}
-use Rattle.mls_paint.specs.Changes.{CornersDiffer, corner_of, gone_of, is_among, is_same, put_of}
+use Rattle.mls_paint.specs.Changes.{CornersDiffer, gone_of, is_among, is_same, put_of, sort_key_of}
 
 -- the test of two pieces finds those that are equal
 pub is_same-Decides : (p q : Piece) → Decides (is_same p q) (p ≡ q)
@@ -124,7 +124,7 @@ pub length-changes :
 length-changes tiles strips corners up =
     let differ : AllPairs (λ p q. p ≢ q) strips = λ i j d before within same.
     not_level (get_or strips i d) (get_or strips j d) (ap (λ p. p.rect.left) same) (ap (λ p. p.rect.bottom) same) (up i j d before within) in
-    let differ' : AllPairs (λ p q. p ≢ q) (pieces_of tiles) = λ i j d before within same. corners i j d before within (ap corner_of same) in
+    let differ' : AllPairs (λ p q. p ≢ q) (pieces_of tiles) = λ i j d before within same. corners i j d before within (ap sort_key_of same) in
     omega (arith, length-put_of strips (pieces_of tiles) differ differ', length-gone_of tiles strips, length-map tiles (λ (t : LaidTile). t.piece))
 
 -- and no more are put than there are
@@ -135,7 +135,7 @@ length-put_of-le strips pieces = omega (arith, length-filter_both (is_among piec
 pub CornersDiffer-touched :
     (blocks : ℕ → Option Piece) (touched : List LaidTile) (over : List Piece) → AreBlocks blocks → AreTouched blocks touched over → CornersDiffer (pieces_of touched)
 CornersDiffer-touched blocks touched over tiling under =
-    AllPairs-map (λ p q. corner_of p ≢ corner_of q) (λ t. t.piece) touched
+    AllPairs-map (λ p q. sort_key_of p ≢ sort_key_of q) (λ t. t.piece) touched
     (λ i j d before within same.
     under.once i j d before within
     (same_corner blocks touched over (get_or touched i d) (get_or touched j d) tiling under (Contains-get_or touched i d (omega arith)) (Contains-get_or touched j d within)

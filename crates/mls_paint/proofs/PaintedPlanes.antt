@@ -27,6 +27,7 @@ use Rattle.mls_stitch.proofs.ShownTiles.{KeysDiffer-tiles_of}
 use Rattle.mls_paint.specs.Changes.{AreChanges, CornersDiffer, IsWorkedOut, gone_of, put_of}
 use Rattle.mls_paint.specs.Painting.{KeepsUntouched}
 use Rattle.mls_paint.specs.Planes.{HasStrips, picture_in}
+use Rattle.mls_paint.specs.Plans.{IsPlanFor, Plan}
 use Rattle.mls_paint.proofs.ChangedTiles.{Contains-gone_of, Contains-put_of, CornersDiffer-touched, TakePlace-changes, stays_among}
 use Rattle.mls_paint.proofs.ListedTouched.{AreTouched-ListTouched}
 use Rattle.mls_paint.proofs.MovedLists.{TakePlace-moved}
@@ -94,7 +95,7 @@ fits_unless true refused tiles limit is only = (
 fits_unless false refused tiles limit is only = (λ never. absurd (both_ways false refl never), λ few. absurd (omega (arith, few, only.0 is)))
 
 -- the strips of what the tiles and the pieces cover take their place, other than those that are tiles already, in any order
-pub TakePlace-GivesWay :
+TakePlace-GivesWay :
     (pool : Pool) (owner : ℕ) (over : List Piece) (list : List LaidTile) (fresh : List Piece) (names : List ℕ) (put : List Piece) → GivesWay pool owner over list
     → AreCoveredStrips world (laid (pieces_of list ++ over)) fresh → AreChanges list fresh names put → TakePlace (block_at (tiles_of pool owner)) names put
 TakePlace-GivesWay pool owner over list fresh names put gives covered changes =
@@ -111,25 +112,13 @@ ok_where_room (Ok done) room tiles names count put fits same refused = refl
 ok_where_room (Err fault) None tiles names count put fits same refused = absurd (refused refl)
 ok_where_room (Err fault) (Some r) tiles names count put fits same refused = absurd (omega (arith, fits, same, refused refl))
 
--- the painted plane has as many tiles as come and stay
-pub number-GivesWay :
-    (pool : Pool) (owner : ℕ) (over : List Piece) (list : List LaidTile) (names : List ℕ) (put : List Piece) → GivesWay pool owner over list
-    → (worked : IsWorkedOut list over names put) → count_of pool owner + length put ≡ tile_count world (overlaid (picture_in pool owner) over) + length names
-number-GivesWay pool owner over list names put gives worked =
-    omega (
-      arith,
-      tile_count-GivesWay pool owner over list gives,
-      covered_strips_number world (laid (pieces_of list ++ over)) worked.strips worked.covered,
-      worked.number,
-    )
-
 -- no two of the tiles have one lower-left corner
 pub CornersDiffer-GivesWay : (pool : Pool) (owner : ℕ) (over : List Piece) (list : List LaidTile) → GivesWay pool owner over list → CornersDiffer (pieces_of list)
 CornersDiffer-GivesWay pool owner over list gives =
     CornersDiffer-touched (block_at (tiles_of pool owner)) list over gives.strips.plane.plane.tiling (AreTouched-GivesWay pool owner over list gives)
 
 -- the listed tiles that are no strips have given way to the strips that are no listed tiles, in any order
-pub record IsChanged (old new : List (ℕ × Tile)) (list : List LaidTile) (fresh : List Piece) : Type 0 where
+record IsChanged (old new : List (ℕ × Tile)) (list : List LaidTile) (fresh : List Piece) : Type 0 where
   pub names : List ℕ
   pub put : List Piece
   pub changes : AreChanges list fresh names put
@@ -157,7 +146,7 @@ IsPainted-GivesWay old new owner over list fresh gives covered changed =
     }
 
 -- then the plane shows the pieces over what it showed
-pub picture-painted :
+picture-painted :
     (old new : Pool) (owner : ℕ) (over : List Piece) (list : List LaidTile) (fresh : List Piece) → GivesWay old owner over list
     → AreCoveredStrips world (laid (pieces_of list ++ over)) fresh → IsChanged (tiles_of old owner) (tiles_of new owner) list fresh
     → picture_in new owner ≡ overlaid (picture_in old owner) over
@@ -166,7 +155,7 @@ picture-painted old new owner over list fresh gives covered changed =
     (IsPainted-GivesWay old new owner over list fresh gives covered changed)
 
 -- and its tiles are maximal strips
-pub HasStrips-painted :
+HasStrips-painted :
     (old new : Pool) (owner : ℕ) (over : List Piece) (list : List LaidTile) (fresh : List Piece) → GivesWay old owner over list
     → AreCoveredStrips world (laid (pieces_of list ++ over)) fresh → IsChanged (tiles_of old owner) (tiles_of new owner) list fresh → HasPlane new owner
     → HasStrips new owner
@@ -178,7 +167,7 @@ HasStrips-painted old new owner over list fresh gives covered changed home = rec
 }
 
 -- a tile that no piece touches stays: if it is listed, it is a strip of the painted plane as it is
-pub KeepsUntouched-IsChanged :
+KeepsUntouched-IsChanged :
     (old : Pool) (new : List (ℕ × Tile)) (owner : ℕ) (over : List Piece) (list : List LaidTile) (fresh : List Piece) → GivesWay old owner over list
     → AreCoveredStrips world (laid (pieces_of list ++ over)) fresh → IsChanged (tiles_of old owner) new list fresh → KeepsUntouched (tiles_of old owner) new over
 KeepsUntouched-IsChanged old new owner over list fresh gives covered changed key tile here apart =
@@ -195,3 +184,51 @@ KeepsUntouched-IsChanged old new owner over list fresh gives covered changed key
     gives.listed.whole gives.legal covered there (subst (λ p. is_touched over p ≡ false) (sym same) apart)) in
     let (after, at, kept) = changed.replaced.kept key tile here unlisted in
     (after, at, kept.corner, kept.kind)
+
+-- the plane shows the pieces over what it showed, in maximal strips, and a tile that no piece touches stays
+pub record IsOverlaid (old new : Pool) (owner : ℕ) (over : List Piece) : Type 0 where
+  pub picture : picture_in new owner ≡ overlaid (picture_in old owner) over
+  pub strips : HasStrips new owner
+  pub kept : KeepsUntouched (tiles_of old owner) (tiles_of new owner) over
+
+-- the plan is one for the plane as it is, and has worked out that tiles of these names give way to the strips that are put
+pub record IsReady (pool : Pool) (owner : ℕ) (plan : Plan) (names : List ℕ) (put : List Piece) : Type 0 where
+  pub strips : HasStrips pool owner
+  pub planned : IsPlanFor pool owner plan
+  pub worked : IsWorkedOut plan.tiles plan.over names put
+
+GivesWay-IsReady :
+    {pool : Pool} {owner : ℕ} {plan : Plan} {names : List ℕ} {put : List Piece} → IsReady pool owner plan names put → GivesWay pool owner plan.over plan.tiles
+GivesWay-IsReady ready = record { strips = ready.strips; listed = ready.planned.touched; kinds = ready.worked.kinds; legal = ready.worked.legal }
+
+-- so they may take the place of those tiles
+pub TakePlace-IsReady :
+    {pool : Pool} {owner : ℕ} {plan : Plan} {names : List ℕ} {put : List Piece} → IsReady pool owner plan names put → TakePlace (block_at (tiles_of pool owner)) names put
+TakePlace-IsReady ready = TakePlace-GivesWay _ _ _ _ _ _ _ (GivesWay-IsReady ready) ready.worked.covered ready.worked.changes
+
+-- the painted plane has as many tiles as come and stay
+pub number-IsReady :
+    {pool : Pool} {owner : ℕ} {plan : Plan} {names : List ℕ} {put : List Piece} → IsReady pool owner plan names put
+    → count_of pool owner + length put ≡ tile_count world (overlaid (picture_in pool owner) plan.over) + length names
+number-IsReady {pool} {owner} {plan} {names} {put} ready =
+    omega (
+      arith,
+      tile_count-GivesWay pool owner plan.over plan.tiles (GivesWay-IsReady ready),
+      covered_strips_number world (laid (pieces_of plan.tiles ++ plan.over)) ready.worked.strips ready.worked.covered,
+      ready.worked.number,
+    )
+
+-- and once they have, the plane is painted
+pub IsOverlaid-IsReady :
+    {old new : Pool} {owner : ℕ} {plan : Plan} {names : List ℕ} {put : List Piece} → IsReady old owner plan names put
+    → Replaces (tiles_of old owner) (tiles_of new owner) names put → HasPlane new owner → IsOverlaid old new owner plan.over
+IsOverlaid-IsReady {old} {new} {owner} {plan} {names} {put} ready replaced home =
+    let gives = GivesWay-IsReady ready in
+    let covered = ready.worked.covered in
+    let changed : IsChanged (tiles_of old owner) (tiles_of new owner) plan.tiles ready.worked.strips =
+    record { names = names; put = put; changes = ready.worked.changes; replaced = replaced } in
+    record {
+      picture = picture-painted old new owner plan.over plan.tiles ready.worked.strips gives covered changed;
+      strips = HasStrips-painted old new owner plan.over plan.tiles ready.worked.strips gives covered changed home;
+      kept = KeepsUntouched-IsChanged old (tiles_of new owner) owner plan.over plan.tiles ready.worked.strips gives covered changed;
+    }

@@ -13,24 +13,24 @@ use Rattle.std.proofs.lemmas.List.Sorted.{Contains-permutation, IsPermutation-sy
 use Rattle.mls_geom.specs.Strips.{comes_before}
 use Rattle.mls_geom.specs.declared.piece.Piece.{Piece}
 use Rattle.mls_stitch.proofs.FreshTiles.{AllPairs-either}
-use Rattle.mls_paint.specs.Changes.{AreInOrder, CornersDiffer, corner_of, is_same, put_of}
-use Rattle.mls_paint.specs.declared.changes.Corner.{Corner}
+use Rattle.mls_paint.specs.Changes.{AreInOrder, CornersDiffer, is_same, put_of, sort_key_of}
+use Rattle.mls_paint.specs.declared.changes.SortKey.{SortKey}
 use Rattle.mls_paint.proofs.ChangedTiles.{not_level}
 
--- the order of corners
-abbrev pub corner_cmp : Corner → Corner → Ordering
-corner_cmp = then_cmp (on (λ (c : Corner). c.bottom) nat_cmp) (on (λ (c : Corner). c.left) nat_cmp)
+-- the order of sort keys
+abbrev pub sort_key_cmp : SortKey → SortKey → Ordering
+sort_key_cmp = then_cmp (on (λ (key : SortKey). key.bottom) nat_cmp) (on (λ (key : SortKey). key.left) nat_cmp)
 
-corner_cmp_total : IsTotalOrder corner_cmp
-corner_cmp_total = then_total (on_total (λ (c : Corner). c.bottom) nat_cmp_total) (on_total (λ (c : Corner). c.left) nat_cmp_total)
+sort_key_cmp_total : IsTotalOrder sort_key_cmp
+sort_key_cmp_total = then_total (on_total (λ (key : SortKey). key.bottom) nat_cmp_total) (on_total (λ (key : SortKey). key.left) nat_cmp_total)
 
-not_before : (p q : Piece) → is_lt (corner_cmp (corner_of q) (corner_of p)) ≡ false → comes_before q p ≡ false
+not_before : (p q : Piece) → is_lt (sort_key_cmp (sort_key_of q) (sort_key_of p)) ≡ false → comes_before q p ≡ false
 not_before p q not_less = grind (arith, nat_tests)
 
--- a sort by the corners puts pieces in that order
-pub ordered_from_sort : (pieces : List Piece) → IsSortedByKey corner_of corner_cmp pieces → AllPairs (λ p q. comes_before q p ≡ false) pieces
+-- a sort by them puts pieces in that order
+pub ordered_from_sort : (pieces : List Piece) → IsSortedByKey sort_key_of sort_key_cmp pieces → AllPairs (λ p q. comes_before q p ≡ false) pieces
 ordered_from_sort pieces sorted = λ i j d before within.
-    not_before (get_or pieces i d) (get_or pieces j d) (sorted_far _ (ranks_by corner_cmp_total corner_of) pieces sorted i j d (omega arith) within)
+    not_before (get_or pieces i d) (get_or pieces j d) (sorted_far _ (ranks_by sort_key_cmp_total sort_key_of) pieces sorted i j d (omega arith) within)
 
 -- strips are in order
 one_way : (p q : Piece) → comes_before p q ≡ true → comes_before q p ≡ false
@@ -58,10 +58,10 @@ AreInOrder-sorted pieces sorted differ moved up =
     record {
       ordered = up;
       alike = λ p q in_p in_q left bottom.
-          elim (AllPairs-either (λ p q. corner_of p ≢ corner_of q) pieces p q differ (back p in_p) (back q in_q)) [
+          elim (AllPairs-either (λ p q. sort_key_of p ≢ sort_key_of q) pieces p q differ (back p in_p) (back q in_q)) [
             | inl same ↦ same
             | inr either ↦
-                let one : corner_of p ≡ corner_of q = λ i. record { bottom = bottom i; left = left i } in
+                let one : sort_key_of p ≡ sort_key_of q = λ i. record { bottom = bottom i; left = left i } in
                 elim either [
                   | inl other ↦ absurd (other one)
                   | inr other ↦ absurd (other (sym one))

@@ -7,11 +7,11 @@ use Rattle.mls_geom.specs.Strips.{comes_before}
 use Rattle.mls_geom.specs.World.{AreLegal, world}
 use Rattle.mls_geom.specs.declared.piece.Piece.{Piece}
 use Rattle.mls_stitch.specs.declared.laid_tile.LaidTile.{LaidTile}
-use Rattle.mls_paint.specs.declared.changes.Corner.{Corner}
+use Rattle.mls_paint.specs.declared.changes.SortKey.{SortKey}
 
--- where a piece begins
-abbrev pub corner_of : Piece → Corner
-corner_of piece = record { bottom = piece.rect.bottom; left = piece.rect.left }
+-- by what a piece is sorted: where it begins
+abbrev pub sort_key_of : Piece → SortKey
+sort_key_of piece = record { bottom = piece.rect.bottom; left = piece.rect.left }
 
 -- the pieces have one rectangle and one kind
 abbrev pub is_same : Piece → Piece → Bool
@@ -24,7 +24,7 @@ is_among pieces piece = list_any (λ other. is_same piece other) pieces
 
 -- no two of the pieces have one lower-left corner
 abbrev pub CornersDiffer : List Piece → Type 0
-CornersDiffer pieces = AllPairs (λ p q. corner_of p ≢ corner_of q) pieces
+CornersDiffer pieces = AllPairs (λ p q. sort_key_of p ≢ sort_key_of q) pieces
 
 -- the pieces stand by bottom and then left, and those with one lower-left corner are one
 pub record AreInOrder (pieces : List Piece) : Type 0 where

@@ -3,27 +3,27 @@ ghost use Rattle.std.specs.Prelude.{◌≡◌, ◌+◌, ◌≤◌, false, IsTrue
 ghost use Rattle.std.specs.List.{AllPairs, Contains};
 ghost use Rattle.std.specs.List.Sorted.{IsPermutation};
 ghost use Rattle.mls_geom.specs.Strips.{comes_before};
-ghost use Rattle.mls_paint.specs.Changes.{AreInOrder, CornersDiffer, corner_of, gone_of, is_among, put_of};
+ghost use Rattle.mls_paint.specs.Changes.{AreInOrder, CornersDiffer, gone_of, is_among, put_of, sort_key_of};
 
 use crate::pairs::pair_up;
 use mls_geom::Piece;
 use mls_stitch::LaidTile;
 use mls_tilepool::TileId;
 
-/// The lower-left corner of a piece, by which strips are in order.
+/// What pieces are sorted by: the bottom, and then the left.
 #[derive(Clone, Copy, PartialEq, Eq, PartialOrd, Ord)]
-struct Corner {
+struct SortKey {
     bottom: u32,
     left: u32,
 }
 
-impl Corner {
-    /// Returns the lower-left corner of the piece.
-    fn of(piece: &Piece) -> Corner
-        ensures { result ≡ corner_of piece.now }
+impl SortKey {
+    /// Returns by what the piece is sorted.
+    fn of(piece: &Piece) -> SortKey
+        ensures { result ≡ sort_key_of piece.now }
     {
         let area = piece.rect.area();
-        Corner {
+        SortKey {
             bottom: area.bottom,
             left: area.left,
         }
@@ -34,7 +34,7 @@ impl Corner {
 fn comes_before(piece: &Piece, other: &Piece) -> bool
     ensures { result ≡ comes_before piece.now other.now }
 {
-    Corner::of(piece) < Corner::of(other)
+    SortKey::of(piece) < SortKey::of(other)
 }
 
 /// Sorts the pieces by bottom and then left.
@@ -42,7 +42,7 @@ fn sort_pieces(pieces: &mut [Piece])
     ensures moved { IsPermutation pieces.old pieces.new }
     ensures sorted { AllPairs (λ p q. comes_before q p ≡ false) pieces.new }
 {
-    pieces.sort_unstable_by_key(|piece| Corner::of(piece));
+    pieces.sort_unstable_by_key(|piece| SortKey::of(piece));
 }
 
 /// Returns whether the piece stands at the index.

@@ -15,7 +15,7 @@ ghost use Rattle.mls_paint.specs.Scratches.{HasRoomFor, KeepsRoom};
 use crate::Scratch;
 use mls_geom::{Piece, Rect};
 use mls_kinds::{Kind, KindSet};
-use mls_stitch::Plane;
+use mls_stitch::{Plane, Scratch as Search};
 use mls_tilepool::{Pool, PoolFull};
 
 /// Makes a plane of space, and reserves `tiles` tiles for it.
@@ -49,14 +49,16 @@ pub fn release_plane(pool: &mut Pool, plane: Plane)
     pool.release(plane.into_owner());
 }
 
-/// Reads how many tiles the plane has, for which there is room.
-pub(crate) fn read_count(pool: &Pool, plane: &Plane, scratch: &Scratch) -> usize
+/// Returns the lists, which have room for all tiles of the plane: it never has more tiles than are reserved for it.
+pub(crate) fn lists_for<'a>(pool: &Pool, plane: &Plane, lists: &'a mut Search) -> &'a mut Search
     requires plane { HasPlane pool.now plane.now }
-    requires room { HasRoomFor pool.now plane.now scratch.now }
-    ensures count { result ≡ count_of pool.now plane.now }
-    ensures within { result ≤ scratch.now.room }
+    requires room { IfSome (room_of pool.now plane.now) (λ room. room ≤ lists.old.room) }
+    ensures same { result.ghost_name ≡ lists.entry.ghost_name }
+    ensures lists { result.now ≡ lists.old }
+    ensures room { count_of pool.now plane.now ≤ lists.old.room }
 {
-    pool.count(plane.owner()) as usize
+    prove!(pool.count(plane.owner()) <= pool.room(plane.owner()));
+    lists
 }
 
 /// Finds the tiles that have a square of the area, by their bottom, clipped to the area, and then their left, and
@@ -68,9 +70,7 @@ pub fn find_area(pool: &Pool, plane: &Plane, area: Rect, scratch: &mut Scratch)
     ensures plans { scratch.new.plans ≡ scratch.old.plans }
     ensures rooms { KeepsRoom scratch.old scratch.new }
 {
-    // So there is room for what is found.
-    prove!(read_count(pool, plane, scratch) <= scratch.room);
-    plane.area(pool, area, &mut scratch.search);
+    plane.area(pool, area, lists_for(pool, plane, &mut scratch.search));
 }
 
 /// Finds the tiles that have a square of the area, in any order, and leaves them in the scratch.
@@ -81,9 +81,7 @@ pub fn find_meeting(pool: &Pool, plane: &Plane, area: Rect, scratch: &mut Scratc
     ensures plans { scratch.new.plans ≡ scratch.old.plans }
     ensures rooms { KeepsRoom scratch.old scratch.new }
 {
-    // So there is room for what is found.
-    prove!(read_count(pool, plane, scratch) <= scratch.room);
-    plane.meeting(pool, area, &mut scratch.search);
+    plane.meeting(pool, area, lists_for(pool, plane, &mut scratch.search));
 }
 
 /// Finds all tiles of the plane, by bottom and then left, and leaves them in the scratch.
@@ -96,9 +94,7 @@ pub fn strips_of(pool: &Pool, plane: &Plane, scratch: &mut Scratch)
     ensures plans { scratch.new.plans ≡ scratch.old.plans }
     ensures rooms { KeepsRoom scratch.old scratch.new }
 {
-    // So there is room for what is found.
-    prove!(read_count(pool, plane, scratch) <= scratch.room);
-    plane.strips_of(pool, &mut scratch.search);
+    plane.strips_of(pool, lists_for(pool, plane, &mut scratch.search));
 }
 
 /// Returns the kinds below 64 that the squares of the rectangle have.

@@ -13,7 +13,7 @@ ghost use Rattle.mls_paint.specs.Scratches.{HasRoomFor, KeepsRoom, plan_of};
 
 use crate::Scratch;
 use crate::paint::TooManyTiles;
-use crate::planes::read_count;
+use crate::planes::lists_for;
 use mls_geom::{Piece, Scratch as Sweep, fresh_strips};
 use mls_stitch::{LaidTile, Plane};
 use mls_tilepool::Pool;
@@ -81,7 +81,7 @@ pub(crate) fn plan_painting(
     ensures others { (other : ℕ) → other ≢ place → plan_of scratch.new other ≡ plan_of scratch.old other }
     ensures rooms { KeepsRoom scratch.old scratch.new }
 {
-    let count = read_count(pool, plane, scratch);
+    let count = pool.count(plane.owner()) as usize;
     let over = painting.over;
     let searched = plane.touching(pool, over, painting.turns as usize, &mut scratch.search);
     let Scratch {
@@ -116,11 +116,10 @@ pub fn commit(pool: &mut Pool, plane: &mut Plane, place: usize, scratch: &mut Sc
     ensures plans { scratch.new.plans ≡ scratch.old.plans }
     ensures rooms { KeepsRoom scratch.old scratch.new }
 {
-    // So there is room for what takes the place of its tiles.
-    prove!(read_count(pool, plane, scratch) <= scratch.room);
     let Scratch { search, plans, .. } = scratch;
     let replacement = plans[place].replacement();
-    plane.replace(pool, &replacement, search).unwrap();
+    let lists = lists_for(pool, plane, search);
+    plane.replace(pool, &replacement, lists).unwrap();
 }
 
 /// Fills `pieces` with the rectangles and kinds of the tiles, and after them the pieces that are painted over them.

@@ -1,5 +1,6 @@
 -- The tiles that stay and the fresh strips are what the plane would have.
 use Rattle.std.proofs.Common.{refl, ap, ◌∙◌}
+use Rattle.mls_tilepool.specs.Pools.{count_of}
 use Rattle.mls_stitch.proofs.FreshStrips.{pieces_of}
 use Rattle.mls_paint.proofs.PaintedPlanes.{CornersDiffer-GivesWay, GivesWay-swept, too_many-swept}
 use Rattle.mls_paint.proofs.planning.plan_painting.Goals as goal
@@ -11,7 +12,7 @@ returns-in_err-find_fresh-clause-too_many c =
     let over = c.args.painting.now.over.now in
     let list = c.touching-searched.new.scratch.tiles in
     let gives = GivesWay-swept pool owner over list _ c.requires.strips c.touching-searched.ensures.touched c.tiles-tiles.ensures c.find_fresh.ensures.kinds c.find_fresh.ensures.legal in
-    let refused = too_many-swept pool owner over list _ c.args.painting.now.limit _ gives c.tiles-tiles.ensures c.read_count-count.ensures.count c.in_err-find_fresh.ensures.too_many in
+    let refused = too_many-swept pool owner over list _ c.args.painting.now.limit _ gives c.tiles-tiles.ensures (c.count-count.ensures.value ∙ ap (count_of pool) c.owner.ensures) c.in_err-find_fresh.ensures.too_many in
     (λ _. refused.0 refl, λ _. c.from_residual.ensures.0)
 
 pub make-requires-clause-corners : goal.make-requires-clause-corners
@@ -30,4 +31,4 @@ returns-clause-too_many c =
     let over = c.args.painting.now.over.now in
     let list = c.touching-searched.new.scratch.tiles in
     let gives = GivesWay-swept pool owner over list _ c.requires.strips c.touching-searched.ensures.touched c.tiles-tiles.ensures c.find_fresh.ensures.kinds c.find_fresh.ensures.legal in
-    too_many-swept pool owner over list _ c.args.painting.now.limit _ gives c.tiles-tiles.ensures c.read_count-count.ensures.count c.in_ok-find_fresh.ensures.too_many
+    too_many-swept pool owner over list _ c.args.painting.now.limit _ gives c.tiles-tiles.ensures (c.count-count.ensures.value ∙ ap (count_of pool) c.owner.ensures) c.in_ok-find_fresh.ensures.too_many
