@@ -10,11 +10,9 @@ use Rattle.mls_geom.specs.Pictures.{Picture, empty_picture}
 use Rattle.mls_geom.specs.Rects.{holds}
 use Rattle.mls_geom.specs.declared.piece.Piece.{Piece}
 use Rattle.mls_tilepool.specs.Pools.{Pool, tiles_of}
-use Rattle.mls_stitch.specs.Areas.{AreSearched, ListTouched}
-use Rattle.mls_stitch.specs.Tilings.{ChangesOnly, block_at, shown}
+use Rattle.mls_stitch.specs.Tilings.{ChangesOnly, shown}
 use Rattle.mls_paint.specs.Owners.{ChangesAmong}
 use Rattle.mls_paint.specs.Planes.{HasStrips, layout_in, picture_at, picture_in}
-use Rattle.mls_paint.specs.Plans.{IsPlanFor, Plan}
 use Rattle.mls_paint.proofs.OwnerFrames.{ChangesAmong-ChangesOnly, ChangesAmong-refl, ChangesAmong-trans, layout_in-at}
 use Rattle.mls_layout.specs.Moves.{kind_or_space, moved_picture}
 use Rattle.mls_session.specs.Changes.{dumped}
@@ -25,13 +23,6 @@ use Rattle.mls_session.specs.declared.change.Change.TheVariants.{Erase, Dump}
 use Rattle.mls_session.proofs.HomePlanes.{AreAtHome-ChangesOnly, owners_differ}
 
 -- ---- plane by plane
--- a plan is one for a plane that has the same tiles
-pub IsPlanFor-tiles : (old new : Pool) (owner : ℕ) (plan : Plan) → tiles_of new owner ≡ tiles_of old owner → IsPlanFor old owner plan → IsPlanFor new owner plan
-IsPlanFor-tiles old new owner plan same made = record {
-  touched = subst (λ tiles. ListTouched (block_at tiles) plan.over plan.tiles) (sym same) made.touched;
-  searched = subst (λ tiles. AreSearched (block_at tiles) plan.searched plan.tiles) (sym same) made.searched;
-}
-
 -- the first planes show what is wanted and the others have the tiles that they had, only they have changed, and all are at home
 pub record IsMade (old new : Pool) (design : Design) (wanted : Layout) (count : ℕ) : Type 0 where
   pub done : (k d : ℕ) → k < count → k < length design.planes → picture_in new (get_or design.planes k d) ≡ wanted k

@@ -44,6 +44,7 @@ pub mod Painting
 pub mod PartialFacts
 pub mod PlacedBounds
 pub mod PlacedCells
+pub mod PlannedPlanes
 pub mod RepaintedPlanes
 pub mod Results
 pub mod RightMarks
