@@ -9,7 +9,6 @@ use Rattle.std.proofs.lemmas.List.Elements.{All-contains, All-filter, filter_pas
 use Rattle.std.proofs.lemmas.List.Folds.{Any-from_list_any, list_any-from_Any, list_any_more}
 use Rattle.std.proofs.lemmas.List.Kept.{AllPairs-filter}
 use Rattle.mls_geom.specs.Locality.{AreCoveredStrips, covered_count, laid, uncovered}
-use Rattle.mls_geom.specs.Parts.{IsCoveredStrip}
 use Rattle.mls_geom.specs.Pictures.{Picture}
 use Rattle.mls_geom.specs.Rects.{Rect, common, has_squares, holds}
 use Rattle.mls_geom.specs.StripLists.{strips_of}
@@ -29,6 +28,9 @@ use Rattle.mls_errorplane.proofs.CheckedMarks.{mark_kind}
 use Rattle.mls_errorplane.specs.Violations.{Covers, set_strips, squares_within}
 
 -- ---- two lists of the strips of what is covered are one
+abbrev IsCoveredStrip : Rect → Picture → Piece → Type 0
+IsCoveredStrip extent picture strip = IsStrip extent picture strip × (strip.kind ≢ uncovered)
+
 one_way : (p q : Piece) → IsTrue (comes_before p q) → IsTrue (comes_before q p) → ⊥
 one_way p q before after = grind (arith, nat_tests)
 

@@ -7,7 +7,8 @@ use Rattle.mls_geom.specs.Sweep.Stacks.{AreAlike, up_to}
 use Rattle.mls_geom.specs.Strips.{IsRun}
 use Rattle.mls_geom.specs.Locality.{covered_count, uncovered}
 use Rattle.mls_geom.specs.TileCounts.{starts_run, goes_on_below}
-use Rattle.mls_geom.proofs.CornerCounts.{corner_at, corners_between, sum_by-between, sum_by-first, sum_by-none, covered_count-up_to}
+use Rattle.mls_geom.specs.Sweep.Changing.{corner_at, corners_between}
+use Rattle.mls_geom.proofs.CornerCounts.{sum_by-between, sum_by-first, sum_by-none, covered_count-up_to}
 use Rattle.mls_geom.proofs.RowRuns.{IsRun-alike}
 use Rattle.mls_geom.proofs.RunTests.{starts_run-IsRun, run_end-IsRun, IsRun-from_tests}
 

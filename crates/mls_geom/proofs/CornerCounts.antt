@@ -1,5 +1,5 @@
 -- The number of covered strips of the rows below a line, by rows and by columns.
-use Rattle.std.proofs.Common.{◌≡◌, ℕ, zero, suc, ◌+◌, ◌-◌, ◌<◌, ◌≤◌, [], ◌∷◌, ◌++◌, if◌then◌else◌, refl, ap, add-zero, arith, All}
+use Rattle.std.proofs.Common.{◌≡◌, ℕ, zero, suc, ◌+◌, ◌-◌, ◌<◌, ◌≤◌, [], ◌∷◌, ◌++◌, refl, ap, add-zero, arith, All}
 use Rattle.std.proofs.lemmas.Bool.Decides.{nat_tests}
 use Rattle.std.specs.List.{range_with_len, sum_by}
 use Rattle.std.proofs.lemmas.List.FromFn.{length-range_with_len, get_or-range_with_len}
@@ -7,15 +7,8 @@ use Rattle.std.proofs.lemmas.List.Sums.{sum_by-append, sum_by-cons, sum_by-le}
 use Rattle.mls_geom.specs.Rects.{Rect}
 use Rattle.mls_geom.specs.Pictures.{Picture}
 use Rattle.mls_geom.specs.Sweep.Stacks.{AreStacked, up_to}
-use Rattle.mls_geom.specs.Locality.{covered_count, is_covered_corner}
-
--- 1 at a covered corner, and 0 elsewhere
-abbrev pub corner_at : Rect → Picture → ℕ → ℕ → ℕ
-corner_at extent picture y x = if is_covered_corner extent picture x y then 1 else 0
-
--- the covered corners of a row in the columns from one line up to another
-abbrev pub corners_between : Rect → Picture → ℕ → ℕ → ℕ → ℕ
-corners_between extent picture y low high = sum_by (corner_at extent picture y) (range_with_len low (high - low))
+use Rattle.mls_geom.specs.Locality.{covered_count}
+use Rattle.mls_geom.specs.Sweep.Changing.{corners_between}
 
 -- a range cut in two
 range_with_len-cut : (a m n : ℕ) → range_with_len a (m + n) ≡ range_with_len a m ++ range_with_len (a + m) n

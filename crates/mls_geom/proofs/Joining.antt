@@ -1,24 +1,17 @@
 -- Runs of the covered squares of a row up to a line, and one more.
-use Rattle.std.proofs.Common.{◌≡◌, ◌≢◌, ℕ, ◌<◌, ◌≤◌, List, [], ◌∷◌, ◌++◌, ◌∙◌, inl, inr, arith, rules, length-append}
-use Rattle.std.specs.List.{All, Any, AllPairs}
+use Rattle.std.proofs.Common.{◌≡◌, ◌≢◌, ℕ, ◌<◌, ◌≤◌, List, [], ◌∷◌, ◌++◌, inl, inr, arith, rules}
 use Rattle.std.proofs.lemmas.Bool.{cases_lt}
-use Rattle.std.proofs.lemmas.List.{get_or_append_left}
 use Rattle.std.proofs.lemmas.List.Elements.{All-push, All-weaker}
 use Rattle.std.proofs.lemmas.List.Quantifiers.{Any-push, all_pairs_push}
 use Rattle.mls_geom.specs.Locality.{uncovered}
 use Rattle.mls_geom.specs.Rects.{Rect}
 use Rattle.mls_geom.specs.Pictures.{Picture}
 use Rattle.mls_geom.specs.Strips.{IsRun}
+use Rattle.mls_geom.specs.Sweep.Changing.{AreRunsBefore}
 use Rattle.mls_geom.specs.declared.run.Run.{Run}
+use Rattle.mls_geom.proofs.JoinedLists.{Any-append_left}
 
--- the runs are those of the covered squares of row y left of the line, and none goes on there
-pub record AreRunsBefore (extent : Rect) (picture : Picture) (y line : ℕ) (runs : List Run) : Type 0 where
-  pub each : All (λ run. IsRun extent picture run.left run.right y run.kind) runs
-  pub covered : All (λ run. run.kind ≢ uncovered) runs
-  pub whole : (x : ℕ) → extent.left ≤ x → x < line → picture x y ≢ uncovered → Any (λ run. (run.left ≤ x) × (x < run.right)) runs
-  pub ordered : AllPairs (λ p q. p.right ≤ q.left) runs
-  pub before : All (λ run. run.right ≤ line) runs
-
+-- left of the extent there is none
 pub AreRunsBefore-none : (extent : Rect) (picture : Picture) (y line : ℕ) → line ≤ extent.left → AreRunsBefore extent picture y line []
 AreRunsBefore-none extent picture y line start = record {
   each = search rules;
@@ -28,10 +21,7 @@ AreRunsBefore-none extent picture y line start = record {
   before = search rules;
 }
 
-Any-append_left : {X : Type 0} (P : X → Type 0) (xs ys : List X) → Any P xs → Any P (xs ++ ys)
-Any-append_left P xs ys (k, x, within, is, holds) =
-    (k, x, omega (arith, length-append xs ys), get_or_append_left xs ys x k within ∙ is, holds)
-
+-- one more begins where those before it end
 pub AreRunsBefore-push :
     (extent : Rect) (picture : Picture) (y : ℕ) (runs : List Run) (run : Run) → AreRunsBefore extent picture y run.left runs
     → IsRun extent picture run.left run.right y run.kind → run.kind ≢ uncovered → AreRunsBefore extent picture y run.right (runs ++ run ∷ [])

@@ -1,5 +1,5 @@
 -- The lines that cut a row: those of the extent and of the pieces that the row meets.
-use Rattle.std.proofs.Common.{◌≡◌, ℕ, ◌+◌, ◌-◌, ◌<◌, ◌≤◌, ◌↔◌, List, [], ◌∷◌, ◌++◌, Option, Some, None, length, take, slice_index, slice_get, IsSomeAnd, refl, ◌∙◌, arith, rules}
+use Rattle.std.proofs.Common.{◌≡◌, ℕ, ◌+◌, ◌-◌, ◌<◌, ◌≤◌, ◌↔◌, List, [], ◌∷◌, ◌++◌, Option, Some, None, length, take, get_or, slice_index, slice_get, IsSomeAnd, refl, ◌∙◌, arith, rules}
 use Rattle.std.specs.List.{All, Contains}
 use Rattle.std.specs.List.Sorted.{IsStrictlyIncreasing}
 use Rattle.std.proofs.lemmas.List.{get_or_default}
@@ -75,3 +75,50 @@ module _ (extent : Rect) (pieces : List Piece) (indices lines cuts : List ℕ) (
         first = omega (arith, (inside 0 (omega arith)).0, rises cuts ascending 0 i (omega arith) i_in);
         last = omega (arith, (inside (length cuts - 1) (omega arith)).1, rises cuts ascending j (length cuts - 1) (omega arith) (omega arith));
       }
+
+-- the lines of pieces, one piece more each time
+pub record ArePieceLines (extent : Rect) (pieces : List Piece) (lines : List ℕ) : Type 0 where
+  pub left : Contains lines extent.left
+  pub right : Contains lines extent.right
+  pub inside : All (λ line. (extent.left ≤ line) × (line ≤ extent.right)) lines
+  pub between : All (λ piece. IsBetweenLines lines piece.rect) pieces
+
+between_more :
+    (lines more : List ℕ) (pieces : List Piece) → ((line : ℕ) → Contains lines line → Contains more line)
+    → All (λ (piece : Piece). IsBetweenLines lines piece.rect) pieces → All (λ (piece : Piece). IsBetweenLines more piece.rect) pieces
+between_more lines more pieces kept between = λ k d within. record { left = kept _ (between k d within).left; right = kept _ (between k d within).right }
+
+pub ArePieceLines-none : (extent : Rect) → extent.left ≤ extent.right → ArePieceLines extent [] (extent.left ∷ extent.right ∷ [])
+ArePieceLines-none extent wide = record {
+  left = (0, omega arith, refl);
+  right = (1, omega arith, refl);
+  inside = search (rules, All-cons, All-nil);
+  between = All-nil (λ (piece : Piece). IsBetweenLines (extent.left ∷ extent.right ∷ []) piece.rect);
+}
+
+pub ArePieceLines-push :
+    (extent : Rect) (pieces : List Piece) (lines : List ℕ) (k : ℕ) (d : Piece) → ArePieceLines extent (take k pieces) lines → k < length pieces
+    → extent.left ≤ (get_or pieces k d).rect.left → (get_or pieces k d).rect.left ≤ (get_or pieces k d).rect.right → (get_or pieces k d).rect.right ≤ extent.right
+    → ArePieceLines extent (take (k + 1) pieces) ((lines ++ (get_or pieces k d).rect.left ∷ []) ++ (get_or pieces k d).rect.right ∷ [])
+ArePieceLines-push extent pieces lines k d so_far within from wide to =
+    let piece = get_or pieces k d in
+    let Inside = λ (line : ℕ). (extent.left ≤ line) × (line ≤ extent.right) in
+    let more = (lines ++ piece.rect.left ∷ []) ++ piece.rect.right ∷ [] in
+    let kept = λ (line : ℕ) (member : Contains lines line).
+    Contains-append_left (lines ++ piece.rect.left ∷ []) (piece.rect.right ∷ []) line (Contains-append_left lines (piece.rect.left ∷ []) line member) in
+    record {
+      left = kept _ so_far.left;
+      right = kept _ so_far.right;
+      inside = All-push Inside _ _ (All-push Inside lines _ so_far.inside (from, omega arith)) (omega arith, to);
+      between = All-more (λ (p : Piece). IsBetweenLines more p.rect) pieces k d within (between_more lines more (take k pieces) kept so_far.between)
+          (record { left = Contains-append_left _ _ _ (Contains-push lines piece.rect.left); right = Contains-push _ piece.rect.right });
+    }
+
+-- cuts are the lines in order, each once
+module _ (extent : Rect) (pieces : List Piece) (lines cuts : List ℕ) (all : ArePieceLines extent pieces lines) (members : (line : ℕ) → Contains cuts line ↔ Contains lines line) where
+  pub All-between-from_lines : All (λ piece. IsBetweenLines cuts piece.rect) pieces
+  All-between-from_lines = between_more lines cuts pieces (λ line. (members line).1) all.between
+
+  pub AreCuts-from_piece_lines : IsStrictlyIncreasing cuts → AreCuts extent cuts
+  AreCuts-from_piece_lines ascending =
+      AreCuts-from_lines extent pieces [] lines cuts (record { left = all.left; right = all.right; inside = all.inside; between = search rules }) members ascending

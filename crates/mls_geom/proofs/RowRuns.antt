@@ -7,6 +7,7 @@ use Rattle.std.proofs.lemmas.List.Elements.{All-map, All-set}
 use Rattle.mls_geom.specs.Rects.{Rect}
 use Rattle.mls_geom.specs.Pictures.{Picture}
 use Rattle.mls_geom.specs.Locality.{uncovered}
+use Rattle.mls_geom.specs.Sweep.Changing.{AreInOrder}
 use Rattle.mls_geom.specs.Sweep.Rows.{AreRuns}
 use Rattle.mls_geom.specs.Sweep.Stacks.{up_to}
 use Rattle.mls_geom.specs.Strips.{IsRun}
@@ -22,18 +23,24 @@ pub IsRun-up_to : (extent : Rect) {picture : Picture} {left right y kind : ℕ} 
 IsRun-up_to extent line run =
     record { from = run.from; wide = run.wide; to = run.to; one_kind = run.one_kind; ends_left = run.ends_left; ends_right = run.ends_right }
 
+-- a row with the same squares there, and with those beside them, has the same run
+pub IsRun-like :
+    {extent : Rect} {p q : Picture} {l r y k : ℕ} (z : ℕ) → ((x : ℕ) → l ≤ x + 1 → x ≤ r → extent.left ≤ x → x < extent.right → q x z ≡ p x y)
+    → IsRun extent p l r y k → IsRun extent q l r z k
+IsRun-like {l = l} {r = r} z same run = record {
+  from = run.from;
+  wide = run.wide;
+  to = run.to;
+  one_kind = λ x from to. same x (omega arith) (omega arith) (omega (arith, run.from)) (omega (arith, run.to)) ∙ run.one_kind x from to;
+  ends_left = λ inside is. run.ends_left inside (sym (same (l - 1) (omega arith) (omega (arith, run.wide)) (omega arith) (omega (arith, run.wide, run.to))) ∙ is);
+  ends_right = λ inside is. run.ends_right inside (sym (same r (omega (arith, run.wide)) (le_refl r) (omega (arith, run.wide, run.from)) inside) ∙ is);
+}
+
 -- in a row that is alike there is the same run
 pub IsRun-alike :
     {extent : Rect} {picture : Picture} {left right y kind : ℕ} (z : ℕ) → ((x : ℕ) → extent.left ≤ x → x < extent.right → picture x z ≡ picture x y)
     → IsRun extent picture left right y kind → IsRun extent picture left right z kind
-IsRun-alike {extent} {picture} {left} {right} {y} {kind} z alike run = record {
-  from = run.from;
-  wide = run.wide;
-  to = run.to;
-  one_kind = λ x above below. alike x (omega (arith, run.from)) (omega (arith, run.to)) ∙ run.one_kind x above below;
-  ends_left = λ inside same. run.ends_left inside (sym (alike (left - 1) (omega arith) (omega (arith, run.wide, run.to))) ∙ same);
-  ends_right = λ inside same. run.ends_right inside (sym (alike right (omega (arith, run.from, run.wide)) inside) ∙ same);
-}
+IsRun-alike z alike run = IsRun-like z (λ x _ _. alike x) run
 
 -- runs of a row that share a square have one kind, and neither begins or ends before the other
 one_kind_shared :
@@ -94,15 +101,19 @@ left_line-within runs n end d within = get_or-map (λ run. run.left) runs n d en
 pub left_line-past : (runs : List Run) (n end : ℕ) → length runs ≤ n → left_line runs n end ≡ end
 left_line-past runs n end past = get_or_past (map (λ run. run.left) runs) n end (simp length-map past)
 
--- the lines of the runs ascend
-pub lines_ascend :
-    {extent : Rect} {picture : Picture} {y : ℕ} (runs : List Run) (m n : ℕ) (d : Run) → AreRuns extent picture y runs → m ≤ n → n < length runs
+-- the runs of a row are in order
+pub AreInOrder-runs : {extent : Rect} {picture : Picture} {y : ℕ} (runs : List Run) → AreRuns extent picture y runs → AreInOrder runs
+AreInOrder-runs runs list = record { wide = λ k d within. (list.each k d within).wide; ordered = list.ordered }
+
+-- runs in order end and begin in order
+pub runs_ascend :
+    (runs : List Run) (m n : ℕ) (d : Run) → AreInOrder runs → m ≤ n → n < length runs
     → ((get_or runs m d).left ≤ (get_or runs n d).left) × ((get_or runs m d).right ≤ (get_or runs n d).right)
-lines_ascend runs m n d list up within = elim (cases_lt m n) [
-  | inl before ↦
-      let p = list.each m d (omega arith) in
-      let q = list.each n d within in
-      (omega (arith, list.ordered m n d before within, p.wide), omega (arith, list.ordered m n d before within, q.wide))
+runs_ascend runs m n d order up within = elim (cases_lt m n) [
+  | inl before ↦ (
+    omega (arith, order.ordered m n d before within, order.wide m d (omega arith)),
+    omega (arith, order.ordered m n d before within, order.wide n d within),
+  )
   | inr after ↦
       let same : m ≡ n = omega arith in
       rw same (le_refl (get_or runs n d).left, le_refl (get_or runs n d).right)
@@ -149,7 +160,7 @@ uncovered-between {extent} {picture} {y} runs n x list wide left before passed =
       let (m, run, within, is, at) = list.whole x left inside some in
       elim (cases_lt m n) [
         | inl sooner ↦ absurd (omega (arith, rw is at (passed m run sooner within), at.1))
-        | inr later ↦ absurd (omega (arith, left_line-within runs n extent.right run (omega arith), rw is at (lines_ascend runs n m run list later within), at.0))
+        | inr later ↦ absurd (omega (arith, left_line-within runs n extent.right run (omega arith), rw is at (runs_ascend runs n m run (AreInOrder-runs runs list) later within), at.0))
       ]
 ]
 
@@ -178,10 +189,10 @@ AreRuns-set {extent} {picture} {y} runs n strip d within list =
 
 -- rows that are alike have the same runs
 pub AreRuns-alike :
-    {extent : Rect} {picture : Picture} {y : ℕ} {runs : List Run} (z : ℕ) → ((x : ℕ) → extent.left ≤ x → x < extent.right → picture x z ≡ picture x y)
-    → AreRuns extent picture y runs → AreRuns extent picture z runs
+    {extent : Rect} {p q : Picture} {y : ℕ} {runs : List Run} (z : ℕ) → ((x : ℕ) → extent.left ≤ x → x < extent.right → q x z ≡ p x y) → AreRuns extent p y runs
+    → AreRuns extent q z runs
 AreRuns-alike z alike list = record {
-  each = λ k d within. IsRun-alike z alike (list.each k d within);
+  each = λ k d within. IsRun-like z (λ x _ _. alike x) (list.each k d within);
   covered = list.covered;
   whole = λ x from to some. list.whole x from to (λ none. some (alike x from to ∙ none));
   ordered = list.ordered;

@@ -13,8 +13,9 @@ use Rattle.mls_geom.specs.Locality.{covered_count}
 use Rattle.mls_geom.specs.declared.piece.Piece.{Piece}
 use Rattle.mls_geom.specs.declared.run.Run.{Run}
 use Rattle.mls_geom.proofs.ListChanges.{IsSomeAnd-append, IsSomeAnd-push, IsSomeAnd-set, IsSomeAnd-set_same, at_IsSomeAnd}
-use Rattle.mls_geom.proofs.RowRuns.{AreOneRun, AreRuns-alike, AreRuns-set, left_line, left_line-from, left_line-next, left_line-past, left_line-set, left_line-within, lines_ascend, named, run_listed, uncovered-between}
-use Rattle.mls_geom.proofs.Stacking.{BeginsAt, IsBand, IsPartlyStacked, IsPartlyStacked-new_strip, IsPartlyStacked-end, IsPartlyStacked-extended, IsPartlyStacked-start, IsPartlyStacked-uncovered, length-lt-covered_count}
+use Rattle.mls_geom.proofs.RowRuns.{AreInOrder-runs, AreOneRun, AreRuns-alike, AreRuns-set, left_line, left_line-from, left_line-next, left_line-past, left_line-set, left_line-within, named, run_listed, runs_ascend, uncovered-between}
+use Rattle.mls_geom.specs.Sweep.Changing.{IsBand, IsPartlyStacked}
+use Rattle.mls_geom.proofs.Stacking.{BeginsAt, IsPartlyStacked-new_strip, IsPartlyStacked-end, IsPartlyStacked-extended, IsPartlyStacked-start, IsPartlyStacked-uncovered, length-lt-covered_count}
 
 -- of the band's row the first n runs are stacked, and of the runs below it those before the index are passed
 pub record IsRowStacked (extent : Rect) (picture : Picture) (bottom top : ℕ) (below row : List Run) (index n : ℕ) (strips : List Piece) : Type 0 where
@@ -128,7 +129,7 @@ up_to_next {extent} {bottom} {top} row n strip d wide tall runs within part =
     rw (left_line-set row n strip (n + 1) extent.right d within)
     (IsPartlyStacked-uncovered (left_line row (n + 1) extent.right) (omega arith) (omega (arith, here.from, here.wide)) (left_line-next row n d runs within)
     (λ x after before. uncovered-between row (n + 1) x runs (omega arith) (omega (arith, here.from, here.wide)) before
-    (λ m e sooner m_within. omega (arith, rw (get_or_default row n e d within) at (lines_ascend row m n e runs (omega arith) within).1)))
+    (λ m e sooner m_within. omega (arith, rw (get_or_default row n e d within) at (runs_ascend row m n e (AreInOrder-runs row runs) (omega arith) within).1)))
     part)
 
 -- the runs stacked name their strips, one run of the row later

@@ -1,46 +1,25 @@
 -- The strips of covered squares while a band is stacked on them from left to right: in the columns left of a line up to the band's top, in the others up to its bottom.
-use Rattle.std.proofs.Common.{◌≡◌, ◌≢◌, ℕ, ◌+◌, ◌-◌, ◌<◌, ◌≤◌, List, [], ◌∷◌, ◌++◌, length, get_or, set, All, IsTrue, true, inl, inr, le_refl, sym, ◌∙◌, arith, length-set}
-use Rattle.std.specs.List.{Any, AllPairs}
+use Rattle.std.proofs.Common.{◌≡◌, ◌≢◌, ℕ, ◌+◌, ◌-◌, ◌<◌, ◌≤◌, List, [], ◌∷◌, ◌++◌, length, get_or, set, IsTrue, true, inl, inr, le_refl, sym, ◌∙◌, arith, length-set}
+use Rattle.std.specs.List.{AllPairs}
 use Rattle.std.proofs.lemmas.Bool.{cases_lt, cases_order, false_from_ne_true}
 use Rattle.std.proofs.lemmas.Bool.Decides.{nat_tests}
 use Rattle.std.proofs.lemmas.List.{length_push}
 use Rattle.std.proofs.lemmas.List.Elements.{All-push, All-set}
 use Rattle.std.proofs.lemmas.List.Quantifiers.{any-set, Any-push, all_pairs_push}
-use Rattle.mls_geom.specs.Rects.{Rect, holds}
+use Rattle.mls_geom.specs.Rects.{Rect}
 use Rattle.mls_geom.specs.Pictures.{Picture}
-use Rattle.mls_geom.specs.Sweep.Stacks.{AreAlike, up_to, extended, new_strip}
+use Rattle.mls_geom.specs.Sweep.Stacks.{up_to, extended, new_strip}
 use Rattle.mls_geom.specs.Locality.{AreCoveredStrips, covered_count, uncovered}
 use Rattle.mls_geom.specs.Strips.{IsRun, IsStrip, comes_before}
 use Rattle.mls_geom.specs.TileCounts.{goes_on_below}
 use Rattle.mls_geom.specs.declared.piece.Piece.{Piece}
 use Rattle.mls_geom.specs.declared.run.Run.{Run}
 use Rattle.mls_geom.proofs.BandCorners.{IsRun-from_goes_on_below, corners_between-grows, corners_between-run, corners_between-uncovered, covered_count-band, goes_on_below-IsRun}
-use Rattle.mls_geom.proofs.CornerCounts.{corners_between}
+use Rattle.mls_geom.specs.Sweep.Changing.{HasSquare, IsBand, IsPartlyStacked, corners_between}
 use Rattle.mls_geom.proofs.Holds.{holds_between, between_holds}
 use Rattle.mls_geom.proofs.ListChanges.{All-set_others, AllPairs-set, Any-append, Any-set_kept}
 use Rattle.mls_geom.proofs.RowRuns.{AreOneRun, IsRun-alike, both_one_run, IsRun-extent, one_run}
 use Rattle.mls_geom.proofs.StripEnds.{IsStrip-new_strip, IsStrip-higher, IsStrip-extended, one_bottom}
-
--- the piece has the square
-abbrev pub HasSquare : ℕ → ℕ → Piece → Type 0
-HasSquare x y piece = IsTrue (holds piece.rect x y)
-
--- the strips of the columns left of a line are done, and those of the others still to do
-pub record IsPartlyStacked (extent : Rect) (picture : Picture) (bottom top column : ℕ) (strips : List Piece) : Type 0 where
-  pub done : All (λ strip. strip.rect.left < column → IsStrip (up_to top extent) picture strip) strips
-  pub to_do : All (λ strip. column ≤ strip.rect.left → IsStrip (up_to bottom extent) picture strip) strips
-  pub low : All (λ strip. strip.rect.bottom ≤ bottom) strips
-  pub covered : All (λ strip. strip.kind ≢ uncovered) strips
-  pub below : (x y : ℕ) → IsTrue (holds (up_to bottom extent) x y) → picture x y ≢ uncovered → Any (HasSquare x y) strips
-  pub beside : (x y : ℕ) → extent.left ≤ x → x < column → bottom ≤ y → y < top → picture x bottom ≢ uncovered → Any (HasSquare x y) strips
-  pub ordered : AllPairs (λ p q. IsTrue (comes_before p q)) strips
-  pub count : length strips ≡ covered_count (up_to bottom extent) picture + corners_between extent picture bottom extent.left column
-
--- a band of rows that are alike
-pub record IsBand (extent : Rect) (picture : Picture) (bottom top : ℕ) : Type 0 where
-  pub from : extent.bottom ≤ bottom
-  pub tall : bottom < top
-  pub alike : AreAlike extent picture bottom top
 
 -- the row below the line doesn't have the run
 abbrev pub BeginsAt : Rect → Picture → ℕ → Run → Type 0
@@ -180,7 +159,7 @@ IsPartlyStacked-new_strip {extent} {picture} {bottom} {top} {strips} run band he
     }
 
 -- a strip lies between the extent's left line and its right one
-sides :
+pub sides :
     {extent : Rect} {picture : Picture} {piece : Piece} → IsStrip extent picture piece → (extent.left ≤ piece.rect.left) × (piece.rect.left < extent.right)
 sides {piece} strip =
     let run = strip.rows piece.rect.bottom (le_refl piece.rect.bottom) strip.tall in

@@ -1,5 +1,5 @@
 //! Squares between four coordinates, in the world or outside it.
-ghost use Rattle.std.specs.Prelude.{◌≡◌, ◌≤◌, ◌↔◌, IsTrue};
+ghost use Rattle.std.specs.Prelude.{◌≡◌, ◌<◌, ◌≤◌, ◌↔◌, IsTrue};
 ghost use Rattle.mls_geom.specs.Directions as spec;
 ghost use Rattle.mls_geom.specs.Directions.{front_of, inner_area};
 ghost use Rattle.mls_geom.specs.Rects.{FitsWith, IsWithin, after_part, common, grown, has_squares, holds, joined, size_of};
@@ -47,7 +47,9 @@ impl Area {
     }
 
     /// Returns an area without squares, which joined with another area is that one.
-    pub(crate) fn nowhere() -> Area {
+    pub(crate) fn nowhere() -> Area
+        ensures { result.right < result.left }
+    {
         Area {
             left: u32::MAX,
             bottom: u32::MAX,

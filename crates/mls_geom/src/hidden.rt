@@ -1,38 +1,40 @@
 //! Pieces that a later one hides.
-ghost use Rattle.std.specs.Prelude.{◌≤◌, length};
-ghost use Rattle.mls_geom.specs.Parts.{ShowAlike};
+ghost use Rattle.std.specs.Prelude.{◌≡◌, ◌≤◌, ◌⊎◌, length, vec_len, vec_capacity};
+ghost use Rattle.mls_geom.specs.Locality.{HaveKinds};
+ghost use Rattle.mls_geom.specs.Sweep.Hidden.{ShowAlike};
+ghost use Rattle.mls_geom.specs.World.{AreLegal};
 
-use crate::pieces::bounds;
 use crate::{Area, Piece};
 
-/// Returns the index of the last piece that covers all before it. It is a guess, which changes no strip.
-fn last_over_all(pieces: &[Piece]) -> usize
-    ensures { result ≤ length pieces.now }
+/// Returns the greater one of two areas.
+fn greater(area: Area, other: Area) -> Area
+    ensures { (result ≡ area) ⊎ (result ≡ other) }
 {
-    let mut last = 0;
-    let mut all = Area::nowhere();
-    for (i, piece) in pieces.iter().enumerate() {
-        let area = piece.area();
-        all = all.joined(area);
-        if area == all {
-            last = i;
-        }
+    if area.size() <= other.size() {
+        other
+    } else {
+        area
     }
-    last
 }
 
-/// Returns the pieces without those at the front that one later piece covers.
-pub(crate) fn without_hidden(pieces: &[Piece]) -> &[Piece]
-    ensures alike { ShowAlike result.now pieces.now }
-    ensures len { length result.now ≤ length pieces.now }
+/// Lists the pieces, in order, without those that lie inside the greatest of those after them.
+pub(crate) fn list_shown(pieces: &[Piece], shown: &mut Vec<Piece>)
+    requires { length pieces.now ≤ vec_capacity shown.old }
+    ensures alike { ShowAlike shown.new.items pieces.now }
+    ensures len { vec_len shown.new ≤ length pieces.now }
+    ensures legal { AreLegal pieces.now }
+    ensures kinds { HaveKinds pieces.now }
+    ensures room { vec_capacity shown.new ≡ vec_capacity shown.old }
 {
-    let (before, rest) = pieces.split_at(last_over_all(pieces));
-    let Some(over) = rest.first() else {
-        return pieces;
-    };
-    if over.area().encloses(bounds(before)) {
-        rest
-    } else {
-        pieces
+    shown.clear();
+    let mut greatest = Area::nowhere();
+    for i in 0..pieces.len() {
+        let at = pieces.len() - 1 - i;
+        let area = pieces[at].area();
+        if !greatest.encloses(area) {
+            shown.push_reserved(pieces[at]);
+            greatest = greater(area, greatest);
+        }
     }
+    shown.reverse();
 }

@@ -37,8 +37,8 @@ fn strip_below(below: &[Run], index: usize, run: &Run) -> Option<usize>
     stands.then_some(under.strip)
 }
 
-/// Extends a strip up to the line `top`.
-fn extend_to(strip: &mut Piece, top: u32)
+/// Makes a strip reach up to the line `top`.
+pub(crate) fn extend_to(strip: &mut Piece, top: u32)
     requires above { strip.old.rect.bottom < top }
     requires to { top ≤ world.top }
     ensures { strip.new ≡ extended top strip.old }

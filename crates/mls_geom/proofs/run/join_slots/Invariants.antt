@@ -4,7 +4,7 @@ use Rattle.mls_geom.specs.Rects.{Rect}
 use Rattle.mls_geom.specs.Pictures.{Picture}
 use Rattle.mls_geom.specs.Sweep.Slots.{AreCuts, AreSlotKinds}
 use Rattle.mls_geom.proofs.SlotRuns.{shown}
-use Rattle.mls_geom.proofs.Joining.{AreRunsBefore}
+use Rattle.mls_geom.specs.Sweep.Changing.{AreRunsBefore}
 use Rattle.mls_geom.proofs.run.join_slots.Given as goal
 
 abbrev pub invariant-loop-first : goal.invariant-loop-first

@@ -48,7 +48,7 @@ returns-clause-replaced c = λ below kept touched over is strips untouched.
     rw c.swap_strips.ensures.strips
     (touched_strips_give_way world below over kept touched _ strips (subst HaveKinds is c.find_strips.ensures.kinds)
     (All-append_right IsLegal touched over (subst AreLegal is c.find_strips.ensures.legal)) untouched
-    (subst (λ pieces. AreCoveredStrips world (laid pieces) c.find_strips.new.self.slicer.slabs.sweep.strips) is c.in_ok-find_strips.ensures.strips))
+    (subst (λ pieces. AreCoveredStrips world (laid pieces) c.find_strips.new.self.strips) is c.in_ok-find_strips.ensures.strips))
 
 pub returns-clause-tile_count : goal.returns-clause-tile_count
 returns-clause-tile_count c = number c.args.pieces.now c.find_strips.ensures.kinds c.find_strips.ensures.legal

@@ -1,0 +1,131 @@
+-- The runs of a row by their strips: they stay where a strip's top line is set and where a strip is added.
+use Rattle.std.proofs.Common.{◌≡◌, ℕ, ◌<◌, ◌≤◌, ◌==◌, nat_lt, nat_le, if◌then◌else◌, Bool, true, false, Some, List, [], length, get_or, set, map, All, slice_get, refl, ap, ◌∙◌, le_refl, arith}
+use Rattle.std.specs.List.{AllWithin}
+use Rattle.std.specs.List.Sorted.{IsPartitionedBy}
+use Rattle.std.specs.Option.{option_map_or}
+use Rattle.std.proofs.lemmas.Bool.Decides.{nat_tests}
+use Rattle.std.proofs.lemmas.List.{get_or-map, length-map}
+use Rattle.std.proofs.lemmas.List.Elements.{All-nil}
+use Rattle.std.proofs.lemmas.Option.{slice_get-get_or}
+use Rattle.mls_geom.specs.Pictures.{Picture}
+use Rattle.mls_geom.specs.Sweep.Changing.{AreInOrder, IsChanging, begins_by, ends_before, runs_of, staged, strip_of}
+use Rattle.mls_geom.specs.Sweep.KeptRows.{IsKept, run_of, strip_at}
+use Rattle.mls_geom.specs.Sweep.Stacks.{extended}
+use Rattle.mls_geom.specs.World.{world}
+use Rattle.mls_geom.specs.declared.piece.Piece.{Piece}
+use Rattle.mls_geom.specs.declared.run.Run.{Run}
+use Rattle.mls_geom.proofs.CornerCounts.{nothing_stacked}
+use Rattle.mls_geom.proofs.RowRuns.{runs_ascend}
+use Rattle.mls_geom.proofs.StagedStrips.{run_of-extended, staged_right}
+
+-- what `strip_at` gives past the list's end
+abbrev pub no_strip : Piece
+no_strip = record { rect = record { left = 0; bottom = 0; right = 0; top = 0 }; kind = 0 }
+
+-- the runs stay where one of their strips is extended or ended
+pub runs_of-extended : (strips : List Piece) (row : List ℕ) (k top : ℕ) → k < length strips → runs_of (set strips k (extended top (strip_at strips k))) row ≡ runs_of strips row
+runs_of-extended strips row k top within = ap (λ f. map f row) (run_of-extended strips k top within)
+
+-- what holds of runs from one index up to another holds of their strips
+pub AllWithin-strips :
+    (P : Run → Type 0) (strips : List Piece) (row : List ℕ) (from to : ℕ) → to ≤ length row → AllWithin P (runs_of strips row) from to
+    → AllWithin (λ k. P (run_of strips k)) row from to
+AllWithin-strips P strips row from to within runs = λ k d above below.
+    rw (← get_or-map (run_of strips) row k d (run_of strips d) (omega arith)) (runs k (run_of strips d) above below)
+
+-- and what holds of their strips holds of the runs
+pub AllWithin-runs :
+    (P : Run → Type 0) (strips : List Piece) (row : List ℕ) (from to : ℕ) → to ≤ length row → AllWithin (λ k. P (run_of strips k)) row from to
+    → AllWithin P (runs_of strips row) from to
+AllWithin-runs P strips row from to within held = λ k d above below.
+    rw (get_or-map (run_of strips) row k 0 d (omega arith)) (held k 0 above below)
+
+-- a staged strip has its bottom line
+staged_bottom : (β : Bool) (z : ℕ) (strip : Piece) → (if β then extended z strip else strip).rect.bottom ≡ strip.rect.bottom
+staged_bottom true z strip = refl
+staged_bottom false z strip = refl
+
+-- a strip begins below the band, or with it
+pub bottom_low :
+    {picture : Picture} {bottom top column passed open_from : ℕ} {strips : List Piece} {row next : List ℕ} (k : ℕ) → k < length strips
+    → IsChanging picture bottom top column strips row next passed open_from → (strip_at strips k).rect.bottom ≤ bottom
+bottom_low {bottom = bottom} {top = top} {column = column} {strips = strips} k within state =
+    let strip = strip_at strips k in
+    let low = state.partly.low k no_strip (rw (length-map strips (staged bottom top column)) within) in
+    let same = staged_bottom (strip.rect.top == world.top) (if nat_lt strip.rect.left column then top else bottom) strip in
+    rw (← same) (rw (get_or-map (staged bottom top column) strips k no_strip no_strip within) at low)
+
+-- one that reaches on begins below it
+pub bottom_below :
+    {picture : Picture} {bottom top column passed open_from : ℕ} {strips : List Piece} {row next : List ℕ} (n : ℕ) → open_from ≤ n → n < length row
+    → IsChanging picture bottom top column strips row next passed open_from → (strip_of strips row n).rect.bottom < bottom
+bottom_below {bottom = bottom} {top = top} {column = column} {strips = strips} {row = row} n reached within state =
+    let k = get_or row n 0 in
+    let (reaches, right) = state.open_right n 0 reached within in
+    let known = state.known n 0 within in
+    let at = get_or-map (staged bottom top column) strips k no_strip no_strip known ∙ staged_right bottom top column (strip_at strips k) reaches right in
+    let to_do = rw at at (state.partly.to_do k no_strip (rw (length-map strips (staged bottom top column)) known)) in
+    (to_do right).tall
+
+module _ (strips : List Piece) (row : List ℕ) (known : All (λ k. k < length strips) row) (order : AreInOrder (runs_of strips row)) (line : ℕ) where
+  -- the strip of a run of the row, its lines, and the tests of them
+  there : (n d : ℕ) → n < length row → slice_get strips (get_or row n d) ≡ Some (strip_at strips (get_or row n d))
+  there n d within = slice_get-get_or strips (get_or row n d) _ (known n d within)
+
+  run_at : (n d : ℕ) → n < length row → get_or (runs_of strips row) n (run_of strips d) ≡ run_of strips (get_or row n d)
+  run_at n d within = get_or-map (run_of strips) row n d (run_of strips d) within
+
+  up : (m n d : ℕ) → m ≤ n → n < length row
+      → ((strip_at strips (get_or row m d)).rect.left ≤ (strip_at strips (get_or row n d)).rect.left) × ((strip_at strips (get_or row m d)).rect.right ≤ (strip_at strips (get_or row n d)).rect.right)
+  up m n d before within =
+      rw (run_at m d (omega arith), run_at n d within) at (runs_ascend (runs_of strips row) m n (run_of strips d) order before (rw (length-map row (run_of strips)) within))
+
+  ends : (n d : ℕ) → n < length row → ends_before strips line (get_or row n d) ≡ nat_lt (strip_at strips (get_or row n d)).rect.right line
+  ends n d within = ap (λ o. option_map_or (λ (strip : Piece). nat_lt strip.rect.right line) o false) (there n d within)
+
+  begins : (n d : ℕ) → n < length row → begins_by strips line (get_or row n d) ≡ nat_le (strip_at strips (get_or row n d)).rect.left line
+  begins n d within = ap (λ o. option_map_or (λ (strip : Piece). nat_le strip.rect.left line) o false) (there n d within)
+
+  -- the runs that pass a test come first
+  pub parted_by_ends : IsPartitionedBy (ends_before strips line) row
+  parted_by_ends m n d before within is =
+      let higher = up m n d before within in
+      let less = rw (ends n d within) at is in
+      rw (ends m d (omega arith)) (grind (arith, nat_tests))
+
+  pub parted_by_begins : IsPartitionedBy (begins_by strips line) row
+  parted_by_begins m n d before within is =
+      let higher = up m n d before within in
+      let less = rw (begins n d within) at is in
+      rw (begins m d (omega arith)) (grind (arith, nat_tests))
+
+  -- the runs on both sides of the point
+  pub before_point : (i : ℕ) → i ≤ length row → AllWithin (λ k. ends_before strips line k ≡ true) row 0 i → AllWithin (λ run. run.right < line) (runs_of strips row) 0 i
+  before_point i within point = AllWithin-runs (λ run. run.right < line) strips row 0 i within
+      (λ n d low high. (let is = rw (ends n d (omega arith)) at (point n d low high) in grind (arith, nat_tests)))
+
+  pub from_point : (i : ℕ) → AllWithin (λ k. ends_before strips line k ≡ false) row i (length row) → AllWithin (λ run. line ≤ run.right) (runs_of strips row) i (length row)
+  from_point i point = AllWithin-runs (λ run. line ≤ run.right) strips row i (length row) (le_refl (length row))
+      (λ n d low high. (let is = rw (ends n d high) at (point n d low high) in grind (arith, nat_tests)))
+
+  pub up_to_point : (i : ℕ) → i ≤ length row → AllWithin (λ k. begins_by strips line k ≡ true) row 0 i → AllWithin (λ run. run.left ≤ line) (runs_of strips row) 0 i
+  up_to_point i within point = AllWithin-runs (λ run. run.left ≤ line) strips row 0 i within
+      (λ n d low high. (let is = rw (begins n d (omega arith)) at (point n d low high) in grind (arith, nat_tests)))
+
+  pub after_point : (i : ℕ) → AllWithin (λ k. begins_by strips line k ≡ false) row i (length row) → AllWithin (λ run. line < run.left) (runs_of strips row) i (length row)
+  after_point i point = AllWithin-runs (λ run. line < run.left) strips row i (length row) (le_refl (length row))
+      (λ n d low high. (let is = rw (begins n d high) at (point n d low high) in grind (arith, nat_tests)))
+
+-- other strips of the same runs
+pub AllWithin-kept :
+    (P : Run → Type 0) (old new : List Piece) (row : List ℕ) (from to : ℕ) → to ≤ length row → runs_of new row ≡ runs_of old row → AllWithin (λ k. P (run_of old k)) row from to
+    → AllWithin (λ k. P (run_of new k)) row from to
+AllWithin-kept P old new row from to within same held = AllWithin-strips P new row from to within (rw same (AllWithin-runs P old row from to within held))
+
+-- at the world's bottom nothing is kept
+pub IsKept-none : (picture : Picture) → IsKept picture world.bottom [] []
+IsKept-none picture = record {
+  stacked = nothing_stacked world picture;
+  reaching = All-nil (λ k. (k < 0) × ((strip_at [] k).rect.top ≡ world.top));
+  ended = λ k within. absurd (omega arith);
+}

@@ -1,0 +1,44 @@
+-- The runs that the mark meets or touches are those between what the two searches find.
+use Rattle.std.proofs.Common.{◌≡◌, ap, get_or, slice_index, sym, ◌∙◌, ◌-◌, arith}
+use Rattle.std.proofs.lemmas.List.{get_or-map, get_or_default, length-map}
+use Rattle.mls_geom.specs.Sweep.KeptRows.{run_of}
+use Rattle.mls_geom.specs.Sweep.Changing.{runs_of}
+use Rattle.mls_geom.specs.declared.run.Run.{Run}
+use Rattle.mls_geom.proofs.MarkedRuns.{IsChangeOf-alone, IsChangeOf-runs}
+use Rattle.mls_geom.proofs.kept_row.KeptRow.change_of.Goals as goal
+
+pub returns-then-end-first : goal.returns-then-end-first
+returns-then-end-first c =
+    let lines = c.args.self.now.lines.items in
+    let strips = c.args.self.now.strips.items in
+    let row = c.args.self.now.row.items in
+    let mark = c.args.mark in
+    let count = length-map row (run_of strips) in
+    let left : c.index-left.result.now ≡ slice_index lines mark.first = c.index-left.ensures ∙ get_or_default lines mark.first _ 0 (omega (arith, c.requires.wide, c.requires.in_row)) in
+    let right : c.index-right.result.now ≡ slice_index lines mark.end = c.index-right.ensures ∙ get_or_default lines mark.end _ 0 c.requires.in_row in
+    let from = c.first_from-first.ensures in
+    let after = c.first_after-end.ensures in
+    IsChangeOf-alone lines c.requires.cuts.ascending (runs_of strips row) c.requires.ordered mark c.requires.wide c.requires.in_row c.first_from-first.result c.first_after-end.result
+    (rw count from.within) (rw count after.within) (rw left at from.before) (rw count (rw left at from.others)) (rw right at after.up_to) (rw count (rw right at after.others)) c.if-end-first.true
+
+pub returns : goal.returns
+returns c =
+    let lines = c.args.self.now.lines.items in
+    let strips = c.args.self.now.strips.items in
+    let row = c.args.self.now.row.items in
+    let mark = c.args.mark in
+    let count = length-map row (run_of strips) in
+    let left : c.index-left.result.now ≡ slice_index lines mark.first = c.index-left.ensures ∙ get_or_default lines mark.first _ 0 (omega (arith, c.requires.wide, c.requires.in_row)) in
+    let right : c.index-right.result.now ≡ slice_index lines mark.end = c.index-right.ensures ∙ get_or_default lines mark.end _ 0 c.requires.in_row in
+    let from = c.first_from-first.ensures in
+    let after = c.first_after-end.ensures in
+    let first_run : (d : Run) → (get_or (runs_of strips row) c.first_from-first.result d).left ≡ c.left_of.result =
+    λ d. ap (λ (run : Run). run.left) (get_or-map (run_of strips) row c.first_from-first.result 0 d (omega (arith, c.if-end-first.false, after.within))) ∙ sym (rw (c.deref.ensures.value, c.deref-2.ensures.value) at c.left_of.ensures) in
+    let last_run : (d : Run) → (get_or (runs_of strips row) (c.first_after-end.result - 1) d).right ≡ c.right_of.result =
+    λ d. ap (λ (run : Run). run.right) (get_or-map (run_of strips) row (c.first_after-end.result - 1) 0 d (omega (arith, c.if-end-first.false, after.within))) ∙ sym (rw (c.deref-3.ensures.value, c.deref-4.ensures.value) at c.right_of.ensures) in
+    let found_left = rw c.deref-5.ensures.value at c.in_ok-find_line.ensures.found in
+    let found_right = rw c.deref-6.ensures.value at c.in_ok-find_line-2.ensures.found in
+    IsChangeOf-runs lines c.requires.cuts.ascending (runs_of strips row) c.requires.ordered mark c.requires.wide c.requires.in_row c.first_from-first.result c.first_after-end.result
+    (rw count from.within) (rw count after.within) (rw left at from.before) (rw count (rw left at from.others)) (rw right at after.up_to) (rw count (rw right at after.others))
+    (record { first = c.in_ok-find_line.field-0; end = c.in_ok-find_line-2.field-0 }) c.left_of.result c.right_of.result (omega (arith, c.if-end-first.false)) first_run last_run
+    found_left.0 found_right.0 (found_left.1 ∙ rw left at c.min-leftmost.ensures) (found_right.1 ∙ rw right at c.max-rightmost.ensures)

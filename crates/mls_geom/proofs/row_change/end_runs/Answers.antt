@@ -1,0 +1,51 @@
+-- Each run's strip is ended, which all of them reach on.
+use Rattle.std.proofs.Common.{◌≡◌, ap, get_or, refl, ◌∙◌, arith}
+use Rattle.std.proofs.lemmas.List.{get_or_default}
+use Rattle.mls_geom.specs.Sweep.Stacks.{extended}
+use Rattle.mls_geom.specs.Sweep.Changing.{strip_of}
+use Rattle.mls_geom.proofs.KeptRuns.{bottom_below, runs_of-extended}
+use Rattle.mls_geom.proofs.RowChanges.{IsChanging-ended}
+use Rattle.mls_geom.proofs.row_change.end_runs.Goals as goal
+
+pub loop-index-init : goal.loop-index-init
+loop-index-init c = record { changing = λ picture top column next state. state; same_runs = refl; len = refl }
+
+pub index_mut-requires : goal.index_mut-requires
+index_mut-requires c =
+    let (picture, top, column, next, before) = c.requires.drawn in
+    let state = c.loop-index.invariant.changing picture top column next before in
+    omega (arith, state.known c.loop-index.index 0 (omega (arith, c.requires.within)), c.loop-index.strips.ok.0)
+
+pub extend_to-requires-clause-above : goal.extend_to-requires-clause-above
+extend_to-requires-clause-above c =
+    let (picture, top, column, next, before) = c.requires.drawn in
+    let state = c.loop-index.invariant.changing picture top column next before in
+    let within = state.known c.loop-index.index 0 (omega (arith, c.requires.within)) in
+    let below = bottom_below c.loop-index.index (omega arith) (omega (arith, c.requires.within)) state in
+    let is : c.index_mut.result.now ≡ strip_of c.loop-index.strips.items c.args.row.now c.loop-index.index = c.index_mut.ensures.value ∙ get_or_default _ _ _ _ within in
+    rw is below
+
+pub loop-index-preserved : goal.loop-index-preserved
+loop-index-preserved c =
+    let (picture, top, column, next, before) = c.requires.drawn in
+    let state = c.loop-index.invariant.changing picture top column next before in
+    let within = state.known c.loop-index.index 0 (omega (arith, c.requires.within)) in
+    let k = get_or c.args.row.now c.loop-index.index 0 in
+    let is : c.extend_to.new.strip ≡ extended c.args.line (strip_of c.loop-index.strips.items c.args.row.now c.loop-index.index) =
+    c.extend_to.ensures ∙ ap (extended c.args.line) (c.index_mut.ensures.value ∙ get_or_default _ _ _ _ within) in
+    record {
+      changing = λ picture top column next before. rw is (IsChanging-ended (omega (arith, c.requires.within)) (c.loop-index.invariant.changing picture top column next before));
+      same_runs = rw is (runs_of-extended c.loop-index.strips.items c.args.row.now k c.args.line within) ∙ c.loop-index.invariant.same_runs;
+      len = c.loop-index.invariant.len;
+    }
+
+pub returns-clause-changing : goal.returns-clause-changing
+returns-clause-changing c = λ picture top column next before.
+    let all : c.loop-index.index ≡ c.args.runs.end = omega (arith, c.requires.onward) in
+    rw (← all) (c.loop-index.invariant.changing picture top column next before)
+
+pub returns-clause-same_runs : goal.returns-clause-same_runs
+returns-clause-same_runs c = c.loop-index.invariant.same_runs
+
+pub returns-clause-len : goal.returns-clause-len
+returns-clause-len c = c.loop-index.invariant.len

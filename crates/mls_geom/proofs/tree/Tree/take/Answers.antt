@@ -1,0 +1,11 @@
+-- The piece is unlinked from the chains of its nodes, where it is the first one or not in them.
+use Rattle.std.proofs.Common.{◌∙◌}
+use Rattle.std.proofs.lemmas.Result.{on_ok_weaker}
+use Rattle.mls_geom.proofs.TakenPieces.{IsTree-without}
+use Rattle.mls_geom.proofs.tree.Tree.take.Goals as goal
+
+pub returns-clause-tree : goal.returns-clause-tree
+returns-clause-tree c = on_ok_weaker c.change_in.result
+    (λ changed present tree first. IsTree-without c.args.self.now c.change_in.new.self present c.args.piece tree c.change_in.ensures.segments c.change_in.ensures.width c.change_in.ensures.nodes
+    first (rw c.whole.ensures.first at (changed tree.height (c.whole.ensures.width ∙ tree.sizes.width))))
+    c.change_in.ensures.changed

@@ -1,0 +1,29 @@
+//! How much work it is to find each row anew. It is a guess, which changes no strip.
+use crate::Piece;
+
+/// Pieces that cross no more bands than this, each on the whole, are little work.
+const SHALLOW: usize = 64;
+
+/// One piece in so many shows how many bands they cross.
+const SHOWN: usize = 8;
+
+/// Returns how many bands the piece crosses that these lines part.
+fn crossed(lines: &[u32], piece: &Piece) -> usize {
+    let edges = piece.rect.area();
+    let above = lines.partition_point(|line| *line < edges.top);
+    let below = lines.partition_point(|line| *line < edges.bottom);
+    above.saturating_sub(below)
+}
+
+/// Returns whether many pieces lie beside each other in many bands.
+pub(crate) fn are_deep(lines: &[u32], pieces: &[Piece]) -> bool {
+    let mut crossings: usize = 0;
+    let mut shown: usize = 0;
+    for some in pieces.chunks(SHOWN) {
+        if let Some(piece) = some.first() {
+            crossings = crossings.saturating_add(crossed(lines, piece));
+            shown = shown.saturating_add(1);
+        }
+    }
+    crossings / SHALLOW > shown
+}

@@ -1,0 +1,93 @@
+//! Where pieces begin and end, as a sweep upward meets them.
+ghost use Rattle.std.specs.Prelude.{◌≡◌, ◌≤◌, ◌<◌, ◌++◌, [], ◌∷◌, IsTrue, OnOk};
+ghost use Rattle.std.specs.List.{AllPairs};
+ghost use Rattle.std.specs.List.Sorted.{IsPermutation};
+ghost use Rattle.mls_geom.specs.Sweep.Events.{AreEvents, IsBefore, line_of};
+ghost use Rattle.mls_geom.specs.World.{world};
+
+use crate::Piece;
+use crate::chain::GaveUp;
+
+/// A piece, and the line at which it begins or ends.
+#[derive(Clone, Copy)]
+pub(crate) struct Event {
+    pub(crate) line: u32,
+    pub(crate) piece: u32,
+}
+
+/// Where a piece begins, or where it ends.
+#[derive(Clone, Copy)]
+pub(crate) enum Edge {
+    Bottom,
+    Top,
+}
+
+impl Edge {
+    /// Returns the line of a piece's edge.
+    fn line(self, piece: &Piece) -> u32
+        ensures line { result ≡ line_of self piece.now }
+        ensures in_world { world.bottom ≤ result }
+    {
+        let edges = piece.rect.area();
+        match self {
+            Edge::Bottom => edges.bottom,
+            Edge::Top => edges.top,
+        }
+    }
+}
+
+/// Returns whether each event stands before the next.
+fn are_ordered(events: &[Event]) -> bool
+    ensures { IsTrue result → AllPairs IsBefore events.now }
+{
+    for i in 1..events.len() {
+        let event = events[i - 1];
+        let next = events[i];
+        if next.line < event.line || (next.line == event.line && next.piece <= event.piece) {
+            return false;
+        }
+    }
+    true
+}
+
+/// Sorts events by line and then piece.
+fn put_in_order(events: &mut Vec<Event>) -> Result<(), GaveUp>
+    ensures same { IsPermutation events.old.items events.new.items }
+    ensures ordered { OnOk result (AllPairs IsBefore events.new.items) }
+{
+    events.sort_unstable_by_key(|event| u64::from(event.line) << 32 | u64::from(event.piece));
+    if are_ordered(events) {
+        Ok(())
+    } else {
+        Err(GaveUp)
+    }
+}
+
+/// Adds an event.
+fn add_event(events: &mut Vec<Event>, line: u32, piece: usize) -> Result<(), GaveUp>
+    ensures { OnOk result (events.new.items ≡ events.old.items ++ record { line = line; piece = piece } ∷ []) }
+{
+    let Ok(piece) = u32::try_from(piece) else {
+        return Err(GaveUp);
+    };
+    if events.len() == events.capacity() {
+        return Err(GaveUp);
+    }
+    events.push_reserved(Event { line, piece });
+    Ok(())
+}
+
+/// Lists where the pieces begin, or where they end, in order.
+pub(crate) fn list_events(
+    pieces: &[Piece],
+    edge: Edge,
+    events: &mut Vec<Event>,
+) -> Result<(), GaveUp>
+    ensures { OnOk result (AreEvents (line_of edge) world.bottom pieces.now events.new.items) }
+{
+    events.clear();
+    for (i, piece) in pieces.iter().enumerate() {
+        add_event(events, edge.line(piece), i)?;
+    }
+    put_in_order(events)
+}
