@@ -1,10 +1,12 @@
 //! How much work it is to find each row anew. It is a guess, which changes no strip.
 use crate::Piece;
 
-/// Pieces that cross no more bands than this, each on the whole, are little work.
+/// Pieces that cross no more bands than this, each on the whole, are little work. With 16 in its place no row of
+/// bench/worst.sh takes longer or less long.
 const SHALLOW: usize = 64;
 
-/// One piece in so many shows how many bands they cross.
+/// One piece in so many shows how many bands they cross. With all of them an erase of 7,744 squares has 8 % more
+/// instructions.
 const SHOWN: usize = 8;
 
 /// Returns how many bands the piece crosses that these lines part.
