@@ -10,6 +10,7 @@ use Rattle.mls_geom.specs.Rects.{Rect, IsRectangleIn, IsWithin, holds}
 use Rattle.mls_geom.specs.Sweep.Hidden.{ShowAlike}
 use Rattle.mls_geom.specs.World.{AreLegal, world}
 use Rattle.mls_geom.specs.declared.piece.Piece.{Piece}
+use Rattle.mls_geom.proofs.InnerRects.{IsRectangleIn-within}
 use Rattle.mls_geom.proofs.Overlays.{overlaid-at, overlaid_append, painted_outside}
 use Rattle.mls_geom.proofs.PiecePictures.{holds_outer}
 use Rattle.mls_geom.proofs.TouchedStrips.{overlaid_alike}
@@ -63,14 +64,7 @@ pub HasShown-hidden :
 HasShown-hidden piece pieces shown greatest legal kind inside so_far = elim so_far.over [
   | inl none ↦ absurd (omega (arith, none, inside.left, inside.right, legal.wide))
   | inr (k, other, within, is, same) ↦
-      let held : IsRectangleIn other.rect piece.rect = rw same (record {
-        left_in = inside.left;
-        wide = legal.wide;
-        right_in = inside.right;
-        bottom_in = inside.bottom;
-        tall = legal.tall;
-        top_in = inside.top;
-      }) in
+      let held : IsRectangleIn other.rect piece.rect = rw same (IsRectangleIn-within greatest world piece.rect inside legal) in
       record {
         alike = λ below. so_far.alike below ∙ sym (hidden_pieces_show_nothing below piece [] pieces (k, other, within, is, held));
         over = inr (suc k, other, suc-le-suc within, is, same);

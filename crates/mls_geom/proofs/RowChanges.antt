@@ -284,104 +284,88 @@ IsChanging-kept {strips} {row} n within here none state =
     ] in
     goes_on n within here (IsChanging-uncovered line (state.open_right n 0 (le_refl n) within).1 none right state)
 
--- a run of the column that stands on none of those below begins a strip
-begins_here :
-    {picture : Picture} {bottom top column passed open_from : ℕ} {strips : List Piece} {row next : List ℕ} (l r kind u : ℕ) → u ≤ open_from
-    → IsRun world picture l r bottom kind → kind ≢ uncovered → l ≡ column
-    → AllWithin (λ k. (strip_at strips k).rect.left < l) row passed u
-    → (u < open_from → (l ≤ (strip_of strips row u).rect.left)
+-- a run of the column that stands on none of those below
+module _
+    {picture : Picture} {bottom top column passed open_from : ℕ} {strips : List Piece} {row next : List ℕ} (l r kind u : ℕ) (onward : passed ≤ u) (below : u ≤ open_from)
+    (here : IsRun world picture l r bottom kind) (some : kind ≢ uncovered) (line : l ≡ column) (passed_here : AllWithin (λ k. (strip_at strips k).rect.left < l) row passed u)
+    (stands_on_none : u < open_from → (l ≤ (strip_of strips row u).rect.left)
     × ((strip_of strips row u).rect.left ≡ l → (strip_of strips row u).rect.right ≡ r → (strip_of strips row u).kind ≢ kind))
-    → AllWithin (λ k. r ≤ (strip_at strips k).rect.left) row open_from (length row)
-    → IsChanging picture bottom top column strips row next passed open_from
-    → BeginsAt world picture bottom (record { left = l; right = r; kind = kind; strip = length strips })
-begins_here {passed} {open_from} {strips} {row} l r kind u below here some line passed_here stands_on_none right state above run_below =
-    let (m, under, inside, is, same) = run_listed (map (run_of strips) row) (state.runs_below above) run_below some in
-    let m_within : m < length row = rw (length-map row (run_of strips)) at inside in
-    let names : run_of strips (get_or row m 0) ≡ under = sym (get_or-map (run_of strips) row m 0 under m_within) ∙ is in
-    let left : (strip_of strips row m).rect.left ≡ l = ap (λ run. run.left) names ∙ same.left in
-    elim (cases_lt m open_from) [
-      | inr on ↦ omega (arith, right m 0 on m_within, left, here.wide)
-      | inl closed ↦ elim (cases_order m u) [
-        | inl here_too ↦ (stands_on_none (omega arith)).1 (rw here_too at left) (rw here_too at (ap (λ run. run.right) names ∙ same.right))
-            (rw here_too at (ap (λ run. run.kind) names ∙ same.kind))
-        | inr (inl before) ↦ elim (cases_lt m passed) [
-          | inl sooner ↦ omega (arith, state.passed_by m 0 (omega arith) sooner, left, line)
-          | inr later ↦ omega (arith, passed_here m 0 later before, left)
+    (right : AllWithin (λ k. r ≤ (strip_at strips k).rect.left) row open_from (length row)) (state : IsChanging picture bottom top column strips row next passed open_from) where
+  -- it begins a strip
+  begins_here : BeginsAt world picture bottom (record { left = l; right = r; kind = kind; strip = length strips })
+  begins_here above run_below =
+      let (m, under, inside, is, same) = run_listed (map (run_of strips) row) (state.runs_below above) run_below some in
+      let m_within : m < length row = rw (length-map row (run_of strips)) at inside in
+      let names : run_of strips (get_or row m 0) ≡ under = sym (get_or-map (run_of strips) row m 0 under m_within) ∙ is in
+      let left : (strip_of strips row m).rect.left ≡ l = ap (λ run. run.left) names ∙ same.left in
+      elim (cases_lt m open_from) [
+        | inr on ↦ omega (arith, right m 0 on m_within, left, here.wide)
+        | inl closed ↦ elim (cases_order m u) [
+          | inl here_too ↦ (stands_on_none (omega arith)).1 (rw here_too at left) (rw here_too at (ap (λ run. run.right) names ∙ same.right))
+              (rw here_too at (ap (λ run. run.kind) names ∙ same.kind))
+          | inr (inl before) ↦ elim (cases_lt m passed) [
+            | inl sooner ↦ omega (arith, state.passed_by m 0 (omega arith) sooner, left, line)
+            | inr later ↦ omega (arith, passed_here m 0 later before, left)
+          ]
+          | inr (inr after) ↦ omega (arith, (stands_on_none (omega arith)).0, in_order u m 0 state after m_within, left)
         ]
-        | inr (inr after) ↦ omega (arith, (stands_on_none (omega arith)).0, in_order u m 0 state after m_within, left)
       ]
-    ]
 
--- a run begins a strip
-pub IsChanging-new :
-    {picture : Picture} {bottom top column passed open_from : ℕ} {strips : List Piece} {row next : List ℕ} (l r kind u : ℕ) → passed ≤ u → u ≤ open_from
-    → IsRun world picture l r bottom kind → kind ≢ uncovered → l ≡ column
-    → AllWithin (λ k. (strip_at strips k).rect.left < l) row passed u
-    → (u < open_from → (l ≤ (strip_of strips row u).rect.left)
-    × ((strip_of strips row u).rect.left ≡ l → (strip_of strips row u).rect.right ≡ r → (strip_of strips row u).kind ≢ kind))
-    → AllWithin (λ k. r ≤ (strip_at strips k).rect.left) row open_from (length row)
-    → IsChanging picture bottom top column strips row next passed open_from
-    → IsChanging picture bottom top r (strips ++ record { rect = record { left = l; bottom = bottom; right = r; top = world.top }; kind = kind } ∷ []) row
-    (next ++ length strips ∷ []) u open_from
-IsChanging-new {picture} {bottom} {top} {column} {passed} {open_from} {strips} {row} {next} l r kind u onward below here some line passed_here stands_on_none right state =
-    let new : Piece = record { rect = record { left = l; bottom = bottom; right = r; top = world.top }; kind = kind } in
-    let run : Run = record { left = l; right = r; kind = kind; strip = length strips } in
-    let begins = begins_here l r kind u below here some line passed_here stands_on_none right state in
-    let alike : map (staged bottom top r) strips ≡ map (staged bottom top column) strips = map_alike (staged bottom top r) (staged bottom top column) strips (strip_at [] 0)
-    (λ k within. staged_alike r k state within (omega (arith, here.wide)) (apart_left strips row r open_from (length row) k right)) in
-    let lists : map (staged bottom top r) (strips ++ new ∷ []) ≡ map (staged bottom top column) strips ++ new_strip bottom top run ∷ [] =
-    map-append (staged bottom top r) strips (new ∷ []) ∙ ap (λ strips. strips ++ staged bottom top r new ∷ []) alike
-    ∙ ap (λ strip. map (staged bottom top column) strips ++ strip ∷ []) (staged_left bottom top r new refl here.wide) in
-    let last : run_of (strips ++ new ∷ []) (length strips) ≡ run = rw (get_or_push strips new (strip_at [] 0) (length strips) refl) refl in
-    let was = λ (m d : ℕ) (before : m < length row). strip_at-push strips new (get_or row m d) (state.known m d before) in
-    record {
-      band = state.band;
-      to = state.to;
-      from = omega (arith, state.from, here.wide);
-      onward = below;
-      within = state.within;
-      partly = rw lists (IsPartlyStacked-new_strip run state.band here some (rw line state.partly) begins);
-      runs_below = rw (runs_of-push strips new row state.known) state.runs_below;
-      none_below = state.none_below;
-      runs = rw (map-append (run_of (strips ++ new ∷ [])) next (length strips ∷ []), runs_of-push strips new next (λ m d inside. (state.reaching m d inside).0), last)
-          (AreRunsBefore-push world picture bottom (map (run_of strips) next) run (rw line state.runs) here some);
-      known = λ m d inside. rw length_push (omega (arith, state.known m d inside));
-      reaching = All-push (λ k. (k < length (strips ++ new ∷ [])) × ((strip_at (strips ++ new ∷ []) k).rect.top ≡ world.top)) next (length strips)
-          (λ m d inside.
-          (let (known, reaches) = state.reaching m d inside in
-          (rw length_push (omega (arith, known)), rw (strip_at-push strips new (get_or next m d) known) reaches)))
-          (rw length_push (omega arith), rw (get_or_push strips new (strip_at [] 0) (length strips) refl) refl);
-      passed_by = λ m d above before. rw (was m d (omega (arith, state.within))) (elim (cases_lt m passed) [
-        | inl sooner ↦ omega (arith, state.passed_by m d above sooner, here.wide, line)
-        | inr later ↦ omega (arith, passed_here m d later before, here.wide)
-      ]);
-      ended_here = λ m d above before. elim (state.ended_here m d (omega arith) before) [
-        | inl listed ↦ inl (Contains-append_left next (length strips ∷ []) (get_or row m d) listed)
-        | inr low ↦ inr (rw (was m d (omega (arith, state.within))) low)
-      ];
-      open_right = λ m d above before. rw (was m d before) ((state.open_right m d above before).0, right m d above before);
-      ended = λ k inside unlisted apart. elim (cases_lt k (length strips)) [
-        | inl old ↦ rw (strip_at-push strips new k old) (state.ended k old (λ listed. unlisted (Contains-append_left next (length strips ∷ []) k listed)) apart)
-        | inr past ↦
-            let is : k ≡ length strips = omega (arith, rw length_push at inside) in
-            absurd (unlisted (rw is (Contains-push next (length strips))))
-      ];
-    }
+  -- the row with that strip
+  pub IsChanging-new :
+      IsChanging picture bottom top r (strips ++ record { rect = record { left = l; bottom = bottom; right = r; top = world.top }; kind = kind } ∷ []) row
+      (next ++ length strips ∷ []) u open_from
+  IsChanging-new =
+      let new : Piece = record { rect = record { left = l; bottom = bottom; right = r; top = world.top }; kind = kind } in
+      let run : Run = record { left = l; right = r; kind = kind; strip = length strips } in
+      let alike : map (staged bottom top r) strips ≡ map (staged bottom top column) strips = map_alike (staged bottom top r) (staged bottom top column) strips (strip_at [] 0)
+      (λ k within. staged_alike r k state within (omega (arith, here.wide)) (apart_left strips row r open_from (length row) k right)) in
+      let lists : map (staged bottom top r) (strips ++ new ∷ []) ≡ map (staged bottom top column) strips ++ new_strip bottom top run ∷ [] =
+      map-append (staged bottom top r) strips (new ∷ []) ∙ ap (λ strips. strips ++ staged bottom top r new ∷ []) alike
+      ∙ ap (λ strip. map (staged bottom top column) strips ++ strip ∷ []) (staged_left bottom top r new refl here.wide) in
+      let last : run_of (strips ++ new ∷ []) (length strips) ≡ run = rw (get_or_push strips new (strip_at [] 0) (length strips) refl) refl in
+      let was = λ (m d : ℕ) (before : m < length row). strip_at-push strips new (get_or row m d) (state.known m d before) in
+      record {
+        band = state.band;
+        to = state.to;
+        from = omega (arith, state.from, here.wide);
+        onward = below;
+        within = state.within;
+        partly = rw lists (IsPartlyStacked-new_strip run state.band here some (rw line state.partly) begins_here);
+        runs_below = rw (runs_of-push strips new row state.known) state.runs_below;
+        none_below = state.none_below;
+        runs = rw (map-append (run_of (strips ++ new ∷ [])) next (length strips ∷ []), runs_of-push strips new next (λ m d inside. (state.reaching m d inside).0), last)
+            (AreRunsBefore-push world picture bottom (map (run_of strips) next) run (rw line state.runs) here some);
+        known = λ m d inside. rw length_push (omega (arith, state.known m d inside));
+        reaching = All-push (λ k. (k < length (strips ++ new ∷ [])) × ((strip_at (strips ++ new ∷ []) k).rect.top ≡ world.top)) next (length strips)
+            (λ m d inside.
+            (let (known, reaches) = state.reaching m d inside in
+            (rw length_push (omega (arith, known)), rw (strip_at-push strips new (get_or next m d) known) reaches)))
+            (rw length_push (omega arith), rw (get_or_push strips new (strip_at [] 0) (length strips) refl) refl);
+        passed_by = λ m d above before. rw (was m d (omega (arith, state.within))) (elim (cases_lt m passed) [
+          | inl sooner ↦ omega (arith, state.passed_by m d above sooner, here.wide, line)
+          | inr later ↦ omega (arith, passed_here m d later before, here.wide)
+        ]);
+        ended_here = λ m d above before. elim (state.ended_here m d (omega arith) before) [
+          | inl listed ↦ inl (Contains-append_left next (length strips ∷ []) (get_or row m d) listed)
+          | inr low ↦ inr (rw (was m d (omega (arith, state.within))) low)
+        ];
+        open_right = λ m d above before. rw (was m d before) ((state.open_right m d above before).0, right m d above before);
+        ended = λ k inside unlisted apart. elim (cases_lt k (length strips)) [
+          | inl old ↦ rw (strip_at-push strips new k old) (state.ended k old (λ listed. unlisted (Contains-append_left next (length strips ∷ []) k listed)) apart)
+          | inr past ↦
+              let is : k ≡ length strips = omega (arith, rw length_push at inside) in
+              absurd (unlisted (rw is (Contains-push next (length strips))))
+        ];
+      }
 
--- where a run begins a strip, there are more strips than so far
-pub IsChanging-too_many :
-    {picture : Picture} {bottom top column passed open_from : ℕ} {strips : List Piece} {row next : List ℕ} (l r kind u : ℕ) → passed ≤ u → u ≤ open_from
-    → IsRun world picture l r bottom kind → kind ≢ uncovered → l ≡ column
-    → AllWithin (λ k. (strip_at strips k).rect.left < l) row passed u
-    → (u < open_from → (l ≤ (strip_of strips row u).rect.left)
-    × ((strip_of strips row u).rect.left ≡ l → (strip_of strips row u).rect.right ≡ r → (strip_of strips row u).kind ≢ kind))
-    → AllWithin (λ k. r ≤ (strip_at strips k).rect.left) row open_from (length row)
-    → IsChanging picture bottom top column strips row next passed open_from → length strips < covered_count (up_to top world) picture
-IsChanging-too_many {picture} {bottom} {top} {column} {strips} l r kind u onward below here some line passed_here stands_on_none right state =
-    let run : Run = record { left = l; right = r; kind = kind; strip = length strips } in
-    let partly : IsPartlyStacked world picture bottom top l (map (staged bottom top column) strips) = rw line state.partly in
-    rw (length-map strips (staged bottom top column)) at
-    (length-lt-covered_count run state.band here some partly (begins_here l r kind u below here some line passed_here stands_on_none right state))
+  -- there are more strips than so far
+  pub IsChanging-too_many : length strips < covered_count (up_to top world) picture
+  IsChanging-too_many =
+      let run : Run = record { left = l; right = r; kind = kind; strip = length strips } in
+      let partly : IsPartlyStacked world picture bottom top l (map (staged bottom top column) strips) = rw line state.partly in
+      rw (length-map strips (staged bottom top column)) at
+      (length-lt-covered_count run state.band here some partly begins_here)
 
 -- after the last run
 pub IsChanging-finish :

@@ -22,6 +22,24 @@ AreBetweenLines_more lines more pieces indices kept between = λ k d within.
     IsSomeAnd_then _ (λ p. IsBetweenLines lines p.rect) (λ p. IsBetweenLines more p.rect)
     (λ p given. record { left = kept _ given.left; right = kept _ given.right }) (between k d within)
 
+-- the lines with both sides of a rectangle
+module _ (lines : List ℕ) (rect : Rect) where
+  abbrev with_sides : List ℕ
+  with_sides = (lines ++ rect.left ∷ []) ++ rect.right ∷ []
+
+  stays : (line : ℕ) → Contains lines line → Contains with_sides line
+  stays line member = Contains-append_left (lines ++ rect.left ∷ []) (rect.right ∷ []) line (Contains-append_left lines (rect.left ∷ []) line member)
+
+  inside_with :
+      (extent : Rect) → All (λ line. (extent.left ≤ line) × (line ≤ extent.right)) lines → extent.left ≤ rect.left → rect.left ≤ rect.right → rect.right ≤ extent.right
+      → All (λ line. (extent.left ≤ line) × (line ≤ extent.right)) with_sides
+  inside_with extent inside from wide to =
+      let Inside = λ (line : ℕ). (extent.left ≤ line) × (line ≤ extent.right) in
+      All-push Inside _ _ (All-push Inside lines _ inside (from, omega arith)) (omega arith, to)
+
+  IsBetweenLines-sides : IsBetweenLines with_sides rect
+  IsBetweenLines-sides = record { left = Contains-append_left _ _ _ (Contains-push lines rect.left); right = Contains-push _ rect.right }
+
 -- the lines, in any order
 pub record AreLines (extent : Rect) (pieces : List Piece) (indices lines : List ℕ) : Type 0 where
   pub left : Contains lines extent.left
@@ -42,19 +60,13 @@ pub AreLines-push :
     → k < length indices → slice_get pieces (slice_index indices k) ≡ Some piece
     → extent.left ≤ piece.rect.left → piece.rect.left ≤ piece.rect.right → piece.rect.right ≤ extent.right
     → AreLines extent pieces (take (k + 1) indices) ((lines ++ piece.rect.left ∷ []) ++ piece.rect.right ∷ [])
-AreLines-push extent pieces indices lines k piece so_far within is from wide to =
-    let Inside = λ (line : ℕ). (extent.left ≤ line) × (line ≤ extent.right) in
-    let more = (lines ++ piece.rect.left ∷ []) ++ piece.rect.right ∷ [] in
-    let kept = λ (line : ℕ) (member : Contains lines line).
-    Contains-append_left (lines ++ piece.rect.left ∷ []) (piece.rect.right ∷ []) line (Contains-append_left lines (piece.rect.left ∷ []) line member) in
-    record {
-      left = kept _ so_far.left;
-      right = kept _ so_far.right;
-      inside = All-push Inside _ _ (All-push Inside lines _ so_far.inside (from, omega arith)) (omega arith, to);
-      between = All-more (λ i. IsSomeAnd (slice_get pieces i) (λ p. IsBetweenLines more p.rect)) indices k 0 within
-          (AreBetweenLines_more lines more pieces (take k indices) kept so_far.between)
-          (rw is (record { left = Contains-append_left _ _ _ (Contains-push lines piece.rect.left); right = Contains-push _ piece.rect.right }));
-    }
+AreLines-push extent pieces indices lines k piece so_far within is from wide to = record {
+  left = stays lines piece.rect _ so_far.left;
+  right = stays lines piece.rect _ so_far.right;
+  inside = inside_with lines piece.rect extent so_far.inside from wide to;
+  between = All-more (λ i. IsSomeAnd (slice_get pieces i) (λ p. IsBetweenLines (with_sides lines piece.rect) p.rect)) indices k 0 within
+      (AreBetweenLines_more lines (with_sides lines piece.rect) pieces (take k indices) (stays lines piece.rect) so_far.between) (rw is (IsBetweenLines-sides lines piece.rect));
+}
 
 -- cuts are the lines in order, each once
 module _ (extent : Rect) (pieces : List Piece) (indices lines cuts : List ℕ) (all : AreLines extent pieces indices lines) (members : (line : ℕ) → Contains cuts line ↔ Contains lines line) where
@@ -101,17 +113,13 @@ pub ArePieceLines-push :
     → extent.left ≤ (get_or pieces k d).rect.left → (get_or pieces k d).rect.left ≤ (get_or pieces k d).rect.right → (get_or pieces k d).rect.right ≤ extent.right
     → ArePieceLines extent (take (k + 1) pieces) ((lines ++ (get_or pieces k d).rect.left ∷ []) ++ (get_or pieces k d).rect.right ∷ [])
 ArePieceLines-push extent pieces lines k d so_far within from wide to =
-    let piece = get_or pieces k d in
-    let Inside = λ (line : ℕ). (extent.left ≤ line) × (line ≤ extent.right) in
-    let more = (lines ++ piece.rect.left ∷ []) ++ piece.rect.right ∷ [] in
-    let kept = λ (line : ℕ) (member : Contains lines line).
-    Contains-append_left (lines ++ piece.rect.left ∷ []) (piece.rect.right ∷ []) line (Contains-append_left lines (piece.rect.left ∷ []) line member) in
+    let rect = (get_or pieces k d).rect in
+    let between = between_more lines (with_sides lines rect) (take k pieces) (stays lines rect) so_far.between in
     record {
-      left = kept _ so_far.left;
-      right = kept _ so_far.right;
-      inside = All-push Inside _ _ (All-push Inside lines _ so_far.inside (from, omega arith)) (omega arith, to);
-      between = All-more (λ (p : Piece). IsBetweenLines more p.rect) pieces k d within (between_more lines more (take k pieces) kept so_far.between)
-          (record { left = Contains-append_left _ _ _ (Contains-push lines piece.rect.left); right = Contains-push _ piece.rect.right });
+      left = stays lines rect _ so_far.left;
+      right = stays lines rect _ so_far.right;
+      inside = inside_with lines rect extent so_far.inside from wide to;
+      between = All-more (λ (p : Piece). IsBetweenLines (with_sides lines rect) p.rect) pieces k d within between (IsBetweenLines-sides lines rect);
     }
 
 -- cuts are the lines in order, each once

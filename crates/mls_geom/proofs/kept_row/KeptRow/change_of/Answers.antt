@@ -6,20 +6,25 @@ use Rattle.mls_geom.specs.Sweep.Changing.{runs_of}
 use Rattle.mls_geom.specs.declared.run.Run.{Run}
 use Rattle.mls_geom.proofs.MarkedRuns.{IsChangeOf-alone, IsChangeOf-runs}
 use Rattle.mls_geom.proofs.kept_row.KeptRow.change_of.Goals as goal
+use Rattle.mls_geom.proofs.kept_row.KeptRow.change_of.Goals.{After-first_from-first}
+
+-- the mark's lines
+left_is : (c : After-first_from-first) → c.index-left.result.now ≡ slice_index c.args.self.now.lines.items c.args.mark.first
+left_is c = c.index-left.ensures ∙ get_or_default c.args.self.now.lines.items c.args.mark.first _ 0 (omega (arith, c.requires.wide, c.requires.in_row))
+
+right_is : (c : After-first_from-first) → c.index-right.result.now ≡ slice_index c.args.self.now.lines.items c.args.mark.end
+right_is c = c.index-right.ensures ∙ get_or_default c.args.self.now.lines.items c.args.mark.end _ 0 c.requires.in_row
 
 pub returns-then-end-first : goal.returns-then-end-first
 returns-then-end-first c =
-    let lines = c.args.self.now.lines.items in
-    let strips = c.args.self.now.strips.items in
-    let row = c.args.self.now.row.items in
-    let mark = c.args.mark in
-    let count = length-map row (run_of strips) in
-    let left : c.index-left.result.now ≡ slice_index lines mark.first = c.index-left.ensures ∙ get_or_default lines mark.first _ 0 (omega (arith, c.requires.wide, c.requires.in_row)) in
-    let right : c.index-right.result.now ≡ slice_index lines mark.end = c.index-right.ensures ∙ get_or_default lines mark.end _ 0 c.requires.in_row in
+    let here = (goal.at.returns-then-end-first c).After-first_from-first in
+    let self = c.args.self.now in
     let from = c.first_from-first.ensures in
     let after = c.first_after-end.ensures in
-    IsChangeOf-alone lines c.requires.cuts.ascending (runs_of strips row) c.requires.ordered mark c.requires.wide c.requires.in_row c.first_from-first.result c.first_after-end.result
-    (rw count from.within) (rw count after.within) (rw left at from.before) (rw count (rw left at from.others)) (rw right at after.up_to) (rw count (rw right at after.others)) c.if-end-first.true
+    let count = length-map self.row.items (run_of self.strips.items) in
+    IsChangeOf-alone self.lines.items c.requires.cuts.ascending (runs_of self.strips.items self.row.items) c.requires.ordered c.args.mark c.requires.wide c.requires.in_row c.first_from-first.result c.first_after-end.result
+    (rw count from.within) (rw count after.within) (rw (left_is here) at from.before) (rw count (rw (left_is here) at from.others)) (rw (right_is here) at after.up_to)
+    (rw count (rw (right_is here) at after.others)) c.if-end-first.true
 
 pub returns : goal.returns
 returns c =
@@ -28,8 +33,8 @@ returns c =
     let row = c.args.self.now.row.items in
     let mark = c.args.mark in
     let count = length-map row (run_of strips) in
-    let left : c.index-left.result.now ≡ slice_index lines mark.first = c.index-left.ensures ∙ get_or_default lines mark.first _ 0 (omega (arith, c.requires.wide, c.requires.in_row)) in
-    let right : c.index-right.result.now ≡ slice_index lines mark.end = c.index-right.ensures ∙ get_or_default lines mark.end _ 0 c.requires.in_row in
+    let left = left_is (goal.at.returns c).After-first_from-first in
+    let right = right_is (goal.at.returns c).After-first_from-first in
     let from = c.first_from-first.ensures in
     let after = c.first_after-end.ensures in
     let first_run : (d : Run) → (get_or (runs_of strips row) c.first_from-first.result d).left ≡ c.left_of.result =
