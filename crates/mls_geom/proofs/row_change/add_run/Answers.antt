@@ -56,7 +56,8 @@ returns-in_err-strip-clause-too_many c = λ stopped picture top state here.
     let run = c.args.run.now in
     let found = c.first_at_or_after-under.ensures in
     let none = stands_on_none (goal.at.returns-in_err-strip-clause-too_many c).After-add_strip in
-    let more = IsChanging-too_many run.left run.right run.kind c.first_at_or_after-under.result found.from found.to here (λ same. omega (arith, c.requires.kind)) refl (rw c.deref.ensures.value at found.passed) none c.requires.right_out state in
+    let more = IsChanging-too_many run.left run.right run.kind c.first_at_or_after-under.result found.from found.to here (λ same. omega (arith, c.requires.kind)) refl
+    (rw c.deref.ensures.value at found.passed) none c.requires.right_out state in
     let full : vec_len c.args.strips.now ≡ c.args.band.limit = c.in_err-strip.ensures.too_many (ap Err (sym (rw stopped at c.from_residual.ensures.1))) in
     omega (arith, more, full, c.args.strips.now.ok.0)
 
@@ -65,7 +66,8 @@ returns-clause-changing c = λ picture top state here.
     let run = c.args.run.now in
     let found = c.first_at_or_after-under.ensures in
     let none = stands_on_none (goal.at.returns-clause-changing c).After-add_strip in
-    let more = IsChanging-new run.left run.right run.kind c.first_at_or_after-under.result found.from found.to here (λ same. omega (arith, c.requires.kind)) refl (rw c.deref.ensures.value at found.passed) none c.requires.right_out state in
+    let more = IsChanging-new run.left run.right run.kind c.first_at_or_after-under.result found.from found.to here (λ same. omega (arith, c.requires.kind)) refl
+    (rw c.deref.ensures.value at found.passed) none c.requires.right_out state in
     rw (c.push_reserved-2.ensures.items, c.in_ok-strip.ensures.added, c.in_ok-strip.ensures.index, c.args.strips.now.ok.0, c.between-rect.ensures) more
 
 pub returns-clause-same_runs : goal.returns-clause-same_runs

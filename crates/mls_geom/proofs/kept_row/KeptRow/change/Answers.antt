@@ -16,18 +16,18 @@ use Rattle.mls_geom.proofs.ChangedRows.{IsDone-more, IsDone-none, IsKept-rest, b
 use Rattle.mls_geom.proofs.RowChanges.{IsChanging-start}
 use Rattle.mls_geom.proofs.RowRuns.{AreInOrder-runs}
 use Rattle.mls_geom.proofs.kept_row.KeptRow.change.Goals as goal
-use Rattle.mls_geom.proofs.kept_row.KeptRow.change.Goals.{After-keep_runs, In-loop-index}
+use Rattle.mls_geom.proofs.kept_row.KeptRow.change.Goals.{After-clear, After-keep_runs}
 
 -- one row is alike
 one_row : (picture : Picture) (y : ℕ) → AreAlike world picture y (y + 1)
 one_row picture y x z from to low high = (let same : z ≡ y = omega arith in ap (picture x) same)
 
 -- the marks that were sorted
-marks_sorted : (c : In-loop-index) → IsNonDecreasingBy (λ (mark : Span). mark.first) c.sort_unstable_by_key.new.self.items
+marks_sorted : (c : After-clear) → IsNonDecreasingBy (λ (mark : Span). mark.first) c.sort_unstable_by_key.new.self.items
 marks_sorted c = IsNonDecreasingBy-from_sort_by_key (λ (mark : Span). mark.first) c.sort_unstable_by_key.new.self.items c.sort_unstable_by_key.ensures.sorted (λ a r f k. search rules)
 
 -- the runs of the row below
-order : (c : In-loop-index) → AreInOrder (runs_of c.args.self.now.strips.items c.args.self.now.row.items)
+order : (c : After-clear) → AreInOrder (runs_of c.args.self.now.strips.items c.args.self.now.row.items)
 order c =
     let self = c.args.self.now in
     let (picture, present, tree, kept, shows, changes) = c.requires.drawn in
@@ -62,17 +62,16 @@ module _ (c : After-keep_runs) where
 
   -- up to the change the row below goes on
   goes_on_to_change :
-      {picture : Picture} {present : ℕ → Bool} {top : ℕ} → IsTree c.args.tree.now present → IsKept picture c.args.line c.args.self.now.strips.items c.args.self.now.row.items
+      {picture : Picture} {present : ℕ → Bool} {top : ℕ} → IsNonDecreasingBy (λ (mark : Span). mark.first) c.sort_unstable_by_key.new.self.items → IsTree c.args.tree.now present → IsKept picture c.args.line c.args.self.now.strips.items c.args.self.now.row.items
       → ShowsRow c.args.tree.now.segments.items present c.args.self.now.lines.items picture c.args.line
       → HaveChanges c.args.self.now.lines.items c.args.self.now.marks.items picture c.args.line → c.args.line < top → top ≤ world.top → AreAlike world picture c.args.line top
       → ShowsSlots c.args.tree.now c.args.self.now.lines.items picture present c.args.line c.in-Some.change.slots
       × IsChanging picture c.args.line top (slice_index c.args.self.now.lines.items c.in-Some.change.slots.first) c.loop-index.self.strips.items c.args.self.now.row.items
       (c.loop-index.self.next.items ++ slice_range c.args.self.now.row.items c.loop-index.passed c.in-Some.change.runs.first) c.in-Some.change.runs.first c.in-Some.change.runs.first
-  goes_on_to_change {picture} {present} {top} tree kept shows changes above to alike =
+  goes_on_to_change {picture} {present} {top} sorted tree kept shows changes above to alike =
       let self = c.args.self.now in
       let so_far = c.loop-index.invariant in
       let (column, done, changing) = so_far.changing in
-      let sorted = IsNonDecreasingBy-from_sort_by_key (λ (mark : Span). mark.first) c.sort_unstable_by_key.new.self.items c.sort_unstable_by_key.ensures.sorted (λ a r f k. search rules) in
       changing_up_to self.lines.items c.requires.cuts self.strips.items self.row.items self.marks.items c.sort_unstable_by_key.new.self.items c.sort_unstable_by_key.ensures.permutation
       c.requires.marks sorted c.loop-index.index c.loop-index.passed column done picture c.args.line kept changes c.in-Some.after c.in-Some.change.slots c.in-Some.change.runs change_found
       c.args.tree.now present tree shows so_far.same_runs (changing picture present top tree kept shows changes above to alike)
@@ -101,7 +100,7 @@ next_change-requires-clause-marks c =
     (All-permutation (λ (mark : Span). (mark.first < mark.end) × (mark.end < length self.lines.items)) self.marks.items c.sort_unstable_by_key.new.self.items c.sort_unstable_by_key.ensures.permutation c.requires.marks)
 
 pub next_change-requires-clause-sorted : goal.next_change-requires-clause-sorted
-next_change-requires-clause-sorted c = rw c.loop-index.invariant.marks (marks_sorted c)
+next_change-requires-clause-sorted c = rw c.loop-index.invariant.marks (marks_sorted (goal.at.next_change-requires-clause-sorted c).After-clear)
 
 pub next_change-requires-clause-known : goal.next_change-requires-clause-known
 next_change-requires-clause-known c =
@@ -128,33 +127,35 @@ keep_runs-requires-clause-onward c =
     let self = c.args.self.now in
     let so_far = c.loop-index.invariant in
     let (column, done, changing) = so_far.changing in
-    passed_to self.lines.items c.requires.cuts (runs_of self.strips.items self.row.items) (order (goal.at.keep_runs-requires-clause-onward c).In-loop-index) c.sort_unstable_by_key.new.self.items
+    passed_to self.lines.items c.requires.cuts (runs_of self.strips.items self.row.items) (order (goal.at.keep_runs-requires-clause-onward c).After-clear) c.sort_unstable_by_key.new.self.items
     c.loop-index.index c.loop-index.passed column done c.in-Some.after c.in-Some.change.slots c.in-Some.change.runs (rw (so_far.lines, so_far.row, so_far.marks, so_far.same_runs) at c.in-Some.ensures)
 
 pub change_slots-requires-clause-left : goal.change_slots-requires-clause-left
 change_slots-requires-clause-left c =
     let here = goal.at.change_slots-requires-clause-left c in
     rw (c.deref-in-loop-index.ensures.value, c.deref-in-loop-index-2.ensures.value, c.loop-index.invariant.lines, c.loop-index.invariant.row)
-    (sides here.After-keep_runs (order here.In-loop-index)).0
+    (sides here.After-keep_runs (order here.After-clear)).0
 
 pub change_slots-requires-clause-right : goal.change_slots-requires-clause-right
 change_slots-requires-clause-right c =
     let here = goal.at.change_slots-requires-clause-right c in
     rw (c.deref-in-loop-index.ensures.value, c.deref-in-loop-index-2.ensures.value, c.loop-index.invariant.lines, c.loop-index.invariant.row)
-    (sides here.After-keep_runs (order here.In-loop-index)).1
+    (sides here.After-keep_runs (order here.After-clear)).1
 
 pub change_slots-requires-clause-drawn : goal.change_slots-requires-clause-drawn
 change_slots-requires-clause-drawn c =
     let (picture, present, tree, kept, shows, changes) = c.requires.drawn in
     let so_far = c.loop-index.invariant in
-    let (shown, next) = goes_on_to_change (goal.at.change_slots-requires-clause-drawn c).After-keep_runs tree kept shows changes (omega arith) (omega (arith, c.requires.to)) (one_row picture c.args.line) in
+    let here = goal.at.change_slots-requires-clause-drawn c in
+    let (shown, next) = goes_on_to_change here.After-keep_runs (marks_sorted here.After-clear) tree kept shows changes (omega arith) (omega (arith, c.requires.to)) (one_row picture c.args.line) in
     rw (c.deref-in-loop-index.ensures.value, c.deref-in-loop-index-2.ensures.value, so_far.lines, so_far.row, c.in_ok-keep_runs.ensures.kept, c.deref.ensures.value, so_far.row)
     (picture, present, c.args.line + 1, shown, next)
 
 pub returns-in_err-change_slots-clause-too_many : goal.returns-in_err-change_slots-clause-too_many
 returns-in_err-change_slots-clause-too_many c = λ stopped picture present top tree kept shows changes above to alike.
     let so_far = c.loop-index.invariant in
-    let (shown, next) = goes_on_to_change (goal.at.returns-in_err-change_slots-clause-too_many c).After-keep_runs tree kept shows changes above to alike in
+    let here = goal.at.returns-in_err-change_slots-clause-too_many c in
+    let (shown, next) = goes_on_to_change here.After-keep_runs (marks_sorted here.After-clear) tree kept shows changes above to alike in
     let told = rw (c.deref-in-loop-index.ensures.value, c.deref-in-loop-index-2.ensures.value, so_far.lines, so_far.row, c.in_ok-keep_runs.ensures.kept, c.deref.ensures.value, so_far.row) at c.in_err-change_slots.ensures.too_many in
     told (ap Err (sym (rw stopped at c.from_residual-in_err-change_slots.ensures.1))) picture present top shown next
 
@@ -176,10 +177,10 @@ loop-index-preserved c =
       within = c.in_ok-change_slots.ensures.within;
       changing = (
         slice_index self.lines.items c.in-Some.change.slots.end,
-        IsDone-more self.lines.items c.requires.cuts (runs_of self.strips.items self.row.items) (order here.In-loop-index) c.sort_unstable_by_key.new.self.items c.loop-index.index c.loop-index.passed column done
+        IsDone-more self.lines.items c.requires.cuts (runs_of self.strips.items self.row.items) (order here.After-clear) c.sort_unstable_by_key.new.self.items c.loop-index.index c.loop-index.passed column done
             c.in-Some.after c.in-Some.change.slots c.in-Some.change.runs change,
         λ picture present top tree kept shows changes above to alike.
-            (let (shown, next) = goes_on_to_change found tree kept shows changes above to alike in
+            (let (shown, next) = goes_on_to_change found (marks_sorted here.After-clear) tree kept shows changes above to alike in
             changed picture present top shown next),
       );
     }
@@ -188,10 +189,10 @@ pub returns-clause-kept : goal.returns-clause-kept
 returns-clause-kept c = λ picture present top tree kept shows changes above to alike.
     let self = c.args.self.now in
     let marks = c.sort_unstable_by_key.new.self.items in
-    let sorted = IsNonDecreasingBy-from_sort_by_key (λ (mark : Span). mark.first) marks c.sort_unstable_by_key.ensures.sorted (λ a r f k. search rules) in
     let so_far = c.loop-index.invariant in
     let (column, done, changing) = so_far.changing in
     let state = changing picture present top tree kept shows changes above to alike in
     let last : length marks ≤ c.loop-index.index = omega (arith, ap length so_far.marks, c.loop-index-test.false, c.len.ensures, c.loop-index.self.marks.ok.0) in
-    let rest = IsKept-rest self.lines.items c.requires.cuts self.strips.items self.row.items self.marks.items marks c.sort_unstable_by_key.ensures.permutation c.requires.marks sorted c.loop-index.index c.loop-index.passed column done picture c.args.line kept changes last so_far.same_runs state in
+    let rest = IsKept-rest self.lines.items c.requires.cuts self.strips.items self.row.items self.marks.items marks c.sort_unstable_by_key.ensures.permutation c.requires.marks
+    (marks_sorted (goal.at.returns-clause-kept c).After-clear) c.loop-index.index c.loop-index.passed column done picture c.args.line kept changes last so_far.same_runs state in
     rw (c.swap.ensures.x_after, c.in_ok-keep_runs-2.ensures.kept, c.deref-2.ensures.value, c.len-2.ensures, c.loop-index.self.row.ok.0, so_far.row) rest

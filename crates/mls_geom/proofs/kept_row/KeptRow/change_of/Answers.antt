@@ -22,7 +22,8 @@ returns-then-end-first c =
     let from = c.first_from-first.ensures in
     let after = c.first_after-end.ensures in
     let count = length-map self.row.items (run_of self.strips.items) in
-    IsChangeOf-alone self.lines.items c.requires.cuts.ascending (runs_of self.strips.items self.row.items) c.requires.ordered c.args.mark c.requires.wide c.requires.in_row c.first_from-first.result c.first_after-end.result
+    IsChangeOf-alone self.lines.items c.requires.cuts.ascending (runs_of self.strips.items self.row.items) c.requires.ordered c.args.mark c.requires.wide c.requires.in_row
+    c.first_from-first.result c.first_after-end.result
     (rw count from.within) (rw count after.within) (rw (left_is here) at from.before) (rw count (rw (left_is here) at from.others)) (rw (right_is here) at after.up_to)
     (rw count (rw (right_is here) at after.others)) c.if-end-first.true
 
@@ -33,8 +34,9 @@ returns c =
     let row = c.args.self.now.row.items in
     let mark = c.args.mark in
     let count = length-map row (run_of strips) in
-    let left = left_is (goal.at.returns c).After-first_from-first in
-    let right = right_is (goal.at.returns c).After-first_from-first in
+    let here = (goal.at.returns c).After-first_from-first in
+    let left = left_is here in
+    let right = right_is here in
     let from = c.first_from-first.ensures in
     let after = c.first_after-end.ensures in
     let first_run : (d : Run) → (get_or (runs_of strips row) c.first_from-first.result d).left ≡ c.left_of.result =
