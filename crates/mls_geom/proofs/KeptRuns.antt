@@ -1,7 +1,7 @@
 -- The runs of a row by their strips: they stay where a strip's top line is set and where a strip is added.
 use Rattle.std.proofs.Common.{◌≡◌, ℕ, ◌<◌, ◌≤◌, ◌==◌, nat_lt, nat_le, if◌then◌else◌, Bool, true, false, Some, List, [], length, get_or, set, map, All, slice_get, refl, ap, ◌∙◌, le_refl, arith}
 use Rattle.std.specs.List.{AllWithin}
-use Rattle.std.specs.List.Sorted.{IsPartitionedBy}
+use Rattle.std.specs.List.Sorted.{IsPartitionPoint, IsPartitionedBy}
 use Rattle.std.specs.Option.{option_map_or}
 use Rattle.std.proofs.lemmas.Bool.Decides.{nat_tests}
 use Rattle.std.proofs.lemmas.List.{get_or-map, length-map}
@@ -87,34 +87,38 @@ module _ (strips : List Piece) (row : List ℕ) (known : All (λ k. k < length s
   begins n d within = ap (λ o. option_map_or (λ (strip : Piece). nat_le strip.rect.left line) o false) (there n d within)
 
   -- the runs that pass a test come first
-  pub parted_by_ends : IsPartitionedBy (ends_before strips line) row
+  parted_by_ends : IsPartitionedBy (ends_before strips line) row
   parted_by_ends m n d before within is =
       let higher = up m n d before within in
       let less = rw (ends n d within) at is in
       rw (ends m d (omega arith)) (grind (arith, nat_tests))
 
-  pub parted_by_begins : IsPartitionedBy (begins_by strips line) row
+  parted_by_begins : IsPartitionedBy (begins_by strips line) row
   parted_by_begins m n d before within is =
       let higher = up m n d before within in
       let less = rw (begins n d within) at is in
       rw (begins m d (omega arith)) (grind (arith, nat_tests))
 
-  -- the runs on both sides of the point
-  pub before_point : (i : ℕ) → i ≤ length row → AllWithin (λ k. ends_before strips line k ≡ true) row 0 i → AllWithin (λ run. run.right < line) (runs_of strips row) 0 i
-  before_point i within point = AllWithin-runs (λ run. run.right < line) strips row 0 i within
-      (λ n d low high. (let is = rw (ends n d (omega arith)) at (point n d low high) in grind (arith, nat_tests)))
+  -- the runs on both sides of the point that a search finds
+  pub ends_point :
+      (i : ℕ) → i ≤ length row → (IsPartitionedBy (ends_before strips line) row → IsPartitionPoint (λ k. ends_before strips line k ≡ true) (λ k. ends_before strips line k ≡ false) row i)
+      → IsPartitionPoint (λ run. run.right < line) (λ run. line ≤ run.right) (runs_of strips row) i
+  ends_point i within found =
+      let point = found parted_by_ends in (
+        AllWithin-runs (λ run. run.right < line) strips row 0 i within (λ n d low high. (let is = rw (ends n d (omega arith)) at (point.0 n d low high) in grind (arith, nat_tests))),
+        rw (length-map row (run_of strips))
+            (AllWithin-runs (λ run. line ≤ run.right) strips row i (length row) (le_refl (length row)) (λ n d low high. (let is = rw (ends n d high) at (point.1 n d low high) in grind (arith, nat_tests)))),
+      )
 
-  pub from_point : (i : ℕ) → AllWithin (λ k. ends_before strips line k ≡ false) row i (length row) → AllWithin (λ run. line ≤ run.right) (runs_of strips row) i (length row)
-  from_point i point = AllWithin-runs (λ run. line ≤ run.right) strips row i (length row) (le_refl (length row))
-      (λ n d low high. (let is = rw (ends n d high) at (point n d low high) in grind (arith, nat_tests)))
-
-  pub up_to_point : (i : ℕ) → i ≤ length row → AllWithin (λ k. begins_by strips line k ≡ true) row 0 i → AllWithin (λ run. run.left ≤ line) (runs_of strips row) 0 i
-  up_to_point i within point = AllWithin-runs (λ run. run.left ≤ line) strips row 0 i within
-      (λ n d low high. (let is = rw (begins n d (omega arith)) at (point n d low high) in grind (arith, nat_tests)))
-
-  pub after_point : (i : ℕ) → AllWithin (λ k. begins_by strips line k ≡ false) row i (length row) → AllWithin (λ run. line < run.left) (runs_of strips row) i (length row)
-  after_point i point = AllWithin-runs (λ run. line < run.left) strips row i (length row) (le_refl (length row))
-      (λ n d low high. (let is = rw (begins n d high) at (point n d low high) in grind (arith, nat_tests)))
+  pub begins_point :
+      (i : ℕ) → i ≤ length row → (IsPartitionedBy (begins_by strips line) row → IsPartitionPoint (λ k. begins_by strips line k ≡ true) (λ k. begins_by strips line k ≡ false) row i)
+      → IsPartitionPoint (λ run. run.left ≤ line) (λ run. line < run.left) (runs_of strips row) i
+  begins_point i within found =
+      let point = found parted_by_begins in (
+        AllWithin-runs (λ run. run.left ≤ line) strips row 0 i within (λ n d low high. (let is = rw (begins n d (omega arith)) at (point.0 n d low high) in grind (arith, nat_tests))),
+        rw (length-map row (run_of strips))
+            (AllWithin-runs (λ run. line < run.left) strips row i (length row) (le_refl (length row)) (λ n d low high. (let is = rw (begins n d high) at (point.1 n d low high) in grind (arith, nat_tests)))),
+      )
 
 -- other strips of the same runs
 pub AllWithin-kept :

@@ -1,7 +1,7 @@
 //! A row of runs that is kept from band to band, and changed only where squares change.
 ghost use Rattle.std.specs.Prelude.{◌≡◌, ℕ, ◌+◌, ◌<◌, ◌≤◌, [], Bool, Err, Result, OnOk, IfSome, length, vec_len};
-ghost use Rattle.std.specs.List.{All, AllWithin};
-ghost use Rattle.std.specs.List.Sorted.{IsNonDecreasingBy};
+ghost use Rattle.std.specs.List.{All};
+ghost use Rattle.std.specs.List.Sorted.{IsNonDecreasingBy, IsPartitionPoint};
 ghost use Rattle.mls_geom.specs.Locality.{covered_count};
 ghost use Rattle.mls_geom.specs.Sweep.Changing as spec;
 ghost use Rattle.mls_geom.specs.Sweep.Changing.{AreInOrder, IsChange, IsChangeOf, runs_of};
@@ -111,8 +111,7 @@ impl KeptRow {
         requires known { All (λ k. k < length self.now.strips.items) self.now.row.items }
         requires ordered { AreInOrder (runs_of self.now.strips.items self.now.row.items) }
         ensures within { result ≤ length self.now.row.items }
-        ensures before { AllWithin (λ run. run.right < line) (runs_of self.now.strips.items self.now.row.items) 0 result }
-        ensures others { AllWithin (λ run. line ≤ run.right) (runs_of self.now.strips.items self.now.row.items) result (length self.now.row.items) }
+        ensures parted { IsPartitionPoint (λ run. run.right < line) (λ run. line ≤ run.right) (runs_of self.now.strips.items self.now.row.items) result }
     {
         let strips = self.strips.as_slice();
         self.row
@@ -124,8 +123,7 @@ impl KeptRow {
         requires known { All (λ k. k < length self.now.strips.items) self.now.row.items }
         requires ordered { AreInOrder (runs_of self.now.strips.items self.now.row.items) }
         ensures within { result ≤ length self.now.row.items }
-        ensures up_to { AllWithin (λ run. run.left ≤ line) (runs_of self.now.strips.items self.now.row.items) 0 result }
-        ensures others { AllWithin (λ run. line < run.left) (runs_of self.now.strips.items self.now.row.items) result (length self.now.row.items) }
+        ensures parted { IsPartitionPoint (λ run. run.left ≤ line) (λ run. line < run.left) (runs_of self.now.strips.items self.now.row.items) result }
     {
         let strips = self.strips.as_slice();
         self.row

@@ -24,8 +24,8 @@ returns-then-end-first c =
     let count = length-map self.row.items (run_of self.strips.items) in
     IsChangeOf-alone self.lines.items c.requires.cuts.ascending (runs_of self.strips.items self.row.items) c.requires.ordered c.args.mark c.requires.wide c.requires.in_row
     c.first_from-first.result c.first_after-end.result
-    (rw count from.within) (rw count after.within) (rw (left_is here) at from.before) (rw count (rw (left_is here) at from.others)) (rw (right_is here) at after.up_to)
-    (rw count (rw (right_is here) at after.others)) c.if-end-first.true
+    (rw count from.within) (rw count after.within) (rw (left_is here) at from.parted.0) (rw (left_is here) at from.parted.1) (rw (right_is here) at after.parted.0)
+    (rw (right_is here) at after.parted.1) c.if-end-first.true
 
 pub returns : goal.returns
 returns c =
@@ -46,6 +46,6 @@ returns c =
     let found_left = rw c.deref-5.ensures.value at c.in_ok-find_line.ensures.found in
     let found_right = rw c.deref-6.ensures.value at c.in_ok-find_line-2.ensures.found in
     IsChangeOf-runs lines c.requires.cuts.ascending (runs_of strips row) c.requires.ordered mark c.requires.wide c.requires.in_row c.first_from-first.result c.first_after-end.result
-    (rw count from.within) (rw count after.within) (rw left at from.before) (rw count (rw left at from.others)) (rw right at after.up_to) (rw count (rw right at after.others))
+    (rw count from.within) (rw count after.within) (rw left at from.parted.0) (rw left at from.parted.1) (rw right at after.parted.0) (rw right at after.parted.1)
     (record { first = c.in_ok-find_line.field-0; end = c.in_ok-find_line-2.field-0 }) c.left_of.result c.right_of.result (omega (arith, c.if-end-first.false)) first_run last_run
     found_left.0 found_right.0 (found_left.1 ∙ rw left at c.min-leftmost.ensures) (found_right.1 ∙ rw right at c.max-rightmost.ensures)
