@@ -9,9 +9,11 @@ use Rattle.std.proofs.lemmas.Bool.Decides.{nat_tests}
 use Rattle.std.proofs.lemmas.List.{get_or-drop, get_or-map, get_or_default, length-drop, length-map}
 use Rattle.std.proofs.lemmas.List.Elements.{All-head, All-tail}
 use Rattle.mls_geom.specs.Sweep.ActivePieces.{HasPiece}
-use Rattle.mls_geom.specs.Sweep.Events.{AreEvents, IsBefore, bottom_of, is_above, is_below, is_met, pieces_of, top_of}
-use Rattle.mls_geom.specs.Sweep.Trees.{none, with_piece, without_piece}
+use Rattle.mls_geom.specs.Sweep.Events.{AreEvents, IsBefore, bottom_of, is_above, is_below, line_of, moved, pieces_of, present_after, present_before, top_of}
+use Rattle.mls_geom.specs.Sweep.Trees.{none}
 use Rattle.mls_geom.specs.World.{AreLegal}
+use Rattle.mls_geom.specs.declared.chain.Step.{Step}
+use Rattle.mls_geom.specs.declared.chain.Step.TheVariants.{Begins, Ends}
 use Rattle.mls_geom.specs.declared.events.Event.{Event}
 use Rattle.mls_geom.specs.declared.piece.Piece.{Piece}
 use Rattle.mls_geom.proofs.BandRows.{EndsOutside, IsBand}
@@ -26,12 +28,10 @@ abbrev pub is_named : List Event → ℕ → ℕ → Bool
 is_named events zero i = false
 is_named events (suc k) i = is_named events k i || i == (event_at events k).piece
 
--- these pieces and those of the first k events, or without them
-abbrev pub with_events : (ℕ → Bool) → List Event → ℕ → ℕ → Bool
-with_events present events k i = present i || is_named events k i
-
-abbrev pub without_events : (ℕ → Bool) → List Event → ℕ → ℕ → Bool
-without_events present events k i = present i && not (is_named events k i)
+-- the present pieces once the first k events are over, at each of which a piece begins, or at each of which one ends
+abbrev pub after_events : Step → (ℕ → Bool) → List Event → ℕ → ℕ → Bool
+after_events Begins present events k i = present i || is_named events k i
+after_events Ends present events k i = present i && not (is_named events k i)
 
 -- laws of tests
 or_assoc : (a b c : Bool) → ((a || b) || c) ≡ (a || (b || c))
@@ -44,12 +44,10 @@ and_not_or true false c = refl
 and_not_or false b c = refl
 
 -- one event more
-pub with_events-more : (present : ℕ → Bool) (events : List Event) (k : ℕ) → with_piece (with_events present events k) (event_at events k).piece ≡ with_events present events (k + 1)
-with_events-more present events k = rw add-one (fun_ext (λ i. or_assoc (present i) (is_named events k i) (i == (event_at events k).piece)))
-
-pub without_events-more :
-    (present : ℕ → Bool) (events : List Event) (k : ℕ) → without_piece (without_events present events k) (event_at events k).piece ≡ without_events present events (k + 1)
-without_events-more present events k = rw add-one (fun_ext (λ i. and_not_or (present i) (is_named events k i) (i == (event_at events k).piece)))
+pub after_events-more : (step : Step) (present : ℕ → Bool) (events : List Event) (k : ℕ)
+    → moved step (after_events step present events k) (event_at events k).piece ≡ after_events step present events (k + 1)
+after_events-more Begins present events k = rw add-one (fun_ext (λ i. or_assoc (present i) (is_named events k i) (i == (event_at events k).piece)))
+after_events-more Ends present events k = rw add-one (fun_ext (λ i. and_not_or (present i) (is_named events k i) (i == (event_at events k).piece)))
 
 or_false : (a : Bool) → a ≡ (a || false)
 or_false true = refl
@@ -59,11 +57,9 @@ and_true : (a : Bool) → a ≡ (a && not false)
 and_true true = refl
 and_true false = refl
 
-pub with_events-none : (present : ℕ → Bool) (events : List Event) → present ≡ with_events present events 0
-with_events-none present events = fun_ext (λ i. or_false (present i))
-
-pub without_events-none : (present : ℕ → Bool) (events : List Event) → present ≡ without_events present events 0
-without_events-none present events = fun_ext (λ i. and_true (present i))
+pub after_events-none : (step : Step) (present : ℕ → Bool) (events : List Event) → present ≡ after_events step present events 0
+after_events-none Begins present events = fun_ext (λ i. or_false (present i))
+after_events-none Ends present events = fun_ext (λ i. and_true (present i))
 
 -- events in order rise
 pub IsNonDecreasingBy-before : (events : List Event) → AllPairs IsBefore events → IsNonDecreasingBy (λ event. event.line) events
@@ -241,23 +237,6 @@ met_above : (o : Option Piece) (line : ℕ)
 met_above None line = refl
 met_above (Some piece) line = grind (arith, nat_tests)
 
--- where pieces begin, those join that have squares in the row below, and these are the pieces that the line meets
-pub is_met-begun :
-    (pieces : List Piece) (line : ℕ) (events : List Event) (reached : ℕ) → AreLegal pieces → AreEvents bottom_of line pieces events → reached ≤ length events
-    → ((j : ℕ) → j < reached → (event_at events j).line ≤ line) → ((j : ℕ) → reached ≤ j → j < length events → line < (event_at events j).line)
-    → with_events (is_below pieces line) events reached ≡ is_met pieces line
-is_met-begun pieces line events reached legal are within front back = fun_ext (λ i.
-    rw (named_is bottom_of line pieces events reached are within front back i)
-    (met_below (slice_get pieces i) line (IsSomeOr-all pieces i (λ piece. piece.rect.bottom < piece.rect.top) (λ k d inside. (legal k d inside).tall))))
-
--- where pieces end, they leave those that the line meets, and the rest have squares in the row above
-pub is_above-ended :
-    (pieces : List Piece) (line : ℕ) (events : List Event) (reached : ℕ) → AreEvents top_of line pieces events → reached ≤ length events
-    → ((j : ℕ) → j < reached → (event_at events j).line ≤ line) → ((j : ℕ) → reached ≤ j → j < length events → line < (event_at events j).line)
-    → without_events (is_met pieces line) events reached ≡ is_above pieces line
-is_above-ended pieces line events reached are within front back = fun_ext (λ i.
-    rw (named_is top_of line pieces events reached are within front back i) (met_above (slice_get pieces i) line))
-
 -- events from the line above a band's bottom line on are those from its top line on
 pub AreEvents-band :
     (line_of : Piece → ℕ) (bottom top : ℕ) (pieces : List Piece) (events : List Event) → bottom < top → All (λ piece. bottom < line_of piece → top ≤ line_of piece) pieces
@@ -330,10 +309,20 @@ IsPartedAt-point line events reached within parts =
       back = λ j after inside. leb-false _ line (parts.1 j d after inside);
     }
 
+-- where pieces begin, those join that have squares in the row below, and these are the pieces that the line meets. Where they end, they leave these
+pub after_events-all : (step : Step) (pieces : List Piece) (line : ℕ) (events : List Event) (reached : ℕ)
+    → AreLegal pieces → AreEvents (line_of step) line pieces events → IsPartedAt line events reached
+    → after_events step (present_before step pieces line) events reached ≡ present_after step pieces line
+after_events-all Begins pieces line events reached legal are parted = fun_ext (λ i.
+    rw (named_is bottom_of line pieces events reached are parted.within parted.front parted.back i)
+    (met_below (slice_get pieces i) line (IsSomeOr-all pieces i (λ piece. piece.rect.bottom < piece.rect.top) (λ k d inside. (legal k d inside).tall))))
+after_events-all Ends pieces line events reached legal are parted = fun_ext (λ i.
+    rw (named_is top_of line pieces events reached are parted.within parted.front parted.back i) (met_above (slice_get pieces i) line))
+
 -- a piece that begins at the line isn't present before its event
 pub begins_later :
     (pieces : List Piece) (line : ℕ) (events : List Event) (reached k : ℕ) → AreEvents bottom_of line pieces events → IsPartedAt line events reached → k < reached
-    → with_events (is_below pieces line) events k (event_at events k).piece ≡ false
+    → after_events Begins (is_below pieces line) events k (event_at events k).piece ≡ false
 begins_later pieces line events reached k are parted before =
     let i = (event_at events k).piece in
     let here = line_has bottom_of line pieces events reached are parted.within parted.front parted.back k before in

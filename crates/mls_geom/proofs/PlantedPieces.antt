@@ -9,16 +9,18 @@ use Rattle.std.proofs.lemmas.Option.{slice_get-get_or, slice_get_cases, slice_ge
 use Rattle.mls_geom.specs.Rects.{holds}
 use Rattle.mls_geom.specs.Locality.{HaveKinds, laid, uncovered}
 use Rattle.mls_geom.specs.Sweep.ActivePieces.{HasPiece}
-use Rattle.mls_geom.specs.Sweep.Events.{AreEvents, ArePlanted, HaveChangedTops, IsPlanted, is_above, is_below, is_met, top_of}
+use Rattle.mls_geom.specs.Sweep.Events.{AreEvents, ArePlanted, HaveChangedTops, IsNext, IsPlanted, is_above, is_below, is_met, line_of, present_before, top_of}
 use Rattle.mls_geom.specs.Sweep.KeptRows.{HaveChanges, ShowsRow, kind_if_covered}
 use Rattle.mls_geom.specs.Sweep.Trees.{EndsFirst, end_of, IsTop, has_slot, kind_of, kind_shown, none, segment_at, span_of}
 use Rattle.mls_geom.specs.World.{AreLegal, world}
+use Rattle.mls_geom.specs.declared.chain.Step.{Step}
+use Rattle.mls_geom.specs.declared.chain.Step.TheVariants.{Begins, Ends}
 use Rattle.mls_geom.specs.declared.events.Event.{Event}
 use Rattle.mls_geom.specs.declared.part.Span.{Span}
 use Rattle.mls_geom.specs.declared.piece.Piece.{Piece}
 use Rattle.mls_geom.specs.declared.segment.Segment.{Segment}
 use Rattle.mls_geom.proofs.CutLines.{holds-indices}
-use Rattle.mls_geom.proofs.EventSteps.{IsPartedAt, comes_later, event_at, is_below-bottom, is_below-next, is_named, line_has, piece_known, without_events}
+use Rattle.mls_geom.proofs.EventSteps.{IsPartedAt, after_events, begins_later, comes_later, event_at, is_below-bottom, is_below-next, is_named, line_has, piece_known}
 use Rattle.mls_geom.proofs.ListLemmas.{IsSomeAnd-const, IsSomeAnd-from_option_map_or, IsSomeAnd-weaker, within-from_IsSomeAnd}
 use Rattle.mls_geom.proofs.Overlays.{overlaid_last, overlaid_outside}
 use Rattle.mls_geom.proofs.TopPieces.{and_first, and_second, one_less, some_top}
@@ -179,10 +181,10 @@ AreFirstPlanted-push lines pieces n segments piece segment within at is so_far =
     }
 
 -- of the pieces that the line meets, and that aren't gone, the next to end ends first
-pub EndsFirst-event :
+EndsFirst-event :
     (lines : List ℕ) (pieces : List Piece) (segments : List Segment) (line : ℕ) (events : List Event) (reached k : ℕ) → ArePlanted lines pieces segments
     → AreEvents top_of line pieces events → IsPartedAt line events reached → k < reached
-    → EndsFirst segments (without_events (is_met pieces line) events k) (event_at events k).piece
+    → EndsFirst segments (after_events Ends (is_met pieces line) events k) (event_at events k).piece
 EndsFirst-event lines pieces segments line events reached k planted are parted before i held other =
     let d : Piece = record { rect = record { left = 0; bottom = 0; right = 0; top = 0 }; kind = 0 } in
     let piece = (event_at events k).piece in
@@ -201,6 +203,13 @@ EndsFirst-event lines pieces segments line events reached k planted are parted b
           inr (omega (arith, ends, end', same), comes_later top_of line pieces events reached are parted.within parted.front parted.back k i before waits other at)
       | inr later ↦ inl (omega (arith, ends, end', from, later))
     ]
+
+-- so the piece of each event is the next to begin or end
+pub IsNext-event : (step : Step) (lines : List ℕ) (pieces : List Piece) (segments : List Segment) (line : ℕ) (events : List Event) (reached k : ℕ)
+    → ArePlanted lines pieces segments → AreEvents (line_of step) line pieces events → IsPartedAt line events reached → k < reached
+    → IsNext step segments (after_events step (present_before step pieces line) events k) (event_at events k).piece
+IsNext-event Begins lines pieces segments line events reached k planted are parted before = begins_later pieces line events reached k are parted before
+IsNext-event Ends lines pieces segments line events reached k planted are parted before = EndsFirst-event lines pieces segments line events reached k planted are parted before
 
 -- a line that is listed is found
 pub some_found : (found : Option ℕ) (P : Type 0) → IfNone found (¬ P) → P → IsSome found

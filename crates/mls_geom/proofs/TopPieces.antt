@@ -122,26 +122,16 @@ pub HaveChangedTops-none : (marks : List Span) (segments : List Segment) (presen
 HaveChangedTops-none marks segments present s rank _ top = top
 
 -- what lies on top once one piece more is present, and its slots are marked where it may show
-pub HaveChangedTops-with :
-    (segments other : List Segment) (old present next : ℕ → Bool) (piece : ℕ) (marks more : List Span) → other ≡ segments
-    → ((s : ℕ) → IsMarked marks s → IsMarked more s) → with_piece present piece ≡ next
-    → ((s rank : ℕ) → has_slot (span_of other piece) s ≡ true → ¬ (IsMarked more s) → IsTop other (with_piece present piece) s rank → piece + 1 < rank)
-    → HaveChangedTops marks segments old present → HaveChangedTops more segments old next
-HaveChangedTops-with segments other old present next piece marks more same kept is hidden so_far s rank bare top =
-    let hidden' = rw same at hidden in
-    subst (λ p. IsTop segments p s rank) is
-    (IsTop-with segments present piece s rank (λ rank' has top'. hidden' s rank' has bare top') (so_far s rank (λ marked. bare (kept s marked)) top))
+pub HaveChangedTops-with : (marks : List Span) (segments : List Segment) (present : ℕ → Bool) (piece : ℕ)
+    → ((s rank : ℕ) → has_slot (span_of segments piece) s ≡ true → ¬ (IsMarked marks s) → IsTop segments (with_piece present piece) s rank → piece + 1 < rank)
+    → HaveChangedTops marks segments present (with_piece present piece)
+HaveChangedTops-with marks segments present piece hidden s rank bare top = IsTop-with segments present piece s rank (λ other has above. hidden s other has bare above) top
 
 -- and once one is absent
-pub HaveChangedTops-without :
-    (segments other : List Segment) (old present next : ℕ → Bool) (piece : ℕ) (marks more : List Span) → other ≡ segments
-    → ((s : ℕ) → IsMarked marks s → IsMarked more s) → without_piece present piece ≡ next
-    → ((s rank : ℕ) → has_slot (span_of other piece) s ≡ true → ¬ (IsMarked more s) → IsTop other present s rank → piece + 1 < rank)
-    → HaveChangedTops marks segments old present → HaveChangedTops more segments old next
-HaveChangedTops-without segments other old present next piece marks more same kept is hidden so_far s rank bare top =
-    let hidden' = rw same at hidden in
-    let top' = so_far s rank (λ marked. bare (kept s marked)) top in
-    subst (λ p. IsTop segments p s rank) is (IsTop-without segments present piece s rank (λ has. hidden' s rank has bare top') top')
+pub HaveChangedTops-without : (marks : List Span) (segments : List Segment) (present : ℕ → Bool) (piece : ℕ)
+    → ((s rank : ℕ) → has_slot (span_of segments piece) s ≡ true → ¬ (IsMarked marks s) → IsTop segments present s rank → piece + 1 < rank)
+    → HaveChangedTops marks segments present (without_piece present piece)
+HaveChangedTops-without marks segments present piece hidden s rank bare top = IsTop-without segments present piece s rank (λ has. hidden s rank has bare top) top
 
 -- changes follow each other
 pub HaveChangedTops-then :

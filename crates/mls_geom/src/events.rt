@@ -6,7 +6,7 @@ ghost use Rattle.mls_geom.specs.Sweep.Events.{AreEvents, IsBefore, line_of};
 ghost use Rattle.mls_geom.specs.World.{world};
 
 use crate::Piece;
-use crate::chain::GaveUp;
+use crate::chain::{GaveUp, Step};
 
 /// A piece, and the line at which it begins or ends.
 #[derive(Clone, Copy)]
@@ -15,23 +15,16 @@ pub(crate) struct Event {
     pub(crate) piece: u32,
 }
 
-/// Where a piece begins, or where it ends.
-#[derive(Clone, Copy)]
-pub(crate) enum Edge {
-    Bottom,
-    Top,
-}
-
-impl Edge {
-    /// Returns the line of a piece's edge.
+impl Step {
+    /// Returns the line at which a piece does this.
     fn line(self, piece: &Piece) -> u32
         ensures line { result ≡ line_of self piece.now }
         ensures in_world { world.bottom ≤ result }
     {
         let edges = piece.rect.area();
         match self {
-            Edge::Bottom => edges.bottom,
-            Edge::Top => edges.top,
+            Step::Begins => edges.bottom,
+            Step::Ends => edges.top,
         }
     }
 }
@@ -80,14 +73,14 @@ fn add_event(events: &mut Vec<Event>, line: u32, piece: usize) -> Result<(), Gav
 /// Lists where the pieces begin, or where they end, in order.
 pub(crate) fn list_events(
     pieces: &[Piece],
-    edge: Edge,
+    step: Step,
     events: &mut Vec<Event>,
 ) -> Result<(), GaveUp>
-    ensures { OnOk result (AreEvents (line_of edge) world.bottom pieces.now events.new.items) }
+    ensures { OnOk result (AreEvents (line_of step) world.bottom pieces.now events.new.items) }
 {
     events.clear();
     for (i, piece) in pieces.iter().enumerate() {
-        add_event(events, edge.line(piece), i)?;
+        add_event(events, step.line(piece), i)?;
     }
     put_in_order(events)
 }

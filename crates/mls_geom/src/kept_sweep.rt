@@ -3,7 +3,7 @@ ghost use Rattle.std.specs.Prelude.{◌≡◌, ℕ, ◌+◌, ◌<◌, ◌≤◌,
 ghost use Rattle.std.specs.List.{All};
 ghost use Rattle.mls_geom.specs.Locality.{AreCoveredStrips, HaveKinds, covered_count, laid};
 ghost use Rattle.mls_geom.specs.Sweep.BandLines.{AreBandLines};
-ghost use Rattle.mls_geom.specs.Sweep.Events.{AreEvents, ArePlanted, AwaitEnds, AwaitStarts, HaveChangedTops, bottom_of, is_above, is_below, is_met, top_of};
+ghost use Rattle.mls_geom.specs.Sweep.Events.{AreEvents, ArePlanted, Awaits, HaveChangedTops, IsNext, bottom_of, line_of, moved, present_after, present_before, top_of};
 ghost use Rattle.mls_geom.specs.Sweep.KeptRows.{AreMarks, IsKept, IsMarked};
 ghost use Rattle.mls_geom.specs.Sweep.Slots.{AreCuts, IsBetweenLines};
 ghost use Rattle.mls_geom.specs.Sweep.Trees.{IsTop, IsTree, has_slot, none, span_of};
@@ -13,9 +13,9 @@ ghost use Rattle.mls_geom.specs.declared.stopped.Stopped.TheVariants.{TooMany};
 
 use crate::Piece;
 use crate::bands::list_band_lines;
-use crate::chain::GaveUp;
+use crate::chain::{GaveUp, Step};
 use crate::crossings::are_deep;
-use crate::events::{Edge, Event, list_events};
+use crate::events::{Event, list_events};
 use crate::kept_row::KeptRow;
 use crate::lines::find_line;
 use crate::part::Span;
@@ -86,59 +86,57 @@ fn mark(tree: &Tree, piece: u32, marks: &mut Vec<Span>) -> Result<(), GaveUp>
     Ok(())
 }
 
-/// Puts the pieces on the tree that begin at the line, and marks where they show. Returns the events further up.
-fn begin_pieces<'a>(
-    starts: &'a [Event],
-    line: u32,
-    tree: &mut Tree,
-    marks: &mut Vec<Span>,
-) -> Result<&'a [Event], GaveUp>
-    requires tree { (lines : List ℕ) × (pieces : List Piece) × AwaitStarts lines pieces line starts.now tree.old }
-    ensures tree { OnOk result ((lines : List ℕ) (pieces : List Piece) → AwaitStarts lines pieces line starts.now tree.old
-        → IsTree tree.new (is_met pieces line)) }
-    ensures tops { OnOk result ((lines : List ℕ) (pieces : List Piece) → AwaitStarts lines pieces line starts.now tree.old
-        → HaveChangedTops marks.new.items tree.new.segments.items (is_below pieces line) (is_met pieces line)) }
-    ensures rest { IfOk result (λ rest. (lines : List ℕ) (pieces : List Piece) → AwaitStarts lines pieces line starts.now tree.old
-        → AreEvents bottom_of (line + 1) pieces rest.now) }
-    ensures marks { (lines : List ℕ) (pieces : List Piece) → AwaitStarts lines pieces line starts.now tree.old
+/// Puts a piece on the tree that begins, or takes one from it that ends, and marks where it shows.
+fn move_piece(piece: u32, step: Step, tree: &mut Tree, marks: &mut Vec<Span>) -> Result<(), GaveUp>
+    requires known { piece < length tree.old.segments.items }
+    requires tree { (present : ℕ → Bool) × IsTree tree.old present × IsNext step tree.old.segments.items present piece }
+    ensures tree { OnOk result ((present : ℕ → Bool) → IsTree tree.old present → IsNext step tree.old.segments.items present piece
+        → IsTree tree.new (moved step present piece)) }
+    ensures tops { OnOk result ((present : ℕ → Bool) → IsTree tree.old present → IsNext step tree.old.segments.items present piece
+        → HaveChangedTops marks.new.items tree.old.segments.items present (moved step present piece)) }
+    ensures more { (s : ℕ) → IsMarked marks.old.items s → IsMarked marks.new.items s }
+    ensures marks { (lines : List ℕ) → (span_of tree.old.segments.items piece).end < length lines
         → AreMarks lines marks.old.items → AreMarks lines marks.new.items }
     ensures segments { tree.new.segments ≡ tree.old.segments }
     ensures width { tree.new.width ≡ tree.old.width }
 {
-    let reached = starts.partition_point(|start| start.line <= line);
-    let (started, rest) = starts.split_at(reached);
-    for start in started {
-        tree.put(start.piece)?;
-        mark(tree, start.piece, marks)?;
+    match step {
+        Step::Begins => {
+            tree.put(piece)?;
+            mark(tree, piece, marks)
+        }
+        Step::Ends => {
+            mark(tree, piece, marks)?;
+            tree.take(piece)
+        }
     }
-    Ok(rest)
 }
 
-/// Marks where the pieces show that end at the line, and takes them from the tree. Returns the events further up.
-fn end_pieces<'a>(
-    ends: &'a [Event],
+/// Moves the pieces that begin at the line, or those that end there. Returns the events further up.
+fn move_pieces<'a>(
+    events: &'a [Event],
     line: u32,
+    step: Step,
     tree: &mut Tree,
     marks: &mut Vec<Span>,
 ) -> Result<&'a [Event], GaveUp>
-    requires tree { (lines : List ℕ) × (pieces : List Piece) × AwaitEnds lines pieces line ends.now tree.old }
-    ensures tree { OnOk result ((lines : List ℕ) (pieces : List Piece) → AwaitEnds lines pieces line ends.now tree.old
-        → IsTree tree.new (is_above pieces line)) }
-    ensures tops { OnOk result ((lines : List ℕ) (pieces : List Piece) → AwaitEnds lines pieces line ends.now tree.old
-        → HaveChangedTops marks.new.items tree.new.segments.items (is_met pieces line) (is_above pieces line)) }
-    ensures rest { IfOk result (λ rest. (lines : List ℕ) (pieces : List Piece) → AwaitEnds lines pieces line ends.now tree.old
-        → AreEvents top_of (line + 1) pieces rest.now) }
+    requires tree { (lines : List ℕ) × (pieces : List Piece) × Awaits step lines pieces line events.now tree.old }
+    ensures tree { OnOk result ((lines : List ℕ) (pieces : List Piece) → Awaits step lines pieces line events.now tree.old
+        → IsTree tree.new (present_after step pieces line)) }
+    ensures tops { OnOk result ((lines : List ℕ) (pieces : List Piece) → Awaits step lines pieces line events.now tree.old
+        → HaveChangedTops marks.new.items tree.old.segments.items (present_before step pieces line) (present_after step pieces line)) }
+    ensures rest { IfOk result (λ rest. (lines : List ℕ) (pieces : List Piece) → Awaits step lines pieces line events.now tree.old
+        → AreEvents (line_of step) (line + 1) pieces rest.now) }
     ensures more { (s : ℕ) → IsMarked marks.old.items s → IsMarked marks.new.items s }
-    ensures marks { (lines : List ℕ) (pieces : List Piece) → AwaitEnds lines pieces line ends.now tree.old
+    ensures marks { (lines : List ℕ) (pieces : List Piece) → Awaits step lines pieces line events.now tree.old
         → AreMarks lines marks.old.items → AreMarks lines marks.new.items }
     ensures segments { tree.new.segments ≡ tree.old.segments }
     ensures width { tree.new.width ≡ tree.old.width }
 {
-    let reached = ends.partition_point(|end| end.line <= line);
-    let (ended, rest) = ends.split_at(reached);
-    for end in ended {
-        mark(tree, end.piece, marks)?;
-        tree.take(end.piece)?;
+    let reached = events.partition_point(|event| event.line <= line);
+    let (first, rest) = events.split_at(reached);
+    for event in first {
+        move_piece(event.piece, step, tree, marks)?;
     }
     Ok(rest)
 }
@@ -178,8 +176,8 @@ impl KeptSweep {
         if !are_deep(&self.lines, pieces) {
             return Err(GaveUp);
         }
-        list_events(pieces, Edge::Bottom, &mut self.starts)?;
-        list_events(pieces, Edge::Top, &mut self.ends)
+        list_events(pieces, Step::Begins, &mut self.starts)?;
+        list_events(pieces, Step::Ends, &mut self.ends)
     }
 
     /// Changes the row at the line of each band, from the bottom up.
@@ -211,8 +209,8 @@ impl KeptSweep {
         let mut to_end = ends.as_slice();
         for i in 1..lines.len() {
             let line = lines[i - 1];
-            to_begin = begin_pieces(to_begin, line, tree, &mut row.marks)?;
-            to_end = end_pieces(to_end, line, tree, &mut row.marks)?;
+            to_begin = move_pieces(to_begin, line, Step::Begins, tree, &mut row.marks)?;
+            to_end = move_pieces(to_end, line, Step::Ends, tree, &mut row.marks)?;
             row.change(tree, line, limit)?;
         }
         Ok(())

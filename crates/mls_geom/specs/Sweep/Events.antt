@@ -4,10 +4,10 @@ use Rattle.std.specs.List.{All, AllPairs, Contains}
 use Rattle.std.specs.Option.{option_map_or}
 use Rattle.mls_geom.specs.Sweep.ActivePieces.{HasPiece}
 use Rattle.mls_geom.specs.Sweep.KeptRows.{IsMarked}
-use Rattle.mls_geom.specs.Sweep.Trees.{IsTop, IsTree, segment_at}
+use Rattle.mls_geom.specs.Sweep.Trees.{EndsFirst, IsTop, IsTree, segment_at, with_piece, without_piece}
 use Rattle.mls_geom.specs.World.{AreLegal}
-use Rattle.mls_geom.specs.declared.events.Edge.{Edge}
-use Rattle.mls_geom.specs.declared.events.Edge.TheVariants.{Bottom, Top}
+use Rattle.mls_geom.specs.declared.chain.Step.{Step}
+use Rattle.mls_geom.specs.declared.chain.Step.TheVariants.{Begins, Ends}
 use Rattle.mls_geom.specs.declared.events.Event.{Event}
 use Rattle.mls_geom.specs.declared.piece.Piece.{Piece}
 use Rattle.mls_geom.specs.declared.part.Span.{Span}
@@ -35,9 +35,9 @@ bottom_of piece = piece.rect.bottom
 abbrev pub top_of : Piece → ℕ
 top_of piece = piece.rect.top
 
-abbrev pub line_of : Edge → Piece → ℕ
-line_of Bottom = bottom_of
-line_of Top = top_of
+abbrev pub line_of : Step → Piece → ℕ
+line_of Begins = bottom_of
+line_of Ends = top_of
 
 -- the piece has squares in the row below the line
 abbrev pub is_below : List Piece → ℕ → ℕ → Bool
@@ -50,6 +50,25 @@ is_above pieces y i = option_map_or (λ piece. nat_le piece.rect.bottom y && nat
 -- the line meets the piece: its bottom line, its top line or one between them
 abbrev pub is_met : List Piece → ℕ → ℕ → Bool
 is_met pieces y i = option_map_or (λ piece. nat_le piece.rect.bottom y && nat_le y piece.rect.top) (slice_get pieces i) false
+
+-- the pieces that are present at a line before all steps of a kind, and after them: those that begin there do so before any ends
+abbrev pub present_before : Step → List Piece → ℕ → ℕ → Bool
+present_before Begins = is_below
+present_before Ends = is_met
+
+abbrev pub present_after : Step → List Piece → ℕ → ℕ → Bool
+present_after Begins = is_met
+present_after Ends = is_above
+
+-- the present pieces once one begins or ends
+abbrev pub moved : Step → (ℕ → Bool) → ℕ → ℕ → Bool
+moved Begins present piece = with_piece present piece
+moved Ends present piece = without_piece present piece
+
+-- a piece begins that isn't present, and ends before the others
+abbrev pub IsNext : Step → List Segment → (ℕ → Bool) → ℕ → Type 0
+IsNext Begins segments present piece = present piece ≡ false
+IsNext Ends segments present piece = EndsFirst segments present piece
 
 -- the segment is the piece, between these lines of columns
 pub record IsPlanted (lines : List ℕ) (piece : Piece) (segment : Segment) : Type 0 where
@@ -65,18 +84,12 @@ pub record ArePlanted (lines : List ℕ) (pieces : List Piece) (segments : List 
   pub count : length segments ≡ length pieces
   pub each : (i : ℕ) → i < length pieces → HasPiece pieces (λ piece. IsPlanted lines piece (segment_at segments i)) i
 
--- the tree has the pieces that have squares in the row below the line, and the events are those where pieces begin from the line on
-pub record AwaitStarts (lines : List ℕ) (pieces : List Piece) (line : ℕ) (events : List Event) (tree : Tree) : Type 0 where
+-- the tree has the pieces that are present before the steps at the line, and the events are these steps from the line on
+pub record Awaits (step : Step) (lines : List ℕ) (pieces : List Piece) (line : ℕ) (events : List Event) (tree : Tree) : Type 0 where
   pub legal : AreLegal pieces
   pub planted : ArePlanted lines pieces tree.segments.items
-  pub starts : AreEvents bottom_of line pieces events
-  pub present : IsTree tree (is_below pieces line)
-
--- the tree has the pieces that the line meets, and the events are those where pieces end from the line on
-pub record AwaitEnds (lines : List ℕ) (pieces : List Piece) (line : ℕ) (events : List Event) (tree : Tree) : Type 0 where
-  pub planted : ArePlanted lines pieces tree.segments.items
-  pub ends : AreEvents top_of line pieces events
-  pub present : IsTree tree (is_met pieces line)
+  pub steps : AreEvents (line_of step) line pieces events
+  pub present : IsTree tree (present_before step pieces line)
 
 -- the marks have each slot whose topmost piece is another one of these pieces than of those
 abbrev pub HaveChangedTops : List Span → List Segment → (ℕ → Bool) → (ℕ → Bool) → Type 0

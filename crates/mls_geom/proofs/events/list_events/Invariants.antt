@@ -4,4 +4,4 @@ use Rattle.mls_geom.proofs.EventLists.{AreListed}
 use Rattle.mls_geom.proofs.events.list_events.Given as goal
 
 abbrev pub invariant-loop-i : goal.invariant-loop-i
-invariant-loop-i l = AreListed (line_of l.edge) world.bottom l.pieces l.i l.events.items
+invariant-loop-i l = AreListed (line_of l.step) world.bottom l.pieces l.i l.events.items

@@ -3,17 +3,18 @@ use Rattle.std.proofs.Common.{◌≡◌, ◌+◌, ◌-◌, ◌≤◌, Err, Vec, 
 use Rattle.std.proofs.lemmas.List.{get_or_read}
 use Rattle.std.proofs.lemmas.Result.{err_from_is_err_and}
 use Rattle.mls_geom.specs.Locality.{laid}
-use Rattle.mls_geom.specs.Sweep.Events.{ArePlanted, AwaitEnds, AwaitStarts, HaveChangedTops, bottom_of, is_above, is_below, is_met, top_of}
+use Rattle.mls_geom.specs.Sweep.Events.{ArePlanted, Awaits, HaveChangedTops, bottom_of, is_above, is_below, is_met, top_of}
 use Rattle.mls_geom.specs.Sweep.KeptRows.{AreMarks, HaveChanges, IsKept, ShowsRow}
 use Rattle.mls_geom.specs.Sweep.Trees.{IsTree}
 use Rattle.mls_geom.specs.World.{world}
+use Rattle.mls_geom.specs.declared.chain.Step.TheVariants.{Begins, Ends}
 use Rattle.mls_geom.specs.declared.segment.Segment.{Segment}
 use Rattle.mls_geom.specs.declared.stopped.Stopped.TheVariants.{TooMany}
 use Rattle.mls_geom.proofs.BandLines.{IsBand-lines, IsLineOf-lines, first_line, last_line}
 use Rattle.mls_geom.proofs.BandRows.{AreAlike-band, IsBand}
 use Rattle.mls_geom.proofs.CornerCounts.{covered_count_up_to_grows}
 use Rattle.mls_geom.proofs.EventSteps.{AreEvents-band, is_below-band, is_below-bottom}
-use Rattle.mls_geom.proofs.KeptBands.{awaits_ends, awaits_starts, gave_up}
+use Rattle.mls_geom.proofs.KeptBands.{awaits, gave_up}
 use Rattle.mls_geom.proofs.PlantedPieces.{HaveChanges-planted, ShowsRow-planted}
 use Rattle.mls_geom.proofs.TopPieces.{HaveChangedTops-then}
 use Rattle.mls_geom.proofs.kept_sweep.KeptSweep.sweep_bands.Goals as goal
@@ -35,18 +36,18 @@ loop-i-init c =
       within = omega (arith, ap length c.requires.strips);
     }
 
-pub end_pieces-requires : goal.end_pieces-requires
-end_pieces-requires c =
+pub move_pieces-requires-in-loop-i : goal.move_pieces-requires-in-loop-i
+move_pieces-requires-in-loop-i c =
     let pieces = c.args.pieces.now in
     let lines = c.args.self.now.row.lines.items in
     let is = get_or_read c.args.self.now.lines.items (c.loop-i.i - 1) _ (omega arith) c.index-line.ensures 0 in
     let so_far = c.loop-i.invariant in
-    let starts = awaits_starts lines pieces _ _ c.loop-i.to_begin.now c.loop-i.tree c.args.self.now.tree.segments is c.requires.legal c.requires.planted so_far.segments so_far.begin so_far.tree in
+    let starts = awaits Begins lines pieces _ _ c.loop-i.to_begin.now c.loop-i.tree c.args.self.now.tree.segments is c.requires.legal c.requires.planted so_far.segments so_far.begin (rw is so_far.tree) in
     record {
       tree = (
         lines,
         pieces,
-        awaits_ends lines pieces _ _ c.loop-i.to_end.now c.begin_pieces.new.tree c.args.self.now.tree.segments is c.requires.planted (c.begin_pieces.ensures.segments ∙ so_far.segments) so_far.end
+        awaits Ends lines pieces _ _ c.loop-i.to_end.now c.move_pieces.new.tree c.args.self.now.tree.segments is c.requires.legal c.requires.planted (c.move_pieces.ensures.segments ∙ so_far.segments) so_far.end
             (c.in_ok-to_begin.ensures.tree lines pieces starts),
       );
     }
@@ -74,19 +75,19 @@ top_within c = (IsLineOf-lines world c.args.pieces.now c.args.self.now.lines.ite
 bottom_within : (c : In_ok-to_end) → world.bottom ≤ c.index-line.result.now
 bottom_within c = rw (line_is c) (IsLineOf-lines world c.args.pieces.now c.args.self.now.lines.items c.requires.lines (c.loop-i.i - 1) (omega arith)).0
 
-starts : (c : In_ok-to_end) → AwaitStarts c.args.self.now.row.lines.items c.args.pieces.now c.index-line.result.now c.loop-i.to_begin.now c.loop-i.tree
+starts : (c : In_ok-to_end) → Awaits Begins c.args.self.now.row.lines.items c.args.pieces.now c.index-line.result.now c.loop-i.to_begin.now c.loop-i.tree
 starts c =
     let so_far = c.loop-i.invariant in
-    awaits_starts c.args.self.now.row.lines.items c.args.pieces.now _ _ c.loop-i.to_begin.now c.loop-i.tree c.args.self.now.tree.segments (line_is c) c.requires.legal c.requires.planted
-    so_far.segments so_far.begin so_far.tree
+    awaits Begins c.args.self.now.row.lines.items c.args.pieces.now _ _ c.loop-i.to_begin.now c.loop-i.tree c.args.self.now.tree.segments (line_is c) c.requires.legal c.requires.planted
+    so_far.segments so_far.begin (rw (line_is c) so_far.tree)
 
 -- the ends that wait once pieces have begun
-ends : (c : In_ok-to_end) → AwaitEnds c.args.self.now.row.lines.items c.args.pieces.now c.index-line.result.now c.loop-i.to_end.now c.begin_pieces.new.tree
+ends : (c : In_ok-to_end) → Awaits Ends c.args.self.now.row.lines.items c.args.pieces.now c.index-line.result.now c.loop-i.to_end.now c.move_pieces.new.tree
 ends c =
     let lines = c.args.self.now.row.lines.items in
     let pieces = c.args.pieces.now in
-    awaits_ends lines pieces _ _ c.loop-i.to_end.now c.begin_pieces.new.tree c.args.self.now.tree.segments (line_is c) c.requires.planted
-    (c.begin_pieces.ensures.segments ∙ c.loop-i.invariant.segments) c.loop-i.invariant.end (c.in_ok-to_begin.ensures.tree lines pieces (starts c))
+    awaits Ends lines pieces _ _ c.loop-i.to_end.now c.move_pieces.new.tree c.args.self.now.tree.segments (line_is c) c.requires.legal c.requires.planted
+    (c.move_pieces.ensures.segments ∙ c.loop-i.invariant.segments) c.loop-i.invariant.end (c.in_ok-to_begin.ensures.tree lines pieces (starts c))
 
 pub change-requires-clause-marks : goal.change-requires-clause-marks
 change-requires-clause-marks c =
@@ -94,39 +95,40 @@ change-requires-clause-marks c =
     let lines = c.args.self.now.row.lines.items in
     let pieces = c.args.pieces.now in
     let none : AreMarks lines c.loop-i.row.marks.items = rw c.loop-i.invariant.marks (λ k d within. absurd (omega arith)) in
-    rw c.loop-i.invariant.lines (c.end_pieces.ensures.marks lines pieces (ends d) (c.begin_pieces.ensures.marks lines pieces (starts d) none))
+    rw c.loop-i.invariant.lines (c.move_pieces-in-loop-i.ensures.marks lines pieces (ends d) (c.move_pieces.ensures.marks lines pieces (starts d) none))
 
 -- the tree's segments are still the pieces
-planted : (c : In_ok-to_end) → ArePlanted c.loop-i.row.lines.items c.args.pieces.now c.end_pieces.new.tree.segments.items
+planted : (c : In_ok-to_end) → ArePlanted c.loop-i.row.lines.items c.args.pieces.now c.move_pieces-in-loop-i.new.tree.segments.items
 planted c =
-    let same = c.end_pieces.ensures.segments ∙ c.begin_pieces.ensures.segments ∙ c.loop-i.invariant.segments in
+    let same = c.move_pieces-in-loop-i.ensures.segments ∙ c.move_pieces.ensures.segments ∙ c.loop-i.invariant.segments in
     rw (c.loop-i.invariant.lines, same) c.requires.planted
 
-shows : (c : In_ok-to_end) → ShowsRow c.end_pieces.new.tree.segments.items (is_above c.args.pieces.now c.index-line.result.now) c.loop-i.row.lines.items (laid c.args.pieces.now) c.index-line.result.now
-shows c = ShowsRow-planted c.loop-i.row.lines.items c.args.pieces.now c.end_pieces.new.tree.segments.items c.index-line.result.now (planted c)
+shows : (c : In_ok-to_end) → ShowsRow c.move_pieces-in-loop-i.new.tree.segments.items (is_above c.args.pieces.now c.index-line.result.now) c.loop-i.row.lines.items (laid c.args.pieces.now) c.index-line.result.now
+shows c = ShowsRow-planted c.loop-i.row.lines.items c.args.pieces.now c.move_pieces-in-loop-i.new.tree.segments.items c.index-line.result.now (planted c)
     (rw c.loop-i.invariant.lines c.requires.cuts.ascending) c.requires.kinds
 
 -- the row's strips, and the squares that change
 kept : (c : In_ok-to_end) → IsKept (laid c.args.pieces.now) c.index-line.result.now c.loop-i.row.strips.items c.loop-i.row.row.items
 kept c = rw (line_is c) c.loop-i.invariant.kept
 
-changed : (c : In_ok-to_end) → HaveChangedTops c.end_pieces.new.marks.items c.end_pieces.new.tree.segments.items (is_below c.args.pieces.now c.index-line.result.now) (is_above c.args.pieces.now c.index-line.result.now)
+changed : (c : In_ok-to_end) → HaveChangedTops c.move_pieces-in-loop-i.new.marks.items c.move_pieces-in-loop-i.new.tree.segments.items (is_below c.args.pieces.now c.index-line.result.now) (is_above c.args.pieces.now c.index-line.result.now)
 changed c =
     let lines = c.args.self.now.row.lines.items in
     let pieces = c.args.pieces.now in
     let line = c.index-line.result.now in
-    HaveChangedTops-then c.begin_pieces.new.marks.items c.end_pieces.new.marks.items c.end_pieces.new.tree.segments.items (is_below pieces line) (is_met pieces line) (is_above pieces line)
-    c.end_pieces.ensures.more
-    (subst (λ (v : Vec Segment Global). HaveChangedTops c.begin_pieces.new.marks.items v.items (is_below pieces line) (is_met pieces line)) (sym c.end_pieces.ensures.segments)
-    (c.in_ok-to_begin.ensures.tops lines pieces (starts c)))
-    (c.in_ok-to_end.ensures.tops lines pieces (ends c))
+    HaveChangedTops-then c.move_pieces.new.marks.items c.move_pieces-in-loop-i.new.marks.items c.move_pieces-in-loop-i.new.tree.segments.items (is_below pieces line) (is_met pieces line) (is_above pieces line)
+    c.move_pieces-in-loop-i.ensures.more
+    (subst (λ (v : Vec Segment Global). HaveChangedTops c.move_pieces.new.marks.items v.items (is_below pieces line) (is_met pieces line))
+    (sym (c.move_pieces-in-loop-i.ensures.segments ∙ c.move_pieces.ensures.segments)) (c.in_ok-to_begin.ensures.tops lines pieces (starts c)))
+    (subst (λ (v : Vec Segment Global). HaveChangedTops c.move_pieces-in-loop-i.new.marks.items v.items (is_met pieces line) (is_above pieces line))
+    (sym c.move_pieces-in-loop-i.ensures.segments) (c.in_ok-to_end.ensures.tops lines pieces (ends c)))
 
-changes : (c : In_ok-to_end) → HaveChanges c.loop-i.row.lines.items c.end_pieces.new.marks.items (laid c.args.pieces.now) c.index-line.result.now
-changes c = HaveChanges-planted c.loop-i.row.lines.items c.end_pieces.new.marks.items c.args.pieces.now c.end_pieces.new.tree.segments.items c.index-line.result.now (planted c)
+changes : (c : In_ok-to_end) → HaveChanges c.loop-i.row.lines.items c.move_pieces-in-loop-i.new.marks.items (laid c.args.pieces.now) c.index-line.result.now
+changes c = HaveChanges-planted c.loop-i.row.lines.items c.move_pieces-in-loop-i.new.marks.items c.args.pieces.now c.move_pieces-in-loop-i.new.tree.segments.items c.index-line.result.now (planted c)
     (rw c.loop-i.invariant.lines c.requires.cuts.ascending) c.requires.legal (bottom_within c) (changed c)
 
 -- what the tree then has
-above : (c : In_ok-to_end) → IsTree c.end_pieces.new.tree (is_above c.args.pieces.now c.index-line.result.now)
+above : (c : In_ok-to_end) → IsTree c.move_pieces-in-loop-i.new.tree (is_above c.args.pieces.now c.index-line.result.now)
 above c = c.in_ok-to_end.ensures.tree c.args.self.now.row.lines.items c.args.pieces.now (ends c)
 
 pub change-requires-clause-drawn : goal.change-requires-clause-drawn
@@ -153,8 +155,8 @@ loop-i-preserved c =
       tree = rw (next, is_below-band pieces _ _ (band d)) (above d);
       begin = rw next (AreEvents-band bottom_of _ _ pieces _ (band d).tall (λ k e within. ((band d).outside k e within).begin) (c.in_ok-to_begin.ensures.rest lines pieces (starts d)));
       end = rw next (AreEvents-band top_of _ _ pieces _ (band d).tall (λ k e within. ((band d).outside k e within).end) (c.in_ok-to_end.ensures.rest lines pieces (ends d)));
-      segments = c.end_pieces.ensures.segments ∙ c.begin_pieces.ensures.segments ∙ c.loop-i.invariant.segments;
-      width = c.end_pieces.ensures.width ∙ c.begin_pieces.ensures.width ∙ c.loop-i.invariant.width;
+      segments = c.move_pieces-in-loop-i.ensures.segments ∙ c.move_pieces.ensures.segments ∙ c.loop-i.invariant.segments;
+      width = c.move_pieces-in-loop-i.ensures.width ∙ c.move_pieces.ensures.width ∙ c.loop-i.invariant.width;
       lines = c.change.ensures.lines ∙ c.loop-i.invariant.lines;
       marks = c.in_ok-change.ensures.marks;
       kept = rw next (c.in_ok-change.ensures.kept (laid pieces) _ _ (above d) (kept d) (shows d) (changes d) (band d).tall (top_within d) (AreAlike-band world pieces _ _ (band d)));

@@ -1,0 +1,28 @@
+-- Where the piece is present it is marked: once it has begun, and before it ends.
+use Rattle.std.proofs.Common.{Vec, Global, subst}
+use Rattle.std.proofs.lemmas.Result.{on_ok_weaker}
+use Rattle.mls_geom.specs.Sweep.Events.{HaveChangedTops}
+use Rattle.mls_geom.specs.Sweep.Trees.{with_piece}
+use Rattle.mls_geom.specs.declared.segment.Segment.{Segment}
+use Rattle.mls_geom.proofs.TopPieces.{HaveChangedTops-with, HaveChangedTops-without}
+use Rattle.mls_geom.proofs.kept_sweep.move_piece.Goals as goal
+
+pub mark-requires-clause-tree : goal.mark-requires-clause-tree
+mark-requires-clause-tree c =
+    let (present, tree, next) = rw c.in-Begins.is at c.requires.tree in
+    (with_piece present c.args.piece, c.in_ok-put-in-Begins.ensures.tree present tree next)
+
+pub returns-in_ok-put-in-Begins-clause-tops : goal.returns-in_ok-put-in-Begins-clause-tops
+returns-in_ok-put-in-Begins-clause-tops c = rw c.in-Begins.is (on_ok_weaker c.mark.result
+    (λ hidden present tree next.
+    let with = with_piece present c.args.piece in
+    subst (λ (v : Vec Segment Global). HaveChangedTops c.mark.new.marks.items v.items present with) c.put.ensures.segments
+    (HaveChangedTops-with c.mark.new.marks.items c.put.new.self.segments.items present c.args.piece
+    (λ s rank. hidden with s rank (c.in_ok-put-in-Begins.ensures.tree present tree next))))
+    c.mark.ensures.hidden)
+
+pub returns-in_ok-mark-in-Ends-clause-tops : goal.returns-in_ok-mark-in-Ends-clause-tops
+returns-in_ok-mark-in-Ends-clause-tops c = rw c.in-Ends.is (on_ok_weaker c.take.result
+    (λ taken present tree next. HaveChangedTops-without c.mark-in-Ends.new.marks.items c.args.tree.now.segments.items present c.args.piece
+    (λ s rank. c.in_ok-mark-in-Ends.ensures.hidden present s rank tree))
+    c.take.ensures.tree)
