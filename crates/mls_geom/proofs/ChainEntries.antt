@@ -52,13 +52,19 @@ pub IsBegun-each : (P : ℕ → Type 0) (entries : List Entry) (node e : ℕ) (c
 IsBegun-each P entries node e chain begun each = (subst (Each P) begun.whole each).0
 
 -- so where a chain begins an entry stands, with such a piece
-pub IsChain-first :
+IsChain-first :
     (P : ℕ → Type 0) (entries : List Entry) (node : ℕ) (next : Option ℕ) (chain : List ℕ) → IsChain entries node next chain → Each P chain
     → IfSome next (λ e. (e < length entries) × P (entry_at entries e).piece)
 IsChain-first P entries node None chain chained each = record {}
 IsChain-first P entries node (Some e) chain chained each =
     let begun = IsBegun-chain entries node e chain chained in
     (begun.within, IsBegun-each P entries node e chain begun each)
+
+-- so it is where the chain's rest goes on
+pub IsChain-rest :
+    (P : ℕ → Type 0) (entries : List Entry) (node : ℕ) (next : Option ℕ) (front rest chain : List ℕ) → chain ≡ front ++ rest → IsChain entries node next rest → Each P chain
+    → IfSome next (λ e. (e < length entries) × P (entry_at entries e).piece)
+IsChain-rest P entries node next front rest chain whole under each = IsChain-first P entries node next rest under (Each-right P front rest (rw whole at each))
 
 -- and the entry is one of the list
 pub IsChain-within : (entries : List Entry) (node : ℕ) (next : Option ℕ) (chain : List ℕ) → IsChain entries node next chain → IfSome next (λ e. e < length entries)

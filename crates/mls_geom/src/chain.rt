@@ -1,6 +1,6 @@
 //! The chains of the nodes of a segment tree: which of the present pieces that have a node can lie on top there.
 ghost use Rattle.std.specs.Prelude.{◌≡◌, ◌≢◌, ℕ, ◌+◌, ◌^◌, ◌<◌, ◌≤◌, ◌++◌, IfOk, OnOk, OnErr, Option, Some, IfSome, IfNone, IsSomeAnd, IsTrue, IsFalse, List, [], ◌∷◌, length};
-ghost use Rattle.mls_geom.specs.Sweep.Chains.{Each, IsChain, IsFalling, IsSplitAt, StopsAt, entry_at, linked, outliving, rank_of, stepped, under_of, unlinked};
+ghost use Rattle.mls_geom.specs.Sweep.Chains.{Each, HasChain, IsChain, IsFalling, IsSplitAt, StopsAt, entry_at, linked, outliving, rank_of, stepped, under_of, unlinked};
 ghost use Rattle.mls_geom.specs.Sweep.Trees.{end_of};
 
 use crate::segment::Segment;
@@ -54,8 +54,7 @@ fn if_over(segments: &[Segment], entries: &[Entry], next: Option<u32>, piece: u3
 /// Returns the last entry of the chain from `head` on down to which all pieces lie over this one and end before it.
 fn last_over(segments: &[Segment], entries: &[Entry], head: Option<u32>, piece: u32) -> Option<u32>
     requires known { piece < length segments.now }
-    requires chain { (node : ℕ) × ((chain : List ℕ) × IsChain entries.now node head chain × IsFalling chain
-        × Each (λ piece. piece < length segments.now) chain) }
+    requires chain { (node : ℕ) × HasChain entries.now (length segments.now) node head }
     ensures split { (node : ℕ) (chain : List ℕ) → IsChain entries.now node head chain
         → IsSplitAt (end_of segments.now) piece entries.now node head chain result }
     ensures stops { StopsAt (end_of segments.now) piece entries.now (under_of entries.now head result) }
@@ -88,8 +87,7 @@ fn first_after(
     piece: u32,
 ) -> Option<u32>
     requires known { piece < length segments.now }
-    requires chain { (node : ℕ) × ((chain : List ℕ) × IsChain entries.now node head chain × IsFalling chain
-        × Each (λ piece. piece < length segments.now) chain) }
+    requires chain { (node : ℕ) × HasChain entries.now (length segments.now) node head }
     ensures { (node : ℕ) (chain : List ℕ) → IsChain entries.now node head chain
         → IsChain entries.now node result (outliving (end_of segments.now) piece chain) }
 {
@@ -138,8 +136,7 @@ fn link(
     piece: u32,
 ) -> Result<Option<u32>, GaveUp>
     requires known { piece < length segments.now }
-    requires chain { (chain : List ℕ) × IsChain entries.old.items node head chain × IsFalling chain
-        × Each (λ piece. piece < length segments.now) chain }
+    requires chain { HasChain entries.old.items (length segments.now) node head }
     ensures chain { (chain : List ℕ) → IsChain entries.old.items node head chain → IsFalling chain
         → IfOk result (λ head. IsChain entries.new.items node head (linked (end_of segments.now) piece chain)) }
     ensures others { (other : ℕ) (next : Option ℕ) (chain : List ℕ) → other ≢ node
@@ -180,8 +177,7 @@ pub(crate) fn change(
     step: Step,
 ) -> Result<Option<u32>, GaveUp>
     requires known { piece < length segments.now }
-    requires chain { (chain : List ℕ) × IsChain entries.old.items node head chain × IsFalling chain
-        × Each (λ piece. piece < length segments.now) chain }
+    requires chain { HasChain entries.old.items (length segments.now) node head }
     ensures chain { (chain : List ℕ) → IsChain entries.old.items node head chain → IsFalling chain
         → IfOk result (λ head. IsChain entries.new.items node head (stepped step (end_of segments.now) piece chain)) }
     ensures others { (other : ℕ) (next : Option ℕ) (chain : List ℕ) → other ≢ node

@@ -1,8 +1,7 @@
 -- Each turn passes one entry more.
 use Rattle.std.proofs.Common.{ℕ, ◌<◌, length}
 use Rattle.mls_geom.specs.Sweep.Trees.{end_of}
-use Rattle.mls_geom.proofs.ChainEntries.{IsBegun-chain, IsChain-first, IsFalling-right, IsOutlived-end, IsOutlived-more, IsOutlived-start, rank_at-under}
-use Rattle.mls_geom.proofs.EachOfChain.{Each-right}
+use Rattle.mls_geom.proofs.ChainEntries.{IsBegun-chain, IsChain-rest, IsFalling-right, IsOutlived-end, IsOutlived-more, IsOutlived-start, rank_at-under}
 use Rattle.mls_geom.proofs.chain.first_after.Goals as goal
 
 pub loop-entry-init : goal.loop-entry-init
@@ -10,11 +9,9 @@ loop-entry-init c = λ node chain chained. IsOutlived-start _ _ _ node chain _ c
 
 pub if_ended-requires-clause-next : goal.if_ended-requires-clause-next
 if_ended-requires-clause-next c =
-    let (node, there) = c.requires.chain in
-    let (chain, chained, falling, known) = there in
+    let (node, (chain, chained, _, known)) = c.requires.chain in
     let outlived = c.loop-entry.invariant node chain chained in
-    let bound = λ (piece : ℕ). piece < length c.args.segments.now in
-    IsChain-first bound _ node _ outlived.rest outlived.under (Each-right bound outlived.front outlived.rest (rw outlived.whole at known))
+    IsChain-rest (λ (piece : ℕ). piece < length c.args.segments.now) _ node _ outlived.front outlived.rest chain outlived.whole outlived.under known
 
 pub bounds-entries-entry : goal.bounds-entries-entry
 bounds-entries-entry c =

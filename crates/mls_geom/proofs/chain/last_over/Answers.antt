@@ -1,8 +1,7 @@
 -- Each turn passes one entry more.
 use Rattle.std.proofs.Common.{ℕ, ◌<◌, length, sym, ◌∙◌}
 use Rattle.mls_geom.specs.Sweep.Trees.{end_of}
-use Rattle.mls_geom.proofs.ChainEntries.{IsChain-first, IsFalling-right, IsSplitAt-more, IsSplitAt-start, IsSplitAt-within, rank_at-under}
-use Rattle.mls_geom.proofs.EachOfChain.{Each-right}
+use Rattle.mls_geom.proofs.ChainEntries.{IsChain-rest, IsFalling-right, IsSplitAt-more, IsSplitAt-start, IsSplitAt-within, rank_at-under}
 use Rattle.mls_geom.proofs.chain.last_over.Goals as goal
 
 pub loop-entry-init : goal.loop-entry-init
@@ -16,11 +15,9 @@ next_under-requires c =
 
 pub if_over-requires-clause-next : goal.if_over-requires-clause-next
 if_over-requires-clause-next c =
-    let (node, there) = c.requires.chain in
-    let (chain, chained, falling, known) = there in
+    let (node, (chain, chained, _, known)) = c.requires.chain in
     let split = c.loop-entry.invariant node chain chained in
-    let bound = λ (piece : ℕ). piece < length c.args.segments.now in
-    rw c.next_under.ensures (IsChain-first bound _ node _ split.rest split.under (Each-right bound split.front split.rest (rw split.whole at known)))
+    rw c.next_under.ensures (IsChain-rest (λ (piece : ℕ). piece < length c.args.segments.now) _ node _ split.front split.rest chain split.whole split.under known)
 
 pub loop-entry-smaller : goal.loop-entry-smaller
 loop-entry-smaller c =
