@@ -15,15 +15,13 @@ if_ended-requires-clause-next c =
 
 pub bounds-entries-entry : goal.bounds-entries-entry
 bounds-entries-entry c =
-    let (node, there) = c.requires.chain in
-    let (chain, chained, _, _) = there in
+    let (node, (chain, chained, _, _)) = c.requires.chain in
     let outlived = c.loop-entry.invariant node chain chained in
     (IsBegun-chain _ node _ outlived.rest (rw c.in-Some.ensures.some.0 at outlived.under)).within
 
 pub loop-entry-smaller : goal.loop-entry-smaller
 loop-entry-smaller c =
-    let (node, there) = c.requires.chain in
-    let (chain, chained, falling, _) = there in
+    let (node, (chain, chained, falling, _)) = c.requires.chain in
     let outlived = c.loop-entry.invariant node chain chained in
     let next = c.in-Some.ensures.some.0 in
     rw next (rank_at-under c.args.entries.now node c.in-Some.entry outlived.rest (rw next at outlived.under) (IsFalling-right outlived.front outlived.rest (rw outlived.whole at falling)))

@@ -9,8 +9,7 @@ loop-entry-init c = λ node chain chained. IsSplitAt-start _ _ _ node _ chain ch
 
 pub next_under-requires : goal.next_under-requires
 next_under-requires c =
-    let (node, there) = c.requires.chain in
-    let (chain, chained, _, _) = there in
+    let (node, (chain, chained, _, _)) = c.requires.chain in
     IsSplitAt-within _ _ _ node _ chain _ (c.loop-entry.invariant node chain chained)
 
 pub if_over-requires-clause-next : goal.if_over-requires-clause-next
@@ -21,8 +20,7 @@ if_over-requires-clause-next c =
 
 pub loop-entry-smaller : goal.loop-entry-smaller
 loop-entry-smaller c =
-    let (node, there) = c.requires.chain in
-    let (chain, chained, falling, _) = there in
+    let (node, (chain, chained, falling, _)) = c.requires.chain in
     let split = c.loop-entry.invariant node chain chained in
     let next = sym c.next_under.ensures ∙ c.in-Some.ensures.some.0 in
     rw next (rank_at-under c.args.entries.now node c.in-Some.entry split.rest (rw next at split.under) (IsFalling-right split.front split.rest (rw split.whole at falling)))

@@ -111,21 +111,20 @@ shows c = ShowsRow-planted c.loop-i.row.lines.items c.args.pieces.now c.move_pie
 kept : (c : In_ok-to_end) → IsKept (laid c.args.pieces.now) c.index-line.result.now c.loop-i.row.strips.items c.loop-i.row.row.items
 kept c = rw (line_is c) c.loop-i.invariant.kept
 
-changed : (c : In_ok-to_end) → HaveChangedTops c.move_pieces-in-loop-i.new.marks.items c.move_pieces-in-loop-i.new.tree.segments.items (is_below c.args.pieces.now c.index-line.result.now) (is_above c.args.pieces.now c.index-line.result.now)
+changed : (c : In_ok-to_end) → HaveChangedTops c.move_pieces-in-loop-i.new.marks.items c.loop-i.tree.segments.items (is_below c.args.pieces.now c.index-line.result.now) (is_above c.args.pieces.now c.index-line.result.now)
 changed c =
     let lines = c.args.self.now.row.lines.items in
     let pieces = c.args.pieces.now in
     let line = c.index-line.result.now in
-    HaveChangedTops-then c.move_pieces.new.marks.items c.move_pieces-in-loop-i.new.marks.items c.move_pieces-in-loop-i.new.tree.segments.items (is_below pieces line) (is_met pieces line) (is_above pieces line)
-    c.move_pieces-in-loop-i.ensures.more
-    (subst (λ (v : Vec Segment Global). HaveChangedTops c.move_pieces.new.marks.items v.items (is_below pieces line) (is_met pieces line))
-    (sym (c.move_pieces-in-loop-i.ensures.segments ∙ c.move_pieces.ensures.segments)) (c.in_ok-to_begin.ensures.tops lines pieces (starts c)))
-    (subst (λ (v : Vec Segment Global). HaveChangedTops c.move_pieces-in-loop-i.new.marks.items v.items (is_met pieces line) (is_above pieces line))
-    (sym c.move_pieces-in-loop-i.ensures.segments) (c.in_ok-to_end.ensures.tops lines pieces (ends c)))
+    HaveChangedTops-then c.move_pieces.new.marks.items c.move_pieces-in-loop-i.new.marks.items c.loop-i.tree.segments.items (is_below pieces line) (is_met pieces line) (is_above pieces line)
+    c.move_pieces-in-loop-i.ensures.more (c.in_ok-to_begin.ensures.tops lines pieces (starts c))
+    (subst (λ (v : Vec Segment Global). HaveChangedTops c.move_pieces-in-loop-i.new.marks.items v.items (is_met pieces line) (is_above pieces line)) c.move_pieces.ensures.segments
+    (c.in_ok-to_end.ensures.tops lines pieces (ends c)))
 
 changes : (c : In_ok-to_end) → HaveChanges c.loop-i.row.lines.items c.move_pieces-in-loop-i.new.marks.items (laid c.args.pieces.now) c.index-line.result.now
-changes c = HaveChanges-planted c.loop-i.row.lines.items c.move_pieces-in-loop-i.new.marks.items c.args.pieces.now c.move_pieces-in-loop-i.new.tree.segments.items c.index-line.result.now (planted c)
-    (rw c.loop-i.invariant.lines c.requires.cuts.ascending) c.requires.legal (bottom_within c) (changed c)
+changes c = rw c.loop-i.invariant.lines
+    (HaveChanges-planted c.args.self.now.row.lines.items c.move_pieces-in-loop-i.new.marks.items c.args.pieces.now c.loop-i.tree.segments.items c.index-line.result.now (starts c).planted
+    c.requires.cuts.ascending c.requires.legal (bottom_within c) (changed c))
 
 -- what the tree then has
 above : (c : In_ok-to_end) → IsTree c.move_pieces-in-loop-i.new.tree (is_above c.args.pieces.now c.index-line.result.now)
