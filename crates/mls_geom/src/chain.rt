@@ -20,9 +20,9 @@ pub(crate) struct Entry {
 /// What a piece does at a line.
 #[derive(Clone, Copy)]
 pub(crate) enum Step {
-    /// It is linked into the chains of its nodes.
+    /// It begins, and is linked into the chains of its nodes.
     Begins,
-    /// It is unlinked from those of them in which it is the first one.
+    /// It ends, and is unlinked from those of them in which it is the first one.
     Ends,
 }
 

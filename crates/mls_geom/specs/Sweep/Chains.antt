@@ -68,7 +68,7 @@ IsChain entries node next [] = next ≡ None
 IsChain entries node next (piece ∷ rest) =
     IsSomeAnd next (λ e. IsSomeAnd (slice_get entries e) (λ entry. (entry.node ≡ node) × (entry.piece ≡ piece) × IsChain entries node entry.under rest))
 
--- from the top down they lie under each other, and are some of the first ones
+-- a chain, of which each piece lies under those over it, and is one of the first ones
 abbrev pub HasChain : List Entry → ℕ → ℕ → Option ℕ → Type 0
 HasChain entries count node head = (chain : List ℕ) × IsChain entries node head chain × IsFalling chain × Each (λ piece. piece < count) chain
 

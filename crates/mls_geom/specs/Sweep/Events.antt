@@ -51,7 +51,7 @@ is_above pieces y i = option_map_or (λ piece. nat_le piece.rect.bottom y && nat
 abbrev pub is_met : List Piece → ℕ → ℕ → Bool
 is_met pieces y i = option_map_or (λ piece. nat_le piece.rect.bottom y && nat_le y piece.rect.top) (slice_get pieces i) false
 
--- the pieces that are present at a line before all steps of a kind, and after them: those that begin there do so before any ends
+-- the pieces that are present before the steps of a kind at a line, and after them: all that begin there do so before any ends
 abbrev pub present_before : Step → List Piece → ℕ → ℕ → Bool
 present_before Begins = is_below
 present_before Ends = is_met
@@ -65,7 +65,7 @@ abbrev pub moved : Step → (ℕ → Bool) → ℕ → ℕ → Bool
 moved Begins present piece = with_piece present piece
 moved Ends present piece = without_piece present piece
 
--- a piece begins that isn't present, and ends before the others
+-- the piece may be the next to begin, since it isn't present, or the next to end, since it ends first
 abbrev pub IsNext : Step → List Segment → (ℕ → Bool) → ℕ → Type 0
 IsNext Begins segments present piece = present piece ≡ false
 IsNext Ends segments present piece = EndsFirst segments present piece
