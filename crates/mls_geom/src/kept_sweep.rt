@@ -24,6 +24,10 @@ use crate::stopped::Stopped;
 use crate::tree::Tree;
 use std::alloc::{AllocError, Global};
 
+/// How many marks a piece may have, each on the whole. Without a bound 2,000 rows between 2,000 columns of another kind,
+/// over a square of the rows' kind, take four seconds: each row shows in each gap, and no kind changes.
+const MARKS: usize = 64;
+
 /// Buffers of a sweep upward that keeps its row.
 #[derive(Drop)]
 pub(crate) struct KeptSweep {
@@ -180,7 +184,7 @@ impl KeptSweep {
         list_events(pieces, Step::Ends, &mut self.ends)
     }
 
-    /// Changes the row at the line of each band, from the bottom up.
+    /// Changes the row at the line of each band, from the bottom up. Gives up where pieces have too many marks.
     fn sweep_bands(&mut self, pieces: &[Piece], limit: usize) -> Result<(), Stopped>
         requires legal { AreLegal pieces.now }
         requires kinds { HaveKinds pieces.now }
@@ -207,10 +211,16 @@ impl KeptSweep {
         } = self;
         let mut to_begin = starts.as_slice();
         let mut to_end = ends.as_slice();
+        let most = pieces.len().saturating_mul(MARKS);
+        let mut marked: usize = 0;
         for i in 1..lines.len() {
             let line = lines[i - 1];
             to_begin = move_pieces(to_begin, line, Step::Begins, tree, &mut row.marks)?;
             to_end = move_pieces(to_end, line, Step::Ends, tree, &mut row.marks)?;
+            marked = marked.saturating_add(row.marks.len());
+            if marked > most {
+                return Err(Stopped::GaveUp);
+            }
             row.change(tree, line, limit)?;
         }
         Ok(())
