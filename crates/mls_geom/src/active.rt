@@ -40,32 +40,6 @@ fn ends_above(pieces: &[Piece], line: u32, i: usize) -> bool
         .is_some_and(|piece| line < piece.rect.area().top)
 }
 
-/// Removes the pieces that end at the line or below it.
-fn remove_ended(pieces: &[Piece], line: u32, active: &mut Vec<usize>)
-    ensures kept { active.new.items ≡ filter (ends_above pieces.now line) active.old.items }
-    ensures len { vec_len active.new ≤ vec_len active.old }
-    ensures room { vec_capacity active.new ≡ vec_capacity active.old }
-{
-    active.retain(|i| ends_above(pieces, line, *i));
-}
-
-/// Adds the pieces that start at the line or below it, and returns the rest of `waiting`.
-fn add_started<'a>(waiting: &'a [Start], line: u32, active: &mut Vec<usize>) -> &'a [Start]
-    requires ordered { IsNonDecreasingBy (λ start. start.bottom) waiting.now }
-    requires room { vec_len active.old + length waiting.now ≤ vec_capacity active.old }
-    ensures joined { AddsStarted line waiting.now result.now active.old.items active.new.items }
-    ensures len { vec_len active.new + length result.now
-        ≡ vec_len active.old + length waiting.now }
-    ensures room { vec_capacity active.new ≡ vec_capacity active.old }
-{
-    let reached = waiting.partition_point(|start| start.bottom <= line);
-    let (started, rest) = waiting.split_at(reached);
-    for start in started {
-        active.push_reserved(start.piece);
-    }
-    rest
-}
-
 /// Fills `active` with the indices of the pieces that have squares in the row above the line, in order, and
 /// returns the starts further up.
 pub(crate) fn activate<'a>(
@@ -83,8 +57,12 @@ pub(crate) fn activate<'a>(
         ≤ vec_len active.old + length waiting.now }
     ensures room { vec_capacity active.new ≡ vec_capacity active.old }
 {
-    remove_ended(pieces, line, active);
-    let waiting = add_started(waiting, line, active);
+    active.retain(|i| ends_above(pieces, line, *i));
+    let reached = waiting.partition_point(|start| start.bottom <= line);
+    let (started, rest) = waiting.split_at(reached);
+    for start in started {
+        active.push_reserved(start.piece);
+    }
     active.sort_unstable();
-    waiting
+    rest
 }

@@ -9,23 +9,16 @@ const SHALLOW: usize = 64;
 /// instructions.
 const SHOWN: usize = 8;
 
-/// Returns how many bands the piece crosses that these lines part.
-fn crossed(lines: &[u32], piece: &Piece) -> usize {
-    let edges = piece.rect.area();
-    let above = lines.partition_point(|line| *line < edges.top);
-    let below = lines.partition_point(|line| *line < edges.bottom);
-    above.saturating_sub(below)
-}
-
-/// Returns whether many pieces lie beside each other in many bands.
+/// Returns whether many pieces lie beside each other in many of the bands that these lines part.
 pub(crate) fn are_deep(lines: &[u32], pieces: &[Piece]) -> bool {
     let mut crossings: usize = 0;
     let mut shown: usize = 0;
-    for some in pieces.chunks(SHOWN) {
-        if let Some(piece) = some.first() {
-            crossings = crossings.saturating_add(crossed(lines, piece));
-            shown = shown.saturating_add(1);
-        }
+    for piece in pieces.iter().step_by(SHOWN) {
+        let edges = piece.rect.area();
+        let below = lines.partition_point(|line| *line < edges.bottom);
+        let above = lines.partition_point(|line| *line < edges.top);
+        crossings = crossings.saturating_add(above.saturating_sub(below));
+        shown = shown.saturating_add(1);
     }
     crossings / SHALLOW > shown
 }

@@ -1,21 +1,10 @@
 //! Pieces that a later one hides.
-ghost use Rattle.std.specs.Prelude.{◌≡◌, ◌≤◌, ◌⊎◌, length, vec_len, vec_capacity};
+ghost use Rattle.std.specs.Prelude.{◌≡◌, ◌≤◌, length, vec_len, vec_capacity};
 ghost use Rattle.mls_geom.specs.Locality.{HaveKinds};
 ghost use Rattle.mls_geom.specs.Sweep.Hidden.{ShowAlike};
 ghost use Rattle.mls_geom.specs.World.{AreLegal};
 
 use crate::{Area, Piece};
-
-/// Returns the greater one of two areas.
-fn greater(area: Area, other: Area) -> Area
-    ensures { (result ≡ area) ⊎ (result ≡ other) }
-{
-    if area.size() <= other.size() {
-        other
-    } else {
-        area
-    }
-}
 
 /// Lists the pieces, in order, without those that lie inside the greatest of those after them.
 pub(crate) fn list_shown(pieces: &[Piece], shown: &mut Vec<Piece>)
@@ -33,7 +22,9 @@ pub(crate) fn list_shown(pieces: &[Piece], shown: &mut Vec<Piece>)
         let area = pieces[at].area();
         if !greatest.encloses(area) {
             shown.push_reserved(pieces[at]);
-            greatest = greater(area, greatest);
+            if greatest.size() < area.size() {
+                greatest = area;
+            }
         }
     }
     shown.reverse();

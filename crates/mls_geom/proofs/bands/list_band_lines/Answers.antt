@@ -1,14 +1,21 @@
 -- The ends of each piece are put in, or are there, and all are sorted at the end.
-use Rattle.std.proofs.Common.{◌≡◌, ◌<◌, take, subst, ap, ◌∙◌, inl, inr, arith}
+use Rattle.std.proofs.Common.{◌≡◌, ℕ, ◌<◌, List, ◌∷◌, ◌++◌, [], take, vec_len, vec_capacity, subst, refl, ap, ◌∙◌, arith}
 use Rattle.std.specs.List.{Contains}
 use Rattle.std.proofs.lemmas.List.{take_all}
-use Rattle.std.proofs.lemmas.List.Elements.{All-more}
+use Rattle.std.proofs.lemmas.Bool.Decides.{Decides-eqb}
+use Rattle.std.proofs.lemmas.List.Elements.{All-more, Contains-append_right}
+use Rattle.std.proofs.lemmas.Slice.Eq.{ends_is}
 use Rattle.mls_geom.specs.Locality.{uncovered}
 use Rattle.mls_geom.proofs.BandLines.{AreBandLines-ascended, HaveEnds-again, HaveEnds-more}
 use Rattle.mls_geom.specs.Rects.{Rect, IsRectangleIn}
 use Rattle.mls_geom.specs.World.{world}
 use Rattle.mls_geom.specs.declared.piece.Piece.{Piece}
 use Rattle.mls_geom.proofs.bands.list_band_lines.Goals as goal
+use Rattle.mls_geom.proofs.bands.list_band_lines.Goals.{then-not-ends_with, else-not-ends_with}
+
+-- the last two lines
+held_at_end : (lines front : List ℕ) (bottom top : ℕ) → lines ≡ front ++ bottom ∷ top ∷ [] → Contains lines bottom × Contains lines top
+held_at_end lines front bottom top is = rw is (Contains-append_right front _ bottom (0, omega arith, refl), Contains-append_right front _ top (1, omega arith, refl))
 
 pub loop-piece-preserved : goal.loop-piece-preserved
 loop-piece-preserved c =
@@ -24,13 +31,24 @@ loop-piece-preserved c =
     record {
       legal = All-more IsLegal pieces i piece.result within c.loop-piece.invariant.legal (subst IsLegal piece.is legal);
       kinds = All-more HasByte pieces i piece.result within c.loop-piece.invariant.kinds (subst HasByte piece.is c.area-edges.ensures.kind);
-      members = elim c.add_ends.ensures.ends [
-        | inl added ↦ rw added (HaveEnds-more world pieces i _ _ _ piece.result within piece.is legal bottom top c.loop-piece.invariant.members)
-        | inr there ↦ rw there.0
-            (HaveEnds-again world pieces i _ piece.result within piece.is (subst (Contains _) bottom there.1) (subst (Contains _) top there.2) c.loop-piece.invariant.members)
+      members = elim c.if-not-ends_with.branch [
+        | then-not-ends_with w ↦
+            let added = ap (λ lines. lines.items) w.lines-is ∙ (rw w.push_reserved-then-not-ends_with.ensures.items at w.push_reserved-then-not-ends_with-2.ensures.items) in
+            rw added (HaveEnds-more world pieces i _ _ _ piece.result within piece.is legal bottom top c.loop-piece.invariant.members)
+        | else-not-ends_with w ↦
+            let ends = (ends_is Decides-eqb c.loop-piece.lines.items (_ ∷ _ ∷ []) c.ends_with.result (rw c.deref.ensures.value at c.ends_with.ensures.value)).0 w.if-not-ends_with.false in
+            let held = held_at_end _ _ _ _ ends in
+            rw w.lines-is
+            (HaveEnds-again world pieces i _ piece.result within piece.is (subst (Contains _) bottom held.0) (subst (Contains _) top held.1) c.loop-piece.invariant.members)
       ];
-      len = omega arith;
-      room = c.add_ends.ensures.room ∙ c.loop-piece.invariant.room;
+      len = elim c.if-not-ends_with.branch [
+        | then-not-ends_with w ↦ omega (arith, ap vec_len w.lines-is, w.push_reserved-then-not-ends_with-2.ensures.len, w.push_reserved-then-not-ends_with.ensures.len, c.loop-piece.invariant.len)
+        | else-not-ends_with w ↦ omega (arith, ap vec_len w.lines-is, c.loop-piece.invariant.len)
+      ];
+      room = elim c.if-not-ends_with.branch [
+        | then-not-ends_with w ↦ ap vec_capacity w.lines-is ∙ w.push_reserved-then-not-ends_with-2.ensures.capacity ∙ w.push_reserved-then-not-ends_with.ensures.capacity ∙ c.loop-piece.invariant.room
+        | else-not-ends_with w ↦ ap vec_capacity w.lines-is ∙ c.loop-piece.invariant.room
+      ];
     }
 
 pub returns-clause-lines : goal.returns-clause-lines

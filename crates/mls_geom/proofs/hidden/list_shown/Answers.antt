@@ -1,9 +1,9 @@
 -- The piece in hand stands before those that were visited.
-use Rattle.std.proofs.Common.{◌≡◌, ◌⊎◌, ◌+◌, ◌-◌, ◌∷◌, ◌++◌, [], length, vec_len, vec_capacity, drop, inl, inr, sym, ap, ◌∙◌, arith}
+use Rattle.std.proofs.Common.{◌≡◌, ◌+◌, ◌-◌, ◌∷◌, ◌++◌, [], length, vec_len, vec_capacity, drop, inl, inr, sym, ap, ◌∙◌, arith}
 use Rattle.std.proofs.lemmas.List.{drop_more, get_or_default}
 use Rattle.mls_geom.proofs.HiddenPieces.{HasShown-hidden, HasShown-listed}
 use Rattle.mls_geom.proofs.hidden.list_shown.Goals as goal
-use Rattle.mls_geom.proofs.hidden.list_shown.Goals.{then-not-encloses, else-not-encloses}
+use Rattle.mls_geom.proofs.hidden.list_shown.Goals.{then-not-encloses+then-size, then-not-encloses+else-size, else-not-encloses}
 
 pub loop-i-preserved : goal.loop-i-preserved
 loop-i-preserved c =
@@ -19,16 +19,21 @@ loop-i-preserved c =
     let kind = c.area-area.ensures.kind in
     let so_far = c.loop-i.invariant in
     elim c.if-not-encloses.branch [
-      | then-not-encloses w ↦
+      | then-not-encloses+then-size w ↦
           let again = w.index-pieces-at-then-not-encloses in
           let same : again.result ≡ piece = again.is ∙ get_or_default pieces at again.result piece (omega (arith, within)) ∙ sym c.index-pieces-at.is in
           let items = ap (λ shown. shown.items) w.shown-is ∙ w.push_reserved.ensures.items ∙ ap (λ p. c.loop-i.shown.items ++ p ∷ []) same in
-          let which : (c.if-not-encloses.greatest ≡ piece.rect) ⊎ (c.if-not-encloses.greatest ≡ c.loop-i.greatest) = elim w.greater-greatest.ensures [
-            | inl new ↦ inl (w.greatest-is ∙ new ∙ c.area-area.ensures.value)
-            | inr old ↦ inr (w.greatest-is ∙ old)
-          ] in
           record {
-            visited = rw (here, first, items) (HasShown-listed piece rest c.loop-i.shown.items c.loop-i.greatest c.if-not-encloses.greatest legal kind which so_far.visited);
+            visited = rw (here, first, items) (HasShown-listed piece rest c.loop-i.shown.items c.loop-i.greatest c.if-not-encloses.greatest legal kind (inl (w.greatest-is ∙ c.area-area.ensures.value)) so_far.visited);
+            len = omega (arith, so_far.len, ap vec_len w.shown-is, w.push_reserved.ensures.len);
+            room = ap vec_capacity w.shown-is ∙ w.push_reserved.ensures.capacity ∙ so_far.room;
+          }
+      | then-not-encloses+else-size w ↦
+          let again = w.index-pieces-at-then-not-encloses in
+          let same : again.result ≡ piece = again.is ∙ get_or_default pieces at again.result piece (omega (arith, within)) ∙ sym c.index-pieces-at.is in
+          let items = ap (λ shown. shown.items) w.shown-is ∙ w.push_reserved.ensures.items ∙ ap (λ p. c.loop-i.shown.items ++ p ∷ []) same in
+          record {
+            visited = rw (here, first, items) (HasShown-listed piece rest c.loop-i.shown.items c.loop-i.greatest c.if-not-encloses.greatest legal kind (inr w.greatest-is) so_far.visited);
             len = omega (arith, so_far.len, ap vec_len w.shown-is, w.push_reserved.ensures.len);
             room = ap vec_capacity w.shown-is ∙ w.push_reserved.ensures.capacity ∙ so_far.room;
           }

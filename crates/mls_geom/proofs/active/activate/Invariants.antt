@@ -1,6 +1,6 @@
 use Rattle.std.proofs.Common.{◌≡◌, ◌+◌, ◌++◌, take, vec_len, vec_capacity}
 use Rattle.mls_geom.specs.Sweep.ActivePieces.{pieces_of}
-use Rattle.mls_geom.proofs.active.add_started.Given as goal
+use Rattle.mls_geom.proofs.active.activate.Given as goal
 
 abbrev pub invariant-loop-start : goal.invariant-loop-start
 invariant-loop-start l = record {
