@@ -11,28 +11,20 @@ use crate::run::Run;
 use crate::sweep::TooMany;
 use crate::{Piece, Rect};
 
-/// Returns the index of the first run, from index `from` on, that does not lie left of the line `left`,
-/// or the number of runs.
-fn first_at_or_after(below: &[Run], from: usize, left: u32) -> usize
-    requires { from ≤ length below.now }
-    ensures onward { from ≤ result }
-    ensures within { result ≤ length below.now }
-    ensures passed { AllWithin (λ under. under.left < left) below.now from result }
-    ensures stopped { IfSome (slice_get below.now result) (λ under. left ≤ under.left) }
+/// Moves the index to the first run below that does not lie left of `run`, or to the number of runs. Returns that run's
+/// strip, if it has the ends and the kind of `run`.
+fn strip_below(below: &[Run], run: &Run, index: &mut usize) -> Option<usize>
+    requires { index.old ≤ length below.now }
+    ensures within { index.new ≤ length below.now }
+    ensures passed { AllWithin (λ under. under.left < run.now.left) below.now index.old index.new }
+    ensures stopped { IfSome (slice_get below.now index.new) (λ under. run.now.left ≤ under.left) }
+    ensures found { IsSome result ↔ IsSomeAnd (slice_get below.now index.new) (StandsOn run.now) }
+    ensures strip { IfSome result (λ strip. IsSomeAnd (slice_get below.now index.new) (λ under. under.strip ≡ strip)) }
 {
-    let mut index = from;
-    while index < below.len() && below[index].left < left {
-        index += 1;
+    while *index < below.len() && below[*index].left < run.left {
+        *index += 1;
     }
-    index
-}
-
-/// Returns the strip of the run at `index`, if it has the ends and the kind of `run`.
-fn strip_below(below: &[Run], index: usize, run: &Run) -> Option<usize>
-    ensures found { IsSome result ↔ IsSomeAnd (slice_get below.now index) (StandsOn run.now) }
-    ensures strip { IfSome result (λ strip. IsSomeAnd (slice_get below.now index) (λ under. under.strip ≡ strip)) }
-{
-    let under = below.get(index)?;
+    let under = below.get(*index)?;
     let stands = under.left == run.left && under.right == run.right && under.kind == run.kind;
     stands.then_some(under.strip)
 }
@@ -45,35 +37,6 @@ pub(crate) fn extend_to(strip: &mut Piece, top: u32)
 {
     let edges = strip.rect.area();
     strip.rect = Rect::between(edges.left, edges.bottom, edges.right, top);
-}
-
-/// Appends the strip that a run starts, from the line `bottom` up to the line `top`, and returns its index.
-/// Fails if there are `limit` strips already.
-fn push_strip(
-    run: &Run,
-    bottom: u32,
-    top: u32,
-    limit: usize,
-    strips: &mut Vec<Piece>,
-) -> Result<usize, TooMany>
-    requires room { limit ≤ vec_capacity strips.old }
-    requires within { vec_len strips.old ≤ limit }
-    requires legal { IsRectangleIn world (new_strip bottom top run.now).rect }
-    ensures pushed { OnOk result (strips.new.items ≡ strips.old.items ++ new_strip bottom top run.now ∷ []) }
-    ensures index { IfOk result (λ strip. strip ≡ vec_len strips.old) }
-    ensures too_many { IsErr result ↔ (vec_len strips.old ≡ limit) }
-    ensures within { vec_len strips.new ≤ limit }
-    ensures room { vec_capacity strips.new ≡ vec_capacity strips.old }
-{
-    if strips.len() == limit {
-        return Err(TooMany);
-    }
-    let strip = strips.len();
-    strips.push_reserved(Piece {
-        rect: Rect::between(run.left, bottom, run.right, top),
-        kind: run.kind,
-    });
-    Ok(strip)
 }
 
 /// Stacks a band, from the line `bottom` up to the line `top`, on the strips below it.
@@ -115,13 +78,21 @@ pub(crate) fn stack(
 {
     let mut index = 0;
     for run in row.iter_mut() {
-        index = first_at_or_after(below, index, run.left);
-        run.strip = match strip_below(below, index, run) {
+        run.strip = match strip_below(below, run, &mut index) {
             Some(strip) => {
                 extend_to(&mut strips[strip], top);
                 strip
             }
-            None => push_strip(run, bottom, top, limit, strips)?,
+            None => {
+                if strips.len() == limit {
+                    return Err(TooMany);
+                }
+                strips.push_reserved(Piece {
+                    rect: Rect::between(run.left, bottom, run.right, top),
+                    kind: run.kind,
+                });
+                strips.len() - 1
+            }
         };
     }
     Ok(())

@@ -1,10 +1,10 @@
 -- Each iteration stacks one run more, whatever the picture is that the strips and the runs are of; that there is one keeps the indices and the lines legal.
-use Rattle.std.proofs.Common.{◌<◌, ◌∙◌, Result, Ok, Err, OnErr, ap, length, set, vec_capacity, vec_len, arith, refl}
+use Rattle.std.proofs.Common.{◌≡◌, ◌-◌, ◌<◌, ◌∙◌, ap, length, set, vec_capacity, vec_len, arith, refl}
 use Rattle.std.proofs.lemmas.Bool.{false≢true}
 use Rattle.mls_geom.specs.Sweep.Stacks.{extended}
 use Rattle.mls_geom.proofs.RowStacking.{BeginsAt-found, IsRowStacked-new_strip, IsRowStacked-end, IsRowStacked-extended, IsRowStacked-start, IsStripUnder-named, length-lt-covered_count_of_row}
 use Rattle.mls_geom.proofs.stack.stack.Goals as goal
-use Rattle.mls_geom.proofs.stack.stack.Goals.{in-Some, in-None+in_ok-run-in-None}
+use Rattle.mls_geom.proofs.stack.stack.Goals.{in-Some, in-None+else-len-limit}
 
 pub loop-run-init : goal.loop-run-init
 loop-run-init c = record {
@@ -29,22 +29,18 @@ extend_to-requires-clause-above c =
     let strip = c.index_mut.result.now in
     omega (arith, c.requires.tall, rw (← c.index_mut.ensures.value) at (under strip).low)
 
-on_err : {T E P : Type 0} (r : Result T E) → P → OnErr r P
-on_err (Ok x) p = tt
-on_err (Err e) p = p
-
-pub returns-in_err-run-in-None-clause-too_many : goal.returns-in_err-run-in-None-clause-too_many
-returns-in_err-run-in-None-clause-too_many c = on_err c.from_residual.result (λ picture stacked runs alike.
+pub returns-then-len-limit-clause-too_many : goal.returns-then-len-limit-clause-too_many
+returns-then-len-limit-clause-too_many c = λ picture stacked runs alike.
     let state = c.loop-run.invariant.stacked picture stacked runs alike in
     let within : c.loop-run.run-index < length c.loop-run.row = omega arith in
-    let passed = c.first_at_or_after-index.ensures in
+    let passed = c.strip_below.ensures in
     let begins = BeginsAt-found _ _ state within passed.passed passed.stopped (λ stands. false≢true (c.in-None.ensures.found.1 stands)) in
-    omega (arith, length-lt-covered_count_of_row _ state within begins, c.in_err-run-in-None.ensures.too_many.0 refl, c.loop-run.strips.ok.0))
+    omega (arith, length-lt-covered_count_of_row _ state within begins, c.loop-run.strips.ok.0)
 
 pub loop-run-preserved : goal.loop-run-preserved
 loop-run-preserved c =
     let within : c.loop-run.run-index < length c.loop-run.row = omega arith in
-    let passed = c.first_at_or_after-index.ensures in
+    let passed = c.strip_below.ensures in
     elim c.match-strip_below.branch [
       | in-Some w ↦
           let strip = w.index_mut.result.now in
@@ -59,16 +55,17 @@ loop-run-preserved c =
                 let (strip_within, under) = IsStripUnder-named _ _ _ state within (w.in-Some.ensures.found.0 refl) w.in-Some.ensures.strip in
                 rw (w.run-is, items) (IsRowStacked-extended _ strip _ _ state within passed.passed strip_within (under strip));
           }
-      | in-None+in_ok-run-in-None w ↦
-          let pushed = w.in_ok-run-in-None.ensures in
+      | in-None+else-len-limit w ↦
+          let pushed = w.push_reserved.ensures in
           record {
-            within = omega (arith, pushed.within, ap vec_len w.strips-is);
-            room = ap vec_capacity w.strips-is ∙ pushed.room ∙ c.loop-run.invariant.room;
+            within = omega (arith, pushed.len, ap vec_len w.strips-is);
+            room = ap vec_capacity w.strips-is ∙ pushed.capacity ∙ c.loop-run.invariant.room;
             index_within = passed.within;
             stacked = λ picture stacked runs alike.
                 let state = c.loop-run.invariant.stacked picture stacked runs alike in
                 let begins = BeginsAt-found _ _ state within passed.passed passed.stopped (λ stands. false≢true (w.in-None.ensures.found.1 stands)) in
-                rw (w.run-is, pushed.index, c.loop-run.strips.ok.0, w.strips-is, pushed.pushed) (IsRowStacked-new_strip _ _ state within passed.passed begins);
+                let last : w.len-in-None.result - 1 ≡ length c.loop-run.strips.items = omega (arith, w.len-in-None.ensures, pushed.len, c.loop-run.strips.ok.0) in
+                rw (w.run-is, w.strips-is, pushed.items, w.between.ensures, last) (IsRowStacked-new_strip _ _ state within passed.passed begins);
           }
     ]
 
