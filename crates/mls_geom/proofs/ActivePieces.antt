@@ -1,10 +1,10 @@
 -- The pieces that a row meets show in it what all the pieces show.
-use Rattle.std.proofs.Common.{◌≡◌, ◌≢◌, ℕ, zero, suc, ◌+◌, ◌-◌, ◌<◌, ◌≤◌, false, Some, cond, List, [], ◌∷◌, length, drop, get_or, reverse, slice_index, slice_get, IsSomeAnd, refl, sym, ap, ◌∙◌, inl, inr, arith, add-zero, zero-add, add_assoc, add-one, one-add}
+use Rattle.std.proofs.Common.{◌≡◌, ◌≢◌, ℕ, zero, suc, ◌+◌, ◌-◌, ◌<◌, ◌≤◌, false, Some, cond, List, [], ◌∷◌, ◌++◌, length, drop, take, get_or, slice_index, slice_get, IsSomeAnd, refl, sym, ap, ◌∙◌, inl, inr, arith, add-zero, zero-add, add_assoc, add-one, one-add}
 use Rattle.std.specs.List.{All, Contains, cons_option, filter_map}
 use Rattle.std.specs.List.Sorted.{IsStrictlyIncreasing}
 use Rattle.std.proofs.lemmas.Bool.{cases_eq, cases_lt, cases_order, false_from_ne_true}
-use Rattle.std.proofs.lemmas.List.{drop_all, drop_more, get_or-reverse, get_or_default, length-reverse}
-use Rattle.std.proofs.lemmas.List.Elements.{Contains-get_or}
+use Rattle.std.proofs.lemmas.List.{drop_all, drop_more, get_or_default, take_more}
+use Rattle.std.proofs.lemmas.List.Elements.{Contains-get_or, filter_map-append}
 use Rattle.std.proofs.lemmas.List.Kept.{AllPairs-from_increasing}
 use Rattle.std.proofs.lemmas.Option.{slice_get_read}
 use Rattle.mls_geom.specs.Rects.{holds}
@@ -15,7 +15,7 @@ use Rattle.mls_geom.proofs.Holds.{holds_between}
 use Rattle.mls_geom.proofs.Overlays.{painted_outside}
 
 -- where there is a piece, the index is one of the list
-named_within : (P : Piece → Type 0) (pieces : List Piece) (i : ℕ) → IsSomeAnd (slice_get pieces i) P → i < length pieces
+pub named_within : (P : Piece → Type 0) (pieces : List Piece) (i : ℕ) → IsSomeAnd (slice_get pieces i) P → i < length pieces
 named_within P [] i named = elim named [ ]
 named_within P (p ∷ pieces) zero named = omega arith
 named_within P (p ∷ pieces) (suc i) named = omega (arith, named_within P pieces i named)
@@ -49,28 +49,12 @@ pieces_at-more :
 pieces_at-more pieces indices k piece within is =
     ap (pieces_at pieces) (drop_more indices k 0 within) ∙ ap (λ o. cons_option o (pieces_at pieces (drop (k + 1) indices))) is
 
--- a loop over the indices from the last to the first comes to this piece after n others
-pub record IsTurn (pieces : List Piece) (indices : List ℕ) (n i : ℕ) (piece : Piece) : Type 0 where
-  pub is : slice_get pieces i ≡ Some piece
-  pub member : Contains indices i
-  pub more : pieces_at pieces (drop (length indices - (n + 1)) indices) ≡ piece ∷ pieces_at pieces (drop (length indices - n) indices)
-
-pub IsTurn-from_reverse :
-    (P : Piece → Type 0) (pieces : List Piece) (indices : List ℕ) (n i : ℕ) (piece : Piece) → All (λ index. IsSomeAnd (slice_get pieces index) P) indices
-    → n < length (reverse indices) → i ≡ get_or (reverse indices) n i → piece ≡ get_or pieces i piece → IsTurn pieces indices n i piece
-IsTurn-from_reverse P pieces indices n i piece named turn there read =
-    let within : n < length indices = omega (arith, length-reverse indices) in
-    let k = length indices - (n + 1) in
-    let index : length indices - 1 - n ≡ k = omega arith in
-    let next : k + 1 ≡ length indices - n = omega arith in
-    let here = rw index at (sym (get_or-reverse indices n i within) ∙ sym there) in
-    let in_list = named_within P pieces i (rw here at (named k i (omega arith))) in
-    let is = slice_get_read pieces (length pieces) i piece refl in_list read in
-    record {
-      is = is;
-      member = (k, omega arith, here);
-      more = rw next at (pieces_at-more pieces indices k piece (omega arith) (ap (slice_get pieces) (get_or_default indices k 0 i (omega arith) ∙ here) ∙ is));
-    }
+-- those of one index more
+pub pieces_at-push :
+    (pieces : List Piece) (indices : List ℕ) (k : ℕ) (piece : Piece) → k < length indices → slice_get pieces (slice_index indices k) ≡ Some piece
+    → pieces_at pieces (take (k + 1) indices) ≡ pieces_at pieces (take k indices) ++ piece ∷ []
+pieces_at-push pieces indices k piece within is =
+    ap (pieces_at pieces) (take_more indices k 0 within) ∙ filter_map-append (slice_get pieces) (take k indices) _ ∙ ap (λ o. pieces_at pieces (take k indices) ++ cons_option o []) is
 
 -- the first m of the indices are those below i
 record Splits (indices : List ℕ) (m i : ℕ) : Type 0 where

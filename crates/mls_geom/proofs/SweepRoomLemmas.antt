@@ -7,6 +7,5 @@ pub HasRowRoom-less : (row : Row) (less more : ℕ) → less ≤ more → HasRow
 HasRowRoom-less row less more below room = record {
   lines = omega (arith, room.lines);
   kinds = omega (arith, room.kinds);
-  free = omega (arith, room.free);
   runs = omega (arith, room.runs);
 }

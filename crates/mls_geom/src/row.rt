@@ -10,7 +10,7 @@ ghost use Rattle.mls_geom.specs.Sweep.Slots.{AreBetweenLines, AreCuts};
 use crate::Piece;
 use crate::lines::{are_ascending, find_line, sort_dedup};
 use crate::run::{Run, join_slots};
-use crate::slots::paint_row;
+use crate::slots::paint_slots;
 use crate::world::{HIGH, LOW};
 use mls_kinds::Kind;
 use std::alloc::{AllocError, Global};
@@ -19,8 +19,7 @@ use std::alloc::{AllocError, Global};
 #[derive(Drop)]
 pub(crate) struct Row {
     pub(crate) lines: Vec<u32>,
-    pub(crate) kinds: Vec<Kind>,
-    pub(crate) free: Vec<usize>,
+    pub(crate) kinds: Vec<Option<Kind>>,
     pub(crate) runs: Vec<Run>,
 }
 
@@ -32,7 +31,6 @@ impl Row {
         Row {
             lines: Vec::new(alloc),
             kinds: Vec::new(alloc),
-            free: Vec::new(alloc),
             runs: Vec::new(alloc),
         }
     }
@@ -44,7 +42,6 @@ impl Row {
     {
         self.lines.reserve_exact(lines)?;
         self.kinds.reserve_exact(lines)?;
-        self.free.reserve_exact(lines)?;
         self.runs.reserve_exact(lines)
     }
 
@@ -57,8 +54,11 @@ impl Row {
         ensures room { (n : ℕ) → HasRowRoom self.old n → HasRowRoom self.new n }
     {
         list_lines(pieces, active, &mut self.lines);
-        paint_row(pieces, active, &self.lines, &mut self.kinds, &mut self.free);
-        join_slots(&self.lines, &self.kinds, &self.free, &mut self.runs);
+        self.kinds.clear();
+        // Their room is reserved, so the call succeeds.
+        self.kinds.resize(self.lines.len() - 1, None).unwrap();
+        paint_slots(pieces, active, &self.lines, &mut self.kinds);
+        join_slots(&self.lines, &self.kinds, &mut self.runs);
     }
 }
 

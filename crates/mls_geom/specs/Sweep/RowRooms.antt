@@ -6,5 +6,4 @@ use Rattle.mls_geom.specs.declared.row.Row.{Row}
 pub record HasRowRoom (row : Row) (pieces : ℕ) : Type 0 where
   pub lines : 2 * pieces + 2 ≤ vec_capacity row.lines
   pub kinds : 2 * pieces + 2 ≤ vec_capacity row.kinds
-  pub free : 2 * pieces + 2 ≤ vec_capacity row.free
   pub runs : 2 * pieces + 2 ≤ vec_capacity row.runs

@@ -1,7 +1,7 @@
--- The slots of a row. Lines cut it into slots, each from one line to the next; slot 0 is the leftmost. A slot is free until it is painted,
--- and links lead from each slot to the first free one from it on, as in a union-find on intervals (Gabow and Tarjan 1985).
-use Rattle.std.specs.Prelude.{◌≡◌, ℕ, ◌+◌, ◌-◌, ◌<◌, ◌≤◌, Bool, nat_lt, if◌then◌else◌, Option, Some, None, List, length, slice_get, slice_index, IsSomeAnd}
+-- The slots of a row. Lines cut it into slots, each from one line to the next; slot 0 is the leftmost.
+use Rattle.std.specs.Prelude.{◌≡◌, ℕ, ◌+◌, ◌-◌, ◌<◌, ◌≤◌, Option, None, List, length, get_or, slice_get, slice_index, IfSome, IsSomeAnd}
 use Rattle.std.specs.List.{All, Contains}
+use Rattle.std.specs.Option.{unwrap_or}
 use Rattle.std.specs.List.Sorted.{IsStrictlyIncreasing}
 use Rattle.mls_geom.specs.Rects.{Rect}
 use Rattle.mls_geom.specs.Locality.{uncovered}
@@ -24,30 +24,15 @@ pub record IsBetweenLines (lines : List ℕ) (rect : Rect) : Type 0 where
 abbrev pub AreBetweenLines : List ℕ → List Piece → List ℕ → Type 0
 AreBetweenLines lines pieces indices = All (λ i. IsSomeAnd (slice_get pieces i) (λ piece. IsBetweenLines lines piece.rect)) indices
 
--- the links lead from each slot to the right, past painted slots alone; a free slot is its own link, and so is the last index, the row's end
-pub record AreLinks (free : List ℕ) : Type 0 where
-  pub forward : (slot : ℕ) → slot < length free → slot ≤ slice_index free slot
-  pub within : (slot : ℕ) → slot < length free → slice_index free slot < length free
-  pub past_painted : (slot other : ℕ) → slot < length free → slot ≤ other → other < slice_index free slot → other < slice_index free other
+-- the kind that a slot shows; one of no piece is uncovered
+abbrev pub shown : List (Option ℕ) → ℕ → ℕ
+shown kinds slot = unwrap_or (get_or kinds slot None) uncovered
 
--- slots in the course of painting
-pub record AreSlots (kinds free : List ℕ) : Type 0 where
-  pub count : length free ≡ length kinds + 1
-  pub links : AreLinks free
+-- the kinds of slots are bytes
+abbrev pub HaveBytes : List (Option ℕ) → Type 0
+HaveBytes kinds = (slot : ℕ) → IfSome (get_or kinds slot None) (λ kind. kind < uncovered)
 
--- the slot is painted
-abbrev pub is_painted : List ℕ → ℕ → Bool
-is_painted free slot = nat_lt slot (slice_index free slot)
-
--- a painted slot's kind, and for a free one the kind below it
-abbrev pub slot_kind : List ℕ → List ℕ → ℕ → ℕ → ℕ
-slot_kind kinds free slot below = if is_painted free slot then slice_index kinds slot else below
-
--- a painted slot's kind
-abbrev pub kind_if_painted : List ℕ → List ℕ → ℕ → Option ℕ
-kind_if_painted kinds free slot = if is_painted free slot then Some (slice_index kinds slot) else None
-
--- for each slot of row y the kind of all its squares; a free slot is uncovered
-pub record AreSlotKinds (picture : Picture) (y : ℕ) (lines kinds free : List ℕ) : Type 0 where
+-- for each slot of row y the kind of all its squares
+pub record AreSlotKinds (picture : Picture) (y : ℕ) (lines : List ℕ) (kinds : List (Option ℕ)) : Type 0 where
   pub count : length lines ≡ length kinds + 1
-  pub each : (slot x : ℕ) → slot < length kinds → slice_index lines slot ≤ x → x < slice_index lines (slot + 1) → picture x y ≡ slot_kind kinds free slot uncovered
+  pub each : (slot x : ℕ) → slot < length kinds → slice_index lines slot ≤ x → x < slice_index lines (slot + 1) → picture x y ≡ shown kinds slot

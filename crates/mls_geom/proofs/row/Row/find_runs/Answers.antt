@@ -1,4 +1,6 @@
 -- The lines cut the row into slots, which are painted and joined. No more pieces are active than there are, so all of it fits.
+use Rattle.std.proofs.Common.{◌≡◌, length, vec_len, arith}
+use Rattle.std.proofs.lemmas.List.{take_at}
 use Rattle.mls_geom.specs.Locality.{laid}
 use Rattle.mls_geom.specs.World.{world}
 use Rattle.mls_geom.proofs.ActivePieces.{active_fit, active_within}
@@ -12,5 +14,6 @@ list_lines-requires-clause-no_more c = active_fit c.args.pieces.now c.args.y c.a
 
 pub returns-clause-runs : goal.returns-clause-runs
 returns-clause-runs c =
+    let whole : length c.paint_slots.new.kinds ≡ vec_len c.resize.new.self = omega arith in
     c.join_slots.ensures.runs world (laid c.args.pieces.now) c.args.y (rw c.deref-2.ensures.value c.list_lines.ensures.cuts)
-    (rw (c.deref-2.ensures.value, c.deref-3.ensures.value, c.deref-4.ensures.value, ← c.deref.ensures.value) (c.paint_row.ensures.kinds c.args.y c.requires.active))
+    (rw (c.deref-2.ensures.value, c.deref-3.ensures.value, take_at c.paint_slots.new.kinds _ _ whole, ← c.deref.ensures.value) (c.paint_slots.ensures.kinds c.args.y c.requires.active))

@@ -73,7 +73,7 @@ returns-in_err-stack-clause-room c = λ n room.
       lines = room.lines;
       starts = room.starts;
       active = omega (arith, room.active);
-      row = record { lines = row.lines; kinds = row.kinds; free = row.free; runs = row.runs };
+      row = record { lines = row.lines; kinds = row.kinds; runs = row.runs };
       below = (c.loop-i.invariant.runs_room n room).1;
       strips = omega (arith, room.strips);
     }
@@ -96,7 +96,7 @@ loop-i-preserved c =
       runs_room = λ n room.
           let old = c.loop-i.invariant.runs_room n room in
           let row = c.find_runs.ensures.room n old.0 in
-          (record { lines = row.lines; kinds = row.kinds; free = row.free; runs = rw c.swap.ensures.y_after old.1 }, rw c.swap.ensures.x_after row.runs);
+          (record { lines = row.lines; kinds = row.kinds; runs = rw c.swap.ensures.y_after old.1 }, rw c.swap.ensures.x_after row.runs);
     }
 
 pub returns-clause-stacked : goal.returns-clause-stacked
