@@ -1,12 +1,14 @@
 -- The entries of the chains of a segment tree's nodes.
-use Rattle.std.proofs.Common.{◌≡◌, ◌≢◌, ℕ, suc, ◌<◌, ◌≤◌, ◌++◌, nat_lt, nat_le, ◌==◌, true, false, Option, Some, None, List, [], ◌∷◌, length, get_or, IsSomeAnd, IfSome, inl, inr, refl, sym, ap, subst, ◌∙◌, arith, append_assoc}
+use Rattle.std.proofs.Common.{◌≡◌, ◌≢◌, ℕ, suc, ◌<◌, ◌≤◌, ◌++◌, nat_lt, nat_le, ◌==◌, true, false, Option, Some, None, List, [], ◌∷◌, length, get_or, IfSome, inl, inr, refl, sym, ap, subst, ◌∙◌, arith, append_assoc}
 use Rattle.std.proofs.Math.ListN.{set, get_or-append}
 use Rattle.std.proofs.Math.Seq.{get_or-append_seam}
 use Rattle.std.proofs.lemmas.Bool.Decides.{nat_tests}
 use Rattle.std.proofs.lemmas.List.{get_or_default, get_or-set_same, get_or-set_other, length-append, length-set}
 use Rattle.std.proofs.lemmas.Option.{slice_get_cases, slice_get-get_or, get_or_from_slice_get}
-use Rattle.mls_geom.specs.Sweep.Chains.{Each, IsChain, IsFalling, IsFront, IsFrontTo, IsSplitAt, StopsAt, entry_at, linked, outliving, under_of, unlinked}
+use Rattle.mls_geom.specs.Sweep.Chains.{Each, IsChain, IsFalling, IsFront, IsFrontTo, IsSplitAt, entry_at, linked, outliving, under_of, unlinked}
+use Rattle.mls_geom.specs.Sweep.Trees.{end_of}
 use Rattle.mls_geom.specs.declared.chain.Entry.{Entry}
+use Rattle.mls_geom.specs.declared.segment.Segment.{Segment}
 use Rattle.mls_geom.proofs.EachOfChain.{Each-right, Each-weaker, Each-always, Each-outliving}
 
 -- a chain that begins at an entry has its piece, and then those of the chain under it
@@ -166,17 +168,18 @@ linked-under ends piece over rest lies_over ends_before =
     let second : nat_le (ends piece) (ends over) ≡ false = grind (arith, nat_tests) in
     rw (first, second) refl
 
+-- the line at which a piece ends, as it is read
+pub end_read : (segments : List Segment) (i : ℕ) (d : Segment) → i < length segments → (get_or segments i d).end ≡ end_of segments i
+end_read segments i d within = ap (λ (segment : Segment). segment.end) (get_or_default segments i d _ within)
+
 -- it isn't linked under one that lies over it until it ends
 pub linked-hidden :
-    (ends : ℕ → ℕ) (piece : ℕ) (entries : List Entry) (node : ℕ) (next : Option ℕ) (rest : List ℕ) → IsChain entries node next rest → StopsAt ends piece entries next
-    → IsSomeAnd next (λ e. piece < (entry_at entries e).piece) → linked ends piece rest ≡ rest
-linked-hidden ends piece entries node None rest chained stops lies_over = absurd lies_over
-linked-hidden ends piece entries node (Some e) rest chained stops lies_over =
+    (ends : ℕ → ℕ) (piece : ℕ) (entries : List Entry) (node e : ℕ) (rest : List ℕ) → IsChain entries node (Some e) rest → piece < (entry_at entries e).piece
+    → ends piece ≤ ends (entry_at entries e).piece → linked ends piece rest ≡ rest
+linked-hidden ends piece entries node e rest chained lies_over until =
     let begun = IsBegun-chain entries node e rest chained in
-    let over = (entry_at entries e).piece in
-    let until = stops lies_over in
-    let first : nat_lt piece over ≡ true = grind (arith, nat_tests) in
-    let second : nat_le (ends piece) (ends over) ≡ true = grind (arith, nat_tests) in
+    let first : nat_lt piece (entry_at entries e).piece ≡ true = grind (arith, nat_tests) in
+    let second : nat_le (ends piece) (ends (entry_at entries e).piece) ≡ true = grind (arith, nat_tests) in
     rw (begun.whole, first, second) refl
 
 -- and is linked over all others

@@ -1,8 +1,9 @@
 -- Segment trees in which no piece is present.
-use Rattle.std.proofs.Common.{◌≡◌, ℕ, zero, suc, ◌+◌, ◌*◌, ◌^◌, ◌<◌, ◌≤◌, ◌++◌, max, nat_lt, Bool, true, false, if◌then◌else◌, None, List, [], ◌∷◌, length, refl, ap, ◌∙◌, arith, inl}
+use Rattle.std.proofs.Common.{◌≡◌, ℕ, zero, suc, ◌+◌, ◌*◌, ◌^◌, ◌<◌, ◌≤◌, ◌++◌, max, nat_lt, Bool, true, false, if◌then◌else◌, None, List, [], ◌∷◌, length, refl, ap, ◌∙◌, arith, inl, inr}
 use Rattle.std.proofs.Math.Nat.{pow-suc}
-use Rattle.std.proofs.lemmas.Bool.{false≢true}
-use Rattle.std.proofs.lemmas.List.{length_push}
+use Rattle.std.proofs.Math.ListN.{replicate}
+use Rattle.std.proofs.lemmas.Bool.{cases_lt, false≢true}
+use Rattle.std.proofs.lemmas.List.{get_or_past, get_or-replicate, length_push, length-replicate}
 use Rattle.std.proofs.lemmas.List.Elements.{All-push}
 use Rattle.std.proofs.lemmas.Nat.{pow_pos}
 use Rattle.mls_geom.specs.Sweep.Chains.{Each, rank_of}
@@ -75,6 +76,15 @@ AreSummed-zero old new nodes ranks others (suc h) first one other summed =
 -- empty nodes bound what shows nothing
 abbrev pub AreEmpty : List Node → Type 0
 AreEmpty nodes = (n : ℕ) → node_at nodes n ≡ record { head = None; top = 0; least = 0; most = 0; shown = Nothing }
+
+-- as does a list of copies of one
+pub AreEmpty-copies : (count : ℕ) → AreEmpty (replicate count (record { head = None; top = 0; least = 0; most = 0; shown = Nothing }))
+AreEmpty-copies count n =
+    let empty : Node = record { head = None; top = 0; least = 0; most = 0; shown = Nothing } in
+    elim (cases_lt n count) [
+      | inl within ↦ get_or-replicate count n empty empty within
+      | inr past ↦ get_or_past (replicate count empty) n empty (omega (arith, past, length-replicate count empty))
+    ]
 
 -- the topmost node of a part of them does
 IsSummed-empty : (segments : List Segment) (nodes : List Node) (h first : ℕ) → AreEmpty nodes → IsSummed segments nodes (λ n. 0) h first

@@ -1,10 +1,17 @@
 -- What slots show.
-use Rattle.std.proofs.Common.{◌≡◌, ◌+◌, ◌*◌, ◌^◌, ◌<◌, ◌≤◌, ◌&&◌, ◌/◌, arith, false, nat_le, nat_lt, refl, suc, true, zero, ℕ}
+use Rattle.std.proofs.Common.{◌≡◌, ◌∙◌, List, ap, length, slice_index_or, ◌+◌, ◌*◌, ◌^◌, ◌<◌, ◌≤◌, ◌&&◌, ◌/◌, arith, false, nat_le, nat_lt, refl, suc, true, zero, ℕ}
 use Rattle.std.proofs.Math.Nat.{pow-suc}
+use Rattle.std.proofs.lemmas.List.{get_or_default}
 use Rattle.std.proofs.lemmas.Nat.{pow_pos}
 use Rattle.std.proofs.lemmas.Bool.Decides.{nat_tests}
 use Rattle.mls_geom.specs.declared.part.Span.{Span}
-use Rattle.mls_geom.specs.Sweep.Trees.{node_of, shown}
+use Rattle.mls_geom.specs.declared.segment.Segment.{Segment}
+use Rattle.mls_geom.specs.Sweep.Trees.{node_of, shown, span_of}
+
+-- a piece's slots, as they are read
+pub span_read :
+    (segments : List Segment) (piece : ℕ) (read : Segment) → piece < length segments → read ≡ slice_index_or segments piece read → read.span ≡ span_of segments piece
+span_read segments piece read within is = ap (λ (segment : Segment). segment.span) (is ∙ get_or_default segments piece read _ within)
 
 -- twice as many slots
 pub twice : (h : ℕ) → 2 ^ suc h ≡ 2 ^ h + 2 ^ h

@@ -1,8 +1,11 @@
 -- Trees once a piece is put or taken.
 use Rattle.std.proofs.Common.{◌≡◌, ◌≢◌, ℕ, ◌<◌, ◌⊎◌, Bool, true, false, if◌then◌else◌, List, [], ◌∷◌, length, inl, inr, sym, ap, ◌∙◌, arith, ne_eqb, eq-eqb}
 use Rattle.std.proofs.lemmas.Bool.{cases_Bool, cases_eq, false≢true}
-use Rattle.mls_geom.specs.Sweep.Chains.{IsChainOf, linked, unlinked}
+use Rattle.mls_geom.specs.Sweep.Chains.{IsChainOf, linked, stepped, unlinked}
+use Rattle.mls_geom.specs.Sweep.Events.{IsNext, moved}
 use Rattle.mls_geom.specs.Sweep.Trees.{has_node, span_of, end_of, EndsFirst, changed_in, HasChanged, with_piece, without_piece, HasHeight, IsTree}
+use Rattle.mls_geom.specs.declared.chain.Step.{Step}
+use Rattle.mls_geom.specs.declared.chain.Step.TheVariants.{Begins, Ends}
 use Rattle.mls_geom.specs.declared.tree.Tree.{Tree}
 use Rattle.mls_geom.proofs.ChainLists.{linked-hides, linked-hides-new, IsStaircase-linked, taken-hides}
 use Rattle.mls_geom.proofs.EachOfChain.{Each-both, Each-weaker, Each-linked}
@@ -116,7 +119,7 @@ IsTree-changed change old new present next piece tree segments width nodes known
 }
 
 -- a tree whose chains have one piece more
-pub IsTree-with :
+IsTree-with :
     (old new : Tree) (present : ℕ → Bool) (piece : ℕ) (tree : IsTree old present)
     → new.segments ≡ old.segments → new.width ≡ old.width → length new.nodes.items ≡ length old.nodes.items
     → piece < length old.segments.items → present piece ≡ false → HasChanged old new (span_of old.segments.items piece) (linked (end_of old.segments.items) piece) tree.height 0
@@ -130,7 +133,7 @@ IsTree-with old new present piece tree segments width nodes known absent =
     (λ has chain. IsChainOf-with (end_of old.segments.items) present has piece chain absent)
 
 -- and one whose chains have one less, which ends first
-pub IsTree-without :
+IsTree-without :
     (old new : Tree) (present : ℕ → Bool) (piece : ℕ) (tree : IsTree old present)
     → new.segments ≡ old.segments → new.width ≡ old.width → length new.nodes.items ≡ length old.nodes.items
     → EndsFirst old.segments.items present piece → HasChanged old new (span_of old.segments.items piece) (unlinked piece) tree.height 0
@@ -139,3 +142,13 @@ IsTree-without old new present piece tree segments width nodes first =
     IsTree-changed (unlinked piece) old new present (without_piece present piece) piece tree segments width nodes
     (λ i has. tree.known i (without-which present piece i has).0)
     (λ has chain. IsChainOf-without (end_of old.segments.items) present has piece chain first)
+
+-- so a piece that is the next to begin or to end has done so
+pub IsTree-moved :
+    (step : Step) (old new : Tree) (present : ℕ → Bool) (piece : ℕ) (tree : IsTree old present)
+    → new.segments ≡ old.segments → new.width ≡ old.width → length new.nodes.items ≡ length old.nodes.items
+    → piece < length old.segments.items → IsNext step old.segments.items present piece
+    → HasChanged old new (span_of old.segments.items piece) (stepped step (end_of old.segments.items) piece) tree.height 0
+    → IsTree new (moved step present piece)
+IsTree-moved Begins old new present piece tree segments width nodes known next = IsTree-with old new present piece tree segments width nodes known next
+IsTree-moved Ends old new present piece tree segments width nodes known next = IsTree-without old new present piece tree segments width nodes next

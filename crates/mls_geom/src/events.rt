@@ -43,33 +43,6 @@ fn are_ordered(events: &[Event]) -> bool
     true
 }
 
-/// Sorts events by line and then piece.
-fn put_in_order(events: &mut Vec<Event>) -> Result<(), GaveUp>
-    ensures same { IsPermutation events.old.items events.new.items }
-    ensures ordered { OnOk result (AllPairs IsBefore events.new.items) }
-{
-    events.sort_unstable_by_key(|event| u64::from(event.line) << 32 | u64::from(event.piece));
-    if are_ordered(events) {
-        Ok(())
-    } else {
-        Err(GaveUp)
-    }
-}
-
-/// Adds an event.
-fn add_event(events: &mut Vec<Event>, line: u32, piece: usize) -> Result<(), GaveUp>
-    ensures { OnOk result (events.new.items ≡ events.old.items ++ record { line = line; piece = piece } ∷ []) }
-{
-    let Ok(piece) = u32::try_from(piece) else {
-        return Err(GaveUp);
-    };
-    if events.len() == events.capacity() {
-        return Err(GaveUp);
-    }
-    events.push_reserved(Event { line, piece });
-    Ok(())
-}
-
 /// Lists where the pieces begin, or where they end, in order.
 pub(crate) fn list_events(
     pieces: &[Piece],
@@ -79,8 +52,22 @@ pub(crate) fn list_events(
     ensures { OnOk result (AreEvents (line_of step) world.bottom pieces.now events.new.items) }
 {
     events.clear();
-    for (i, piece) in pieces.iter().enumerate() {
-        add_event(events, step.line(piece), i)?;
+    let Ok(_) = u32::try_from(pieces.len()) else {
+        return Err(GaveUp);
+    };
+    if events.capacity() < pieces.len() {
+        return Err(GaveUp);
     }
-    put_in_order(events)
+    for (i, piece) in pieces.iter().enumerate() {
+        events.push_reserved(Event {
+            line: step.line(piece),
+            piece: i as u32,
+        });
+    }
+    events.sort_unstable_by_key(|event| u64::from(event.line) << 32 | u64::from(event.piece));
+    if are_ordered(events) {
+        Ok(())
+    } else {
+        Err(GaveUp)
+    }
 }

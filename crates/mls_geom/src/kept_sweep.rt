@@ -48,17 +48,23 @@ fn plant(pieces: &[Piece], lines: &[u32], tree: &mut Tree) -> Result<(), GaveUp>
     ensures slots { OnOk result (length lines.now ≤ tree.new.width + 1) }
 {
     tree.begin(lines.len() - 1)?;
+    let Ok(_) = u32::try_from(pieces.len()) else {
+        return Err(GaveUp);
+    };
+    if tree.segments.capacity() < pieces.len() {
+        return Err(GaveUp);
+    }
     let mut near = 0;
     for piece in pieces {
         let edges = piece.rect.area();
         let first = find_line(lines, edges.left, near).unwrap();
         let end = find_line(lines, edges.right, first).unwrap();
         near = first;
-        tree.add(Segment {
+        tree.segments.push_reserved(Segment {
             span: Span { first, end },
             end: edges.top,
             kind: piece.kind,
-        })?;
+        });
     }
     Ok(())
 }
@@ -74,7 +80,7 @@ fn mark(tree: &Tree, piece: u32, marks: &mut Vec<Span>) -> Result<(), GaveUp>
     ensures marks { (lines : List ℕ) → (span_of tree.now.segments.items piece).end < length lines
         → AreMarks lines marks.old.items → AreMarks lines marks.new.items }
 {
-    let span = tree.span(piece);
+    let span = tree.segments[piece as usize].span;
     let mut first = span.first;
     while first < span.end {
         let reach = tree.shows_from(first, piece);
@@ -106,12 +112,12 @@ fn move_piece(piece: u32, step: Step, tree: &mut Tree, marks: &mut Vec<Span>) ->
 {
     match step {
         Step::Begins => {
-            tree.put(piece)?;
+            tree.change(piece, step)?;
             mark(tree, piece, marks)
         }
         Step::Ends => {
             mark(tree, piece, marks)?;
-            tree.take(piece)
+            tree.change(piece, step)
         }
     }
 }
@@ -165,25 +171,6 @@ impl KeptSweep {
         Ok(sweep)
     }
 
-    /// Lists the lines of bands, and where pieces begin and end. Gives up where few pieces lie beside each other.
-    fn list_events(&mut self, pieces: &[Piece]) -> Result<(), GaveUp>
-        ensures legal { OnOk result (AreLegal pieces.now) }
-        ensures kinds { OnOk result (HaveKinds pieces.now) }
-        ensures lines { OnOk result (AreBandLines world pieces.now self.new.lines.items) }
-        ensures starts { OnOk result (AreEvents bottom_of world.bottom pieces.now self.new.starts.items) }
-        ensures ends { OnOk result (AreEvents top_of world.bottom pieces.now self.new.ends.items) }
-    {
-        if self.lines.capacity() / 2 <= pieces.len() {
-            return Err(GaveUp);
-        }
-        list_band_lines(pieces, &mut self.lines);
-        if !are_deep(&self.lines, pieces) {
-            return Err(GaveUp);
-        }
-        list_events(pieces, Step::Begins, &mut self.starts)?;
-        list_events(pieces, Step::Ends, &mut self.ends)
-    }
-
     /// Changes the row at the line of each band, from the bottom up. Gives up where pieces have too many marks.
     fn sweep_bands(&mut self, pieces: &[Piece], limit: usize) -> Result<(), Stopped>
         requires legal { AreLegal pieces.now }
@@ -226,13 +213,21 @@ impl KeptSweep {
         Ok(())
     }
 
-    /// Finds the maximal strips of the squares that pieces cover.
+    /// Finds the maximal strips of the squares that pieces cover. Gives up where few pieces lie beside each other.
     pub(crate) fn find_strips(&mut self, pieces: &[Piece], limit: usize) -> Result<(), Stopped>
         ensures strips { OnOk result (AreCoveredStrips world (laid pieces.now) self.new.row.strips.items) }
         ensures within { OnOk result (vec_len self.new.row.strips ≤ limit) }
         ensures too_many { result ≡ Err TooMany → limit < covered_count world (laid pieces.now) }
     {
-        self.list_events(pieces)?;
+        if self.lines.capacity() / 2 <= pieces.len() {
+            return Err(Stopped::GaveUp);
+        }
+        list_band_lines(pieces, &mut self.lines);
+        if !are_deep(&self.lines, pieces) {
+            return Err(Stopped::GaveUp);
+        }
+        list_events(pieces, Step::Begins, &mut self.starts)?;
+        list_events(pieces, Step::Ends, &mut self.ends)?;
         self.row.begin(pieces)?;
         plant(pieces, &self.row.lines, &mut self.tree)?;
         self.sweep_bands(pieces, limit)

@@ -1,8 +1,8 @@
 //! The nodes of a segment tree, and what their slots show.
-ghost use Rattle.std.specs.Prelude.{◌≡◌, ℕ, ◌<◌, ◌≤◌, max, false, IfSome, None, List, length, vec_capacity};
+ghost use Rattle.std.specs.Prelude.{◌≡◌, ℕ, ◌<◌, ◌≤◌, max, false, IfSome, None, List, length};
 ghost use Rattle.mls_geom.specs.declared.segment.Segment.{Segment};
 ghost use Rattle.mls_geom.specs.declared.node.Shown.TheVariants.{Nothing};
-ghost use Rattle.mls_geom.specs.Sweep.Trees.{Agrees, Bounds, kind_shown, node_at};
+ghost use Rattle.mls_geom.specs.Sweep.Trees.{Agrees, Bounds, kind_shown};
 
 use crate::segment::Segment;
 use mls_kinds::Kind;
@@ -53,24 +53,6 @@ pub(crate) fn kind_shown(segments: &[Segment], rank: u32) -> Option<Kind>
         return None;
     }
     Some(segments[(rank - 1) as usize].kind)
-}
-
-/// Lists this many empty nodes in place of those that are listed.
-pub(crate) fn list_empty(nodes: &mut Vec<Node>, count: usize)
-    requires { count ≤ vec_capacity nodes.old }
-    ensures count { length nodes.new.items ≡ count }
-    ensures empty { (n : ℕ) → node_at nodes.new.items n ≡ record { head = None; top = 0; least = 0; most = 0; shown = Nothing } }
-{
-    nodes.clear();
-    while nodes.len() < count {
-        nodes.push_reserved(Node {
-            head: None,
-            top: 0,
-            least: 0,
-            most: 0,
-            shown: Shown::Nothing,
-        });
-    }
 }
 
 impl Node {

@@ -25,14 +25,6 @@ impl Part {
         2 * self.first + self.width - 1
     }
 
-    /// Returns the index after the part's last slot.
-    pub(crate) fn end(self) -> usize
-        requires { self.first + self.width < 2 ^ 64 }
-        ensures { result ≡ self.first + self.width }
-    {
-        self.first + self.width
-    }
-
     /// Returns the left half.
     pub(crate) fn left(self) -> Part
         ensures first { result.first ≡ self.first }
@@ -76,7 +68,7 @@ impl Part {
         requires { self.first + self.width < 2 ^ 64 }
         ensures { result ≡ (nat_le span.first self.first && nat_le (self.first + self.width) span.end) }
     {
-        span.first <= self.first && self.end() <= span.end
+        span.first <= self.first && self.first + self.width <= span.end
     }
 
     /// Returns whether the part and the span have a slot in common, where the span has one.
@@ -84,6 +76,6 @@ impl Part {
         requires { self.first + self.width < 2 ^ 64 }
         ensures { result ≡ (nat_lt span.first (self.first + self.width) && nat_lt self.first span.end) }
     {
-        span.first < self.end() && self.first < span.end
+        span.first < self.first + self.width && self.first < span.end
     }
 }

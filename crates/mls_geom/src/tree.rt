@@ -1,10 +1,11 @@
 //! A segment tree on slots (Bentley 1977): which of the present pieces lies on top in each slot.
 ghost use Rattle.std.specs.Prelude.{◌≡◌, ◌≢◌, ℕ, ◌+◌, ◌*◌, ◌^◌, ◌==◌, suc, nat_lt, ◌<◌, ◌≤◌, ◌++◌, Option, [], ◌∷◌, Bool, true, false, if◌then◌else◌, List, OnOk, length};
 ghost use Rattle.mls_geom.specs.Sweep.Chains.{Each, IsChain, rank_of, stepped};
+ghost use Rattle.mls_geom.specs.Sweep.Events.{IsNext, moved};
 ghost use Rattle.mls_geom.specs.Sweep.Trees.{AreLinked, Bounds, EndsFirst, HasChanged, HasHeight, HasWidth, IsSummed, IsSummedUp, IsTop, IsTree, end_of, has_node, kind_shown, node_at, node_of, none, shown, span_of, with_piece, without_piece};
 
 use crate::chain::{Entry, GaveUp, Step, change, top};
-use crate::node::{Node, kind_shown, list_empty};
+use crate::node::{Node, kind_shown};
 use crate::part::{Part, Span};
 use crate::segment::Segment;
 use mls_kinds::Kind;
@@ -58,78 +59,19 @@ impl Tree {
         ensures slots { OnOk result (slots ≤ self.new.width) }
         ensures segments { OnOk result (self.new.segments.items ≡ []) }
     {
-        let mut width = 1;
-        while width < slots {
-            if self.nodes.capacity() / 2 < width {
-                return Err(GaveUp);
-            }
-            width *= 2;
-        }
-        self.width = width;
-        self.clear_nodes()
-    }
-
-    /// Lists empty nodes, and no pieces.
-    fn clear_nodes(&mut self) -> Result<(), GaveUp>
-        requires { (height : ℕ) × (self.old.width ≡ 2 ^ height) }
-        ensures tree { OnOk result (IsTree self.new none) }
-        ensures width { self.new.width ≡ self.old.width }
-        ensures segments { OnOk result (self.new.segments.items ≡ []) }
-    {
         self.segments.clear();
         self.entries.clear();
-        if self.nodes.capacity() / 2 < self.width {
-            return Err(GaveUp);
-        }
-        list_empty(&mut self.nodes, 2 * self.width - 1);
-        Ok(())
-    }
-
-    /// Adds a piece, which isn't present.
-    pub(crate) fn add(&mut self, segment: Segment) -> Result<(), GaveUp>
-        requires some { segment.span.first < segment.span.end }
-        requires within { segment.span.end ≤ self.old.width }
-        ensures tree { OnOk result (IsTree self.old none → IsTree self.new none) }
-        ensures segments { OnOk result (self.new.segments.items ≡ self.old.segments.items ++ segment ∷ []) }
-        ensures width { self.new.width ≡ self.old.width }
-    {
-        let Ok(_) = u32::try_from(self.segments.len() + 1) else {
+        self.nodes.clear();
+        let Some(width) = slots.checked_next_power_of_two() else {
             return Err(GaveUp);
         };
-        if self.segments.len() == self.segments.capacity() {
+        if self.nodes.capacity() / 2 < width {
             return Err(GaveUp);
         }
-        self.segments.push_reserved(segment);
+        self.width = width;
+        // Their room is reserved, so the call succeeds.
+        self.nodes.resize(2 * width - 1, Node::empty()).unwrap();
         Ok(())
-    }
-
-    /// Returns the slots of a piece.
-    pub(crate) fn span(&self, piece: u32) -> Span
-        requires { piece < length self.now.segments.items }
-        ensures { result ≡ span_of self.now.segments.items piece }
-    {
-        self.segments[piece as usize].span
-    }
-
-    /// Sets the first entry of a node's chain.
-    fn set_head(&mut self, node: usize, head: Option<u32>)
-        requires node { node < length self.old.nodes.items }
-        requires few { length self.old.segments.items < 2 ^ 32 }
-        requires chain { (chain : List ℕ) × IsChain self.old.entries.items node head chain
-            × Each (λ piece. piece < length self.old.segments.items) chain }
-        ensures head { (node_at self.new.nodes.items node).head ≡ head }
-        ensures top { (chain : List ℕ) → IsChain self.old.entries.items node head chain
-            → (node_at self.new.nodes.items node).top ≡ rank_of chain }
-        ensures others { (n : ℕ) → n ≢ node → node_at self.new.nodes.items n ≡ node_at self.old.nodes.items n }
-        ensures nodes { length self.new.nodes.items ≡ length self.old.nodes.items }
-        ensures entries { self.new.entries ≡ self.old.entries }
-        ensures segments { self.new.segments ≡ self.old.segments }
-        ensures width { self.new.width ≡ self.old.width }
-    {
-        let rank = top(&self.entries, head);
-        let at = &mut self.nodes[node];
-        at.head = head;
-        at.top = rank;
     }
 
     /// Changes the chain of a node for a piece that begins or ends.
@@ -147,7 +89,10 @@ impl Tree {
     {
         let head = self.nodes[node].head;
         let head = change(&self.segments, &mut self.entries, node, head, piece, step)?;
-        self.set_head(node, head);
+        let top = top(&self.entries, head);
+        let at = &mut self.nodes[node];
+        at.head = head;
+        at.top = top;
         Ok(())
     }
 
@@ -210,7 +155,7 @@ impl Tree {
         ensures segments { self.new.segments ≡ self.old.segments }
         ensures width { self.new.width ≡ self.old.width }
     {
-        let span = self.span(piece);
+        let span = self.segments[piece as usize].span;
         if !part.meets(span) {
             return Ok(());
         }
@@ -225,39 +170,21 @@ impl Tree {
         Ok(())
     }
 
-    /// Returns all slots.
-    fn whole(&self) -> Part
-        ensures first { result.first ≡ 0 }
-        ensures width { result.width ≡ self.now.width }
-    {
-        Part {
-            first: 0,
-            width: self.width,
-        }
-    }
-
-    /// Makes a piece present.
-    pub(crate) fn put(&mut self, piece: u32) -> Result<(), GaveUp>
-        requires tree { (present : ℕ → Bool) × IsTree self.old present × (present piece ≡ false) }
-        requires known { piece < length self.old.segments.items }
-        ensures tree { OnOk result ((present : ℕ → Bool) → IsTree self.old present → present piece ≡ false
-            → IsTree self.new (with_piece present piece)) }
-        ensures segments { self.new.segments ≡ self.old.segments }
-        ensures width { self.new.width ≡ self.old.width }
-    {
-        self.change_in(self.whole(), piece, Step::Begins)
-    }
-
-    /// Makes a piece absent that ends before all others that are present, or with them and lies under them.
-    pub(crate) fn take(&mut self, piece: u32) -> Result<(), GaveUp>
+    /// Makes a piece present that isn't, or makes one absent that ends before all others that are present, or with them
+    /// and lies under them.
+    pub(crate) fn change(&mut self, piece: u32, step: Step) -> Result<(), GaveUp>
         requires tree { (present : ℕ → Bool) × IsTree self.old present }
         requires known { piece < length self.old.segments.items }
-        ensures tree { OnOk result ((present : ℕ → Bool) → IsTree self.old present → EndsFirst self.old.segments.items present piece
-            → IsTree self.new (without_piece present piece)) }
+        ensures tree { OnOk result ((present : ℕ → Bool) → IsTree self.old present → IsNext step self.old.segments.items present piece
+            → IsTree self.new (moved step present piece)) }
         ensures segments { self.new.segments ≡ self.old.segments }
         ensures width { self.new.width ≡ self.old.width }
     {
-        self.change_in(self.whole(), piece, Step::Ends)
+        let whole = Part {
+            first: 0,
+            width: self.width,
+        };
+        self.change_in(whole, piece, step)
     }
 
     /// Returns what the slot and those after it, up to an end, show.
@@ -268,14 +195,17 @@ impl Tree {
         ensures shows { (present : ℕ → Bool) (s : ℕ) → IsTree self.now present → slot ≤ s → s < result.end
             → (rank : ℕ) × IsTop self.now.segments.items present s rank × (result.kind ≡ kind_shown self.now.segments.items rank) }
     {
-        let mut part = self.whole();
+        let mut part = Part {
+            first: 0,
+            width: self.width,
+        };
         let mut above = 0;
         while part.width > 1 {
             let node = self.nodes[part.node()];
             if let Some(kind) = node.decided(&self.segments, above) {
                 return Stretch {
                     kind,
-                    end: part.end(),
+                    end: part.first + part.width,
                 };
             }
             above = above.max(node.top);
@@ -284,7 +214,7 @@ impl Tree {
         let rank = above.max(self.nodes[part.node()].top);
         Stretch {
             kind: kind_shown(&self.segments, rank),
-            end: part.end(),
+            end: part.first + part.width,
         }
     }
 
@@ -300,14 +230,17 @@ impl Tree {
     {
         let rank = piece + 1;
         let segment = self.segments[piece as usize];
-        let mut part = self.whole();
+        let mut part = Part {
+            first: 0,
+            width: self.width,
+        };
         let mut above = 0;
         while part.width > 1 {
             let node = self.nodes[part.node()];
             if let Some(shows) = node.may_show(above, rank, segment.kind) {
                 return Reach {
                     shows,
-                    end: part.end(),
+                    end: part.first + part.width,
                 };
             }
             above = above.max(node.top);
@@ -315,7 +248,7 @@ impl Tree {
         }
         Reach {
             shows: above.max(self.nodes[part.node()].top) <= rank,
-            end: part.end(),
+            end: part.first + part.width,
         }
     }
 }

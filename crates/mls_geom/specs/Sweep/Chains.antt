@@ -101,8 +101,3 @@ pub record IsSplitAt (ends : ℕ → ℕ) (piece : ℕ) (entries : List Entry) (
   pub stays : linked ends piece chain ≡ front ++ linked ends piece rest
   pub down : IsFrontTo entries node head over front
   pub under : IsChain entries node (under_of entries head over) rest
-
--- the entry doesn't have a piece that lies over this one and ends before it
-abbrev pub StopsAt : (ℕ → ℕ) → ℕ → List Entry → Option ℕ → Type 0
-StopsAt ends piece entries None = Unit {0}
-StopsAt ends piece entries (Some e) = piece < (entry_at entries e).piece → ends piece ≤ ends (entry_at entries e).piece

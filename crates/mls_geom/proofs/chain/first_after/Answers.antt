@@ -1,36 +1,51 @@
 -- Each turn passes one entry more.
-use Rattle.std.proofs.Common.{ℕ, ◌<◌, length}
+use Rattle.std.proofs.Common.{get_or, ◌≡◌, ◌<◌, length, arith}
+use Rattle.mls_geom.specs.Sweep.Chains.{entry_at}
 use Rattle.mls_geom.specs.Sweep.Trees.{end_of}
-use Rattle.mls_geom.proofs.ChainEntries.{IsBegun-chain, IsChain-rest, IsFalling-right, IsOutlived-end, IsOutlived-more, IsOutlived-start, rank_at-under}
+use Rattle.mls_geom.proofs.ChainEntries.{end_read, IsChain-rest, IsFalling-right, IsOutlived-end, IsOutlived-more, IsOutlived-start, rank_at-under}
 use Rattle.mls_geom.proofs.chain.first_after.Goals as goal
+use Rattle.mls_geom.proofs.chain.first_after.Goals.{After-index-segments-at, In-Some}
 
-pub loop-entry-init : goal.loop-entry-init
-loop-entry-init c = λ node chain chained. IsOutlived-start _ _ _ node chain _ chained
-
-pub if_ended-requires-clause-next : goal.if_ended-requires-clause-next
-if_ended-requires-clause-next c =
+-- the entry that the walk came to
+in_lists : (c : In-Some) → (c.in-Some.entry < length c.args.entries.now) × ((entry_at c.args.entries.now c.in-Some.entry).piece < length c.args.segments.now)
+in_lists c =
     let (node, (chain, chained, _, known)) = c.requires.chain in
-    let outlived = c.loop-entry.invariant node chain chained in
-    IsChain-rest (λ (piece : ℕ). piece < length c.args.segments.now) _ node _ outlived.front outlived.rest chain outlived.whole outlived.under known
+    let outlived = c.loop-next.invariant node chain chained in
+    rw c.in-Some.is at (IsChain-rest (λ piece. piece < length c.args.segments.now) _ node _ outlived.front outlived.rest chain outlived.whole outlived.under known)
+
+-- the lines at which its piece and this one end
+ends : (c : After-index-segments-at) → (entry_at c.args.entries.now c.in-Some.entry).piece < length c.args.segments.now
+    → ((get_or c.args.segments.now (entry_at c.args.entries.now c.in-Some.entry).piece c.index-segments-at.result).end ≡ end_of c.args.segments.now (entry_at c.args.entries.now c.in-Some.entry).piece)
+    × ((get_or c.args.segments.now c.args.piece c.index-segments-piece.result).end ≡ end_of c.args.segments.now c.args.piece)
+ends c within = (end_read c.args.segments.now _ _ within, end_read c.args.segments.now _ _ c.requires.known)
+
+pub loop-next-init : goal.loop-next-init
+loop-next-init c = λ node chain chained. IsOutlived-start _ _ _ node chain _ chained
 
 pub bounds-entries-entry : goal.bounds-entries-entry
-bounds-entries-entry c =
-    let (node, (chain, chained, _, _)) = c.requires.chain in
-    let outlived = c.loop-entry.invariant node chain chained in
-    (IsBegun-chain _ node _ outlived.rest (rw c.in-Some.ensures.some.0 at outlived.under)).within
+bounds-entries-entry c = (in_lists (goal.at.bounds-entries-entry c).In-Some).0
 
-pub loop-entry-smaller : goal.loop-entry-smaller
-loop-entry-smaller c =
+pub bounds-segments-at : goal.bounds-segments-at
+bounds-segments-at c = (in_lists (goal.at.bounds-segments-at c).In-Some).1
+
+pub bounds-segments-at-in-Some : goal.bounds-segments-at-in-Some
+bounds-segments-at-in-Some c = (in_lists (goal.at.bounds-segments-at-in-Some c).In-Some).1
+
+pub loop-next-smaller : goal.loop-next-smaller
+loop-next-smaller c =
     let (node, (chain, chained, falling, _)) = c.requires.chain in
-    let outlived = c.loop-entry.invariant node chain chained in
-    let next = c.in-Some.ensures.some.0 in
-    rw next (rank_at-under c.args.entries.now node c.in-Some.entry outlived.rest (rw next at outlived.under) (IsFalling-right outlived.front outlived.rest (rw outlived.whole at falling)))
+    let outlived = c.loop-next.invariant node chain chained in
+    rw c.in-Some.is (rank_at-under c.args.entries.now node c.in-Some.entry outlived.rest (rw c.in-Some.is at outlived.under) (IsFalling-right outlived.front outlived.rest (rw outlived.whole at falling)))
 
-pub loop-entry-preserved : goal.loop-entry-preserved
-loop-entry-preserved c = λ node chain chained.
-    IsOutlived-more (end_of c.args.segments.now) c.args.piece c.args.entries.now node chain c.loop-entry.next c.in-Some.entry
-    (c.loop-entry.invariant node chain chained) c.in-Some.ensures.some.0 c.in-Some.ensures.some.1
+pub loop-next-preserved : goal.loop-next-preserved
+loop-next-preserved c = λ node chain chained.
+    IsOutlived-more (end_of c.args.segments.now) c.args.piece c.args.entries.now node chain c.loop-next.next c.in-Some.entry (c.loop-next.invariant node chain chained) c.in-Some.is
+    (omega (arith, c.if-end-segments.false, ends (goal.at.loop-next-preserved c).After-index-segments-at (in_lists (goal.at.loop-next-preserved c).In-Some).1))
 
-pub returns : goal.returns
-returns c = λ node chain chained.
-    IsOutlived-end (end_of c.args.segments.now) c.args.piece c.args.entries.now node chain c.loop-entry.next (c.loop-entry.invariant node chain chained) c.in_default.ensures.none
+pub returns-then-end-segments : goal.returns-then-end-segments
+returns-then-end-segments c = λ node chain chained.
+    rw c.in-Some.is at (IsOutlived-end (end_of c.args.segments.now) c.args.piece c.args.entries.now node chain c.loop-next.next (c.loop-next.invariant node chain chained) (rw c.in-Some.is (omega (arith, c.if-end-segments.true, ends (goal.at.returns-then-end-segments c).After-index-segments-at (in_lists (goal.at.returns-then-end-segments c).In-Some).1))))
+
+pub returns-in_default : goal.returns-in_default
+returns-in_default c = λ node chain chained.
+    IsOutlived-end (end_of c.args.segments.now) c.args.piece c.args.entries.now node chain c.loop-next.next (c.loop-next.invariant node chain chained) (rw c.in_default.is (record {}))

@@ -4,12 +4,13 @@ use Rattle.std.proofs.lemmas.Bool.{cases_lt}
 use Rattle.std.proofs.lemmas.List.Elements.{All-push}
 use Rattle.mls_geom.specs.declared.part.Span.{Span}
 use Rattle.mls_geom.proofs.TopPieces.{IsMarked-more, IsMarked-push, has_slot-in}
+use Rattle.mls_geom.proofs.ShownSlots.{span_read}
 use Rattle.mls_geom.proofs.kept_sweep.mark.Goals as goal
 
 pub loop-first-preserved-else-len-capacity : goal.loop-first-preserved-else-len-capacity
 loop-first-preserved-else-len-capacity c =
     let so_far = c.loop-first.invariant in
-    let end = ap (λ (span : Span). span.end) c.span-span.ensures in
+    let end = ap (λ (span : Span). span.end) (span_read c.args.tree.now.segments.items c.args.piece c.index.result.now c.requires.known c.index.ensures) in
     let items = c.push_reserved.ensures.items in
     record {
       from = omega (arith, so_far.from);
@@ -38,4 +39,4 @@ loop-first-preserved c =
 pub returns-clause-hidden : goal.returns-clause-hidden
 returns-clause-hidden c = λ present s rank tree has bare top.
     let inside = has_slot-in _ s has in
-    c.loop-first.invariant.hidden present s rank tree inside.0 (omega (arith, inside.1, ap (λ (span : Span). span.end) c.span-span.ensures)) bare top
+    c.loop-first.invariant.hidden present s rank tree inside.0 (omega (arith, inside.1, ap (λ (span : Span). span.end) (span_read c.args.tree.now.segments.items c.args.piece c.index.result.now c.requires.known c.index.ensures))) bare top

@@ -9,20 +9,20 @@ use Rattle.mls_geom.proofs.kept_sweep.move_piece.Goals as goal
 
 pub mark-requires-clause-tree : goal.mark-requires-clause-tree
 mark-requires-clause-tree c =
-    let (present, tree, next) = rw c.in-Begins.is at c.requires.tree in
-    (with_piece present c.args.piece, c.in_ok-put-in-Begins.ensures.tree present tree next)
+    let (present, tree, next) = c.requires.tree in
+    (_, c.in_ok-change-in-Begins.ensures.tree present tree next)
 
-pub returns-in_ok-put-in-Begins-clause-tops : goal.returns-in_ok-put-in-Begins-clause-tops
-returns-in_ok-put-in-Begins-clause-tops c = rw c.in-Begins.is (on_ok_weaker c.mark.result
+pub returns-in_ok-change-in-Begins-clause-tops : goal.returns-in_ok-change-in-Begins-clause-tops
+returns-in_ok-change-in-Begins-clause-tops c = rw c.in-Begins.is (on_ok_weaker c.mark.result
     (λ hidden present tree next.
     let with = with_piece present c.args.piece in
-    subst (λ (v : Vec Segment Global). HaveChangedTops c.mark.new.marks.items v.items present with) c.put.ensures.segments
-    (HaveChangedTops-with c.mark.new.marks.items c.put.new.self.segments.items present c.args.piece
-    (λ s rank. hidden with s rank (c.in_ok-put-in-Begins.ensures.tree present tree next))))
+    subst (λ (v : Vec Segment Global). HaveChangedTops c.mark.new.marks.items v.items present with) c.change.ensures.segments
+    (HaveChangedTops-with c.mark.new.marks.items c.change.new.self.segments.items present c.args.piece
+    (λ s rank. hidden with s rank (rw c.in-Begins.is at (c.in_ok-change-in-Begins.ensures.tree present tree (rw c.in-Begins.is next))))))
     c.mark.ensures.hidden)
 
 pub returns-in_ok-mark-in-Ends-clause-tops : goal.returns-in_ok-mark-in-Ends-clause-tops
-returns-in_ok-mark-in-Ends-clause-tops c = rw c.in-Ends.is (on_ok_weaker c.take.result
+returns-in_ok-mark-in-Ends-clause-tops c = rw c.in-Ends.is (on_ok_weaker c.change-in-Ends.result
     (λ taken present tree next. HaveChangedTops-without c.mark-in-Ends.new.marks.items c.args.tree.now.segments.items present c.args.piece
     (λ s rank. c.in_ok-mark-in-Ends.ensures.hidden present s rank tree))
-    c.take.ensures.tree)
+    c.change-in-Ends.ensures.tree)

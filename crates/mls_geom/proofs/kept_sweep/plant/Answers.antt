@@ -1,10 +1,11 @@
 -- Each piece reaches from one of the lines to another, and they ascend.
-use Rattle.std.proofs.Common.{◌≡◌, length, sym, ap, ◌∙◌, subst, arith}
+use Rattle.std.proofs.Common.{refl, ◌≡◌, length, sym, ap, ◌∙◌, subst, arith}
 use Rattle.mls_geom.specs.Rects.{Rect}
 use Rattle.mls_geom.specs.Sweep.Slots.{IsBetweenLines}
 use Rattle.mls_geom.specs.declared.piece.Piece.{Piece}
 use Rattle.mls_geom.proofs.CutLines.{before_from_less}
 use Rattle.mls_geom.proofs.PlantedPieces.{AreFirstPlanted-none, AreFirstPlanted-push, ArePlanted-all, some_found}
+use Rattle.mls_geom.proofs.EmptyTrees.{IsTree-added}
 use Rattle.mls_geom.proofs.kept_sweep.plant.Goals as goal
 
 pub unwrap-first-requires : goal.unwrap-first-requires
@@ -19,40 +20,40 @@ unwrap-end-requires c =
     let right = ap (λ (e : Rect). e.right) (c.edges.view_is ∙ c.area-edges.ensures.value) in
     some_found c.find_line-in-loop-piece.result _ c.find_line-in-loop-piece.ensures.none (rw right between.right)
 
-pub add-requires-clause-some : goal.add-requires-clause-some
-add-requires-clause-some c =
-    let (first_in, first) = rw c.unwrap-first.ensures at c.find_line.ensures.found in
-    let (end_in, end) = rw c.unwrap-end.ensures at c.find_line-in-loop-piece.ensures.found in
-    let legal = c.area-edges.ensures.legal in
-    let left = ap (λ (e : Rect). e.left) (c.edges.view_is ∙ c.area-edges.ensures.value) in
-    let right = ap (λ (e : Rect). e.right) (c.edges.view_is ∙ c.area-edges.ensures.value) in
-    before_from_less c.args.lines.now c.requires.cuts.ascending _ _ first_in (omega (arith, first, end, left, right, legal.wide))
-
 pub loop-piece-init : goal.loop-piece-init
 loop-piece-init c = record {
   tree = c.in_ok-begin.ensures.tree;
   planted = rw c.in_ok-begin.ensures.segments (AreFirstPlanted-none c.args.lines.now c.args.pieces.now);
   slots = omega (arith, c.in_ok-begin.ensures.slots);
+  room = omega arith;
 }
 
 pub loop-piece-preserved : goal.loop-piece-preserved
 loop-piece-preserved c =
     let (first_in, first) = rw c.unwrap-first.ensures at c.find_line.ensures.found in
     let (end_in, end) = rw c.unwrap-end.ensures at c.find_line-in-loop-piece.ensures.found in
+    let legal = c.area-edges.ensures.legal in
     let edges = c.edges.view_is ∙ c.area-edges.ensures.value in
+    let left = ap (λ (e : Rect). e.left) edges in
+    let right = ap (λ (e : Rect). e.right) edges in
+    let so_far = c.loop-piece.invariant in
+    let some = before_from_less c.args.lines.now c.requires.cuts.ascending _ _ first_in (omega (arith, first, end, left, right, legal.wide)) in
+    let count = so_far.planted.count in
+    let few = c.in-Ok.ensures.0 in
     record {
-      tree = c.in_ok-add.ensures.tree c.loop-piece.invariant.tree;
-      planted = rw c.in_ok-add.ensures.segments
+      tree = IsTree-added c.loop-piece.tree (record { width = c.loop-piece.tree.width; segments = c.push_reserved.new.self; nodes = c.loop-piece.tree.nodes; entries = c.loop-piece.tree.entries }) _ c.push_reserved.ensures.items refl refl some (omega (arith, end_in, so_far.slots)) (omega (arith, count, few)) so_far.tree;
+      planted = rw c.push_reserved.ensures.items
           (AreFirstPlanted-push c.args.lines.now c.args.pieces.now c.loop-piece.piece-index c.loop-piece.tree.segments.items c.piece-item.result _ c.loop-piece-test.true c.piece-item.is
           record {
             left_in = first_in;
-            left = first ∙ ap (λ (e : Rect). e.left) edges;
+            left = first ∙ left;
             right_in = end_in;
-            right = end ∙ ap (λ (e : Rect). e.right) edges;
+            right = end ∙ right;
             end = ap (λ (e : Rect). e.top) edges;
             kind = cc;
           } c.loop-piece.invariant.planted);
-      slots = omega (arith, c.loop-piece.invariant.slots, c.add.ensures.width);
+      slots = so_far.slots;
+      room = omega (arith, so_far.room, c.push_reserved.ensures.capacity);
     }
 
 pub returns-clause-planted : goal.returns-clause-planted

@@ -5,7 +5,7 @@ use Rattle.mls_geom.proofs.KeptStrips.{AreCoveredStrips-kept}
 use Rattle.mls_geom.proofs.kept_sweep.KeptSweep.find_strips.Goals as goal
 
 pub plant-requires-clause-between : goal.plant-requires-clause-between
-plant-requires-clause-between c = rw c.deref.ensures.value c.in_ok-begin.ensures.between
+plant-requires-clause-between c = rw c.deref-2.ensures.value c.in_ok-begin.ensures.between
 
 pub sweep_bands-requires-clause-kept : goal.sweep_bands-requires-clause-kept
 sweep_bands-requires-clause-kept c = c.begin.ensures.kept (laid c.args.pieces.now)

@@ -1,19 +1,16 @@
--- Twice a power of two is the next one.
-use Rattle.std.proofs.Common.{suc, refl, arith}
-use Rattle.std.proofs.Math.Nat.{pow-suc}
+-- No node has a chain.
+use Rattle.std.proofs.Common.{◌*◌, ◌-◌, [], arith}
+use Rattle.std.proofs.lemmas.List.{take_all}
 use Rattle.std.proofs.lemmas.Nat.{pow_pos}
+use Rattle.mls_geom.specs.declared.node.Node.{Node}
+use Rattle.mls_geom.proofs.EmptyTrees.{AreEmpty-copies, IsTree-empty}
 use Rattle.mls_geom.proofs.tree.Tree.begin.Goals as goal
 
-pub loop-width-init : goal.loop-width-init
-loop-width-init c = (0, refl)
-
-pub loop-width-smaller : goal.loop-width-smaller
-loop-width-smaller c =
-    let (height, is) = c.loop-width.invariant in
+pub returns-clause-tree : goal.returns-clause-tree
+returns-clause-tree c =
+    let (height, power) = c.in-Some.ensures.0 in
     let some = pow_pos height in
-    omega arith
-
-pub loop-width-preserved : goal.loop-width-preserved
-loop-width-preserved c =
-    let (height, is) = c.loop-width.invariant in
-    (suc height, omega (arith, is, pow-suc 2 height))
+    let items = rw (c.unwrap.ensures, c.empty.ensures, c.clear-3.ensures.items) at c.resize.ensures.items in
+    let len = rw c.unwrap.ensures at c.resize.ensures.len in
+    IsTree-empty _ height power (omega (arith, len, power)) c.clear.ensures.items
+    (rw (items, take_all {A = Node} (2 * c.in-Some.width - 1) [] (omega arith)) (AreEmpty-copies _))

@@ -1,11 +1,11 @@
 -- The walk ends at the largest part of which it is known what its slots show.
-use Rattle.std.proofs.Common.{◌≡◌, length, ap, arith}
+use Rattle.std.proofs.Common.{refl, ◌≡◌, length, ap, arith}
 use Rattle.mls_geom.specs.Sweep.Trees.{kind_shown}
 use Rattle.mls_geom.proofs.TreeWalks.{HasWalkedTo-whole, HasWalkedTo-half, HasWalkedTo-bounds, HasWalkedTo-leaf, above-known, max-known, node-looked_up}
 use Rattle.mls_geom.proofs.tree.Tree.shown_from.Goals as goal
 
 pub loop-part-init : goal.loop-part-init
-loop-part-init c = HasWalkedTo-whole c.requires.tree c.requires.slot c.whole-part.ensures.first c.whole-part.ensures.width
+loop-part-init c = HasWalkedTo-whole c.requires.tree c.requires.slot refl refl
 
 pub decided-requires : goal.decided-requires
 decided-requires c = omega (arith, above-known c.requires.tree c.loop-part.invariant, ap length c.deref.ensures.value)
@@ -15,7 +15,7 @@ returns-in-Some-clause-shows c = λ present s whole from to.
     let walk = c.loop-part.invariant in
     let node = node-looked_up walk c.node.ensures c.index.ensures in
     let kind = rw c.deref.ensures.value at c.in-Some.ensures in
-    HasWalkedTo-bounds (λ rank. c.in-Some.kind ≡ kind_shown c.args.self.now.segments.items rank) walk node kind present s whole from (rw c.end.ensures at to)
+    HasWalkedTo-bounds (λ rank. c.in-Some.kind ≡ kind_shown c.args.self.now.segments.items rank) walk node kind present s whole from to
 
 pub loop-part-preserved : goal.loop-part-preserved
 loop-part-preserved c =
@@ -35,4 +35,4 @@ returns-clause-shows c = λ present s whole from to.
     let node = node-looked_up walk c.node-2.ensures c.index-2.ensures in
     let kind = rw (c.deref-2.ensures.value, c.max-rank.ensures) at c.kind_shown.ensures in
     HasWalkedTo-leaf (λ rank. c.kind_shown.result ≡ kind_shown c.args.self.now.segments.items rank) walk node (omega (arith, c.loop-part-test.false)) kind
-    present s whole from (rw c.end-2.ensures at to)
+    present s whole from to

@@ -1,11 +1,11 @@
 -- The walk ends at the largest part of which it is known whether the piece may lie on top there.
-use Rattle.std.proofs.Common.{◌+◌, ◌<◌, arith, leb-false}
+use Rattle.std.proofs.Common.{refl, ◌+◌, ◌<◌, arith, leb-false}
 use Rattle.mls_geom.proofs.TreeTops.{IsRankOf-one}
 use Rattle.mls_geom.proofs.TreeWalks.{HasWalkedTo-whole, HasWalkedTo-half, HasWalkedTo-bounds, HasWalkedTo-leaf, node-looked_up}
 use Rattle.mls_geom.proofs.tree.Tree.shows_from.Goals as goal
 
 pub loop-part-init : goal.loop-part-init
-loop-part-init c = HasWalkedTo-whole c.requires.tree c.requires.slot c.whole-part.ensures.first c.whole-part.ensures.width
+loop-part-init c = HasWalkedTo-whole c.requires.tree c.requires.slot refl refl
 
 pub loop-part-preserved : goal.loop-part-preserved
 loop-part-preserved c =
@@ -18,7 +18,7 @@ returns-in-Some-clause-hidden c = λ hidden present s rank whole from to top.
     let walk = c.loop-part.invariant in
     let node = node-looked_up walk c.node.ensures c.index.ensures in
     let (over, is_top, above) = HasWalkedTo-bounds (λ over. c.args.piece + 1 < over) walk node (λ below bounds. c.in-Some.ensures hidden below bounds.least)
-    present s whole from (rw c.end.ensures at to) in
+    present s whole from to in
     omega (arith, above, IsRankOf-one rank over top is_top)
 
 pub returns-clause-hidden : goal.returns-clause-hidden
@@ -27,5 +27,5 @@ returns-clause-hidden c = λ hidden present s rank whole from to top.
     let node = node-looked_up walk c.node-2.ensures c.index-2.ensures in
     let least = rw c.max.ensures at (leb-false _ _ hidden) in
     let (over, is_top, above) = HasWalkedTo-leaf (λ over. c.args.piece + 1 < over) walk node (omega (arith, c.loop-part-test.false)) least
-    present s whole from (rw c.end-2.ensures at to) in
+    present s whole from to in
     omega (arith, above, IsRankOf-one rank over top is_top)
