@@ -1,10 +1,10 @@
 -- The runs of a row by their strips: they stay where a strip's top line is set and where a strip is added.
-use Rattle.std.proofs.Common.{◌≡◌, ℕ, ◌<◌, ◌≤◌, ◌==◌, nat_lt, nat_le, if◌then◌else◌, Bool, true, false, Some, List, [], length, get_or, set, map, All, slice_get, refl, ap, ◌∙◌, le_refl, arith}
+use Rattle.std.proofs.Common.{◌≡◌, ℕ, ◌<◌, ◌≤◌, ◌==◌, nat_lt, nat_le, if◌then◌else◌, Bool, true, false, Some, List, [], length, get_or, set, map, All, slice_get, refl, ap, sym, ◌∙◌, le_refl, arith}
 use Rattle.std.specs.List.{AllWithin}
 use Rattle.std.specs.List.Sorted.{IsPartitionPoint, IsPartitionedBy}
 use Rattle.std.specs.Option.{option_map_or}
 use Rattle.std.proofs.lemmas.Bool.Decides.{nat_tests}
-use Rattle.std.proofs.lemmas.List.{get_or-map, length-map}
+use Rattle.std.proofs.lemmas.List.{get_or_default, get_or-map, length-map}
 use Rattle.std.proofs.lemmas.List.Elements.{All-nil}
 use Rattle.std.proofs.lemmas.Option.{slice_get-get_or}
 use Rattle.mls_geom.specs.Pictures.{Picture}
@@ -133,3 +133,13 @@ IsKept-none picture = record {
   reaching = All-nil (λ k. (k < 0) × ((strip_at [] k).rect.top ≡ world.top));
   ended = λ k within. absurd (omega arith);
 }
+
+-- a run of the row, as it is read
+pub run_read :
+    (strips those : List Piece) (row : List ℕ) (i k : ℕ) (e : Piece) (d : Run) → All (λ k. k < length strips) row → i < length row → k ≡ get_or row i k → those ≡ strips
+    → get_or (runs_of strips row) i d ≡ record { left = (get_or those k e).rect.left; right = (get_or those k e).rect.right; kind = (get_or those k e).kind; strip = k }
+run_read strips those row i k e d known within is same =
+    let k_is : k ≡ get_or row i 0 = is ∙ get_or_default row i k 0 within in
+    let strip_is : get_or those k e ≡ strip_at strips k = ap (λ (list : List Piece). get_or list k e) same ∙ get_or_default strips k e _ (rw k_is (known i 0 within)) in
+    get_or-map (run_of strips) row i 0 d within ∙ ap (run_of strips) (sym k_is)
+    ∙ ap (λ (strip : Piece). record { left = strip.rect.left; right = strip.rect.right; kind = strip.kind; strip = k }) (sym strip_is)

@@ -1,7 +1,7 @@
 //! A row of runs that is kept from band to band, and changed only where squares change.
 ghost use Rattle.std.specs.Prelude.{◌≡◌, ℕ, ◌+◌, ◌<◌, ◌≤◌, [], Bool, Err, Result, OnOk, IfSome, length, vec_len};
 ghost use Rattle.std.specs.List.{All};
-ghost use Rattle.std.specs.List.Sorted.{IsNonDecreasingBy, IsPartitionPoint};
+ghost use Rattle.std.specs.List.Sorted.{IsNonDecreasingBy};
 ghost use Rattle.mls_geom.specs.Locality.{covered_count};
 ghost use Rattle.mls_geom.specs.Sweep.Changing as spec;
 ghost use Rattle.mls_geom.specs.Sweep.Changing.{AreInOrder, IsChange, IsChangeOf, runs_of};
@@ -16,7 +16,7 @@ use crate::Piece;
 use crate::chain::GaveUp;
 use crate::lines::{find_line, sort_dedup};
 use crate::part::Span;
-use crate::row_change::{Band, Change, Slots, change_slots, keep_runs, left_of, right_of};
+use crate::row_change::{Band, Change, Slots, change_slots, keep_runs};
 use crate::stopped::Stopped;
 use crate::tree::Tree;
 use crate::world::{HIGH, LOW};
@@ -106,30 +106,6 @@ impl KeptRow {
         Ok(())
     }
 
-    /// Returns the index of the first run that doesn't end before a line.
-    fn first_from(&self, line: u32) -> usize
-        requires known { All (λ k. k < length self.now.strips.items) self.now.row.items }
-        requires ordered { AreInOrder (runs_of self.now.strips.items self.now.row.items) }
-        ensures within { result ≤ length self.now.row.items }
-        ensures parted { IsPartitionPoint (λ run. run.right < line) (λ run. line ≤ run.right) (runs_of self.now.strips.items self.now.row.items) result }
-    {
-        let strips = self.strips.as_slice();
-        self.row
-            .partition_point(|index| ends_before(strips, *index, line))
-    }
-
-    /// Returns the index of the first run that begins after a line.
-    fn first_after(&self, line: u32) -> usize
-        requires known { All (λ k. k < length self.now.strips.items) self.now.row.items }
-        requires ordered { AreInOrder (runs_of self.now.strips.items self.now.row.items) }
-        ensures within { result ≤ length self.now.row.items }
-        ensures parted { IsPartitionPoint (λ run. run.left ≤ line) (λ run. line < run.left) (runs_of self.now.strips.items self.now.row.items) result }
-    {
-        let strips = self.strips.as_slice();
-        self.row
-            .partition_point(|index| begins_by(strips, *index, line))
-    }
-
     /// Returns the slots that a mark changes, with those of the runs that it meets or touches, or `None` if such a run
     /// begins or ends inside a slot.
     fn change_of(&self, mark: Span) -> Option<Change>
@@ -142,17 +118,22 @@ impl KeptRow {
     {
         let left = self.lines[mark.first];
         let right = self.lines[mark.end];
-        let first = self.first_from(left);
-        let end = self.first_after(right);
+        let strips = self.strips.as_slice();
+        let first = self
+            .row
+            .partition_point(|index| ends_before(strips, *index, left));
+        let end = self
+            .row
+            .partition_point(|index| begins_by(strips, *index, right));
         let runs = Span { first, end };
         if end <= first {
             return Some(Change { slots: mark, runs });
         }
-        let leftmost = left.min(left_of(&self.row, &self.strips, first));
-        let rightmost = right.max(right_of(&self.row, &self.strips, end - 1));
+        let leftmost = strips[self.row[first] as usize].rect.area();
+        let rightmost = strips[self.row[end - 1] as usize].rect.area();
         let slots = Span {
-            first: find_line(&self.lines, leftmost, mark.first)?,
-            end: find_line(&self.lines, rightmost, mark.end)?,
+            first: find_line(&self.lines, left.min(leftmost.left), mark.first)?,
+            end: find_line(&self.lines, right.max(rightmost.right), mark.end)?,
         };
         Some(Change { slots, runs })
     }

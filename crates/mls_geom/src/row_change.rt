@@ -62,24 +62,6 @@ fn end_runs(row: &[u32], runs: Span, line: u32, strips: &mut Vec<Piece>)
     }
 }
 
-/// Returns the left line of the run at an index of the row.
-pub(crate) fn left_of(row: &[u32], strips: &[Piece], index: usize) -> u32
-    requires within { index < length row.now }
-    requires known { All (λ k. k < length strips.now) row.now }
-    ensures { result ≡ (strip_of strips.now row.now index).rect.left }
-{
-    strips[row[index] as usize].rect.area().left
-}
-
-/// Returns the right line of the run at an index of the row.
-pub(crate) fn right_of(row: &[u32], strips: &[Piece], index: usize) -> u32
-    requires within { index < length row.now }
-    requires known { All (λ k. k < length strips.now) row.now }
-    ensures { result ≡ (strip_of strips.now row.now index).rect.right }
-{
-    strips[row[index] as usize].rect.area().right
-}
-
 /// Returns the index of the first of some runs that doesn't begin left of a line, or the end of these runs.
 fn first_at_or_after(row: &[u32], strips: &[Piece], runs: Span, left: u32) -> usize
     requires onward { runs.first ≤ runs.end }
@@ -91,7 +73,7 @@ fn first_at_or_after(row: &[u32], strips: &[Piece], runs: Span, left: u32) -> us
     ensures stopped { result < runs.end → left ≤ (strip_of strips.now row.now result).rect.left }
 {
     let mut index = runs.first;
-    while index < runs.end && left_of(row, strips, index) < left {
+    while index < runs.end && strips[row[index] as usize].rect.area().left < left {
         index += 1;
     }
     index
@@ -108,28 +90,6 @@ fn has_strip(row: &[u32], strips: &[Piece], index: usize, run: &Run) -> bool
     let strip = strips[row[index] as usize];
     let edges = strip.rect.area();
     edges.left == run.left && edges.right == run.right && strip.kind == run.kind
-}
-
-/// Adds a strip, and returns its index.
-/// Fails if there are `limit` strips already, or if the list is full.
-fn add_strip(strip: Piece, limit: usize, strips: &mut Vec<Piece>) -> Result<u32, Stopped>
-    requires within { vec_len strips.old ≤ limit }
-    ensures added { OnOk result (strips.new.items ≡ strips.old.items ++ strip ∷ []) }
-    ensures index { IfOk result (λ index. index ≡ vec_len strips.old) }
-    ensures too_many { result ≡ Err TooMany → vec_len strips.old ≡ limit }
-    ensures within { OnOk result (vec_len strips.new ≤ limit) }
-{
-    if strips.len() == limit {
-        return Err(Stopped::TooMany);
-    }
-    if strips.len() == strips.capacity() {
-        return Err(Stopped::GaveUp);
-    }
-    let Ok(index) = u32::try_from(strips.len()) else {
-        return Err(Stopped::GaveUp);
-    };
-    strips.push_reserved(strip);
-    Ok(index)
 }
 
 /// Adds a run to the next row, with the strip of the run below it that has its ends and its kind, or with a new one.
@@ -171,9 +131,19 @@ fn add_run(
         next.push_reserved(strip);
         return Ok(under);
     }
-    let rect = Rect::between(run.left, band.bottom, run.right, HIGH);
-    let kind = run.kind;
-    let strip = add_strip(Piece { rect, kind }, band.limit, strips)?;
+    if strips.len() == band.limit {
+        return Err(Stopped::TooMany);
+    }
+    if strips.len() == strips.capacity() {
+        return Err(Stopped::GaveUp);
+    }
+    let Ok(strip) = u32::try_from(strips.len()) else {
+        return Err(Stopped::GaveUp);
+    };
+    strips.push_reserved(Piece {
+        rect: Rect::between(run.left, band.bottom, run.right, HIGH),
+        kind: run.kind,
+    });
     next.push_reserved(strip);
     Ok(under)
 }

@@ -8,7 +8,7 @@ use Rattle.mls_geom.proofs.KeptRuns.{bottom_low, no_strip, runs_of-extended}
 use Rattle.mls_geom.proofs.RowChanges.{IsChanging-new, IsChanging-on, IsChanging-too_many}
 use Rattle.mls_geom.proofs.StagedStrips.{runs_of-push}
 use Rattle.mls_geom.proofs.row_change.add_run.Goals as goal
-use Rattle.mls_geom.proofs.row_change.add_run.Goals.{After-add_strip, After-index_mut, else-under-below-via-then-under-below+else-has_strip, else-under-below-via-else-under-below}
+use Rattle.mls_geom.proofs.row_change.add_run.Goals.{After-len-2, After-index_mut, else-under-below-via-then-under-below+else-has_strip, else-under-below-via-else-under-below}
 
 -- the strip of the run below that doesn't begin left of the run
 under_known : (c : After-index_mut) → get_or c.args.row.now c.first_at_or_after-under.result 0 < length c.args.strips.now.items
@@ -20,7 +20,7 @@ under_is : (c : After-index_mut) → c.index_mut.result.now ≡ strip_of c.args.
 under_is c = c.index_mut.ensures.value ∙ get_or_default c.args.strips.now.items (get_or c.args.row.now c.first_at_or_after-under.result 0) _ no_strip (under_known c)
 
 -- no run below has the ends and the kind of one that begins a strip
-stands_on_none : (c : After-add_strip) → c.first_at_or_after-under.result < c.args.below.end
+stands_on_none : (c : After-len-2) → c.first_at_or_after-under.result < c.args.below.end
     → (c.args.run.now.left ≤ (strip_of c.args.strips.now.items c.args.row.now c.first_at_or_after-under.result).rect.left)
     × ((strip_of c.args.strips.now.items c.args.row.now c.first_at_or_after-under.result).rect.left ≡ c.args.run.now.left
     → (strip_of c.args.strips.now.items c.args.row.now c.first_at_or_after-under.result).rect.right ≡ c.args.run.now.right
@@ -51,26 +51,26 @@ returns-then-has_strip-clause-same_runs c =
     let under = (goal.at.returns-then-has_strip-clause-same_runs c).After-index_mut in
     rw (c.extend_to.ensures, under_is under) (runs_of-extended c.args.strips.now.items c.args.row.now (get_or c.args.row.now c.first_at_or_after-under.result 0) world.top (under_known under))
 
-pub returns-in_err-strip-clause-too_many : goal.returns-in_err-strip-clause-too_many
-returns-in_err-strip-clause-too_many c = λ stopped picture top state here.
+pub returns-then-len-band-clause-too_many : goal.returns-then-len-band-clause-too_many
+returns-then-len-band-clause-too_many c = λ _ picture top state here.
     let run = c.args.run.now in
     let found = c.first_at_or_after-under.ensures in
-    let none = stands_on_none (goal.at.returns-in_err-strip-clause-too_many c).After-add_strip in
+    let none = stands_on_none (goal.at.returns-then-len-band-clause-too_many c).After-len-2 in
     let more = IsChanging-too_many run.left run.right run.kind c.first_at_or_after-under.result found.from found.to here (λ same. omega (arith, c.requires.kind)) refl
     (rw c.deref.ensures.value at found.passed) none c.requires.right_out state in
-    let full : vec_len c.args.strips.now ≡ c.args.band.limit = c.in_err-strip.ensures.too_many (ap Err (sym (rw stopped at c.from_residual.ensures.1))) in
-    omega (arith, more, full, c.args.strips.now.ok.0)
+    omega (arith, more, c.if-len-band.true, c.len-2.ensures, c.args.strips.now.ok.0)
 
 pub returns-clause-changing : goal.returns-clause-changing
 returns-clause-changing c = λ picture top state here.
     let run = c.args.run.now in
     let found = c.first_at_or_after-under.ensures in
-    let none = stands_on_none (goal.at.returns-clause-changing c).After-add_strip in
+    let none = stands_on_none (goal.at.returns-clause-changing c).After-len-2 in
     let more = IsChanging-new run.left run.right run.kind c.first_at_or_after-under.result found.from found.to here (λ same. omega (arith, c.requires.kind)) refl
     (rw c.deref.ensures.value at found.passed) none c.requires.right_out state in
-    rw (c.push_reserved-2.ensures.items, c.in_ok-strip.ensures.added, c.in_ok-strip.ensures.index, c.args.strips.now.ok.0, c.between-rect.ensures) more
+    let index : c.in-Ok.strip ≡ length c.args.strips.now.items = omega arith in
+    rw (c.push_reserved-3.ensures.items, c.push_reserved-2.ensures.items, index, c.between.ensures) more
 
 pub returns-clause-same_runs : goal.returns-clause-same_runs
 returns-clause-same_runs c =
     let (picture, top, state, here) = c.requires.drawn in
-    rw c.in_ok-strip.ensures.added (runs_of-push c.args.strips.now.items _ c.args.row.now state.known)
+    rw c.push_reserved-2.ensures.items (runs_of-push c.args.strips.now.items _ c.args.row.now state.known)
