@@ -4,11 +4,10 @@ ghost use Rattle.std.specs.List.{All};
 ghost use Rattle.std.specs.List.Sorted.{IsNonDecreasingBy};
 ghost use Rattle.mls_geom.specs.Locality.{covered_count};
 ghost use Rattle.mls_geom.specs.Sweep.Changing as spec;
-ghost use Rattle.mls_geom.specs.Sweep.Changing.{AreInOrder, IsChange, IsChangeOf, runs_of};
-ghost use Rattle.mls_geom.specs.Sweep.KeptRows.{AreMarks, HaveChanges, IsKept, ShowsRow};
+ghost use Rattle.mls_geom.specs.Sweep.Changing.{AreInOrder, IsBand, IsChange, IsChangeOf, runs_of};
+ghost use Rattle.mls_geom.specs.Sweep.KeptRows.{AreMarks, AwaitsChange, IsKept};
 ghost use Rattle.mls_geom.specs.Sweep.Slots.{AreCuts, IsBetweenLines};
-ghost use Rattle.mls_geom.specs.Sweep.Stacks.{AreAlike, up_to};
-ghost use Rattle.mls_geom.specs.Sweep.Trees.{IsTree};
+ghost use Rattle.mls_geom.specs.Sweep.Stacks.{up_to};
 ghost use Rattle.mls_geom.specs.World.{AreLegal, world};
 ghost use Rattle.mls_geom.specs.declared.stopped.Stopped.TheVariants.{TooMany};
 
@@ -173,28 +172,16 @@ impl KeptRow {
         requires from { world.bottom ≤ line }
         requires to { line < world.top }
         requires within { vec_len self.old.strips ≤ limit }
-        requires drawn { (picture : ℕ → ℕ → ℕ) × (present : ℕ → Bool)
-            × IsTree tree.now present
-            × IsKept picture line self.old.strips.items self.old.row.items
-            × ShowsRow tree.now.segments.items present self.old.lines.items picture line
-            × HaveChanges self.old.lines.items self.old.marks.items picture line }
+        requires drawn { (picture : ℕ → ℕ → ℕ) × (present : ℕ → Bool) × AwaitsChange tree.now self.old picture present line }
         ensures kept { OnOk result ((picture : ℕ → ℕ → ℕ) (present : ℕ → Bool) (top : ℕ)
-            → IsTree tree.now present
-            → IsKept picture line self.old.strips.items self.old.row.items
-            → ShowsRow tree.now.segments.items present self.old.lines.items picture line
-            → HaveChanges self.old.lines.items self.old.marks.items picture line
-            → line < top
+            → AwaitsChange tree.now self.old picture present line
+            → IsBand world picture line top
             → top ≤ world.top
-            → AreAlike world picture line top
             → IsKept picture top self.new.strips.items self.new.row.items) }
         ensures too_many { result ≡ Err TooMany → (picture : ℕ → ℕ → ℕ) (present : ℕ → Bool) (top : ℕ)
-            → IsTree tree.now present
-            → IsKept picture line self.old.strips.items self.old.row.items
-            → ShowsRow tree.now.segments.items present self.old.lines.items picture line
-            → HaveChanges self.old.lines.items self.old.marks.items picture line
-            → line < top
+            → AwaitsChange tree.now self.old picture present line
+            → IsBand world picture line top
             → top ≤ world.top
-            → AreAlike world picture line top
             → limit < covered_count (up_to top world) picture }
         ensures within { OnOk result (vec_len self.new.strips ≤ limit) }
         ensures marks { OnOk result (self.new.marks.items ≡ []) }

@@ -4,12 +4,14 @@ use Rattle.std.specs.List.{All, Any, Contains}
 use Rattle.mls_geom.specs.Locality.{uncovered}
 use Rattle.mls_geom.specs.Pictures.{Picture}
 use Rattle.mls_geom.specs.Sweep.Stacks.{AreStacked, extended}
-use Rattle.mls_geom.specs.Sweep.Trees.{IsTop, kind_shown}
+use Rattle.mls_geom.specs.Sweep.Trees.{IsTop, IsTree, kind_shown}
 use Rattle.mls_geom.specs.World.{world}
+use Rattle.mls_geom.specs.declared.kept_row.KeptRow.{KeptRow}
 use Rattle.mls_geom.specs.declared.part.Span.{Span}
 use Rattle.mls_geom.specs.declared.piece.Piece.{Piece}
 use Rattle.mls_geom.specs.declared.run.Run.{Run}
 use Rattle.mls_geom.specs.declared.segment.Segment.{Segment}
+use Rattle.mls_geom.specs.declared.tree.Tree.{Tree}
 
 -- a strip of the list
 abbrev pub strip_at : List Piece → ℕ → Piece
@@ -56,3 +58,10 @@ abbrev pub HaveChanges : List ℕ → List Span → Picture → ℕ → Type 0
 HaveChanges lines marks picture y =
     (s x : ℕ) → s + 1 < length lines → slice_index lines s ≤ x → x < slice_index lines (s + 1)
     → ¬ (IsMarked marks s) → picture x y ≡ shown_below picture x y
+
+-- the kept row is the one below the line, the tree shows the one above it, and the marks have each slot in which they differ
+pub record AwaitsChange (tree : Tree) (kept : KeptRow) (picture : Picture) (present : ℕ → Bool) (line : ℕ) : Type 0 where
+  pub is : IsTree tree present
+  pub below : IsKept picture line kept.strips.items kept.row.items
+  pub shows : ShowsRow tree.segments.items present kept.lines.items picture line
+  pub changes : HaveChanges kept.lines.items kept.marks.items picture line

@@ -1,5 +1,5 @@
 -- A run that has the ends and the kind of one below it goes on with its strip, and any other begins one, since no other run below has the run's left line.
-use Rattle.std.proofs.Common.{◌≡◌, ◌≢◌, Err, ◌<◌, ◌≤◌, ap, get_or, length, refl, sym, ◌∙◌, arith, vec_len}
+use Rattle.std.proofs.Common.{◌≡◌, ◌≢◌, ◌<◌, ◌≤◌, get_or, length, refl, sym, ◌∙◌, arith}
 use Rattle.std.proofs.lemmas.Bool.{false≢true}
 use Rattle.std.proofs.lemmas.List.{get_or_default}
 use Rattle.mls_geom.specs.Sweep.Changing.{strip_of}
@@ -67,7 +67,7 @@ returns-clause-changing c = λ picture top state here.
     let none = stands_on_none (goal.at.returns-clause-changing c).After-len-2 in
     let more = IsChanging-new run.left run.right run.kind c.first_at_or_after-under.result found.from found.to here (λ same. omega (arith, c.requires.kind)) refl
     (rw c.deref.ensures.value at found.passed) none c.requires.right_out state in
-    let index : c.in-Ok.strip ≡ length c.args.strips.now.items = omega arith in
+    let index : c.in-Ok.strip ≡ length c.args.strips.now.items = omega (arith, c.in-Ok.ensures.1, c.len-4.ensures, c.args.strips.now.ok.0) in
     rw (c.push_reserved-3.ensures.items, c.push_reserved-2.ensures.items, index, c.between.ensures) more
 
 pub returns-clause-same_runs : goal.returns-clause-same_runs

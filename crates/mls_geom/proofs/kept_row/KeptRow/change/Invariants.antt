@@ -1,10 +1,8 @@
 -- Up to a column the row is changed, whatever the picture is.
-use Rattle.std.proofs.Common.{◌≡◌, ℕ, ◌-◌, ◌<◌, ◌≤◌, Bool, length, vec_len}
+use Rattle.std.proofs.Common.{◌≡◌, ℕ, ◌-◌, ◌≤◌, Bool, length, vec_len}
 use Rattle.mls_geom.specs.Pictures.{Picture}
-use Rattle.mls_geom.specs.Sweep.Changing.{IsChanging, runs_of}
-use Rattle.mls_geom.specs.Sweep.KeptRows.{HaveChanges, IsKept, ShowsRow}
-use Rattle.mls_geom.specs.Sweep.Stacks.{AreAlike}
-use Rattle.mls_geom.specs.Sweep.Trees.{IsTree}
+use Rattle.mls_geom.specs.Sweep.Changing.{IsBand, IsChanging, runs_of}
+use Rattle.mls_geom.specs.Sweep.KeptRows.{AwaitsChange}
 use Rattle.mls_geom.specs.World.{world}
 use Rattle.mls_geom.proofs.ChangedRows.{IsDone}
 use Rattle.mls_geom.proofs.kept_row.KeptRow.change.Given as goal
@@ -19,13 +17,9 @@ invariant-loop-index l = record {
   within : vec_len l.self.strips ≤ l.limit;
   changing : (column : ℕ) × IsDone l.fn.self.lines.items (runs_of l.fn.self.strips.items l.fn.self.row.items) l.initial.self.marks.items l.index l.passed column
       × ((picture : Picture) (present : ℕ → Bool) (top : ℕ)
-      → IsTree l.tree present
-      → IsKept picture l.line l.fn.self.strips.items l.fn.self.row.items
-      → ShowsRow l.tree.segments.items present l.fn.self.lines.items picture l.line
-      → HaveChanges l.fn.self.lines.items l.fn.self.marks.items picture l.line
-      → l.line < top
+      → AwaitsChange l.tree l.fn.self picture present l.line
+      → IsBand world picture l.line top
       → top ≤ world.top
-      → AreAlike world picture l.line top
       → IsChanging picture l.line top column l.self.strips.items l.fn.self.row.items l.self.next.items l.passed l.passed);
 }
 

@@ -1,5 +1,5 @@
 -- The runs that the mark meets or touches are those between what the two searches find.
-use Rattle.std.proofs.Common.{◌≡◌, ◌≤◌, ◌<◌, ap, length, get_or, slice_index, sym, ◌∙◌, ◌-◌, arith, rules}
+use Rattle.std.proofs.Common.{◌≡◌, ◌≤◌, ◌<◌, ap, get_or, slice_index, sym, ◌∙◌, ◌-◌, arith, rules}
 use Rattle.std.specs.List.Sorted.{IsPartitionPoint}
 use Rattle.std.proofs.lemmas.List.{get_or_default, length-map}
 use Rattle.std.proofs.lemmas.List.Sorted.{IsPartitionPoint-from_clause}

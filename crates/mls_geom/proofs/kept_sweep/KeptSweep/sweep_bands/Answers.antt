@@ -3,8 +3,9 @@ use Rattle.std.proofs.Common.{◌≡◌, ◌+◌, ◌-◌, ◌≤◌, Err, Vec, 
 use Rattle.std.proofs.lemmas.List.{get_or_read}
 use Rattle.std.proofs.lemmas.Result.{err_from_is_err_and}
 use Rattle.mls_geom.specs.Locality.{laid}
+use Rattle.mls_geom.specs.Sweep.Changing as rows
 use Rattle.mls_geom.specs.Sweep.Events.{ArePlanted, Awaits, HaveChangedTops, bottom_of, is_above, is_below, is_met, top_of}
-use Rattle.mls_geom.specs.Sweep.KeptRows.{AreMarks, HaveChanges, IsKept, ShowsRow}
+use Rattle.mls_geom.specs.Sweep.KeptRows.{AreMarks, AwaitsChange, HaveChanges, IsKept, ShowsRow}
 use Rattle.mls_geom.specs.Sweep.Trees.{IsTree}
 use Rattle.mls_geom.specs.World.{world}
 use Rattle.mls_geom.specs.declared.chain.Step.TheVariants.{Begins, Ends}
@@ -130,10 +131,20 @@ changes c = rw c.loop-i.invariant.lines
 above : (c : In_ok-to_end) → IsTree c.move_pieces-in-loop-i.new.tree (is_above c.args.pieces.now c.index-line.result.now)
 above c = c.in_ok-to_end.ensures.tree c.args.self.now.row.lines.items c.args.pieces.now (ends c)
 
+-- the row that is kept, and the one that takes its place
+awaits_change :
+    (c : In_ok-to_end)
+    → AwaitsChange c.move_pieces-in-loop-i.new.tree (record { lines = c.loop-i.row.lines; marks = c.move_pieces-in-loop-i.new.marks; row = c.loop-i.row.row; next = c.loop-i.row.next; strips = c.loop-i.row.strips })
+    (laid c.args.pieces.now) (is_above c.args.pieces.now c.index-line.result.now) c.index-line.result.now
+awaits_change c = record { is = above c; below = kept c; shows = shows c; changes = changes c }
+
+row_band : (c : In_ok-to_end) → rows.IsBand world (laid c.args.pieces.now) c.index-line.result.now (get_or c.args.self.now.lines.items c.loop-i.i 0)
+row_band c = record { from = bottom_within c; tall = (band c).tall; alike = AreAlike-band world c.args.pieces.now _ _ (band c) }
+
 pub change-requires-clause-drawn : goal.change-requires-clause-drawn
 change-requires-clause-drawn c =
     let d = (goal.at.change-requires-clause-drawn c).In_ok-to_end in
-    (laid c.args.pieces.now, is_above c.args.pieces.now c.index-line.result.now, above d, kept d, shows d, changes d)
+    (laid c.args.pieces.now, is_above c.args.pieces.now c.index-line.result.now, awaits_change d)
 
 pub returns-in_err-change-clause-too_many : goal.returns-in_err-change-clause-too_many
 returns-in_err-change-clause-too_many c = λ many.
@@ -141,7 +152,7 @@ returns-in_err-change-clause-too_many c = λ many.
     let pieces = c.args.pieces.now in
     let (e, is, why) = err_from_is_err_and c.from_residual-in_err-change.result c.from_residual-in_err-change.ensures.1 in
     let same : c.change.result ≡ Err TooMany = c.in_err-change.was ∙ ap (λ e. Err e) (sym why) ∙ sym is ∙ many in
-    let more = c.change.ensures.too_many same (laid pieces) _ _ (above d) (kept d) (shows d) (changes d) (band d).tall (top_within d) (AreAlike-band world pieces _ _ (band d)) in
+    let more = c.change.ensures.too_many same (laid pieces) _ _ (awaits_change d) (row_band d) (top_within d) in
     omega (arith, more, covered_count_up_to_grows world (laid pieces) _ world.top (top_within d))
 
 pub loop-i-preserved : goal.loop-i-preserved
@@ -158,7 +169,7 @@ loop-i-preserved c =
       width = c.move_pieces-in-loop-i.ensures.width ∙ c.move_pieces.ensures.width ∙ c.loop-i.invariant.width;
       lines = c.change.ensures.lines ∙ c.loop-i.invariant.lines;
       marks = c.in_ok-change.ensures.marks;
-      kept = rw next (c.in_ok-change.ensures.kept (laid pieces) _ _ (above d) (kept d) (shows d) (changes d) (band d).tall (top_within d) (AreAlike-band world pieces _ _ (band d)));
+      kept = rw next (c.in_ok-change.ensures.kept (laid pieces) _ _ (awaits_change d) (row_band d) (top_within d));
       within = c.in_ok-change.ensures.within;
     }
 
