@@ -1,8 +1,9 @@
 -- Events in order.
-use Rattle.std.proofs.Common.{◌≡◌, ℕ, zero, suc, ◌+◌, ◌<◌, ◌≤◌, List, [], ◌∷◌, ◌++◌, get_or, length, refl, sym, arith, inl, inr, add-one}
-use Rattle.std.specs.List.{All, AllPairs, Contains}
+use Rattle.std.proofs.Common.{◌≡◌, ◌==◌, ◌&&◌, ◌||◌, nat_lt, Bool, true, ℕ, zero, suc, ◌+◌, ◌<◌, ◌≤◌, List, [], ◌∷◌, ◌++◌, get_or, length, refl, sym, arith, inl, inr, add-one}
+use Rattle.std.specs.List.{All, AllPairs, Contains, IsAllAdjacentAnswer}
 use Rattle.std.specs.List.Sorted.{IsPermutation}
 use Rattle.std.proofs.lemmas.Bool.{cases_lt}
+use Rattle.std.proofs.lemmas.Bool.Decides.{nat_tests}
 use Rattle.std.proofs.lemmas.List.{map_push}
 use Rattle.std.proofs.lemmas.List.Elements.{All-push, Contains-append_left, Contains-push}
 use Rattle.std.proofs.lemmas.List.Sorted.{All-permutation, Contains-permutation, IsPermutation-map}
@@ -38,9 +39,19 @@ before_later events d next i (suc j) before within =
       | inr not_earlier ↦ (let same : i ≡ j = omega arith in rw same last)
     ]
 
-pub AllPairs-before :
-    (events : List Event) → ((k : ℕ) (d : Event) → k + 1 < length events → IsBefore (get_or events k d) (get_or events (k + 1) d)) → AllPairs IsBefore events
-AllPairs-before events next i j d before within = before_later events d (λ k. next k d) i j before within
+-- the test of two events
+abbrev pub is_before : Event → Event → Bool
+is_before event next = nat_lt event.line next.line || (event.line == next.line && nat_lt event.piece next.piece)
+
+passed : (event next : Event) → is_before event next ≡ true → IsBefore event next
+passed event next test = elim (cases_lt event.line next.line) [
+  | inl lower ↦ inl lower
+  | inr from ↦ inr (grind (arith, nat_tests), grind (arith, nat_tests))
+]
+
+-- events of which each passes it with the next are in order
+pub AllPairs-before : (events : List Event) → IsAllAdjacentAnswer (λ event next b. b ≡ is_before event next) events true → AllPairs IsBefore events
+AllPairs-before events next i j d before within = before_later events d (λ k inside. passed (get_or events k d) (get_or events (k + 1) d) (sym (next k d inside))) i j before within
 
 -- events at which the first n pieces have their lines, from the line y on, in any order
 pub record AreListed (line_of : Piece → ℕ) (y : ℕ) (pieces : List Piece) (n : ℕ) (events : List Event) : Type 0 where

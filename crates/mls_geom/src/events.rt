@@ -1,8 +1,6 @@
 //! Where pieces begin and end, as a sweep upward meets them.
 ghost use Rattle.std.specs.Prelude.{◌≡◌, ◌≤◌, ◌<◌, ◌++◌, [], ◌∷◌, IsTrue, OnOk};
-ghost use Rattle.std.specs.List.{AllPairs};
-ghost use Rattle.std.specs.List.Sorted.{IsPermutation};
-ghost use Rattle.mls_geom.specs.Sweep.Events.{AreEvents, IsBefore, line_of};
+ghost use Rattle.mls_geom.specs.Sweep.Events.{AreEvents, line_of};
 ghost use Rattle.mls_geom.specs.World.{world};
 
 use crate::Piece;
@@ -29,20 +27,6 @@ impl Step {
     }
 }
 
-/// Returns whether each event stands before the next.
-fn are_ordered(events: &[Event]) -> bool
-    ensures { IsTrue result → AllPairs IsBefore events.now }
-{
-    for i in 1..events.len() {
-        let event = events[i - 1];
-        let next = events[i];
-        if next.line < event.line || (next.line == event.line && next.piece <= event.piece) {
-            return false;
-        }
-    }
-    true
-}
-
 /// Lists where the pieces begin, or where they end, in order.
 pub(crate) fn list_events(
     pieces: &[Piece],
@@ -65,9 +49,8 @@ pub(crate) fn list_events(
         });
     }
     events.sort_unstable_by_key(|event| u64::from(event.line) << 32 | u64::from(event.piece));
-    if are_ordered(events) {
-        Ok(())
-    } else {
-        Err(GaveUp)
-    }
+    let ordered = events.is_sorted_by(|event, next| {
+        event.line < next.line || (event.line == next.line && event.piece < next.piece)
+    });
+    if ordered { Ok(()) } else { Err(GaveUp) }
 }

@@ -1,8 +1,9 @@
 -- Each piece is listed with its line, and then all are put in order.
-use Rattle.std.proofs.Common.{◌≡◌, length, refl, ◌∙◌, arith}
+use Rattle.std.proofs.Common.{rules, ◌≡◌, length, ◌∙◌, arith}
+use Rattle.std.proofs.lemmas.Fn.{always_returns_same}
 use Rattle.mls_geom.specs.Sweep.Events.{line_of}
 use Rattle.mls_geom.specs.World.{world}
-use Rattle.mls_geom.proofs.EventLists.{AreEvents-sorted, AreListed-push}
+use Rattle.mls_geom.proofs.EventLists.{AllPairs-before, AreEvents-sorted, AreListed-push, is_before}
 use Rattle.mls_geom.proofs.events.list_events.Goals as goal
 
 pub loop-i-init : goal.loop-i-init
@@ -23,8 +24,9 @@ loop-i-preserved c =
       room = c.push_reserved.ensures.capacity ∙ c.loop-i.invariant.room;
     }
 
-pub returns-then-are_ordered : goal.returns-then-are_ordered
-returns-then-are_ordered c =
+pub returns-then-ordered : goal.returns-then-ordered
+returns-then-ordered c =
     let all : length c.args.pieces.now ≡ c.loop-i.i = omega arith in
+    let found = c.is_sorted_by-ordered.ensures.cases is_before (always_returns_same _ (λ a r. r ≡ is_before a.0.now a.1.0.now) _ (λ a r f k. search rules)) in
     AreEvents-sorted (line_of c.args.step) world.bottom c.args.pieces.now c.loop-i.events.items _ (rw all c.loop-i.invariant.listed) c.sort_unstable_by_key.ensures.permutation
-    (rw c.deref.ensures.value at (c.if-are_ordered.ensures refl))
+    (AllPairs-before _ (rw (c.deref.ensures.value, c.if-ordered.true) at found))
